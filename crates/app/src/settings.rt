@@ -1,0 +1,13 @@
+//! What the program is to do.
+
+ghost use Rattle.std.specs.Prelude.{◌≤◌};
+
+/// What the program is to do.
+#[derive(Debug, Drop)]
+pub(crate) struct Options {
+    /// The limit on each user's charge, in bytes: 1 to 1,073,741,824.
+    pub(crate) charge: u64,
+    /// The file whose lines are run.
+    pub(crate) file: String,
+    ghost in_range: { (1 ≤ charge) × (charge ≤ 1073741824) },
+}

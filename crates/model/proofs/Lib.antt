@@ -1,0 +1,4 @@
+pub mod BoolLemmas
+pub mod ReachLemmas
+pub mod AgreeLemmas
+pub mod StrikeLemmas

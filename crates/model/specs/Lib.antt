@@ -1,0 +1,11 @@
+pub mod Refusals
+pub mod Archives
+pub mod TreeCode
+pub mod TreeTexts
+pub mod Paths
+pub mod Reach
+pub mod Worlds
+pub mod Steps
+pub mod Striking
+pub mod HashedTexts
+pub mod Laws

@@ -1,0 +1,100 @@
+-- The store as private desks: each user has his own, and nothing is shared.
+-- Dolstra 2006, section 6.2, has the table of realisations of one user; the limits are this project's.
+use Rattle.std.specs.Prelude.{ℕ, ◌==◌, nat_lt, nat_le, Bool, ◌&&◌, ◌||◌, false, true, not, List, [], ◌∷◌, ◌++◌, length, filter, find, sum_by, bytes_eq, option_map, Option}
+use Rattle.std.specs.List.{list_any, list_all}
+use Rattle.model.specs.Archives.{Tree, nar}
+use Rattle.model.specs.Reach.{is_among}
+
+-- ---- users
+
+abbrev pub is_lower_case : ℕ → Bool
+is_lower_case b = nat_le 97 b && nat_le b 122
+
+abbrev pub is_digit : ℕ → Bool
+is_digit b = nat_le 48 b && nat_le b 57
+
+abbrev pub begins_with_letter : List ℕ → Bool
+begins_with_letter [] = false
+begins_with_letter (b ∷ bs) = is_lower_case b
+
+-- 1 to 32 lower-case letters and digits, the first a letter
+unfoldable pub is_user_name : List ℕ → Bool
+is_user_name name = begins_with_letter name && (nat_le (length name) 32 && list_all (λ b. is_lower_case b || is_digit b) name)
+
+-- no name comes twice
+unfoldable pub are_distinct : List (List ℕ) → Bool
+are_distinct [] = true
+are_distinct (name ∷ names) = not (is_among name names) && are_distinct names
+
+-- a list of users: 1 to 64 names, none of them twice
+unfoldable pub are_users : List (List ℕ) → Bool
+are_users names = nat_lt 0 (length names) && (nat_le (length names) 64 && (list_all is_user_name names && are_distinct names))
+
+-- what a run is given: its users, and the limit on the charge of each, in bytes
+pub record Setup : Type 0 where
+  pub users : List (List ℕ)
+  pub charge : ℕ
+
+abbrev pub is_user : Setup → List ℕ → Bool
+is_user setup name = is_among name setup.users
+
+-- ---- desks
+
+-- a tree that a user added, with its path
+pub record Source : Type 0 where
+  pub path : List ℕ
+  pub tree : Tree
+
+-- all that one user has: whom he trusts, and his sources, the oldest first
+pub record Desk : Type 0 where
+  pub trusted : List ℕ → Bool
+  pub sources : List Source
+
+-- for each user, by his name, a desk
+abbrev pub World : Type 0
+World = List ℕ → Desk
+
+abbrev pub empty_desk : Desk
+empty_desk = record { trusted = λ _. false; sources = [] }
+
+-- all desks are empty
+abbrev pub nothing : World
+nothing user = empty_desk
+
+-- ---- holding and charge
+
+-- what a user holds
+abbrev pub held : Desk → List Source
+held d = d.sources
+
+-- the first at each path
+unfoldable pub first_of_each : List Source → List Source
+first_of_each [] = []
+first_of_each (s ∷ ss) = s ∷ filter (λ t. not (bytes_eq t.path s.path)) (first_of_each ss)
+
+-- the sum of the archive lengths of the distinct paths that a user holds, in bytes
+unfoldable pub charge_of : Desk → ℕ
+charge_of d = sum_by (λ s. length (nar s.tree)) (first_of_each (held d))
+
+-- the most sources of a user
+abbrev pub most_sources : ℕ
+most_sources = 1024
+
+-- whether a desk is within every limit
+unfoldable pub is_within : Setup → Desk → Bool
+is_within setup d = nat_le (length d.sources) most_sources && nat_le (charge_of d) setup.charge
+
+-- the tree at a path among sources
+abbrev pub tree_at : List ℕ → List Source → Option Tree
+tree_at path sources = option_map (λ s. s.tree) (find (λ s. bytes_eq s.path path) sources)
+
+-- the tree that a user holds at a path
+abbrev pub held_at : List ℕ → Desk → Option Tree
+held_at path d = tree_at path (held d)
+
+abbrev pub has_source : List ℕ → Desk → Bool
+has_source path d = list_any (λ s. bytes_eq s.path path) d.sources
+
+-- a desk with one source more
+abbrev pub with_source : Source → Desk → Desk
+with_source s d = record d { sources = d.sources ++ s ∷ [] }

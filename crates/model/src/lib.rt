@@ -1,0 +1,12 @@
+//! What the store means: definitions, the laws that they keep, and the refusals.
+//!
+//! No program calls the laws: each is a function with an empty body, whose contract is proved.
+#![tactic(auto)]
+
+mod laws;
+mod refusal;
+#[cfg(test)]
+mod tests;
+
+pub use laws::{isolation, reach_is_least};
+pub use refusal::{Refusal, RewriteFault};

@@ -1,0 +1,5 @@
+pub mod View
+pub mod Limits
+pub mod Reading
+pub mod Texts
+pub mod Laws

@@ -1,0 +1,101 @@
+//! Archives.
+ghost use Rattle.std.specs.Prelude.{◌≡◌, ◌-◌, ◌%◌, ◌++◌, IfOk, IfErr, OnOk, replicate};
+ghost use Rattle.model.specs.Archives.{File, IsTree, archive_string, executable_mark, nar, node_text};
+ghost use Rattle.model.specs.declared.refusal.Refusal.TheVariants.{Memory};
+ghost use Rattle.nar.specs.View.{tree_of};
+
+use crate::tree::{Node, Tree};
+use model::Refusal;
+use std::alloc::{AllocError, Global};
+use std::marker::Model;
+
+const ZEROS: [u8; 8] = [0; 8];
+
+/// The archive of a tree.
+#[derive(Drop)]
+pub struct Nar {
+    text: Vec<u8>,
+}
+
+impl Model for Nar {
+    ghost use Rattle.model.specs.Archives.{Tree as TreeValue};
+    ghost use Rattle.model.specs.TreeCode.{tree_code};
+    ghost use Rattle.nar.specs.Reading.{IsArchive, tree_in};
+
+    ghost Value = { TreeValue };
+
+    ghost coded = { tree_code };
+
+    ghost view = { λ archive. tree_in archive.text.items };
+
+    ghost invariant = { λ archive. IsArchive archive.text.items };
+}
+
+impl Nar {
+    /// The archive's bytes, at most 67,108,864.
+    pub fn bytes(&self) -> &[u8]
+        ensures text { result.now ≡ nar self.now }
+        ensures tree { IsTree self.now }
+    {
+        self.text.as_slice()
+    }
+}
+
+/// The archive of a tree, for which memory is taken once. The one error is memory.
+pub fn encode(alloc: Global, tree: &Tree) -> Result<Nar, Refusal>
+    ensures archive { IfOk result (λ archive. archive ≡ tree.now) }
+    ensures memory { IfErr result (λ e. e ≡ Memory) }
+{
+    let mut text = Vec::with_capacity(alloc, tree.nar_len())?;
+    write_string(&mut text, b"nix-archive-1")?;
+    write_node(&mut text, &tree.node)?;
+    Ok(Nar { text })
+}
+
+fn write_node(text: &mut Vec<u8>, node: &Node) -> Result<(), AllocError>
+    ensures { OnOk result (text.new.items ≡ text.old.items ++ node_text (tree_of node.now)) }
+{
+    match node {
+        Node::File { executable, bytes } => write_file(text, *executable, bytes),
+    }
+}
+
+fn write_file(text: &mut Vec<u8>, executable: bool, bytes: &[u8]) -> Result<(), AllocError>
+    ensures { OnOk result (text.new.items ≡ text.old.items ++ node_text (File executable bytes.now)) }
+{
+    write_string(text, b"(")?;
+    write_string(text, b"type")?;
+    write_string(text, b"regular")?;
+    write_executable_mark(text, executable)?;
+    write_string(text, b"contents")?;
+    write_string(text, bytes)?;
+    write_string(text, b")")
+}
+
+fn write_executable_mark(text: &mut Vec<u8>, executable: bool) -> Result<(), AllocError>
+    ensures { OnOk result (text.new.items ≡ text.old.items ++ executable_mark executable) }
+{
+    if executable {
+        write_string(text, b"executable")?;
+        write_string(text, b"")?;
+    }
+    Ok(())
+}
+
+// A string: its length in eight bytes, the lowest first, its bytes, and zeros up to a multiple of eight.
+#[tactic(auto, unfolding(model::specs::Archives::archive_string))]
+fn write_string(text: &mut Vec<u8>, string: &[u8]) -> Result<(), AllocError>
+    ensures { OnOk result (text.new.items ≡ text.old.items ++ archive_string string.now) }
+{
+    let len = string.len() as u64;
+    text.extend_from_slice(&len.to_le_bytes())?;
+    text.extend_from_slice(string)?;
+    text.extend_from_slice(padding(string.len()))
+}
+
+// The zeros after a string of so many bytes.
+fn padding(len: usize) -> &'static [u8]
+    ensures { result.now ≡ replicate ((8 - len % 8) % 8) 0 }
+{
+    &ZEROS[..(8 - len % 8) % 8]
+}

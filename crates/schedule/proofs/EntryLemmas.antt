@@ -1,0 +1,36 @@
+-- The entries of a map and the keys of a set, as lists of plain data.
+use Rattle.std.proofs.Common.{◌≡◌, ℕ, Bool, true, false, inl, inr, List, [], ◌∷◌, ◌++◌, refl, ap, sym, ◌∙◌}
+use Rattle.std.specs.Prelude.{◌||◌, bytes_eq}
+use Rattle.std.specs.Global.{Vec}
+use Rattle.std.specs.List.{list_any}
+use Rattle.std.specs.Map.{lookup}
+use Rattle.std.proofs.lemmas.Slice.Eq.{bytes_eq-Decides}
+use Rattle.std.proofs.lemmas.Bool.Decides.{same_from_decides}
+use Rattle.model.specs.Archives.{Tree}
+use Rattle.model.specs.Worlds.{tree_at}
+use Rattle.model.proofs.BoolLemmas.{either}
+use Rattle.schedule.specs.Stored.{source_of, sources_of, paths_of}
+
+pub bytes_eq_sym : (a b : List ℕ) → bytes_eq a b ≡ bytes_eq b a
+bytes_eq_sym a b = same_from_decides (bytes_eq a b) (bytes_eq b a) (bytes_eq-Decides a b) (λ t. sym ((bytes_eq-Decides b a).0 t), λ e. (bytes_eq-Decides b a).1 (sym e))
+
+-- looking a path up among sources is looking its key up among entries
+pub tree_at_entries : (path : List ℕ) (entries : List (Vec ℕ × Tree)) → tree_at path (sources_of entries) ≡ lookup (λ k. bytes_eq path k.items) entries
+tree_at_entries path [] = refl
+tree_at_entries path (e ∷ entries) = elim (either (bytes_eq path e.0.items)) [
+  | inl t ↦ let u : bytes_eq e.0.items path ≡ true = bytes_eq_sym e.0.items path ∙ t in rw (t, u) refl
+  | inr f ↦ let u : bytes_eq e.0.items path ≡ false = bytes_eq_sym e.0.items path ∙ f in rw (f, u) (tree_at_entries path entries)
+]
+
+pub sources_of-push : (entries : List (Vec ℕ × Tree)) (e : Vec ℕ × Tree) → sources_of (entries ++ e ∷ []) ≡ sources_of entries ++ source_of e ∷ []
+sources_of-push [] e = refl
+sources_of-push (x ∷ entries) e = ap (λ rest. source_of x ∷ rest) (sources_of-push entries e)
+
+-- a path is among the paths where its key is among the keys
+pub held_keys : (path : List ℕ) (keys : List (Vec ℕ)) → list_any (λ k. bytes_eq path k.items) keys ≡ list_any (λ p. bytes_eq p path) (paths_of keys)
+held_keys path [] = refl
+held_keys path (k ∷ keys) = rw (bytes_eq_sym path k.items, held_keys path keys) refl
+
+pub paths_of-push : (keys : List (Vec ℕ)) (key : Vec ℕ) → paths_of (keys ++ key ∷ []) ≡ paths_of keys ++ key.items ∷ []
+paths_of-push [] key = refl
+paths_of-push (k ∷ keys) key = ap (λ rest. k.items ∷ rest) (paths_of-push keys key)

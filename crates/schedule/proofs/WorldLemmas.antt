@@ -1,0 +1,126 @@
+-- The world that paired users and desks stand for, before and after one desk changes.
+use Rattle.std.proofs.Common.{◌≡◌, ℕ, zero, suc, ◌+◌, ◌<◌, Bool, true, false, inl, inr, List, [], ◌∷◌, length, refl, sym, ◌∙◌, ap, subst, arith, get_or, Option, Some, None}
+use Rattle.std.specs.Prelude.{All, bytes_eq, slice_get, slice_set, position, if◌then◌else◌, is_some, nat_lt}
+use Rattle.std.specs.List.{position_or_len, list_any}
+use Rattle.std.proofs.lemmas.List.Elements.{All-head, All-tail}
+use Rattle.std.proofs.lemmas.List.Quantifiers.{position-Some}
+use Rattle.std.proofs.lemmas.Bool.Decides.{nat_tests}
+use Rattle.model.specs.Reach.{is_among}
+use Rattle.model.specs.Worlds.{Source, Desk, World, empty_desk, tree_at}
+use Rattle.model.proofs.BoolLemmas.{either, same_bytes, bytes_same}
+use Rattle.schedule.specs.Stored.{Holdings}
+use Rattle.schedule.specs.Sound.{sources_at, desk_of, IsSound, IsEmpty, Extends}
+use Rattle.schedule.specs.Standing.{desk_among}
+use Rattle.schedule.proofs.EntryLemmas.{bytes_eq_sym}
+use Rattle.schedule.proofs.DeskLemmas.{desk_kept, sound_kept, held_same, not_held}
+
+-- the place of a user: the first with his name
+abbrev pub IsPlace : List (List ℕ) → List ℕ → ℕ → Type 0
+IsPlace [] u i = ⊥
+IsPlace (name ∷ names) u zero = bytes_eq name u ≡ true
+IsPlace (name ∷ names) u (suc i) = (bytes_eq name u ≡ false) × IsPlace names u i
+
+first_place : (names : List (List ℕ)) (u : List ℕ) (i : ℕ) → i < length names → bytes_eq (get_or names i []) u ≡ true → ((k : ℕ) → k < i → bytes_eq (get_or names k []) u ≡ false) → IsPlace names u i
+first_place [] u i h t f = absurd (omega arith)
+first_place (name ∷ names) u zero h t f = t
+first_place (name ∷ names) u (suc i) h t f = (f zero (omega arith), first_place names u i (omega arith) t (λ k l. f (suc k) (omega arith)))
+
+pub place_found : (names : List (List ℕ)) (u : List ℕ) (i : ℕ) → position (λ n. bytes_eq n u) names ≡ Some i → IsPlace names u i
+place_found names u i e =
+    let found = position-Some (λ n. bytes_eq n u) names i [] e in
+    first_place names u i found.0 found.1 found.2
+
+pub place_below : (names : List (List ℕ)) (u : List ℕ) (i : ℕ) → position (λ n. bytes_eq n u) names ≡ Some i → i < length names
+place_below names u i e = (position-Some (λ n. bytes_eq n u) names i [] e).0
+
+pub place_is_among : (names : List (List ℕ)) (u : List ℕ) (i : ℕ) → IsPlace names u i → is_among u names ≡ true
+place_is_among [] u i p = absurd p
+place_is_among (name ∷ names) u zero p = rw p refl
+place_is_among (name ∷ names) u (suc i) p = rw (p.0, place_is_among names u i p.1) refl
+
+zero_first : (n : ℕ) → nat_lt 0 (suc n) ≡ true
+zero_first n = grind (arith, nat_tests)
+
+both_more : (m n : ℕ) → nat_lt (1 + m) (suc n) ≡ nat_lt m n
+both_more m n = grind (arith, nat_tests)
+
+-- nobody has the name where no place is found
+found_any : (names : List (List ℕ)) (u : List ℕ) → nat_lt (position_or_len (λ n. bytes_eq n u) names) (length names) ≡ is_among u names
+found_any [] u = refl
+found_any (name ∷ names) u = elim (either (bytes_eq name u)) [
+  | inl t ↦ rw t (zero_first (length names))
+  | inr f ↦ rw f (both_more (position_or_len (λ n. bytes_eq n u) names) (length names) ∙ found_any names u)
+]
+
+some_if : (b : Bool) (n : ℕ) → is_some (if b then Some n else None) ≡ b
+some_if true n = refl
+some_if false n = refl
+
+position_any : (names : List (List ℕ)) (u : List ℕ) → is_some (position (λ n. bytes_eq n u) names) ≡ is_among u names
+position_any names u = some_if (nat_lt (position_or_len (λ n. bytes_eq n u) names) (length names)) (position_or_len (λ n. bytes_eq n u) names) ∙ found_any names u
+
+pub no_place : (names : List (List ℕ)) (u : List ℕ) → position (λ n. bytes_eq n u) names ≡ None → is_among u names ≡ false
+no_place names u e = sym (position_any names u) ∙ ap is_some e
+
+-- the desk at a user's place is his
+pub desk_found : (table : List Source) (names : List (List ℕ)) (desks : List Holdings) (u : List ℕ) (i : ℕ) (d : Holdings) → IsPlace names u i → slice_get desks i ≡ Some d → desk_among table names desks u ≡ desk_of table d
+desk_found table [] desks u i d p h = absurd p
+desk_found table (name ∷ names) [] u i d p h = cc
+desk_found table (name ∷ names) (x ∷ desks) u zero d p h = let is : x ≡ d = cc in rw p (ap (desk_of table) is)
+desk_found table (name ∷ names) (x ∷ desks) u (suc i) d p h = rw p.0 (desk_found table names desks u i d p.1 h)
+
+-- a later table leaves the desks
+pub among_kept : (old new : List Source) (limit : ℕ) (names : List (List ℕ)) (desks : List Holdings) (v : List ℕ) → Extends old new → All (IsSound old limit) desks → desk_among new names desks v ≡ desk_among old names desks v
+among_kept old new limit [] desks v later sound = refl
+among_kept old new limit (name ∷ names) [] v later sound = refl
+among_kept old new limit (name ∷ names) (d ∷ desks) v later sound = elim (either (bytes_eq name v)) [
+  | inl t ↦ rw t (desk_kept old new limit d later (All-head (IsSound old limit) d desks sound))
+  | inr f ↦ rw f (among_kept old new limit names desks v later (All-tail (IsSound old limit) d desks sound))
+]
+
+-- and a new desk at a user's place is his alone
+pub among_changed : (old new : List Source) (limit : ℕ) (names : List (List ℕ)) (desks : List Holdings) (u : List ℕ) (i : ℕ) (after : Holdings) → Extends old new → All (IsSound old limit) desks → IsPlace names u i → i < length desks
+    → (v : List ℕ) → desk_among new names (slice_set desks i after) v ≡ (if bytes_eq v u then desk_of new after else desk_among old names desks v)
+among_changed old new limit [] desks u i after later sound p below v = absurd p
+among_changed old new limit (name ∷ names) [] u i after later sound p below v = absurd (omega arith)
+among_changed old new limit (name ∷ names) (d ∷ desks) u zero after later sound p below v =
+    let is : name ≡ u = same_bytes name u p in
+    let test : bytes_eq v u ≡ bytes_eq name v = bytes_eq_sym v u ∙ ap (λ n. bytes_eq n v) (sym is) in
+    elim (either (bytes_eq name v)) [
+      | inl t ↦ rw (test, t) refl
+      | inr f ↦ rw (test, f) (among_kept old new limit names desks v later (All-tail (IsSound old limit) d desks sound))
+    ]
+among_changed old new limit (name ∷ names) (d ∷ desks) u (suc i) after later sound p below v = elim (either (bytes_eq name v)) [
+  | inl t ↦
+      let is : name ≡ v = same_bytes name v t in
+      let test : bytes_eq v u ≡ false = ap (λ n. bytes_eq n u) (sym is) ∙ p.0 in
+      rw (t, test) (desk_kept old new limit d later (All-head (IsSound old limit) d desks sound))
+  | inr f ↦ rw f (among_changed old new limit names desks u i after later (All-tail (IsSound old limit) d desks sound) p.1 (omega arith) v)
+]
+
+-- functions that agree everywhere are the same
+pub same_world : {w v : World} → ((u : List ℕ) → w u ≡ v u) → w ≡ v
+same_world h = λ i u. h u i
+
+-- empty desks are the desks of nothing
+pub empty_world : (table : List Source) (names : List (List ℕ)) (desks : List Holdings) → All IsEmpty desks → (u : List ℕ) → desk_among table names desks u ≡ empty_desk
+empty_world table [] desks all u = refl
+empty_world table (name ∷ names) [] all u = refl
+empty_world table (name ∷ names) (d ∷ desks) all u = elim (either (bytes_eq name u)) [
+  | inl t ↦
+      let P : List (List ℕ) → Desk = λ paths. record { trusted = λ _. false; sources = sources_at table paths } in
+      rw t (ap P (All-head IsEmpty d desks all).paths)
+  | inr f ↦ rw f (empty_world table names desks (All-tail IsEmpty d desks all) u)
+]
+
+-- what a desk holds is stored, with the tree that the desk has
+pub among_stored : (table : List Source) (limit : ℕ) (names : List (List ℕ)) (desks : List Holdings) (u path : List ℕ) → All (IsSound table limit) desks → is_some (tree_at path (desk_among table names desks u).sources) ≡ true → tree_at path table ≡ tree_at path (desk_among table names desks u).sources
+among_stored table limit [] desks u path sound h = cc
+among_stored table limit (name ∷ names) [] u path sound h = cc
+among_stored table limit (name ∷ names) (d ∷ desks) u path sound h = elim (either (bytes_eq name u)) [
+  | inl t ↦ rw t (elim (either (list_any (λ p. bytes_eq p path) d.paths)) [
+    | inl there ↦ sym (held_same table d.paths path (All-head (IsSound table limit) d desks sound).known there)
+    | inr none ↦ let found = rw (t, not_held table d.paths path none) at h in cc
+  ])
+  | inr f ↦ rw f (among_stored table limit names desks u path (All-tail (IsSound table limit) d desks sound) (rw f at h))
+]

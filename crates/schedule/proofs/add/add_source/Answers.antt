@@ -1,0 +1,71 @@
+use Rattle.std.proofs.Common.{◌≡◌, ℕ, ◌+◌, ◌≤◌, true, false, List, refl, sym, ◌∙◌, ap, arith, length}
+use Rattle.std.specs.Prelude.{bytes_eq, is_some, nat_le, ◌&&◌}
+use Rattle.std.specs.List.{list_any}
+use Rattle.std.proofs.lemmas.Bool.Decides.{nat_tests}
+use Rattle.model.specs.Archives.{nar}
+use Rattle.model.specs.Paths.{source_path}
+use Rattle.model.specs.Steps.{outcome, becomes, Path}
+use Rattle.model.specs.Worlds.{Source, tree_at, has_source}
+use Rattle.schedule.specs.Stored.{put_once}
+use Rattle.schedule.specs.Sound.{sources_at, desk_of, Extends}
+use Rattle.schedule.proofs.TableLemmas.{put_once-Extends}
+use Rattle.schedule.proofs.DeskLemmas.{held_found, held_known, add_known, add_refused, add_new, is_within-more, HoldsMore, desk_of-more, sound-more}
+use Rattle.schedule.proofs.add.add_source.Goals as goal
+
+pub returns-then-holds-clause-serves : goal.returns-then-holds-clause-serves
+unfolding outcome
+returns-then-holds-clause-serves c users reach =
+    add_known _ (desk_of c.args.table.now.sources c.args.desk.now) c.args.name.now c.args.tree c.in_ok-path.path c.in_ok-path.ensures.value
+    (sym (held_found c.args.table.now.sources c.args.desk.now.paths c.in_ok-path.path) ∙ sym c.if-holds.ensures)
+
+pub returns-then-holds-clause-stored : goal.returns-then-holds-clause-stored
+returns-then-holds-clause-stored c =
+    let there : is_some (tree_at c.in_ok-path.path c.args.table.now.sources) ≡ true =
+    held_known c.args.table.now.sources c.args.desk.now.paths c.in_ok-path.path c.requires.known (sym c.if-holds.ensures) in
+    rw (← c.in_ok-path.ensures.value, there) refl
+
+pub returns-then-not-has_room-clause-serves : goal.returns-then-not-has_room-clause-serves
+unfolding outcome
+returns-then-not-has_room-clause-serves c users reach _ =
+    let s : Source = record { path = c.in_ok-path.path; tree = c.args.tree } in
+    let absent : list_any (λ p. bytes_eq p c.in_ok-path.path) c.args.desk.now.paths ≡ false = sym c.if-holds.ensures in
+    let over : (nat_le (length c.args.desk.now.paths + 1) 1024 && nat_le (c.args.desk.now.charge + length (nar c.args.tree)) c.args.limits.charge) ≡ false =
+    grind (arith, nat_tests, c.if-not-has_room.ensures, c.nar_len-archive.ensures.len) in
+    add_refused _ (desk_of c.args.table.now.sources c.args.desk.now) c.args.name.now c.args.tree c.in_ok-path.path c.in_ok-path.ensures.value
+    (sym (held_found c.args.table.now.sources c.args.desk.now.paths c.in_ok-path.path) ∙ absent)
+    (is_within-more users c.args.table.now.sources c.args.limits.charge c.args.desk.now s c.requires absent ∙ over)
+
+-- the source that was added
+abbrev added : goal.After-add → Source
+added c = record { path = c.in_ok-path.path; tree = c.args.tree }
+
+absent : (c : goal.After-add) → list_any (λ p. bytes_eq p c.in_ok-path.path) c.args.desk.now.paths ≡ false
+absent c = sym c.if-holds.ensures
+
+more : (c : goal.After-add) → HoldsMore c.store.new.table.sources c.args.desk.now c.add.new.self (added c)
+more c = record {
+  there = c.in_ok-store.ensures.there;
+  paths = rw (← c.in_ok-reserve-2.ensures.paths, c.add.ensures.paths, c.in_ok-held.ensures.items, c.bytes-2.ensures.value) refl;
+  charge = rw (← c.in_ok-reserve-2.ensures.charge, c.add.ensures.charge, c.nar_len-archive.ensures.len) refl;
+}
+
+later : (c : goal.After-add) → Extends c.args.table.now.sources c.store.new.table.sources
+later c =
+    let stored : c.store.new.table.sources ≡ put_once (added c) c.args.table.now.sources = rw c.in_ok-reserve.ensures.kept at c.in_ok-store.ensures.stored in
+    rw stored (put_once-Extends (added c) c.args.table.now.sources)
+
+pub returns-clause-serves : goal.returns-clause-serves
+unfolding outcome
+returns-clause-serves c users reach =
+    let old : List Source = c.args.table.now.sources in
+    let within : (nat_le (length c.args.desk.now.paths + 1) 1024 && nat_le (c.args.desk.now.charge + length (nar c.args.tree)) c.args.limits.charge) ≡ true =
+    grind (arith, nat_tests, c.if-not-has_room.ensures, c.nar_len-archive.ensures.len) in
+    add_new _ (desk_of old c.args.desk.now) c.args.name.now c.args.tree c.in_ok-path.path c.in_ok-path.ensures.value
+    (sym (held_found old c.args.desk.now.paths c.in_ok-path.path) ∙ absent c)
+    (is_within-more users old c.args.limits.charge c.args.desk.now (added c) c.requires (absent c) ∙ within)
+    ∙ ap (λ d. becomes d (Path c.in_ok-path.path)) (sym (desk_of-more old c.store.new.table.sources c.args.limits.charge c.args.desk.now c.add.new.self (added c) (later c) c.requires (more c)))
+
+pub returns-clause-sound : goal.returns-clause-sound
+returns-clause-sound c =
+    let fits : c.args.desk.now.charge + length (nar c.args.tree) ≤ c.args.limits.charge = grind (arith, nat_tests, c.if-not-has_room.ensures, c.nar_len-archive.ensures.len) in
+    sound-more c.args.table.now.sources c.store.new.table.sources c.args.limits.charge c.args.desk.now c.add.new.self (added c) (later c) c.requires (more c) (absent c) fits

@@ -1,0 +1,40 @@
+-- What the table and the desks of the store keep.
+use Rattle.std.specs.Prelude.{◌≡◌, ℕ, ◌≤◌, Bool, true, false, List, [], map, Option, None, Some, is_some, unwrap_or, All, Contains}
+use Rattle.sha2.specs.Sha256.{sha256}
+use Rattle.model.specs.Archives.{Tree, Link, nar, IsTree}
+use Rattle.model.specs.Paths.{Source as SourceKind, fingerprint, source_path}
+use Rattle.model.specs.Worlds.{Source, Desk, tree_at, charge_of}
+use Rattle.schedule.specs.Stored.{Holdings}
+
+-- a path with the tree that the table has there
+abbrev pub source_at : List Source → List ℕ → Source
+source_at table path = record { path = path; tree = unwrap_or (tree_at path table) (Link []) }
+
+abbrev pub sources_at : List Source → List (List ℕ) → List Source
+sources_at table paths = map (source_at table) paths
+
+-- the desk of the model that a table and a user's paths stand for
+abbrev pub desk_of : List Source → Holdings → Desk
+desk_of table d = record { trusted = λ _. false; sources = sources_at table d.paths }
+
+-- a desk's paths are in the table, and its charge is theirs, within the limits
+pub record IsSound (table : List Source) (limit : ℕ) (d : Holdings) : Type 0 where
+  pub charged : d.charge ≡ charge_of (desk_of table d)
+  pub within : d.charge ≤ limit
+  pub known : All (λ p. is_some (tree_at p table) ≡ true) d.paths
+
+-- every path of a table has the same tree in a later one
+abbrev pub Extends : List Source → List Source → Type 0
+Extends old new = (p : List ℕ) → is_some (tree_at p old) ≡ true → tree_at p new ≡ tree_at p old
+
+-- a stored tree is a tree, and its path is made of it, by texts that were hashed
+pub record IsHashed (texts : List (List ℕ)) (s : Source) : Type 0 where
+  pub name : List ℕ
+  pub is : s.path ≡ source_path s.tree name
+  pub inner : Contains texts (nar s.tree)
+  pub outer : Contains texts (fingerprint SourceKind (sha256 (nar s.tree)) name)
+
+-- a desk with nothing
+pub record IsEmpty (d : Holdings) : Type 0 where
+  pub paths : d.paths ≡ []
+  pub charge : d.charge ≡ 0

@@ -1,0 +1,133 @@
+-- The world that the store stands for, and what its steps do to it.
+use Rattle.std.specs.Prelude.{◌≡◌, ℕ, Bool, true, false, if◌then◌else◌, List, [], ◌∷◌, ◌++◌, map, is_some, bytes_eq, Option, Some, None, Result, Ok, Err, ◌||◌, All, Contains}
+use Rattle.std.specs.Global.{Vec}
+use Rattle.model.specs.declared.refusal.Refusal.{Refusal}
+use Rattle.model.specs.declared.refusal.Refusal.TheVariants.{Memory, Clash}
+use Rattle.model.specs.Paths.{source_path}
+use Rattle.model.specs.Worlds.{Source, Setup, tree_at, held_at}
+use Rattle.model.specs.Worlds as worlds
+use Rattle.model.specs.Steps as steps
+use Rattle.schedule.specs.declared.user.User.{User}
+use Rattle.schedule.specs.declared.limits.Limits.{Limits}
+use Rattle.schedule.specs.declared.state.Core.{Core}
+use Rattle.schedule.specs.declared.events.Request.{Request}
+use Rattle.schedule.specs.declared.events.Request.TheVariants.{AddSource, Fetch}
+use Rattle.schedule.specs.declared.events.Event.{Event}
+use Rattle.schedule.specs.declared.events.Reply.{Reply}
+use Rattle.schedule.specs.declared.events.Reply.TheVariants.{Done, Path, Content, Refused}
+use Rattle.schedule.specs.Stored.{Stored, Holdings, put_once}
+use Rattle.schedule.specs.Sound.{desk_of, IsHashed}
+
+-- ---- events and replies in the terms of the model
+
+abbrev pub request_of : Request → steps.Request
+request_of (AddSource name tree) = steps.AddSource name tree
+request_of (Fetch path) = steps.Fetch path
+
+abbrev pub event_of : Event → steps.Event
+event_of e = record { actor = e.actor; request = request_of e.request }
+
+abbrev pub reply_of : Reply → steps.Reply
+reply_of Done = steps.Done
+reply_of (Path path) = steps.Path path
+reply_of (Content tree) = steps.Content tree
+reply_of (Refused why) = steps.Refused why
+
+-- a user with his reply
+abbrev pub answer_of : User × Reply → steps.Answer
+answer_of a = record { actor = a.0; reply = reply_of a.1 }
+
+-- ---- refusals
+
+-- a refusal that says nothing of the model: memory was refused, or two texts have one digest
+abbrev pub is_memory_refusal : Refusal → Bool
+is_memory_refusal Memory = true
+is_memory_refusal why = false
+
+abbrev pub is_clash_refusal : Refusal → Bool
+is_clash_refusal Clash = true
+is_clash_refusal why = false
+
+-- whether a reply is that memory was refused
+abbrev pub is_memory : Reply → Bool
+is_memory (Refused why) = is_memory_refusal why
+is_memory reply = false
+
+-- whether a reply is that another tree is at the path
+abbrev pub is_clash : Reply → Bool
+is_clash (Refused why) = is_clash_refusal why
+is_clash reply = false
+
+abbrev pub is_refused : Reply → Bool
+is_refused (Refused why) = true
+is_refused reply = false
+
+-- whether a refusal is none of the model's
+abbrev pub is_fault : Refusal → Bool
+is_fault why = is_memory_refusal why || is_clash_refusal why
+
+-- a result is that of an outcome which leaves this desk, or is none of the model's
+abbrev pub Fits : steps.Outcome → worlds.Desk → Result Reply Refusal → Type 0
+Fits outcome desk (Ok reply) = outcome ≡ steps.becomes desk (reply_of reply)
+Fits outcome desk (Err why) = is_fault why ≡ false → outcome ≡ Err why
+
+-- a request at a desk gives this result and leaves that desk, whomever its user reaches
+abbrev pub Serves : Setup → worlds.Desk → steps.Request → worlds.Desk → Result Reply Refusal → Type 0
+Serves setup old request new result = (reach : List ℕ → Bool) → Fits (steps.outcome setup (record { desk = old; reach = reach }) request) new result
+
+-- ---- the store as a world
+
+-- the desk of a user among paired users and desks; whoever is not of them has nothing
+abbrev pub desk_among : List Source → List (List ℕ) → List Holdings → List ℕ → worlds.Desk
+desk_among table [] desks u = worlds.empty_desk
+desk_among table (name ∷ names) [] u = worlds.empty_desk
+desk_among table (name ∷ names) (d ∷ desks) u = if bytes_eq name u then desk_of table d else desk_among table names desks u
+
+-- the world that the store stands for
+unfoldable pub world_of : Core → worlds.World
+world_of core = desk_among core.table.sources core.users.items core.desks.items
+
+-- what its run was given
+unfoldable pub setup_of : Core → Setup
+setup_of core = record { users = core.users.items; charge = core.limits.charge }
+
+-- what a run of these users under these limits is given
+abbrev pub setup_for : Vec (List ℕ) → Limits → Setup
+setup_for users limits = record { users = users.items; charge = limits.charge }
+
+-- all that it stores: each path once, with its tree
+unfoldable pub stored_in : Core → List Source
+stored_in core = core.table.sources
+
+-- what the table and a desk hold is as it was
+pub record IsKept (table_old table_new : Stored) (desk_old desk_new : Holdings) : Type 0 where
+  pub sources : table_new.sources ≡ table_old.sources
+  pub paths : desk_new.paths ≡ desk_old.paths
+  pub charge : desk_new.charge ≡ desk_old.charge
+
+-- what is stored once an event was not refused
+abbrev pub stored_after_request : steps.Request → List Source → List Source
+stored_after_request (steps.AddSource name tree) sources = put_once (record { path = source_path tree name; tree = tree }) sources
+stored_after_request (steps.Fetch path) sources = sources
+
+abbrev pub stored_after : steps.Event → List Source → List Source
+stored_after event sources = stored_after_request event.request sources
+
+-- nothing of it changed
+pub record IsUnchanged (old new : Core) : Type 0 where
+  pub setup : setup_of new ≡ setup_of old
+  pub world : world_of new ≡ world_of old
+  pub stored : stored_in new ≡ stored_in old
+
+-- the reply is the model's, and so is the world after it
+pub record IsStep (setup : Setup) (old : worlds.World) (event : steps.Event) (reply : steps.Reply) (new : worlds.World) : Type 0 where
+  pub told : reply ≡ steps.reply_to setup old event
+  pub world : new ≡ steps.after setup old event
+
+-- all that made the stored paths is among the texts
+unfoldable pub HasHashed : List (List ℕ) → Core → Type 0
+HasHashed texts core = All (IsHashed texts) core.table.sources
+
+-- every path that a desk holds is stored, with the tree that the desk has
+abbrev pub HoldsStored : Core → Type 0
+HoldsStored core = (u path : List ℕ) → is_some (held_at path (world_of core u)) ≡ true → tree_at path (stored_in core) ≡ held_at path (world_of core u)

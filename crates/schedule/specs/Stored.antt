@@ -1,0 +1,52 @@
+-- What contracts see of the table and of a desk.
+use Rattle.std.specs.Prelude.{◌≡◌, ◌≢◌, ℕ, List, [], ◌∷◌, ◌++◌, map, is_some, Some, if◌then◌else◌, refl}
+use Rattle.std.specs.Global.{Vec}
+use Rattle.std.specs.Coded.{Coded, code_by, coded×, coded_ℕ, coded_list}
+use Rattle.model.specs.Archives.{Tree, nar}
+use Rattle.model.specs.TreeCode.{tree_code}
+use Rattle.model.specs.Paths.{source_path}
+use Rattle.model.specs.Worlds.{Source, tree_at}
+use Rattle.model.specs.Steps.{Request, AddSource, Fetch}
+
+-- the trees of the table with their paths, in order, and for how many more there is room
+pub record Stored : Type 0 where
+  pub sources : List Source
+  pub room : ℕ
+
+-- the paths of a desk's sources, in order, their charge in bytes, and for how many more paths there is room
+pub record Holdings : Type 0 where
+  pub paths : List (List ℕ)
+  pub charge : ℕ
+  pub room : ℕ
+
+-- the sources of a map's entries
+abbrev pub source_of : Vec ℕ × Tree → Source
+source_of e = record { path = e.0.items; tree = e.1 }
+
+abbrev pub sources_of : List (Vec ℕ × Tree) → List Source
+sources_of entries = map source_of entries
+
+-- the paths of a set's keys
+abbrev pub paths_of : List (Vec ℕ) → List (List ℕ)
+paths_of keys = map (λ k. k.items) keys
+
+-- sources with one more, unless its path is there
+abbrev pub put_once : Source → List Source → List Source
+put_once s sources = if is_some (tree_at s.path sources) then sources else sources ++ s ∷ []
+
+-- another tree is at the path
+pub record IsTaken (sources : List Source) (path : List ℕ) (tree : Tree) : Type 0 where
+  pub had : Tree
+  pub there : tree_at path sources ≡ Some had
+  pub other : nar had ≢ nar tree
+
+-- the request is to put a tree where another is
+abbrev pub IsTakenFor : List Source → Request → Type 0
+IsTakenFor sources (AddSource name tree) = IsTaken sources (source_path tree name) tree
+IsTakenFor sources (Fetch path) = ⊥
+
+abbrev source_code : Coded Source
+source_code = code_by (List ℕ × Tree) (coded× (coded_list coded_ℕ) tree_code) (λ s. (s.path, s.tree)) (λ p. record { path = p.0; tree = p.1 }) (λ _. refl)
+
+abbrev pub stored_code : Coded Stored
+stored_code = code_by (List Source × ℕ) (coded× (coded_list source_code) coded_ℕ) (λ s. (s.sources, s.room)) (λ p. record { sources = p.0; room = p.1 }) (λ _. refl)

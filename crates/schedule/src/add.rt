@@ -1,0 +1,96 @@
+//! Adding a source.
+
+ghost use Rattle.std.specs.Prelude.{◌≡◌, false, ◌↔◌, ◌+◌, ◌<◌, ◌≤◌, ℕ, List, length, OnErr, OnOk, IfOk, IfErr, IsTrue, Err, Some};
+ghost use Rattle.model.specs.Paths.{source_path};
+ghost use Rattle.model.specs.Worlds.{Setup, tree_at};
+ghost use Rattle.model.specs.Steps.{AddSource as AddSourceRequest};
+ghost use Rattle.model.specs.declared.refusal.Refusal.TheVariants.{Memory, Clash};
+ghost use Rattle.schedule.specs.Stored.{put_once, IsTaken};
+ghost use Rattle.schedule.specs.Sound.{IsSound, desk_of};
+ghost use Rattle.schedule.specs.Standing.{Serves, IsKept, is_refused};
+
+use crate::desk::Desk;
+use crate::events::Reply;
+use crate::limits::Limits;
+use crate::table::Table;
+use model::Refusal;
+use nar::{Tree, encode};
+use std::alloc::Global;
+use storepath::{Kind, Name, StorePath, make_path};
+
+/// The most sources of one user.
+const MOST_SOURCES: usize = 1024;
+
+/// The path of a source. The archive is let go before anything else is made.
+fn path_of_source(alloc: Global, name: &Name, tree: &Tree) -> Result<StorePath, Refusal>
+    ensures value { IfOk result (λ p. p ≡ source_path tree.now name.now) }
+    ensures memory { IfErr result (λ e. e ≡ Memory) }
+{
+    let archive = encode(alloc, tree)?;
+    let digest = hashmod::sha256(archive.bytes());
+    drop(archive);
+    make_path(alloc, &Kind::Source, &digest, name)
+}
+
+/// Stores a tree at its path, unless it is there already.
+fn store(table: &mut Table, path: &StorePath, key: Vec<u8>, tree: Tree) -> Result<(), Refusal>
+    requires key { key.items ≡ path.now }
+    requires room { 0 < table.old.room }
+    ensures stored { OnOk result (table.new.sources ≡ put_once (record { path = path.now; tree = tree }) table.old.sources) }
+    ensures there { OnOk result (tree_at path.now table.new.sources ≡ Some tree) }
+    ensures taken { IfErr result (λ e. (e ≡ Clash) × IsTaken table.old.sources path.now tree) }
+    ensures kept { OnErr result (table.new.sources ≡ table.old.sources) }
+{
+    match table.get(path) {
+        Some(had) if had.same(&tree) => Ok(()),
+        Some(_) => Err(Refusal::Clash),
+        None => {
+            table.put(key, tree);
+            Ok(())
+        }
+    }
+}
+
+/// Whether a desk stays within its limits with one source more, whose archive has that many bytes.
+fn has_room(desk: &Desk, limits: Limits, archive: u64) -> bool
+    requires { desk.now.charge ≤ limits.charge }
+    ensures { IsTrue result ↔ ((length desk.now.paths + 1 ≤ 1024) × (desk.now.charge + archive ≤ limits.charge)) }
+{
+    desk.len() < MOST_SOURCES && archive <= limits.charge - desk.charge()
+}
+
+/// Adds a source to a desk, and to the table where it is new there. All that needs memory comes
+/// before the first change.
+pub(crate) fn add_source(
+    alloc: Global,
+    table: &mut Table,
+    desk: &mut Desk,
+    limits: Limits,
+    name: &Name,
+    tree: Tree,
+) -> Result<Reply, Refusal>
+    requires { IsSound table.old.sources limits.charge desk.old }
+    ensures serves { (users : List (List ℕ)) → Serves (record { users = users; charge = limits.charge }) (desk_of table.old.sources desk.old)
+        (AddSourceRequest name.now tree) (desk_of table.new.sources desk.new) result }
+    ensures answered { IfOk result (λ r. is_refused r ≡ false) }
+    ensures stored { OnOk result (table.new.sources ≡ put_once (record { path = source_path tree name.now; tree = tree }) table.old.sources) }
+    ensures sound { OnOk result (IsSound table.new.sources limits.charge desk.new) }
+    ensures kept { OnErr result (IsKept table.old table.new desk.old desk.new) }
+    ensures taken { result ≡ Err Clash → IsTaken table.old.sources (source_path tree name.now) tree }
+{
+    let path = path_of_source(alloc, name, &tree)?;
+    if desk.holds(&path) {
+        return Ok(Reply::Path(path));
+    }
+    let archive = tree.nar_len() as u64;
+    if !has_room(desk, limits, archive) {
+        return Err(Refusal::Quota);
+    }
+    let stored = Vec::from_slice(alloc, path.bytes())?;
+    let held = Vec::from_slice(alloc, path.bytes())?;
+    table.reserve()?;
+    desk.reserve()?;
+    store(table, &path, stored, tree)?;
+    desk.add(held, archive);
+    Ok(Reply::Path(path))
+}

@@ -1,0 +1,37 @@
+//! What users ask, and what they are answered.
+
+use crate::user::User;
+use model::Refusal;
+use nar::Tree;
+use storepath::{Name, StorePath};
+
+/// What a user may ask.
+#[derive(Drop)]
+pub enum Request {
+    /// To have a tree on his desk as a source of that name. The reply is its path.
+    AddSource(Name, Tree),
+    /// The tree at a path that he holds.
+    Fetch(StorePath),
+}
+
+/// A request, and the user who makes it.
+#[derive(Drop)]
+pub struct Event {
+    /// Who asks, and gets the reply.
+    pub actor: User,
+    /// What he asks.
+    pub request: Request,
+}
+
+/// The answer to one event.
+#[derive(Drop)]
+pub enum Reply {
+    /// It is done, and there is nothing to tell.
+    Done,
+    /// The path of what was added.
+    Path(StorePath),
+    /// The tree that was asked for.
+    Content(Tree),
+    /// Why nothing was done.
+    Refused(Refusal),
+}

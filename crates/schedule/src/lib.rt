@@ -1,0 +1,25 @@
+//! The store of one run: one table of trees for all users, and for each user a desk of his own.
+//!
+//! [`Core::step`] takes one event and gives its reply; [`run`] takes a whole list of events. What
+//! both promise is said in the terms of the crate `model`: the store is as good as private desks.
+#![tactic(auto)]
+
+mod add;
+mod desk;
+mod events;
+mod fetch;
+mod limits;
+mod runs;
+mod serve;
+mod state;
+mod step;
+mod table;
+#[cfg(test)]
+mod tests;
+mod user;
+
+pub use events::{Event, Reply, Request};
+pub use limits::{LARGEST_CHARGE, Limits};
+pub use runs::run;
+pub use state::Core;
+pub use user::User;

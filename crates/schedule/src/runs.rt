@@ -1,0 +1,54 @@
+//! Whole runs.
+
+ghost use Rattle.std.specs.Prelude.{◌≡◌, ◌≤◌, ◌⊎◌, true, false, ℕ, List, IfOk, IfErr, map};
+ghost use Rattle.std.specs.List.{list_any};
+ghost use Rattle.model.specs.Paths.{NoClash};
+ghost use Rattle.model.specs.Worlds.{are_users, nothing};
+ghost use Rattle.model.specs.Steps.{answers, replies_to, replies};
+ghost use Rattle.model.specs.HashedTexts.{hashed};
+ghost use Rattle.model.specs.Striking.{strike};
+ghost use Rattle.model.specs.declared.refusal.Refusal.TheVariants.{Memory, BadUsers};
+ghost use Rattle.schedule.specs.Standing.{setup_for, event_of, answer_of, is_memory};
+
+use crate::events::{Event, Reply};
+use crate::limits::Limits;
+use crate::state::Core;
+use crate::user::User;
+use model::{Refusal, isolation};
+use std::alloc::Global;
+use std::hash::RandomState;
+
+/// The replies to all these events, in order, each with the user who gets it.
+///
+/// Where no two hashed texts have one folded digest and memory was refused nowhere, they are those
+/// of private desks (`same`), and each user's are those that he would get if the events of all users
+/// outside his trust closure were struck out (`isolated`): this is the store's main theorem.
+///
+/// The errors are 14 `BadUsers`, exactly where the list of users is ill-formed, and 90 `Memory`.
+pub fn run(
+    alloc: Global,
+    hashing: RandomState,
+    users: Vec<User>,
+    limits: Limits,
+    events: Vec<Event>,
+) -> Result<Vec<(User, Reply)>, Refusal>
+    requires { limits.charge ≤ 1073741824 }
+    ensures same { let setup = setup_for users limits in let all = map event_of events.items in
+        NoClash (hashed setup nothing all) → IfOk result (λ given. list_any (λ a. is_memory a.1) given.items ≡ false →
+        map answer_of given.items ≡ answers setup nothing all) }
+    ensures isolated { let setup = setup_for users limits in let all = map event_of events.items in
+        NoClash (hashed setup nothing all) → IfOk result (λ given. list_any (λ a. is_memory a.1) given.items ≡ false →
+        (u : List ℕ) → replies_to u (map answer_of given.items) ≡ replies setup u (strike setup u all)) }
+    ensures users { IfOk result (λ given. are_users users.items ≡ true) }
+    ensures refused { IfErr result (λ e. (e ≡ Memory) ⊎ ((e ≡ BadUsers) × (are_users users.items ≡ false))) }
+{
+    isolation();
+    let mut core = Core::new(alloc, hashing, users, limits)?;
+    let mut given = Vec::with_capacity(alloc, events.len())?;
+    for event in events {
+        let actor = event.actor.clone()?;
+        let reply = core.step(alloc, event);
+        given.push((actor, reply))?;
+    }
+    Ok(given)
+}

@@ -1,0 +1,114 @@
+//! The steps of a core.
+
+ghost use Rattle.std.specs.Prelude.{◌≡◌, ◌↔◌, ◌≤◌, true, false, ℕ, List, IfOk, IfErr, OnOk, OnErr, Err, ◌⊎◌, [], vec_len, All, Contains, position, bytes_eq};
+ghost use Rattle.model.specs.Paths.{NoClash};
+ghost use Rattle.model.specs.Worlds.{are_users, is_user, nothing};
+ghost use Rattle.model.specs.Steps.{outcome_of};
+ghost use Rattle.schedule.specs.Sound.{IsEmpty};
+ghost use Rattle.model.specs.HashedTexts.{texts_of_event};
+ghost use Rattle.model.specs.declared.refusal.Refusal.TheVariants.{Memory, BadUsers};
+ghost use Rattle.schedule.specs.Standing.{world_of, setup_of, stored_in, stored_after, event_of, reply_of, is_memory, is_clash, is_refused, is_fault, is_clash_refusal, IsStep, IsUnchanged, HasHashed, HoldsStored};
+
+use crate::desk::Desk;
+use crate::events::{Event, Reply};
+use crate::limits::Limits;
+use crate::serve::serve_at;
+use crate::state::Core;
+use crate::table::Table;
+use crate::user::{User, are_users};
+use model::Refusal;
+use std::alloc::Global;
+use std::hash::RandomState;
+use storepath::paths_differ;
+
+/// The place of a user in a list.
+fn place_of(users: &[User], name: &User) -> Option<usize>
+    ensures { result ≡ position (λ u. bytes_eq u name.now) users.now }
+{
+    users.iter().position(|user| *user == *name)
+}
+
+/// Empty desks, so many of them.
+fn empty_desks(alloc: Global, count: usize) -> Result<Vec<Desk>, Refusal>
+    ensures value { IfOk result (λ desks. (All IsEmpty desks.items) × (vec_len desks ≡ count)) }
+    ensures memory { IfErr result (λ e. e ≡ Memory) }
+{
+    let mut desks = Vec::with_capacity(alloc, count)?;
+    for _desk in 0..count {
+        desks.push(Desk::new(alloc))?;
+    }
+    Ok(desks)
+}
+
+impl Core {
+    /// A core for these users, with empty desks. `hashing` has the keys of its table's hasher.
+    ///
+    /// The errors are 14 `BadUsers`, exactly where the list is ill-formed: there are no names or
+    /// more than 64, one is ill-formed (see [`User::is_well_formed`]), or one comes twice; and 90
+    /// `Memory`.
+    pub fn new(
+        alloc: Global,
+        hashing: RandomState,
+        users: Vec<User>,
+        limits: Limits,
+    ) -> Result<Core, Refusal>
+        requires { limits.charge ≤ 1073741824 }
+        ensures setup { IfOk result (λ core. setup_of core ≡ record { users = users.items; charge = limits.charge }) }
+        ensures world { IfOk result (λ core. world_of core ≡ nothing) }
+        ensures stored { IfOk result (λ core. stored_in core ≡ []) }
+        ensures users { IfOk result (λ core. are_users users.items ≡ true) }
+        ensures refused { IfErr result (λ e. (e ≡ Memory) ⊎ ((e ≡ BadUsers) × (are_users users.items ≡ false))) }
+    {
+        if !are_users(users.as_slice()) {
+            return Err(Refusal::BadUsers);
+        }
+        let desks = empty_desks(alloc, users.len())?;
+        Ok(Core {
+            users,
+            desks,
+            table: Table::new(alloc, hashing),
+            limits,
+        })
+    }
+
+    /// Serves one event at its actor's desk.
+    fn serve(&mut self, alloc: Global, event: Event) -> Result<Reply, Refusal>
+        ensures told { IfOk result (λ r. (is_refused r ≡ false) × IsStep (setup_of self.old) (world_of self.old) (event_of event) (reply_of r) (world_of self.new)) }
+        ensures refused { IfErr result (λ why. is_fault why ≡ false → outcome_of (setup_of self.old) (world_of self.old) (event_of event) ≡ Err why) }
+        ensures known { OnOk result (is_user (setup_of self.old) event.actor ≡ true) }
+        ensures kept { OnErr result (IsUnchanged self.old self.new) }
+        ensures setup { setup_of self.new ≡ setup_of self.old }
+        ensures stored { OnOk result (stored_in self.new ≡ stored_after (event_of event) (stored_in self.old)) }
+        ensures no_clash { (texts : List (List ℕ)) → NoClash texts → HasHashed texts self.old → All (Contains texts) (texts_of_event (setup_of self.old) (world_of self.old) (event_of event))
+            → IfErr result (λ why. is_clash_refusal why ≡ false) }
+    {
+        let Event { actor, request } = event;
+        let Some(place) = place_of(self.users.as_slice(), &actor) else {
+            return Err(Refusal::UnknownUser);
+        };
+        paths_differ();
+        let desk = &mut self.desks[place];
+        serve_at(alloc, &mut self.table, desk, self.limits, request)
+    }
+
+    /// Takes one event, and gives its actor's reply. A refusal changes nothing.
+    ///
+    /// With 90 `Memory` a growth was refused; 91 `Clash` comes only where two hashed texts have
+    /// one folded digest. Every other reply, and the world after it, is the model's.
+    pub fn step(&mut self, alloc: Global, event: Event) -> Reply
+        ensures step { is_memory result ≡ false → is_clash result ≡ false → IsStep (setup_of self.old) (world_of self.old) (event_of event) (reply_of result) (world_of self.new) }
+        ensures refused { is_refused result ≡ true → IsUnchanged self.old self.new }
+        ensures setup { setup_of self.new ≡ setup_of self.old }
+        ensures stored { is_refused result ≡ false → stored_in self.new ≡ stored_after (event_of event) (stored_in self.old) }
+        ensures holds { HoldsStored self.new }
+        ensures hashed { (texts : List (List ℕ)) → HasHashed texts self.old → All (Contains texts) (texts_of_event (setup_of self.old) (world_of self.old) (event_of event))
+            → HasHashed texts self.new }
+        ensures no_clash { (texts : List (List ℕ)) → NoClash texts → HasHashed texts self.old → All (Contains texts) (texts_of_event (setup_of self.old) (world_of self.old) (event_of event))
+            → is_clash result ≡ false }
+    {
+        match self.serve(alloc, event) {
+            Ok(reply) => reply,
+            Err(refusal) => Reply::Refused(refusal),
+        }
+    }
+}

@@ -1,0 +1,6 @@
+mod DigitLemmas
+pub mod DistinctLemmas
+mod KindLemmas
+mod NameLemmas
+mod NumberLemmas
+pub mod PathLemmas

@@ -1,0 +1,55 @@
+use Rattle.std.proofs.Common.{◌≡◌, ◌++◌, arith, sym, ◌∙◌, ap, Some, None}
+use Rattle.std.specs.Prelude.{codes}
+use Rattle.std.proofs.lemmas.Bool.Decides.{Decides-eqb}
+use Rattle.std.proofs.lemmas.List.{append_cancel_left}
+use Rattle.std.proofs.lemmas.Slice.Eq.{strip_prefix_is}
+use Rattle.model.specs.Paths.{base32, is_name}
+use Rattle.storepath.proofs.PathLemmas.{parts_of-path_text, not_a_path, long_enough, digits_in, behind_digits_in, joined_path}
+use Rattle.storepath.proofs.path.is_path.Goals as goal
+
+pub returns-in_default : goal.returns-in_default
+returns-in_default c =
+    let text = c.args.text.now in
+    let none = strip_prefix_is Decides-eqb text (codes "/nix/store/") None c.in_default.ensures.cases in
+    not_a_path text (λ path. none (base32 path.hash_part ++ (codes "-" ++ path.name)) (path.is ∙ parts_of-path_text path.hash_part path.name))
+
+pub returns-in_default-split_at_checked : goal.returns-in_default-split_at_checked
+returns-in_default-split_at_checked c =
+    let text = c.args.text.now in
+    let rest = c.in-Some.rest.now in
+    let store = strip_prefix_is Decides-eqb text (codes "/nix/store/") (Some c.in-Some.rest) c.in-Some.ensures.cases in
+    not_a_path text (λ path. omega (arith, c.in_default-split_at_checked.ensures.cases, long_enough text rest path store))
+
+pub returns-in_default-strip_prefix : goal.returns-in_default-strip_prefix
+returns-in_default-strip_prefix c =
+    let text = c.args.text.now in
+    let rest = c.in-Some.rest.now in
+    let behind = c.in-Some-split_at_checked.rest.now in
+    let store = strip_prefix_is Decides-eqb text (codes "/nix/store/") (Some c.in-Some.rest) c.in-Some.ensures.cases in
+    let split = c.in-Some-split_at_checked.ensures.cases in
+    let none = strip_prefix_is Decides-eqb behind (codes "-") None c.in_default-strip_prefix.ensures.cases in
+    not_a_path text (λ path. none path.name (split.2 ∙ behind_digits_in text rest path store))
+
+pub returns-in-Ok : goal.returns-in-Ok
+returns-in-Ok c =
+    let text = c.args.text.now in
+    let rest = c.in-Some.rest.now in
+    let behind = c.in-Some-split_at_checked.rest.now in
+    let name = c.in-Some-strip_prefix.name.now in
+    let store = strip_prefix_is Decides-eqb text (codes "/nix/store/") (Some c.in-Some.rest) c.in-Some.ensures.cases in
+    let split = c.in-Some-split_at_checked.ensures.cases in
+    let dash = strip_prefix_is Decides-eqb behind (codes "-") (Some c.in-Some-strip_prefix.name) c.in-Some-strip_prefix.ensures.cases in
+    let read = c.in-Ok.ensures.read in (
+      λ named. joined_path text rest name c.in-Ok.field-0 store (sym split.2 ∙ dash) read.0 (read.1 ∙ split.1) (sym c.is_name.ensures ∙ named),
+      λ path.
+          let same : name ≡ path.name = append_cancel_left (codes "-") name path.name (sym dash ∙ split.2 ∙ behind_digits_in text rest path store) in
+          c.is_name.ensures ∙ ap is_name same ∙ path.named,
+    )
+
+pub returns-in-Err : goal.returns-in-Err
+returns-in-Err c =
+    let text = c.args.text.now in
+    let rest = c.in-Some.rest.now in
+    let store = strip_prefix_is Decides-eqb text (codes "/nix/store/") (Some c.in-Some.rest) c.in-Some.ensures.cases in
+    let split = c.in-Some-split_at_checked.ensures.cases in
+    not_a_path text (λ path. c.in-Err.ensures.refused.1 path.hash_part path.folded (sym (split.1 ∙ digits_in text rest path store)))

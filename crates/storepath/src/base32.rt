@@ -1,0 +1,79 @@
+//! Base 32 as store paths print it: 20 bytes as 32 digits.
+//!
+//! The bytes are one number of 160 bits, the lowest byte first, and its digits are printed the highest first (Nix Reference Manual, "Store Path").
+
+ghost use Rattle.std.specs.Prelude.{◌≡◌, ◌↔◌, ◌≢◌, ℕ, List, ◌+◌, ◌*◌, ◌^◌, ◌<◌, ◌==◌, position, IfOk, IfErr};
+ghost use Rattle.model.specs.Paths.{base32, digits_32, number_of, IsFolded};
+
+use model::Refusal;
+
+/// The digits: no `e`, `o`, `u` or `t`.
+const DIGITS: [u8; 32] = *b"0123456789abcdfghijklmnpqrsvwxyz";
+
+/// Divides a number of 160 bits by 32, and gives the remainder.
+fn divide(number: &mut [u8; 20]) -> usize
+    ensures divided { number_of number.old ≡ 32 * number_of number.new + result }
+    ensures remainder { result < 32 }
+{
+    let mut remainder = 0;
+    for place in (0..20).rev() {
+        let value = remainder * 256 + usize::from(number[place]);
+        number[place] = (value / 32) as u8;
+        remainder = value % 32;
+    }
+    remainder
+}
+
+/// Multiplies a number of 160 bits by 32, and adds a digit.
+fn append(number: &mut [u8; 20], digit: usize)
+    requires digit { digit < 32 }
+    requires fits { number_of number.old < 32 ^ 31 }
+    ensures value { number_of number.new ≡ 32 * number_of number.old + digit }
+    ensures bytes { IsFolded number.new }
+{
+    let mut carry = digit;
+    for place in 0..20 {
+        let value = usize::from(number[place]) * 32 + carry;
+        number[place] = (value % 256) as u8;
+        carry = value / 256;
+    }
+}
+
+/// The digit that a character stands for.
+fn digit_value(character: u8) -> Option<usize>
+    ensures { result ≡ position (λ digit. digit == character) digits_32 }
+{
+    DIGITS.iter().position(|digit| *digit == character)
+}
+
+/// The 32 digits of 20 bytes. It takes no memory.
+pub fn to_base32(bytes: &[u8; 20]) -> [u8; 32]
+    ensures { result ≡ base32 bytes.now }
+{
+    let mut number = *bytes;
+    let mut text = [0; 32];
+    for place in (0..32).rev() {
+        text[place] = DIGITS[divide(&mut number)];
+    }
+    text
+}
+
+/// The 20 bytes that a text of 32 digits stands for.
+///
+/// The one error is `BadPath`, 24: the text is not that of any 20 bytes. It takes no memory.
+pub fn from_base32(text: &[u8]) -> Result<[u8; 20], Refusal>
+    ensures read { IfOk result (λ bytes. IsFolded bytes × (base32 bytes ≡ text.now)) }
+    ensures refused { IfErr result (λ why. (why ≡ Refusal.BadPath) × ((bytes : List ℕ) → IsFolded bytes → base32 bytes ≢ text.now)) }
+{
+    if text.len() != 32 {
+        return Err(Refusal::BadPath);
+    }
+    let mut number = [0; 20];
+    for character in text {
+        let Some(digit) = digit_value(*character) else {
+            return Err(Refusal::BadPath);
+        };
+        append(&mut number, digit);
+    }
+    Ok(number)
+}

@@ -1,0 +1,8 @@
+//! Laws of store paths. No program calls them: each is a function with an empty body, whose contract is proved.
+
+ghost use Rattle.storepath.specs.Laws.{PathsDiffer};
+
+/// Sources of one path are the same and have one name, where no two of the texts that are hashed have one folded digest.
+pub fn paths_differ()
+    ensures { PathsDiffer }
+{}

@@ -1,0 +1,16 @@
+//! Store paths and what they are made of: names, base 32, and the paths of sources, derivations and outputs.
+#![tactic(auto)]
+
+mod base32;
+mod kind;
+mod laws;
+mod name;
+mod path;
+#[cfg(test)]
+mod tests;
+
+pub use base32::{from_base32, to_base32};
+pub use kind::{Kind, make_path};
+pub use laws::paths_differ;
+pub use name::Name;
+pub use path::{StorePath, read_path};

@@ -1,0 +1,97 @@
+//! Names of store paths (Nix Reference Manual, "Store Path").
+
+ghost use Rattle.std.specs.Prelude.{◌≡◌, ◌↔◌, ◌⊎◌, true, false, IfOk, IfErr};
+ghost use Rattle.model.specs.Paths.{is_name, is_name_byte};
+
+use model::Refusal;
+use std::alloc::{AllocError, Global};
+use std::marker::Model;
+use std::{fmt, str};
+
+/// The greatest length of a name, in bytes.
+const LONGEST: usize = 211;
+
+/// Whether a byte may stand in a name.
+fn is_name_byte(byte: u8) -> bool
+    ensures { result ≡ is_name_byte byte }
+{
+    byte.is_ascii_alphanumeric() || b"+-._?=".contains(&byte)
+}
+
+/// Whether a text is a name.
+pub(crate) fn is_name(text: &[u8]) -> bool
+    ensures { result ≡ is_name text.now }
+{
+    if text.is_empty() || text.len() > LONGEST || text[0] == b'.' {
+        return false;
+    }
+    text.iter().all(|byte| is_name_byte(*byte))
+}
+
+/// A name of a store path: 1 to 211 ASCII letters, digits and `+-._?=`, the first no dot.
+#[derive(Debug, Drop)]
+pub struct Name {
+    text: Vec<u8>,
+}
+
+impl Model for Name {
+    ghost use Rattle.std.specs.Prelude.{◌≡◌, List, ℕ, true};
+    ghost use Rattle.model.specs.Paths.{is_name};
+
+    ghost Value = { List ℕ };
+
+    ghost view = { λ name. name.text.items };
+
+    ghost invariant = { λ name. is_name name.text.items ≡ true };
+}
+
+impl Name {
+    /// The name of a text.
+    ///
+    /// The errors are `BadName`, 21, where the text is no name, and `Memory`, 90, where it is one and memory was refused.
+    pub fn new(alloc: Global, text: &[u8]) -> Result<Name, Refusal>
+        ensures named { IfOk result (λ name. (name ≡ text.now) × (is_name text.now ≡ true)) }
+        ensures refused { (result ≡ Err Refusal.BadName) ↔ (is_name text.now ≡ false) }
+        ensures errors { IfErr result (λ why. (why ≡ Refusal.BadName) ⊎ (why ≡ Refusal.Memory)) }
+    {
+        if !is_name(text) {
+            return Err(Refusal::BadName);
+        }
+        let text = Vec::from_slice(alloc, text)?;
+        Ok(Name { text })
+    }
+
+    /// The bytes of the name.
+    pub fn bytes(&self) -> &[u8]
+        ensures value { result.now ≡ self.now }
+        ensures named { is_name self.now ≡ true }
+    {
+        self.text.as_slice()
+    }
+}
+
+/// The copy is equal. It fails only where memory is refused.
+impl Clone for Name {
+    ghost use Rattle.std.specs.Prelude.{◌≡◌};
+
+    ghost is_clone = { λ name copy. copy ≡ name };
+
+    fn clone(&self) -> Result<Name, AllocError> {
+        let text = self.text.clone()?;
+        Ok(Name { text })
+    }
+}
+
+/// The text of the name.
+impl fmt::Display for Name {
+    ghost use Rattle.std.specs.Prelude.{Some};
+
+    ghost output = { λ name. Some name };
+
+    fn fmt<W: fmt::Write>(&self, f: &mut fmt::Formatter<W>) -> fmt::Result {
+        match str::from_utf8(self.bytes()) {
+            Ok(text) => f.write_str(text),
+            Err(_) => unreachable!(),
+        }
+    }
+}

@@ -1,0 +1,203 @@
+//! The texts of store paths (Nix Reference Manual, "Store Path").
+
+ghost use Rattle.std.specs.Prelude.{◌≡◌, ◌↔◌, ◌⊎◌, ℕ, List, IfOk, IfErr, IsTrue};
+ghost use Rattle.model.specs.Paths.{base32, is_name, path_text, IsPath};
+ghost use Rattle.storepath.specs.Parts.{hash_part_of, name_of};
+
+use crate::base32::{from_base32, to_base32};
+use crate::name::{Name, is_name};
+use model::Refusal;
+use std::alloc::{AllocError, Global};
+use std::cmp::Ordering;
+use std::marker::Model;
+use std::{fmt, str};
+
+/// What stands before each hash part.
+const STORE: [u8; 11] = *b"/nix/store/";
+
+/// Where the hash part begins, in bytes.
+const HASH_PART: usize = 11;
+
+/// Where the dash behind the hash part stands, in bytes.
+const DASH: usize = 43;
+
+/// Where the name begins, in bytes.
+const NAME: usize = 44;
+
+/// The text of a store path: `/nix/store/`, a hash part of 32 digits, `-` and a name.
+#[derive(Debug, Drop)]
+pub struct StorePath {
+    text: Vec<u8>,
+}
+
+impl Model for StorePath {
+    ghost use Rattle.std.specs.Prelude.{List, ℕ};
+    ghost use Rattle.model.specs.Paths.{IsPath};
+
+    ghost Value = { List ℕ };
+
+    ghost view = { λ path. path.text.items };
+
+    ghost invariant = { λ path. IsPath path.text.items };
+}
+
+impl StorePath {
+    /// The bytes of the path.
+    pub fn bytes(&self) -> &[u8]
+        ensures value { result.now ≡ self.now }
+        ensures path { IsPath self.now }
+    {
+        self.text.as_slice()
+    }
+
+    /// The 32 digits of the hash part.
+    pub fn hash_part(&self) -> &[u8]
+        ensures value { result.now ≡ hash_part_of self.now }
+        ensures part { (path : IsPath self.now) × (result.now ≡ base32 path.hash_part) }
+    {
+        &self.text[HASH_PART..DASH]
+    }
+
+    /// The bytes of the name.
+    pub fn name(&self) -> &[u8]
+        ensures value { result.now ≡ name_of self.now }
+        ensures part { (path : IsPath self.now) × (result.now ≡ path.name) }
+    {
+        &self.text[NAME..]
+    }
+}
+
+/// The path with a hash part and a name.
+pub(crate) fn path_of(
+    alloc: Global,
+    hash_part: &[u8; 20],
+    name: &Name,
+) -> Result<StorePath, AllocError>
+    ensures { IfOk result (λ path. path ≡ path_text hash_part.now name.now) }
+{
+    let mut text = Vec::with_capacity(alloc, NAME + name.bytes().len())?;
+    text.extend_from_slice(&STORE)?;
+    text.extend_from_slice(&to_base32(hash_part))?;
+    text.extend_from_slice(b"-")?;
+    text.extend_from_slice(name.bytes())?;
+    Ok(StorePath { text })
+}
+
+/// Whether a text is a path's.
+fn is_path(text: &[u8]) -> bool
+    ensures { IsTrue result ↔ IsPath text.now }
+{
+    let Some(rest) = text.strip_prefix(&STORE) else {
+        return false;
+    };
+    let Some((digits, rest)) = rest.split_at_checked(DASH - HASH_PART) else {
+        return false;
+    };
+    let Some(name) = rest.strip_prefix(b"-") else {
+        return false;
+    };
+    match from_base32(digits) {
+        Ok(_) => is_name(name),
+        Err(_) => false,
+    }
+}
+
+/// The path of a text.
+///
+/// The errors are `BadPath`, 24, where the text is no path's, and `Memory`, 90, where it is one and memory was refused.
+pub fn read_path(alloc: Global, text: &[u8]) -> Result<StorePath, Refusal>
+    ensures read { IfOk result (λ path. (path ≡ text.now) × IsPath text.now) }
+    ensures refused { (result ≡ Err Refusal.BadPath) ↔ (¬ (IsPath text.now)) }
+    ensures memory { result ≡ Err Refusal.Memory → IsPath text.now }
+    ensures errors { IfErr result (λ why. (why ≡ Refusal.BadPath) ⊎ (why ≡ Refusal.Memory)) }
+{
+    if !is_path(text) {
+        return Err(Refusal::BadPath);
+    }
+    let text = Vec::from_slice(alloc, text)?;
+    Ok(StorePath { text })
+}
+
+/// Paths are equal where their texts are.
+impl PartialEq for StorePath {
+    ghost use Rattle.std.specs.Str.{bytes_eq};
+    ghost use Rattle.std.proofs.Common.{rules};
+    ghost use Rattle.std.specs.Cmp.Rules.{comparing};
+
+    ghost eq = { bytes_eq };
+
+    ghost laws = { Prim.search (comparing, rules) };
+
+    fn eq(&self, other: &StorePath) -> bool {
+        self.bytes() == other.bytes()
+    }
+}
+
+impl Eq for StorePath {
+    ghost use Rattle.std.proofs.Common.{rules};
+    ghost use Rattle.std.specs.Cmp.Rules.{comparing};
+
+    ghost laws = { Prim.search (comparing, rules) };
+}
+
+/// Paths stand in the order of their bytes.
+impl Ord for StorePath {
+    ghost use Rattle.std.proofs.Common.{rules};
+    ghost use Rattle.std.specs.Cmp.Lexicographic.{slice_cmp};
+    ghost use Rattle.std.specs.Cmp.Rules.{comparing};
+    ghost use Rattle.std.specs.Ordering.{nat_cmp};
+
+    ghost cmp = { slice_cmp nat_cmp };
+
+    ghost total = { Prim.search (comparing, rules) };
+
+    ghost matches_partial_cmp = { Prim.search (comparing, rules) };
+
+    ghost matches_eq = { Prim.search (comparing, rules) };
+
+    fn cmp(&self, other: &StorePath) -> Ordering {
+        self.bytes().cmp(other.bytes())
+    }
+}
+
+impl PartialOrd for StorePath {
+    ghost use Rattle.std.proofs.Common.{rules};
+    ghost use Rattle.std.specs.Cmp.{partial_order_from_own_ties};
+    ghost use Rattle.std.specs.Cmp.Lexicographic.{slice_cmp};
+    ghost use Rattle.std.specs.Cmp.Rules.{comparing};
+    ghost use Rattle.std.specs.Ordering.{as_partial_cmp, nat_cmp};
+
+    ghost partial_cmp = { as_partial_cmp (slice_cmp nat_cmp) };
+
+    ghost laws = { partial_order_from_own_ties (Prim.search (comparing, rules)) (Prim.search (comparing, rules)) };
+
+    fn partial_cmp(&self, other: &StorePath) -> Option<Ordering> {
+        Some(self.cmp(other))
+    }
+}
+
+/// The copy is equal. It fails only where memory is refused.
+impl Clone for StorePath {
+    ghost use Rattle.std.specs.Prelude.{◌≡◌};
+
+    ghost is_clone = { λ path copy. copy ≡ path };
+
+    fn clone(&self) -> Result<StorePath, AllocError> {
+        let text = self.text.clone()?;
+        Ok(StorePath { text })
+    }
+}
+
+/// The text of the path.
+impl fmt::Display for StorePath {
+    ghost use Rattle.std.specs.Prelude.{Some};
+
+    ghost output = { λ path. Some path };
+
+    fn fmt<W: fmt::Write>(&self, f: &mut fmt::Formatter<W>) -> fmt::Result {
+        match str::from_utf8(self.bytes()) {
+            Ok(text) => f.write_str(text),
+            Err(_) => unreachable!(),
+        }
+    }
+}
