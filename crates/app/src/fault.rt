@@ -1,8 +1,20 @@
-//! What the program says when it cannot go on.
+//! What the program says when it cannot go on, and its exit statuses.
 
+use model::Refusal;
 use thiserror::Error;
 
-/// Why the program ended, as it says on standard error.
+/// The exit status where every line was answered.
+pub(crate) const ANSWERED: u8 = 0;
+/// The exit status of a fault in the command line, and of a call for help.
+pub(crate) const COMMAND_LINE_FAULT: u8 = 2;
+/// The exit status where the file cannot be read, or standard output not written.
+pub(crate) const CANNOT_READ_OR_WRITE: u8 = 3;
+/// The exit status where memory was refused.
+pub(crate) const OUT_OF_MEMORY: u8 = 4;
+/// The exit status where the list of users is ill-formed.
+pub(crate) const BAD_USERS: u8 = 5;
+
+/// Why the program ended before its input did, as it says on standard error.
 #[derive(Debug, Drop, Error)]
 pub(crate) enum Fault<'a> {
     /// A file could not be opened or read to its end.
@@ -14,4 +26,25 @@ pub(crate) enum Fault<'a> {
     /// Memory was refused where no event could be answered for it.
     #[error("intstore: out of memory")]
     OutOfMemory,
+}
+
+/// The exit status of a run that ended so.
+pub(crate) fn status_of(ended: &Result<(), Refusal>) -> u8 {
+    match ended {
+        Ok(()) => ANSWERED,
+        Err(Refusal::BadUsers) => BAD_USERS,
+        Err(Refusal::InputFault | Refusal::OutputFault) => CANNOT_READ_OR_WRITE,
+        Err(_) => OUT_OF_MEMORY,
+    }
+}
+
+/// What is said of a run of that file that ended so, if anything: the reply to a refused line of users
+/// says it all.
+pub(crate) fn fault_of<'a>(ended: &Result<(), Refusal>, file: &'a str) -> Option<Fault<'a>> {
+    match ended {
+        Ok(()) | Err(Refusal::BadUsers) => None,
+        Err(Refusal::InputFault) => Some(Fault::CannotRead(file)),
+        Err(Refusal::OutputFault) => Some(Fault::CannotWrite),
+        Err(_) => Some(Fault::OutOfMemory),
+    }
 }

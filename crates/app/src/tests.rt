@@ -2,9 +2,11 @@
 //! Manual; and what the program says on its command line.
 
 use crate::command_line::options;
-use crate::fault::Fault;
-use crate::replay::{ANSWERED, BAD_USERS, CANNOT_READ_OR_WRITE, replay};
+use crate::counted::Counted;
+use crate::fault::{ANSWERED, BAD_USERS, CANNOT_READ_OR_WRITE, OUT_OF_MEMORY, fault_of, status_of};
+use crate::replay::replay;
 use crate::settings::Options;
+use model::Refusal;
 use std::alloc::Global;
 use std::hash::RandomState;
 use std::io;
@@ -24,15 +26,9 @@ fn replayed(rt: &HostRuntime, charge: u64, lines: &str) -> Result<(Vec<u8>, u8),
     words.push(String::from_str(alloc, "x")?)?;
     let options = options(alloc, words.as_slice())?;
     let mut written = Vec::new(alloc);
-    let mut reader = lines.as_bytes();
-    let status = replay(
-        alloc,
-        RandomState::new(rt)?,
-        &options,
-        &mut reader,
-        &mut written,
-    );
-    Ok((written, status))
+    let hashing = RandomState::new(rt)?;
+    let ended = replay(alloc, hashing, &options, lines.as_bytes(), &mut written);
+    Ok((written, status_of(&ended)))
 }
 
 #[test]
@@ -61,6 +57,31 @@ fn charge_limit(rt: HostRuntime) -> Result<(), Fail> {
 }
 
 #[test]
+fn shared_storage_does_not_show(rt: HostRuntime) -> Result<(), Fail> {
+    let lines =
+        "users alice bob\nalice source a f:\nbob source b d()\nbob source a f:\nbob source c d()\nbob source a f:\n";
+    let (written, status) = replayed(&rt, 208, lines)?;
+    let wanted = format!(in rt.alloc();
+        "1 - ok\n2 alice path {EMPTY_A}\n3 bob path /nix/store/g4sh4prsaiwpgpd9v0ibi649hanmh9ya-b\n4 bob path {EMPTY_A}\n5 bob refused 13 Quota\n6 bob path {EMPTY_A}\n"
+    )?;
+    assert_eq!(rt; written.as_slice(), wanted.as_bytes());
+    assert_eq!(rt; status, ANSWERED);
+    Ok(())
+}
+
+#[test]
+fn directories(rt: HostRuntime) -> Result<(), Fail> {
+    let lines =
+        "# A tree of directories, its hash part in another file, and what a stranger is told.\nusers alice bob\nalice source hello d(62696e=d(68656c6c6f=x:6563686f2068656c6c6f0a),7368617265=d(6772656574696e67=l:2e2e2f62696e2f68656c6c6f))\nalice fetch {p3}\nalice source pointer f:{h3}\nbob fetch {p3}\nbob source hello d(62=f:,61=f:)\nbob source empty d()\nbob fetch {p8}\n";
+    let (written, status) = replayed(&rt, 1_073_741_824, lines)?;
+    let wanted =
+        "2 - ok\n3 alice path /nix/store/1hawmnx4fyfkfpznzaj7mnyidz85lim8-hello\n4 alice tree d(62696e=d(68656c6c6f=x:6563686f2068656c6c6f0a),7368617265=d(6772656574696e67=l:2e2e2f62696e2f68656c6c6f))\n5 alice path /nix/store/7h7zl17pz5vrbvrcghavksd7j0l93jzf-pointer\n6 bob refused 53 NotHeld\n7 - refused 23 BadNar\n8 bob path /nix/store/9ljssglw74jabzzsqsl3lim4d5jgh4ya-empty\n9 bob tree d()\n";
+    assert_eq!(rt; written.as_slice(), wanted.as_bytes());
+    assert_eq!(rt; status, ANSWERED);
+    Ok(())
+}
+
+#[test]
 fn user_named_twice(rt: HostRuntime) -> Result<(), Fail> {
     let (written, status) = replayed(
         &rt,
@@ -78,7 +99,7 @@ fn user_named_twice(rt: HostRuntime) -> Result<(), Fail> {
 #[test]
 fn faults_in_lines(rt: HostRuntime) -> Result<(), Fail> {
     let lines =
-        "users alice\nalice source  f:\nalice source .x\nalice source .x f:\neve source .x g:\neve fetch {p1}\nalice fetch {p9}\nalice source a F:\nusers bob\nEve fetch x\n#{p1}\n\nalice source b l:61\n";
+        "users alice\nalice source  f:\nalice source .x\nalice source .x f:\neve source .x g:\neve fetch {p1}\nalice fetch {p9}\nalice source a F:\nusers bob\nEve fetch x\n#{p1}\n\nalice source b l:6\n";
     let (written, status) = replayed(&rt, 1, lines)?;
     let wanted =
         "1 - ok\n2 - refused 25 BadLine\n3 - refused 25 BadLine\n4 - refused 21 BadName\n5 - refused 21 BadName\n6 - refused 25 BadLine\n7 - refused 24 BadPath\n8 - refused 23 BadNar\n9 - refused 25 BadLine\n10 - refused 25 BadLine\n13 - refused 23 BadNar\n";
@@ -116,11 +137,11 @@ fn broken_devices(rt: HostRuntime) -> Result<(), Fail> {
     };
     let hashing = RandomState::new(&rt)?;
     let mut written = Vec::new(alloc);
-    let unread = replay(alloc, hashing, &options, &mut Broken, &mut written);
-    assert_eq!(rt; unread, CANNOT_READ_OR_WRITE);
-    let mut lines = "users alice\n".as_bytes();
-    let unwritten = replay(alloc, hashing, &options, &mut lines, &mut Broken);
-    assert_eq!(rt; unwritten, CANNOT_READ_OR_WRITE);
+    let unread = replay(alloc, hashing, &options, Counted::new(Broken), &mut written);
+    assert!(rt; matches!(unread, Err(Refusal::InputFault)));
+    let lines = "users alice\n".as_bytes();
+    let unwritten = replay(alloc, hashing, &options, lines, &mut Counted::new(Broken));
+    assert!(rt; matches!(unwritten, Err(Refusal::OutputFault)));
     Ok(())
 }
 
@@ -158,17 +179,34 @@ fn command_lines(rt: HostRuntime) -> Result<(), Fail> {
 }
 
 #[test]
-fn words_of_faults(rt: HostRuntime) -> Result<(), Fail> {
+fn ends_of_runs(rt: HostRuntime) -> Result<(), Fail> {
     let alloc = rt.alloc();
-    let unread = Fault::CannotRead("a b").to_string(alloc)?;
-    assert_eq!(rt; unread.as_str(), "intstore: cannot read a b");
-    assert_eq!(rt;
-        Fault::CannotWrite.to_string(alloc)?.as_str(),
-        "intstore: cannot write"
-    );
-    assert_eq!(rt;
-        Fault::OutOfMemory.to_string(alloc)?.as_str(),
-        "intstore: out of memory"
-    );
+    let ends = [
+        (Ok(()), ANSWERED, ""),
+        (Err(Refusal::BadUsers), BAD_USERS, ""),
+        (
+            Err(Refusal::InputFault),
+            CANNOT_READ_OR_WRITE,
+            "intstore: cannot read x",
+        ),
+        (
+            Err(Refusal::OutputFault),
+            CANNOT_READ_OR_WRITE,
+            "intstore: cannot write",
+        ),
+        (
+            Err(Refusal::Memory),
+            OUT_OF_MEMORY,
+            "intstore: out of memory",
+        ),
+    ];
+    for (ended, status, words) in ends {
+        assert_eq!(rt; status_of(&ended), status);
+        let said = match fault_of(&ended, "x") {
+            Some(fault) => fault.to_string(alloc)?,
+            None => String::new(alloc),
+        };
+        assert_eq!(rt; said.as_str(), words);
+    }
     Ok(())
 }

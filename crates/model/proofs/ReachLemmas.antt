@@ -1,6 +1,6 @@
 -- What is reached is the least closed set.
-use Rattle.std.proofs.Common.{◌≡◌, ℕ, Bool, true, false, ◌⊎◌, inl, inr, refl, subst, List, [], ◌∷◌}
-use Rattle.std.specs.Prelude.{◌||◌, ◌&&◌, bytes_eq}
+use Rattle.std.proofs.Common.{◌≡◌, ℕ, Bool, true, ◌⊎◌, inl, inr, subst, List, [], ◌∷◌}
+use Rattle.std.specs.Prelude.{bytes_eq}
 use Rattle.model.specs.Reach.{leads, is_among}
 use Rattle.model.specs.Laws.{IsLeast}
 use Rattle.model.proofs.BoolLemmas.{or_cases, or_left, or_right, both, both_parts, same_bytes, bytes_same}

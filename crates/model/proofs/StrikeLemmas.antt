@@ -9,7 +9,7 @@ use Rattle.model.specs.Reach.{is_among}
 use Rattle.model.specs.Worlds.{Desk, World, nothing, Setup, is_user, is_within, has_source, with_source, held_at}
 use Rattle.model.specs.Steps.{Request, AddSource, Fetch, Event, Reply, Path, Content, reaches, Sight, sight_of, News, Quiet, Outcome, becomes, need, room, heard, outcome, outcome_of, reply_of, desk_after, after, answers, replies_to, replies}
 use Rattle.model.specs.Striking.{asks_to_trust, gives_trust, ever, strike}
-use Rattle.model.proofs.BoolLemmas.{either, or_cases, or_left, or_right, both, both_parts, same_bytes, bytes_same, bytes_differ}
+use Rattle.model.proofs.BoolLemmas.{either, or_cases, or_left, or_right, both, both_parts, same_bytes, bytes_same}
 use Rattle.model.proofs.ReachLemmas.{leads-IsLeast}
 use Rattle.model.proofs.AgreeLemmas.{Agree, leads_agree, outcome_agree}
 

@@ -3,9 +3,14 @@ pub mod Archives
 pub mod TreeCode
 pub mod TreeTexts
 pub mod Paths
+pub mod Derivations
+pub mod Classes
 pub mod Reach
 pub mod Worlds
 pub mod Steps
 pub mod Striking
 pub mod HashedTexts
+pub mod Lines
+pub mod Forms
+pub mod Talk
 pub mod Laws

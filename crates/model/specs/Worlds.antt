@@ -1,6 +1,6 @@
 -- The store as private desks: each user has his own, and nothing is shared.
 -- Dolstra 2006, section 6.2, has the table of realisations of one user; the limits are this project's.
-use Rattle.std.specs.Prelude.{ℕ, ◌==◌, nat_lt, nat_le, Bool, ◌&&◌, ◌||◌, false, true, not, List, [], ◌∷◌, ◌++◌, length, filter, find, sum_by, bytes_eq, option_map, Option}
+use Rattle.std.specs.Prelude.{ℕ, nat_lt, nat_le, Bool, ◌&&◌, ◌||◌, false, true, not, List, [], ◌∷◌, ◌++◌, length, filter, find, sum_by, bytes_eq, option_map, Option}
 use Rattle.std.specs.List.{list_any, list_all}
 use Rattle.model.specs.Archives.{Tree, nar}
 use Rattle.model.specs.Reach.{is_among}

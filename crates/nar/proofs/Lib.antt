@@ -1,5 +1,12 @@
-pub mod Lengths
-pub mod Contents
-pub mod Base16
-pub mod Nodes
-pub mod FileTexts
+pub mod ReadEntries
+pub mod ArchiveCompleteness
+pub mod ArchiveLengths
+pub mod NodeViews
+pub mod EntryMeasures
+pub mod ReadItems
+pub mod NodeLengths
+pub mod TextCompleteness
+pub mod LowerDigits
+pub mod ArchiveBytes
+pub mod EntrySteps
+pub mod TextLengths

@@ -1,9 +1,7 @@
 -- Laws of archives.
-use Rattle.std.specs.Prelude.{◌≡◌, ℕ, Bool, List}
-use Rattle.model.specs.Archives.{File, IsTree, nar}
+use Rattle.std.specs.Prelude.{◌≡◌}
+use Rattle.model.specs.Archives.{Tree, IsTree, nar}
 
--- two files with one archive are the same
+-- trees with one archive are one tree
 abbrev pub ArchivesDiffer : Type 0
-ArchivesDiffer =
-    (x y : Bool) (s t : List ℕ) → IsTree (File x s) → IsTree (File y t)
-    → nar (File x s) ≡ nar (File y t) → File x s ≡ File y t
+ArchivesDiffer = (a b : Tree) → IsTree a → IsTree b → nar a ≡ nar b → a ≡ b

@@ -1,5 +1,8 @@
-pub mod View
-pub mod Limits
-pub mod Reading
-pub mod Texts
+pub mod NodeTrees
+pub mod ArchiveParts
+pub mod ArchiveReading
+pub mod TextReading
+pub mod Measuring
+pub mod Outcomes
+pub mod Refusing
 pub mod Laws

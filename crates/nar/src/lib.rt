@@ -1,21 +1,34 @@
 //! File system objects, their archives and their texts.
 //!
-//! A [`Tree`] is a file system object of the Nix store. Its archive ([`encode`]) is the NAR of the
-//! Nix Reference Manual, "Nix Archive (NAR) format", and of Dolstra 2006, section 5.2: the one text
-//! that is hashed and handed to builders. Its tree text ([`tree_text`], [`read_tree_text`]) writes it
-//! on one line of a request or a reply.
+//! A [`Tree`] is a file system object of the Nix store: a file, a link or a directory. Its archive
+//! is the NAR of the Nix Reference Manual ("Nix Archive (NAR) format", "File System Object") and of
+//! Dolstra 2006, section 5.2: the one text that is hashed and handed to builders. Its tree text
+//! writes it on one line of a request or a reply.
 //!
-//! The trees of this crate are plain files.
+//! | Calls | What they give |
+//! |---|---|
+//! | [`Tree::file`], [`Tree::link`], [`Tree::dir`] | a tree of its parts |
+//! | [`encode`], [`decode`] | the archive of a tree, and the tree of an archive |
+//! | [`tree_text`], [`read_tree_text`] | the tree text of a tree, and the tree of a tree text |
 #![tactic(auto)]
 
-mod archive;
+mod archive_reader;
+mod archive_writer;
 mod law;
+mod measures;
+mod names;
+mod node;
+mod reading;
+mod strings;
 #[cfg(test)]
 mod tests;
-mod text;
+mod text_reader;
+mod text_writer;
 mod tree;
 
-pub use archive::{Nar, encode};
+pub use archive_reader::decode;
+pub use archive_writer::{Nar, encode};
 pub use law::archives_differ;
-pub use text::{read_tree_text, tree_text};
+pub use text_reader::read_tree_text;
+pub use text_writer::tree_text;
 pub use tree::Tree;

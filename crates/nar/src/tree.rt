@@ -1,75 +1,145 @@
-//! Trees, and when one may be stored.
-ghost use Rattle.std.specs.Prelude.{◌≡◌, ◌↔◌, ◌≤◌, IfOk, IfErr, IsTrue, length};
-ghost use Rattle.model.specs.Archives.{File, IsTree, nar};
-ghost use Rattle.model.specs.declared.refusal.Refusal.TheVariants.{TooLarge};
-ghost use Rattle.nar.specs.Limits.{IsTooLarge};
+//! Trees, and how they are made.
 
+ghost use Rattle.std.specs.Prelude.{◌≡◌, ◌<◌, ◌≤◌, IfOk, IfErr, IfSome, IfNone, MatchResult, IsTrue, ◌↔◌, [], length};
+ghost use Rattle.model.specs.Archives.{nar, File, Link, Directory, AreSound, IsTree};
+ghost use Rattle.model.specs.declared.refusal.Refusal.TheVariants.{TooLarge, Memory};
+ghost use Rattle.nar.specs.NodeTrees.{named_trees, as_entries};
+ghost use Rattle.nar.specs.Measuring.{AreMeasured};
+ghost use Rattle.nar.specs.Refusing.{IsNoTree};
+
+use crate::measures::{mark_len, string_len};
+use crate::names::{comes_before, is_name};
+use crate::node::{Node, copy_node, same_node};
 use model::Refusal;
-use std::alloc::AllocError;
+use std::alloc::{AllocError, Global};
 use std::marker::Model;
 
-// The length in bytes of the longest archive: 64 MiB.
-const MAX_NAR_LEN: usize = 67_108_864;
+// The length of the longest archive in bytes: 64 MiB.
+pub(crate) const MAX_NAR_LEN: usize = 67_108_864;
 
-#[derive(Clone, PartialEq, Drop)]
-pub(crate) enum Node {
-    File { executable: bool, bytes: Vec<u8> },
-}
+// The depth of the deepest tree, where a file or a link has depth 1.
+pub(crate) const MAX_DEPTH: usize = 64;
 
-/// A file system object whose archive has at most 67,108,864 bytes.
+/// A file system object: a file, executable or not, a link, or a directory of named trees.
+///
+/// The names of a directory's entries ascend strictly by bytes; each has 1 to 255 bytes, no zero
+/// byte and no slash, and is neither `.` nor `..`. A tree is at most 64 deep, where the root has
+/// depth 1, and its archive has at most 64 MiB. So a recursion over a tree is at most 64 deep.
 #[derive(Drop)]
 pub struct Tree {
     pub(crate) node: Node,
+    pub(crate) depth: usize,
+    pub(crate) nar_len: usize,
 }
 
 impl Model for Tree {
-    ghost use Rattle.model.specs.Archives.{Tree as TreeValue, IsTree};
+    ghost use Rattle.model.specs.Archives.{Tree as TreeValue};
     ghost use Rattle.model.specs.TreeCode.{tree_code};
 
     ghost Value = { TreeValue };
 
     ghost coded = { tree_code };
 
-    ghost use Rattle.nar.specs.View.{tree_of};
+    ghost use Rattle.nar.specs.NodeTrees.{tree_of};
+    ghost use Rattle.nar.specs.Measuring.{IsMeasuredTree};
 
     ghost view = { λ tree. tree_of tree.node };
 
-    ghost invariant = { λ tree. IsTree (tree_of tree.node) };
+    ghost invariant = { λ tree. IsMeasuredTree (tree_of tree.node) tree.depth tree.nar_len };
 }
 
 impl Tree {
-    /// A plain file with these bytes, executable or not. It takes no memory.
+    /// A file with these bytes, executable or not. It takes no memory.
     ///
-    /// Fails with `TooLarge` exactly where the file's archive would have more than 67,108,864 bytes.
+    /// # Errors
+    ///
+    /// `TooLarge` exactly where the file's archive would have more than 67,108,864 bytes.
     pub fn file(executable: bool, bytes: Vec<u8>) -> Result<Tree, Refusal>
         ensures file { IfOk result (λ tree. (tree ≡ File executable bytes.items) × IsTree tree) }
-        ensures too_large { IfErr result (λ e. (e ≡ TooLarge) × IsTooLarge (File executable bytes.items)) }
+        ensures too_large { IfErr result (λ why. (why ≡ TooLarge) × (67108864 < length (nar (File executable bytes.items)))) }
     {
-        if bytes.len() > MAX_NAR_LEN || file_nar_len(executable, &bytes) > MAX_NAR_LEN {
+        if bytes.len() > MAX_NAR_LEN {
+            return Err(Refusal::TooLarge);
+        }
+        let nar_len = 104 + mark_len(executable) + string_len(bytes.len());
+        if nar_len > MAX_NAR_LEN {
             return Err(Refusal::TooLarge);
         }
         Ok(Tree {
             node: Node::File { executable, bytes },
+            depth: 1,
+            nar_len,
+        })
+    }
+
+    /// A link to a target, which is any bytes, also none. It takes no memory.
+    ///
+    /// # Errors
+    ///
+    /// `TooLarge` exactly where the link's archive would have more than 67,108,864 bytes.
+    pub fn link(target: Vec<u8>) -> Result<Tree, Refusal>
+        ensures link { IfOk result (λ tree. (tree ≡ Link target.items) × IsTree tree) }
+        ensures too_large { IfErr result (λ why. (why ≡ TooLarge) × (67108864 < length (nar (Link target.items)))) }
+    {
+        if target.len() > MAX_NAR_LEN {
+            return Err(Refusal::TooLarge);
+        }
+        let nar_len = 104 + string_len(target.len());
+        if nar_len > MAX_NAR_LEN {
+            return Err(Refusal::TooLarge);
+        }
+        Ok(Tree {
+            node: Node::Link { target },
+            depth: 1,
+            nar_len,
+        })
+    }
+
+    /// A directory of entries, each a name and its tree. The work is in proportion to the number of
+    /// entries and the lengths of their names.
+    ///
+    /// # Errors
+    ///
+    /// - `BadNar` exactly where a name is none that an entry may have, where the names do not ascend
+    ///   strictly by bytes, or where a tree has depth 64 already.
+    /// - `TooLarge` exactly where none of these holds, and the directory's archive would have more
+    ///   than 67,108,864 bytes.
+    /// - `Memory` only where none of these holds, and memory was refused.
+    pub fn dir(alloc: Global, entries: Vec<(Vec<u8>, Tree)>) -> Result<Tree, Refusal>
+        ensures directory { IfOk result (λ tree. (tree ≡ Directory (as_entries entries.items)) × IsTree tree) }
+        ensures refused { IfErr result (IsNoTree (Directory (as_entries entries.items))) }
+    {
+        let Some((deepest, nar_len)) = measure(&entries) else {
+            return Err(Refusal::BadNar);
+        };
+        if deepest >= MAX_DEPTH {
+            return Err(Refusal::BadNar);
+        }
+        if nar_len > MAX_NAR_LEN {
+            return Err(Refusal::TooLarge);
+        }
+        let nodes = nodes_of(alloc, entries)?;
+        Ok(Tree {
+            node: Node::Directory { entries: nodes },
+            depth: deepest + 1,
+            nar_len,
         })
     }
 
     /// The length of the tree's archive in bytes, at most 67,108,864.
-    #[tactic(auto, using(crate::proofs::Lengths::contents_fit))]
     pub fn nar_len(&self) -> usize
         ensures len { result ≡ length (nar self.now) }
         ensures tree { IsTree self.now }
     {
-        match &self.node {
-            Node::File { executable, bytes } => file_nar_len(*executable, bytes),
-        }
+        self.nar_len
     }
 
-    /// Whether this is the tree `other`. Trees with the same archive are the same.
+    /// Whether this is the tree `other`, which it is exactly where their archives are the same.
     pub fn same(&self, other: &Tree) -> bool
         ensures equal { IsTrue result ↔ (self.now ≡ other.now) }
         ensures exact { nar self.now ≡ nar other.now → self.now ≡ other.now }
     {
-        self.node == other.node
+        same_node(&self.node, &other.node)
     }
 }
 
@@ -80,18 +150,53 @@ impl Clone for Tree {
     ghost is_clone = { λ tree copy. copy ≡ tree };
 
     fn clone(&self) -> Result<Tree, AllocError> {
+        let Tree {
+            node,
+            depth,
+            nar_len,
+        } = self;
         Ok(Tree {
-            node: self.node.clone()?,
+            node: copy_node(node)?,
+            depth: *depth,
+            nar_len: *nar_len,
         })
     }
 }
 
-// The length of a file's archive in bytes: the strings beside its contents take 112 of them, and the mark of an
-// executable file 32.
-fn file_nar_len(executable: bool, bytes: &[u8]) -> usize
-    requires { length bytes.now ≤ 67108864 }
-    ensures { result ≡ length (nar (File executable bytes.now)) }
+// The depth of the deepest entry and the length of the directory's archive, this up to one over the
+// limit; none where the names are ill-formed or out of order.
+fn measure(entries: &[(Vec<u8>, Tree)]) -> Option<(usize, usize)>
+    ensures unsound { IfNone result (AreSound [] (as_entries entries.now) → ⊥) }
+    ensures sound { IfSome result (AreMeasured (as_entries entries.now)) }
 {
-    let mark = if executable { 32 } else { 0 };
-    112 + mark + bytes.len().next_multiple_of(8)
+    let mut deepest = 0;
+    let mut nar_len = 96;
+    let mut last = b"".as_slice();
+    for entry in entries {
+        let name = entry.0.as_slice();
+        if !is_name(name) || !comes_before(last, name) {
+            return None;
+        }
+        let tree = &entry.1;
+        deepest = deepest.max(tree.depth);
+        nar_len = (nar_len + 56 + string_len(name.len()) + tree.nar_len).min(MAX_NAR_LEN + 1);
+        last = name;
+    }
+    Some((deepest, nar_len))
+}
+
+// What the trees hold.
+fn nodes_of(alloc: Global, entries: Vec<(Vec<u8>, Tree)>) -> Result<Vec<(Vec<u8>, Node)>, Refusal>
+    ensures { MatchResult result (λ nodes. named_trees nodes.items ≡ entries.items) (λ why. why ≡ Memory) }
+{
+    let mut nodes = Vec::with_capacity(alloc, entries.len())?;
+    for (name, tree) in entries {
+        let Tree {
+            node,
+            depth: _,
+            nar_len: _,
+        } = tree;
+        nodes.push((name, node))?;
+    }
+    Ok(nodes)
 }

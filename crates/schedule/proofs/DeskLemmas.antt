@@ -1,18 +1,17 @@
 -- What a desk holds in the table, and what one source more adds to it.
-use Rattle.std.proofs.Common.{◌≡◌, ℕ, suc, ◌+◌, ◌<◌, ◌≤◌, Bool, true, false, ◌⊎◌, inl, inr, List, [], ◌∷◌, ◌++◌, length, refl, sym, ◌∙◌, ap, subst, arith, Option, Some, None, Ok, Err}
-use Rattle.std.specs.Prelude.{is_some, All, map, filter, not, sum_by, unwrap_or, bytes_eq, nat_le, ◌&&◌, if◌then◌else◌}
+use Rattle.std.proofs.Common.{◌≡◌, ℕ, suc, ◌+◌, ◌≤◌, Bool, true, false, inl, inr, List, [], ◌∷◌, ◌++◌, length, refl, sym, ◌∙◌, ap, subst, arith, Option, Some, None, Err}
+use Rattle.std.specs.Prelude.{is_some, All, filter, not, unwrap_or, bytes_eq, nat_le, ◌&&◌}
 use Rattle.std.specs.List.{list_any}
-use Rattle.std.proofs.lemmas.Bool.Decides.{nat_tests}
 use Rattle.std.proofs.lemmas.List.Elements.{All-nil, All-head, All-tail, All-weaker, All-push}
 use Rattle.std.proofs.lemmas.List.Sums.{sum_by_push}
 use Rattle.std.proofs.lemmas.List.{length-append}
 use Rattle.model.specs.Archives.{Tree, Link, nar}
 use Rattle.model.specs.Worlds.{Source, Desk, Setup, tree_at, first_of_each, charge_of, is_within, has_source, with_source}
-use Rattle.model.specs.Steps.{Outcome, add_source, becomes, Path}
+use Rattle.model.specs.Steps.{add_source, becomes, Path}
 use Rattle.model.specs.declared.refusal.Refusal.TheVariants.{Quota}
-use Rattle.model.proofs.BoolLemmas.{either, same_bytes, both, both_parts}
+use Rattle.model.proofs.BoolLemmas.{either, same_bytes}
 use Rattle.schedule.specs.Stored.{Holdings}
-use Rattle.schedule.specs.Sound.{source_at, sources_at, desk_of, IsSound, Extends, IsEmpty}
+use Rattle.schedule.specs.Sound.{sources_at, desk_of, IsSound, Extends, IsEmpty}
 
 -- a path of the table
 abbrev IsKnown : List Source → List ℕ → Type 0

@@ -1,10 +1,10 @@
 -- A run of the store is a run of the model.
-use Rattle.std.proofs.Common.{◌≡◌, ℕ, Bool, true, false, List, [], ◌∷◌, ◌++◌, length, refl, sym, ◌∙◌, ap, append-nil}
+use Rattle.std.proofs.Common.{◌≡◌, ℕ, Bool, true, false, List, [], ◌∷◌, ◌++◌, length, refl, sym, ◌∙◌, append-nil}
 use Rattle.std.specs.Prelude.{All, Contains, map, ◌||◌}
 use Rattle.std.specs.List.{list_any}
 use Rattle.std.proofs.lemmas.List.Elements.{All-head, All-tail, All-nil, All-cons, All-contains_itself}
 use Rattle.model.specs.Paths.{NoClash}
-use Rattle.model.specs.Worlds.{Setup, World, nothing}
+use Rattle.model.specs.Worlds.{Setup, nothing}
 use Rattle.model.specs.Steps as steps
 use Rattle.model.specs.Steps.{answers, after}
 use Rattle.model.specs.HashedTexts.{hashed, texts_of_event}

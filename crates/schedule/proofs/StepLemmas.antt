@@ -1,5 +1,5 @@
 -- A step of the store is a step of the world that it stands for.
-use Rattle.std.proofs.Common.{◌≡◌, ℕ, ◌<◌, Bool, true, false, inl, inr, List, [], ◌∷◌, refl, sym, ◌∙◌, ap, subst, rules, Result, Ok, Err, Some}
+use Rattle.std.proofs.Common.{◌≡◌, ℕ, Bool, true, false, inl, inr, List, [], ◌∷◌, refl, sym, ◌∙◌, ap, rules, Result, Ok, Err, Some}
 use Rattle.std.specs.Prelude.{All, Contains, OnOk, OnErr, IfOk, IfErr, bytes_eq, slice_get, slice_set, if◌then◌else◌}
 use Rattle.std.proofs.lemmas.Option.{slice_get_within}
 use Rattle.std.proofs.lemmas.List.Elements.{All-head, All-tail}
@@ -7,7 +7,7 @@ use Rattle.sha2.specs.Sha256.{sha256}
 use Rattle.model.specs.Archives.{nar}
 use Rattle.model.specs.Paths.{Source as SourceKind, fingerprint, source_path, NoClash}
 use Rattle.model.specs.Worlds.{Source, Setup, Desk, World, is_user}
-use Rattle.model.specs.Steps.{Request, AddSource, Fetch, Event, Reply, Refused, Sight, Outcome, becomes, outcome, outcome_of, reply_of, reply_to, desk_after, reaches, sight_of, check, after}
+use Rattle.model.specs.Steps.{Request, AddSource, Fetch, Event, Reply, Refused, Sight, Outcome, becomes, outcome, outcome_of, reply_of, desk_after, reaches, after}
 use Rattle.model.specs.HashedTexts.{texts_of}
 use Rattle.model.specs.declared.refusal.Refusal.{Refusal}
 use Rattle.model.specs.declared.refusal.Refusal.TheVariants.{UnknownUser, Clash}

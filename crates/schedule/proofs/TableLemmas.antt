@@ -1,12 +1,12 @@
 -- What is looked up in the table, before and after a tree comes to it.
-use Rattle.std.proofs.Common.{◌≡◌, ℕ, Bool, true, false, ◌⊎◌, inl, inr, List, [], ◌∷◌, ◌++◌, refl, sym, ◌∙◌, ap, Option, Some, None}
-use Rattle.std.specs.Prelude.{is_some, All, if◌then◌else◌, bytes_eq}
+use Rattle.std.proofs.Common.{◌≡◌, ℕ, true, false, ◌⊎◌, inl, inr, List, [], ◌∷◌, ◌++◌, refl, Option, Some, None}
+use Rattle.std.specs.Prelude.{is_some, All, bytes_eq}
 use Rattle.std.proofs.lemmas.List.Elements.{All-head, All-tail, All-push}
 use Rattle.model.specs.Archives.{Tree}
 use Rattle.model.specs.Worlds.{Source, tree_at}
 use Rattle.model.proofs.BoolLemmas.{either, same_bytes, bytes_same}
 use Rattle.schedule.specs.Stored.{put_once}
-use Rattle.schedule.specs.Sound.{Extends, IsHashed}
+use Rattle.schedule.specs.Sound.{Extends}
 
 -- what is found stays when a source comes at the end
 pub tree_at-push : (path : List ℕ) (sources : List Source) (s : Source) → is_some (tree_at path sources) ≡ true → tree_at path (sources ++ s ∷ []) ≡ tree_at path sources

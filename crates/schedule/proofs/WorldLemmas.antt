@@ -1,5 +1,5 @@
 -- The world that paired users and desks stand for, before and after one desk changes.
-use Rattle.std.proofs.Common.{◌≡◌, ℕ, zero, suc, ◌+◌, ◌<◌, Bool, true, false, inl, inr, List, [], ◌∷◌, length, refl, sym, ◌∙◌, ap, subst, arith, get_or, Option, Some, None}
+use Rattle.std.proofs.Common.{◌≡◌, ℕ, zero, suc, ◌+◌, ◌<◌, Bool, true, false, inl, inr, List, [], ◌∷◌, length, refl, sym, ◌∙◌, ap, arith, get_or, Some, None}
 use Rattle.std.specs.Prelude.{All, bytes_eq, slice_get, slice_set, position, if◌then◌else◌, is_some, nat_lt}
 use Rattle.std.specs.List.{position_or_len, list_any}
 use Rattle.std.proofs.lemmas.List.Elements.{All-head, All-tail}
@@ -7,12 +7,12 @@ use Rattle.std.proofs.lemmas.List.Quantifiers.{position-Some}
 use Rattle.std.proofs.lemmas.Bool.Decides.{nat_tests}
 use Rattle.model.specs.Reach.{is_among}
 use Rattle.model.specs.Worlds.{Source, Desk, World, empty_desk, tree_at}
-use Rattle.model.proofs.BoolLemmas.{either, same_bytes, bytes_same}
+use Rattle.model.proofs.BoolLemmas.{either, same_bytes}
 use Rattle.schedule.specs.Stored.{Holdings}
 use Rattle.schedule.specs.Sound.{sources_at, desk_of, IsSound, IsEmpty, Extends}
 use Rattle.schedule.specs.Standing.{desk_among}
 use Rattle.schedule.proofs.EntryLemmas.{bytes_eq_sym}
-use Rattle.schedule.proofs.DeskLemmas.{desk_kept, sound_kept, held_same, not_held}
+use Rattle.schedule.proofs.DeskLemmas.{desk_kept, held_same, not_held}
 
 -- the place of a user: the first with his name
 abbrev pub IsPlace : List (List ℕ) → List ℕ → ℕ → Type 0

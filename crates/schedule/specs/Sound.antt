@@ -1,7 +1,7 @@
 -- What the table and the desks of the store keep.
-use Rattle.std.specs.Prelude.{◌≡◌, ℕ, ◌≤◌, Bool, true, false, List, [], map, Option, None, Some, is_some, unwrap_or, All, Contains}
+use Rattle.std.specs.Prelude.{◌≡◌, ℕ, ◌≤◌, true, false, List, [], map, is_some, unwrap_or, All, Contains}
 use Rattle.sha2.specs.Sha256.{sha256}
-use Rattle.model.specs.Archives.{Tree, Link, nar, IsTree}
+use Rattle.model.specs.Archives.{Link, nar}
 use Rattle.model.specs.Paths.{Source as SourceKind, fingerprint, source_path}
 use Rattle.model.specs.Worlds.{Source, Desk, tree_at, charge_of}
 use Rattle.schedule.specs.Stored.{Holdings}

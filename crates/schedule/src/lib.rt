@@ -22,4 +22,4 @@ pub use events::{Event, Reply, Request};
 pub use limits::{LARGEST_CHARGE, Limits};
 pub use runs::run;
 pub use state::Core;
-pub use user::User;
+pub use user::{User, are_users};

@@ -145,7 +145,7 @@ fn are_distinct(users: &[User]) -> bool
 
 /// Whether these are 1 to 64 well-formed names, none of them twice.
 #[tactic(auto, unfolding(model::specs::Worlds::are_users))]
-pub(crate) fn are_users(users: &[User]) -> bool
+pub fn are_users(users: &[User]) -> bool
     ensures { result ≡ are_users users.now }
 {
     !users.is_empty() && users.len() <= 64 && are_well_formed(users) && are_distinct(users)

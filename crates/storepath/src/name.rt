@@ -18,8 +18,8 @@ fn is_name_byte(byte: u8) -> bool
     byte.is_ascii_alphanumeric() || b"+-._?=".contains(&byte)
 }
 
-/// Whether a text is a name.
-pub(crate) fn is_name(text: &[u8]) -> bool
+/// Whether a text is a name of a store path: what [`Name::new`] takes. It takes no memory.
+pub fn is_name(text: &[u8]) -> bool
     ensures { result ≡ is_name text.now }
 {
     if text.is_empty() || text.len() > LONGEST || text[0] == b'.' {

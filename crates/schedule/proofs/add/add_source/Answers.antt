@@ -1,13 +1,12 @@
-use Rattle.std.proofs.Common.{◌≡◌, ℕ, ◌+◌, ◌≤◌, true, false, List, refl, sym, ◌∙◌, ap, arith, length}
+use Rattle.std.proofs.Common.{◌≡◌, ◌+◌, ◌≤◌, true, false, List, refl, sym, ◌∙◌, ap, arith, length}
 use Rattle.std.specs.Prelude.{bytes_eq, is_some, nat_le, ◌&&◌}
 use Rattle.std.specs.List.{list_any}
 use Rattle.std.proofs.lemmas.Bool.Decides.{nat_tests}
 use Rattle.model.specs.Archives.{nar}
-use Rattle.model.specs.Paths.{source_path}
 use Rattle.model.specs.Steps.{outcome, becomes, Path}
-use Rattle.model.specs.Worlds.{Source, tree_at, has_source}
+use Rattle.model.specs.Worlds.{Source, tree_at}
 use Rattle.schedule.specs.Stored.{put_once}
-use Rattle.schedule.specs.Sound.{sources_at, desk_of, Extends}
+use Rattle.schedule.specs.Sound.{desk_of, Extends}
 use Rattle.schedule.proofs.TableLemmas.{put_once-Extends}
 use Rattle.schedule.proofs.DeskLemmas.{held_found, held_known, add_known, add_refused, add_new, is_within-more, HoldsMore, desk_of-more, sound-more}
 use Rattle.schedule.proofs.add.add_source.Goals as goal

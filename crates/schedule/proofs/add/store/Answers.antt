@@ -1,4 +1,4 @@
-use Rattle.std.proofs.Common.{◌≡◌, None, sym, ◌∙◌}
+use Rattle.std.proofs.Common.{◌≡◌, None, sym}
 use Rattle.model.specs.Worlds.{tree_at}
 use Rattle.schedule.proofs.TableLemmas.{tree_at-pushed}
 use Rattle.schedule.proofs.add.store.Goals as goal

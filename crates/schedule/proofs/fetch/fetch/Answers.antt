@@ -1,6 +1,5 @@
 use Rattle.std.proofs.Common.{◌≡◌, true, false, refl, sym, ◌∙◌, ap, Some}
-use Rattle.std.specs.Prelude.{is_some, bytes_eq}
-use Rattle.std.specs.List.{list_any}
+use Rattle.std.specs.Prelude.{is_some}
 use Rattle.model.specs.Steps.{outcome}
 use Rattle.model.specs.Worlds.{tree_at}
 use Rattle.schedule.specs.Sound.{sources_at}

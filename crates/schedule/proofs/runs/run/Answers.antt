@@ -1,11 +1,9 @@
-use Rattle.std.proofs.Common.{◌≡◌, ℕ, List, [], ◌∷◌, sym, ◌∙◌, ap}
+use Rattle.std.proofs.Common.{◌≡◌, List, ◌∷◌, sym, ◌∙◌, ap}
 use Rattle.std.specs.Prelude.{map}
 use Rattle.std.specs.Vec.Iter.{into_iter_items}
 use Rattle.model.specs.Worlds.{Setup, nothing}
 use Rattle.model.specs.Steps.{Event as EventValue, replies_to, answers}
-use Rattle.schedule.specs.declared.user.User.{User}
 use Rattle.schedule.specs.declared.events.Event.{Event}
-use Rattle.schedule.specs.declared.events.Reply.{Reply}
 use Rattle.schedule.specs.Standing.{setup_for, event_of, answer_of}
 use Rattle.schedule.proofs.RunLemmas.{Going, starts, goes_on, ends, none_hashed, none_left}
 use Rattle.schedule.proofs.runs.run.Goals as goal

@@ -1,8 +1,5 @@
-use Rattle.std.proofs.Common.{◌≡◌, true, false, refl, Err, ◌∙◌, sym, ap}
 use Rattle.std.proofs.lemmas.Result.{on_err_weaker, on_ok_weaker}
-use Rattle.model.specs.declared.refusal.Refusal.TheVariants.{Clash}
 use Rattle.model.specs.Paths.{source_path}
-use Rattle.schedule.specs.Standing.{is_clash_refusal}
 use Rattle.schedule.proofs.TableLemmas.{put_once-Extends}
 use Rattle.schedule.proofs.StepLemmas.{either_way, kept_sound, kept_later}
 use Rattle.schedule.proofs.serve.serve_at.Goals as goal

@@ -1,11 +1,22 @@
-use Rattle.std.proofs.Common.{refl, arith}
-use Rattle.nar.proofs.Lengths.{length-nar-File}
+use Rattle.std.proofs.Common.{rules, refl, arith, ◌≡◌, ◌+◌, ◌≤◌, length}
+use Rattle.model.specs.Archives.{nar, File}
+use Rattle.nar.proofs.ArchiveBytes.{are_bytes}
+use Rattle.nar.proofs.ArchiveLengths.{length-file, IsTree-file}
+use Rattle.nar.proofs.NodeViews.{IsMeasuredTree-file, tree_of-File}
 use Rattle.nar.proofs.tree.Tree.file.Goals as goal
-use Rattle.nar.proofs.tree.Tree.file.Goals.{then-len-gt-MAX_NAR_LEN-via-then-len-gt-MAX_NAR_LEN, then-len-gt-MAX_NAR_LEN-via-else-len-gt-MAX_NAR_LEN+then-file_nar_len-gt-MAX_NAR_LEN}
 
 pub returns-then-len-gt-MAX_NAR_LEN-clause-too_large : goal.returns-then-len-gt-MAX_NAR_LEN-clause-too_large
-returns-then-len-gt-MAX_NAR_LEN-clause-too_large c =
-    elim c.then-len-gt-MAX_NAR_LEN.branch [
-      | then-len-gt-MAX_NAR_LEN-via-then-len-gt-MAX_NAR_LEN w ↦ (refl, omega (arith, length-nar-File c.args.executable c.args.bytes.items))
-      | then-len-gt-MAX_NAR_LEN-via-else-len-gt-MAX_NAR_LEN+then-file_nar_len-gt-MAX_NAR_LEN w ↦ (refl, omega (arith, rw w.deref.ensures.value at w.file_nar_len.ensures))
-    ]
+returns-then-len-gt-MAX_NAR_LEN-clause-too_large c = (refl, omega (arith, length-file c.args.executable c.args.bytes.items))
+
+pub returns-then-nar_len-gt-MAX_NAR_LEN-clause-too_large : goal.returns-then-nar_len-gt-MAX_NAR_LEN-clause-too_large
+returns-then-nar_len-gt-MAX_NAR_LEN-clause-too_large c = (refl, omega (arith, length-file c.args.executable c.args.bytes.items))
+
+pub invariant_of-result : goal.invariant_of-result
+invariant_of-result c =
+    let len : 104 + c.mark_len.result + c.string_len.result ≡ length (nar (File c.args.executable c.args.bytes.items)) = omega (arith, length-file c.args.executable c.args.bytes.items) in
+    IsMeasuredTree-file c.args.executable c.args.bytes _ (are_bytes _ (search rules)) len (omega arith)
+
+pub returns-clause-file : goal.returns-clause-file
+returns-clause-file c =
+    let fits : length (nar (File c.args.executable c.args.bytes.items)) ≤ 67108864 = omega (arith, length-file c.args.executable c.args.bytes.items) in
+    rw (tree_of-File c.args.executable c.args.bytes) (refl, IsTree-file _ _ (are_bytes _ (search rules)) fits)

@@ -1,5 +1,4 @@
-use Rattle.std.proofs.Common.{◌≡◌, refl, sym, ◌∙◌, arith, rules}
-use Rattle.std.specs.Prelude.{All}
+use Rattle.std.proofs.Common.{refl, sym, ◌∙◌, rules}
 use Rattle.std.proofs.lemmas.List.Elements.{All-weaker}
 use Rattle.schedule.specs.Sound.{IsEmpty, IsSound}
 use Rattle.schedule.specs.Standing.{world_of, setup_of, stored_in}

@@ -1,5 +1,5 @@
-use Rattle.std.proofs.Common.{◌≡◌, ℕ, ◌<◌, length, true, false, List, refl, sym, ◌∙◌, ap, subst, arith, Some, None, length-set}
-use Rattle.std.specs.Prelude.{slice_get, slice_set, position, bytes_eq, All}
+use Rattle.std.proofs.Common.{◌≡◌, ℕ, length, true, refl, sym, ◌∙◌, Some, None, length-set}
+use Rattle.std.specs.Prelude.{slice_get, position, bytes_eq}
 use Rattle.std.proofs.lemmas.Option.{slice_get_read}
 use Rattle.std.proofs.lemmas.List.Elements.{All-set, All-weaker}
 use Rattle.std.proofs.lemmas.Result.{on_err_weaker}

@@ -1,8 +1,4 @@
-use Rattle.std.proofs.Common.{◌≡◌, ℕ, false, List, refl, sym, ap}
-use Rattle.std.specs.Prelude.{All, Contains}
-use Rattle.model.specs.Worlds as worlds
 use Rattle.model.specs.Steps as steps
-use Rattle.schedule.specs.Sound.{IsHashed}
 use Rattle.schedule.specs.Standing.{world_of, setup_of, stored_in, event_of, request_of, HasHashed}
 use Rattle.schedule.proofs.WorldLemmas.{among_stored}
 use Rattle.schedule.proofs.StepLemmas.{refused_step, no_fault, stored_hashed}

@@ -1,0 +1,28 @@
+-- When each refusal comes.
+use Rattle.std.specs.Prelude.{ℕ, List, All}
+use Rattle.model.specs.Paths.{IsPath}
+use Rattle.model.specs.Derivations.{Derivation, HasNoDerivation}
+use Rattle.model.specs.declared.refusal.Refusal.{Refusal}
+use Rattle.model.specs.declared.refusal.Refusal.TheVariants as refusal
+use Rattle.aterm.specs.declared.read.ReadError.{ReadError}
+use Rattle.aterm.specs.declared.read.ReadError.TheVariants.{Memory, Malformed}
+
+abbrev pub refusal_of : ReadError → Refusal
+refusal_of Memory = refusal.Memory
+refusal_of Malformed = refusal.BadDerivation
+
+-- why texts are not read as paths
+abbrev pub AreNoPaths : List (List ℕ) → ReadError → Type 0
+AreNoPaths texts Memory = Unit {0}
+AreNoPaths texts Malformed = All IsPath texts → ⊥
+
+-- why the paths of a derivation are not read
+abbrev pub HasNoPaths : Derivation → ReadError → Type 0
+HasNoPaths d Memory = Unit {0}
+HasNoPaths d Malformed = All IsPath d.inputs × All IsPath d.sources → ⊥
+
+-- why a text is not read as a derivation
+abbrev pub IsRefused : List ℕ → Refusal → Type 0
+IsRefused text refusal.BadDerivation = HasNoDerivation text
+IsRefused text refusal.Memory = Unit {0}
+IsRefused text _ = ⊥

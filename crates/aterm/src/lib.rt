@@ -1,0 +1,14 @@
+//! Derivations and their texts, in the ATerm format of the Nix Reference Manual.
+#![tactic(auto)]
+
+mod derivation;
+mod read;
+#[cfg(test)]
+mod tests;
+mod text;
+mod write;
+
+pub use derivation::{Derivation, Parts};
+pub use read::parse;
+pub use text::Text;
+pub use write::{print, print_with_inputs};

@@ -1,0 +1,294 @@
+//! Reading a derivation's text.
+
+ghost use Rattle.std.specs.Prelude.{◌≡◌, IfOk, MatchResult, []};
+ghost use Rattle.model.specs.Derivations.{derivation_text, IsDerivation, IsOnlyDerivation};
+ghost use Rattle.aterm.specs.Reading.{tag_at, escaped_at, character_at, string_at, member_at, members_at, variable_at, variables_at, derivation_at};
+ghost use Rattle.aterm.specs.Parts.{derivation_of};
+ghost use Rattle.aterm.specs.Strings.{derivation_read};
+ghost use Rattle.aterm.specs.Refused.{AreNoPaths, HasNoPaths, IsRefused};
+ghost use Rattle.aterm.specs.Gives.{Gives};
+
+use crate::derivation::{Derivation, Parts};
+use crate::text::Text;
+use model::Refusal;
+use std::alloc::{AllocError, AllocFailed, Global};
+use storepath::{StorePath, read_path};
+
+// What stands before the first input.
+const HEAD: &[u8] = b"Derive([(\"out\",\"\",\"\",\"\")],[";
+
+/// Why no part was read.
+#[derive(Debug, Drop)]
+pub(crate) enum ReadError {
+    Memory,
+    Malformed,
+}
+
+impl From<AllocError> for ReadError {
+    ghost use Rattle.std.specs.Prelude.{◌≡◌};
+    ghost use Rattle.aterm.specs.declared.read.ReadError.TheVariants.{Memory};
+
+    ghost from_gives = { λ _ e. e ≡ Memory };
+
+    fn from(_error: AllocError) -> ReadError {
+        ReadError::Memory
+    }
+}
+
+impl<T: Drop> From<AllocFailed<T>> for ReadError {
+    ghost use Rattle.std.specs.Prelude.{◌≡◌};
+    ghost use Rattle.aterm.specs.declared.read.ReadError.TheVariants.{Memory};
+
+    ghost from_gives = { λ _ e. e ≡ Memory };
+
+    fn from(_error: AllocFailed<T>) -> ReadError {
+        ReadError::Memory
+    }
+}
+
+impl From<ReadError> for Refusal {
+    ghost use Rattle.std.specs.Prelude.{◌≡◌};
+    ghost use Rattle.aterm.specs.Refused.{refusal_of};
+
+    ghost from_gives = { λ e r. r ≡ refusal_of e };
+
+    fn from(error: ReadError) -> Refusal {
+        match error {
+            ReadError::Memory => Refusal::Memory,
+            ReadError::Malformed => Refusal::BadDerivation,
+        }
+    }
+}
+
+// What follows this tag.
+#[tactic(auto, unfolding(crate::specs::Reading::tag_at))]
+fn expect<'a>(bytes: &'a [u8], tag: &[u8]) -> Result<&'a [u8], ReadError>
+    ensures { Gives (λ r. r.now) result (tag_at tag.now bytes.now) }
+{
+    match bytes.strip_prefix(tag) {
+        Some(rest) => Ok(rest),
+        None => Err(ReadError::Malformed),
+    }
+}
+
+// The character that the letter behind a backslash stands for, and what follows it.
+#[tactic(auto, unfolding(crate::specs::Reading::escaped_at))]
+fn read_escaped(bytes: &[u8]) -> Result<(u8, &[u8]), ReadError>
+    ensures { Gives (λ r. (r.0, r.1.now)) result (escaped_at bytes.now) }
+{
+    let Some((letter, rest)) = bytes.split_first() else {
+        return Err(ReadError::Malformed);
+    };
+    match *letter {
+        b'"' | b'\\' => Ok((*letter, rest)),
+        b'n' => Ok((b'\n', rest)),
+        b'r' => Ok((b'\r', rest)),
+        b't' => Ok((b'\t', rest)),
+        _ => Err(ReadError::Malformed),
+    }
+}
+
+// A character of a string, and what follows it.
+#[tactic(auto, unfolding(crate::specs::Reading::character_at))]
+fn read_character(bytes: &[u8]) -> Result<(u8, &[u8]), ReadError>
+    ensures { Gives (λ r. (r.0, r.1.now)) result (character_at [] bytes.now) }
+{
+    let Some((character, rest)) = bytes.split_first() else {
+        return Err(ReadError::Malformed);
+    };
+    match *character {
+        b'\\' => read_escaped(rest),
+        b'"' => Err(ReadError::Malformed),
+        32..=126 => Ok((*character, rest)),
+        _ => Err(ReadError::Malformed),
+    }
+}
+
+// The string behind this tag.
+#[tactic(auto, unfolding(crate::specs::Reading::string_at))]
+fn read_string<'a>(
+    alloc: Global,
+    bytes: &'a [u8],
+    tag: &[u8],
+) -> Result<(Text, &'a [u8]), ReadError>
+    ensures { Gives (λ r. (r.0, r.1.now)) result (string_at tag.now bytes.now) }
+{
+    let mut rest = expect(bytes, tag)?;
+    let mut characters = Vec::new(alloc);
+    for _ in 0..rest.len() {
+        if let Some(after) = rest.strip_prefix(b"\"".as_slice()) {
+            return Ok((Text::new(characters), after));
+        }
+        let (character, after) = read_character(rest)?;
+        characters.push(character)?;
+        rest = after;
+    }
+    Err(ReadError::Malformed)
+}
+
+// A string between two tags, behind a separator.
+#[tactic(auto, unfolding(crate::specs::Reading::member_at))]
+fn read_member<'a>(
+    alloc: Global,
+    bytes: &'a [u8],
+    separator: &[u8],
+    opening: &[u8],
+    closing: &[u8],
+) -> Result<(Text, &'a [u8]), ReadError>
+    ensures { Gives (λ r. (r.0, r.1.now)) result
+        (member_at opening.now closing.now separator.now bytes.now) }
+{
+    let rest = expect(bytes, separator)?;
+    let (text, rest) = read_string(alloc, rest, opening)?;
+    let rest = expect(rest, closing)?;
+    Ok((text, rest))
+}
+
+// Strings, each between two tags, behind a tag that ends with the opening bracket.
+#[tactic(auto, unfolding(crate::specs::Reading::members_at))]
+fn read_members<'a>(
+    alloc: Global,
+    bytes: &'a [u8],
+    tag: &[u8],
+    opening: &[u8],
+    closing: &[u8],
+) -> Result<(Vec<Text>, &'a [u8]), ReadError>
+    ensures { Gives (λ r. (r.0.items, r.1.now)) result
+        (members_at tag.now opening.now closing.now bytes.now) }
+{
+    let mut rest = expect(bytes, tag)?;
+    let mut separator = b"".as_slice();
+    let mut members = Vec::new(alloc);
+    for _ in 0..rest.len() {
+        if let Some(after) = rest.strip_prefix(b"]".as_slice()) {
+            return Ok((members, after));
+        }
+        let (member, after) = read_member(alloc, rest, separator, opening, closing)?;
+        members.push(member)?;
+        separator = b",".as_slice();
+        rest = after;
+    }
+    Err(ReadError::Malformed)
+}
+
+// A variable's key and value, behind a separator.
+#[tactic(auto, unfolding(crate::specs::Reading::variable_at))]
+fn read_variable<'a>(
+    alloc: Global,
+    bytes: &'a [u8],
+    separator: &[u8],
+) -> Result<((Text, Text), &'a [u8]), ReadError>
+    ensures { Gives (λ r. ((r.0.0, r.0.1), r.1.now)) result (variable_at separator.now bytes.now) }
+{
+    let rest = expect(bytes, separator)?;
+    let (key, rest) = read_string(alloc, rest, b"(\"")?;
+    let (value, rest) = read_string(alloc, rest, b",\"")?;
+    let rest = expect(rest, b")")?;
+    Ok(((key, value), rest))
+}
+
+// Variables, behind a tag that ends with the opening bracket.
+#[tactic(auto, unfolding(crate::specs::Reading::variables_at))]
+fn read_variables<'a>(
+    alloc: Global,
+    bytes: &'a [u8],
+    tag: &[u8],
+) -> Result<(Vec<(Text, Text)>, &'a [u8]), ReadError>
+    ensures { Gives (λ r. (r.0.items, r.1.now)) result (variables_at tag.now bytes.now) }
+{
+    let mut rest = expect(bytes, tag)?;
+    let mut separator = b"".as_slice();
+    let mut variables = Vec::new(alloc);
+    for _ in 0..rest.len() {
+        if let Some(after) = rest.strip_prefix(b"]".as_slice()) {
+            return Ok((variables, after));
+        }
+        let (variable, after) = read_variable(alloc, rest, separator)?;
+        variables.push(variable)?;
+        separator = b",".as_slice();
+        rest = after;
+    }
+    Err(ReadError::Malformed)
+}
+
+// The strings of a derivation, its paths among them.
+#[derive(Drop)]
+struct Strings {
+    inputs: Vec<Text>,
+    sources: Vec<Text>,
+    platform: Text,
+    builder: Text,
+    arguments: Vec<Text>,
+    environment: Vec<(Text, Text)>,
+}
+
+// The strings of a whole text.
+#[tactic(auto, unfolding(crate::specs::Reading::derivation_at))]
+fn read_strings(alloc: Global, text: &[u8]) -> Result<Strings, ReadError>
+    ensures { Gives derivation_read result (derivation_at text.now) }
+{
+    let (inputs, rest) = read_members(alloc, text, HEAD, b"(\"", b",[\"out\"])")?;
+    let (sources, rest) = read_members(alloc, rest, b",[", b"\"", b"")?;
+    let (platform, rest) = read_string(alloc, rest, b",\"")?;
+    let (builder, rest) = read_string(alloc, rest, b",\"")?;
+    let (arguments, rest) = read_members(alloc, rest, b",[", b"\"", b"")?;
+    let (environment, rest) = read_variables(alloc, rest, b",[")?;
+    if rest != b")".as_slice() {
+        return Err(ReadError::Malformed);
+    }
+    Ok(Strings {
+        inputs,
+        sources,
+        platform,
+        builder,
+        arguments,
+        environment,
+    })
+}
+
+// The paths of these texts.
+fn read_paths(alloc: Global, texts: &[Text]) -> Result<Vec<StorePath>, ReadError>
+    ensures { MatchResult result (λ paths. paths.items ≡ texts.now) (AreNoPaths texts.now) }
+{
+    let mut paths = Vec::new(alloc);
+    for text in texts {
+        match read_path(alloc, text.bytes()) {
+            Ok(path) => paths.push(path)?,
+            Err(Refusal::BadPath) => return Err(ReadError::Malformed),
+            Err(_) => return Err(ReadError::Memory),
+        }
+    }
+    Ok(paths)
+}
+
+// The parts that these strings stand for.
+fn read_parts(alloc: Global, strings: Strings) -> Result<Parts, ReadError>
+    ensures { MatchResult result
+        (λ parts. derivation_of parts ≡ derivation_read strings)
+        (HasNoPaths (derivation_read strings)) }
+{
+    let inputs = read_paths(alloc, &strings.inputs)?;
+    let sources = read_paths(alloc, &strings.sources)?;
+    Ok(Parts {
+        inputs,
+        sources,
+        platform: strings.platform,
+        builder: strings.builder,
+        arguments: strings.arguments,
+        environment: strings.environment,
+    })
+}
+
+/// The derivation of a text. There is at most one.
+///
+/// [`Refusal::BadDerivation`] comes exactly where no derivation has the text, and [`Refusal::Memory`] only where memory was refused.
+pub fn parse(alloc: Global, text: &[u8]) -> Result<Derivation, Refusal>
+    ensures read { MatchResult result
+        (λ d. IsDerivation d × (derivation_text d ≡ text.now))
+        (IsRefused text.now) }
+    ensures only { IfOk result (IsOnlyDerivation text.now) }
+{
+    let strings = read_strings(alloc, text)?;
+    let parts = read_parts(alloc, strings)?;
+    Derivation::new(parts)
+}

@@ -1,0 +1,4 @@
+pub mod Order
+pub mod Others
+pub mod Names
+pub mod Admitting

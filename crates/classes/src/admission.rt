@@ -1,0 +1,156 @@
+//! Admitting a derivation.
+
+ghost use Rattle.std.specs.Prelude.{◌≡◌, ◌≤◌, ◌⊎◌, ◌++◌, IfOk, MatchResult, is_some, map, filter, not, codes, true, false};
+ghost use Rattle.std.specs.List.{list_all};
+ghost use Rattle.model.specs.Paths.{OutputClass, store_path};
+ghost use Rattle.model.specs.Derivations.{name_of};
+ghost use Rattle.model.specs.Classes.{known_at, is_one_of, mask_of, rank_at, greatest, sorted, derivation_path, admit};
+ghost use Rattle.model.specs.declared.refusal.Refusal.TheVariants.{MissingInput, Memory};
+
+use crate::class::{Admitted, Class};
+use crate::known::Known;
+use aterm::{Derivation, Text, print, print_with_inputs};
+use hashmod::sha256;
+use model::Refusal;
+use std::alloc::{AllocError, Global};
+use storepath::{Kind, Name, StorePath, make_path};
+
+/// The greatest rank.
+const GREATEST_RANK: u8 = 64;
+
+// The digests of the inputs' masked texts, in base 16, in the order of the inputs.
+fn masks_of(alloc: Global, known: &Known, inputs: &[StorePath]) -> Result<Vec<Text>, Refusal>
+    ensures { let all = list_all (λ path. is_some (known_at known.now path)) inputs.now in
+        MatchResult result
+        (λ masks. (all ≡ true) × (masks.items ≡ map (mask_of known.now) inputs.now))
+        (λ e. (e ≡ Memory) ⊎ ((e ≡ MissingInput) × (all ≡ false))) }
+{
+    let mut masks = Vec::new(alloc);
+    for path in inputs {
+        let Some(admitted) = known.derivation(path) else {
+            return Err(Refusal::MissingInput);
+        };
+        let digits = hex::encode(alloc, admitted.masked().as_slice())?;
+        masks.push(Text::new(digits.into_bytes()))?;
+    }
+    Ok(masks)
+}
+
+// The greatest rank of the inputs, 0 with none.
+fn greatest_of(known: &Known, inputs: &[StorePath]) -> u8
+    ensures greatest { result ≡ greatest (map (rank_at known.now) inputs.now) }
+    ensures most { result ≤ 64 }
+{
+    let mut greatest = 0;
+    for path in inputs {
+        if let Some(admitted) = known.derivation(path) {
+            greatest = greatest.max(admitted.class().rank());
+        }
+    }
+    greatest
+}
+
+fn has_sources(known: &Known, sources: &[StorePath]) -> bool
+    ensures { result ≡ list_all (is_one_of known.now.sources) sources.now }
+{
+    sources.iter().all(|path| known.has_source(path))
+}
+
+// The inputs, and the sources that are no inputs, in the order of bytes.
+fn references(
+    alloc: Global,
+    inputs: &[StorePath],
+    sources: &[StorePath],
+) -> Result<Vec<StorePath>, Refusal>
+    ensures { MatchResult result
+        (λ paths. paths.items
+        ≡ sorted (inputs.now ++ filter (λ path. not (is_one_of inputs.now path)) sources.now))
+        (λ e. e ≡ Memory) }
+{
+    let mut paths = copies(alloc, inputs)?;
+    for path in sources {
+        if !inputs.contains(path) {
+            paths.push(path.clone()?)?;
+        }
+    }
+    paths.sort()?;
+    Ok(paths)
+}
+
+fn copies(alloc: Global, paths: &[StorePath]) -> Result<Vec<StorePath>, AllocError>
+    ensures { IfOk result (λ copies. copies.items ≡ paths.now) }
+{
+    let mut copies = Vec::new(alloc);
+    for path in paths {
+        copies.push(path.clone()?)?;
+    }
+    Ok(copies)
+}
+
+// The name of a derivation's file.
+fn file_name(alloc: Global, derivation: &Derivation) -> Result<Name, Refusal>
+    ensures { MatchResult result
+        (λ name. name ≡ name_of derivation.now ++ codes ".drv")
+        (λ e. e ≡ Memory) }
+{
+    let mut name = Vec::from_slice(alloc, derivation.name())?;
+    name.extend_from_slice(b".drv")?;
+    Ok(Name::new(alloc, &name)?)
+}
+
+// The path of a derivation's file.
+fn path_of(alloc: Global, derivation: &Derivation) -> Result<StorePath, Refusal>
+    ensures { MatchResult result
+        (λ path. path ≡ derivation_path derivation.now)
+        (λ e. e ≡ Memory) }
+{
+    let parts = derivation.parts();
+    let references = references(alloc, &parts.inputs, &parts.sources)?;
+    let digest = sha256(&print(alloc, derivation)?);
+    let name = file_name(alloc, derivation)?;
+    make_path(alloc, &Kind::DerivationFile(&references), &digest, &name)
+}
+
+// The path of the class with this digest.
+fn class_path(
+    alloc: Global,
+    derivation: &Derivation,
+    masked: &[u8; 32],
+) -> Result<StorePath, Refusal>
+    ensures { MatchResult result
+        (λ path. path ≡ store_path OutputClass masked.now (name_of derivation.now))
+        (λ e. e ≡ Memory) }
+{
+    let name = Name::new(alloc, derivation.name())?;
+    make_path(alloc, &Kind::OutputClass, masked, &name)
+}
+
+/// What a desk will know of a derivation: the path of its file, its class, and the digest of its masked text, that is of its text with each input's path replaced by the digest of that input's masked text.
+///
+/// [`Refusal::MissingInput`] comes exactly where an input or a source is not known, else [`Refusal::RankTooHigh`] where the rank would be over 64. [`Refusal::Memory`] may stand in place of each answer, only where memory was refused.
+pub fn admit(alloc: Global, derivation: &Derivation, known: &Known) -> Result<Admitted, Refusal>
+    ensures { let answer = admit known.now derivation.now in MatchResult result
+        (λ admitted. answer ≡ Ok admitted)
+        (λ e. (e ≡ Memory) ⊎ (answer ≡ Err e)) }
+{
+    let parts = derivation.parts();
+    let mut masks = masks_of(alloc, known, &parts.inputs)?;
+    if !has_sources(known, &parts.sources) {
+        return Err(Refusal::MissingInput);
+    }
+    let greatest = greatest_of(known, &parts.inputs);
+    if greatest >= GREATEST_RANK {
+        return Err(Refusal::RankTooHigh);
+    }
+    masks.sort()?;
+    let masked = sha256(&print_with_inputs(alloc, derivation, &masks)?);
+    let class = Class {
+        path: class_path(alloc, derivation, &masked)?,
+        rank: greatest + 1,
+    };
+    Ok(Admitted {
+        path: path_of(alloc, derivation)?,
+        class,
+        masked,
+    })
+}

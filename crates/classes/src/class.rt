@@ -1,0 +1,112 @@
+//! Output classes, and what is known of a derivation.
+
+ghost use Rattle.std.specs.Prelude.{◌≡◌, ◌≤◌};
+
+use std::alloc::AllocError;
+use std::marker::Model;
+use storepath::StorePath;
+
+/// An output class, known before anything is built: its path, and its rank of 1 to 64.
+#[derive(Drop)]
+pub struct Class {
+    pub(crate) path: StorePath,
+    pub(crate) rank: u8,
+}
+
+impl Model for Class {
+    ghost use Rattle.std.specs.Prelude.{◌≤◌};
+    ghost use Rattle.model.specs.Classes.{Class as ClassValue};
+
+    ghost Value = { ClassValue };
+
+    ghost view = { λ a. record { path = a.path; rank = a.rank } };
+
+    ghost invariant = { λ a. a.rank ≤ 64 };
+}
+
+impl Class {
+    /// The path that names the class.
+    pub fn path(&self) -> &StorePath
+        ensures { result.now ≡ self.now.path }
+    {
+        &self.path
+    }
+
+    /// One more than the greatest rank of the inputs, 1 with none.
+    pub fn rank(&self) -> u8
+        ensures rank { result ≡ self.now.rank }
+        ensures most { result ≤ 64 }
+    {
+        self.rank
+    }
+}
+
+/// The copy is equal. It fails only where memory is refused.
+impl Clone for Class {
+    ghost use Rattle.std.specs.Prelude.{◌≡◌};
+
+    ghost is_clone = { λ class copy. copy ≡ class };
+
+    fn clone(&self) -> Result<Class, AllocError> {
+        let path = self.path.clone()?;
+        let rank = self.rank;
+        Ok(Class { path, rank })
+    }
+}
+
+/// What is known of a derivation that was admitted.
+#[derive(Drop)]
+pub struct Admitted {
+    pub(crate) path: StorePath,
+    pub(crate) class: Class,
+    pub(crate) masked: [u8; 32],
+}
+
+impl Model for Admitted {
+    ghost use Rattle.model.specs.Classes.{Admission};
+
+    ghost Value = { Admission };
+
+    ghost view = { λ a. record { path = a.path; class = a.class; masked = a.masked } };
+}
+
+impl Admitted {
+    /// The path of the derivation's file.
+    pub fn path(&self) -> &StorePath
+        ensures { result.now ≡ self.now.path }
+    {
+        &self.path
+    }
+
+    /// The class of the derivation's output.
+    pub fn class(&self) -> &Class
+        ensures { result.now ≡ self.now.class }
+    {
+        &self.class
+    }
+
+    /// The SHA-256 digest (FIPS 180-4) of the derivation's masked text.
+    pub fn masked(&self) -> &[u8; 32]
+        ensures { result.now ≡ self.now.masked }
+    {
+        &self.masked
+    }
+}
+
+/// The copy is equal. It fails only where memory is refused.
+impl Clone for Admitted {
+    ghost use Rattle.std.specs.Prelude.{◌≡◌};
+
+    ghost is_clone = { λ admitted copy. copy ≡ admitted };
+
+    fn clone(&self) -> Result<Admitted, AllocError> {
+        let path = self.path.clone()?;
+        let class = self.class.clone()?;
+        let masked = self.masked;
+        Ok(Admitted {
+            path,
+            class,
+            masked,
+        })
+    }
+}

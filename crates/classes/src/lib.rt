@@ -1,0 +1,12 @@
+//! What a user's desk knows of its derivations: their paths, their output classes and their ranks (Dolstra 2006, chapter 6).
+#![tactic(auto)]
+
+mod admission;
+mod class;
+mod known;
+#[cfg(test)]
+mod tests;
+
+pub use admission::admit;
+pub use class::{Admitted, Class};
+pub use known::Known;

@@ -1,0 +1,108 @@
+-- The talk of a session: for each line of its input a row, from which follow the events, the replies and the text.
+use Rattle.std.specs.Prelude.{◌≡◌, ℕ, ◌+◌, Bool, true, false, ◌||◌, List, [], ◌∷◌, ◌++◌, Option, None, Some, codes, decimal}
+use Rattle.model.specs.declared.refusal.Refusal.{Refusal}
+use Rattle.model.specs.declared.refusal.Refusal.TheVariants.{BadUsers}
+use Rattle.model.specs.Refusals.{text_of_refusal}
+use Rattle.model.specs.TreeTexts.{tree_text_of}
+use Rattle.model.specs.Steps.{Event, Reply, Done, Path, Content, Refused}
+use Rattle.model.specs.Forms.{Form, Silent, Names, Refuses, Asks, UserWord, words_of_wish, IsRequestOf, AreWell, FirstIll, line_form}
+
+-- what a line got: nothing, ok since it names the users, a refusal by the session itself, or the reply to the event that was made of it
+pub data Row : Type 0 where
+  Quiet : Row
+  Named : (users : List (List ℕ)) → Row
+  Declined : Refusal → Row
+  Asked : Event → Reply → Row
+
+-- ---- what is kept of earlier lines
+
+-- whether a line of users was answered ok, whether one was refused, and for each line the path in its reply
+pub record Seen : Type 0 where
+  pub begun : Bool
+  pub refused : Bool
+  pub paths : List (Option (List ℕ))
+
+abbrev pub fresh : Seen
+fresh = record { begun = false; refused = false; paths = [] }
+
+abbrev pub path_in : Reply → Option (List ℕ)
+path_in (Path path) = Some path
+path_in reply = None
+
+abbrev pub is_bad_users : Refusal → Bool
+is_bad_users BadUsers = true
+is_bad_users why = false
+
+-- what is kept once a line has got its row
+abbrev pub after : Seen → Row → Seen
+after seen Quiet = record seen { paths = seen.paths ++ None ∷ [] }
+after seen (Named users) = record { begun = true; refused = seen.refused; paths = seen.paths ++ None ∷ [] }
+after seen (Declined why) = record { begun = seen.begun; refused = is_bad_users why || seen.refused; paths = seen.paths ++ None ∷ [] }
+after seen (Asked event reply) = record seen { paths = seen.paths ++ path_in reply ∷ [] }
+
+abbrev pub after_all : Seen → List Row → Seen
+after_all seen [] = seen
+after_all seen (row ∷ rows) = after_all (after seen row) rows
+
+-- ---- rows
+
+-- the form of a line after earlier ones
+abbrev pub form_of : Seen → List ℕ → Form
+form_of seen line = line_form seen.begun seen.paths line
+
+-- a line of that form gets that row: a wish is refused for its first ill-formed word, and makes an event where there is none
+abbrev pub Gets : Form → Row → Type 0
+Gets Silent Quiet = Unit {0}
+Gets (Names users) (Named named) = named ≡ users
+Gets (Refuses why) (Declined told) = told ≡ why
+Gets (Asks user wish) (Declined told) = FirstIll (UserWord user ∷ words_of_wish wish) told
+Gets (Asks user wish) (Asked event reply) = AreWell (UserWord user ∷ words_of_wish wish) × (event.actor ≡ user) × IsRequestOf wish event.request
+Gets form row = ⊥
+
+-- these are the rows of the lines, one each; no line is read after a line of users that was refused
+abbrev pub Talks : Seen → List (List ℕ) → List Row → Type 0
+Talks seen [] [] = Unit {0}
+Talks seen [] (row ∷ rows) = ⊥
+Talks seen (line ∷ lines) [] = ⊥
+Talks seen (line ∷ lines) (row ∷ rows) = (seen.refused ≡ false) × Gets (form_of seen line) row × Talks (after seen row) lines rows
+
+-- ---- the text
+
+abbrev pub reply_text : Reply → List ℕ
+reply_text Done = codes "ok"
+reply_text (Path path) = codes "path " ++ path
+reply_text (Content tree) = codes "tree " ++ tree_text_of tree
+reply_text (Refused why) = codes "refused " ++ text_of_refusal why
+
+-- the number of the line, the actor, and the reply
+abbrev pub answer_text : ℕ → List ℕ → Reply → List ℕ
+answer_text n actor reply = decimal n ++ 32 ∷ actor ++ 32 ∷ reply_text reply ++ 10 ∷ []
+
+-- what is printed for the line of that number
+abbrev pub row_text : ℕ → Row → List ℕ
+row_text n Quiet = []
+row_text n (Named users) = answer_text n (codes "-") Done
+row_text n (Declined why) = answer_text n (codes "-") (Refused why)
+row_text n (Asked event reply) = answer_text n event.actor reply
+
+-- what is printed for rows, of which the first has that number
+abbrev pub text_from : ℕ → List Row → List ℕ
+text_from n [] = []
+text_from n (row ∷ rows) = row_text n row ++ text_from (n + 1) rows
+
+-- the events that were made of the lines, in order, each with its reply
+abbrev pub asked_of : Row → List (Event × Reply)
+asked_of Quiet = []
+asked_of (Named users) = []
+asked_of (Declined why) = []
+asked_of (Asked event reply) = (event, reply) ∷ []
+
+abbrev pub asked_in : List Row → List (Event × Reply)
+asked_in [] = []
+asked_in (row ∷ rows) = asked_of row ++ asked_in rows
+
+-- the users that a row names first
+abbrev pub users_in : List Row → Option (List (List ℕ))
+users_in [] = None
+users_in (Named users ∷ rows) = Some users
+users_in (row ∷ rows) = users_in rows

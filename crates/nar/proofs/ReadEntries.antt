@@ -1,0 +1,105 @@
+-- Reading entries, one after another.
+use Rattle.std.proofs.Common.{◌≡◌, ℕ, zero, suc, ◌-◌, ◌<◌, max, true, false, List, [], ◌∷◌, ◌++◌, refl, ap, sym, subst, ◌+◌, ◌∙◌, append_assoc, append-nil, arith, codes}
+use Rattle.std.specs.Prelude.{Option, Some, None}
+use Rattle.std.specs.Global.{Vec}
+use Rattle.model.specs.Archives.{archive_string, executable_mark, Tree, Entries, NoEntries, Entry, entries_text, AreSound, HasBytes, HaveBytes, AreBytes, IsSound, is_entry_name, bytes_before, deepest, depth_of}
+use Rattle.nar.specs.ArchiveParts.{entry_text}
+use Rattle.nar.specs.NodeTrees.{tree_of, entries_of, named_trees, chained}
+use Rattle.nar.specs.ArchiveReading.{Reader, ◌>>=◌, string_at, entry_at, entries_at, in_front}
+use Rattle.std.specs.Str.{bytes_eq}
+use Rattle.nar.specs.declared.node.Node.{Node}
+use Rattle.nar.specs.Outcomes.{Fails}
+use Rattle.nar.specs.declared.reading.ReadError.{ReadError}
+use Rattle.nar.specs.declared.reading.ReadError.TheVariants.{Memory, Malformed}
+
+-- what was read, behind entries
+abbrev pub behind : List (Vec ℕ × Node) → Option (Entries × List ℕ) → Option (Entries × List ℕ)
+behind es r = r >>= λ x. Some (chained (named_trees es) x.0, x.1)
+
+pub entries_at-no_string : (f : Reader) (m : ℕ) (last rest : List ℕ) → 0 < m → string_at rest ≡ None
+    → entries_at f m last rest ≡ None
+unfolding entries_at
+entries_at-no_string f zero last rest h e = absurd (omega (arith, h))
+entries_at-no_string f (suc m) last rest h e = rw e refl
+
+pub entries_at-other_string : (f : Reader) (m : ℕ) (last rest : List ℕ) (s : List ℕ × List ℕ) → 0 < m → string_at rest ≡ Some s
+    → bytes_eq s.0 (codes "entry") ≡ false → entries_at f m last rest ≡ Some (NoEntries, rest)
+unfolding entries_at
+entries_at-other_string f zero last rest s h e k = absurd (omega (arith, h))
+entries_at-other_string f (suc m) last rest s h e k = rw (e, k) refl
+
+pub entries_at-bad_entry : (f : Reader) (m : ℕ) (last rest : List ℕ) (s : List ℕ × List ℕ) → 0 < m → string_at rest ≡ Some s
+    → bytes_eq s.0 (codes "entry") ≡ true → entry_at f last rest ≡ None → entries_at f m last rest ≡ None
+unfolding entries_at
+entries_at-bad_entry f zero last rest s h e k n = absurd (omega (arith, h))
+entries_at-bad_entry f (suc m) last rest s h e k n = rw (e, k, n) refl
+
+pub entries_at-next : (f : Reader) (m : ℕ) (last rest : List ℕ) (s : List ℕ × List ℕ) (n : List ℕ) (t : Tree) (after : List ℕ)
+    → string_at rest ≡ Some s → bytes_eq s.0 (codes "entry") ≡ true
+    → entry_at f last rest ≡ Some ((n, t), after) → entries_at f (suc m) last rest ≡ in_front n t (entries_at f m n after)
+unfolding entries_at
+entries_at-next f m last rest s n t after e k g = rw (e, k, g) refl
+
+pub chained-push : (es : List (Vec ℕ × Node)) (e : Vec ℕ × Node) (fs : Entries)
+    → chained (named_trees (es ++ e ∷ [])) fs ≡ chained (named_trees es) (Entry e.0.items (tree_of e.1) fs)
+chained-push [] e fs = refl
+chained-push (d ∷ es) e fs = ap (Entry d.0.items (tree_of d.1)) (chained-push es e fs)
+
+pub behind-push : (es : List (Vec ℕ × Node)) (e : Vec ℕ × Node) (r : Option (Entries × List ℕ))
+    → behind (es ++ e ∷ []) r ≡ behind es (in_front e.0.items (tree_of e.1) r)
+behind-push es e None = refl
+behind-push es e (Some x) = ap (λ fs. Some (fs, x.1)) (chained-push es e x.0)
+
+executable_grouped : (k : List ℕ) → archive_string (codes "executable") ++ (archive_string [] ++ k) ≡ executable_mark true ++ k
+executable_grouped k = grind (arith, append_assoc, append-nil)
+
+pub set_executable : (bytes text rest after : List ℕ) → bytes ≡ archive_string text ++ rest → text ≡ codes "executable"
+    → rest ≡ archive_string [] ++ after → bytes ≡ executable_mark true ++ after
+set_executable bytes text rest after e t k =
+    e ∙ ap (λ s. archive_string s ++ rest) t ∙ ap (λ r. archive_string (codes "executable") ++ r) k ∙ executable_grouped after
+
+-- where one reading fails another does
+pub fails_on : {X Y : Type 0} (e : ReadError) (r : Option X) (q : Option Y) → (r ≡ None → q ≡ None) → Fails e r → Fails e q
+fails_on Memory r q f h = h
+fails_on Malformed r q f h = f h
+
+-- the next entry makes the entries after it longer
+pub entries_at-push : (f : Reader) (n i : ℕ) (bytes last rest : List ℕ) (s : List ℕ × List ℕ) (es : List (Vec ℕ × Node)) (e : Vec ℕ × Node) (after : List ℕ)
+    → i < n → string_at rest ≡ Some s → bytes_eq s.0 (codes "entry") ≡ true
+    → entry_at f last rest ≡ Some ((e.0.items, tree_of e.1), after)
+    → entries_at f n [] bytes ≡ behind es (entries_at f (n - i) last rest)
+    → entries_at f n [] bytes ≡ behind (es ++ e ∷ []) (entries_at f (n - (i + 1)) e.0.items after)
+entries_at-push f n i bytes last rest s es e after lt g k h so_far =
+    let less : n - i ≡ suc (n - (i + 1)) = omega arith in
+    so_far ∙ ap (λ m. behind es (entries_at f m last rest)) less ∙ ap (behind es) (entries_at-next f (n - (i + 1)) last rest s e.0.items (tree_of e.1) after g k h)
+    ∙ sym (behind-push es e (entries_at f (n - (i + 1)) e.0.items after))
+
+pub AreSound-push : (es : List (Vec ℕ × Node)) (e : Vec ℕ × Node) (last : List ℕ)
+    → ((fs : Entries) → AreSound last fs → AreSound [] (chained (named_trees es) fs))
+    → is_entry_name e.0.items ≡ true → bytes_before last e.0.items ≡ true → IsSound (tree_of e.1) → (fs : Entries)
+    → AreSound e.0.items fs → AreSound [] (chained (named_trees (es ++ e ∷ [])) fs)
+AreSound-push es e last so_far n b s fs h =
+    let P : Entries → Type 0 = λ gs. AreSound [] gs in
+    subst P (sym (chained-push es e fs)) (so_far (Entry e.0.items (tree_of e.1) fs) (n, b, s, h))
+
+pub HaveBytes-push : (es : List (Vec ℕ × Node)) (e : Vec ℕ × Node) → HaveBytes (entries_of es) → AreBytes e.0.items
+    → HasBytes (tree_of e.1) → HaveBytes (entries_of (es ++ e ∷ []))
+HaveBytes-push [] e h name tree = (name, tree, tt)
+HaveBytes-push (d ∷ es) e h name tree = (h.0, h.1, HaveBytes-push es e h.2 name tree)
+
+pub deepest-push : (es : List (Vec ℕ × Node)) (e : Vec ℕ × Node)
+    → deepest (entries_of (es ++ e ∷ [])) ≡ max (deepest (entries_of es)) (depth_of (tree_of e.1))
+deepest-push [] e = omega arith
+deepest-push (d ∷ es) e = omega (arith, deepest-push es e)
+
+pub entries_text-push : (es : List (Vec ℕ × Node)) (e : Vec ℕ × Node)
+    → entries_text (entries_of (es ++ e ∷ [])) ≡ entries_text (entries_of es) ++ entry_text e.0.items (tree_of e.1)
+entries_text-push [] e = grind (arith, append_assoc, append-nil)
+entries_text-push (x ∷ es) e = rw (entries_text-push es e) (grind (arith, append_assoc))
+
+pub entries_text-push_onto : (es : List (Vec ℕ × Node)) (e : Vec ℕ × Node) (bytes rest after : List ℕ)
+    → bytes ≡ entries_text (entries_of es) ++ rest → rest ≡ entry_text e.0.items (tree_of e.1) ++ after
+    → bytes ≡ entries_text (entries_of (es ++ e ∷ [])) ++ after
+entries_text-push_onto es e bytes rest after so_far here =
+    so_far ∙ ap (λ r. entries_text (entries_of es) ++ r) here ∙ sym (append_assoc (entries_text (entries_of es)) (entry_text e.0.items (tree_of e.1)) after)
+    ∙ ap (λ r. r ++ after) (sym (entries_text-push es e))

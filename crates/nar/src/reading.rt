@@ -1,0 +1,63 @@
+//! What the readers of archives and of tree texts share.
+
+ghost use Rattle.std.specs.Prelude.{◌≡◌, ◌++◌, IfOk, length};
+ghost use Rattle.nar.specs.ArchiveReading.{split_at, prefix_at};
+ghost use Rattle.nar.specs.Outcomes.{Gives};
+
+use std::alloc::{AllocError, AllocFailed};
+
+// Why nothing was read.
+#[derive(Debug, Drop)]
+pub(crate) enum ReadError {
+    // No text begins so.
+    Malformed,
+    // Memory was refused.
+    Memory,
+}
+
+impl From<AllocError> for ReadError {
+    ghost use Rattle.std.specs.Prelude.{◌≡◌};
+    ghost use Rattle.nar.specs.declared.reading.ReadError.TheVariants.{Memory};
+
+    ghost from_gives = { λ _ e. e ≡ Memory };
+
+    fn from(_error: AllocError) -> ReadError {
+        ReadError::Memory
+    }
+}
+
+impl<T: Drop> From<AllocFailed<T>> for ReadError {
+    ghost use Rattle.std.specs.Prelude.{◌≡◌};
+    ghost use Rattle.nar.specs.declared.reading.ReadError.TheVariants.{Memory};
+
+    ghost from_gives = { λ _ e. e ≡ Memory };
+
+    fn from(_error: AllocFailed<T>) -> ReadError {
+        ReadError::Memory
+    }
+}
+
+// So many bytes, and the rest.
+#[tactic(auto, unfolding(crate::specs::ArchiveReading::split_at))]
+pub(crate) fn split(bytes: &[u8], count: usize) -> Result<(&[u8], &[u8]), ReadError>
+    ensures found { IfOk result (λ r. (bytes.now ≡ r.0.now ++ r.1.now) × (length r.0.now ≡ count)) }
+    ensures exact { Gives (λ r. (r.0.now, r.1.now)) result (split_at count bytes.now) }
+{
+    if bytes.len() < count {
+        return Err(ReadError::Malformed);
+    }
+    Ok(bytes.split_at(count))
+}
+
+// What follows just these bytes.
+#[tactic(auto, unfolding(crate::specs::ArchiveReading::prefix_at))]
+pub(crate) fn skip_prefix<'a>(bytes: &'a [u8], prefix: &[u8]) -> Result<&'a [u8], ReadError>
+    ensures found { IfOk result (λ rest. bytes.now ≡ prefix.now ++ rest.now) }
+    ensures exact { Gives (λ rest. rest.now) result (prefix_at prefix.now bytes.now) }
+{
+    let (front, rest) = split(bytes, prefix.len())?;
+    if front != prefix {
+        return Err(ReadError::Malformed);
+    }
+    Ok(rest)
+}

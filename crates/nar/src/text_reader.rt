@@ -1,0 +1,273 @@
+//! Reading the text of a tree.
+
+ghost use Rattle.std.specs.Prelude.{◌≡◌, ◌++◌, ◌+◌, ◌≤◌, IfOk, IfErr, length, codes, true, []};
+ghost use Rattle.std.specs.List.{list_all};
+ghost use Rattle.std.specs.Result.{result_ok};
+ghost use Rattle.hex.specs.Hex.{encode_lower, decode_of};
+ghost use Rattle.model.specs.Archives.{is_entry_name, bytes_before, IsSound, AreSound, HasBytes, HaveBytes, AreBytes, depth_of, deepest, IsTree};
+ghost use Rattle.model.specs.TreeTexts.{tree_text_of, entries_text_of, separator};
+ghost use Rattle.nar.specs.NodeTrees.{tree_of, entries_of, last_name_of};
+ghost use Rattle.nar.specs.ArchiveReading.{prefix_at};
+ghost use Rattle.nar.specs.TextReading.{is_lower_digit, digits_in_front, digits_at, closes, item_at, items_at, listed_at, kind_at, text_at, whole_at};
+ghost use Rattle.nar.specs.Outcomes.{Gives};
+ghost use Rattle.nar.specs.Refusing.{IsNoText};
+
+use crate::measures::{node_depth, node_len};
+use crate::names::{comes_before, is_name};
+use crate::node::Node;
+use crate::reading::{ReadError, skip_prefix, split};
+use crate::text_writer::separator_before;
+use crate::tree::{MAX_DEPTH, MAX_NAR_LEN, Tree};
+use hex::FromHexError;
+use model::Refusal;
+use std::alloc::Global;
+
+/// The tree of a tree text.
+///
+/// The recursion is at most 64 deep.
+///
+/// # Errors
+///
+/// - `BadNar` exactly where no tree has that text, not even one with a longer archive: base 16 has
+///   two digits for each byte and no capitals.
+/// - `TooLarge` exactly where the text is that of a tree, but for its archive, which would have
+///   more than 67,108,864 bytes.
+/// - `Memory` only where memory was refused.
+pub fn read_tree_text(alloc: Global, text: &[u8]) -> Result<Tree, Refusal>
+    ensures tree { IfOk result (λ tree. (text.now ≡ tree_text_of tree) × IsTree tree) }
+    ensures refused { IfErr result (IsNoText text.now) }
+{
+    match read_whole_text(alloc, text) {
+        Ok(node) => {
+            let nar_len = 24 + node_len(&node);
+            if nar_len > MAX_NAR_LEN {
+                return Err(Refusal::TooLarge);
+            }
+            let depth = node_depth(&node);
+            Ok(Tree {
+                node,
+                depth,
+                nar_len,
+            })
+        }
+        Err(ReadError::Malformed) => Err(Refusal::BadNar),
+        Err(ReadError::Memory) => Err(Refusal::Memory),
+    }
+}
+
+// The node of a whole text.
+#[tactic(auto, unfolding(crate::specs::TextReading::whole_at))]
+fn read_whole_text(alloc: Global, bytes: &[u8]) -> Result<Node, ReadError>
+    ensures found { IfOk result (λ node. bytes.now ≡ tree_text_of (tree_of node)) }
+    ensures sound { IfOk result (λ node. IsSound (tree_of node)) }
+    ensures bytes { IfOk result (λ node. HasBytes (tree_of node)) }
+    ensures depth { IfOk result (λ node. depth_of (tree_of node) ≤ 64) }
+    ensures exact { Gives tree_of result (whole_at bytes.now) }
+{
+    let (node, rest) = read_text(alloc, bytes, MAX_DEPTH)?;
+    match rest {
+        [] => Ok(node),
+        _ => Err(ReadError::Malformed),
+    }
+}
+
+// The text of a tree of at most this depth.
+#[cycle(parse)]
+#[tactic(auto, unfolding(crate::specs::TextReading::text_at))]
+fn read_text(alloc: Global, bytes: &[u8], depth: usize) -> Result<(Node, &[u8]), ReadError>
+    ensures found { IfOk result (λ r. bytes.now ≡ tree_text_of (tree_of r.0) ++ r.1.now) }
+    ensures sound { IfOk result (λ r. IsSound (tree_of r.0)) }
+    ensures bytes { IfOk result (λ r. HasBytes (tree_of r.0)) }
+    ensures depth { IfOk result (λ r. depth_of (tree_of r.0) ≤ depth) }
+    ensures exact { Gives (λ r. (tree_of r.0, r.1.now)) result (text_at depth bytes.now) }
+{
+    if depth == 0 {
+        return Err(ReadError::Malformed);
+    }
+    let (kind, rest) = split(bytes, 2)?;
+    read_kind(alloc, kind, rest, depth - 1)
+}
+
+// A tree of a kind, behind the kind's mark.
+#[cycle(parse)]
+#[tactic(auto, unfolding(crate::specs::TextReading::kind_at))]
+fn read_kind<'a>(
+    alloc: Global,
+    kind: &[u8],
+    bytes: &'a [u8],
+    depth: usize,
+) -> Result<(Node, &'a [u8]), ReadError>
+    ensures found { IfOk result (λ r. kind.now ++ bytes.now ≡ tree_text_of (tree_of r.0) ++ r.1.now) }
+    ensures sound { IfOk result (λ r. IsSound (tree_of r.0)) }
+    ensures bytes { IfOk result (λ r. HasBytes (tree_of r.0)) }
+    ensures depth { IfOk result (λ r. depth_of (tree_of r.0) ≤ depth + 1) }
+    ensures exact { Gives (λ r. (tree_of r.0, r.1.now)) result (kind_at (text_at depth) kind.now bytes.now) }
+{
+    if kind == b"f:".as_slice() {
+        let (decoded, rest) = read_digits(alloc, bytes)?;
+        return Ok((
+            Node::File {
+                executable: false,
+                bytes: decoded,
+            },
+            rest,
+        ));
+    }
+    if kind == b"x:".as_slice() {
+        let (decoded, rest) = read_digits(alloc, bytes)?;
+        return Ok((
+            Node::File {
+                executable: true,
+                bytes: decoded,
+            },
+            rest,
+        ));
+    }
+    if kind == b"l:".as_slice() {
+        let (decoded, rest) = read_digits(alloc, bytes)?;
+        return Ok((Node::Link { target: decoded }, rest));
+    }
+    if kind == b"d(".as_slice() {
+        return read_listed(alloc, bytes, depth);
+    }
+    Err(ReadError::Malformed)
+}
+
+// A directory, behind its mark.
+#[cycle(parse)]
+#[tactic(auto, unfolding(crate::specs::TextReading::listed_at))]
+fn read_listed(alloc: Global, bytes: &[u8], depth: usize) -> Result<(Node, &[u8]), ReadError>
+    ensures found { IfOk result (λ r. codes "d(" ++ bytes.now ≡ tree_text_of (tree_of r.0) ++ r.1.now) }
+    ensures sound { IfOk result (λ r. IsSound (tree_of r.0)) }
+    ensures bytes { IfOk result (λ r. HasBytes (tree_of r.0)) }
+    ensures depth { IfOk result (λ r. depth_of (tree_of r.0) ≤ depth + 1) }
+    ensures exact { Gives (λ r. (tree_of r.0, r.1.now)) result (listed_at (text_at depth) bytes.now) }
+{
+    let (entries, rest) = read_items(alloc, bytes, depth)?;
+    let rest = skip_prefix(rest, b")")?;
+    Ok((Node::Directory { entries }, rest))
+}
+
+// Entries, as many as there are.
+#[cycle(parse)]
+fn read_items(
+    alloc: Global,
+    bytes: &[u8],
+    depth: usize,
+) -> Result<(Vec<(Vec<u8>, Node)>, &[u8]), ReadError>
+    ensures found { IfOk result (λ r. bytes.now ≡ entries_text_of true (entries_of r.0.items) ++ r.1.now) }
+    ensures sound { IfOk result (λ r. AreSound [] (entries_of r.0.items)) }
+    ensures bytes { IfOk result (λ r. HaveBytes (entries_of r.0.items)) }
+    ensures depth { IfOk result (λ r. deepest (entries_of r.0.items) ≤ depth) }
+    ensures exact { Gives (λ r. (entries_of r.0.items, r.1.now)) result (items_at (text_at depth) (length bytes.now) true [] bytes.now) }
+{
+    let mut entries = Vec::new(alloc);
+    let mut first = true;
+    let mut rest = bytes;
+    for _ in 0..bytes.len() {
+        if is_closed(rest) {
+            return Ok((entries, rest));
+        }
+        let start = skip_separator(rest, first)?;
+        let (entry, after) = read_item(alloc, last_name(&entries), start, depth)?;
+        entries.push(entry)?;
+        first = false;
+        rest = after;
+    }
+    Ok((entries, rest))
+}
+
+// The name of the last entry, or nothing.
+fn last_name(entries: &[(Vec<u8>, Node)]) -> &[u8]
+    ensures { result.now ≡ last_name_of entries.now }
+{
+    match entries {
+        [] => b"",
+        [.., last] => last.0.as_slice(),
+    }
+}
+
+// Whether a closing bracket comes next.
+fn is_closed(bytes: &[u8]) -> bool
+    ensures { result ≡ closes bytes.now }
+{
+    match bytes {
+        [] => false,
+        [first, ..] => *first == b')',
+    }
+}
+
+// What follows the separator before an entry.
+fn skip_separator(bytes: &[u8], first: bool) -> Result<&[u8], ReadError>
+    ensures found { IfOk result (λ rest. bytes.now ≡ separator first ++ rest.now) }
+    ensures exact { Gives (λ rest. rest.now) result (prefix_at (separator first) bytes.now) }
+{
+    skip_prefix(bytes, separator_before(first))
+}
+
+// An entry whose name comes after the last one.
+#[cycle(parse)]
+#[tactic(auto, unfolding(crate::specs::TextReading::item_at))]
+fn read_item<'a>(
+    alloc: Global,
+    last: &[u8],
+    bytes: &'a [u8],
+    depth: usize,
+) -> Result<((Vec<u8>, Node), &'a [u8]), ReadError>
+    ensures found { IfOk result (λ r. bytes.now ≡ encode_lower r.0.0.items ++ codes "=" ++ tree_text_of (tree_of r.0.1) ++ r.1.now) }
+    ensures name { IfOk result (λ r. is_entry_name r.0.0.items ≡ true) }
+    ensures order { IfOk result (λ r. bytes_before last.now r.0.0.items ≡ true) }
+    ensures sound { IfOk result (λ r. IsSound (tree_of r.0.1)) }
+    ensures bytes { IfOk result (λ r. AreBytes r.0.0.items × HasBytes (tree_of r.0.1)) }
+    ensures depth { IfOk result (λ r. depth_of (tree_of r.0.1) ≤ depth) }
+    ensures exact { Gives (λ r. ((r.0.0.items, tree_of r.0.1), r.1.now)) result (item_at (text_at depth) last.now bytes.now) }
+{
+    let (name, rest) = read_digits(alloc, bytes)?;
+    let rest = skip_prefix(rest, b"=")?;
+    if is_name(&name) && comes_before(last, &name) {
+        let (node, rest) = read_text(alloc, rest, depth)?;
+        Ok(((name, node), rest))
+    } else {
+        Err(ReadError::Malformed)
+    }
+}
+
+// The bytes of the digits in front, and the rest.
+#[tactic(auto, unfolding(crate::specs::TextReading::digits_at))]
+fn read_digits(alloc: Global, bytes: &[u8]) -> Result<(Vec<u8>, &[u8]), ReadError>
+    ensures found { IfOk result (λ r. bytes.now ≡ encode_lower r.0.items ++ r.1.now) }
+    ensures bytes { IfOk result (λ r. AreBytes r.0.items) }
+    ensures exact { Gives (λ r. (r.0.items, r.1.now)) result (digits_at bytes.now) }
+{
+    let (digits, rest) = split(bytes, digit_count(bytes))?;
+    let decoded = decode_digits(alloc, digits)?;
+    Ok((decoded, rest))
+}
+
+// How many digits stand in front.
+fn digit_count(bytes: &[u8]) -> usize
+    ensures { result ≡ length (digits_in_front bytes.now) }
+{
+    bytes.iter().take_while(|byte| is_digit(**byte)).count()
+}
+
+// Whether a byte is a digit of base 16 in lower case.
+fn is_digit(byte: u8) -> bool
+    ensures { result ≡ is_lower_digit byte }
+{
+    matches!(byte, b'0'..=b'9' | b'a'..=b'f')
+}
+
+// The bytes of digits, all in lower case.
+fn decode_digits(alloc: Global, digits: &[u8]) -> Result<Vec<u8>, ReadError>
+    requires { list_all is_lower_digit digits.now ≡ true }
+    ensures found { IfOk result (λ decoded. digits.now ≡ encode_lower decoded.items) }
+    ensures bytes { IfOk result (λ decoded. AreBytes decoded.items) }
+    ensures exact { Gives (λ decoded. decoded.items) result (result_ok (decode_of digits.now)) }
+{
+    match hex::decode(alloc, digits) {
+        Ok(decoded) => Ok(decoded),
+        Err(FromHexError::OutOfMemory) => Err(ReadError::Memory),
+        Err(_) => Err(ReadError::Malformed),
+    }
+}

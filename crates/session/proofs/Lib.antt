@@ -1,0 +1,11 @@
+pub mod CutLemmas
+pub mod NumberLemmas
+pub mod WordLemmas
+pub mod FillLemmas
+pub mod SessionLemmas
+pub mod LineLemmas
+pub mod RowLemmas
+pub mod ProgressLemmas
+pub mod FeedLemmas
+pub mod CoreLemmas
+pub mod AheadLemmas

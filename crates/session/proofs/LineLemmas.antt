@@ -1,0 +1,67 @@
+-- Lines cut from bytes, and the bytes that are held of one.
+use Rattle.std.proofs.Common.{◌≡◌, ℕ, zero, suc, ◌+◌, ◌-◌, ◌<◌, ◌≤◌, Bool, true, false, eqb, List, [], ◌∷◌, ◌++◌, length, take, get_or, refl, sym, ap, ◌∙◌, arith, length-take}
+use Rattle.std.proofs.lemmas.List.{take_all}
+use Rattle.model.specs.Lines.{lines_of, onto_first}
+use Rattle.session.specs.Serving.{IsWhole}
+use Rattle.model.specs.Talk.{Seen, form_of}
+use Rattle.std.proofs.Common.{inl, inr, add-one}
+use Rattle.std.proofs.lemmas.Bool.{cases_lt, lt-ltb}
+use Rattle.model.specs.declared.refusal.Refusal.TheVariants.{TooLarge}
+use Rattle.model.specs.Forms.{longest_line, Refuses}
+
+-- a newline ends a line
+pub lines-newline : (p more : List ℕ) → IsWhole p → lines_of (p ++ 10 ∷ more) ≡ p ∷ lines_of more
+lines-newline [] more h = refl
+lines-newline (b ∷ p) more h = rw h.0 (ap (onto_first b) (lines-newline p more h.1))
+
+-- the last line may lack it
+pub lines-last : (b : ℕ) (p : List ℕ) → IsWhole (b ∷ p) → lines_of (b ∷ p) ≡ (b ∷ p) ∷ []
+lines-last b [] h = rw h.0 refl
+lines-last b (c ∷ p) h = rw h.0 (ap (onto_first b) (lines-last c p h.1))
+
+pub whole-append : (p q : List ℕ) → IsWhole p → IsWhole q → IsWhole (p ++ q)
+whole-append [] q hp hq = hq
+whole-append (b ∷ p) q hp hq = (hp.0, whole-append p q hp.1 hq)
+
+not_true : (b : Bool) → ((b ≡ true) → ⊥) → b ≡ false
+not_true true h = absurd (h refl)
+not_true false h = refl
+
+-- bytes with no newline in them
+pub whole-take : (n : ℕ) (s : List ℕ) → ((k : ℕ) → k < n → k < length s → eqb (get_or s k 0) 10 ≡ true → ⊥) → IsWhole (take n s)
+whole-take zero s h = tt
+whole-take (suc n) [] h = tt
+whole-take (suc n) (b ∷ s) h = (not_true _ (h 0 (omega arith) (omega arith)), whole-take n s (λ k kn ks. h (suc k) (omega arith) (omega arith)))
+
+-- cutting twice at one place is cutting once
+pub take_cut : (n : ℕ) (p b : List ℕ) → take n (take n p ++ b) ≡ take n (p ++ b)
+take_cut zero p b = refl
+take_cut (suc n) [] b = refl
+take_cut (suc n) (x ∷ p) b = ap (λ t. x ∷ t) (take_cut n p b)
+
+pub take_append : (n : ℕ) (a b : List ℕ) → length a ≤ n → take n (a ++ b) ≡ a ++ take (n - length a) b
+take_append n [] b h = ap (λ k. take k b) (omega arith)
+take_append zero (x ∷ a) b h = absurd (omega arith)
+take_append (suc n) (x ∷ a) b h = ap (λ t. x ∷ t) (take_append n a b (omega arith) ∙ ap (λ k. a ++ take k b) (omega arith))
+
+pub held-more : (n : ℕ) (p b held : List ℕ) → held ≡ take n p → held ++ take (n - length held) b ≡ take n (p ++ b)
+held-more n p b held e =
+    let small : length held ≤ n = omega (arith, ap length e, length-take n p) in
+    sym (take_append n held b small) ∙ rw e (take_cut n p b)
+
+form_of-long : (seen : Seen) (p : List ℕ) → longest_line < length p → form_of seen p ≡ Refuses TooLarge
+form_of-long seen p h = rw (lt-ltb longest_line (length p) h) refl
+
+-- what is held of a line reads as the line does
+pub form_of-held : (seen : Seen) (p : List ℕ) → form_of seen (take (longest_line + 1) p) ≡ form_of seen p
+form_of-held seen p = elim (cases_lt longest_line (length p)) [
+  | inl h ↦ form_of-long seen (take (longest_line + 1) p) (omega (arith, length-take (longest_line + 1) p)) ∙ sym (form_of-long seen p h)
+  | inr h ↦ ap (form_of seen) (take_all (longest_line + 1) p (omega arith))
+]
+
+nothing_taken : (n : ℕ) (p : List ℕ) → [] ≡ take (suc n) p → p ≡ []
+nothing_taken n [] h = refl
+nothing_taken n (b ∷ p) h = absurd (omega (arith, ap length h))
+
+pub nothing-held : (n : ℕ) (p : List ℕ) → [] ≡ take (n + 1) p → p ≡ []
+nothing-held n p h = nothing_taken n p (rw add-one at h)

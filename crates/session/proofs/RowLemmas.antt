@@ -1,0 +1,108 @@
+-- One more row.
+use Rattle.std.proofs.Common.{◌≡◌, ℕ, suc, ◌+◌, List, [], ◌∷◌, ◌++◌, length, take, Option, None, Some, refl, sym, ap, ◌∙◌, subst, arith, append_assoc, length-append}
+use Rattle.std.proofs.Common.{drop, Result, Ok, Err, false}
+use Rattle.std.specs.Result.{OnErr, IfErr, IsErrAnd}
+use Rattle.std.proofs.lemmas.List.{append-nil, take_all, take_at, take-append-drop}
+use Rattle.std.specs.Io.KnownBytes.{Appends, Consumes, Keeps, ReadConsumes, prepend_known}
+use Rattle.model.specs.Steps.{Event, Reply}
+use Rattle.model.specs.Talk.{Row, Quiet, Named, Declined, Asked, Seen, Gets, after, after_all, Talks, form_of, text_from, row_text}
+use Rattle.session.specs.Serving.{Link, Chain}
+
+pub talks-more : (seen : Seen) (done : List (List ℕ)) (rows : List Row) (line : List ℕ) (row : Row) → Talks seen done rows → (after_all seen rows).refused ≡ false → Gets (form_of (after_all seen rows) line) row → Talks seen (done ++ line ∷ []) (rows ++ row ∷ [])
+talks-more seen [] [] line row t f g = (f, g, tt)
+talks-more seen [] (r ∷ rows) line row t f g = absurd t
+talks-more seen (l ∷ done) [] line row t f g = absurd t
+talks-more seen (l ∷ done) (r ∷ rows) line row t f g = (t.0, t.1, talks-more (after seen r) done rows line row t.2 f g)
+
+pub after_all-more : (seen : Seen) (rows : List Row) (row : Row) → after_all seen (rows ++ row ∷ []) ≡ after (after_all seen rows) row
+after_all-more seen [] row = refl
+after_all-more seen (r ∷ rows) row = after_all-more (after seen r) rows row
+
+pub chain-more : {A : Type 0} (R : A → Event → Reply → A → Type 0) (a : A) (rows : List Row) (b : A) (row : Row) (c : A) → Chain R a rows b → Link R b row c → Chain R a (rows ++ row ∷ []) c
+chain-more R a [] b row c h l = (c, subst (λ x. Link R x row c) h l, refl)
+chain-more R a (r ∷ rows) b row c h l = (h.0, h.1, chain-more R h.0 rows b row c h.2 l)
+
+length-after : (seen : Seen) (row : Row) → length (after seen row).paths ≡ length seen.paths + 1
+length-after seen Quiet = omega (arith, length-append {A = Option (List ℕ)})
+length-after seen (Named users) = omega (arith, length-append {A = Option (List ℕ)})
+length-after seen (Declined why) = omega (arith, length-append {A = Option (List ℕ)})
+length-after seen (Asked event reply) = omega (arith, length-append {A = Option (List ℕ)})
+
+pub length-after_all : (seen : Seen) (rows : List Row) → length (after_all seen rows).paths ≡ length seen.paths + length rows
+length-after_all seen [] = omega arith
+length-after_all seen (r ∷ rows) = omega (arith, length-after_all (after seen r) rows, length-after seen r)
+
+pub text-more : (n : ℕ) (rows : List Row) (row : Row) → text_from n (rows ++ row ∷ []) ≡ text_from n rows ++ row_text (n + length rows) row
+text-more n [] row = append-nil _ ∙ ap (λ k. row_text k row) (omega arith)
+text-more n (r ∷ rows) row =
+    ap (λ t. row_text n r ++ t) (text-more (n + 1) rows row ∙ ap (λ k. text_from (n + 1) rows ++ row_text k row) (omega arith))
+    ∙ sym (append_assoc (row_text n r) (text_from (n + 1) rows) (row_text (n + suc (length rows)) row))
+
+pub appends-none : (a : Option (List ℕ)) → Appends a a []
+appends-none None = tt
+appends-none (Some xs) = sym (append-nil xs)
+
+pub appends-more : (a b c : Option (List ℕ)) (xs ys : List ℕ) → Appends a b xs → Appends b c ys → Appends a c (xs ++ ys)
+appends-more None b c xs ys h k = tt
+appends-more (Some u) None c xs ys h k = absurd h
+appends-more (Some u) (Some v) None xs ys h k = absurd k
+appends-more (Some u) (Some v) (Some w) xs ys h k = k ∙ ap (λ t. t ++ ys) h ∙ append_assoc u xs ys
+
+pub take-seam : (a b : List ℕ) (n : ℕ) → take (length a + n) (a ++ b) ≡ a ++ take n b
+take-seam [] b n = ap (λ k. take k b) (omega arith)
+take-seam (x ∷ a) b n = let e : suc (length a) + n ≡ suc (length a + n) = omega arith in rw e (ap (λ t. x ∷ t) (take-seam a b n))
+
+pub appends-kept : (a b : Option (List ℕ)) → Keeps a b → Appends a b []
+appends-kept None b h = tt
+appends-kept (Some xs) None h = absurd h
+appends-kept (Some xs) (Some ys) h = h ∙ sym (append-nil xs)
+
+pub on_err : {T E P : Type 0} (r : Result T E) → P → OnErr r P
+on_err (Ok x) p = tt
+on_err (Err e) p = p
+
+pub text-step : (text front rest : List ℕ) (n : ℕ) → text ≡ front ++ rest → text ≡ (front ++ take n rest) ++ drop n rest
+text-step text front rest n e = e ∙ ap (λ t. front ++ t) (sym (take-append-drop n rest)) ∙ sym (append_assoc front (take n rest) (drop n rest))
+
+pub front-written : (a b c : Option (List ℕ)) (text front rest : List ℕ) → text ≡ front ++ rest → Appends a b front → Appends b c [] → (n : ℕ) × Appends a c (take n text)
+front-written a b c text front rest e h k =
+    let same : take (length front) text ≡ front ++ [] = ap (take (length front)) e ∙ take_at front rest (length front) refl ∙ sym (append-nil front) in
+    (length front, subst (λ t. Appends a c t) (sym same) (appends-more a b c front [] h k))
+
+pub consumes-none : (a : Option (List ℕ)) → Consumes a a []
+consumes-none None = tt
+consumes-none (Some xs) = refl
+
+pub consumes-kept : (a b : Option (List ℕ)) → Keeps a b → Consumes a b []
+consumes-kept None b h = tt
+consumes-kept (Some xs) None h = absurd h
+consumes-kept (Some xs) (Some ys) h = sym h
+
+pub consumes-more : (a b c : Option (List ℕ)) (xs ys : List ℕ) → Consumes a b xs → Consumes b c ys → Consumes a c (xs ++ ys)
+consumes-more None b c xs ys h k = tt
+consumes-more (Some u) None c xs ys h k = absurd h
+consumes-more (Some u) (Some v) None xs ys h k = absurd k
+consumes-more (Some u) (Some v) (Some w) xs ys h k = h ∙ ap (λ t. xs ++ t) k ∙ sym (append_assoc xs ys w)
+
+pub consumes-end : (a b c : Option (List ℕ)) (xs ys : List ℕ) (n : ℕ) → n ≡ 0 → Consumes a b xs → Consumes b c (take n ys) → Consumes a c xs
+consumes-end a b c xs ys n z h k =
+    let e : xs ++ take n ys ≡ xs = ap (λ m. xs ++ take m ys) z ∙ append-nil xs in
+    subst (λ t. Consumes a c t) e (consumes-more a b c xs (take n ys) h k)
+
+pub appends-flushed : (a b c : Option (List ℕ)) (xs : List ℕ) → Appends a b xs → Appends b c [] → Appends a c xs
+appends-flushed a b c xs h k = subst (λ t. Appends a c t) (append-nil xs) (appends-more a b c xs [] h k)
+
+pub written-flushed : (a b c : Option (List ℕ)) (xs : List ℕ) → Appends a b xs → Appends b c [] → (n : ℕ) × Appends a c (take n xs)
+written-flushed a b c xs h k = (length xs, subst (λ t. Appends a c t) (sym (take_all (length xs) xs (omega arith))) (appends-flushed a b c xs h k))
+
+-- the error of a `?` is the one that it passes on
+pub err-is : {T E : Type 0} (r : Result T E) (e : E) (P : E → Type 0) → IsErrAnd r (λ y. y ≡ e) → P e → IfErr r P
+err-is (Ok x) e P h p = tt
+err-is (Err y) e P h p = subst P (sym h) p
+
+prepend-none : (o : Option (List ℕ)) → prepend_known [] o ≡ o
+prepend-none None = refl
+prepend-none (Some xs) = refl
+
+pub reads-behind : {E : Type 0} (xs : List ℕ) (old new : Option (List ℕ)) (r : Result ℕ E) (buf : List ℕ) → xs ≡ [] → ReadConsumes old new r buf → ReadConsumes (prepend_known xs old) (prepend_known xs new) r buf
+reads-behind xs old new r buf e h = rw (e, prepend-none old, prepend-none new) h

@@ -1,0 +1,10 @@
+use Rattle.std.proofs.Common.{◌≡◌, ◌++◌, List, ℕ, length}
+use Rattle.session.specs.Ahead.{Searched}
+use Rattle.session.proofs.ahead.look_on.Given as goal
+
+-- a front of the piece is searched, and the rest is left
+abbrev pub invariant-loop-at : goal.invariant-loop-at
+invariant-loop-at l = (front : List ℕ) × (l.piece ≡ front ++ l.rest) × ((input : List ℕ) → Searched input l.fn.session l.fn.held.items → Searched (input ++ front) l.session l.held.items)
+
+abbrev pub decreases-loop-at : goal.decreases-loop-at
+decreases-loop-at l = length l.rest

@@ -1,0 +1,5 @@
+pub mod Reading
+pub mod Serving
+pub mod Stepping
+pub mod Ahead
+pub mod Prefixed

@@ -1,0 +1,74 @@
+-- What a session did with its lines: the answers that it got, and what it wrote.
+use Rattle.std.specs.Prelude.{◌≡◌, ◌⊎◌, ◌<◌, ◌≤◌, ◌-◌, ◌^◌, ◌==◌, true, false, ℕ, ◌+◌, List, [], ◌∷◌, ◌++◌, length, take, Option}
+use Rattle.std.specs.Io.KnownBytes.{Appends}
+use Rattle.model.specs.declared.refusal.Refusal.{Refusal}
+use Rattle.model.specs.declared.refusal.Refusal.TheVariants.{OutputFault, Memory, BadUsers}
+use Rattle.model.specs.Steps.{Event, Reply}
+use Rattle.model.specs.Lines.{lines_of}
+use Rattle.model.specs.Forms.{longest_line}
+use Rattle.model.specs.Talk.{Row, Quiet, Named, Declined, Asked, Seen, fresh, after_all, Talks, text_from}
+
+-- one row's link of the chain: an event is one answer, any other line leaves the answer alone
+abbrev pub Link : {A : Type 0} → (A → Event → Reply → A → Type 0) → A → Row → A → Type 0
+Link answers old Quiet new = new ≡ old
+Link answers old (Named users) new = new ≡ old
+Link answers old (Declined why) new = new ≡ old
+Link answers old (Asked event reply) new = answers old event reply new
+
+-- the answers to the rows' events form one chain from old to new
+abbrev pub Chain : {A : Type 0} → (A → Event → Reply → A → Type 0) → A → List Row → A → Type 0
+Chain answers old [] new = new ≡ old
+Chain {A} answers old (row ∷ rows) new = (mid : A) × Link answers old row mid × Chain answers mid rows new
+
+-- what a session has done with all of these lines, read and answered one after another
+pub record Finished {A : Type 0} (answers : A → Event → Reply → A → Type 0) (first now : A) (blank written : Option (List ℕ)) (all : List (List ℕ)) : Type 0 where
+  pub rows : List Row
+  pub talks : Talks fresh all rows
+  pub going : (after_all fresh rows).refused ≡ false
+  pub chain : Chain answers first rows now
+  pub text : Appends blank written (text_from 1 rows)
+
+-- the same where it was stopped: the first of the lines were answered, and a beginning of their text is written;
+-- it ends with 14 where a line of users was refused, and then all of the text is written
+pub record Stopped {A : Type 0} (answers : A → Event → Reply → A → Type 0) (first now : A) (blank written : Option (List ℕ)) (all : List (List ℕ)) (why : Refusal) : Type 0 where
+  pub rows : List Row
+  pub done : List (List ℕ)
+  pub rest : List (List ℕ)
+  pub cut : all ≡ done ++ rest
+  pub talks : Talks fresh done rows
+  pub chain : Chain answers first rows now
+  pub count : ℕ
+  pub text : Appends blank written (take count (text_from 1 rows))
+  pub users : why ≡ BadUsers → ((after_all fresh rows).refused ≡ true) × (length (text_from 1 rows) ≤ count)
+
+-- no byte of it is a newline
+abbrev pub IsWhole : List ℕ → Type 0
+IsWhole [] = Unit {0}
+IsWhole (b ∷ bytes) = ((b == 10) ≡ false) × IsWhole bytes
+
+-- what is held of a line begun: as much of it as shows whether it is too long
+abbrev pub IsHeld : List ℕ → List ℕ → Type 0
+IsHeld partial held = held ≡ take (longest_line + 1) partial
+
+-- a session on its way: after this input it keeps seen, and holds the beginning of a line
+pub record Progress {A : Type 0} (answers : A → Event → Reply → A → Type 0) (first now : A) (blank written : Option (List ℕ)) (input : List ℕ) (seen : Seen) (held : List ℕ) : Type 0 where
+  pub rows : List Row
+  pub done : List (List ℕ)
+  pub partial : List ℕ
+  -- whatever comes, the lines of all are the done ones, and then those of the line begun with what comes
+  pub cut : (more : List ℕ) → lines_of (input ++ more) ≡ done ++ lines_of (partial ++ more)
+  pub whole : IsWhole partial
+  pub held_is : IsHeld partial held
+  pub talks : Talks fresh done rows
+  pub going : seen.refused ≡ false
+  pub seen_is : seen ≡ after_all fresh rows
+  pub chain : Chain answers first rows now
+  pub text : Appends blank written (text_from 1 rows)
+
+-- a count of failures rose, or stands at its greatest number
+abbrev pub HasFailed : ℕ → ℕ → Type 0
+HasFailed old new = (old < new) ⊎ (new ≡ 2 ^ 64 - 1)
+
+-- what a session may be stopped by while it answers
+abbrev pub IsOwn : Refusal → Type 0
+IsOwn why = (why ≡ OutputFault) ⊎ (why ≡ Memory) ⊎ (why ≡ BadUsers)

@@ -1,0 +1,166 @@
+//! Reading ahead to the users of a session.
+
+ghost use Rattle.std.specs.Prelude.{◌≡◌, ◌++◌, [], true, false, ℕ, List, IfOk, IfErr, option_map};
+ghost use Rattle.std.specs.Io.KnownBytes.{Consumes, IsAtEnd};
+ghost use Rattle.model.specs.declared.refusal.Refusal.TheVariants.{Memory};
+ghost use Rattle.model.specs.Talk.{form_of};
+ghost use Rattle.session.specs.Ahead.{IsLook, Searched, LooksOn, LooksAhead};
+ghost use Rattle.session.specs.Serving.{HasFailed};
+
+use crate::answer::{Faults, NoUsers};
+use crate::reading::Reading;
+use crate::serving::{CHUNK, hold};
+use crate::session::{Mode, Session};
+use crate::streams::read_some;
+use memchr::memchr;
+use model::Refusal;
+use schedule::User;
+use std::alloc::Global;
+use std::io::Read;
+
+/// What was read of an input, up to its first line of users that is answered `ok`.
+#[derive(Drop)]
+pub struct Ahead {
+    /// All bytes that were read.
+    pub bytes: Vec<u8>,
+    /// The users of that line, or nothing where there is none.
+    pub users: Option<Vec<User>>,
+    /// Whether the input's end was reached.
+    pub has_ended: bool,
+    /// Whether the reader failed, and so not all was read.
+    pub has_failed: bool,
+}
+
+/// What a line is to who looks for the users.
+#[derive(Drop)]
+enum Look {
+    /// It names them.
+    Users(Vec<User>),
+    /// It is a line of users that is refused: a session ends with it.
+    Refused,
+    /// Any other line.
+    Other,
+}
+
+/// Looks at the next line.
+fn look_at(alloc: Global, session: &mut Session, line: &[u8]) -> Result<Look, Refusal>
+    ensures found { IfOk result (IsLook (form_of session.old line.now) session.old session.new) }
+    ensures memory { IfErr result (λ why. why ≡ Memory) }
+{
+    match session.read(alloc, line)? {
+        Reading::Names(users) => Ok(Look::Users(users)),
+        Reading::Refused(Refusal::BadUsers) => Ok(Look::Refused),
+        reading => {
+            session.answer(alloc, reading, &mut NoUsers)?;
+            Ok(Look::Other)
+        }
+    }
+}
+
+/// Looks at the lines that end in the next piece of the input.
+fn look_on(
+    alloc: Global,
+    session: &mut Session,
+    held: &mut Vec<u8>,
+    piece: &[u8],
+) -> Result<Look, Refusal>
+    ensures found { IfOk result (λ found. (input : List ℕ) → Searched input session.old held.old.items → LooksOn (input ++ piece.now) session.new held.new.items found) }
+    ensures memory { IfErr result (λ why. why ≡ Memory) }
+{
+    let mut rest = piece;
+    while let Some(at) = memchr(b'\n', rest) {
+        let (line, newline) = rest.split_at(at);
+        let (_, after) = newline.split_at(1);
+        hold(held, line)?;
+        match look_at(alloc, session, held.as_slice())? {
+            Look::Users(users) => return Ok(Look::Users(users)),
+            Look::Refused => return Ok(Look::Refused),
+            Look::Other => held.clear(),
+        }
+        rest = after;
+    }
+    hold(held, rest)?;
+    Ok(Look::Other)
+}
+
+/// Looks at a last line that lacks its newline, if there is one.
+fn look_last(
+    alloc: Global,
+    session: &mut Session,
+    held: &[u8],
+) -> Result<Option<Vec<User>>, Refusal>
+    ensures found { IfOk result (λ users. (input : List ℕ) → Searched input session.old held.now → LooksAhead input (option_map (λ u. u.items) users)) }
+    ensures memory { IfErr result (λ why. why ≡ Memory) }
+{
+    if held.is_empty() {
+        return Ok(None);
+    }
+    match look_at(alloc, session, held)? {
+        Look::Users(users) => Ok(Some(users)),
+        Look::Refused => Ok(None),
+        Look::Other => Ok(None),
+    }
+}
+
+/// Reads an input up to its first line of users that is answered `ok`, or up to the line of users
+/// that is refused with 14, and finds the users. All bytes that are read are kept, so that
+/// [`Prefixed`](crate::Prefixed) can give them again.
+///
+/// The one error is memory. Where the reader fails, `has_failed` says so; a reader that fails and
+/// does not count it is tried again.
+pub fn read_ahead<R: Read + Faults>(
+    alloc: Global,
+    mode: Mode,
+    reader: &mut R,
+) -> Result<Ahead, Refusal>
+    ensures read { IfOk result (λ ahead. Consumes (R.remaining reader.old) (R.remaining reader.new) ahead.bytes.items) }
+    ensures ended { IfOk result (λ ahead. ahead.has_ended ≡ true → IsAtEnd (R.remaining reader.new)) }
+    ensures failed { IfOk result (λ ahead. ahead.has_failed ≡ true → HasFailed (R.failed reader.old) (R.failed reader.new)) }
+    // Whatever comes after what was read, these are the users that a session of it names.
+    ensures users { IfOk result (λ ahead. ahead.has_failed ≡ false → (more : List ℕ) → (ahead.has_ended ≡ true → more ≡ [])
+        → LooksAhead (ahead.bytes.items ++ more) (option_map (λ u. u.items) ahead.users)) }
+    ensures memory { IfErr result (λ why. why ≡ Memory) }
+{
+    let before = reader.failures();
+    let mut session = Session::new(alloc, mode);
+    let mut held = Vec::new(alloc);
+    let mut bytes = Vec::new(alloc);
+    let mut chunk = [0u8; CHUNK];
+    for _ in 0..u64::MAX {
+        let n = match read_some(reader, before, &mut chunk) {
+            Ok(Some(n)) => n,
+            Ok(None) => continue,
+            Err(_) => {
+                return Ok(Ahead {
+                    bytes,
+                    users: None,
+                    has_ended: false,
+                    has_failed: true,
+                });
+            }
+        };
+        if n == 0 {
+            let users = look_last(alloc, &mut session, held.as_slice())?;
+            return Ok(Ahead {
+                bytes,
+                users,
+                has_ended: true,
+                has_failed: false,
+            });
+        }
+        let (piece, _) = chunk.split_at(n);
+        bytes.extend_from_slice(piece)?;
+        let users = match look_on(alloc, &mut session, &mut held, piece)? {
+            Look::Users(users) => Some(users),
+            Look::Refused => None,
+            Look::Other => continue,
+        };
+        return Ok(Ahead {
+            bytes,
+            users,
+            has_ended: false,
+            has_failed: false,
+        });
+    }
+    Err(Refusal::Memory)
+}

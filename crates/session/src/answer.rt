@@ -1,0 +1,80 @@
+//! Whom a session asks, reads from and writes to.
+
+ghost use Rattle.std.specs.Prelude.{◌≡◌, ℕ};
+ghost use Rattle.model.specs.Steps as steps;
+ghost use Rattle.schedule.specs.Standing.{event_of, reply_of};
+
+use model::Refusal;
+use schedule::{Core, Event, Reply};
+use std::alloc::Global;
+
+/// What answers the events of a session.
+pub trait Answer {
+    /// Relates the answer before an event, the event, its reply, and the answer after it.
+    ghost answers: { Self → steps.Event → steps.Reply → Self → Type 0 };
+
+    /// Takes an event and gives its reply.
+    fn call(&mut self, alloc: Global, event: Event) -> Reply
+        ensures { answers self.old (event_of event) (reply_of result) self.new };
+}
+
+/// What counts how often it failed. A count that has reached its greatest number stays there.
+pub trait Faults {
+    /// The count.
+    ghost failed: { Self → ℕ };
+
+    /// How often it has failed.
+    fn failures(&self) -> u64
+        ensures { result ≡ failed self.now };
+}
+
+/// A store of no users: every event is refused with 11 `UnknownUser`.
+#[derive(Drop)]
+pub struct NoUsers;
+
+impl Answer for NoUsers {
+    ghost use Rattle.std.specs.Prelude.{◌≡◌};
+    ghost use Rattle.model.specs.Steps as steps;
+    ghost use Rattle.model.specs.declared.refusal.Refusal.TheVariants.{UnknownUser};
+
+    ghost answers = { λ _ _ reply _. reply ≡ steps.Refused UnknownUser };
+
+    fn call(&mut self, _alloc: Global, _event: Event) -> Reply {
+        Reply::Refused(Refusal::UnknownUser)
+    }
+}
+
+/// A store answers each event by a step.
+impl Answer for Core {
+    ghost use Rattle.session.specs.Stepping.{IsAnswer};
+
+    ghost answers = { IsAnswer };
+
+    fn call(&mut self, alloc: Global, event: Event) -> Reply {
+        self.step(alloc, event)
+    }
+}
+
+impl Faults for &[u8] {
+    ghost failed = { λ _. 0 };
+
+    fn failures(&self) -> u64 {
+        0
+    }
+}
+
+impl Faults for Vec<u8> {
+    ghost failed = { λ _. 0 };
+
+    fn failures(&self) -> u64 {
+        0
+    }
+}
+
+impl<T: Faults> Faults for &mut T {
+    ghost failed = { λ s. T.failed s.now };
+
+    fn failures(&self) -> u64 {
+        (**self).failures()
+    }
+}

@@ -1,0 +1,154 @@
+//! The expansions of a line.
+
+ghost use Rattle.std.specs.Prelude.{◌≡◌, ◌∷◌, ◌++◌, [], IfOk, OnOk, if◌then◌else◌, option_map};
+ghost use Rattle.std.specs.List.{list_all};
+ghost use Rattle.model.specs.Worlds.{is_digit};
+ghost use Rattle.model.specs.Lines.{is_numeral, named_line, is_letter, expansion_in, part_by, expanded, piece_text, joined, filled};
+
+use crate::cut::cut;
+use std::alloc::{AllocError, Global};
+use std::marker::Model;
+use storepath::StorePath;
+
+/// An expansion: `{p2}` stands for the path in the reply to line 2, and `{h2}` for the digits of
+/// its hash part, each of their bytes in base 16.
+#[derive(Drop)]
+struct Expansion<'a> {
+    letter: u8,
+    line: usize,
+    rest: &'a [u8],
+}
+
+impl<'a> Model for Expansion<'a> {
+    ghost use Rattle.model.specs.Lines.{Expansion as ExpansionValue};
+
+    ghost Value = { ExpansionValue };
+
+    ghost view = { λ e. record { letter = e.letter; line = e.line; rest = e.rest.now } };
+}
+
+fn is_numeral(digits: &[u8]) -> bool
+    ensures { result ≡ is_numeral digits.now }
+{
+    match digits {
+        [] => false,
+        [first, others @ ..] => 49 <= *first && *first <= 57 && are_digits(others),
+    }
+}
+
+fn are_digits(digits: &[u8]) -> bool
+    ensures { result ≡ list_all is_digit digits.now }
+{
+    digits.iter().all(|digit| 48 <= *digit && *digit <= 57)
+}
+
+/// The place of the line that digits name, where `count` lines are earlier.
+fn named_line(count: usize, digits: &[u8]) -> Option<usize>
+    ensures { result ≡ named_line count digits.now }
+{
+    if !is_numeral(digits) {
+        return None;
+    }
+    let count = count as u128;
+    let mut number = 0u128;
+    for digit in digits {
+        if count < number {
+            return None;
+        }
+        number = 10 * number + u128::from(digit.saturating_sub(48));
+    }
+    if number <= count {
+        Some((number as usize).saturating_sub(1))
+    } else {
+        None
+    }
+}
+
+fn is_letter(letter: u8) -> bool
+    ensures { result ≡ is_letter letter }
+{
+    letter == b'p' || letter == b'h'
+}
+
+/// The expansion that a text behind an opening brace begins with.
+fn expansion_in(count: usize, text: &[u8]) -> Option<Expansion<'_>>
+    ensures { result ≡ expansion_in count text.now }
+{
+    let [letter, behind @ ..] = text else {
+        return None;
+    };
+    if !is_letter(*letter) {
+        return None;
+    }
+    let (digits, rest) = cut(b'}', behind)?;
+    let line = named_line(count, digits)?;
+    Some(Expansion {
+        letter: *letter,
+        line,
+        rest,
+    })
+}
+
+/// Adds what an expansion by a letter is of a path.
+fn add_part(
+    alloc: Global,
+    text: &mut Vec<u8>,
+    letter: u8,
+    path: &StorePath,
+) -> Result<(), AllocError>
+    ensures { OnOk result (text.new.items ≡ text.old.items ++ part_by letter path.now) }
+{
+    if letter == b'p' {
+        return text.extend_from_slice(path.bytes());
+    }
+    let digits = hex::encode(alloc, path.hash_part())?;
+    text.extend_from_slice(digits.as_bytes())
+}
+
+/// Adds what a text behind an opening brace comes to. Whether it comes to something.
+fn add_piece(
+    alloc: Global,
+    text: &mut Vec<u8>,
+    paths: &[Option<StorePath>],
+    piece: &[u8],
+) -> Result<bool, AllocError>
+    ensures { IfOk result (λ whole. (if whole then Some text.new.items else None) ≡ joined (Some text.old.items) (piece_text paths.now piece.now)) }
+{
+    let Some(expansion) = expansion_in(paths.len(), piece) else {
+        text.push(b'{')?;
+        text.extend_from_slice(piece)?;
+        return Ok(true);
+    };
+    let Some(Some(path)) = paths.get(expansion.line) else {
+        return Ok(false);
+    };
+    add_part(alloc, text, expansion.letter, path)?;
+    text.extend_from_slice(expansion.rest)?;
+    Ok(true)
+}
+
+/// A line with its expansions made, or nothing where one names a reply that has no path.
+pub(crate) fn fill(
+    alloc: Global,
+    paths: &[Option<StorePath>],
+    line: &[u8],
+) -> Result<Option<Vec<u8>>, AllocError>
+    ensures { IfOk result (λ text. option_map (λ t. t.items) text ≡ filled paths.now line.now) }
+{
+    let Some((first, pieces)) = cut(b'{', line) else {
+        return Ok(Some(Vec::from_slice(alloc, line)?));
+    };
+    let mut text = Vec::from_slice(alloc, first)?;
+    let mut rest = pieces;
+    while let Some((piece, others)) = cut(b'{', rest) {
+        if !add_piece(alloc, &mut text, paths, piece)? {
+            return Ok(None);
+        }
+        rest = others;
+    }
+    if add_piece(alloc, &mut text, paths, rest)? {
+        Ok(Some(text))
+    } else {
+        Ok(None)
+    }
+}

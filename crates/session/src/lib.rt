@@ -1,0 +1,32 @@
+//! Sessions: the lines of an input, the events that they make, and the text of the replies.
+//!
+//! | Calls | What they do |
+//! |---|---|
+//! | [`Session::line`] | answers one line: gives what is printed for it |
+//! | [`serve`] | answers the lines of a reader, and writes what is printed |
+//! | [`read_ahead`], [`Prefixed`] | finds the users of an input, and gives again what was read for it |
+//!
+//! What a line is, which row it gets and what is printed for it is said by the definitions of the
+//! crate `model`; whoever answers the events is an [`Answer`].
+#![tactic(auto)]
+
+mod ahead;
+mod answer;
+mod cut;
+mod expand;
+mod forms;
+mod prefixed;
+mod reading;
+mod serving;
+mod session;
+mod streams;
+#[cfg(test)]
+mod tests;
+mod texts;
+mod words;
+
+pub use ahead::{Ahead, read_ahead};
+pub use answer::{Answer, Faults, NoUsers};
+pub use prefixed::Prefixed;
+pub use serving::serve;
+pub use session::{Mode, Session};

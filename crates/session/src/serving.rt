@@ -1,0 +1,177 @@
+//! Sessions over a reader and a writer.
+
+ghost use Rattle.std.specs.Prelude.{◌≡◌, ◌≤◌, ◌⊎◌, ◌++◌, ◌∷◌, [], ℕ, List, Option, OnOk, OnErr, IfErr};
+ghost use Rattle.std.specs.Io.KnownBytes.{Appends, Consumes, IsAtEnd};
+ghost use Rattle.model.specs.declared.refusal.Refusal.TheVariants.{InputFault, OutputFault};
+ghost use Rattle.model.specs.Lines.{lines_of};
+ghost use Rattle.session.specs.Serving.{Progress, Stopped, Finished, HasFailed, IsHeld, IsOwn};
+
+use crate::answer::{Answer, Faults};
+use crate::forms::LONGEST_LINE;
+use crate::session::{Mode, Session};
+use crate::streams::{flush, read_some, write_whole};
+use memchr::memchr;
+use model::Refusal;
+use std::alloc::{AllocError, Global};
+use std::io::{Read, Write};
+
+/// So many bytes are read at a time.
+pub(crate) const CHUNK: usize = 4096;
+
+/// Holds more of the line begun, no more than shows whether it is too long.
+pub(crate) fn hold(held: &mut Vec<u8>, bytes: &[u8]) -> Result<(), AllocError>
+    ensures { OnOk result ((partial : List ℕ) → IsHeld partial held.old.items → IsHeld (partial ++ bytes.now) held.new.items) }
+{
+    let room = (LONGEST_LINE + 1).saturating_sub(held.len());
+    let fits = room.min(bytes.len());
+    held.extend_from_slice(&bytes[..fits])?;
+    Ok(())
+}
+
+/// Answers the line that is held, and writes what it gets. The line is let go before its event is
+/// answered.
+fn end_line<W: Write + Faults, A: Answer>(
+    alloc: Global,
+    session: &mut Session,
+    held: &mut Vec<u8>,
+    writer: &mut W,
+    before: u64,
+    answer: &mut A,
+) -> Result<(), Refusal>
+    ensures ok { OnOk result ((first : A) (blank : Option (List ℕ)) (input : List ℕ)
+        → Progress A.answers first answer.old blank (W.contents writer.old) input session.old held.old.items
+        → Progress A.answers first answer.new blank (W.contents writer.new) (input ++ 10 ∷ []) session.new held.new.items) }
+    ensures empty { OnOk result (held.new.items ≡ []) }
+    ensures err { IfErr result (λ why. (first : A) (blank : Option (List ℕ)) (input more : List ℕ)
+        → Progress A.answers first answer.old blank (W.contents writer.old) input session.old held.old.items
+        → Stopped A.answers first answer.new blank (W.contents writer.new) (lines_of (input ++ 10 ∷ more)) why) }
+    ensures errors { IfErr result IsOwn }
+    ensures fault { IfErr result (λ why. why ≡ OutputFault → HasFailed before (W.failed writer.new)) }
+{
+    let reading = session.read(alloc, held.as_slice())?;
+    *held = Vec::new(alloc);
+    let text = session.answer(alloc, reading, answer)?;
+    write_whole(writer, before, text.as_slice())?;
+    if session.is_refused() {
+        flush(writer, before)?;
+        return Err(Refusal::BadUsers);
+    }
+    Ok(())
+}
+
+/// Takes the next piece of the input.
+fn feed<W: Write + Faults, A: Answer>(
+    alloc: Global,
+    session: &mut Session,
+    held: &mut Vec<u8>,
+    piece: &[u8],
+    writer: &mut W,
+    before: u64,
+    answer: &mut A,
+) -> Result<(), Refusal>
+    ensures ok { OnOk result ((first : A) (blank : Option (List ℕ)) (input : List ℕ)
+        → Progress A.answers first answer.old blank (W.contents writer.old) input session.old held.old.items
+        → Progress A.answers first answer.new blank (W.contents writer.new) (input ++ piece.now) session.new held.new.items) }
+    ensures err { IfErr result (λ why. (first : A) (blank : Option (List ℕ)) (input : List ℕ)
+        → Progress A.answers first answer.old blank (W.contents writer.old) input session.old held.old.items
+        → Stopped A.answers first answer.new blank (W.contents writer.new) (lines_of (input ++ piece.now)) why) }
+    ensures errors { IfErr result IsOwn }
+    ensures fault { IfErr result (λ why. why ≡ OutputFault → HasFailed before (W.failed writer.new)) }
+{
+    let mut rest = piece;
+    while let Some(at) = memchr(b'\n', rest) {
+        let (line, newline) = rest.split_at(at);
+        let (_, after) = newline.split_at(1);
+        hold(held, line)?;
+        end_line(alloc, session, held, writer, before, answer)?;
+        rest = after;
+    }
+    hold(held, rest)?;
+    Ok(())
+}
+
+/// Answers a last line that lacks its newline, if there is one.
+fn finish<W: Write + Faults, A: Answer>(
+    alloc: Global,
+    session: &mut Session,
+    held: &mut Vec<u8>,
+    writer: &mut W,
+    before: u64,
+    answer: &mut A,
+) -> Result<(), Refusal>
+    ensures ok { OnOk result ((first : A) (blank : Option (List ℕ)) (input : List ℕ)
+        → Progress A.answers first answer.old blank (W.contents writer.old) input session.old held.old.items
+        → Finished A.answers first answer.new blank (W.contents writer.new) (lines_of input)) }
+    ensures err { IfErr result (λ why. (first : A) (blank : Option (List ℕ)) (input : List ℕ)
+        → Progress A.answers first answer.old blank (W.contents writer.old) input session.old held.old.items
+        → Stopped A.answers first answer.new blank (W.contents writer.new) (lines_of input) why) }
+    ensures errors { IfErr result IsOwn }
+    ensures fault { IfErr result (λ why. why ≡ OutputFault → HasFailed before (W.failed writer.new)) }
+{
+    if held.is_empty() {
+        return Ok(());
+    }
+    end_line(alloc, session, held, writer, before, answer)?;
+    Ok(())
+}
+
+/// Answers the lines of the reader to the input's end, and writes what is printed for them.
+///
+/// A line of more than 268,435,456 bytes is skipped without being kept. A line of users that is
+/// refused with 14 `BadUsers` ends the call with `BadUsers` once its output is written. The other
+/// errors are 71 `InputFault` and 72 `OutputFault`, only where the reader or the writer failed
+/// during the call by its count, and 90 `Memory`. After each of them the events answered before
+/// stand. A reader or writer that fails and does not count it is tried again.
+pub fn serve<R: Read + Faults, W: Write + Faults, A: Answer>(
+    alloc: Global,
+    mode: Mode,
+    reader: &mut R,
+    writer: &mut W,
+    answer: &mut A,
+) -> Result<(), Refusal>
+    // To the input's end, each of its lines is answered, and all of their text is written.
+    ensures ok { OnOk result ((input : List ℕ)
+        × Consumes (R.remaining reader.old) (R.remaining reader.new) input × IsAtEnd (R.remaining reader.new)
+        × Finished A.answers answer.old answer.new (W.contents writer.old) (W.contents writer.new) (lines_of input)) }
+    // Else the first lines of what was read are, and a beginning of their text.
+    ensures err { IfErr result (λ why. (input : List ℕ)
+        × Consumes (R.remaining reader.old) (R.remaining reader.new) input
+        × Stopped A.answers answer.old answer.new (W.contents writer.old) (W.contents writer.new) (lines_of input) why) }
+    ensures errors { IfErr result (λ why. (why ≡ InputFault) ⊎ IsOwn why) }
+    ensures input_fault { IfErr result (λ why. why ≡ InputFault → HasFailed (R.failed reader.old) (R.failed reader.new)) }
+    ensures output_fault { IfErr result (λ why. why ≡ OutputFault → HasFailed (W.failed writer.old) (W.failed writer.new)) }
+{
+    let reader_before = reader.failures();
+    let writer_before = writer.failures();
+    let mut session = Session::new(alloc, mode);
+    let mut held = Vec::new(alloc);
+    let mut chunk = [0u8; CHUNK];
+    for _ in 0..u64::MAX {
+        let Some(n) = read_some(reader, reader_before, &mut chunk)? else {
+            continue;
+        };
+        if n == 0 {
+            finish(
+                alloc,
+                &mut session,
+                &mut held,
+                writer,
+                writer_before,
+                answer,
+            )?;
+            flush(writer, writer_before)?;
+            return Ok(());
+        }
+        let (piece, _) = chunk.split_at(n);
+        feed(
+            alloc,
+            &mut session,
+            &mut held,
+            piece,
+            writer,
+            writer_before,
+            answer,
+        )?;
+    }
+    Err(Refusal::Memory)
+}

@@ -1,0 +1,159 @@
+//! Sessions, a line at a time.
+
+ghost use Rattle.std.specs.Prelude.{◌≡◌, ◌+◌, ◌⊎◌, ℕ, List, Option, IfOk, IfErr, OnErr, length};
+ghost use Rattle.model.specs.declared.refusal.Refusal.TheVariants.{Memory};
+ghost use Rattle.model.specs.Talk.{Row, fresh, form_of, Gets, after, row_text, answer_text, path_in, is_bad_users};
+ghost use Rattle.model.specs.Steps as steps;
+ghost use Rattle.schedule.specs.Standing.{event_of, reply_of};
+ghost use Rattle.session.specs.Reading.{Becomes, IsRowOf};
+ghost use Rattle.session.specs.Serving.{Link};
+
+use crate::answer::Answer;
+use crate::forms::read_line;
+use crate::reading::Reading;
+use crate::texts::{answer_text, path_in};
+use model::Refusal;
+use schedule::{Event, Reply};
+use std::alloc::Global;
+use std::marker::Model;
+use storepath::StorePath;
+
+/// Which lines a session knows.
+#[derive(Clone, Copy, Debug, PartialEq, Eq)]
+pub enum Mode {
+    /// Those of the service: every event is a line of its own.
+    Service,
+}
+
+/// What is kept of the lines so far.
+#[derive(Drop)]
+pub struct Session {
+    begun: bool,
+    refused: bool,
+    paths: Vec<Option<StorePath>>,
+}
+
+impl Model for Session {
+    ghost use Rattle.model.specs.Talk.{Seen};
+
+    ghost Value = { Seen };
+
+    ghost view = { λ s. record { begun = s.begun; refused = s.refused; paths = s.paths.items } };
+}
+
+impl Session {
+    /// A session that has had no line. It takes no memory.
+    pub fn new(alloc: Global, mode: Mode) -> Session
+        ensures { result ≡ fresh }
+    {
+        let Mode::Service = mode;
+        Session {
+            begun: false,
+            refused: false,
+            paths: Vec::new(alloc),
+        }
+    }
+
+    /// Whether a line of users was refused, which ends [`serve`](crate::serve).
+    pub(crate) fn is_refused(&self) -> bool
+        ensures { result ≡ self.now.refused }
+    {
+        self.refused
+    }
+
+    /// What the next line comes to.
+    pub(crate) fn read(&self, alloc: Global, line: &[u8]) -> Result<Reading, Refusal>
+        ensures read { IfOk result (Becomes (form_of self.now line.now)) }
+        ensures memory { IfErr result (λ why. why ≡ Memory) }
+    {
+        read_line(alloc, self.begun, self.paths.as_slice(), line)
+    }
+
+    /// Answers the next line, by what it comes to, and gives what is printed for it.
+    pub(crate) fn answer<A: Answer>(
+        &mut self,
+        alloc: Global,
+        reading: Reading,
+        answer: &mut A,
+    ) -> Result<Vec<u8>, Refusal>
+        ensures ok { IfOk result (λ text. (row : Row) × IsRowOf reading row
+            × (self.new ≡ after self.old row)
+            × (text.items ≡ row_text (length self.old.paths + 1) row)
+            × Link A.answers answer.old row answer.new) }
+        ensures memory { IfErr result (λ why. why ≡ Memory) }
+        ensures err { OnErr result ((answer.new ≡ answer.old) ⊎ ((row : Row) × IsRowOf reading row × Link A.answers answer.old row answer.new)) }
+    {
+        let number = self.paths.len() + 1;
+        match reading {
+            Reading::Silent => {
+                self.paths.push(None)?;
+                Ok(Vec::new(alloc))
+            }
+            Reading::Names(_users) => {
+                self.paths.push(None)?;
+                self.begun = true;
+                let text = answer_text(alloc, number, b"-", &Reply::Done)?;
+                Ok(text)
+            }
+            Reading::Refused(why) => {
+                self.paths.push(None)?;
+                self.refused = is_bad_users(why) | self.refused;
+                let text = answer_text(alloc, number, b"-", &Reply::Refused(why))?;
+                Ok(text)
+            }
+            Reading::Asks(event) => {
+                let (path, text) = ask(alloc, number, event, answer)?;
+                self.paths.push(path)?;
+                Ok(text)
+            }
+        }
+    }
+
+    /// Answers the next line, which is given without its newline, and gives what is printed for it:
+    /// nothing for an empty line and for a comment.
+    ///
+    /// The one error is memory. After it the line's event may have been answered, and nothing is
+    /// said of later lines.
+    pub fn line<A: Answer>(
+        &mut self,
+        alloc: Global,
+        line: &[u8],
+        answer: &mut A,
+    ) -> Result<Vec<u8>, Refusal>
+        // The row that the line got, what is kept of it, what is printed for it, and what became of the answer.
+        ensures ok { IfOk result (λ text. (row : Row) × Gets (form_of self.old line.now) row
+            × (self.new ≡ after self.old row)
+            × (text.items ≡ row_text (length self.old.paths + 1) row)
+            × Link A.answers answer.old row answer.new) }
+        ensures memory { IfErr result (λ why. why ≡ Memory) }
+        ensures err { OnErr result ((answer.new ≡ answer.old) ⊎ ((row : Row) × Gets (form_of self.old line.now) row
+            × Link A.answers answer.old row answer.new)) }
+    {
+        let reading = self.read(alloc, line)?;
+        self.answer(alloc, reading, answer)
+    }
+}
+
+fn is_bad_users(why: Refusal) -> bool
+    ensures { result ≡ is_bad_users why }
+{
+    matches!(why, Refusal::BadUsers)
+}
+
+/// Hands an event on. Gives the path in its reply, and what is printed for it.
+fn ask<A: Answer>(
+    alloc: Global,
+    number: usize,
+    event: Event,
+    answer: &mut A,
+) -> Result<(Option<StorePath>, Vec<u8>), Refusal>
+    ensures ok { IfOk result (λ r. (reply : steps.Reply) × (r.0 ≡ path_in reply)
+        × (r.1.items ≡ answer_text number event.actor reply) × A.answers answer.old (event_of event) reply answer.new) }
+    ensures memory { IfErr result (λ why. why ≡ Memory) }
+    ensures err { OnErr result ((answer.new ≡ answer.old) ⊎ ((reply : steps.Reply) × A.answers answer.old (event_of event) reply answer.new)) }
+{
+    let actor = event.actor.clone()?;
+    let reply = answer.call(alloc, event);
+    let text = answer_text(alloc, number, actor.bytes(), &reply)?;
+    Ok((path_in(reply), text))
+}

@@ -1,0 +1,116 @@
+//! Reading from a reader and writing to a writer that count their failures.
+
+ghost use Rattle.std.specs.Prelude.{◌≡◌, ◌<◌, ◌≤◌, ◌⊎◌, ℕ, [], OnOk, OnErr, IfOk, IfErr, MatchOption, MatchResult, take, length};
+ghost use Rattle.std.specs.Io.KnownBytes.{Appends, Consumes, IsAtEnd};
+ghost use Rattle.model.specs.declared.refusal.Refusal.TheVariants.{InputFault, OutputFault, Memory};
+ghost use Rattle.session.specs.Serving.{HasFailed};
+
+use crate::answer::Faults;
+use model::Refusal;
+use std::io::{Read, Write};
+
+/// What becomes of a write or a flush that did nothing: the count of failures says whether it
+/// failed since `before`.
+fn stalled<W: Faults>(writer: &W, before: u64) -> Result<usize, Refusal>
+    ensures { MatchResult result (λ n. n ≡ 0) (λ why. (why ≡ OutputFault) × HasFailed before (W.failed writer.now)) }
+{
+    let now = writer.failures();
+    if now > before || now == u64::MAX {
+        return Err(Refusal::OutputFault);
+    }
+    Ok(0)
+}
+
+/// Writes some of the bytes, which may be none.
+fn write_some<W: Write + Faults>(
+    writer: &mut W,
+    before: u64,
+    bytes: &[u8],
+) -> Result<usize, Refusal>
+    ensures ok { IfOk result (λ n. (n ≤ length bytes.now) × Appends (W.contents writer.old) (W.contents writer.new) (take n bytes.now)) }
+    ensures err { OnErr result (Appends (W.contents writer.old) (W.contents writer.new) []) }
+    ensures fault { IfErr result (λ why. (why ≡ OutputFault) × HasFailed before (W.failed writer.new)) }
+{
+    match writer.write(bytes) {
+        Ok(0) | Err(_) => stalled(writer, before),
+        Ok(n) => Ok(n),
+    }
+}
+
+/// Writes all of the text. Only a writer whose count of failures has risen above `before`, or
+/// stands at its greatest number, stops it with `OutputFault`. One that fails and does not count
+/// it is tried again, and after 2^64 times `Memory` is answered.
+pub(crate) fn write_whole<W: Write + Faults>(
+    writer: &mut W,
+    before: u64,
+    text: &[u8],
+) -> Result<(), Refusal>
+    ensures ok { OnOk result (Appends (W.contents writer.old) (W.contents writer.new) text.now) }
+    ensures err { OnErr result ((n : ℕ) × Appends (W.contents writer.old) (W.contents writer.new) (take n text.now)) }
+    ensures errors { IfErr result (λ why. (why ≡ OutputFault) ⊎ (why ≡ Memory)) }
+    ensures fault { IfErr result (λ why. why ≡ OutputFault → HasFailed before (W.failed writer.new)) }
+{
+    let mut rest = text;
+    for _ in 0..u64::MAX {
+        if rest.is_empty() {
+            return Ok(());
+        }
+        let n = write_some(writer, before, rest)?;
+        let (_, after) = rest.split_at(n);
+        rest = after;
+    }
+    Err(Refusal::Memory)
+}
+
+/// Flushes once. Whether it was flushed.
+fn flush_once<W: Write + Faults>(writer: &mut W, before: u64) -> Result<bool, Refusal>
+    ensures kept { Appends (W.contents writer.old) (W.contents writer.new) [] }
+    ensures fault { IfErr result (λ why. (why ≡ OutputFault) × HasFailed before (W.failed writer.new)) }
+{
+    match writer.flush() {
+        Ok(()) => Ok(true),
+        Err(_) => {
+            stalled(writer, before)?;
+            Ok(false)
+        }
+    }
+}
+
+/// Flushes the writer, as [`write_whole`] writes.
+pub(crate) fn flush<W: Write + Faults>(writer: &mut W, before: u64) -> Result<(), Refusal>
+    ensures kept { Appends (W.contents writer.old) (W.contents writer.new) [] }
+    ensures errors { IfErr result (λ why. (why ≡ OutputFault) ⊎ (why ≡ Memory)) }
+    ensures fault { IfErr result (λ why. why ≡ OutputFault → HasFailed before (W.failed writer.new)) }
+{
+    for _ in 0..u64::MAX {
+        if flush_once(writer, before)? {
+            return Ok(());
+        }
+    }
+    Err(Refusal::Memory)
+}
+
+/// Reads some bytes, of which there are none at the input's end. `None` is a read that failed and
+/// was not counted: it may be tried again.
+pub(crate) fn read_some<R: Read + Faults>(
+    reader: &mut R,
+    before: u64,
+    chunk: &mut [u8],
+) -> Result<Option<usize>, Refusal>
+    requires { 0 < length chunk.old }
+    ensures ok { IfOk result (λ r. MatchOption r (Consumes (R.remaining reader.old) (R.remaining reader.new) []) (λ n. (n ≤ length chunk.new)
+        × Consumes (R.remaining reader.old) (R.remaining reader.new) (take n chunk.new) × (n ≡ 0 → IsAtEnd (R.remaining reader.new)))) }
+    ensures err { OnErr result (Consumes (R.remaining reader.old) (R.remaining reader.new) []) }
+    ensures fault { IfErr result (λ why. (why ≡ InputFault) × HasFailed before (R.failed reader.new)) }
+{
+    match reader.read(chunk) {
+        Ok(n) => Ok(Some(n)),
+        Err(_) => {
+            let now = reader.failures();
+            if now > before || now == u64::MAX {
+                return Err(Refusal::InputFault);
+            }
+            Ok(None)
+        }
+    }
+}

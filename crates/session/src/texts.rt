@@ -1,0 +1,67 @@
+//! The text of replies.
+
+ghost use Rattle.std.specs.Prelude.{◌≡◌, ◌++◌, ◌∷◌, [], OnOk, IfOk, IfErr};
+ghost use Rattle.model.specs.declared.refusal.Refusal.TheVariants.{Memory};
+ghost use Rattle.model.specs.Talk.{reply_text, answer_text, path_in};
+ghost use Rattle.schedule.specs.Standing.{reply_of};
+
+use model::Refusal;
+use nar::tree_text;
+use schedule::Reply;
+use std::alloc::Global;
+use storepath::StorePath;
+
+/// Adds the text of a reply.
+fn add_reply(alloc: Global, text: &mut Vec<u8>, reply: &Reply) -> Result<(), Refusal>
+    ensures text { OnOk result (text.new.items ≡ text.old.items ++ reply_text (reply_of reply.now)) }
+    ensures memory { IfErr result (λ why. why ≡ Memory) }
+{
+    match reply {
+        Reply::Done => text.extend_from_slice(b"ok")?,
+        Reply::Path(path) => {
+            text.extend_from_slice(b"path ")?;
+            text.extend_from_slice(path.bytes())?;
+        }
+        Reply::Content(tree) => {
+            let words = tree_text(alloc, tree)?;
+            text.extend_from_slice(b"tree ")?;
+            text.extend_from_slice(words.as_slice())?;
+        }
+        Reply::Refused(why) => {
+            let words = why.to_string(alloc)?;
+            text.extend_from_slice(b"refused ")?;
+            text.extend_from_slice(words.as_bytes())?;
+        }
+    }
+    Ok(())
+}
+
+/// What is printed for a line: its number, the actor and the reply.
+pub(crate) fn answer_text(
+    alloc: Global,
+    number: usize,
+    actor: &[u8],
+    reply: &Reply,
+) -> Result<Vec<u8>, Refusal>
+    ensures text { IfOk result (λ text. text.items ≡ answer_text number actor.now (reply_of reply.now)) }
+    ensures memory { IfErr result (λ why. why ≡ Memory) }
+{
+    let digits = number.to_string(alloc)?;
+    let mut text = Vec::from_slice(alloc, digits.as_bytes())?;
+    text.push(b' ')?;
+    text.extend_from_slice(actor)?;
+    text.push(b' ')?;
+    add_reply(alloc, &mut text, reply)?;
+    text.push(b'\n')?;
+    Ok(text)
+}
+
+/// The path in a reply.
+pub(crate) fn path_in(reply: Reply) -> Option<StorePath>
+    ensures { result ≡ path_in (reply_of reply) }
+{
+    match reply {
+        Reply::Path(path) => Some(path),
+        Reply::Done | Reply::Content(_) | Reply::Refused(_) => None,
+    }
+}
