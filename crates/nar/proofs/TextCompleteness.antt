@@ -1,12 +1,12 @@
 -- What is written as a tree text is read again, whatever follows it.
 use Rattle.std.proofs.Common.{◌≡◌, ℕ, zero, suc, ◌+◌, ◌/◌, ◌%◌, ◌<◌, ◌≤◌, Bool, true, false, List, [], ◌∷◌, ◌++◌, length, codes, refl, ap, sym, ◌∙◌, append_assoc, append-nil, arith, length-append, slice_index, take, cond}
 use Rattle.std.specs.List.{prefix_len}
-use Rattle.std.specs.Prelude.{Some, take_while, ◌==◌}
+use Rattle.std.specs.Prelude.{Option, Some, take_while, unwrap_or, ◌==◌}
 use Rattle.std.proofs.lemmas.Bool.{eqb-true}
 use Rattle.hex.specs.Hex.{encode_lower, encode_with, lower_digits, hex_digit_value, IsBytes}
 use Rattle.nar.specs.TextReading.{is_lower_digit}
 use Rattle.hex.proofs.HexLemmas.{decode_of-encode_lower, IsDigits-lower_digits}
-use Rattle.model.specs.Archives.{Tree, File, Link, Directory, Entries, NoEntries, Entry, IsSound, AreSound, depth_of, deepest, is_entry_name, bytes_before}
+use Rattle.model.specs.Archives.{Tree, IsTree, File, Link, Directory, Entries, NoEntries, Entry, IsSound, AreSound, depth_of, deepest, is_entry_name, bytes_before}
 use Rattle.nar.specs.ArchiveReading.{Reader, in_front}
 use Rattle.nar.specs.TextReading.{digits_at, closes, item_at, items_at, listed_at, kind_at, text_at, whole_at}
 use Rattle.model.specs.TreeTexts.{tree_text_of, entries_text_of, file_mark, separator}
@@ -134,3 +134,9 @@ unfolding whole_at
 whole_at-tree_text_of t h b f =
     let node : text_at 64 (tree_text_of t) ≡ Some (t, []) = ap (text_at 64) (sym (append-nil (tree_text_of t))) ∙ text_at-front t 64 [] h b f refl in
     rw node refl
+
+-- trees with one tree text are one tree
+pub tree_text_of-injective : (a b : Tree) → IsTree a → IsTree b → tree_text_of a ≡ tree_text_of b → a ≡ b
+tree_text_of-injective a b h k e =
+    let Read : Option Tree → Tree = λ o. unwrap_or o a in
+    ap Read (sym (whole_at-tree_text_of a h.sound h.depth h.bytes) ∙ ap whole_at e ∙ whole_at-tree_text_of b k.sound k.depth k.bytes)

@@ -1,4 +1,4 @@
-use crate::{Nar, Tree, archives_differ, decode, encode, read_tree_text, tree_text};
+use crate::{Nar, Tree, archives_differ, decode, encode, read_tree_text, texts_differ, tree_text};
 use model::Refusal;
 use std::alloc::{AllocError, Global};
 use std::test::Fail;
@@ -99,6 +99,7 @@ fn directory_archives(rt: HostRuntime) -> Result<(), Fail> {
     assert_eq!(rt; archive_of(alloc, "d()")?.bytes().len(), 96);
     assert!(rt; decode(alloc, archive.bytes())?.same(&directory.clone()?));
     archives_differ();
+    texts_differ();
     Ok(())
 }
 
