@@ -31,10 +31,16 @@ fn is_quiet(line: &[u8]) -> bool
     }
 }
 
+/// Whether every byte of a line may be printed. It looks at all of them, so that several are taken at
+/// once.
 fn is_printable(line: &[u8]) -> bool
     ensures { result ≡ list_all is_printable line.now }
 {
-    line.iter().all(|b| 32 <= *b && *b <= 126)
+    let mut is_printable = true;
+    for b in line {
+        is_printable = is_printable & (32 <= *b) & (*b <= 126);
+    }
+    is_printable
 }
 
 /// What a line comes to whose words make an event, or are refused.
