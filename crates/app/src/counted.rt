@@ -1,5 +1,10 @@
 //! A reader and a writer that count their failures.
 
+ghost use Rattle.std.specs.Prelude.{◌≡◌, ◌≢◌, ◌+◌, ◌-◌, ◌^◌, min, OnOk, IfErr};
+ghost use Rattle.std.specs.IoError.{error_kind};
+ghost use Rattle.std.specs.Io.{ReadsAtMost, WritesAtMost};
+ghost use Rattle.std.specs.Io.KnownBytes.{Keeps, ReadConsumes, WriteAppends};
+
 use session::Faults;
 use std::io;
 use std::io::{ErrorKind, Read, Write};
@@ -14,12 +19,19 @@ pub(crate) struct Counted<T: Drop> {
 
 impl<T: Drop> Counted<T> {
     /// A reader or a writer that has not failed.
-    pub(crate) fn new(inner: T) -> Self {
+    pub(crate) fn new(inner: T) -> Self
+        ensures { (result.inner ≡ inner) × (result.failures ≡ 0) }
+    {
         Counted { inner, failures: 0 }
     }
 
     /// Counts what came of a call.
-    fn count<O>(&mut self, outcome: &io::Result<O>) {
+    fn count<O>(&mut self, outcome: &io::Result<O>)
+        ensures inner { self.new.inner ≡ self.old.inner }
+        ensures ok { OnOk outcome.now (self.new.failures ≡ self.old.failures) }
+        ensures interrupted { IfErr outcome.now (λ e. error_kind e ≡ ErrorKind.Interrupted → self.new.failures ≡ self.old.failures) }
+        ensures failed { IfErr outcome.now (λ e. error_kind e ≢ ErrorKind.Interrupted → self.new.failures ≡ min (self.old.failures + 1) (2 ^ 64 - 1)) }
+    {
         if let Err(error) = outcome {
             if error.kind() != ErrorKind::Interrupted {
                 self.failures = self.failures.saturating_add(1);
@@ -37,7 +49,15 @@ impl<T: Drop> Faults for Counted<T> {
 }
 
 impl<R: Read + Drop> Read for Counted<R> {
-    fn read(&mut self, buffer: &mut [u8]) -> io::Result<usize> {
+    ghost remaining = { λ counted. R.remaining counted.inner };
+
+    fn read(&mut self, buffer: &mut [u8]) -> io::Result<usize>
+        ensures bound { ReadsAtMost result buffer.new }
+        ensures bytes { ReadConsumes (R.remaining self.old.inner) (R.remaining self.new.inner) result buffer.new }
+        ensures ok { OnOk result (self.new.failures ≡ self.old.failures) }
+        ensures interrupted { IfErr result (λ e. error_kind e ≡ ErrorKind.Interrupted → self.new.failures ≡ self.old.failures) }
+        ensures failed { IfErr result (λ e. error_kind e ≢ ErrorKind.Interrupted → self.new.failures ≡ min (self.old.failures + 1) (2 ^ 64 - 1)) }
+    {
         let read = self.inner.read(buffer);
         self.count(&read);
         read
@@ -45,13 +65,26 @@ impl<R: Read + Drop> Read for Counted<R> {
 }
 
 impl<W: Write + Drop> Write for Counted<W> {
-    fn write(&mut self, bytes: &[u8]) -> io::Result<usize> {
+    ghost contents = { λ counted. W.contents counted.inner };
+
+    fn write(&mut self, bytes: &[u8]) -> io::Result<usize>
+        ensures bound { WritesAtMost result bytes.now }
+        ensures bytes { WriteAppends (W.contents self.old.inner) (W.contents self.new.inner) result bytes.now }
+        ensures ok { OnOk result (self.new.failures ≡ self.old.failures) }
+        ensures interrupted { IfErr result (λ e. error_kind e ≡ ErrorKind.Interrupted → self.new.failures ≡ self.old.failures) }
+        ensures failed { IfErr result (λ e. error_kind e ≢ ErrorKind.Interrupted → self.new.failures ≡ min (self.old.failures + 1) (2 ^ 64 - 1)) }
+    {
         let written = self.inner.write(bytes);
         self.count(&written);
         written
     }
 
-    fn flush(&mut self) -> io::Result<()> {
+    fn flush(&mut self) -> io::Result<()>
+        ensures bytes { Keeps (W.contents self.old.inner) (W.contents self.new.inner) }
+        ensures ok { OnOk result (self.new.failures ≡ self.old.failures) }
+        ensures interrupted { IfErr result (λ e. error_kind e ≡ ErrorKind.Interrupted → self.new.failures ≡ self.old.failures) }
+        ensures failed { IfErr result (λ e. error_kind e ≢ ErrorKind.Interrupted → self.new.failures ≡ min (self.old.failures + 1) (2 ^ 64 - 1)) }
+    {
         let flushed = self.inner.flush();
         self.count(&flushed);
         flushed

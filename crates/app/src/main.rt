@@ -4,6 +4,7 @@
 mod command_line;
 mod counted;
 mod fault;
+mod one_pass;
 mod replay;
 mod settings;
 #[cfg(test)]
@@ -17,11 +18,12 @@ use crate::settings::Options;
 use std::hash::RandomState;
 use std::io::{BufWriter, ErrorKind};
 use std::process::ExitCode;
+use std::sync::Wait;
 use std::{fs, io};
 
 /// Runs the file that the options name, says on standard error what went wrong, and gives the exit
 /// status.
-fn run_file(rt: &HostRuntime, options: &Options) -> io::Result<u8> {
+fn run_file(rt: &HostRuntime, wait: &impl Wait, options: &Options) -> io::Result<u8> {
     let file = match fs::open(rt, options.file.as_str()) {
         Ok(file) => file,
         Err(error) if error.kind() == ErrorKind::OutOfMemory => return Err(error),
@@ -33,7 +35,7 @@ fn run_file(rt: &HostRuntime, options: &Options) -> io::Result<u8> {
     let reader = Counted::new(file);
     let mut writer = Counted::new(BufWriter::new(rt.alloc(), io::writer(rt))?);
     let hashing = RandomState::new(rt)?;
-    let ended = replay::replay(rt.alloc(), hashing, options, reader, &mut writer);
+    let ended = replay::replay(wait, rt.alloc(), hashing, options, reader, &mut writer);
     if let Some(fault) = fault_of(&ended, options.file.as_str()) {
         rt.eprintln(fault)?;
     }
@@ -41,10 +43,10 @@ fn run_file(rt: &HostRuntime, options: &Options) -> io::Result<u8> {
 }
 
 /// Does what the words of the command line say, and gives the exit status.
-fn run(rt: &HostRuntime) -> io::Result<u8> {
+fn run(rt: &HostRuntime, wait: &impl Wait) -> io::Result<u8> {
     let words: Vec<String> = std::env::args(rt)?.collect(rt.alloc())?;
     match command_line::options(rt.alloc(), words.as_slice()) {
-        Ok(options) => run_file(rt, &options),
+        Ok(options) => run_file(rt, wait, &options),
         Err(error) if error.kind() == clap::error::ErrorKind::OutOfMemory => {
             Err(io::Error::from(ErrorKind::OutOfMemory))
         }
@@ -56,7 +58,7 @@ fn run(rt: &HostRuntime) -> io::Result<u8> {
 }
 
 fn main(rt: HostRuntime) -> io::Result<ExitCode> {
-    let status = match run(&rt) {
+    let status = match run(&rt, &rt) {
         Err(error) if error.kind() == ErrorKind::OutOfMemory => {
             rt.eprintln(Fault::OutOfMemory)?;
             OUT_OF_MEMORY

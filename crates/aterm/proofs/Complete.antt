@@ -6,7 +6,7 @@ use Rattle.std.specs.Prelude.{Some, bytes_eq, ◌==◌, nat_le}
 use Rattle.std.specs.List.{list_all, flat_map}
 use Rattle.model.specs.Derivations.{Derivation, has_texts, is_character, is_text, is_variable, character_text, derivation_text}
 use Rattle.aterm.proofs.Texts.{head, items_text, closed, closed_is, member_text, members_text, behind, variables_text, text_is, member_grouped, variable_grouped}
-use Rattle.aterm.specs.Reading.{Reader, ◌>>=◌, is_at, tag_at, in_front, items_at, escaped_at, character_at, string_at, member_at, members_at, variable_at, variables_at, derivation_at}
+use Rattle.model.specs.DerivationTexts.{Reader, ◌>>=◌, is_at, tag_at, in_front, items_at, escaped_at, character_at, string_at, member_at, members_at, variable_at, variables_at, derivation_at}
 
 -- ---- tags
 

@@ -1,7 +1,7 @@
 -- Reading items one after another: what one turn of the loop does.
 use Rattle.std.proofs.Common.{◌≡◌, ℕ, zero, suc, ◌+◌, ◌-◌, ◌<◌, true, false, List, [], ◌∷◌, ◌++◌, length, drop, refl, ap, sym, ◌∙◌, append_assoc, append-nil, arith}
 use Rattle.std.specs.Prelude.{Option, Some, None}
-use Rattle.aterm.specs.Reading.{Reader, ◌>>=◌, is_at, in_front, items_at}
+use Rattle.model.specs.DerivationTexts.{Reader, ◌>>=◌, is_at, in_front, items_at}
 use Rattle.aterm.specs.Gives.{Fails}
 use Rattle.aterm.specs.declared.read.ReadError.{ReadError}
 use Rattle.aterm.specs.declared.read.ReadError.TheVariants.{Memory, Malformed}

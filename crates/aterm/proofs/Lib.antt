@@ -6,3 +6,4 @@ pub mod Complete
 pub mod PathTexts
 pub mod Refusing
 pub mod Written
+pub mod Exact

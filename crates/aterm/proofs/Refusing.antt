@@ -4,7 +4,7 @@ use Rattle.std.specs.Prelude.{Some, None, Result, Ok, Err, MatchResult, IfOk}
 use Rattle.model.specs.Derivations.{Derivation, IsDerivation, derivation_text, HasNoDerivation, IsOnlyDerivation}
 use Rattle.model.specs.declared.refusal.Refusal.{Refusal}
 use Rattle.model.specs.declared.refusal.Refusal.TheVariants.{BadDerivation}
-use Rattle.aterm.specs.Reading.{derivation_at}
+use Rattle.model.specs.DerivationTexts.{derivation_at}
 use Rattle.aterm.specs.Gives.{Fails}
 use Rattle.aterm.specs.Refused.{refusal_of, HasNoPaths, IsRefused}
 use Rattle.aterm.specs.declared.read.ReadError.{ReadError}

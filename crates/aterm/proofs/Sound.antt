@@ -5,7 +5,7 @@ use Rattle.std.specs.Cmp.Lexicographic.{same_text}
 use Rattle.std.proofs.lemmas.Bool.Decides.{nat_tests}
 use Rattle.model.specs.Derivations.{character_text}
 use Rattle.aterm.proofs.Texts.{items_text, closed, closed_is, member_text, members_text, behind, variables_text, member_grouped, variable_grouped}
-use Rattle.aterm.specs.Reading.{Reader, ◌>>=◌, is_at, tag_at, in_front, items_at, escaped_at, plain_at, character_at, string_at, member_at, members_at, variable_at, variables_at}
+use Rattle.model.specs.DerivationTexts.{Reader, ◌>>=◌, is_at, tag_at, in_front, items_at, escaped_at, plain_at, character_at, string_at, member_at, members_at, variable_at, variables_at}
 
 -- ---- steps
 

@@ -5,7 +5,7 @@ use Rattle.std.specs.Cmp.Lexicographic.{same_text}
 use Rattle.model.specs.Derivations.{Derivation, derivation_text}
 use Rattle.aterm.proofs.Texts.{head, closed, members_text, variables_text, text_is}
 use Rattle.aterm.proofs.Sound.{bind_some, if_some, some_same, string_sound, members_sound, variables_sound}
-use Rattle.aterm.specs.Reading.{◌>>=◌, string_at, members_at, variables_at, derivation_at}
+use Rattle.model.specs.DerivationTexts.{◌>>=◌, string_at, members_at, variables_at, derivation_at}
 
 -- what is read, with what was read before it
 abbrev made : List (List ℕ) → List (List ℕ) → List ℕ → List ℕ → List (List ℕ) → List (List ℕ × List ℕ) → Derivation

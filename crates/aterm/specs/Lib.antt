@@ -1,6 +1,6 @@
-pub mod Reading
 pub mod Gives
 pub mod Parts
 pub mod Strings
 pub mod Refused
 pub mod Writing
+pub mod Laws

@@ -1,7 +1,8 @@
 -- When each refusal comes.
-use Rattle.std.specs.Prelude.{ℕ, List, All}
+use Rattle.std.specs.Prelude.{◌≡◌, ℕ, List, All, None}
 use Rattle.model.specs.Paths.{IsPath}
 use Rattle.model.specs.Derivations.{Derivation, HasNoDerivation}
+use Rattle.model.specs.DerivationTexts.{derivation_of_text}
 use Rattle.model.specs.declared.refusal.Refusal.{Refusal}
 use Rattle.model.specs.declared.refusal.Refusal.TheVariants as refusal
 use Rattle.aterm.specs.declared.read.ReadError.{ReadError}
@@ -26,3 +27,9 @@ abbrev pub IsRefused : List ℕ → Refusal → Type 0
 IsRefused text refusal.BadDerivation = HasNoDerivation text
 IsRefused text refusal.Memory = Unit {0}
 IsRefused text _ = ⊥
+
+-- the same, by what the text gives
+abbrev pub IsNotRead : List ℕ → Refusal → Type 0
+IsNotRead text refusal.BadDerivation = derivation_of_text text ≡ None
+IsNotRead text refusal.Memory = Unit {0}
+IsNotRead text _ = ⊥

@@ -1,10 +1,11 @@
 //! Derivations.
 
-ghost use Rattle.std.specs.Prelude.{◌≡◌, MatchResult, All, IsTrue, true, [], option_copied};
+ghost use Rattle.std.specs.Prelude.{◌≡◌, MatchResult, All, IsTrue, is_ok, true, [], option_copied};
 ghost use Rattle.std.specs.List.{list_all};
 ghost use Rattle.model.specs.Archives.{bytes_before};
 ghost use Rattle.model.specs.Paths.{IsPath, is_name};
-ghost use Rattle.model.specs.Derivations.{is_text, is_variable, has_texts, ascend, is_derivation_path, has_sound_paths, has_sound_builder, is_key_character, is_digit, is_key, keys_of, value_of, is_derivation_name, is_there, has_sound_environment, IsDerivation, name_of};
+ghost use Rattle.model.specs.Derivations.{is_text, is_variable, has_texts, ascend, is_derivation_path, has_sound_paths, has_sound_builder, is_key_character, is_key, keys_of, value_of, is_derivation_name, is_there, has_sound_environment, is_derivation, IsDerivation, name_of};
+ghost use Rattle.model.specs.Characters.{is_digit};
 ghost use Rattle.model.specs.declared.refusal.Refusal.TheVariants.{BadDerivation};
 ghost use Rattle.aterm.specs.Parts.{derivation_of};
 
@@ -52,9 +53,10 @@ impl Derivation {
     ///
     /// [`Refusal::BadDerivation`] comes exactly where they are no derivation's: paths and keys stand in the order of bytes, each once, the inputs are derivation files, and strings, keys, `name` and `out` are as the format has them. It takes no memory.
     pub fn new(parts: Parts) -> Result<Derivation, Refusal>
-        ensures { let d = derivation_of parts in MatchResult result
+        ensures derivation { let d = derivation_of parts in MatchResult result
             (λ r. (r ≡ d) × IsDerivation d)
             (λ e. (e ≡ BadDerivation) × (IsDerivation d → ⊥)) }
+        ensures test { is_ok result ≡ is_derivation (derivation_of parts) }
     {
         if has_texts(&parts)
             && has_sound_paths(&parts)
@@ -71,6 +73,7 @@ impl Derivation {
     pub fn parts(&self) -> &Parts
         ensures parts { derivation_of result.now ≡ self.now }
         ensures derivation { IsDerivation self.now }
+        ensures passes { is_derivation self.now ≡ true }
     {
         &self.parts
     }

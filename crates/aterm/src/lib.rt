@@ -2,6 +2,7 @@
 #![tactic(auto)]
 
 mod derivation;
+mod laws;
 mod read;
 #[cfg(test)]
 mod tests;
@@ -9,6 +10,7 @@ mod text;
 mod write;
 
 pub use derivation::{Derivation, Parts};
+pub use laws::{derivations_pass, reading_is_exact};
 pub use read::parse;
 pub use text::Text;
 pub use write::{print, print_with_inputs};

@@ -1,11 +1,11 @@
 //! Reading a derivation's text.
 
-ghost use Rattle.std.specs.Prelude.{◌≡◌, IfOk, MatchResult, []};
+ghost use Rattle.std.specs.Prelude.{◌≡◌, IfOk, MatchResult, Some, []};
 ghost use Rattle.model.specs.Derivations.{derivation_text, IsDerivation, IsOnlyDerivation};
-ghost use Rattle.aterm.specs.Reading.{tag_at, escaped_at, character_at, string_at, member_at, members_at, variable_at, variables_at, derivation_at};
+ghost use Rattle.model.specs.DerivationTexts.{tag_at, escaped_at, character_at, string_at, member_at, members_at, variable_at, variables_at, derivation_at, derivation_of_text};
 ghost use Rattle.aterm.specs.Parts.{derivation_of};
 ghost use Rattle.aterm.specs.Strings.{derivation_read};
-ghost use Rattle.aterm.specs.Refused.{AreNoPaths, HasNoPaths, IsRefused};
+ghost use Rattle.aterm.specs.Refused.{AreNoPaths, HasNoPaths, IsRefused, IsNotRead};
 ghost use Rattle.aterm.specs.Gives.{Gives};
 
 use crate::derivation::{Derivation, Parts};
@@ -61,7 +61,7 @@ impl From<ReadError> for Refusal {
 }
 
 // What follows this tag.
-#[tactic(auto, unfolding(crate::specs::Reading::tag_at))]
+#[tactic(auto, unfolding(model::specs::DerivationTexts::tag_at))]
 fn expect<'a>(bytes: &'a [u8], tag: &[u8]) -> Result<&'a [u8], ReadError>
     ensures { Gives (λ r. r.now) result (tag_at tag.now bytes.now) }
 {
@@ -72,7 +72,7 @@ fn expect<'a>(bytes: &'a [u8], tag: &[u8]) -> Result<&'a [u8], ReadError>
 }
 
 // The character that the letter behind a backslash stands for, and what follows it.
-#[tactic(auto, unfolding(crate::specs::Reading::escaped_at))]
+#[tactic(auto, unfolding(model::specs::DerivationTexts::escaped_at))]
 fn read_escaped(bytes: &[u8]) -> Result<(u8, &[u8]), ReadError>
     ensures { Gives (λ r. (r.0, r.1.now)) result (escaped_at bytes.now) }
 {
@@ -89,7 +89,7 @@ fn read_escaped(bytes: &[u8]) -> Result<(u8, &[u8]), ReadError>
 }
 
 // A character of a string, and what follows it.
-#[tactic(auto, unfolding(crate::specs::Reading::character_at))]
+#[tactic(auto, unfolding(model::specs::DerivationTexts::character_at))]
 fn read_character(bytes: &[u8]) -> Result<(u8, &[u8]), ReadError>
     ensures { Gives (λ r. (r.0, r.1.now)) result (character_at [] bytes.now) }
 {
@@ -105,7 +105,7 @@ fn read_character(bytes: &[u8]) -> Result<(u8, &[u8]), ReadError>
 }
 
 // The string behind this tag.
-#[tactic(auto, unfolding(crate::specs::Reading::string_at))]
+#[tactic(auto, unfolding(model::specs::DerivationTexts::string_at))]
 fn read_string<'a>(
     alloc: Global,
     bytes: &'a [u8],
@@ -127,7 +127,7 @@ fn read_string<'a>(
 }
 
 // A string between two tags, behind a separator.
-#[tactic(auto, unfolding(crate::specs::Reading::member_at))]
+#[tactic(auto, unfolding(model::specs::DerivationTexts::member_at))]
 fn read_member<'a>(
     alloc: Global,
     bytes: &'a [u8],
@@ -145,7 +145,7 @@ fn read_member<'a>(
 }
 
 // Strings, each between two tags, behind a tag that ends with the opening bracket.
-#[tactic(auto, unfolding(crate::specs::Reading::members_at))]
+#[tactic(auto, unfolding(model::specs::DerivationTexts::members_at))]
 fn read_members<'a>(
     alloc: Global,
     bytes: &'a [u8],
@@ -172,7 +172,7 @@ fn read_members<'a>(
 }
 
 // A variable's key and value, behind a separator.
-#[tactic(auto, unfolding(crate::specs::Reading::variable_at))]
+#[tactic(auto, unfolding(model::specs::DerivationTexts::variable_at))]
 fn read_variable<'a>(
     alloc: Global,
     bytes: &'a [u8],
@@ -188,7 +188,7 @@ fn read_variable<'a>(
 }
 
 // Variables, behind a tag that ends with the opening bracket.
-#[tactic(auto, unfolding(crate::specs::Reading::variables_at))]
+#[tactic(auto, unfolding(model::specs::DerivationTexts::variables_at))]
 fn read_variables<'a>(
     alloc: Global,
     bytes: &'a [u8],
@@ -223,7 +223,7 @@ struct Strings {
 }
 
 // The strings of a whole text.
-#[tactic(auto, unfolding(crate::specs::Reading::derivation_at))]
+#[tactic(auto, unfolding(model::specs::DerivationTexts::derivation_at))]
 fn read_strings(alloc: Global, text: &[u8]) -> Result<Strings, ReadError>
     ensures { Gives derivation_read result (derivation_at text.now) }
 {
@@ -287,6 +287,9 @@ pub fn parse(alloc: Global, text: &[u8]) -> Result<Derivation, Refusal>
         (λ d. IsDerivation d × (derivation_text d ≡ text.now))
         (IsRefused text.now) }
     ensures only { IfOk result (IsOnlyDerivation text.now) }
+    ensures same { MatchResult result
+        (λ d. derivation_of_text text.now ≡ Some d)
+        (IsNotRead text.now) }
 {
     let strings = read_strings(alloc, text)?;
     let parts = read_parts(alloc, strings)?;

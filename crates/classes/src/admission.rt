@@ -98,8 +98,8 @@ fn file_name(alloc: Global, derivation: &Derivation) -> Result<Name, Refusal>
     Ok(Name::new(alloc, &name)?)
 }
 
-// The path of a derivation's file.
-fn path_of(alloc: Global, derivation: &Derivation) -> Result<StorePath, Refusal>
+/// The path of a derivation's file: of the kind `text`, over the digest of its text, with the paths that it refers to and a name that ends in `.drv` (Nix Reference Manual, "Complete Store Path Calculation"). The one error is [`Refusal::Memory`].
+pub fn path_of(alloc: Global, derivation: &Derivation) -> Result<StorePath, Refusal>
     ensures { MatchResult result
         (λ path. path ≡ derivation_path derivation.now)
         (λ e. e ≡ Memory) }
@@ -125,10 +125,14 @@ fn class_path(
     make_path(alloc, &Kind::OutputClass, masked, &name)
 }
 
-/// What a desk will know of a derivation: the path of its file, its class, and the digest of its masked text, that is of its text with each input's path replaced by the digest of that input's masked text.
-///
-/// [`Refusal::MissingInput`] comes exactly where an input or a source is not known, else [`Refusal::RankTooHigh`] where the rank would be over 64. [`Refusal::Memory`] may stand in place of each answer, only where memory was refused.
-pub fn admit(alloc: Global, derivation: &Derivation, known: &Known) -> Result<Admitted, Refusal>
+/// What a desk will know of a derivation whose path is at hand, as [`admit`] tells it.
+pub fn admit_at(
+    alloc: Global,
+    derivation: &Derivation,
+    path: StorePath,
+    known: &Known,
+) -> Result<Admitted, Refusal>
+    requires path { path ≡ derivation_path derivation.now }
     ensures { let answer = admit known.now derivation.now in MatchResult result
         (λ admitted. answer ≡ Ok admitted)
         (λ e. (e ≡ Memory) ⊎ (answer ≡ Err e)) }
@@ -149,8 +153,20 @@ pub fn admit(alloc: Global, derivation: &Derivation, known: &Known) -> Result<Ad
         rank: greatest + 1,
     };
     Ok(Admitted {
-        path: path_of(alloc, derivation)?,
+        path,
         class,
         masked,
     })
+}
+
+/// What a desk will know of a derivation: the path of its file, its class, and the digest of its masked text, that is of its text with each input's path replaced by the digest of that input's masked text.
+///
+/// [`Refusal::MissingInput`] comes exactly where an input or a source is not known, else [`Refusal::RankTooHigh`] where the rank would be over 64. [`Refusal::Memory`] may stand in place of each answer, only where memory was refused.
+pub fn admit(alloc: Global, derivation: &Derivation, known: &Known) -> Result<Admitted, Refusal>
+    ensures { let answer = admit known.now derivation.now in MatchResult result
+        (λ admitted. answer ≡ Ok admitted)
+        (λ e. (e ≡ Memory) ⊎ (answer ≡ Err e)) }
+{
+    let path = path_of(alloc, derivation)?;
+    admit_at(alloc, derivation, path, known)
 }

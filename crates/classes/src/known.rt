@@ -1,30 +1,35 @@
 //! What a desk knows.
 
-ghost use Rattle.std.specs.Prelude.{◌≡◌, [], ◌∷◌, ◌++◌, MatchResult, option_copied};
+ghost use Rattle.std.specs.Prelude.{◌≡◌, None, false, [], ◌∷◌, ◌++◌, MatchResult, option_copied, length};
 ghost use Rattle.model.specs.Classes.{known_at, is_one_of};
 ghost use Rattle.model.specs.declared.refusal.Refusal.TheVariants.{Memory};
 
 use crate::class::Admitted;
+use indexmap::{IndexMap, IndexSet};
 use model::Refusal;
 use std::alloc::Global;
 use std::marker::Model;
 use storepath::StorePath;
 
-/// What one desk knows: its derivations, and the paths of its sources.
+/// What one desk knows: its derivations by their paths, and the paths of its sources, the oldest
+/// first.
 ///
-/// A look-up goes over all of them. A desk has at most 1,024 of each.
+/// Looking a path up takes the same time however much is known. The hashers have a fixed seed: a desk is one user's own, and nobody else puts paths there.
 #[derive(Drop)]
 pub struct Known {
-    derivations: Vec<Admitted>,
-    sources: Vec<StorePath>,
+    derivations: IndexMap<Vec<u8>, Admitted>,
+    sources: IndexSet<Vec<u8>>,
 }
 
 impl Model for Known {
     ghost use Rattle.model.specs.Classes.{Known as KnownValue};
+    ghost use Rattle.classes.specs.Entries.{AreKeyed, admissions_of, paths_of};
 
     ghost Value = { KnownValue };
 
-    ghost view = { λ a. record { derivations = a.derivations.items; sources = a.sources.items } };
+    ghost view = { λ a. record { derivations = admissions_of a.derivations.entries; sources = paths_of a.sources.keys } };
+
+    ghost invariant = { λ a. AreKeyed a.derivations.entries };
 }
 
 impl Known {
@@ -33,28 +38,48 @@ impl Known {
         ensures { result ≡ record { derivations = []; sources = [] } }
     {
         Known {
-            derivations: Vec::new(alloc),
-            sources: Vec::new(alloc),
+            derivations: IndexMap::new(alloc),
+            sources: IndexSet::new(alloc),
         }
     }
 
-    /// One derivation more. The one error is [`Refusal::Memory`], and changes nothing.
-    pub fn add_derivation(&mut self, admitted: Admitted) -> Result<(), Refusal>
+    /// How many derivations there are.
+    pub fn derivation_count(&self) -> usize
+        ensures { result ≡ length self.now.derivations }
+    {
+        self.derivations.len()
+    }
+
+    /// How many sources there are.
+    pub fn source_count(&self) -> usize
+        ensures { result ≡ length self.now.sources }
+    {
+        self.sources.len()
+    }
+
+    /// One derivation more, whose path is not known yet. The one error is [`Refusal::Memory`], and
+    /// changes nothing.
+    pub fn add_derivation(&mut self, alloc: Global, admitted: Admitted) -> Result<(), Refusal>
+        requires absent { known_at self.old admitted.path ≡ None }
         ensures { MatchResult result
             (λ _. self.new ≡ record self.old { derivations = self.old.derivations ++ admitted ∷ [] })
             (λ e. (e ≡ Memory) × (self.new ≡ self.old)) }
     {
-        self.derivations.push(admitted)?;
+        let path = Vec::from_slice(alloc, admitted.path().bytes())?;
+        let _none = self.derivations.insert(path, admitted)?;
         Ok(())
     }
 
-    /// One source more. The one error is [`Refusal::Memory`], and changes nothing.
-    pub fn add_source(&mut self, path: StorePath) -> Result<(), Refusal>
+    /// One source more, whose path is not known yet. The one error is [`Refusal::Memory`], and
+    /// changes nothing.
+    pub fn add_source(&mut self, alloc: Global, path: &StorePath) -> Result<(), Refusal>
+        requires absent { is_one_of self.old.sources path.now ≡ false }
         ensures { MatchResult result
-            (λ _. self.new ≡ record self.old { sources = self.old.sources ++ path ∷ [] })
+            (λ _. self.new ≡ record self.old { sources = self.old.sources ++ path.now ∷ [] })
             (λ e. (e ≡ Memory) × (self.new ≡ self.old)) }
     {
-        self.sources.push(path)?;
+        let path = Vec::from_slice(alloc, path.bytes())?;
+        let _is_new = self.sources.insert(path)?;
         Ok(())
     }
 
@@ -62,13 +87,13 @@ impl Known {
     pub fn derivation(&self, path: &StorePath) -> Option<&Admitted>
         ensures { option_copied result ≡ known_at self.now path.now }
     {
-        self.derivations.iter().find(|a| a.path() == path)
+        self.derivations.get(path.bytes())
     }
 
     /// Whether the path is a source's.
     pub fn has_source(&self, path: &StorePath) -> bool
         ensures { result ≡ is_one_of self.now.sources path.now }
     {
-        self.sources.contains(path)
+        self.sources.contains(path.bytes())
     }
 }

@@ -7,6 +7,6 @@ mod known;
 #[cfg(test)]
 mod tests;
 
-pub use admission::admit;
+pub use admission::{admit, admit_at, path_of};
 pub use class::{Admitted, Class};
 pub use known::Known;

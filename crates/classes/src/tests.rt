@@ -72,13 +72,13 @@ fn classes_of_derivations(rt: HostRuntime) -> Result<(), Fail> {
         (TWO, TWO_PATH, TWO_CLASS, 2, TWO_MASKED),
         (THREE, THREE_PATH, THREE_CLASS, 3, THREE_MASKED),
     ];
-    known.add_source(read_path(alloc, TWO_PATH)?)?;
+    known.add_source(alloc, &read_path(alloc, TWO_PATH)?)?;
     for (text, path, class, rank, masked) in rows {
         if rank == 2 {
             assert!(rt; is_refused(alloc, &known, text, Refusal::MissingInput)?);
             let source = read_path(alloc, SOURCE)?;
             assert!(rt; !known.has_source(&source));
-            known.add_source(source)?;
+            known.add_source(alloc, &source)?;
         }
         let new = admitted(alloc, &known, text)?;
         assert_eq!(rt; new.path().bytes(), path);
@@ -88,7 +88,7 @@ fn classes_of_derivations(rt: HostRuntime) -> Result<(), Fail> {
             hex::encode(alloc, new.masked().as_slice())?.as_str(),
             masked
         );
-        known.add_derivation(new.clone()?)?;
+        known.add_derivation(alloc, new.clone()?)?;
         let found = known.derivation(new.path()).ok_or("unknown")?;
         assert_eq!(rt; found.class().clone()?.path().bytes(), class);
     }
@@ -119,7 +119,7 @@ fn ranks_up_to_64(rt: HostRuntime) -> Result<(), Fail> {
         let new = admitted(alloc, &known, &link(alloc, &input, number)?)?;
         assert_eq!(rt; u32::from(new.class().rank()), number);
         input = Vec::from_slice(alloc, new.path().bytes())?;
-        known.add_derivation(new)?;
+        known.add_derivation(alloc, new)?;
     }
     let last = link(alloc, &input, 65)?;
     assert!(rt; is_refused(alloc, &known, &last, Refusal::RankTooHigh)?);

@@ -1,13 +1,16 @@
 -- A user's replies are those of the run without the events of those whom he never reaches.
-use Rattle.std.proofs.Common.{◌≡◌, ℕ, Bool, true, false, ◌⊎◌, inl, inr, refl, sym, ◌∙◌, ap, subst, List, [], ◌∷◌, Option, Some, None, Ok, Err}
-use Rattle.std.specs.Prelude.{◌&&◌, filter, bytes_eq, if◌then◌else◌}
+use Rattle.std.proofs.Common.{◌≡◌, ℕ, Bool, true, false, ◌⊎◌, inl, inr, refl, sym, ◌∙◌, ap, subst, List, [], ◌∷◌, length, Option, Some, None, Result, Ok, Err}
+use Rattle.std.specs.Prelude.{◌&&◌, nat_le, filter, bytes_eq, if◌then◌else◌}
 use Rattle.std.specs.List.{list_any}
 use Rattle.model.specs.declared.refusal.Refusal.{Refusal}
-use Rattle.model.specs.declared.refusal.Refusal.TheVariants.{Quota, NotHeld}
+use Rattle.model.specs.declared.refusal.Refusal.TheVariants.{Quota, TooLarge, BadDerivation, NotHeld}
+use Rattle.model.specs.Derivations as derivations
+use Rattle.model.specs.DerivationTexts.{derivation_of_text}
+use Rattle.model.specs.Classes.{Admission, known_at, derivation_path, admit}
 use Rattle.model.specs.Paths.{source_path}
 use Rattle.model.specs.Reach.{is_among}
-use Rattle.model.specs.Worlds.{Desk, World, nothing, Setup, is_user, is_within, has_source, with_source, held_at}
-use Rattle.model.specs.Steps.{Request, AddSource, Fetch, Event, Reply, Path, Content, reaches, Sight, sight_of, News, Quiet, Outcome, becomes, need, room, heard, outcome, outcome_of, reply_of, desk_after, after, answers, replies_to, replies}
+use Rattle.model.specs.Worlds.{Desk, World, nothing, Setup, is_user, is_within, has_source, with_source, held_at, known_of, with_derivation}
+use Rattle.model.specs.Steps.{Request, AddSource, AddDerivation, Fetch, Event, Reply, Path, Content, longest_derivation, told_of, admitted, admit_new, reaches, Sight, sight_of, News, Quiet, Outcome, becomes, need, room, heard, outcome, outcome_of, reply_of, desk_after, after, answers, replies_to, replies}
 use Rattle.model.specs.Striking.{asks_to_trust, gives_trust, ever, strike}
 use Rattle.model.proofs.BoolLemmas.{either, or_cases, or_left, or_right, both, both_parts, same_bytes, bytes_same}
 use Rattle.model.proofs.ReachLemmas.{leads-IsLeast}
@@ -32,6 +35,17 @@ fits_need setup old r why (Some x) next f = f x
 becomes_fits : (setup : Setup) (old : List ℕ → Bool) (r : Request) (d : Desk) (reply : Reply) → d.trusted ≡ old → TrustFits setup old r (becomes d reply)
 becomes_fits setup old r d reply e y t = inl (subst (λ (f : List ℕ → Bool). f y ≡ true) e t)
 
+room_fits : (setup : Setup) (old : List ℕ → Bool) (r : Request) (d : Desk) (reply : Reply) → d.trusted ≡ old → TrustFits setup old r (room setup d reply)
+room_fits setup old r d reply e = fits_if setup (is_within setup d) old r (becomes d reply) (Err Quota) (becomes_fits setup old r d reply e) tt
+
+admitted_fits : (setup : Setup) (r : Request) (d : Desk) (o : Result Admission Refusal) → TrustFits setup d.trusted r (admitted setup d o)
+admitted_fits setup r d (Ok a) = room_fits setup d.trusted r (with_derivation a d) (told_of a) refl
+admitted_fits setup r d (Err why) = tt
+
+admit_new_fits : (setup : Setup) (r : Request) (d : Desk) (derivation : derivations.Derivation) (o : Option Admission) → TrustFits setup d.trusted r (admit_new setup d derivation o)
+admit_new_fits setup r d derivation (Some a) = becomes_fits setup d.trusted r d (told_of a) refl
+admit_new_fits setup r d derivation None = admitted_fits setup r d (admit (known_of d) derivation)
+
 outcome_fits : (setup : Setup) (s : Sight) (r : Request) → TrustFits setup s.desk.trusted r (outcome setup s r)
 unfolding outcome
 outcome_fits setup s (AddSource name tree) =
@@ -41,7 +55,13 @@ outcome_fits setup s (AddSource name tree) =
     let d : Desk = with_source (record { path = path; tree = tree }) s.desk in
     fits_if setup (has_source path s.desk) old r (becomes s.desk (Path path)) (room setup d (Path path))
     (becomes_fits setup old r s.desk (Path path) refl)
-    (fits_if setup (is_within setup d) old r (becomes d (Path path)) (Err Quota) (becomes_fits setup old r d (Path path) refl) tt)
+    (room_fits setup old r d (Path path) refl)
+outcome_fits setup s (AddDerivation text) =
+    let r : Request = AddDerivation text in
+    let old : List ℕ → Bool = s.desk.trusted in
+    let next : derivations.Derivation → Outcome = λ derivation. admit_new setup s.desk derivation (known_at (known_of s.desk) (derivation_path derivation)) in
+    fits_if setup (nat_le (length text) longest_derivation) old r (need BadDerivation (derivation_of_text text) next) (Err TooLarge)
+    (fits_need setup old r BadDerivation (derivation_of_text text) next (λ derivation. admit_new_fits setup r s.desk derivation (known_at (known_of s.desk) (derivation_path derivation)))) tt
 outcome_fits setup s (Fetch path) =
     fits_need setup s.desk.trusted (Fetch path) NotHeld (held_at path s.desk) (λ tree. becomes s.desk (Content tree))
     (λ tree. becomes_fits setup s.desk.trusted (Fetch path) s.desk (Content tree) refl)

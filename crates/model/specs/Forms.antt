@@ -9,7 +9,7 @@ use Rattle.model.specs.Paths.{is_name, IsPath}
 use Rattle.model.specs.Worlds.{is_user_name, are_users}
 use Rattle.model.specs.Steps.{Request}
 use Rattle.model.specs.Steps as steps
-use Rattle.model.specs.Lines.{split, filled}
+use Rattle.model.specs.Lines.{Told, split, cut_at, filled}
 
 -- ---- words
 
@@ -64,16 +64,19 @@ FirstIll (word ∷ words) why = IsIll word why ⊎ (IsWell word × FirstIll word
 -- what a line asks for its user
 pub data Wish : Type 0 where
   ToAddSource : (name tree : List ℕ) → Wish
+  ToAddDerivation : (text : List ℕ) → Wish
   ToFetch : (path : List ℕ) → Wish
 
--- its words, from the left
+-- its words, from the left; any text may be handed in as a derivation's
 abbrev pub words_of_wish : Wish → List Word
 words_of_wish (ToAddSource name tree) = NameWord name ∷ TreeWord tree ∷ []
+words_of_wish (ToAddDerivation text) = []
 words_of_wish (ToFetch path) = PathWord path ∷ []
 
 -- the request that the words of a wish make
 abbrev pub IsRequestOf : Wish → Request → Type 0
 IsRequestOf (ToAddSource name word) request = (tree : Tree) × IsTreeText word tree × (request ≡ steps.AddSource name tree)
+IsRequestOf (ToAddDerivation text) request = request ≡ steps.AddDerivation text
 IsRequestOf (ToFetch path) request = request ≡ steps.Fetch path
 
 -- ---- forms
@@ -110,9 +113,26 @@ worded_form begun (word ∷ words) =
 abbrev pub words_form : Bool → List (List ℕ) → Form
 words_form begun words = if list_any is_empty_word words then Refuses BadLine else worded_form begun words
 
+-- the user and the text of a line `U derivation TEXT`, where the text is all that stands behind the second blank
+abbrev pub behind_verb : List ℕ → Option (List ℕ × List ℕ) → Option (List ℕ × List ℕ)
+behind_verb user None = None
+behind_verb user (Some r) = if bytes_eq r.0 (codes "derivation") then Some (user, r.1) else None
+
+abbrev pub behind_user : Option (List ℕ × List ℕ) → Option (List ℕ × List ℕ)
+behind_user None = None
+behind_user (Some r) = behind_verb r.0 (cut_at 32 r.1)
+
+abbrev pub derivation_in : List ℕ → Option (List ℕ × List ℕ)
+derivation_in text = behind_user (cut_at 32 text)
+
+abbrev pub begun_form : List ℕ → Option (List ℕ × List ℕ) → Form
+begun_form text None = words_form true (split 32 text)
+begun_form text (Some r) = if bytes_eq r.0 (codes "users") then Refuses BadLine else Asks r.0 (ToAddDerivation r.1)
+
+-- a line whose expansions are made
 abbrev pub text_form : Bool → Option (List ℕ) → Form
 text_form begun None = Refuses BadLine
-text_form begun (Some text) = words_form begun (split 32 text)
+text_form begun (Some text) = if begun then begun_form text (derivation_in text) else words_form false (split 32 text)
 
 -- the most bytes of a line, without its newline and before its expansions
 abbrev pub longest_line : ℕ
@@ -126,10 +146,10 @@ is_quiet (b ∷ bytes) = b == 35
 abbrev pub is_printable : ℕ → Bool
 is_printable b = nat_le 32 b && nat_le b 126
 
--- a line after others, of which one of users was answered ok or none, and whose replies had these paths
-abbrev pub line_form : Bool → List (Option (List ℕ)) → List ℕ → Form
-line_form begun paths line =
+-- a line after others, of which one of users was answered ok or none, and whose replies told this
+abbrev pub line_form : Bool → List Told → List ℕ → Form
+line_form begun told line =
     if nat_lt longest_line (length line) then Refuses TooLarge
     else if is_quiet line then Silent
     else if not (list_all is_printable line) then Refuses BadLine
-    else text_form begun (filled paths line)
+    else text_form begun (filled told line)

@@ -2,10 +2,12 @@ pub mod Refusals
 pub mod Archives
 pub mod TreeCode
 pub mod TreeTexts
+pub mod Characters
 pub mod Paths
 pub mod Derivations
-pub mod Classes
+pub mod DerivationTexts
 pub mod Reach
+pub mod Classes
 pub mod Worlds
 pub mod Steps
 pub mod Striking

@@ -1,6 +1,6 @@
 -- Store paths and what they are made of.
 -- Nix Reference Manual, "Store Path" and "Complete Store Path Calculation"; Dolstra 2006, section 5.2; digests are FIPS 180-4's SHA-256.
-use Rattle.std.specs.Prelude.{◌≡◌, ℕ, zero, suc, ◌+◌, ◌*◌, ◌/◌, ◌%◌, ◌==◌, nat_lt, nat_le, Bool, ◌&&◌, ◌||◌, not, true, if◌then◌else◌, List, [], ◌∷◌, ◌++◌, length, codes, bit_xor, slice_index, Contains}
+use Rattle.std.specs.Prelude.{◌≡◌, ℕ, zero, suc, ◌+◌, ◌*◌, ◌/◌, ◌%◌, ◌==◌, nat_lt, nat_le, Bool, ◌&&◌, ◌||◌, not, true, if◌then◌else◌, List, [], ◌∷◌, ◌++◌, length, take, drop, codes, bytes_eq, bit_xor, slice_index, Contains}
 use Rattle.std.specs.List.{list_any, list_all}
 use Rattle.sha2.specs.Sha256.{sha256}
 use Rattle.hex.specs.Hex.{encode_lower}
@@ -106,6 +106,18 @@ pub record IsPath (text : List ℕ) : Type 0 where
   pub folded : IsFolded hash_part
   pub named : is_name name ≡ true
   pub is : text ≡ path_text hash_part name
+
+-- whether a character is a digit of base 32
+abbrev pub is_digit_32 : ℕ → Bool
+is_digit_32 c = list_any (λ digit. digit == c) digits_32
+
+-- whether a text is 32 digits, a dash and a name
+unfoldable pub is_hash_part_and_name : List ℕ → Bool
+is_hash_part_and_name text = bytes_eq (take 1 (drop 32 text)) (codes "-") && (list_all is_digit_32 (take 32 text) && is_name (drop 33 text))
+
+-- whether a text is a store path's: 160 bits are 32 digits of 5 bits, so that any digits are a hash part
+unfoldable pub is_path : List ℕ → Bool
+is_path text = bytes_eq (take 11 text) (codes "/nix/store/") && is_hash_part_and_name (drop 11 text)
 
 -- ---- clashes
 

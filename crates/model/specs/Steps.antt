@@ -1,15 +1,19 @@
 -- What each event does to the desks, and what it is answered.
-use Rattle.std.specs.Prelude.{ℕ, Bool, if◌then◌else◌, List, [], ◌∷◌, bytes_eq, Option, Some, None, Result, Ok, Err}
+use Rattle.std.specs.Prelude.{ℕ, nat_le, Bool, if◌then◌else◌, List, [], ◌∷◌, length, bytes_eq, Option, Some, None, Result, Ok, Err}
 use Rattle.model.specs.declared.refusal.Refusal.{Refusal}
-use Rattle.model.specs.declared.refusal.Refusal.TheVariants.{UnknownUser, Quota, NotHeld}
+use Rattle.model.specs.declared.refusal.Refusal.TheVariants.{UnknownUser, Quota, TooLarge, BadDerivation, NotHeld}
 use Rattle.model.specs.Archives.{Tree}
 use Rattle.model.specs.Paths.{source_path}
+use Rattle.model.specs.Derivations as derivations
+use Rattle.model.specs.DerivationTexts.{derivation_of_text}
+use Rattle.model.specs.Classes.{Admission, known_at, derivation_path, admit}
 use Rattle.model.specs.Reach.{leads}
-use Rattle.model.specs.Worlds.{Setup, is_user, Desk, World, nothing, is_within, held_at, has_source, with_source}
+use Rattle.model.specs.Worlds.{Setup, is_user, Desk, World, nothing, is_within, held_at, has_source, with_source, known_of, with_derivation}
 
 -- what a user may ask
 pub data Request : Type 0 where
   AddSource : (name : List ℕ) → (tree : Tree) → Request
+  AddDerivation : (text : List ℕ) → Request
   Fetch : (path : List ℕ) → Request
 
 -- a request and the user who makes it
@@ -20,6 +24,7 @@ pub record Event : Type 0 where
 pub data Reply : Type 0 where
   Done : Reply
   Path : (path : List ℕ) → Reply
+  Derivation : (path class : List ℕ) → Reply
   Content : (tree : Tree) → Reply
   Refused : (why : Refusal) → Reply
 
@@ -83,9 +88,33 @@ add_source setup d name tree =
     let path = source_path tree name in
     if has_source path d then becomes d (Path path) else room setup (with_source (record { path = path; tree = tree }) d) (Path path)
 
+-- the most bytes of a derivation's text
+abbrev pub longest_derivation : ℕ
+longest_derivation = 1048576
+
+-- what is told of a derivation: the path of its file, and that of its class
+abbrev pub told_of : Admission → Reply
+told_of a = Derivation a.path a.class.path
+
+abbrev pub admitted : Setup → Desk → Result Admission Refusal → Outcome
+admitted setup d (Ok a) = room setup (with_derivation a d) (told_of a)
+admitted setup d (Err why) = Err why
+
+-- a derivation that the user has already is only told
+abbrev pub admit_new : Setup → Desk → derivations.Derivation → Option Admission → Outcome
+admit_new setup d derivation (Some a) = becomes d (told_of a)
+admit_new setup d derivation None = admitted setup d (admit (known_of d) derivation)
+
+abbrev pub add_derivation : Setup → Desk → List ℕ → Outcome
+add_derivation setup d text =
+    check TooLarge (nat_le (length text) longest_derivation)
+    (need BadDerivation (derivation_of_text text) (λ derivation.
+    admit_new setup d derivation (known_at (known_of d) (derivation_path derivation))))
+
 -- what a request does, by what its user sees
 unfoldable pub outcome : Setup → Sight → Request → Outcome
 outcome setup s (AddSource name tree) = add_source setup s.desk name tree
+outcome setup s (AddDerivation text) = add_derivation setup s.desk text
 outcome setup s (Fetch path) = need NotHeld (held_at path s.desk) (λ tree. becomes s.desk (Content tree))
 
 -- the outcome of an event

@@ -4,7 +4,8 @@ use Rattle.model.specs.declared.refusal.Refusal.{Refusal}
 use Rattle.model.specs.declared.refusal.Refusal.TheVariants.{BadUsers}
 use Rattle.model.specs.Refusals.{text_of_refusal}
 use Rattle.model.specs.TreeTexts.{tree_text_of}
-use Rattle.model.specs.Steps.{Event, Reply, Done, Path, Content, Refused}
+use Rattle.model.specs.Steps.{Event, Reply, Done, Path, Derivation, Content, Refused}
+use Rattle.model.specs.Lines.{Told, nothing_told}
 use Rattle.model.specs.Forms.{Form, Silent, Names, Refuses, Asks, UserWord, words_of_wish, IsRequestOf, AreWell, FirstIll, line_form}
 
 -- what a line got: nothing, ok since it names the users, a refusal by the session itself, or the reply to the event that was made of it
@@ -16,18 +17,19 @@ pub data Row : Type 0 where
 
 -- ---- what is kept of earlier lines
 
--- whether a line of users was answered ok, whether one was refused, and for each line the path in its reply
+-- whether a line of users was answered ok, whether one was refused, and for each line what its reply told
 pub record Seen : Type 0 where
   pub begun : Bool
   pub refused : Bool
-  pub paths : List (Option (List ℕ))
+  pub told : List Told
 
 abbrev pub fresh : Seen
-fresh = record { begun = false; refused = false; paths = [] }
+fresh = record { begun = false; refused = false; told = [] }
 
-abbrev pub path_in : Reply → Option (List ℕ)
-path_in (Path path) = Some path
-path_in reply = None
+abbrev pub told_in : Reply → Told
+told_in (Path path) = record { path = Some path; class = None }
+told_in (Derivation path class) = record { path = Some path; class = Some class }
+told_in reply = nothing_told
 
 abbrev pub is_bad_users : Refusal → Bool
 is_bad_users BadUsers = true
@@ -35,10 +37,10 @@ is_bad_users why = false
 
 -- what is kept once a line has got its row
 abbrev pub after : Seen → Row → Seen
-after seen Quiet = record seen { paths = seen.paths ++ None ∷ [] }
-after seen (Named users) = record { begun = true; refused = seen.refused; paths = seen.paths ++ None ∷ [] }
-after seen (Declined why) = record { begun = seen.begun; refused = is_bad_users why || seen.refused; paths = seen.paths ++ None ∷ [] }
-after seen (Asked event reply) = record seen { paths = seen.paths ++ path_in reply ∷ [] }
+after seen Quiet = record seen { told = seen.told ++ nothing_told ∷ [] }
+after seen (Named users) = record { begun = true; refused = seen.refused; told = seen.told ++ nothing_told ∷ [] }
+after seen (Declined why) = record { begun = seen.begun; refused = is_bad_users why || seen.refused; told = seen.told ++ nothing_told ∷ [] }
+after seen (Asked event reply) = record seen { told = seen.told ++ told_in reply ∷ [] }
 
 abbrev pub after_all : Seen → List Row → Seen
 after_all seen [] = seen
@@ -48,7 +50,7 @@ after_all seen (row ∷ rows) = after_all (after seen row) rows
 
 -- the form of a line after earlier ones
 abbrev pub form_of : Seen → List ℕ → Form
-form_of seen line = line_form seen.begun seen.paths line
+form_of seen line = line_form seen.begun seen.told line
 
 -- a line of that form gets that row: a wish is refused for its first ill-formed word, and makes an event where there is none
 abbrev pub Gets : Form → Row → Type 0
@@ -71,6 +73,7 @@ Talks seen (line ∷ lines) (row ∷ rows) = (seen.refused ≡ false) × Gets (f
 abbrev pub reply_text : Reply → List ℕ
 reply_text Done = codes "ok"
 reply_text (Path path) = codes "path " ++ path
+reply_text (Derivation path class) = codes "drv " ++ path ++ codes " class " ++ class
 reply_text (Content tree) = codes "tree " ++ tree_text_of tree
 reply_text (Refused why) = codes "refused " ++ text_of_refusal why
 

@@ -1,17 +1,13 @@
 -- The store as private desks: each user has his own, and nothing is shared.
 -- Dolstra 2006, section 6.2, has the table of realisations of one user; the limits are this project's.
-use Rattle.std.specs.Prelude.{ℕ, nat_lt, nat_le, Bool, ◌&&◌, ◌||◌, false, true, not, List, [], ◌∷◌, ◌++◌, length, filter, find, sum_by, bytes_eq, option_map, Option}
+use Rattle.std.specs.Prelude.{ℕ, nat_lt, nat_le, Bool, ◌&&◌, ◌||◌, false, true, not, List, [], ◌∷◌, ◌++◌, length, filter, find, map, sum_by, bytes_eq, option_map, Option}
 use Rattle.std.specs.List.{list_any, list_all}
 use Rattle.model.specs.Archives.{Tree, nar}
+use Rattle.model.specs.Characters.{is_lower_case, is_digit}
 use Rattle.model.specs.Reach.{is_among}
+use Rattle.model.specs.Classes.{Admission, Known}
 
 -- ---- users
-
-abbrev pub is_lower_case : ℕ → Bool
-is_lower_case b = nat_le 97 b && nat_le b 122
-
-abbrev pub is_digit : ℕ → Bool
-is_digit b = nat_le 48 b && nat_le b 57
 
 abbrev pub begins_with_letter : List ℕ → Bool
 begins_with_letter [] = false
@@ -45,17 +41,18 @@ pub record Source : Type 0 where
   pub path : List ℕ
   pub tree : Tree
 
--- all that one user has: whom he trusts, and his sources, the oldest first
+-- all that one user has: whom he trusts, his sources, and what is known of his derivations, the oldest first
 pub record Desk : Type 0 where
   pub trusted : List ℕ → Bool
   pub sources : List Source
+  pub derivations : List Admission
 
 -- for each user, by his name, a desk
 abbrev pub World : Type 0
 World = List ℕ → Desk
 
 abbrev pub empty_desk : Desk
-empty_desk = record { trusted = λ _. false; sources = [] }
+empty_desk = record { trusted = λ _. false; sources = []; derivations = [] }
 
 -- all desks are empty
 abbrev pub nothing : World
@@ -76,13 +73,16 @@ first_of_each (s ∷ ss) = s ∷ filter (λ t. not (bytes_eq t.path s.path)) (fi
 unfoldable pub charge_of : Desk → ℕ
 charge_of d = sum_by (λ s. length (nar s.tree)) (first_of_each (held d))
 
--- the most sources of a user
+-- the most sources of a user, and the most derivations
 abbrev pub most_sources : ℕ
 most_sources = 1024
 
+abbrev pub most_derivations : ℕ
+most_derivations = 1024
+
 -- whether a desk is within every limit
 unfoldable pub is_within : Setup → Desk → Bool
-is_within setup d = nat_le (length d.sources) most_sources && nat_le (charge_of d) setup.charge
+is_within setup d = nat_le (length d.sources) most_sources && (nat_le (length d.derivations) most_derivations && nat_le (charge_of d) setup.charge)
 
 -- the tree at a path among sources
 abbrev pub tree_at : List ℕ → List Source → Option Tree
@@ -98,3 +98,13 @@ has_source path d = list_any (λ s. bytes_eq s.path path) d.sources
 -- a desk with one source more
 abbrev pub with_source : Source → Desk → Desk
 with_source s d = record d { sources = d.sources ++ s ∷ [] }
+
+-- ---- derivations
+
+-- what a desk knows: its derivations, and the paths of its sources
+abbrev pub known_of : Desk → Known
+known_of d = record { derivations = d.derivations; sources = map (λ s. s.path) d.sources }
+
+-- a desk with one derivation more
+abbrev pub with_derivation : Admission → Desk → Desk
+with_derivation a d = record d { derivations = d.derivations ++ a ∷ [] }

@@ -22,6 +22,9 @@ use hex::FromHexError;
 use model::Refusal;
 use std::alloc::Global;
 
+// So many bytes are looked at together.
+const BLOCK: usize = 64;
+
 /// The tree of a tree text.
 ///
 /// The recursion is at most 64 deep.
@@ -244,11 +247,37 @@ fn read_digits(alloc: Global, bytes: &[u8]) -> Result<(Vec<u8>, &[u8]), ReadErro
     Ok((decoded, rest))
 }
 
-// How many digits stand in front.
+// How many digits stand in front. As long as a whole block is digits it is passed at once; so no more
+// than a block is looked at past the last digit.
 fn digit_count(bytes: &[u8]) -> usize
     ensures { result ≡ length (digits_in_front bytes.now) }
 {
+    let mut rest = bytes;
+    while let Some((block, others)) = rest.split_first_chunk::<BLOCK>() {
+        if !are_digits(block) {
+            break;
+        }
+        rest = others;
+    }
+    bytes.len() - rest.len() + single_digit_count(rest)
+}
+
+// The same, a byte at a time.
+fn single_digit_count(bytes: &[u8]) -> usize
+    ensures { result ≡ length (digits_in_front bytes.now) }
+{
     bytes.iter().take_while(|byte| is_digit(**byte)).count()
+}
+
+// Whether all bytes of a block are digits. It looks at each of them, so that several are taken at once.
+fn are_digits(block: &[u8; BLOCK]) -> bool
+    ensures { result ≡ list_all is_lower_digit block.now }
+{
+    let mut are_digits = true;
+    for byte in block {
+        are_digits = are_digits & is_digit(*byte);
+    }
+    are_digits
 }
 
 // Whether a byte is a digit of base 16 in lower case.

@@ -1,12 +1,14 @@
 -- What a desk holds in the table, and what one source more adds to it.
 use Rattle.std.proofs.Common.{◌≡◌, ℕ, suc, ◌+◌, ◌≤◌, Bool, true, false, inl, inr, List, [], ◌∷◌, ◌++◌, length, refl, sym, ◌∙◌, ap, subst, arith, Option, Some, None, Err}
-use Rattle.std.specs.Prelude.{is_some, All, filter, not, unwrap_or, bytes_eq, nat_le, ◌&&◌}
+use Rattle.std.specs.Prelude.{is_some, All, filter, map, not, unwrap_or, bytes_eq, nat_le, ◌&&◌}
 use Rattle.std.specs.List.{list_any}
 use Rattle.std.proofs.lemmas.List.Elements.{All-nil, All-head, All-tail, All-weaker, All-push}
 use Rattle.std.proofs.lemmas.List.Sums.{sum_by_push}
 use Rattle.std.proofs.lemmas.List.{length-append}
+use Rattle.std.proofs.lemmas.Bool.Decides.{nat_tests}
 use Rattle.model.specs.Archives.{Tree, Link, nar}
-use Rattle.model.specs.Worlds.{Source, Desk, Setup, tree_at, first_of_each, charge_of, is_within, has_source, with_source}
+use Rattle.model.specs.Classes.{Known, Admission}
+use Rattle.model.specs.Worlds.{Source, Desk, Setup, tree_at, first_of_each, charge_of, is_within, has_source, with_source, known_of, with_derivation}
 use Rattle.model.specs.Steps.{add_source, becomes, Path}
 use Rattle.model.specs.declared.refusal.Refusal.TheVariants.{Quota}
 use Rattle.model.proofs.BoolLemmas.{either, same_bytes}
@@ -30,14 +32,16 @@ known_kept old new later paths known = All-weaker (IsKnown old) (IsKnown new) (�
 
 pub desk_kept : (old new : List Source) (limit : ℕ) (d : Holdings) → Extends old new → IsSound old limit d → desk_of new d ≡ desk_of old d
 desk_kept old new limit d later sound =
-    let P : List Source → Desk = λ sources. record { trusted = λ _. false; sources = sources } in
-    ap P (same_sources old new later d.paths sound.known)
+    let P : List Source → Desk = λ sources. record { trusted = λ _. false; sources = sources; derivations = d.known.derivations } in
+    ap P (same_sources old new later d.known.sources sound.known)
 
 pub sound_kept : (old new : List Source) (limit : ℕ) (d : Holdings) → Extends old new → IsSound old limit d → IsSound new limit d
 sound_kept old new limit d later sound = record {
   charged = rw (desk_kept old new limit d later sound) sound.charged;
   within = sound.within;
-  known = known_kept old new later d.paths sound.known;
+  few_sources = sound.few_sources;
+  few_derivations = sound.few_derivations;
+  known = known_kept old new later d.known.sources sound.known;
 }
 
 -- ---- what is held
@@ -106,20 +110,25 @@ charge_of-with_source d s h = rw (first_of_each-push d.sources s h) (sum_by_push
 -- a desk that holds one path more
 pub record HoldsMore (table : List Source) (before after : Holdings) (s : Source) : Type 0 where
   pub there : tree_at s.path table ≡ Some s.tree
-  pub paths : after.paths ≡ before.paths ++ s.path ∷ []
+  pub known : after.known ≡ record before.known { sources = before.known.sources ++ s.path ∷ [] }
   pub charge : after.charge ≡ before.charge + length (nar s.tree)
 
 pub desk_of-more : (old new : List Source) (limit : ℕ) (before after : Holdings) (s : Source) → Extends old new → IsSound old limit before → HoldsMore new before after s → desk_of new after ≡ with_source s (desk_of old before)
 desk_of-more old new limit before after s later sound more =
-    let P : List Source → Desk = λ sources. record { trusted = λ _. false; sources = sources } in
-    ap P (ap (sources_at new) more.paths ∙ sources_at-push new before.paths s.path s.tree more.there ∙ ap (λ xs. xs ++ s ∷ []) (same_sources old new later before.paths sound.known))
+    let D : Known → Desk = λ known. record { trusted = λ _. false; sources = sources_at new known.sources; derivations = known.derivations } in
+    let P : List Source → Desk = λ sources. record { trusted = λ _. false; sources = sources; derivations = before.known.derivations } in
+    let paths : List (List ℕ) = before.known.sources in
+    ap D more.known ∙ ap P (sources_at-push new paths s.path s.tree more.there ∙ ap (λ xs. xs ++ s ∷ []) (same_sources old new later paths sound.known))
 
-pub sound-more : (old new : List Source) (limit : ℕ) (before after : Holdings) (s : Source) → Extends old new → IsSound old limit before → HoldsMore new before after s → list_any (λ p. bytes_eq p s.path) before.paths ≡ false → before.charge + length (nar s.tree) ≤ limit → IsSound new limit after
-sound-more old new limit before after s later sound more absent within = record {
+pub sound-more : (old new : List Source) (limit : ℕ) (before after : Holdings) (s : Source) → Extends old new → IsSound old limit before → HoldsMore new before after s → list_any (λ p. bytes_eq p s.path) before.known.sources ≡ false
+    → length before.known.sources + 1 ≤ 1024 → before.charge + length (nar s.tree) ≤ limit → IsSound new limit after
+sound-more old new limit before after s later sound more absent few within = record {
   charged =
-      rw (desk_of-more old new limit before after s later sound more, charge_of-with_source (desk_of old before) s (sym (held_found old before.paths s.path) ∙ absent), ← sound.charged) more.charge;
+      rw (desk_of-more old new limit before after s later sound more, charge_of-with_source (desk_of old before) s (sym (held_found old before.known.sources s.path) ∙ absent), ← sound.charged) more.charge;
   within = rw more.charge within;
-  known = rw more.paths (All-push (IsKnown new) before.paths s.path (known_kept old new later before.paths sound.known) (rw more.there refl));
+  few_sources = omega (arith, few, length-append before.known.sources (s.path ∷ []), ap (λ k. length k.sources) more.known);
+  few_derivations = rw more.known sound.few_derivations;
+  known = rw more.known (All-push (IsKnown new) before.known.sources s.path (known_kept old new later before.known.sources sound.known) (rw more.there refl));
 }
 
 -- ---- what the model says of it
@@ -138,19 +147,62 @@ length-sources_at table [] = refl
 length-sources_at table (p ∷ paths) = ap (λ n. suc n) (length-sources_at table paths)
 
 -- whether a desk with one source more is within its limits
-pub is_within-more : (users : List (List ℕ)) (table : List Source) (limit : ℕ) (d : Holdings) (s : Source) → IsSound table limit d → list_any (λ p. bytes_eq p s.path) d.paths ≡ false
-    → is_within (record { users = users; charge = limit }) (with_source s (desk_of table d)) ≡ (nat_le (length d.paths + 1) 1024 && nat_le (d.charge + length (nar s.tree)) limit)
+pub is_within-more : (users : List (List ℕ)) (table : List Source) (limit : ℕ) (d : Holdings) (s : Source) → IsSound table limit d → list_any (λ p. bytes_eq p s.path) d.known.sources ≡ false
+    → is_within (record { users = users; charge = limit }) (with_source s (desk_of table d)) ≡ (nat_le (length d.known.sources + 1) 1024 && nat_le (d.charge + length (nar s.tree)) limit)
 unfolding is_within
 is_within-more users table limit d s sound absent =
-    let count : length (sources_at table d.paths ++ s ∷ []) ≡ length d.paths + 1 = rw (length-append (sources_at table d.paths) (s ∷ []), length-sources_at table d.paths) refl in
-    rw (count, charge_of-with_source (desk_of table d) s (sym (held_found table d.paths s.path) ∙ absent), ← sound.charged) refl
+    let count : length (sources_at table d.known.sources ++ s ∷ []) ≡ length d.known.sources + 1 = rw (length-append (sources_at table d.known.sources) (s ∷ []), length-sources_at table d.known.sources) refl in
+    let few : nat_le (length d.known.derivations) 1024 ≡ true = grind (arith, nat_tests, sound.few_derivations) in
+    rw (count, few, charge_of-with_source (desk_of table d) s (sym (held_found table d.known.sources s.path) ∙ absent), ← sound.charged) refl
+
+-- ---- derivations
+
+and_true : (b : Bool) → (b && true) ≡ b
+and_true true = refl
+and_true false = refl
+
+paths_at : (table : List Source) (paths : List (List ℕ)) → map (λ s. s.path) (sources_at table paths) ≡ paths
+paths_at table [] = refl
+paths_at table (p ∷ paths) = ap (λ rest. p ∷ rest) (paths_at table paths)
+
+-- what the model's desk knows is what the desk knows
+pub known_of-desk_of : (table : List Source) (d : Holdings) → known_of (desk_of table d) ≡ d.known
+known_of-desk_of table d =
+    let K : List (List ℕ) → Known = λ paths. record { derivations = d.known.derivations; sources = paths } in
+    ap K (paths_at table d.known.sources)
+
+-- a desk with one derivation more
+abbrev pub holds_derivation : Admission → Holdings → Holdings
+holds_derivation a d = record d { known = record d.known { derivations = d.known.derivations ++ a ∷ [] } }
+
+pub sound-derivation : (table : List Source) (limit : ℕ) (d : Holdings) (a : Admission) → IsSound table limit d → length d.known.derivations + 1 ≤ 1024 → IsSound table limit (holds_derivation a d)
+unfolding charge_of
+sound-derivation table limit d a sound few = record {
+  charged = sound.charged;
+  within = sound.within;
+  few_sources = sound.few_sources;
+  few_derivations = omega (arith, few, length-append d.known.derivations (a ∷ []));
+  known = sound.known;
+}
+
+-- whether a desk with one derivation more is within its limits
+pub is_within-derivation : (users : List (List ℕ)) (table : List Source) (limit : ℕ) (d : Holdings) (a : Admission) → IsSound table limit d
+    → is_within (record { users = users; charge = limit }) (with_derivation a (desk_of table d)) ≡ nat_le (length d.known.derivations + 1) 1024
+unfolding is_within charge_of
+is_within-derivation users table limit d a sound =
+    let count : length (d.known.derivations ++ a ∷ []) ≡ length d.known.derivations + 1 = length-append d.known.derivations (a ∷ []) in
+    let few : nat_le (length (sources_at table d.known.sources)) 1024 ≡ true = grind (arith, nat_tests, sound.few_sources, length-sources_at table d.known.sources) in
+    let charge : nat_le (charge_of (desk_of table d)) limit ≡ true = grind (arith, nat_tests, sound.within, sound.charged) in
+    rw (few, count, charge) (and_true (nat_le (length d.known.derivations + 1) 1024))
 
 -- ---- empty desks
 
 pub empty_sound : (table : List Source) (limit : ℕ) (d : Holdings) → IsEmpty d → IsSound table limit d
 unfolding charge_of first_of_each
 empty_sound table limit d e = record {
-  charged = rw (e.paths, e.charge) refl;
+  charged = rw (e.known, e.charge) refl;
   within = rw e.charge (omega arith);
-  known = rw e.paths (All-nil (IsKnown table));
+  few_sources = rw e.known (omega arith);
+  few_derivations = rw e.known (omega arith);
+  known = rw e.known (All-nil (IsKnown table));
 }

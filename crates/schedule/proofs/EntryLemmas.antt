@@ -2,14 +2,13 @@
 use Rattle.std.proofs.Common.{◌≡◌, ℕ, true, false, inl, inr, List, [], ◌∷◌, ◌++◌, refl, ap, sym, ◌∙◌}
 use Rattle.std.specs.Prelude.{bytes_eq}
 use Rattle.std.specs.Global.{Vec}
-use Rattle.std.specs.List.{list_any}
 use Rattle.std.specs.Map.{lookup}
 use Rattle.std.proofs.lemmas.Slice.Eq.{bytes_eq-Decides}
 use Rattle.std.proofs.lemmas.Bool.Decides.{same_from_decides}
 use Rattle.model.specs.Archives.{Tree}
 use Rattle.model.specs.Worlds.{tree_at}
 use Rattle.model.proofs.BoolLemmas.{either}
-use Rattle.schedule.specs.Stored.{source_of, sources_of, paths_of}
+use Rattle.schedule.specs.Stored.{source_of, sources_of}
 
 pub bytes_eq_sym : (a b : List ℕ) → bytes_eq a b ≡ bytes_eq b a
 bytes_eq_sym a b = same_from_decides (bytes_eq a b) (bytes_eq b a) (bytes_eq-Decides a b) (λ t. sym ((bytes_eq-Decides b a).0 t), λ e. (bytes_eq-Decides b a).1 (sym e))
@@ -25,12 +24,3 @@ tree_at_entries path (e ∷ entries) = elim (either (bytes_eq path e.0.items)) [
 pub sources_of-push : (entries : List (Vec ℕ × Tree)) (e : Vec ℕ × Tree) → sources_of (entries ++ e ∷ []) ≡ sources_of entries ++ source_of e ∷ []
 sources_of-push [] e = refl
 sources_of-push (x ∷ entries) e = ap (λ rest. source_of x ∷ rest) (sources_of-push entries e)
-
--- a path is among the paths where its key is among the keys
-pub held_keys : (path : List ℕ) (keys : List (Vec ℕ)) → list_any (λ k. bytes_eq path k.items) keys ≡ list_any (λ p. bytes_eq p path) (paths_of keys)
-held_keys path [] = refl
-held_keys path (k ∷ keys) = rw (bytes_eq_sym path k.items, held_keys path keys) refl
-
-pub paths_of-push : (keys : List (Vec ℕ)) (key : Vec ℕ) → paths_of (keys ++ key ∷ []) ≡ paths_of keys ++ key.items ∷ []
-paths_of-push [] key = refl
-paths_of-push (k ∷ keys) key = ap (λ rest. k.items ∷ rest) (paths_of-push keys key)

@@ -7,7 +7,7 @@ use Rattle.sha2.specs.Sha256.{sha256}
 use Rattle.model.specs.Archives.{nar}
 use Rattle.model.specs.Paths.{Source as SourceKind, fingerprint, source_path, NoClash}
 use Rattle.model.specs.Worlds.{Source, Setup, Desk, World, is_user}
-use Rattle.model.specs.Steps.{Request, AddSource, Fetch, Event, Reply, Refused, Sight, Outcome, becomes, outcome, outcome_of, reply_of, desk_after, reaches, after}
+use Rattle.model.specs.Steps.{Request, AddSource, AddDerivation, Fetch, Event, Reply, Refused, Sight, Outcome, becomes, outcome, outcome_of, reply_of, desk_after, reaches, after}
 use Rattle.model.specs.HashedTexts.{texts_of}
 use Rattle.model.specs.declared.refusal.Refusal.{Refusal}
 use Rattle.model.specs.declared.refusal.Refusal.TheVariants.{UnknownUser, Clash}
@@ -30,13 +30,7 @@ on_ok_any (Ok x) P p = p
 on_ok_any (Err e) P p = search rules
 
 pub kept_sound : (old new : Stored) (before after : Holdings) (limit : ℕ) → IsSound old.sources limit before → IsKept old new before after → IsSound new.sources limit after
-kept_sound old new before after limit sound kept = record {
-  charged =
-      let D : List Source → List (List ℕ) → ℕ = λ sources paths. Rattle.model.specs.Worlds.charge_of (desk_of sources (record { paths = paths; charge = 0; room = 0 })) in
-      rw (kept.charge, kept.sources, kept.paths) sound.charged;
-  within = rw kept.charge sound.within;
-  known = rw (kept.sources, kept.paths) sound.known;
-}
+kept_sound old new before after limit sound kept = rw (kept.desk, kept.sources) sound
 
 pub kept_later : (old new : Stored) (before after : Holdings) → IsKept old new before after → Extends old.sources new.sources
 kept_later old new before after kept path h = rw kept.sources refl
@@ -131,6 +125,7 @@ stored_hashed texts sight (AddSource name tree) sources hashed inside =
       inner = All-head (Contains texts) (nar tree) (fingerprint SourceKind (sha256 (nar tree)) name ∷ []) inside;
       outer = All-head (Contains texts) (fingerprint SourceKind (sha256 (nar tree)) name) [] rest;
     })
+stored_hashed texts sight (AddDerivation text) sources hashed inside = hashed
 stored_hashed texts sight (Fetch path) sources hashed inside = hashed
 
 -- ---- clashes
@@ -144,6 +139,7 @@ not_taken differ texts clean sources hashed sight (AddSource name tree) inside t
     let outer : Contains texts (fingerprint SourceKind (sha256 (nar tree)) name) =
     All-head (Contains texts) (fingerprint SourceKind (sha256 (nar tree)) name) [] (All-tail (Contains texts) (nar tree) (fingerprint SourceKind (sha256 (nar tree)) name ∷ []) inside) in
     taken.other (differ texts clean (nar taken.had) (nar tree) had.name name had.inner inner had.outer outer (sym had.is)).0
+not_taken differ texts clean sources hashed sight (AddDerivation text) inside taken = taken
 not_taken differ texts clean sources hashed sight (Fetch path) inside taken = taken
 
 clash_is : (why : Refusal) → is_clash_refusal why ≡ true → why ≡ Clash
@@ -156,4 +152,4 @@ no_clash_result (Err why) none = elim (either (is_clash_refusal why)) [ inl t �
 
 -- what is kept stands for the same desk
 pub kept_desk : (old new : Stored) (before now : Holdings) → IsKept old new before now → desk_of new.sources now ≡ desk_of old.sources before
-kept_desk old new before now kept = rw (kept.sources, kept.paths) refl
+kept_desk old new before now kept = rw (kept.sources, kept.desk) refl

@@ -6,6 +6,7 @@ use Rattle.std.proofs.lemmas.List.Elements.{All-head, All-tail}
 use Rattle.std.proofs.lemmas.List.Quantifiers.{position-Some}
 use Rattle.std.proofs.lemmas.Bool.Decides.{nat_tests}
 use Rattle.model.specs.Reach.{is_among}
+use Rattle.model.specs.Classes.{Known}
 use Rattle.model.specs.Worlds.{Source, Desk, World, empty_desk, tree_at}
 use Rattle.model.proofs.BoolLemmas.{either, same_bytes}
 use Rattle.schedule.specs.Stored.{Holdings}
@@ -108,8 +109,8 @@ empty_world table [] desks all u = refl
 empty_world table (name ∷ names) [] all u = refl
 empty_world table (name ∷ names) (d ∷ desks) all u = elim (either (bytes_eq name u)) [
   | inl t ↦
-      let P : List (List ℕ) → Desk = λ paths. record { trusted = λ _. false; sources = sources_at table paths } in
-      rw t (ap P (All-head IsEmpty d desks all).paths)
+      let D : Known → Desk = λ known. record { trusted = λ _. false; sources = sources_at table known.sources; derivations = known.derivations } in
+      rw t (ap D (All-head IsEmpty d desks all).known)
   | inr f ↦ rw f (empty_world table names desks (All-tail IsEmpty d desks all) u)
 ]
 
@@ -118,9 +119,9 @@ pub among_stored : (table : List Source) (limit : ℕ) (names : List (List ℕ))
 among_stored table limit [] desks u path sound h = cc
 among_stored table limit (name ∷ names) [] u path sound h = cc
 among_stored table limit (name ∷ names) (d ∷ desks) u path sound h = elim (either (bytes_eq name u)) [
-  | inl t ↦ rw t (elim (either (list_any (λ p. bytes_eq p path) d.paths)) [
-    | inl there ↦ sym (held_same table d.paths path (All-head (IsSound table limit) d desks sound).known there)
-    | inr none ↦ let found = rw (t, not_held table d.paths path none) at h in cc
+  | inl t ↦ rw t (elim (either (list_any (λ p. bytes_eq p path) d.known.sources)) [
+    | inl there ↦ sym (held_same table d.known.sources path (All-head (IsSound table limit) d desks sound).known there)
+    | inr none ↦ let found = rw (t, not_held table d.known.sources path none) at h in cc
   ])
   | inr f ↦ rw f (among_stored table limit names desks u path (All-tail (IsSound table limit) d desks sound) (rw f at h))
 ]

@@ -11,10 +11,10 @@ use Rattle.schedule.specs.declared.user.User.{User}
 use Rattle.schedule.specs.declared.limits.Limits.{Limits}
 use Rattle.schedule.specs.declared.state.Core.{Core}
 use Rattle.schedule.specs.declared.events.Request.{Request}
-use Rattle.schedule.specs.declared.events.Request.TheVariants.{AddSource, Fetch}
+use Rattle.schedule.specs.declared.events.Request.TheVariants.{AddSource, AddDerivation, Fetch}
 use Rattle.schedule.specs.declared.events.Event.{Event}
 use Rattle.schedule.specs.declared.events.Reply.{Reply}
-use Rattle.schedule.specs.declared.events.Reply.TheVariants.{Done, Path, Content, Refused}
+use Rattle.schedule.specs.declared.events.Reply.TheVariants.{Done, Path, Derivation, Content, Refused}
 use Rattle.schedule.specs.Stored.{Stored, Holdings, put_once}
 use Rattle.schedule.specs.Sound.{desk_of, IsHashed}
 
@@ -22,6 +22,7 @@ use Rattle.schedule.specs.Sound.{desk_of, IsHashed}
 
 abbrev pub request_of : Request → steps.Request
 request_of (AddSource name tree) = steps.AddSource name tree
+request_of (AddDerivation text) = steps.AddDerivation text
 request_of (Fetch path) = steps.Fetch path
 
 abbrev pub event_of : Event → steps.Event
@@ -30,6 +31,7 @@ event_of e = record { actor = e.actor; request = request_of e.request }
 abbrev pub reply_of : Reply → steps.Reply
 reply_of Done = steps.Done
 reply_of (Path path) = steps.Path path
+reply_of (Derivation path class) = steps.Derivation path class
 reply_of (Content tree) = steps.Content tree
 reply_of (Refused why) = steps.Refused why
 
@@ -102,12 +104,12 @@ stored_in core = core.table.sources
 -- what the table and a desk hold is as it was
 pub record IsKept (table_old table_new : Stored) (desk_old desk_new : Holdings) : Type 0 where
   pub sources : table_new.sources ≡ table_old.sources
-  pub paths : desk_new.paths ≡ desk_old.paths
-  pub charge : desk_new.charge ≡ desk_old.charge
+  pub desk : desk_new ≡ desk_old
 
 -- what is stored once an event was not refused
 abbrev pub stored_after_request : steps.Request → List Source → List Source
 stored_after_request (steps.AddSource name tree) sources = put_once (record { path = source_path tree name; tree = tree }) sources
+stored_after_request (steps.AddDerivation text) sources = sources
 stored_after_request (steps.Fetch path) sources = sources
 
 abbrev pub stored_after : steps.Event → List Source → List Source

@@ -5,19 +5,19 @@ use Rattle.std.specs.Coded.{Coded, code_by, coded×, coded_ℕ, coded_list}
 use Rattle.model.specs.Archives.{Tree, nar}
 use Rattle.model.specs.TreeCode.{tree_code}
 use Rattle.model.specs.Paths.{source_path}
+use Rattle.model.specs.Classes.{Known}
 use Rattle.model.specs.Worlds.{Source, tree_at}
-use Rattle.model.specs.Steps.{Request, AddSource, Fetch}
+use Rattle.model.specs.Steps.{Request, AddSource, AddDerivation, Fetch}
 
 -- the trees of the table with their paths, in order, and for how many more there is room
 pub record Stored : Type 0 where
   pub sources : List Source
   pub room : ℕ
 
--- the paths of a desk's sources, in order, their charge in bytes, and for how many more paths there is room
+-- what a desk knows, and the charge of its sources in bytes
 pub record Holdings : Type 0 where
-  pub paths : List (List ℕ)
+  pub known : Known
   pub charge : ℕ
-  pub room : ℕ
 
 -- the sources of a map's entries
 abbrev pub source_of : Vec ℕ × Tree → Source
@@ -25,10 +25,6 @@ source_of e = record { path = e.0.items; tree = e.1 }
 
 abbrev pub sources_of : List (Vec ℕ × Tree) → List Source
 sources_of entries = map source_of entries
-
--- the paths of a set's keys
-abbrev pub paths_of : List (Vec ℕ) → List (List ℕ)
-paths_of keys = map (λ k. k.items) keys
 
 -- sources with one more, unless its path is there
 abbrev pub put_once : Source → List Source → List Source
@@ -43,6 +39,7 @@ pub record IsTaken (sources : List Source) (path : List ℕ) (tree : Tree) : Typ
 -- the request is to put a tree where another is
 abbrev pub IsTakenFor : List Source → Request → Type 0
 IsTakenFor sources (AddSource name tree) = IsTaken sources (source_path tree name) tree
+IsTakenFor sources (AddDerivation text) = ⊥
 IsTakenFor sources (Fetch path) = ⊥
 
 abbrev source_code : Coded Source

@@ -1,6 +1,6 @@
 //! Adding a source.
 
-ghost use Rattle.std.specs.Prelude.{◌≡◌, false, ◌↔◌, ◌+◌, ◌<◌, ◌≤◌, ℕ, List, length, OnErr, OnOk, IfOk, IfErr, IsTrue, Err, Some};
+ghost use Rattle.std.specs.Prelude.{◌≡◌, false, ◌↔◌, ◌+◌, ◌<◌, ◌≤◌, ℕ, List, length, OnErr, OnOk, IfOk, IfErr, IsTrue, Err, Some, None, if◌then◌else◌};
 ghost use Rattle.model.specs.Paths.{source_path};
 ghost use Rattle.model.specs.Worlds.{Setup, tree_at};
 ghost use Rattle.model.specs.Steps.{AddSource as AddSourceRequest};
@@ -32,31 +32,36 @@ fn path_of_source(alloc: Global, name: &Name, tree: &Tree) -> Result<StorePath, 
     make_path(alloc, &Kind::Source, &digest, name)
 }
 
-/// Stores a tree at its path, unless it is there already.
-fn store(table: &mut Table, path: &StorePath, key: Vec<u8>, tree: Tree) -> Result<(), Refusal>
-    requires key { key.items ≡ path.now }
-    requires room { 0 < table.old.room }
-    ensures stored { OnOk result (table.new.sources ≡ put_once (record { path = path.now; tree = tree }) table.old.sources) }
-    ensures there { OnOk result (tree_at path.now table.new.sources ≡ Some tree) }
-    ensures taken { IfErr result (λ e. (e ≡ Clash) × IsTaken table.old.sources path.now tree) }
-    ensures kept { OnErr result (table.new.sources ≡ table.old.sources) }
+/// Whether a tree is stored at its path already. Another one there is a clash.
+fn is_stored(table: &Table, path: &StorePath, tree: &Tree) -> Result<bool, Refusal>
+    ensures stored { IfOk result (λ is. tree_at path.now table.now.sources ≡ (if is then Some tree.now else None)) }
+    ensures taken { IfErr result (λ e. (e ≡ Clash) × IsTaken table.now.sources path.now tree.now) }
 {
     match table.get(path) {
-        Some(had) if had.same(&tree) => Ok(()),
+        Some(had) if had.same(tree) => Ok(true),
         Some(_) => Err(Refusal::Clash),
-        None => {
-            table.put(key, tree);
-            Ok(())
-        }
+        None => Ok(false),
+    }
+}
+
+/// Stores a tree at its path, unless it is there already.
+fn store(table: &mut Table, is_stored: bool, path: Vec<u8>, tree: Tree)
+    requires room { 0 < table.old.room }
+    requires stored { tree_at path.items table.old.sources ≡ (if is_stored then Some tree else None) }
+    ensures stored { table.new.sources ≡ put_once (record { path = path.items; tree = tree }) table.old.sources }
+    ensures there { tree_at path.items table.new.sources ≡ Some tree }
+{
+    if !is_stored {
+        table.put(path, tree);
     }
 }
 
 /// Whether a desk stays within its limits with one source more, whose archive has that many bytes.
 fn has_room(desk: &Desk, limits: Limits, archive: u64) -> bool
     requires { desk.now.charge ≤ limits.charge }
-    ensures { IsTrue result ↔ ((length desk.now.paths + 1 ≤ 1024) × (desk.now.charge + archive ≤ limits.charge)) }
+    ensures { IsTrue result ↔ ((length desk.now.known.sources + 1 ≤ 1024) × (desk.now.charge + archive ≤ limits.charge)) }
 {
-    desk.len() < MOST_SOURCES && archive <= limits.charge - desk.charge()
+    desk.known().source_count() < MOST_SOURCES && archive <= limits.charge - desk.charge()
 }
 
 /// Adds a source to a desk, and to the table where it is new there. All that needs memory comes
@@ -86,11 +91,10 @@ pub(crate) fn add_source(
     if !has_room(desk, limits, archive) {
         return Err(Refusal::Quota);
     }
-    let stored = Vec::from_slice(alloc, path.bytes())?;
-    let held = Vec::from_slice(alloc, path.bytes())?;
+    let is_stored = is_stored(table, &path, &tree)?;
+    let key = Vec::from_slice(alloc, path.bytes())?;
     table.reserve()?;
-    desk.reserve()?;
-    store(table, &path, stored, tree)?;
-    desk.add(held, archive);
+    desk.add_source(alloc, &path, archive)?;
+    store(table, is_stored, key, tree);
     Ok(Reply::Path(path))
 }

@@ -1,47 +1,48 @@
 //! What one user has.
 
-ghost use Rattle.std.specs.Prelude.{◌≡◌, ◌+◌, ◌<◌, ◌^◌, ◌++◌, ◌∷◌, [], false, length, OnOk, bytes_eq};
-ghost use Rattle.std.specs.List.{list_any};
+ghost use Rattle.std.specs.Prelude.{◌≡◌, ◌+◌, ◌<◌, ◌^◌, ◌++◌, ◌∷◌, [], None, false, MatchResult};
+ghost use Rattle.model.specs.Classes.{known_at, is_one_of};
+ghost use Rattle.model.specs.declared.refusal.Refusal.TheVariants.{Memory};
 
-use indexmap::IndexSet;
-use std::alloc::{AllocError, Global};
+use classes::{Admitted, Known};
+use model::Refusal;
+use std::alloc::Global;
 use std::marker::Model;
 use storepath::StorePath;
 
-/// The paths of a user's sources, the oldest first, and the sum of their archive lengths in bytes.
-/// Its hasher has a fixed seed: only the user himself puts paths here, and at most 1,024.
+/// What a user's desk knows of his derivations and sources, and the sum of the archive lengths of
+/// the sources, in bytes.
 #[derive(Drop)]
 pub(crate) struct Desk {
-    paths: IndexSet<Vec<u8>>,
+    known: Known,
     charge: u64,
 }
 
 impl Model for Desk {
-    ghost use Rattle.schedule.specs.Stored.{Holdings, paths_of};
-    ghost use Rattle.indexmap.specs.IndexSet.{spare};
+    ghost use Rattle.schedule.specs.Stored.{Holdings};
 
     ghost Value = { Holdings };
 
-    ghost view = { λ d. record { paths = paths_of d.paths.keys; charge = d.charge; room = spare d.paths } };
+    ghost view = { λ d. record { known = d.known; charge = d.charge } };
 }
 
 impl Desk {
     /// A desk with nothing on it.
     pub(crate) fn new(alloc: Global) -> Desk
-        ensures paths { result.paths ≡ [] }
+        ensures known { result.known ≡ record { derivations = []; sources = [] } }
         ensures charge { result.charge ≡ 0 }
     {
         Desk {
-            paths: IndexSet::new(alloc),
+            known: Known::new(alloc),
             charge: 0,
         }
     }
 
-    /// How many sources there are.
-    pub(crate) fn len(&self) -> usize
-        ensures { result ≡ length self.now.paths }
+    /// What the desk knows.
+    pub(crate) fn known(&self) -> &Known
+        ensures { result.now ≡ self.now.known }
     {
-        self.paths.len()
+        &self.known
     }
 
     /// The sum of the archive lengths, in bytes.
@@ -53,29 +54,41 @@ impl Desk {
 
     /// Whether a path is that of a source.
     pub(crate) fn holds(&self, path: &StorePath) -> bool
-        ensures { result ≡ list_any (λ p. bytes_eq p path.now) self.now.paths }
+        ensures { result ≡ is_one_of self.now.known.sources path.now }
     {
-        self.paths.contains(path.bytes())
+        self.known.has_source(path)
     }
 
-    /// Makes room for one source more.
-    pub(crate) fn reserve(&mut self) -> Result<(), AllocError>
-        ensures paths { self.new.paths ≡ self.old.paths }
-        ensures charge { self.new.charge ≡ self.old.charge }
-        ensures room { OnOk result (0 < self.new.room) }
-    {
-        self.paths.reserve(1)
-    }
-
-    /// Adds a path that is not there yet, whose archive has so many bytes.
-    pub(crate) fn add(&mut self, path: Vec<u8>, archive: u64)
-        requires absent { list_any (λ p. bytes_eq p path.items) self.old.paths ≡ false }
-        requires room { 0 < self.old.room }
+    /// Adds a source that is not there yet, whose archive has so many bytes. The one error is
+    /// memory, and changes nothing.
+    pub(crate) fn add_source(
+        &mut self,
+        alloc: Global,
+        path: &StorePath,
+        archive: u64,
+    ) -> Result<(), Refusal>
+        requires absent { is_one_of self.old.known.sources path.now ≡ false }
         requires fits { self.old.charge + archive < 2 ^ 64 }
-        ensures paths { self.new.paths ≡ self.old.paths ++ path.items ∷ [] }
-        ensures charge { self.new.charge ≡ self.old.charge + archive }
+        ensures { MatchResult result
+            (λ _. self.new ≡ record { known = record self.old.known { sources = self.old.known.sources ++ path.now ∷ [] }; charge = self.old.charge + archive })
+            (λ e. (e ≡ Memory) × (self.new ≡ self.old)) }
     {
-        let _is_new = self.paths.insert(path).unwrap();
+        self.known.add_source(alloc, path)?;
         self.charge += archive;
+        Ok(())
+    }
+
+    /// Adds a derivation that is not there yet. The one error is memory, and changes nothing.
+    pub(crate) fn add_derivation(
+        &mut self,
+        alloc: Global,
+        admitted: Admitted,
+    ) -> Result<(), Refusal>
+        requires absent { known_at self.old.known admitted.path ≡ None }
+        ensures { MatchResult result
+            (λ _. self.new ≡ record self.old { known = record self.old.known { derivations = self.old.known.derivations ++ admitted ∷ [] } })
+            (λ e. (e ≡ Memory) × (self.new ≡ self.old)) }
+    {
+        self.known.add_derivation(alloc, admitted)
     }
 }

@@ -1,21 +1,24 @@
 //! What users ask, and what they are answered.
 
 use crate::user::User;
+use aterm::Text;
 use model::Refusal;
 use nar::Tree;
 use storepath::{Name, StorePath};
 
 /// What a user may ask.
-#[derive(Drop)]
+#[derive(Clone, Drop)]
 pub enum Request {
     /// To have a tree on his desk as a source of that name. The reply is its path.
     AddSource(Name, Tree),
+    /// To have the derivation of a text on his desk. The reply is its path and its class.
+    AddDerivation(Text),
     /// The tree at a path that he holds.
     Fetch(StorePath),
 }
 
 /// A request, and the user who makes it.
-#[derive(Drop)]
+#[derive(Clone, Drop)]
 pub struct Event {
     /// Who asks, and gets the reply.
     pub actor: User,
@@ -24,12 +27,19 @@ pub struct Event {
 }
 
 /// The answer to one event.
-#[derive(Drop)]
+#[derive(Clone, Drop)]
 pub enum Reply {
     /// It is done, and there is nothing to tell.
     Done,
     /// The path of what was added.
     Path(StorePath),
+    /// The path of the file of the derivation that was added, and the path of its output class.
+    Derivation {
+        /// The path of the derivation's file.
+        path: StorePath,
+        /// The path that names the class.
+        class: StorePath,
+    },
     /// The tree that was asked for.
     Content(Tree),
     /// Why nothing was done.

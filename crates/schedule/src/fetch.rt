@@ -15,7 +15,7 @@ use storepath::StorePath;
 /// The tree at a path that a desk holds.
 #[tactic(auto, unfolding(model::specs::Steps::outcome))]
 pub(crate) fn fetch(table: &Table, desk: &Desk, path: &StorePath) -> Result<Reply, Refusal>
-    requires { All (λ p. is_some (tree_at p table.now.sources) ≡ true) desk.now.paths }
+    requires { All (λ p. is_some (tree_at p table.now.sources) ≡ true) desk.now.known.sources }
     ensures serves { (setup : Setup) → let d = desk_of table.now.sources desk.now in Serves setup d (FetchRequest path.now) d result }
     ensures answered { IfOk result (λ r. is_refused r ≡ false) }
     ensures no_clash { IfErr result (λ why. is_clash_refusal why ≡ false) }

@@ -5,6 +5,7 @@
 #![tactic(auto)]
 
 mod add;
+mod derivations;
 mod desk;
 mod events;
 mod fetch;

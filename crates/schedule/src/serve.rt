@@ -7,6 +7,7 @@ ghost use Rattle.schedule.specs.Sound.{IsSound, Extends, desk_of};
 ghost use Rattle.schedule.specs.Standing.{Serves, IsKept, request_of, stored_after_request, is_refused};
 
 use crate::add::add_source;
+use crate::derivations::add_derivation;
 use crate::desk::Desk;
 use crate::events::{Reply, Request};
 use crate::fetch::fetch;
@@ -35,6 +36,7 @@ pub(crate) fn serve_at(
 {
     match request {
         Request::AddSource(name, tree) => add_source(alloc, table, desk, limits, &name, tree),
+        Request::AddDerivation(text) => add_derivation(alloc, desk, text.bytes()),
         Request::Fetch(path) => fetch(table, desk, &path),
     }
 }

@@ -2,6 +2,7 @@
 //! Nix Reference Manual.
 
 use crate::{Core, Event, LARGEST_CHARGE, Limits, Reply, Request, User, run};
+use aterm::Text;
 use model::Refusal;
 use nar::{Tree, tree_text};
 use std::alloc::Global;
@@ -12,6 +13,19 @@ use storepath::{Name, read_path};
 const EMPTY_A: &[u8] = b"/nix/store/w996igw5fhzp5pmk8g9bfv99is99b0ap-a";
 
 const EMPTY_B: &[u8] = b"/nix/store/nqxj2if4v96ksj1mgsblgc375wcslf83-b";
+
+const Q: &[u8] =
+    b"Derive([(\"out\",\"\",\"\",\"\")],[],[],\"p\",\"nb\",[],[(\"name\",\"q\"),(\"out\",\"\")])";
+
+const Q_TOLD: &[u8] =
+    b"/nix/store/pkrbflyr3x39j953k66zhpvzm8v33szz-q.drv /nix/store/0r94rq0afk6llgbqsdlys3aap5hxq4x6-q";
+
+/// Its one input is `q`.
+const P: &[u8] =
+    b"Derive([(\"out\",\"\",\"\",\"\")],[(\"/nix/store/pkrbflyr3x39j953k66zhpvzm8v33szz-q.drv\",[\"out\"])],[],\"p\",\"nb\",[],[(\"name\",\"p\"),(\"out\",\"\")])";
+
+const P_TOLD: &[u8] =
+    b"/nix/store/9mc48xmx54sgyas21prc1w4a8avqxy59-p.drv /nix/store/lzy2w07x23489jbqa7lxijwgn3r3lv0b-p";
 
 fn users(alloc: Global, names: &[&[u8]]) -> Result<Vec<User>, Fail> {
     let mut users = Vec::new(alloc);
@@ -36,11 +50,22 @@ fn fetch(alloc: Global, actor: &[u8], path: &[u8]) -> Result<Event, Fail> {
     })
 }
 
+fn derivation(alloc: Global, actor: &[u8], text: &[u8]) -> Result<Event, Fail> {
+    Ok(Event {
+        actor: User::new(alloc, actor)?,
+        request: Request::AddDerivation(Text::new(Vec::from_slice(alloc, text)?)),
+    })
+}
+
 /// What a reply says, in the words of its line.
 fn said(alloc: Global, reply: &Reply) -> Result<Vec<u8>, Fail> {
     Ok(match reply {
         Reply::Done => Vec::from_slice(alloc, b"ok")?,
         Reply::Path(path) => Vec::from_slice(alloc, path.bytes())?,
+        Reply::Derivation { path, class } => {
+            let text = format!(in alloc; "{path} {class}")?;
+            Vec::from_slice(alloc, text.as_bytes())?
+        }
         Reply::Content(tree) => tree_text(alloc, tree)?,
         Reply::Refused(refusal) => {
             let text = format!(in alloc; "{refusal}")?;
@@ -115,6 +140,57 @@ fn most_sources(rt: HostRuntime) -> Result<(), Fail> {
     assert_eq!(rt; said(alloc, &over)?.as_slice(), b"13 Quota".as_slice());
     let other = core.step(alloc, source(alloc, b"bob", b"b", b"")?);
     assert_eq!(rt; said(alloc, &other)?.as_slice(), EMPTY_B);
+    Ok(())
+}
+
+#[test]
+fn checks_of_a_derivation(rt: HostRuntime) -> Result<(), Fail> {
+    let alloc = rt.alloc();
+    let hashing = RandomState::new(&rt)?;
+    let names = users(alloc, &[b"alice", b"bob"])?;
+    let limits = Limits { charge: 1 };
+    let mut core = Core::new(alloc, hashing, names, limits)?;
+    let mut long = Vec::new(alloc);
+    long.resize(1_048_577, b'D')?;
+    let steps: [(&[u8], &[u8], &[u8]); 8] = [
+        (b"alice", Q, Q_TOLD),
+        (b"bob", P, b"32 MissingInput"),
+        (b"alice", P, P_TOLD),
+        (b"alice", Q, Q_TOLD),
+        (b"bob", b"", b"31 BadDerivation"),
+        (b"bob", long.as_slice(), b"22 TooLarge"),
+        (b"eve", long.as_slice(), b"11 UnknownUser"),
+        (b"bob", Q, Q_TOLD),
+    ];
+    for (actor, text, told) in steps {
+        let reply = core.step(alloc, derivation(alloc, actor, text)?);
+        assert_eq!(rt; said(alloc, &reply)?.as_slice(), told);
+    }
+    Ok(())
+}
+
+#[test]
+fn most_derivations(rt: HostRuntime) -> Result<(), Fail> {
+    let alloc = rt.alloc();
+    let hashing = RandomState::new(&rt)?;
+    let names = users(alloc, &[b"alice", b"bob"])?;
+    let limits = Limits { charge: 1 };
+    let mut core = Core::new(alloc, hashing, names, limits)?;
+    let mut reply = core.step(alloc, derivation(alloc, b"alice", Q)?);
+    for number in 1..1024u16 {
+        assert!(rt; matches!(reply, Reply::Derivation { .. }));
+        let text = format!(in alloc;
+            "Derive([(\"out\",\"\",\"\",\"\")],[],[],\"p\",\"nb\",[],[(\"name\",\"n{number}\"),(\"out\",\"\")])"
+        )?;
+        reply = core.step(alloc, derivation(alloc, b"alice", text.as_bytes())?);
+    }
+    assert!(rt; matches!(reply, Reply::Derivation { .. }));
+    let over = core.step(alloc, derivation(alloc, b"alice", P)?);
+    assert_eq!(rt; said(alloc, &over)?.as_slice(), b"13 Quota".as_slice());
+    let again = core.step(alloc, derivation(alloc, b"alice", Q)?);
+    assert_eq!(rt; said(alloc, &again)?.as_slice(), Q_TOLD);
+    let other = core.step(alloc, derivation(alloc, b"bob", Q)?);
+    assert_eq!(rt; said(alloc, &other)?.as_slice(), Q_TOLD);
     Ok(())
 }
 

@@ -3,7 +3,8 @@
 ghost use Rattle.std.specs.Prelude.{◌≡◌, IfOk, IfErr, ◌||◌};
 ghost use Rattle.std.specs.List.{list_all};
 ghost use Rattle.model.specs.Reach.{is_among};
-ghost use Rattle.model.specs.Worlds.{is_user_name, are_distinct, are_users, is_lower_case, is_digit, begins_with_letter};
+ghost use Rattle.model.specs.Worlds.{is_user_name, are_distinct, are_users, begins_with_letter};
+ghost use Rattle.model.specs.Characters.{is_lower_case, is_digit};
 ghost use Rattle.model.specs.declared.refusal.Refusal.TheVariants.{Memory};
 
 use model::Refusal;

@@ -6,7 +6,7 @@ use Rattle.model.specs.Steps.{Event}
 use Rattle.model.specs.HashedTexts.{texts_of_event}
 use Rattle.schedule.specs.declared.state.Core.{Core}
 use Rattle.schedule.specs.declared.events.Reply.{Reply}
-use Rattle.schedule.specs.declared.events.Reply.TheVariants.{Done, Path, Content, Refused}
+use Rattle.schedule.specs.declared.events.Reply.TheVariants.{Done, Path, Derivation, Content, Refused}
 use Rattle.schedule.specs.Standing.{world_of, setup_of, reply_of, IsStep, IsUnchanged, HasHashed}
 use Rattle.schedule.specs.Standing as standing
 use Rattle.session.specs.Stepping.{is_memory, is_clash, is_refused, IsAnswer}
@@ -14,18 +14,21 @@ use Rattle.session.specs.Stepping.{is_memory, is_clash, is_refused, IsAnswer}
 memory-same : (r : Reply) → is_memory (reply_of r) ≡ standing.is_memory r
 memory-same Done = refl
 memory-same (Path path) = refl
+memory-same (Derivation path class) = refl
 memory-same (Content tree) = refl
 memory-same (Refused why) = refl
 
 clash-same : (r : Reply) → is_clash (reply_of r) ≡ standing.is_clash r
 clash-same Done = refl
 clash-same (Path path) = refl
+clash-same (Derivation path class) = refl
 clash-same (Content tree) = refl
 clash-same (Refused why) = refl
 
 refused-same : (r : Reply) → is_refused (reply_of r) ≡ standing.is_refused r
 refused-same Done = refl
 refused-same (Path path) = refl
+refused-same (Derivation path class) = refl
 refused-same (Content tree) = refl
 refused-same (Refused why) = refl
 

@@ -55,23 +55,23 @@ module _ {A : Type 0} (R : A → Event → Reply → A → Type 0) (first : A) (
       let e : form_of seen held ≡ form_of (after_all fresh p.rows) p.partial = rw (p.held_is, p.seen_is) (form_of-held (after_all fresh p.rows) p.partial) in
       subst (λ r. Gets r row) e g
 
-  line_number : (now : A) (written : Option (List ℕ)) (input : List ℕ) (seen : Seen) (held : List ℕ) (p : Progress R first now blank written input seen held) → length seen.paths + 1 ≡ 1 + length p.rows
-  line_number now written input seen held p = omega (arith, ap (λ (s : Seen). length s.paths) p.seen_is, length-after_all fresh p.rows)
+  line_number : (now : A) (written : Option (List ℕ)) (input : List ℕ) (seen : Seen) (held : List ℕ) (p : Progress R first now blank written input seen held) → length seen.told + 1 ≡ 1 + length p.rows
+  line_number now written input seen held p = omega (arith, ap (λ (s : Seen). length s.told) p.seen_is, length-after_all fresh p.rows)
 
-  line_text : (now : A) (written written' : Option (List ℕ)) (input : List ℕ) (seen : Seen) (held : List ℕ) (p : Progress R first now blank written input seen held) (row : Row) (n : ℕ) → Appends written written' (take n (row_text (length seen.paths + 1) row)) → Appends blank written' (take (length (text_from 1 p.rows) + n) (text_from 1 (p.rows ++ row ∷ [])))
+  line_text : (now : A) (written written' : Option (List ℕ)) (input : List ℕ) (seen : Seen) (held : List ℕ) (p : Progress R first now blank written input seen held) (row : Row) (n : ℕ) → Appends written written' (take n (row_text (length seen.told + 1) row)) → Appends blank written' (take (length (text_from 1 p.rows) + n) (text_from 1 (p.rows ++ row ∷ [])))
   line_text now written written' input seen held p row n a =
-      let number : length seen.paths + 1 ≡ 1 + length p.rows = line_number now written input seen held p in
+      let number : length seen.told + 1 ≡ 1 + length p.rows = line_number now written input seen held p in
       let b : Appends written written' (take n (row_text (1 + length p.rows) row)) = subst (λ k. Appends written written' (take n (row_text k row))) number a in
       let e : take (length (text_from 1 p.rows) + n) (text_from 1 (p.rows ++ row ∷ [])) ≡ text_from 1 p.rows ++ take n (row_text (1 + length p.rows) row) = ap (take (length (text_from 1 p.rows) + n)) (text-more 1 p.rows row) ∙ take-seam (text_from 1 p.rows) (row_text (1 + length p.rows) row) n in
       subst (λ t. Appends blank written' t) (sym e) (appends-more blank written written' _ _ p.text b)
 
-  line_length : (now : A) (written : Option (List ℕ)) (input : List ℕ) (seen : Seen) (held : List ℕ) (p : Progress R first now blank written input seen held) (row : Row) (n : ℕ) → length (row_text (length seen.paths + 1) row) ≤ n → length (text_from 1 (p.rows ++ row ∷ [])) ≤ length (text_from 1 p.rows) + n
+  line_length : (now : A) (written : Option (List ℕ)) (input : List ℕ) (seen : Seen) (held : List ℕ) (p : Progress R first now blank written input seen held) (row : Row) (n : ℕ) → length (row_text (length seen.told + 1) row) ≤ n → length (text_from 1 (p.rows ++ row ∷ [])) ≤ length (text_from 1 p.rows) + n
   line_length now written input seen held p row n h =
       omega (arith, ap length (text-more 1 p.rows row), length-append (text_from 1 p.rows) (row_text (1 + length p.rows) row), ap (λ k. length (row_text k row)) (line_number now written input seen held p))
 
   -- the line that is held was answered, and a beginning of its text written
-  pub stopped-line : (now next : A) (written written' : Option (List ℕ)) (input : List ℕ) (seen : Seen) (held : List ℕ) (row : Row) (n : ℕ) (more : List ℕ) (why : Refusal) → Progress R first now blank written input seen held → Gets (form_of seen held) row → Link R now row next → Appends written written' (take n (row_text (length seen.paths + 1) row))
-      → (why ≡ BadUsers → ((after seen row).refused ≡ true) × (length (row_text (length seen.paths + 1) row) ≤ n)) → Stopped R first next blank written' (lines_of (input ++ 10 ∷ more)) why
+  pub stopped-line : (now next : A) (written written' : Option (List ℕ)) (input : List ℕ) (seen : Seen) (held : List ℕ) (row : Row) (n : ℕ) (more : List ℕ) (why : Refusal) → Progress R first now blank written input seen held → Gets (form_of seen held) row → Link R now row next → Appends written written' (take n (row_text (length seen.told + 1) row))
+      → (why ≡ BadUsers → ((after seen row).refused ≡ true) × (length (row_text (length seen.told + 1) row) ≤ n)) → Stopped R first next blank written' (lines_of (input ++ 10 ∷ more)) why
   stopped-line now next written written' input seen held row n more why p g l a u = record {
     rows = p.rows ++ row ∷ [];
     done = p.done ++ p.partial ∷ [];
@@ -85,9 +85,9 @@ module _ {A : Type 0} (R : A → Event → Reply → A → Type 0) (first : A) (
   }
 
   -- and all of its text
-  pub progress-line : (now next : A) (written written' : Option (List ℕ)) (input : List ℕ) (seen seen' : Seen) (held : List ℕ) (row : Row) → Progress R first now blank written input seen held → Gets (form_of seen held) row → Link R now row next → seen' ≡ after seen row → Appends written written' (row_text (length seen.paths + 1) row) → seen'.refused ≡ false → Progress R first next blank written' (input ++ 10 ∷ []) seen' []
+  pub progress-line : (now next : A) (written written' : Option (List ℕ)) (input : List ℕ) (seen seen' : Seen) (held : List ℕ) (row : Row) → Progress R first now blank written input seen held → Gets (form_of seen held) row → Link R now row next → seen' ≡ after seen row → Appends written written' (row_text (length seen.told + 1) row) → seen'.refused ≡ false → Progress R first next blank written' (input ++ 10 ∷ []) seen' []
   progress-line now next written written' input seen seen' held row p g l s a f =
-      let text = row_text (length seen.paths + 1) row in
+      let text = row_text (length seen.told + 1) row in
       let n = length text in
       let same : take n text ≡ text = take_all n text (omega arith) in
       let b : Appends blank written' (take (length (text_from 1 p.rows) + n) (text_from 1 (p.rows ++ row ∷ []))) = line_text now written written' input seen held p row n (subst (λ t. Appends written written' t) (sym same) a) in
@@ -145,7 +145,7 @@ module _ {A : Type 0} (R : A → Event → Reply → A → Type 0) (first : A) (
 
   -- what a line of a session gives, as its contract says it
   abbrev pub LineGives : Seen → List ℕ → A → Seen → A → List ℕ → Type 0
-  LineGives seen line now seen' next text = (row : Row) × Gets (form_of seen line) row × (seen' ≡ after seen row) × (text ≡ row_text (length seen.paths + 1) row) × Link R now row next
+  LineGives seen line now seen' next text = (row : Row) × Gets (form_of seen line) row × (seen' ≡ after seen row) × (text ≡ row_text (length seen.told + 1) row) × Link R now row next
 
   pub stopped-memory : (now next : A) (written : Option (List ℕ)) (input : List ℕ) (seen : Seen) (held line : List ℕ) (more : List ℕ) (why : Refusal) → (why ≡ BadUsers → ⊥) → line ≡ held → Progress R first now blank written input seen held → ((next ≡ now) ⊎ ((row : Row) × Gets (form_of seen line) row × Link R now row next)) → Stopped R first next blank written (lines_of (input ++ 10 ∷ more)) why
   stopped-memory now next written input seen held line more why u same p d = elim d [
@@ -159,7 +159,7 @@ module _ {A : Type 0} (R : A → Event → Reply → A → Type 0) (first : A) (
 
   pub stopped-refused : (now next : A) (written written' : Option (List ℕ)) (input : List ℕ) (seen seen' : Seen) (held line text shown more : List ℕ) (why : Refusal) → line ≡ held → shown ≡ text → LineGives seen line now seen' next text → Progress R first now blank written input seen held → Appends written written' shown → seen'.refused ≡ true → Stopped R first next blank written' (lines_of (input ++ 10 ∷ more)) why
   stopped-refused now next written written' input seen seen' held line text shown more why same e w p a r =
-      let all : Appends written written' (take (length shown) (row_text (length seen.paths + 1) w.0)) = subst (λ t. Appends written written' (take (length shown) t)) (e ∙ w.3) (subst (λ t. Appends written written' t) (sym (take_all (length shown) shown (omega arith))) a) in
+      let all : Appends written written' (take (length shown) (row_text (length seen.told + 1) w.0)) = subst (λ t. Appends written written' (take (length shown) t)) (e ∙ w.3) (subst (λ t. Appends written written' t) (sym (take_all (length shown) shown (omega arith))) a) in
       stopped-line now next written written' input seen held w.0 (length shown) more why p (subst (λ t. Gets (form_of seen t) w.0) same w.1) w.4 all
       (λ f. (ap (λ (s : Seen). s.refused) (sym w.2) ∙ r, omega (arith, ap length (e ∙ w.3))))
 

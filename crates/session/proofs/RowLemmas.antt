@@ -5,6 +5,7 @@ use Rattle.std.specs.Result.{OnErr, IfErr, IsErrAnd}
 use Rattle.std.proofs.lemmas.List.{append-nil, take_all, take_at, take-append-drop}
 use Rattle.std.specs.Io.KnownBytes.{Appends, Consumes, Keeps, ReadConsumes, prepend_known}
 use Rattle.model.specs.Steps.{Event, Reply}
+use Rattle.model.specs.Lines.{Told}
 use Rattle.model.specs.Talk.{Row, Quiet, Named, Declined, Asked, Seen, Gets, after, after_all, Talks, form_of, text_from, row_text}
 use Rattle.session.specs.Serving.{Link, Chain}
 
@@ -22,13 +23,13 @@ pub chain-more : {A : Type 0} (R : A → Event → Reply → A → Type 0) (a : 
 chain-more R a [] b row c h l = (c, subst (λ x. Link R x row c) h l, refl)
 chain-more R a (r ∷ rows) b row c h l = (h.0, h.1, chain-more R h.0 rows b row c h.2 l)
 
-length-after : (seen : Seen) (row : Row) → length (after seen row).paths ≡ length seen.paths + 1
-length-after seen Quiet = omega (arith, length-append {A = Option (List ℕ)})
-length-after seen (Named users) = omega (arith, length-append {A = Option (List ℕ)})
-length-after seen (Declined why) = omega (arith, length-append {A = Option (List ℕ)})
-length-after seen (Asked event reply) = omega (arith, length-append {A = Option (List ℕ)})
+length-after : (seen : Seen) (row : Row) → length (after seen row).told ≡ length seen.told + 1
+length-after seen Quiet = omega (arith, length-append {A = Told})
+length-after seen (Named users) = omega (arith, length-append {A = Told})
+length-after seen (Declined why) = omega (arith, length-append {A = Told})
+length-after seen (Asked event reply) = omega (arith, length-append {A = Told})
 
-pub length-after_all : (seen : Seen) (rows : List Row) → length (after_all seen rows).paths ≡ length seen.paths + length rows
+pub length-after_all : (seen : Seen) (rows : List Row) → length (after_all seen rows).told ≡ length seen.told + length rows
 length-after_all seen [] = omega arith
 length-after_all seen (r ∷ rows) = omega (arith, length-after_all (after seen r) rows, length-after seen r)
 

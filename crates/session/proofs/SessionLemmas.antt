@@ -1,10 +1,11 @@
 -- One line of a session.
-use Rattle.std.proofs.Common.{◌≡◌, ◌⊎◌, inl, inr, ℕ, ◌+◌, Bool, true, ◌||◌, List, [], ◌∷◌, ◌++◌, length, Option, None, refl, ap, ◌∙◌, codes}
+use Rattle.std.proofs.Common.{◌≡◌, ◌⊎◌, inl, inr, ℕ, ◌+◌, Bool, true, ◌||◌, List, [], ◌∷◌, ◌++◌, length, refl, ap, ◌∙◌, codes}
 use Rattle.std.specs.Global.{Vec}
 use Rattle.model.specs.declared.refusal.Refusal.{Refusal}
 use Rattle.model.specs.Steps as steps
+use Rattle.model.specs.Lines.{Told, nothing_told}
 use Rattle.model.specs.Forms.{Form}
-use Rattle.model.specs.Talk.{Row, Named, Declined, Asked, Seen, form_of, Gets, after, row_text, answer_text, path_in, is_bad_users}
+use Rattle.model.specs.Talk.{Row, Named, Declined, Asked, Seen, form_of, Gets, after, row_text, answer_text, told_in, is_bad_users}
 use Rattle.schedule.specs.declared.events.Event.{Event}
 use Rattle.schedule.specs.Standing.{event_of}
 use Rattle.session.specs.declared.reading.Reading.{Reading}
@@ -14,10 +15,10 @@ use Rattle.session.specs.Serving.{Link}
 
 -- what a line gives that comes to this
 abbrev pub Gives : {A : Type 0} → (A → steps.Event → steps.Reply → A → Type 0) → Seen → Reading → A → Seen → A → List ℕ → Type 0
-Gives R seen r now seen' next text = (row : Row) × IsRowOf r row × (seen' ≡ after seen row) × (text ≡ row_text (length seen.paths + 1) row) × Link R now row next
+Gives R seen r now seen' next text = (row : Row) × IsRowOf r row × (seen' ≡ after seen row) × (text ≡ row_text (length seen.told + 1) row) × Link R now row next
 
-abbrev pub seen_by : Bool → Bool → List (Option (List ℕ)) → Seen
-seen_by begun refused paths = record { begun = begun; refused = refused; paths = paths }
+abbrev pub seen_by : Bool → Bool → List Told → Seen
+seen_by begun refused told = record { begun = begun; refused = refused; told = told }
 
 -- what a line may be, where its row is that of what it comes to
 pub row-gets : (form : Form) (r : Reading) (row : Row) → Becomes form r → IsRowOf r row → Gets form row
@@ -26,18 +27,18 @@ row-gets form (Names users) row b e = rw e b
 row-gets form (Refused why) row b e = rw e b
 row-gets form (Asks event) row b e = rw e.1 (b e.0)
 
-module _ {A : Type 0} (R : A → steps.Event → steps.Reply → A → Type 0) (begun refused : Bool) (paths paths' : List (Option (List ℕ))) (text : List ℕ) (n : ℕ) (r : Reading) where
-  pub gives-asked : (event : Event) (reply : steps.Reply) (path : Option (List ℕ)) (now next : A) → r ≡ Asks event → paths' ≡ paths ++ path ∷ [] → path ≡ path_in reply → n ≡ length paths + 1 → text ≡ answer_text n event.actor reply → R now (event_of event) reply next → Gives R (seen_by begun refused paths) r now (seen_by begun refused paths') next text
-  gives-asked event reply path now next is e₁ e₂ e₃ e₄ h =
-      (Asked (event_of event) reply, rw is (reply, refl), ap (seen_by begun refused) (e₁ ∙ ap (λ p. paths ++ p ∷ []) e₂), e₄ ∙ ap (λ k. answer_text k event.actor reply) e₃, h)
+module _ {A : Type 0} (R : A → steps.Event → steps.Reply → A → Type 0) (begun refused : Bool) (told told' : List Told) (text : List ℕ) (n : ℕ) (r : Reading) where
+  pub gives-asked : (event : Event) (reply : steps.Reply) (one : Told) (now next : A) → r ≡ Asks event → told' ≡ told ++ one ∷ [] → one ≡ told_in reply → n ≡ length told + 1 → text ≡ answer_text n event.actor reply → R now (event_of event) reply next → Gives R (seen_by begun refused told) r now (seen_by begun refused told') next text
+  gives-asked event reply one now next is e₁ e₂ e₃ e₄ h =
+      (Asked (event_of event) reply, rw is (reply, refl), ap (seen_by begun refused) (e₁ ∙ ap (λ x. told ++ x ∷ []) e₂), e₄ ∙ ap (λ k. answer_text k event.actor reply) e₃, h)
 
-  pub gives-named : (users : Vec (List ℕ)) (now : A) → r ≡ Names users → paths' ≡ paths ++ None ∷ [] → n ≡ length paths + 1 → text ≡ answer_text n (codes "-") steps.Done → Gives R (seen_by begun refused paths) r now (seen_by true refused paths') now text
-  gives-named users now is e₁ e₃ e₄ =
-      (Named users.items, rw is refl, ap (seen_by true refused) e₁, e₄ ∙ ap (λ k. answer_text k (codes "-") steps.Done) e₃, refl)
+  pub gives-named : (users : Vec (List ℕ)) (one : Told) (now : A) → r ≡ Names users → told' ≡ told ++ one ∷ [] → one ≡ nothing_told → n ≡ length told + 1 → text ≡ answer_text n (codes "-") steps.Done → Gives R (seen_by begun refused told) r now (seen_by true refused told') now text
+  gives-named users one now is e₁ e₂ e₃ e₄ =
+      (Named users.items, rw is refl, ap (seen_by true refused) (e₁ ∙ ap (λ x. told ++ x ∷ []) e₂), e₄ ∙ ap (λ k. answer_text k (codes "-") steps.Done) e₃, refl)
 
-  pub gives-refused : (why : Refusal) (refused' : Bool) (now : A) → r ≡ Refused why → refused' ≡ (is_bad_users why || refused) → paths' ≡ paths ++ None ∷ [] → n ≡ length paths + 1 → text ≡ answer_text n (codes "-") (steps.Refused why) → Gives R (seen_by begun refused paths) r now (seen_by begun refused' paths') now text
-  gives-refused why refused' now is f e₁ e₃ e₄ =
-      (Declined why, rw is refl, ap (λ x. seen_by begun x paths') f ∙ ap (seen_by begun (is_bad_users why || refused)) e₁, e₄ ∙ ap (λ k. answer_text k (codes "-") (steps.Refused why)) e₃, refl)
+  pub gives-refused : (why : Refusal) (refused' : Bool) (one : Told) (now : A) → r ≡ Refused why → refused' ≡ (is_bad_users why || refused) → told' ≡ told ++ one ∷ [] → one ≡ nothing_told → n ≡ length told + 1 → text ≡ answer_text n (codes "-") (steps.Refused why) → Gives R (seen_by begun refused told) r now (seen_by begun refused' told') now text
+  gives-refused why refused' one now is f e₁ e₂ e₃ e₄ =
+      (Declined why, rw is refl, ap (λ x. seen_by begun x told') f ∙ ap (seen_by begun (is_bad_users why || refused)) (e₁ ∙ ap (λ x. told ++ x ∷ []) e₂), e₄ ∙ ap (λ k. answer_text k (codes "-") (steps.Refused why)) e₃, refl)
 
 pub gives-part : {A : Type 0} (R : A → steps.Event → steps.Reply → A → Type 0) (r : Reading) (event : Event) (now next : A) → r ≡ Asks event → ((next ≡ now) ⊎ ((reply : steps.Reply) × R now (event_of event) reply next)) → (next ≡ now) ⊎ ((row : Row) × IsRowOf r row × Link R now row next)
 gives-part R r event now next is d = elim d [
@@ -52,5 +53,5 @@ part-gets R form r now next b d = elim d [
 ]
 
 pub line-gives : {A : Type 0} (R : A → steps.Event → steps.Reply → A → Type 0) (seen : Seen) (line : List ℕ) (r : Reading) (now : A) (seen' : Seen) (next : A) (text : List ℕ) → Becomes (form_of seen line) r → Gives R seen r now seen' next text
-    → (row : Row) × Gets (form_of seen line) row × (seen' ≡ after seen row) × (text ≡ row_text (length seen.paths + 1) row) × Link R now row next
+    → (row : Row) × Gets (form_of seen line) row × (seen' ≡ after seen row) × (text ≡ row_text (length seen.told + 1) row) × Link R now row next
 line-gives R seen line r now seen' next text b w = (w.0, row-gets (form_of seen line) r w.0 b w.1, w.2, w.3, w.4)

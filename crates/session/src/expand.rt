@@ -1,17 +1,19 @@
 //! The expansions of a line.
 
-ghost use Rattle.std.specs.Prelude.{◌≡◌, ◌∷◌, ◌++◌, [], IfOk, OnOk, if◌then◌else◌, option_map};
+ghost use Rattle.std.specs.Prelude.{◌≡◌, ◌∷◌, ◌++◌, [], IfOk, OnOk, MatchOption, if◌then◌else◌, option_map, slice_index_or};
 ghost use Rattle.std.specs.List.{list_all};
-ghost use Rattle.model.specs.Worlds.{is_digit};
-ghost use Rattle.model.specs.Lines.{is_numeral, named_line, is_letter, expansion_in, part_by, expanded, piece_text, joined, filled};
+ghost use Rattle.model.specs.Characters.{is_digit};
+ghost use Rattle.model.specs.Lines.{is_numeral, named_line, is_letter, expansion_in, nothing_told, told_by, part_by, expanded, piece_text, joined, filled};
 
 use crate::cut::cut;
+use crate::told::Told;
 use std::alloc::{AllocError, Global};
 use std::marker::Model;
 use storepath::StorePath;
 
 /// An expansion: `{p2}` stands for the path in the reply to line 2, and `{h2}` for the digits of
-/// its hash part, each of their bytes in base 16.
+/// its hash part, each of their bytes in base 16. `{c2}` and `{g2}` stand for the same of the class
+/// in that reply.
 #[derive(Drop)]
 struct Expansion<'a> {
     letter: u8,
@@ -67,7 +69,7 @@ fn named_line(count: usize, digits: &[u8]) -> Option<usize>
 fn is_letter(letter: u8) -> bool
     ensures { result ≡ is_letter letter }
 {
-    letter == b'p' || letter == b'h'
+    (letter == b'p' || letter == b'h') || (letter == b'c' || letter == b'g')
 }
 
 /// The expansion that a text behind an opening brace begins with.
@@ -89,6 +91,18 @@ fn expansion_in(count: usize, text: &[u8]) -> Option<Expansion<'_>>
     })
 }
 
+/// The path that an expansion is of, where the reply to its line has one.
+fn named_path<'a>(told: &'a [Told], expansion: &Expansion<'_>) -> Option<&'a StorePath>
+    ensures { let named = told_by expansion.now.letter (slice_index_or told.now expansion.now.line nothing_told) in MatchOption result (named ≡ None) (λ path. named ≡ Some path.now) }
+{
+    let told = told.get(expansion.line)?;
+    if expansion.letter == b'c' || expansion.letter == b'g' {
+        told.class.as_ref()
+    } else {
+        told.path.as_ref()
+    }
+}
+
 /// Adds what an expansion by a letter is of a path.
 fn add_part(
     alloc: Global,
@@ -98,7 +112,7 @@ fn add_part(
 ) -> Result<(), AllocError>
     ensures { OnOk result (text.new.items ≡ text.old.items ++ part_by letter path.now) }
 {
-    if letter == b'p' {
+    if letter == b'p' || letter == b'c' {
         return text.extend_from_slice(path.bytes());
     }
     let digits = hex::encode(alloc, path.hash_part())?;
@@ -109,17 +123,17 @@ fn add_part(
 fn add_piece(
     alloc: Global,
     text: &mut Vec<u8>,
-    paths: &[Option<StorePath>],
+    told: &[Told],
     piece: &[u8],
 ) -> Result<bool, AllocError>
-    ensures { IfOk result (λ whole. (if whole then Some text.new.items else None) ≡ joined (Some text.old.items) (piece_text paths.now piece.now)) }
+    ensures { IfOk result (λ whole. (if whole then Some text.new.items else None) ≡ joined (Some text.old.items) (piece_text told.now piece.now)) }
 {
-    let Some(expansion) = expansion_in(paths.len(), piece) else {
+    let Some(expansion) = expansion_in(told.len(), piece) else {
         text.push(b'{')?;
         text.extend_from_slice(piece)?;
         return Ok(true);
     };
-    let Some(Some(path)) = paths.get(expansion.line) else {
+    let Some(path) = named_path(told, &expansion) else {
         return Ok(false);
     };
     add_part(alloc, text, expansion.letter, path)?;
@@ -127,13 +141,9 @@ fn add_piece(
     Ok(true)
 }
 
-/// A line with its expansions made, or nothing where one names a reply that has no path.
-pub(crate) fn fill(
-    alloc: Global,
-    paths: &[Option<StorePath>],
-    line: &[u8],
-) -> Result<Option<Vec<u8>>, AllocError>
-    ensures { IfOk result (λ text. option_map (λ t. t.items) text ≡ filled paths.now line.now) }
+/// A line with its expansions made, or nothing where one names what its reply has not.
+pub(crate) fn fill(alloc: Global, told: &[Told], line: &[u8]) -> Result<Option<Vec<u8>>, AllocError>
+    ensures { IfOk result (λ text. option_map (λ t. t.items) text ≡ filled told.now line.now) }
 {
     let Some((first, pieces)) = cut(b'{', line) else {
         return Ok(Some(Vec::from_slice(alloc, line)?));
@@ -141,12 +151,12 @@ pub(crate) fn fill(
     let mut text = Vec::from_slice(alloc, first)?;
     let mut rest = pieces;
     while let Some((piece, others)) = cut(b'{', rest) {
-        if !add_piece(alloc, &mut text, paths, piece)? {
+        if !add_piece(alloc, &mut text, told, piece)? {
             return Ok(None);
         }
         rest = others;
     }
-    if add_piece(alloc, &mut text, paths, rest)? {
+    if add_piece(alloc, &mut text, told, rest)? {
         Ok(Some(text))
     } else {
         Ok(None)

@@ -1,20 +1,20 @@
 //! Reading a line.
 
-ghost use Rattle.std.specs.Prelude.{◌≡◌, IfOk, IfErr, MatchResult, ◌⊎◌, ℕ, List};
+ghost use Rattle.std.specs.Prelude.{◌≡◌, IfOk, IfErr, MatchOption, MatchResult, ◌⊎◌, ℕ, List};
 ghost use Rattle.std.specs.List.{list_all};
 ghost use Rattle.model.specs.declared.refusal.Refusal.TheVariants.{Memory};
 ghost use Rattle.model.specs.Lines.{split};
-ghost use Rattle.model.specs.Forms.{Wish, Asks, is_quiet, is_printable, wish_form, users_form, worded_form, words_form, line_form};
+ghost use Rattle.model.specs.Forms.{Wish, Asks, is_quiet, is_printable, wish_form, users_form, worded_form, words_form, derivation_in, text_form, line_form};
 ghost use Rattle.session.specs.Reading.{Becomes, IsReadAs, IsNotRead};
 
 use crate::cut::{Word, cut, first_words, has_empty_word};
 use crate::expand::fill;
 use crate::reading::Reading;
-use crate::words::{read_fetch, read_source, read_users};
+use crate::told::Told;
+use crate::words::{read_derivation, read_fetch, read_source, read_users};
 use model::Refusal;
 use schedule::Event;
 use std::alloc::Global;
-use storepath::StorePath;
 
 /// The most bytes of a line, without its newline and before its expansions.
 pub(crate) const LONGEST_LINE: usize = 268_435_456;
@@ -112,8 +112,8 @@ fn read_words(alloc: Global, begun: bool, words: &[Word<'_>]) -> Result<Reading,
     }
 }
 
-/// Reads a line whose expansions are made.
-fn read_text(alloc: Global, begun: bool, text: &[u8]) -> Result<Reading, Refusal>
+/// Reads a line by its words, between which there is one blank.
+fn read_by_words(alloc: Global, begun: bool, text: &[u8]) -> Result<Reading, Refusal>
     ensures read { IfOk result (Becomes (words_form begun (split 32 text.now))) }
     ensures memory { IfErr result (λ why. why ≡ Memory) }
 {
@@ -124,15 +124,47 @@ fn read_text(alloc: Global, begun: bool, text: &[u8]) -> Result<Reading, Refusal
     read_words(alloc, begun, words.as_slice())
 }
 
-/// Reads a line after others, of which one of users was answered ok or none, and whose replies had
-/// these paths. The line is copied only where it has a brace.
+/// The user and the text of a line `U derivation TEXT`. The text is all that stands behind the
+/// second blank.
+fn derivation_in(text: &[u8]) -> Option<(&[u8], &[u8])>
+    ensures { MatchOption result (derivation_in text.now ≡ None) (λ r. derivation_in text.now ≡ Some (r.0.now, r.1.now)) }
+{
+    let (user, behind) = cut(b' ', text)?;
+    let (verb, derivation) = cut(b' ', behind)?;
+    if verb == b"derivation".as_slice() {
+        Some((user, derivation))
+    } else {
+        None
+    }
+}
+
+/// Reads a line whose expansions are made. The text of a derivation is not cut into words, and is
+/// copied once.
+fn read_text(alloc: Global, begun: bool, text: &[u8]) -> Result<Reading, Refusal>
+    ensures read { IfOk result (Becomes (text_form begun (Some text.now))) }
+    ensures memory { IfErr result (λ why. why ≡ Memory) }
+{
+    if !begun {
+        return read_by_words(alloc, false, text);
+    }
+    let Some((user, derivation)) = derivation_in(text) else {
+        return read_by_words(alloc, true, text);
+    };
+    if user == b"users".as_slice() {
+        return Ok(Reading::Refused(Refusal::BadLine));
+    }
+    asked(read_derivation(alloc, user, derivation))
+}
+
+/// Reads a line after others, of which one of users was answered ok or none, and whose replies told
+/// this. The line is copied only where it has a brace.
 pub(crate) fn read_line(
     alloc: Global,
     begun: bool,
-    paths: &[Option<StorePath>],
+    told: &[Told],
     line: &[u8],
 ) -> Result<Reading, Refusal>
-    ensures read { IfOk result (Becomes (line_form begun paths.now line.now)) }
+    ensures read { IfOk result (Becomes (line_form begun told.now line.now)) }
     ensures memory { IfErr result (λ why. why ≡ Memory) }
 {
     if line.len() > LONGEST_LINE {
@@ -147,7 +179,7 @@ pub(crate) fn read_line(
     let Some(_) = cut(b'{', line) else {
         return read_text(alloc, begun, line);
     };
-    match fill(alloc, paths, line)? {
+    match fill(alloc, told, line)? {
         None => Ok(Reading::Refused(Refusal::BadLine)),
         Some(text) => read_text(alloc, begun, text.as_slice()),
     }

@@ -13,6 +13,8 @@
 mod ahead;
 mod answer;
 mod cut;
+#[cfg(test)]
+mod derivation_tests;
 mod expand;
 mod forms;
 mod prefixed;
@@ -23,6 +25,7 @@ mod streams;
 #[cfg(test)]
 mod tests;
 mod texts;
+mod told;
 mod words;
 
 pub use ahead::{Ahead, read_ahead};

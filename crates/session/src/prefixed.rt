@@ -1,6 +1,6 @@
 //! A reader that gives again what was read ahead.
 
-ghost use Rattle.std.specs.Prelude.{◌≡◌, ◌≤◌, length, false};
+ghost use Rattle.std.specs.Prelude.{◌≡◌, ◌≢◌, ◌≤◌, [], min, drop, length, true, false, Ok, IsErr};
 
 use crate::answer::Faults;
 use std::io;
@@ -56,11 +56,20 @@ impl<R: Faults> Faults for Prefixed<R> {
 }
 
 impl<R: Read> Read for Prefixed<R> {
-    ghost use Rattle.std.specs.Io.KnownBytes.{prepend_known};
+    ghost use Rattle.std.specs.Io.{ReadsAtMost};
+    ghost use Rattle.std.specs.Io.KnownBytes.{ReadConsumes, prepend_known};
 
     ghost remaining = { λ s. prepend_known s.rest (R.remaining s.inner) };
 
-    fn read(&mut self, buf: &mut [u8]) -> io::Result<usize> {
+    /// The bytes come first, as many as there is room for; then the one failure, if any.
+    fn read(&mut self, buf: &mut [u8]) -> io::Result<usize>
+        ensures bound { ReadsAtMost result buf.new }
+        ensures bytes { ReadConsumes (prepend_known self.old.rest (R.remaining self.old.inner)) (prepend_known self.new.rest (R.remaining self.new.inner)) result buf.new }
+        ensures ahead { self.old.rest ≢ [] → result ≡ Ok (min (length self.old.rest) (length buf.old)) }
+        ensures rest { self.old.rest ≢ [] → self.new ≡ record { rest = drop (min (length self.old.rest) (length buf.old)) self.old.rest; fails = self.old.fails; failed = self.old.failed; inner = self.old.inner } }
+        ensures fault { self.old.rest ≡ [] → self.old.fails ≡ true → IsErr result × (self.new ≡ record { rest = []; fails = false; failed = true; inner = self.old.inner }) }
+        ensures counted { self.old.rest ≡ [] → self.old.fails ≡ false → (self.new.rest ≡ []) × (self.new.fails ≡ false) × (self.new.failed ≡ self.old.failed) }
+    {
         let (_, mut rest) = self.bytes.as_slice().split_at(self.at);
         if !rest.is_empty() {
             let count = rest.read(buf)?;

@@ -16,7 +16,7 @@ use std::alloc::{AllocError, Global};
 use std::io::{Read, Write};
 
 /// So many bytes are read at a time.
-pub(crate) const CHUNK: usize = 4096;
+pub(crate) const CHUNK: usize = 65_536;
 
 /// Holds more of the line begun, no more than shows whether it is too long.
 pub(crate) fn hold(held: &mut Vec<u8>, bytes: &[u8]) -> Result<(), AllocError>

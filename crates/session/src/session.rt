@@ -1,8 +1,8 @@
 //! Sessions, a line at a time.
 
-ghost use Rattle.std.specs.Prelude.{◌≡◌, ◌+◌, ◌⊎◌, ℕ, List, Option, IfOk, IfErr, OnErr, length};
+ghost use Rattle.std.specs.Prelude.{◌≡◌, ◌+◌, ◌⊎◌, IfOk, IfErr, OnErr, length};
 ghost use Rattle.model.specs.declared.refusal.Refusal.TheVariants.{Memory};
-ghost use Rattle.model.specs.Talk.{Row, fresh, form_of, Gets, after, row_text, answer_text, path_in, is_bad_users};
+ghost use Rattle.model.specs.Talk.{Row, fresh, form_of, Gets, after, row_text, answer_text, told_in, is_bad_users};
 ghost use Rattle.model.specs.Steps as steps;
 ghost use Rattle.schedule.specs.Standing.{event_of, reply_of};
 ghost use Rattle.session.specs.Reading.{Becomes, IsRowOf};
@@ -11,12 +11,12 @@ ghost use Rattle.session.specs.Serving.{Link};
 use crate::answer::Answer;
 use crate::forms::read_line;
 use crate::reading::Reading;
-use crate::texts::{answer_text, path_in};
+use crate::texts::answer_text;
+use crate::told::{Told, told_in};
 use model::Refusal;
 use schedule::{Event, Reply};
 use std::alloc::Global;
 use std::marker::Model;
-use storepath::StorePath;
 
 /// Which lines a session knows.
 #[derive(Clone, Copy, Debug, PartialEq, Eq)]
@@ -30,7 +30,7 @@ pub enum Mode {
 pub struct Session {
     begun: bool,
     refused: bool,
-    paths: Vec<Option<StorePath>>,
+    told: Vec<Told>,
 }
 
 impl Model for Session {
@@ -38,7 +38,7 @@ impl Model for Session {
 
     ghost Value = { Seen };
 
-    ghost view = { λ s. record { begun = s.begun; refused = s.refused; paths = s.paths.items } };
+    ghost view = { λ s. record { begun = s.begun; refused = s.refused; told = s.told.items } };
 }
 
 impl Session {
@@ -50,7 +50,7 @@ impl Session {
         Session {
             begun: false,
             refused: false,
-            paths: Vec::new(alloc),
+            told: Vec::new(alloc),
         }
     }
 
@@ -66,7 +66,7 @@ impl Session {
         ensures read { IfOk result (Becomes (form_of self.now line.now)) }
         ensures memory { IfErr result (λ why. why ≡ Memory) }
     {
-        read_line(alloc, self.begun, self.paths.as_slice(), line)
+        read_line(alloc, self.begun, self.told.as_slice(), line)
     }
 
     /// Answers the next line, by what it comes to, and gives what is printed for it.
@@ -78,32 +78,32 @@ impl Session {
     ) -> Result<Vec<u8>, Refusal>
         ensures ok { IfOk result (λ text. (row : Row) × IsRowOf reading row
             × (self.new ≡ after self.old row)
-            × (text.items ≡ row_text (length self.old.paths + 1) row)
+            × (text.items ≡ row_text (length self.old.told + 1) row)
             × Link A.answers answer.old row answer.new) }
         ensures memory { IfErr result (λ why. why ≡ Memory) }
         ensures err { OnErr result ((answer.new ≡ answer.old) ⊎ ((row : Row) × IsRowOf reading row × Link A.answers answer.old row answer.new)) }
     {
-        let number = self.paths.len() + 1;
+        let number = self.told.len() + 1;
         match reading {
             Reading::Silent => {
-                self.paths.push(None)?;
+                self.told.push(Told::nothing())?;
                 Ok(Vec::new(alloc))
             }
             Reading::Names(_users) => {
-                self.paths.push(None)?;
+                self.told.push(Told::nothing())?;
                 self.begun = true;
                 let text = answer_text(alloc, number, b"-", &Reply::Done)?;
                 Ok(text)
             }
             Reading::Refused(why) => {
-                self.paths.push(None)?;
+                self.told.push(Told::nothing())?;
                 self.refused = is_bad_users(why) | self.refused;
                 let text = answer_text(alloc, number, b"-", &Reply::Refused(why))?;
                 Ok(text)
             }
             Reading::Asks(event) => {
-                let (path, text) = ask(alloc, number, event, answer)?;
-                self.paths.push(path)?;
+                let (told, text) = ask(alloc, number, event, answer)?;
+                self.told.push(told)?;
                 Ok(text)
             }
         }
@@ -123,7 +123,7 @@ impl Session {
         // The row that the line got, what is kept of it, what is printed for it, and what became of the answer.
         ensures ok { IfOk result (λ text. (row : Row) × Gets (form_of self.old line.now) row
             × (self.new ≡ after self.old row)
-            × (text.items ≡ row_text (length self.old.paths + 1) row)
+            × (text.items ≡ row_text (length self.old.told + 1) row)
             × Link A.answers answer.old row answer.new) }
         ensures memory { IfErr result (λ why. why ≡ Memory) }
         ensures err { OnErr result ((answer.new ≡ answer.old) ⊎ ((row : Row) × Gets (form_of self.old line.now) row
@@ -140,14 +140,14 @@ fn is_bad_users(why: Refusal) -> bool
     matches!(why, Refusal::BadUsers)
 }
 
-/// Hands an event on. Gives the path in its reply, and what is printed for it.
+/// Hands an event on. Gives what its reply tells, and what is printed for it.
 fn ask<A: Answer>(
     alloc: Global,
     number: usize,
     event: Event,
     answer: &mut A,
-) -> Result<(Option<StorePath>, Vec<u8>), Refusal>
-    ensures ok { IfOk result (λ r. (reply : steps.Reply) × (r.0 ≡ path_in reply)
+) -> Result<(Told, Vec<u8>), Refusal>
+    ensures ok { IfOk result (λ r. (reply : steps.Reply) × (r.0 ≡ told_in reply)
         × (r.1.items ≡ answer_text number event.actor reply) × A.answers answer.old (event_of event) reply answer.new) }
     ensures memory { IfErr result (λ why. why ≡ Memory) }
     ensures err { OnErr result ((answer.new ≡ answer.old) ⊎ ((reply : steps.Reply) × A.answers answer.old (event_of event) reply answer.new)) }
@@ -155,5 +155,5 @@ fn ask<A: Answer>(
     let actor = event.actor.clone()?;
     let reply = answer.call(alloc, event);
     let text = answer_text(alloc, number, actor.bytes(), &reply)?;
-    Ok((path_in(reply), text))
+    Ok((told_in(reply), text))
 }

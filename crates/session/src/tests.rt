@@ -1,3 +1,5 @@
+//! Sessions in pieces, with each read and each write failing, and the users that are read ahead.
+
 use crate::{Ahead, Faults, Mode, Prefixed, Session, read_ahead, serve};
 use model::Refusal;
 use schedule::{Core, LARGEST_CHARGE, Limits, User};
@@ -7,75 +9,123 @@ use std::io;
 use std::io::{ErrorKind, Read, Write};
 use std::test::Fail;
 
-/// Gives its bytes `step` at a time, and fails at its `fails`th read.
+/// What the calls of a reader or a writer do: each moves at most `step` bytes, the `part`th at most
+/// one, and the `fails`th fails. There is no call of number 0.
+#[derive(Clone, Copy)]
+struct Calls {
+    step: usize,
+    part: u64,
+    fails: u64,
+}
+
+/// Calls that do not fail, of so many bytes each.
+fn steady(step: usize) -> Calls {
+    Calls {
+        step,
+        part: 0,
+        fails: 0,
+    }
+}
+
+/// Calls of so many bytes each, of which this one fails.
+fn failing(step: usize, fails: u64) -> Calls {
+    Calls {
+        step,
+        part: 0,
+        fails,
+    }
+}
+
+/// The same, and the one before moves a part of what it might.
+fn failing_after_a_part(step: usize, fails: u64) -> Calls {
+    Calls {
+        step,
+        part: fails.saturating_sub(1),
+        fails,
+    }
+}
+
+/// The calls so far.
+#[derive(Drop)]
+struct Count {
+    calls: Calls,
+    made: u64,
+    failed: u64,
+}
+
+impl Count {
+    fn new(calls: Calls) -> Count {
+        Count {
+            calls,
+            made: 0,
+            failed: 0,
+        }
+    }
+
+    /// Counts a call. Gives how many bytes it moves at most, or nothing where it fails.
+    fn call(&mut self) -> Option<usize> {
+        self.made = self.made.saturating_add(1);
+        if self.made == self.calls.fails {
+            self.failed = self.failed.saturating_add(1);
+            None
+        } else if self.made == self.calls.part {
+            Some(1)
+        } else {
+            Some(self.calls.step)
+        }
+    }
+}
+
+/// Gives its bytes.
 #[derive(Drop)]
 struct Source {
     bytes: Vec<u8>,
     at: usize,
-    step: usize,
-    reads: u64,
-    fails: u64,
-    failed: u64,
+    count: Count,
 }
 
 impl Faults for Source {
-    ghost failed = { λ s. s.failed };
+    ghost failed = { λ s. s.count.failed };
 
     fn failures(&self) -> u64 {
-        self.failed
+        self.count.failed
     }
 }
 
 impl Read for Source {
     fn read(&mut self, buf: &mut [u8]) -> io::Result<usize> {
-        self.reads = self.reads.saturating_add(1);
-        if self.reads == self.fails {
-            self.failed = self.failed.saturating_add(1);
+        let Some(most) = self.count.call() else {
             return Err(io::Error::from(ErrorKind::Other));
-        }
+        };
         let rest = self.bytes.as_slice().get(self.at..).unwrap_or(&[]);
-        let n = rest.len().min(self.step).min(buf.len());
+        let n = rest.len().min(most).min(buf.len());
         buf[..n].copy_from_slice(&rest[..n]);
         self.at = self.at.saturating_add(n);
         Ok(n)
     }
 }
 
-/// Takes `step` bytes at a time, and fails at its `fails`th write or flush.
+/// Takes bytes.
 #[derive(Drop)]
 struct Sink {
     bytes: Vec<u8>,
-    step: usize,
-    writes: u64,
-    fails: u64,
-    failed: u64,
-}
-
-impl Sink {
-    fn fails_now(&mut self) -> bool {
-        self.writes = self.writes.saturating_add(1);
-        let fails = self.writes == self.fails;
-        if fails {
-            self.failed = self.failed.saturating_add(1);
-        }
-        fails
-    }
+    count: Count,
 }
 
 impl Faults for Sink {
-    ghost failed = { λ s. s.failed };
+    ghost failed = { λ s. s.count.failed };
 
     fn failures(&self) -> u64 {
-        self.failed
+        self.count.failed
     }
 }
 
 impl Write for Sink {
     fn write(&mut self, buf: &[u8]) -> io::Result<usize> {
-        if self.fails_now() {
+        let Some(most) = self.count.call() else {
             return Err(io::Error::from(ErrorKind::Other));
-        }
-        let n = buf.len().min(self.step);
+        };
+        let n = buf.len().min(most);
         match self.bytes.extend_from_slice(&buf[..n]) {
             Ok(()) => Ok(n),
             Err(_) => Err(io::Error::from(ErrorKind::OutOfMemory)),
@@ -83,21 +133,18 @@ impl Write for Sink {
     }
 
     fn flush(&mut self) -> io::Result<()> {
-        if self.fails_now() {
-            return Err(io::Error::from(ErrorKind::Other));
+        match self.count.call() {
+            Some(_) => Ok(()),
+            None => Err(io::Error::from(ErrorKind::Other)),
         }
-        Ok(())
     }
 }
 
-fn source_of(alloc: Global, input: &[u8], step: usize, fails: u64) -> Result<Source, Fail> {
+fn source_of(alloc: Global, input: &[u8], calls: Calls) -> Result<Source, Fail> {
     Ok(Source {
         bytes: Vec::from_slice(alloc, input)?,
         at: 0,
-        step,
-        reads: 0,
-        fails,
-        failed: 0,
+        count: Count::new(calls),
     })
 }
 
@@ -117,28 +164,31 @@ fn store_of(rt: &HostRuntime, users: Vec<User>) -> Result<Core, Fail> {
     Ok(Core::new(alloc, RandomState::new(rt)?, users, limits)?)
 }
 
-// How a session of these lines ends, and what it writes.
-fn talk(
-    rt: &HostRuntime,
-    input: &[u8],
-    read_step: usize,
-    read_fails: u64,
-    write_step: usize,
-    write_fails: u64,
-) -> Result<(Result<(), Refusal>, Vec<u8>), Fail> {
+/// How a session ended, what it wrote, and how often it read and wrote.
+#[derive(Drop)]
+struct Outcome {
+    ended: Result<(), Refusal>,
+    text: Vec<u8>,
+    reads: u64,
+    writes: u64,
+}
+
+fn talk(rt: &HostRuntime, input: &[u8], reads: Calls, writes: Calls) -> Result<Outcome, Fail> {
     let alloc = rt.alloc();
-    let mut source = source_of(alloc, input, read_step, read_fails)?;
+    let mut source = source_of(alloc, input, reads)?;
     let mut sink = Sink {
         bytes: Vec::new(alloc),
-        step: write_step,
-        writes: 0,
-        fails: write_fails,
-        failed: 0,
+        count: Count::new(writes),
     };
     let mut core = store(rt)?;
-    let result = serve(alloc, Mode::Service, &mut source, &mut sink, &mut core);
-    let Sink { bytes, .. } = sink;
-    Ok((result, bytes))
+    let ended = serve(alloc, Mode::Service, &mut source, &mut sink, &mut core);
+    let Sink { bytes, count } = sink;
+    Ok(Outcome {
+        ended,
+        text: bytes,
+        reads: source.count.made,
+        writes: count.made,
+    })
 }
 
 // The lines of a session, and what is printed for them. The paths are those of Python's hashlib.
@@ -215,8 +265,8 @@ fn first_path(rt: HostRuntime) -> Result<(), Fail> {
     let input = b"users alice bob\nalice source a f:\nbob fetch {p2}\nalice fetch {p2}\n";
     let output =
         b"1 - ok\n2 alice path /nix/store/w996igw5fhzp5pmk8g9bfv99is99b0ap-a\n3 bob refused 53 NotHeld\n4 alice tree f:\n";
-    let (result, text) = talk(&rt, input.as_slice(), 4096, 0, 4096, 0)?;
-    assert!(rt; result.is_ok());
+    let Outcome { ended, text, .. } = talk(&rt, input.as_slice(), steady(4096), steady(4096))?;
+    assert_eq!(rt; ended, Ok(()));
     assert_eq!(rt; text.as_slice(), output.as_slice());
     Ok(())
 }
@@ -226,34 +276,53 @@ fn pieces_do_not_matter(rt: HostRuntime) -> Result<(), Fail> {
     let input = joined(rt.alloc(), &LINES)?;
     let output = joined(rt.alloc(), &TEXT)?;
     for step in [1usize, 2, 7, 4096] {
-        let (result, text) = talk(&rt, input.as_slice(), step, 0, step, 0)?;
-        assert!(rt; result.is_ok(), "pieces of {step}");
+        let Outcome { ended, text, .. } = talk(&rt, input.as_slice(), steady(step), steady(step))?;
+        assert_eq!(rt; ended, Ok(()), "pieces of {step}");
         assert_eq!(rt; text.as_slice(), output.as_slice(), "pieces of {step}");
     }
     Ok(())
 }
 
 #[test]
-fn a_reader_fails(rt: HostRuntime) -> Result<(), Fail> {
+fn each_read_fails(rt: HostRuntime) -> Result<(), Fail> {
     let input = joined(rt.alloc(), &LINES)?;
     let output = joined(rt.alloc(), &TEXT)?;
-    for k in 1..20u64 {
-        let (result, text) = talk(&rt, input.as_slice(), 25, k, 4096, 0)?;
-        assert!(rt; result == Err(Refusal::InputFault), "read {k}");
-        assert!(rt; output.starts_with(text.as_slice()), "read {k}");
+    for step in [7usize, 25, 4096] {
+        let whole = talk(&rt, input.as_slice(), steady(step), steady(4096))?;
+        assert_eq!(rt; whole.reads, input.len().div_ceil(step) as u64 + 1);
+        for k in 1..=whole.reads {
+            for reads in [failing(step, k), failing_after_a_part(step, k)] {
+                let Outcome { ended, text, .. } = talk(&rt, input.as_slice(), reads, steady(4096))?;
+                assert_eq!(rt; ended, Err(Refusal::InputFault), "read {k} of {step}");
+                assert!(rt; output.starts_with(text.as_slice()), "read {k} of {step}");
+            }
+        }
     }
     Ok(())
 }
 
 #[test]
-fn a_writer_fails(rt: HostRuntime) -> Result<(), Fail> {
+fn each_write_fails(rt: HostRuntime) -> Result<(), Fail> {
     let input = joined(rt.alloc(), &LINES)?;
     let output = joined(rt.alloc(), &TEXT)?;
-    for (step, last) in [(4096usize, 27u64), (5, 100)] {
-        for k in 1..=last {
-            let (result, text) = talk(&rt, input.as_slice(), 4096, 0, step, k)?;
-            assert!(rt; result == Err(Refusal::OutputFault), "write {k}");
-            assert!(rt; output.starts_with(text.as_slice()), "write {k}");
+    for step in [5usize, 4096] {
+        let whole = talk(&rt, input.as_slice(), steady(4096), steady(step))?;
+        let mut writes = 1u64;
+        for line in TEXT {
+            writes = writes.saturating_add(line.len().div_ceil(step) as u64);
+        }
+        assert_eq!(rt; whole.writes, writes);
+        for k in 1..=whole.writes {
+            for writes in [failing(step, k), failing_after_a_part(step, k)] {
+                let Outcome { ended, text, .. } = talk(
+                    &rt,
+                    input.as_slice(),
+                    steady(4096),
+                    writes,
+                )?;
+                assert_eq!(rt; ended, Err(Refusal::OutputFault), "write {k} of {step}");
+                assert!(rt; output.starts_with(text.as_slice()), "write {k} of {step}");
+            }
         }
     }
     Ok(())
@@ -270,8 +339,8 @@ fn users_are_refused(rt: HostRuntime) -> Result<(), Fail> {
         let mut input = Vec::from_slice(rt.alloc(), b"wait\n".as_slice())?;
         input.extend_from_slice(names)?;
         input.extend_from_slice(b"\nusers alice\n".as_slice())?;
-        let (result, text) = talk(&rt, input.as_slice(), 4096, 0, 4096, 0)?;
-        assert!(rt; result == Err(Refusal::BadUsers));
+        let Outcome { ended, text, .. } = talk(&rt, input.as_slice(), steady(4096), steady(4096))?;
+        assert_eq!(rt; ended, Err(Refusal::BadUsers));
         assert_eq!(rt;
             text.as_slice(),
             b"1 - refused 25 BadLine\n2 - refused 14 BadUsers\n".as_slice()
@@ -301,7 +370,7 @@ fn users_are_read_ahead(rt: HostRuntime) -> Result<(), Fail> {
     let input = joined(alloc, &LINES)?;
     let output = joined(alloc, &TEXT)?;
     for step in [1usize, 7, 4096] {
-        let mut source = source_of(alloc, input.as_slice(), step, 0)?;
+        let mut source = source_of(alloc, input.as_slice(), steady(step))?;
         let ahead = read_ahead(alloc, Mode::Service, &mut source)?;
         let Ahead { bytes, users, .. } = ahead;
         let Some(users) = users else {
@@ -320,7 +389,7 @@ fn users_are_read_ahead(rt: HostRuntime) -> Result<(), Fail> {
 fn a_fault_is_given_again(rt: HostRuntime) -> Result<(), Fail> {
     let alloc = rt.alloc();
     let input = joined(alloc, &LINES)?;
-    let mut source = source_of(alloc, input.as_slice(), 25, 2)?;
+    let mut source = source_of(alloc, input.as_slice(), failing(25, 2))?;
     let Ahead {
         bytes,
         users,
@@ -333,7 +402,7 @@ fn a_fault_is_given_again(rt: HostRuntime) -> Result<(), Fail> {
     let mut text = Vec::new(alloc);
     let mut core = store(&rt)?;
     let result = serve(alloc, Mode::Service, &mut reader, &mut text, &mut core);
-    assert!(rt; result == Err(Refusal::InputFault));
+    assert_eq!(rt; result, Err(Refusal::InputFault));
     assert_eq!(rt; text.as_slice(), b"".as_slice());
     assert_eq!(rt; reader.failures(), 2);
     Ok(())
@@ -348,7 +417,7 @@ fn no_users_are_found(rt: HostRuntime) -> Result<(), Fail> {
         b"users\nusers alice\n",
         b"users  alice\n",
     ] {
-        let mut source = source_of(alloc, input, 4096, 0)?;
+        let mut source = source_of(alloc, input, steady(4096))?;
         let ahead = read_ahead(alloc, Mode::Service, &mut source)?;
         assert!(rt; ahead.users.is_none() & !ahead.has_failed);
         assert_eq!(rt; ahead.bytes.as_slice(), input);

@@ -2,14 +2,13 @@
 
 ghost use Rattle.std.specs.Prelude.{◌≡◌, ◌++◌, ◌∷◌, [], OnOk, IfOk, IfErr};
 ghost use Rattle.model.specs.declared.refusal.Refusal.TheVariants.{Memory};
-ghost use Rattle.model.specs.Talk.{reply_text, answer_text, path_in};
+ghost use Rattle.model.specs.Talk.{reply_text, answer_text};
 ghost use Rattle.schedule.specs.Standing.{reply_of};
 
 use model::Refusal;
 use nar::tree_text;
 use schedule::Reply;
 use std::alloc::Global;
-use storepath::StorePath;
 
 /// Adds the text of a reply.
 fn add_reply(alloc: Global, text: &mut Vec<u8>, reply: &Reply) -> Result<(), Refusal>
@@ -21,6 +20,12 @@ fn add_reply(alloc: Global, text: &mut Vec<u8>, reply: &Reply) -> Result<(), Ref
         Reply::Path(path) => {
             text.extend_from_slice(b"path ")?;
             text.extend_from_slice(path.bytes())?;
+        }
+        Reply::Derivation { path, class } => {
+            text.extend_from_slice(b"drv ")?;
+            text.extend_from_slice(path.bytes())?;
+            text.extend_from_slice(b" class ")?;
+            text.extend_from_slice(class.bytes())?;
         }
         Reply::Content(tree) => {
             let words = tree_text(alloc, tree)?;
@@ -54,14 +59,4 @@ pub(crate) fn answer_text(
     add_reply(alloc, &mut text, reply)?;
     text.push(b'\n')?;
     Ok(text)
-}
-
-/// The path in a reply.
-pub(crate) fn path_in(reply: Reply) -> Option<StorePath>
-    ensures { result ≡ path_in (reply_of reply) }
-{
-    match reply {
-        Reply::Path(path) => Some(path),
-        Reply::Done | Reply::Content(_) | Reply::Refused(_) => None,
-    }
 }

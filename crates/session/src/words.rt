@@ -4,10 +4,11 @@ ghost use Rattle.std.specs.Prelude.{◌≡◌, ◌⊎◌, ◌∷◌, [], true, f
 ghost use Rattle.model.specs.declared.refusal.Refusal.TheVariants.{Memory, BadLine};
 ghost use Rattle.model.specs.Paths.{is_name, IsPath};
 ghost use Rattle.model.specs.Worlds.{is_user_name, are_users};
-ghost use Rattle.model.specs.Forms.{UserWord, NameWord, PathWord, TreeWord, ToAddSource, ToFetch, IsTreeText, IsIll};
+ghost use Rattle.model.specs.Forms.{UserWord, NameWord, PathWord, TreeWord, ToAddSource, ToAddDerivation, ToFetch, IsTreeText, IsIll};
 ghost use Rattle.session.specs.Reading.{IsReadAs, IsNotRead};
 
 use crate::cut::Word;
+use aterm::Text;
 use model::Refusal;
 use nar::{Tree, read_tree_text};
 use schedule::{Event, Request, User, are_users};
@@ -56,6 +57,18 @@ pub(crate) fn read_source(
     Ok(Event {
         actor,
         request: Request::AddSource(name, tree),
+    })
+}
+
+/// The event `U derivation TEXT`, with a copy of the text.
+pub(crate) fn read_derivation(alloc: Global, user: &[u8], text: &[u8]) -> Result<Event, Refusal>
+    ensures { let wish = ToAddDerivation text.now in MatchResult result (IsReadAs user.now wish) (IsNotRead user.now wish) }
+{
+    let actor = read_user(alloc, user)?;
+    let text = Text::new(Vec::from_slice(alloc, text)?);
+    Ok(Event {
+        actor,
+        request: Request::AddDerivation(text),
     })
 }
 

@@ -4,3 +4,4 @@ mod KindLemmas
 mod NameLemmas
 mod NumberLemmas
 pub mod PathLemmas
+pub mod PathTests

@@ -11,6 +11,6 @@ mod tests;
 
 pub use base32::{from_base32, to_base32};
 pub use kind::{Kind, make_path};
-pub use laws::paths_differ;
+pub use laws::{paths_differ, paths_pass};
 pub use name::{Name, is_name};
 pub use path::{StorePath, read_path};

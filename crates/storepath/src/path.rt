@@ -1,7 +1,7 @@
 //! The texts of store paths (Nix Reference Manual, "Store Path").
 
-ghost use Rattle.std.specs.Prelude.{◌≡◌, ◌↔◌, ◌⊎◌, ℕ, List, IfOk, IfErr, IsTrue};
-ghost use Rattle.model.specs.Paths.{base32, is_name, path_text, IsPath};
+ghost use Rattle.std.specs.Prelude.{◌≡◌, ◌↔◌, ◌⊎◌, ℕ, List, true, false, IfOk, IfErr, IsTrue};
+ghost use Rattle.model.specs.Paths.{base32, is_name, is_path, path_text, IsPath};
 ghost use Rattle.storepath.specs.Parts.{hash_part_of, name_of};
 
 use crate::base32::{from_base32, to_base32};
@@ -46,6 +46,7 @@ impl StorePath {
     pub fn bytes(&self) -> &[u8]
         ensures value { result.now ≡ self.now }
         ensures path { IsPath self.now }
+        ensures passes { is_path self.now ≡ true }
     {
         self.text.as_slice()
     }
@@ -85,7 +86,8 @@ pub(crate) fn path_of(
 
 /// Whether a text is a path's.
 fn is_path(text: &[u8]) -> bool
-    ensures { IsTrue result ↔ IsPath text.now }
+    ensures path { IsTrue result ↔ IsPath text.now }
+    ensures test { result ≡ is_path text.now }
 {
     let Some(rest) = text.strip_prefix(&STORE) else {
         return false;
@@ -110,6 +112,9 @@ pub fn read_path(alloc: Global, text: &[u8]) -> Result<StorePath, Refusal>
     ensures refused { (result ≡ Err Refusal.BadPath) ↔ (¬ (IsPath text.now)) }
     ensures memory { result ≡ Err Refusal.Memory → IsPath text.now }
     ensures errors { IfErr result (λ why. (why ≡ Refusal.BadPath) ⊎ (why ≡ Refusal.Memory)) }
+    ensures passes { IfOk result (λ _. is_path text.now ≡ true) }
+    ensures fails { (result ≡ Err Refusal.BadPath) ↔ (is_path text.now ≡ false) }
+    ensures passes_at_memory { result ≡ Err Refusal.Memory → is_path text.now ≡ true }
 {
     if !is_path(text) {
         return Err(Refusal::BadPath);

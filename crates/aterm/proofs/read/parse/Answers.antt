@@ -3,8 +3,9 @@ use Rattle.std.specs.Prelude.{Some}
 use Rattle.std.proofs.lemmas.Result.{err_from_is_err_and}
 use Rattle.aterm.specs.Parts.{derivation_of}
 use Rattle.aterm.specs.Strings.{derivation_read}
-use Rattle.aterm.specs.Reading.{derivation_at}
+use Rattle.model.specs.DerivationTexts.{derivation_at}
 use Rattle.aterm.proofs.Refusing.{refused_strings, refused_paths, made_or_refused, made_only}
+use Rattle.aterm.proofs.Exact.{given_from_read}
 use Rattle.aterm.proofs.read.parse.Goals as goal
 
 pub returns-in_err-strings-clause-read : goal.returns-in_err-strings-clause-read
@@ -20,9 +21,18 @@ returns-in_err-parts-clause-read c =
 pub returns-clause-read : goal.returns-clause-read
 returns-clause-read c =
     let found : derivation_at c.args.text.now ≡ Some (derivation_of c.in_ok-parts.parts) = c.in_ok-strings.ensures ∙ ap Some (sym c.in_ok-parts.ensures) in
-    made_or_refused c.args.text.now (derivation_of c.in_ok-parts.parts) c.new.result found c.new.ensures
+    made_or_refused c.args.text.now (derivation_of c.in_ok-parts.parts) c.new.result found c.new.ensures.derivation
 
 pub returns-clause-only : goal.returns-clause-only
 returns-clause-only c =
     let found : derivation_at c.args.text.now ≡ Some (derivation_of c.in_ok-parts.parts) = c.in_ok-strings.ensures ∙ ap Some (sym c.in_ok-parts.ensures) in
-    made_only c.args.text.now (derivation_of c.in_ok-parts.parts) c.new.result found c.new.ensures
+    made_only c.args.text.now (derivation_of c.in_ok-parts.parts) c.new.result found c.new.ensures.derivation
+
+pub returns-in_err-strings-clause-same : goal.returns-in_err-strings-clause-same
+returns-in_err-strings-clause-same c = given_from_read c.args.text.now _ (returns-in_err-strings-clause-read c)
+
+pub returns-in_err-parts-clause-same : goal.returns-in_err-parts-clause-same
+returns-in_err-parts-clause-same c = given_from_read c.args.text.now _ (returns-in_err-parts-clause-read c)
+
+pub returns-clause-same : goal.returns-clause-same
+returns-clause-same c = given_from_read c.args.text.now _ (returns-clause-read c)

@@ -1,5 +1,5 @@
 use Rattle.std.proofs.Common.{◌≡◌, codes, ◌-◌}
-use Rattle.aterm.specs.Reading.{member_at, members_at, items_at}
+use Rattle.model.specs.DerivationTexts.{member_at, members_at, items_at}
 use Rattle.aterm.proofs.Items.{onto}
 use Rattle.aterm.proofs.read.read_members.Given as goal
 

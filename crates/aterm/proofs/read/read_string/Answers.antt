@@ -1,7 +1,7 @@
 use Rattle.std.proofs.Common.{rules, ◌≡◌, ◌∷◌, codes, [], ◌++◌, true, false, arith, refl, length, drop, sym, ap, ◌∙◌}
 use Rattle.std.proofs.lemmas.Result.{err_from_is_err_and}
 use Rattle.std.specs.Prelude.{Some}
-use Rattle.aterm.specs.Reading.{is_at, character_at, string_at}
+use Rattle.model.specs.DerivationTexts.{is_at, character_at, string_at}
 use Rattle.aterm.proofs.Items.{loop_ends, loop_fails, loop_spent, loop_goes_on, fails_on}
 use Rattle.aterm.proofs.read.read_string.Goals as goal
 

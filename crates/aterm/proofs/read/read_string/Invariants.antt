@@ -1,5 +1,5 @@
 use Rattle.std.proofs.Common.{◌≡◌, codes, [], ◌-◌}
-use Rattle.aterm.specs.Reading.{character_at, items_at, string_at}
+use Rattle.model.specs.DerivationTexts.{character_at, items_at, string_at}
 use Rattle.aterm.proofs.Items.{onto}
 use Rattle.aterm.proofs.read.read_string.Given as goal
 

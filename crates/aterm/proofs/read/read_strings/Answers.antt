@@ -1,6 +1,6 @@
 use Rattle.std.proofs.Common.{rules, ◌≡◌, codes, true, false, refl}
 use Rattle.std.specs.Prelude.{bytes_eq}
-use Rattle.aterm.specs.Reading.{derivation_at}
+use Rattle.model.specs.DerivationTexts.{derivation_at}
 use Rattle.aterm.proofs.read.read_strings.Goals as goal
 
 pub returns-then-ne : goal.returns-then-ne

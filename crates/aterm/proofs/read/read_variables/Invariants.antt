@@ -1,5 +1,5 @@
 use Rattle.std.proofs.Common.{◌≡◌, codes, ◌-◌}
-use Rattle.aterm.specs.Reading.{variable_at, variables_at, items_at}
+use Rattle.model.specs.DerivationTexts.{variable_at, variables_at, items_at}
 use Rattle.aterm.proofs.Items.{onto}
 use Rattle.aterm.proofs.read.read_variables.Given as goal
 

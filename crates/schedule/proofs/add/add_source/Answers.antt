@@ -1,4 +1,4 @@
-use Rattle.std.proofs.Common.{◌≡◌, ◌+◌, ◌≤◌, true, false, List, refl, sym, ◌∙◌, ap, arith, length}
+use Rattle.std.proofs.Common.{◌≡◌, ◌+◌, ◌≤◌, true, false, List, [], ◌∷◌, ◌++◌, refl, sym, ◌∙◌, ap, arith, rules, length}
 use Rattle.std.specs.Prelude.{bytes_eq, is_some, nat_le, ◌&&◌}
 use Rattle.std.specs.List.{list_any}
 use Rattle.std.proofs.lemmas.Bool.Decides.{nat_tests}
@@ -15,56 +15,70 @@ pub returns-then-holds-clause-serves : goal.returns-then-holds-clause-serves
 unfolding outcome
 returns-then-holds-clause-serves c users reach =
     add_known _ (desk_of c.args.table.now.sources c.args.desk.now) c.args.name.now c.args.tree c.in_ok-path.path c.in_ok-path.ensures.value
-    (sym (held_found c.args.table.now.sources c.args.desk.now.paths c.in_ok-path.path) ∙ sym c.if-holds.ensures)
+    (sym (held_found c.args.table.now.sources c.args.desk.now.known.sources c.in_ok-path.path) ∙ sym c.if-holds.ensures)
 
 pub returns-then-holds-clause-stored : goal.returns-then-holds-clause-stored
 returns-then-holds-clause-stored c =
     let there : is_some (tree_at c.in_ok-path.path c.args.table.now.sources) ≡ true =
-    held_known c.args.table.now.sources c.args.desk.now.paths c.in_ok-path.path c.requires.known (sym c.if-holds.ensures) in
+    held_known c.args.table.now.sources c.args.desk.now.known.sources c.in_ok-path.path c.requires.known (sym c.if-holds.ensures) in
     rw (← c.in_ok-path.ensures.value, there) refl
 
 pub returns-then-not-has_room-clause-serves : goal.returns-then-not-has_room-clause-serves
 unfolding outcome
 returns-then-not-has_room-clause-serves c users reach _ =
     let s : Source = record { path = c.in_ok-path.path; tree = c.args.tree } in
-    let absent : list_any (λ p. bytes_eq p c.in_ok-path.path) c.args.desk.now.paths ≡ false = sym c.if-holds.ensures in
-    let over : (nat_le (length c.args.desk.now.paths + 1) 1024 && nat_le (c.args.desk.now.charge + length (nar c.args.tree)) c.args.limits.charge) ≡ false =
+    let absent : list_any (λ p. bytes_eq p c.in_ok-path.path) c.args.desk.now.known.sources ≡ false = sym c.if-holds.ensures in
+    let over : (nat_le (length c.args.desk.now.known.sources + 1) 1024 && nat_le (c.args.desk.now.charge + length (nar c.args.tree)) c.args.limits.charge) ≡ false =
     grind (arith, nat_tests, c.if-not-has_room.ensures, c.nar_len-archive.ensures.len) in
     add_refused _ (desk_of c.args.table.now.sources c.args.desk.now) c.args.name.now c.args.tree c.in_ok-path.path c.in_ok-path.ensures.value
-    (sym (held_found c.args.table.now.sources c.args.desk.now.paths c.in_ok-path.path) ∙ absent)
+    (sym (held_found c.args.table.now.sources c.args.desk.now.known.sources c.in_ok-path.path) ∙ absent)
     (is_within-more users c.args.table.now.sources c.args.limits.charge c.args.desk.now s c.requires absent ∙ over)
 
 -- the source that was added
-abbrev added : goal.After-add → Source
+abbrev added : goal.After-store → Source
 added c = record { path = c.in_ok-path.path; tree = c.args.tree }
 
-absent : (c : goal.After-add) → list_any (λ p. bytes_eq p c.in_ok-path.path) c.args.desk.now.paths ≡ false
+absent : (c : goal.After-store) → list_any (λ p. bytes_eq p c.in_ok-path.path) c.args.desk.now.known.sources ≡ false
 absent c = sym c.if-holds.ensures
 
-more : (c : goal.After-add) → HoldsMore c.store.new.table.sources c.args.desk.now c.add.new.self (added c)
+key : (c : goal.After-store) → c.in_ok-key.key.items ≡ c.in_ok-path.path
+key c = search rules
+
+changed : (c : goal.After-store) → c.add_source.new.self ≡ record { known = record c.args.desk.now.known { sources = c.args.desk.now.known.sources ++ c.in_ok-path.path ∷ [] }; charge = c.args.desk.now.charge + length (nar c.args.tree) }
+changed c = search (arith, rules)
+
+more : (c : goal.After-store) → HoldsMore c.store.new.table.sources c.args.desk.now c.add_source.new.self (added c)
 more c = record {
-  there = c.in_ok-store.ensures.there;
-  paths = rw (← c.in_ok-reserve-2.ensures.paths, c.add.ensures.paths, c.in_ok-held.ensures.items, c.bytes-2.ensures.value) refl;
-  charge = rw (← c.in_ok-reserve-2.ensures.charge, c.add.ensures.charge, c.nar_len-archive.ensures.len) refl;
+  there = ap (λ p. tree_at p c.store.new.table.sources) (sym (key c)) ∙ c.store.ensures.there;
+  known = ap (λ d. d.known) (changed c);
+  charge = ap (λ d. d.charge) (changed c);
 }
 
-later : (c : goal.After-add) → Extends c.args.table.now.sources c.store.new.table.sources
-later c =
-    let stored : c.store.new.table.sources ≡ put_once (added c) c.args.table.now.sources = rw c.in_ok-reserve.ensures.kept at c.in_ok-store.ensures.stored in
-    rw stored (put_once-Extends (added c) c.args.table.now.sources)
+stored : (c : goal.After-store) → c.store.new.table.sources ≡ put_once (added c) c.args.table.now.sources
+stored c =
+    c.store.ensures.stored
+    ∙ ap (λ p. put_once (record { path = p; tree = c.args.tree }) c.reserve.new.self.sources) (key c)
+    ∙ ap (put_once (added c)) c.in_ok-reserve.ensures.kept
+
+later : (c : goal.After-store) → Extends c.args.table.now.sources c.store.new.table.sources
+later c = rw (stored c) (put_once-Extends (added c) c.args.table.now.sources)
+
+pub returns-clause-stored : goal.returns-clause-stored
+returns-clause-stored c = rw (← c.in_ok-path.ensures.value) (stored c)
 
 pub returns-clause-serves : goal.returns-clause-serves
 unfolding outcome
 returns-clause-serves c users reach =
     let old : List Source = c.args.table.now.sources in
-    let within : (nat_le (length c.args.desk.now.paths + 1) 1024 && nat_le (c.args.desk.now.charge + length (nar c.args.tree)) c.args.limits.charge) ≡ true =
+    let within : (nat_le (length c.args.desk.now.known.sources + 1) 1024 && nat_le (c.args.desk.now.charge + length (nar c.args.tree)) c.args.limits.charge) ≡ true =
     grind (arith, nat_tests, c.if-not-has_room.ensures, c.nar_len-archive.ensures.len) in
     add_new _ (desk_of old c.args.desk.now) c.args.name.now c.args.tree c.in_ok-path.path c.in_ok-path.ensures.value
-    (sym (held_found old c.args.desk.now.paths c.in_ok-path.path) ∙ absent c)
+    (sym (held_found old c.args.desk.now.known.sources c.in_ok-path.path) ∙ absent c)
     (is_within-more users old c.args.limits.charge c.args.desk.now (added c) c.requires (absent c) ∙ within)
-    ∙ ap (λ d. becomes d (Path c.in_ok-path.path)) (sym (desk_of-more old c.store.new.table.sources c.args.limits.charge c.args.desk.now c.add.new.self (added c) (later c) c.requires (more c)))
+    ∙ ap (λ d. becomes d (Path c.in_ok-path.path)) (sym (desk_of-more old c.store.new.table.sources c.args.limits.charge c.args.desk.now c.add_source.new.self (added c) (later c) c.requires (more c)))
 
 pub returns-clause-sound : goal.returns-clause-sound
 returns-clause-sound c =
+    let few : length c.args.desk.now.known.sources + 1 ≤ 1024 = grind (arith, nat_tests, c.if-not-has_room.ensures, c.nar_len-archive.ensures.len) in
     let fits : c.args.desk.now.charge + length (nar c.args.tree) ≤ c.args.limits.charge = grind (arith, nat_tests, c.if-not-has_room.ensures, c.nar_len-archive.ensures.len) in
-    sound-more c.args.table.now.sources c.store.new.table.sources c.args.limits.charge c.args.desk.now c.add.new.self (added c) (later c) c.requires (more c) (absent c) fits
+    sound-more c.args.table.now.sources c.store.new.table.sources c.args.limits.charge c.args.desk.now c.add_source.new.self (added c) (later c) c.requires (more c) (absent c) few fits

@@ -1,9 +1,9 @@
-use Rattle.std.proofs.Common.{◌≡◌, None, sym}
+use Rattle.std.proofs.Common.{rules, ◌≡◌, None}
 use Rattle.model.specs.Worlds.{tree_at}
 use Rattle.schedule.proofs.TableLemmas.{tree_at-pushed}
 use Rattle.schedule.proofs.add.store.Goals as goal
 
-pub returns-clause-there : goal.returns-clause-there
-returns-clause-there c =
-    let absent : tree_at c.args.path.now c.args.table.now.sources ≡ None = sym c.in-None.ensures in
-    rw (c.put.ensures, c.requires.key) (tree_at-pushed c.args.table.now.sources (record { path = c.args.path.now; tree = c.args.tree }) absent)
+pub returns-then-not-is_stored-clause-there : goal.returns-then-not-is_stored-clause-there
+returns-then-not-is_stored-clause-there c =
+    let absent : tree_at c.args.path.items c.args.table.now.sources ≡ None = search rules in
+    rw c.put.ensures (tree_at-pushed c.args.table.now.sources (record { path = c.args.path.items; tree = c.args.tree }) absent)

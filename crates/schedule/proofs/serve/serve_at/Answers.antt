@@ -23,3 +23,10 @@ returns-in-Fetch-clause-serves c users = rw c.in-Fetch.is (c.fetch.ensures.serve
 
 pub returns-in-Fetch-clause-taken : goal.returns-in-Fetch-clause-taken
 returns-in-Fetch-clause-taken c e = let no = rw e at c.fetch.ensures.no_clash in cc
+
+pub returns-in-AddDerivation-clause-serves : goal.returns-in-AddDerivation-clause-serves
+returns-in-AddDerivation-clause-serves c users =
+    rw (c.in-AddDerivation.is, ← c.bytes.ensures) (c.add_derivation.ensures.serves users c.args.table.now.sources c.args.limits.charge c.requires)
+
+pub returns-in-AddDerivation-clause-sound : goal.returns-in-AddDerivation-clause-sound
+returns-in-AddDerivation-clause-sound c = c.add_derivation.ensures.sound c.args.table.now.sources c.args.limits.charge c.requires

@@ -1,8 +1,10 @@
-use Rattle.std.proofs.Common.{ℕ, length, get_or, refl, arith, ◌∙◌, ap, sym, lit<}
+use Rattle.std.proofs.Common.{◌≡◌, ℕ, length, get_or, refl, arith, ◌∙◌, ap, sym, subst, lit<, List, take}
 use Rattle.std.proofs.Math.Nat.{pow-le-pow_right}
+use Rattle.std.proofs.lemmas.List.{take_all}
 use Rattle.model.specs.Paths.{digits_of, number_of}
 use Rattle.storepath.proofs.NumberLemmas.{IsFolded-zeros}
 use Rattle.storepath.proofs.DigitLemmas.{length-digits_of, not_a_digit, is_digit, read_digit, small_number}
+use Rattle.storepath.proofs.PathTests.{digits_tested}
 use Rattle.storepath.proofs.base32.from_base32.Goals as goal
 
 pub returns-then-text-ne32-clause-refused : goal.returns-then-text-ne32-clause-refused
@@ -32,3 +34,11 @@ returns-in_default-clause-refused c =
     let i : ℕ = c.loop-character.character-index in
     let character : ℕ = get_or c.args.text.now i 0 in
     (refl, λ bytes folded same. not_a_digit character (sym c.digit_value.ensures ∙ c.in_default.is) 32 (number_of bytes) i (omega arith) (ap (λ text. get_or text i 0) same))
+
+pub returns-clause-digits : goal.returns-clause-digits
+returns-clause-digits c =
+    let i : ℕ = c.loop-character.character-index in
+    let text : List ℕ = c.args.text.now in
+    let end : i ≡ 32 = omega arith in
+    let read = subst (λ k. digits_of k (number_of c.loop-character.number) ≡ take k text) end c.loop-character.invariant.read in
+    digits_tested c.loop-character.number text (read ∙ take_all 32 text (omega arith))

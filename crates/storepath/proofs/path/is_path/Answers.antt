@@ -5,23 +5,24 @@ use Rattle.std.proofs.lemmas.List.{append_cancel_left}
 use Rattle.std.proofs.lemmas.Slice.Eq.{strip_prefix_is}
 use Rattle.model.specs.Paths.{base32, is_name}
 use Rattle.storepath.proofs.PathLemmas.{parts_of-path_text, not_a_path, long_enough, digits_in, behind_digits_in, joined_path}
+use Rattle.storepath.proofs.PathTests.{same_as_test}
 use Rattle.storepath.proofs.path.is_path.Goals as goal
 
-pub returns-in_default : goal.returns-in_default
-returns-in_default c =
+pub returns-in_default-clause-path : goal.returns-in_default-clause-path
+returns-in_default-clause-path c =
     let text = c.args.text.now in
     let none = strip_prefix_is Decides-eqb text (codes "/nix/store/") None c.in_default.ensures.cases in
     not_a_path text (λ path. none (base32 path.hash_part ++ (codes "-" ++ path.name)) (path.is ∙ parts_of-path_text path.hash_part path.name))
 
-pub returns-in_default-split_at_checked : goal.returns-in_default-split_at_checked
-returns-in_default-split_at_checked c =
+pub returns-in_default-split_at_checked-clause-path : goal.returns-in_default-split_at_checked-clause-path
+returns-in_default-split_at_checked-clause-path c =
     let text = c.args.text.now in
     let rest = c.in-Some.rest.now in
     let store = strip_prefix_is Decides-eqb text (codes "/nix/store/") (Some c.in-Some.rest) c.in-Some.ensures.cases in
     not_a_path text (λ path. omega (arith, c.in_default-split_at_checked.ensures.cases, long_enough text rest path store))
 
-pub returns-in_default-strip_prefix : goal.returns-in_default-strip_prefix
-returns-in_default-strip_prefix c =
+pub returns-in_default-strip_prefix-clause-path : goal.returns-in_default-strip_prefix-clause-path
+returns-in_default-strip_prefix-clause-path c =
     let text = c.args.text.now in
     let rest = c.in-Some.rest.now in
     let behind = c.in-Some-split_at_checked.rest.now in
@@ -30,8 +31,8 @@ returns-in_default-strip_prefix c =
     let none = strip_prefix_is Decides-eqb behind (codes "-") None c.in_default-strip_prefix.ensures.cases in
     not_a_path text (λ path. none path.name (split.2 ∙ behind_digits_in text rest path store))
 
-pub returns-in-Ok : goal.returns-in-Ok
-returns-in-Ok c =
+pub returns-in-Ok-clause-path : goal.returns-in-Ok-clause-path
+returns-in-Ok-clause-path c =
     let text = c.args.text.now in
     let rest = c.in-Some.rest.now in
     let behind = c.in-Some-split_at_checked.rest.now in
@@ -46,10 +47,25 @@ returns-in-Ok c =
           c.is_name.ensures ∙ ap is_name same ∙ path.named,
     )
 
-pub returns-in-Err : goal.returns-in-Err
-returns-in-Err c =
+pub returns-in-Err-clause-path : goal.returns-in-Err-clause-path
+returns-in-Err-clause-path c =
     let text = c.args.text.now in
     let rest = c.in-Some.rest.now in
     let store = strip_prefix_is Decides-eqb text (codes "/nix/store/") (Some c.in-Some.rest) c.in-Some.ensures.cases in
     let split = c.in-Some-split_at_checked.ensures.cases in
     not_a_path text (λ path. c.in-Err.ensures.refused.1 path.hash_part path.folded (sym (split.1 ∙ digits_in text rest path store)))
+
+pub returns-in_default-clause-test : goal.returns-in_default-clause-test
+returns-in_default-clause-test c = same_as_test _ c.args.text.now (returns-in_default-clause-path c)
+
+pub returns-in_default-split_at_checked-clause-test : goal.returns-in_default-split_at_checked-clause-test
+returns-in_default-split_at_checked-clause-test c = same_as_test _ c.args.text.now (returns-in_default-split_at_checked-clause-path c)
+
+pub returns-in_default-strip_prefix-clause-test : goal.returns-in_default-strip_prefix-clause-test
+returns-in_default-strip_prefix-clause-test c = same_as_test _ c.args.text.now (returns-in_default-strip_prefix-clause-path c)
+
+pub returns-in-Ok-clause-test : goal.returns-in-Ok-clause-test
+returns-in-Ok-clause-test c = same_as_test _ c.args.text.now (returns-in-Ok-clause-path c)
+
+pub returns-in-Err-clause-test : goal.returns-in-Err-clause-test
+returns-in-Err-clause-test c = same_as_test _ c.args.text.now (returns-in-Err-clause-path c)

@@ -1,0 +1,65 @@
+-- What crosses threads.
+use denote.RattleType.{RattleType}
+use denote.Param.Send.{IsSend, IsSync, sendable, view_send}
+use denote.Param.SendFields.{declared_send}
+use Rattle.std.specs.contracts.vec.Vec as Vec
+use Rattle.std.specs.contracts.alloc.Global as Global
+use Rattle.std.specs.contracts.impls.GlobalAllocator.TheImpl.{ghosts}
+use Rattle.std.proofs.Crossing.{crosses, Vec-send}
+use Rattle.nar.proofs.node.Node.TheLaws.TheKnot.{send-Node}
+use Rattle.nar.specs.contracts.tree.Tree as Tree
+use Rattle.model.specs.contracts.refusal.Refusal as Refusal
+use Rattle.storepath.specs.contracts.path.StorePath as StorePath
+use Rattle.classes.specs.contracts.known.Known as Known
+use Rattle.schedule.specs.contracts.state.Core as Core
+use Rattle.schedule.specs.contracts.events.Event as Event
+use Rattle.schedule.specs.contracts.events.Reply as Reply
+use Rattle.book.specs.contracts.history.Row as Row
+use Rattle.book.specs.contracts.front.Front as Front
+use Rattle.book.specs.contracts.book.Book as Book
+use Rattle.book.specs.contracts.book.Book.TheInside as Inside
+use Rattle.book.specs.contracts.pass.Pass as Pass
+use Rattle.std.proofs.sync.ledger.Book.TheSendSync.{the_send as ledger_send}
+use Rattle.std.proofs.sync.ledger.Share.TheSendSync.{the_send as ledger_share_send}
+use Rattle.book.specs.declared.naming.Naming as Naming
+use Rattle.std.specs.declared.sync.ledger.Ledger as Ledger
+
+pub tree_send : IsSend Tree.the_row
+tree_send = search (sendable, crosses, send-Node) depth 40
+
+pub path_send : IsSend StorePath.the_row
+path_send = search (sendable, crosses) depth 40
+
+pub refusal_send : IsSend Refusal.the_row
+refusal_send = search (sendable, crosses) depth 60 fits 5000
+
+pub event_send : IsSend Event.the_row
+event_send = search (sendable, crosses, tree_send) depth 60
+
+pub reply_send : IsSend Reply.the_row
+reply_send = search (sendable, crosses, tree_send, path_send, refusal_send) depth 60 fits 5000
+
+pub row_send : IsSend Row.the_row
+row_send = declared_send Row.the_type (search sendable, (event_send, (reply_send, tt)))
+
+pub known_send : IsSend Known.the_row
+known_send = search (sendable, crosses, path_send) depth 60 fits 5000
+
+pub core_send : IsSend Core.the_row
+core_send = search (sendable, crosses, tree_send, known_send) depth 60 fits 5000
+
+history_send : IsSend (Vec.the_row Row.the_row Global.the_row ghosts)
+history_send = Vec-send Row.the_row row_send
+
+module _ (J : RattleType) (n : Naming.Ghosts J.Denot) (l : Ledger.Ghosts J.Denot) where
+  inside_send : IsSend (Inside.the_row J n l)
+  inside_send = declared_send (Inside.the_type J n l) (core_send, (history_send, (ledger_send J l, (ledger_share_send J l, (search sendable, tt)))))
+
+  pub book_send : IsSend (Book.the_row J n l)
+  book_send = search (view_send, inside_send) depth 5
+
+  pub front_sync : IsSync (Front.the_row J n l)
+  front_sync = search (sendable, crosses, book_send) depth 40
+
+  pub pass_send : IsSend (Pass.the_row J n l)
+  pass_send = search (sendable, crosses, ledger_share_send) depth 40

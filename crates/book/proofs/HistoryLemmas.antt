@@ -1,0 +1,46 @@
+-- One row more in a history.
+use Rattle.std.proofs.Common.{◌≡◌, ℕ, List, [], ◌∷◌, ◌++◌, refl, sym, ap, ◌∙◌, append_assoc, append-nil}
+use Rattle.std.specs.Prelude.{All}
+use Rattle.std.proofs.lemmas.List.{map_push}
+use Rattle.std.proofs.lemmas.List.Elements.{All-head, All-tail, All-nil, All-cons}
+use Rattle.model.specs.Worlds.{Setup, World}
+use Rattle.model.specs.Steps.{Event, Answer, answers, after, reply_to}
+use Rattle.model.specs.HashedTexts.{hashed, texts_of_event}
+use Rattle.book.specs.declared.history.Row.{Row}
+use Rattle.book.specs.Histories.{event_in, answer_in, events_of, answers_of, world_after}
+
+pub all_front : (P : List ℕ → Type 0) (xs ys : List (List ℕ)) → All P (xs ++ ys) → All P xs
+all_front P [] ys h = All-nil P
+all_front P (x ∷ xs) ys h = All-cons P x xs (All-head P x (xs ++ ys) h) (all_front P xs ys (All-tail P x (xs ++ ys) h))
+
+pub all_back : (P : List ℕ → Type 0) (xs ys : List (List ℕ)) → All P (xs ++ ys) → All P ys
+all_back P [] ys h = h
+all_back P (x ∷ xs) ys h = all_back P xs ys (All-tail P x (xs ++ ys) h)
+
+-- ---- one event more
+
+pub world_after_push : (setup : Setup) (w : World) (events : List Event) (e : Event) → world_after setup w (events ++ e ∷ []) ≡ after setup (world_after setup w events) e
+unfolding world_after
+world_after_push setup w [] e = refl
+world_after_push setup w (x ∷ events) e = world_after_push setup (after setup w x) events e
+
+pub answers_push : (setup : Setup) (w : World) (events : List Event) (e : Event)
+    → answers setup w (events ++ e ∷ []) ≡ answers setup w events ++ record { actor = e.actor; reply = reply_to setup (world_after setup w events) e } ∷ []
+unfolding world_after answers
+answers_push setup w [] e = refl
+answers_push setup w (x ∷ events) e = ap (λ (rest : List Answer). record { actor = x.actor; reply = reply_to setup w x } ∷ rest) (answers_push setup (after setup w x) events e)
+
+pub hashed_push : (setup : Setup) (w : World) (events : List Event) (e : Event) → hashed setup w (events ++ e ∷ []) ≡ hashed setup w events ++ texts_of_event setup (world_after setup w events) e
+unfolding world_after hashed
+hashed_push setup w [] e = append-nil (texts_of_event setup w e)
+hashed_push setup w (x ∷ events) e =
+    ap (λ (rest : List (List ℕ)). texts_of_event setup w x ++ rest) (hashed_push setup (after setup w x) events e)
+    ∙ sym (append_assoc (texts_of_event setup w x) (hashed setup (after setup w x) events) (texts_of_event setup (world_after setup (after setup w x) events) e))
+
+-- ---- one row more
+
+pub events_push : (rows : List Row) (r : Row) → events_of (rows ++ r ∷ []) ≡ events_of rows ++ event_in r ∷ []
+events_push rows r = map_push event_in rows r
+
+pub rows_push : (rows : List Row) (r : Row) → answers_of (rows ++ r ∷ []) ≡ answers_of rows ++ answer_in r ∷ []
+rows_push rows r = map_push answer_in rows r

@@ -1,0 +1,5 @@
+pub mod Crossing
+pub mod HistoryLemmas
+pub mod KeepingLemmas
+pub mod ReplyLemmas
+pub mod AnsweringLemmas

@@ -1,0 +1,62 @@
+-- The history of a front, as a run of the model.
+use Rattle.std.specs.Prelude.{◌≡◌, ℕ, Bool, true, false, ◌||◌, List, [], ◌∷◌, ◌++◌, map, All}
+use Rattle.model.specs.declared.refusal.Refusal.{Refusal}
+use Rattle.model.specs.declared.refusal.Refusal.TheVariants.{Stopped}
+use Rattle.model.specs.Paths.{NoClash}
+use Rattle.model.specs.Worlds.{Setup, World, nothing}
+use Rattle.model.specs.Steps as steps
+use Rattle.model.specs.Steps.{after, answers, replies_to, replies}
+use Rattle.model.specs.HashedTexts.{hashed}
+use Rattle.model.specs.Striking.{strike}
+use Rattle.schedule.specs.declared.events.Event.{Event}
+use Rattle.schedule.specs.declared.events.Reply.{Reply}
+use Rattle.schedule.specs.declared.events.Reply.TheVariants.{Refused}
+use Rattle.schedule.specs.Standing.{event_of, reply_of, is_memory_refusal}
+use Rattle.book.specs.declared.history.Row.{Row}
+
+-- ---- rows in the terms of the model
+
+abbrev pub row : ℕ → Event → Reply → Row
+row pass event reply = record { pass = pass; event = event; reply = reply }
+
+abbrev pub event_in : Row → steps.Event
+event_in r = event_of r.event
+
+abbrev pub events_of : List Row → List steps.Event
+events_of rows = map event_in rows
+
+abbrev pub answer_in : Row → steps.Answer
+answer_in r = record { actor = r.event.actor; reply = reply_of r.reply }
+
+abbrev pub answers_of : List Row → List steps.Answer
+answers_of rows = map answer_in rows
+
+-- ---- replies that have no row
+
+abbrev pub is_stopped_refusal : Refusal → Bool
+is_stopped_refusal Stopped = true
+is_stopped_refusal why = false
+
+-- whether a reply is that memory was refused, or that an earlier want of memory stopped the writer
+abbrev pub gave_up : Reply → Bool
+gave_up (Refused why) = is_memory_refusal why || is_stopped_refusal why
+gave_up reply = false
+
+-- ---- what a history says
+
+-- the world after events
+unfoldable pub world_after : Setup → World → List steps.Event → World
+world_after setup w [] = w
+world_after setup w (e ∷ events) = world_after setup (after setup w e) events
+
+-- a history that one caller could have made of private desks: where no two texts that its events hash have one folded
+-- digest, the replies are the model's, and each user's are those to the events that can reach him
+pub record IsLegal (setup : Setup) (rows : List Row) : Type 0 where
+  pub answered : All (λ r. gave_up r.reply ≡ false) rows
+  pub same : NoClash (hashed setup nothing (events_of rows)) → answers_of rows ≡ answers setup nothing (events_of rows)
+  pub isolated : NoClash (hashed setup nothing (events_of rows)) → (u : List ℕ) → replies_to u (answers_of rows) ≡ replies setup u (strike setup u (events_of rows))
+
+-- a legal history ends with the call of a pass, its event and its reply
+pub record IsAnswered (setup : Setup) (pass : ℕ) (event : Event) (reply : Reply) : Type 0 where
+  pub before : List Row
+  pub legal : IsLegal setup (before ++ row pass event reply ∷ [])

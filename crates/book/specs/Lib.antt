@@ -1,0 +1,4 @@
+pub mod Callers
+pub mod Histories
+pub mod Keeping
+pub mod Answering

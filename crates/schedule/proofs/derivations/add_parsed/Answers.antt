@@ -1,0 +1,61 @@
+use Rattle.std.proofs.Common.{rules, ◌≡◌, ◌+◌, ◌⊎◌, true, false, sym, ◌∙◌, ap, arith, length, Ok, Err, None}
+use Rattle.std.specs.Prelude.{nat_le}
+use Rattle.std.proofs.lemmas.Bool.Decides.{nat_tests}
+use Rattle.std.proofs.lemmas.Result.{err_from_is_err_and}
+use Rattle.model.specs.declared.refusal.Refusal.TheVariants.{Memory}
+use Rattle.model.specs.Steps.{becomes, told_of}
+use Rattle.model.specs.Classes.{known_at, derivation_path, admit}
+use Rattle.schedule.specs.Sound.{desk_of}
+use Rattle.schedule.specs.Standing.{reply_of}
+use Rattle.schedule.proofs.DeskLemmas.{holds_derivation, sound-derivation}
+use Rattle.schedule.proofs.DerivationLemmas.{admission_no_clash, admitted_path, refused_fits, over_fits, added_fits}
+use Rattle.schedule.proofs.derivations.add_parsed.Goals as goal
+
+pub returns-in_err-admitted-clause-fits : goal.returns-in_err-admitted-clause-fits
+returns-in_err-admitted-clause-fits c users table limit sound =
+    let p = err_from_is_err_and c.from_residual-in_err-admitted.result c.from_residual-in_err-admitted.ensures.1 in
+    let known = c.args.desk.now.known in
+    let none : known_at known (derivation_path c.args.derivation.now) ≡ None = search rules in
+    let why : (p.0 ≡ Memory) ⊎ (admit known c.args.derivation.now ≡ Err p.0) = rw (p.2, ← c.known-2.ensures) c.in_err-admitted.ensures in
+    rw p.1 (refused_fits users table limit c.args.desk.now c.args.derivation.now p.0 none why)
+
+pub returns-in_err-admitted-clause-no_clash : goal.returns-in_err-admitted-clause-no_clash
+returns-in_err-admitted-clause-no_clash c =
+    let p = err_from_is_err_and c.from_residual-in_err-admitted.result c.from_residual-in_err-admitted.ensures.1 in
+    rw (p.1, p.2) (admission_no_clash c.known-2.result.now c.args.derivation.now c.in_err-admitted.field-0.0 c.in_err-admitted.ensures)
+
+pub returns-then-derivation_count-ge-MOST_DERIVATIONS-clause-fits :
+    goal.returns-then-derivation_count-ge-MOST_DERIVATIONS-clause-fits
+returns-then-derivation_count-ge-MOST_DERIVATIONS-clause-fits c users table limit sound own =
+    let known = c.args.desk.now.known in
+    let none : known_at known (derivation_path c.args.derivation.now) ≡ None = search rules in
+    let ok : admit known c.args.derivation.now ≡ Ok c.in_ok-admitted.admitted = search rules in
+    let count : c.derivation_count.result ≡ length known.derivations = search rules in
+    let over : nat_le (length known.derivations + 1) 1024 ≡ false = grind (arith, nat_tests, count, c.if-derivation_count-ge-MOST_DERIVATIONS.true) in
+    over_fits users table limit c.args.desk.now c.args.derivation.now c.in_ok-admitted.admitted sound none ok over
+
+pub add_derivation-requires : goal.add_derivation-requires
+add_derivation-requires c =
+    let known = c.args.desk.now.known in
+    let none : known_at known (derivation_path c.args.derivation.now) ≡ None = search rules in
+    let ok : admit known c.args.derivation.now ≡ Ok c.in_ok-admitted.admitted = search rules in
+    record { absent = ap (known_at known) (admitted_path known c.args.derivation.now c.in_ok-admitted.admitted ok) ∙ none }
+
+changed : (c : goal.In_ok-add_derivation) → c.add_derivation.new.self ≡ holds_derivation c.in_ok-admitted.admitted c.args.desk.now
+changed c = search rules
+
+pub returns-clause-fits : goal.returns-clause-fits
+returns-clause-fits c users table limit sound =
+    let known = c.args.desk.now.known in
+    let none : known_at known (derivation_path c.args.derivation.now) ≡ None = search rules in
+    let ok : admit known c.args.derivation.now ≡ Ok c.in_ok-admitted.admitted = search rules in
+    let count : c.derivation_count.result ≡ length known.derivations = search rules in
+    let within : nat_le (length known.derivations + 1) 1024 ≡ true = grind (arith, nat_tests, count, c.if-derivation_count-ge-MOST_DERIVATIONS.false) in
+    let told : reply_of c.in_ok-reply.reply ≡ told_of c.in_ok-admitted.admitted = search rules in
+    added_fits users table limit c.args.desk.now c.args.derivation.now c.in_ok-admitted.admitted sound none ok within
+    ∙ ap (λ d. becomes (desk_of table d) (told_of c.in_ok-admitted.admitted)) (sym (changed c)) ∙ ap (becomes (desk_of table c.add_derivation.new.self)) (sym told)
+
+pub returns-clause-sound : goal.returns-clause-sound
+returns-clause-sound c table limit sound =
+    let count : c.derivation_count.result ≡ length c.args.desk.now.known.derivations = search rules in
+    rw (changed c) (sound-derivation table limit c.args.desk.now c.in_ok-admitted.admitted sound (omega (arith, count, c.if-derivation_count-ge-MOST_DERIVATIONS.false)))

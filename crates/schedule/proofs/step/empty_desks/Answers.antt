@@ -1,0 +1,12 @@
+use Rattle.std.proofs.Common.{rules, ◌≡◌, [], ◌∷◌, ◌++◌}
+use Rattle.std.proofs.lemmas.List.Elements.{All-push}
+use Rattle.schedule.specs.Sound.{IsEmpty}
+use Rattle.schedule.proofs.step.empty_desks.Goals as goal
+
+pub loop-desk-preserved : goal.loop-desk-preserved
+loop-desk-preserved c =
+    let pushed : c.push.new.self.items ≡ c.loop-desk.desks.items ++ c.new.result ∷ [] = search rules in
+    record {
+      empty = rw pushed (All-push IsEmpty c.loop-desk.desks.items c.new.result c.loop-desk.invariant.empty (record { known = c.new.ensures.known; charge = c.new.ensures.charge }));
+      count = search rules;
+    }
