@@ -1,14 +1,13 @@
 -- Looking paths up among the entries of a desk's tables.
 use Rattle.std.proofs.Common.{◌≡◌, ℕ, Bool, true, false, inl, inr, ◌⊎◌, List, [], ◌∷◌, ◌++◌, refl, ap, sym, ◌∙◌}
 use Rattle.std.specs.Prelude.{bytes_eq}
-use Rattle.std.specs.Global.{Vec}
 use Rattle.std.specs.List.{list_any}
 use Rattle.std.specs.Map.{lookup}
 use Rattle.std.proofs.lemmas.Slice.Eq.{bytes_eq-Decides}
 use Rattle.std.proofs.lemmas.Bool.Decides.{same_from_decides}
 use Rattle.std.proofs.lemmas.List.Elements.{All-head, All-tail}
 use Rattle.model.specs.Classes.{Admission, known_at, is_one_of}
-use Rattle.classes.specs.Entries.{IsKeyed, AreKeyed, admissions_of, paths_of}
+use Rattle.classes.specs.Entries.{IsKeyed, AreKeyed, admissions_of}
 
 either : (b : Bool) → (b ≡ true) ⊎ (b ≡ false)
 either true = inl refl
@@ -18,26 +17,22 @@ bytes_eq_sym : (a b : List ℕ) → bytes_eq a b ≡ bytes_eq b a
 bytes_eq_sym a b = same_from_decides (bytes_eq a b) (bytes_eq b a) (bytes_eq-Decides a b) (λ t. sym ((bytes_eq-Decides b a).0 t), λ e. (bytes_eq-Decides b a).1 (sym e))
 
 -- what is known of a path is at its key
-pub known_entries : (path : List ℕ) (sources : List (List ℕ)) (entries : List (Vec ℕ × Admission)) → AreKeyed entries
-    → known_at (record { derivations = admissions_of entries; sources = sources }) path ≡ lookup (λ k. bytes_eq path k.items) entries
+pub known_entries : (path : List ℕ) (sources : List (List ℕ)) (entries : List (List ℕ × Admission)) → AreKeyed entries
+    → known_at (record { derivations = admissions_of entries; sources = sources }) path ≡ lookup (bytes_eq path) entries
 known_entries path sources [] keyed = refl
 known_entries path sources (e ∷ entries) keyed =
-    let same : bytes_eq e.1.path path ≡ bytes_eq path e.0.items = bytes_eq_sym e.1.path path ∙ ap (bytes_eq path) (sym (All-head IsKeyed e entries keyed)) in
+    let same : bytes_eq e.1.path path ≡ bytes_eq path e.0 = bytes_eq_sym e.1.path path ∙ ap (bytes_eq path) (sym (All-head IsKeyed e entries keyed)) in
     let rest = known_entries path sources entries (All-tail IsKeyed e entries keyed) in
-    elim (either (bytes_eq path e.0.items)) [
+    elim (either (bytes_eq path e.0)) [
       | inl t ↦ let u : bytes_eq e.1.path path ≡ true = same ∙ t in rw (t, u) refl
       | inr f ↦ let u : bytes_eq e.1.path path ≡ false = same ∙ f in rw (f, u) rest
     ]
 
-pub admissions_of-push : (entries : List (Vec ℕ × Admission)) (e : Vec ℕ × Admission) → admissions_of (entries ++ e ∷ []) ≡ admissions_of entries ++ e.1 ∷ []
+pub admissions_of-push : (entries : List (List ℕ × Admission)) (e : List ℕ × Admission) → admissions_of (entries ++ e ∷ []) ≡ admissions_of entries ++ e.1 ∷ []
 admissions_of-push [] e = refl
 admissions_of-push (x ∷ entries) e = ap (λ rest. x.1 ∷ rest) (admissions_of-push entries e)
 
--- a path is among the paths where its key is among the keys
-pub one_of_keys : (path : List ℕ) (keys : List (Vec ℕ)) → list_any (λ k. bytes_eq path k.items) keys ≡ is_one_of (paths_of keys) path
+-- a path is one of the keys whichever of the two is compared with the other
+pub one_of_keys : (path : List ℕ) (keys : List (List ℕ)) → list_any (bytes_eq path) keys ≡ is_one_of keys path
 one_of_keys path [] = refl
-one_of_keys path (k ∷ keys) = rw (bytes_eq_sym path k.items, one_of_keys path keys) refl
-
-pub paths_of-push : (keys : List (Vec ℕ)) (key : Vec ℕ) → paths_of (keys ++ key ∷ []) ≡ paths_of keys ++ key.items ∷ []
-paths_of-push [] key = refl
-paths_of-push (k ∷ keys) key = ap (λ rest. k.items ∷ rest) (paths_of-push keys key)
+one_of_keys path (k ∷ keys) = rw (bytes_eq_sym path k, one_of_keys path keys) refl

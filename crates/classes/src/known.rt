@@ -17,17 +17,17 @@ use storepath::StorePath;
 /// Looking a path up takes the same time however much is known. The hashers have a fixed seed: a desk is one user's own, and nobody else puts paths there.
 #[derive(Drop)]
 pub struct Known {
-    derivations: IndexMap<Vec<u8>, Admitted>,
-    sources: IndexSet<Vec<u8>>,
+    derivations: IndexMap<StorePath, Admitted>,
+    sources: IndexSet<StorePath>,
 }
 
 impl Model for Known {
     ghost use Rattle.model.specs.Classes.{Known as KnownValue};
-    ghost use Rattle.classes.specs.Entries.{AreKeyed, admissions_of, paths_of};
+    ghost use Rattle.classes.specs.Entries.{AreKeyed, admissions_of};
 
     ghost Value = { KnownValue };
 
-    ghost view = { λ a. record { derivations = admissions_of a.derivations.entries; sources = paths_of a.sources.keys } };
+    ghost view = { λ a. record { derivations = admissions_of a.derivations.entries; sources = a.sources.keys } };
 
     ghost invariant = { λ a. AreKeyed a.derivations.entries };
 }
@@ -59,26 +59,25 @@ impl Known {
 
     /// One derivation more, whose path is not known yet. The one error is [`Refusal::Memory`], and
     /// changes nothing.
-    pub fn add_derivation(&mut self, alloc: Global, admitted: Admitted) -> Result<(), Refusal>
+    pub fn add_derivation(&mut self, admitted: Admitted) -> Result<(), Refusal>
         requires absent { known_at self.old admitted.path ≡ None }
         ensures { MatchResult result
             (λ _. self.new ≡ record self.old { derivations = self.old.derivations ++ admitted ∷ [] })
             (λ e. (e ≡ Memory) × (self.new ≡ self.old)) }
     {
-        let path = Vec::from_slice(alloc, admitted.path().bytes())?;
+        let path = admitted.path().clone()?;
         let _none = self.derivations.insert(path, admitted)?;
         Ok(())
     }
 
     /// One source more, whose path is not known yet. The one error is [`Refusal::Memory`], and
     /// changes nothing.
-    pub fn add_source(&mut self, alloc: Global, path: &StorePath) -> Result<(), Refusal>
-        requires absent { is_one_of self.old.sources path.now ≡ false }
+    pub fn add_source(&mut self, path: StorePath) -> Result<(), Refusal>
+        requires absent { is_one_of self.old.sources path ≡ false }
         ensures { MatchResult result
-            (λ _. self.new ≡ record self.old { sources = self.old.sources ++ path.now ∷ [] })
+            (λ _. self.new ≡ record self.old { sources = self.old.sources ++ path ∷ [] })
             (λ e. (e ≡ Memory) × (self.new ≡ self.old)) }
     {
-        let path = Vec::from_slice(alloc, path.bytes())?;
         let _is_new = self.sources.insert(path)?;
         Ok(())
     }
@@ -87,13 +86,13 @@ impl Known {
     pub fn derivation(&self, path: &StorePath) -> Option<&Admitted>
         ensures { option_copied result ≡ known_at self.now path.now }
     {
-        self.derivations.get(path.bytes())
+        self.derivations.get(path)
     }
 
     /// Whether the path is a source's.
     pub fn has_source(&self, path: &StorePath) -> bool
         ensures { result ≡ is_one_of self.now.sources path.now }
     {
-        self.sources.contains(path.bytes())
+        self.sources.contains(path)
     }
 }

@@ -48,7 +48,7 @@ pub record IsFolded (digest : List ℕ) : Type 0 where
 
 -- ---- names
 
--- an ASCII letter or digit, or one of + - . _ ? =
+-- an ASCII letter or digit, or one of the signs between the quotes
 abbrev pub is_name_byte : ℕ → Bool
 is_name_byte b =
     (nat_le 48 b && nat_le b 57) || ((nat_le 65 b && nat_le b 90) || ((nat_le 97 b && nat_le b 122) || list_any (λ c. c == b) (codes "+-._?=")))

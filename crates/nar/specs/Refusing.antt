@@ -1,15 +1,10 @@
 -- When each refusal comes.
 use Rattle.std.specs.Prelude.{◌≡◌, ◌<◌, ◌≤◌, ℕ, List, length}
-use Rattle.model.specs.Archives.{Tree, IsTree, HasBytes, IsSound, depth_of, nar}
+use Rattle.model.specs.Archives.{Tree, IsTree, IsSound, depth_of, nar}
 use Rattle.model.specs.TreeTexts.{tree_text_of}
+use Rattle.model.specs.Forms.{IsWellFormed}
 use Rattle.model.specs.declared.refusal.Refusal.{Refusal}
 use Rattle.model.specs.declared.refusal.Refusal.TheVariants.{TooLarge, BadNar, Memory}
-
--- a tree, but for the length of its archive
-pub record IsWellFormed (tree : Tree) : Type 0 where
-  pub bytes : HasBytes tree
-  pub sound : IsSound tree
-  pub depth : depth_of tree ≤ 64
 
 -- why a text is not read as an archive: it is over 64 MiB, else it is no tree's archive, else for want of memory
 abbrev pub IsNoArchive : List ℕ → Refusal → Type 0

@@ -1,6 +1,5 @@
 -- What contracts see of the table and of a desk.
 use Rattle.std.specs.Prelude.{◌≡◌, ◌≢◌, ℕ, List, [], ◌∷◌, ◌++◌, map, is_some, Some, if◌then◌else◌, refl}
-use Rattle.std.specs.Global.{Vec}
 use Rattle.std.specs.Coded.{Coded, code_by, coded×, coded_ℕ, coded_list}
 use Rattle.model.specs.Archives.{Tree, nar}
 use Rattle.model.specs.TreeCode.{tree_code}
@@ -20,10 +19,10 @@ pub record Holdings : Type 0 where
   pub charge : ℕ
 
 -- the sources of a map's entries
-abbrev pub source_of : Vec ℕ × Tree → Source
-source_of e = record { path = e.0.items; tree = e.1 }
+abbrev pub source_of : List ℕ × Tree → Source
+source_of e = record { path = e.0; tree = e.1 }
 
-abbrev pub sources_of : List (Vec ℕ × Tree) → List Source
+abbrev pub sources_of : List (List ℕ × Tree) → List Source
 sources_of entries = map source_of entries
 
 -- sources with one more, unless its path is there

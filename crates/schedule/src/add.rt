@@ -45,11 +45,11 @@ fn is_stored(table: &Table, path: &StorePath, tree: &Tree) -> Result<bool, Refus
 }
 
 /// Stores a tree at its path, unless it is there already.
-fn store(table: &mut Table, is_stored: bool, path: Vec<u8>, tree: Tree)
+fn store(table: &mut Table, is_stored: bool, path: StorePath, tree: Tree)
     requires room { 0 < table.old.room }
-    requires stored { tree_at path.items table.old.sources ≡ (if is_stored then Some tree else None) }
-    ensures stored { table.new.sources ≡ put_once (record { path = path.items; tree = tree }) table.old.sources }
-    ensures there { tree_at path.items table.new.sources ≡ Some tree }
+    requires stored { tree_at path table.old.sources ≡ (if is_stored then Some tree else None) }
+    ensures stored { table.new.sources ≡ put_once (record { path = path; tree = tree }) table.old.sources }
+    ensures there { tree_at path table.new.sources ≡ Some tree }
 {
     if !is_stored {
         table.put(path, tree);
@@ -92,9 +92,9 @@ pub(crate) fn add_source(
         return Err(Refusal::Quota);
     }
     let is_stored = is_stored(table, &path, &tree)?;
-    let key = Vec::from_slice(alloc, path.bytes())?;
+    let key = path.clone()?;
     table.reserve()?;
-    desk.add_source(alloc, &path, archive)?;
+    desk.add_source(path.clone()?, archive)?;
     store(table, is_stored, key, tree);
     Ok(Reply::Path(path))
 }

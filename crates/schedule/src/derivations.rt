@@ -52,7 +52,7 @@ fn add_parsed(alloc: Global, desk: &mut Desk, derivation: &Derivation) -> Result
         return Err(Refusal::Quota);
     }
     let reply = reply_with(&admitted)?;
-    desk.add_derivation(alloc, admitted)?;
+    desk.add_derivation(admitted)?;
     Ok(reply)
 }
 

@@ -61,34 +61,25 @@ impl Desk {
 
     /// Adds a source that is not there yet, whose archive has so many bytes. The one error is
     /// memory, and changes nothing.
-    pub(crate) fn add_source(
-        &mut self,
-        alloc: Global,
-        path: &StorePath,
-        archive: u64,
-    ) -> Result<(), Refusal>
-        requires absent { is_one_of self.old.known.sources path.now ≡ false }
+    pub(crate) fn add_source(&mut self, path: StorePath, archive: u64) -> Result<(), Refusal>
+        requires absent { is_one_of self.old.known.sources path ≡ false }
         requires fits { self.old.charge + archive < 2 ^ 64 }
         ensures { MatchResult result
-            (λ _. self.new ≡ record { known = record self.old.known { sources = self.old.known.sources ++ path.now ∷ [] }; charge = self.old.charge + archive })
+            (λ _. self.new ≡ record { known = record self.old.known { sources = self.old.known.sources ++ path ∷ [] }; charge = self.old.charge + archive })
             (λ e. (e ≡ Memory) × (self.new ≡ self.old)) }
     {
-        self.known.add_source(alloc, path)?;
+        self.known.add_source(path)?;
         self.charge += archive;
         Ok(())
     }
 
     /// Adds a derivation that is not there yet. The one error is memory, and changes nothing.
-    pub(crate) fn add_derivation(
-        &mut self,
-        alloc: Global,
-        admitted: Admitted,
-    ) -> Result<(), Refusal>
+    pub(crate) fn add_derivation(&mut self, admitted: Admitted) -> Result<(), Refusal>
         requires absent { known_at self.old.known admitted.path ≡ None }
         ensures { MatchResult result
             (λ _. self.new ≡ record self.old { known = record self.old.known { derivations = self.old.known.derivations ++ admitted ∷ [] } })
             (λ e. (e ≡ Memory) × (self.new ≡ self.old)) }
     {
-        self.known.add_derivation(alloc, admitted)
+        self.known.add_derivation(admitted)
     }
 }

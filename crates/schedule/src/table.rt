@@ -15,7 +15,7 @@ use storepath::StorePath;
 /// hasher has keys that nobody outside knows, since whoever adds a source has a say in its path.
 #[derive(Drop)]
 pub(crate) struct Table {
-    trees: IndexMap<Vec<u8>, Tree, RandomState>,
+    trees: IndexMap<StorePath, Tree, RandomState>,
 }
 
 impl Model for Table {
@@ -43,7 +43,7 @@ impl Table {
     pub(crate) fn get(&self, path: &StorePath) -> Option<&Tree>
         ensures { option_copied result ≡ tree_at path.now self.now.sources }
     {
-        self.trees.get(path.bytes())
+        self.trees.get(path)
     }
 
     /// Makes room for one tree more.
@@ -55,10 +55,10 @@ impl Table {
     }
 
     /// Puts a tree at a path that has none yet.
-    pub(crate) fn put(&mut self, path: Vec<u8>, tree: Tree)
-        requires absent { tree_at path.items self.old.sources ≡ None }
+    pub(crate) fn put(&mut self, path: StorePath, tree: Tree)
+        requires absent { tree_at path self.old.sources ≡ None }
         requires room { 0 < self.old.room }
-        ensures { self.new.sources ≡ self.old.sources ++ record { path = path.items; tree = tree } ∷ [] }
+        ensures { self.new.sources ≡ self.old.sources ++ record { path = path; tree = tree } ∷ [] }
     {
         let _absent = self.trees.insert(path, tree).unwrap();
     }

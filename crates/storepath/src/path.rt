@@ -9,7 +9,9 @@ use crate::name::{Name, is_name};
 use model::Refusal;
 use std::alloc::{AllocError, Global};
 use std::cmp::Ordering;
+use std::hash::{Hash, Hasher};
 use std::marker::Model;
+use std::sync::ArcSlice;
 use std::{fmt, str};
 
 /// What stands before each hash part.
@@ -24,21 +26,23 @@ const DASH: usize = 43;
 /// Where the name begins, in bytes.
 const NAME: usize = 44;
 
-/// The text of a store path: `/nix/store/`, a hash part of 32 digits, `-` and a name.
+/// The text of a store path: `/nix/store/`, a hash part of 32 digits, `-` and a name. A copy shares
+/// the text.
 #[derive(Debug, Drop)]
 pub struct StorePath {
-    text: Vec<u8>,
+    text: ArcSlice<u8>,
 }
 
 impl Model for StorePath {
     ghost use Rattle.std.specs.Prelude.{List, ℕ};
+    ghost use Rattle.std.specs.Arc.{arc_slice_items};
     ghost use Rattle.model.specs.Paths.{IsPath};
 
     ghost Value = { List ℕ };
 
-    ghost view = { λ path. path.text.items };
+    ghost view = { λ path. arc_slice_items path.text };
 
-    ghost invariant = { λ path. IsPath path.text.items };
+    ghost invariant = { λ path. IsPath (arc_slice_items path.text) };
 }
 
 impl StorePath {
@@ -81,6 +85,7 @@ pub(crate) fn path_of(
     text.extend_from_slice(&to_base32(hash_part))?;
     text.extend_from_slice(b"-")?;
     text.extend_from_slice(name.bytes())?;
+    let text = ArcSlice::from_vec(text)?;
     Ok(StorePath { text })
 }
 
@@ -119,7 +124,7 @@ pub fn read_path(alloc: Global, text: &[u8]) -> Result<StorePath, Refusal>
     if !is_path(text) {
         return Err(Refusal::BadPath);
     }
-    let text = Vec::from_slice(alloc, text)?;
+    let text = ArcSlice::from_slice(alloc, text)?;
     Ok(StorePath { text })
 }
 
@@ -181,7 +186,23 @@ impl PartialOrd for StorePath {
     }
 }
 
-/// The copy is equal. It fails only where memory is refused.
+/// Paths that are equal have one hash, that of the text.
+impl Hash for StorePath {
+    ghost use Rattle.std.proofs.Common.{rules};
+    ghost use Rattle.std.specs.Cmp.Rules.{hashing};
+    ghost use Rattle.std.specs.Hash as fed;
+
+    ghost hash_input = { fed.slice fed.u8 };
+
+    ghost respects_eq = { Prim.search (hashing, rules) };
+
+    fn hash<H: Hasher>(&self, state: &mut H) {
+        self.bytes().hash(state);
+    }
+}
+
+/// The copy is equal, and shares the text. It takes no memory; it fails only where there are 2^63 - 1
+/// copies.
 impl Clone for StorePath {
     ghost use Rattle.std.specs.Prelude.{◌≡◌};
 

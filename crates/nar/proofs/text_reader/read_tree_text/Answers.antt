@@ -2,7 +2,7 @@ use Rattle.std.proofs.Common.{◌≡◌, ◌+◌, ◌≤◌, ◌<◌, sym, ◌�
 use Rattle.model.specs.Archives.{IsTree, nar}
 use Rattle.nar.specs.NodeTrees.{tree_of}
 use Rattle.nar.specs.TextReading.{whole_at}
-use Rattle.nar.specs.Refusing.{IsWellFormed}
+use Rattle.model.specs.Forms.{IsWellFormed}
 use Rattle.nar.proofs.NodeLengths.{length-nar}
 use Rattle.nar.proofs.TextCompleteness.{whole_at-tree_text_of}
 use Rattle.nar.proofs.text_reader.read_tree_text.Goals as goal

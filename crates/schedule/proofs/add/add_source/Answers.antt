@@ -41,7 +41,7 @@ added c = record { path = c.in_ok-path.path; tree = c.args.tree }
 absent : (c : goal.After-store) → list_any (λ p. bytes_eq p c.in_ok-path.path) c.args.desk.now.known.sources ≡ false
 absent c = sym c.if-holds.ensures
 
-key : (c : goal.After-store) → c.in_ok-key.key.items ≡ c.in_ok-path.path
+key : (c : goal.After-store) → c.in_ok-key.key ≡ c.in_ok-path.path
 key c = search rules
 
 changed : (c : goal.After-store) → c.add_source.new.self ≡ record { known = record c.args.desk.now.known { sources = c.args.desk.now.known.sources ++ c.in_ok-path.path ∷ [] }; charge = c.args.desk.now.charge + length (nar c.args.tree) }

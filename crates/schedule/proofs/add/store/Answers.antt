@@ -5,5 +5,5 @@ use Rattle.schedule.proofs.add.store.Goals as goal
 
 pub returns-then-not-is_stored-clause-there : goal.returns-then-not-is_stored-clause-there
 returns-then-not-is_stored-clause-there c =
-    let absent : tree_at c.args.path.items c.args.table.now.sources ≡ None = search rules in
-    rw c.put.ensures (tree_at-pushed c.args.table.now.sources (record { path = c.args.path.items; tree = c.args.tree }) absent)
+    let absent : tree_at c.args.path c.args.table.now.sources ≡ None = search rules in
+    rw c.put.ensures (tree_at-pushed c.args.table.now.sources (record { path = c.args.path; tree = c.args.tree }) absent)

@@ -3,4 +3,4 @@ use Rattle.schedule.proofs.EntryLemmas.{tree_at_entries}
 use Rattle.schedule.proofs.table.Table.get.Goals as goal
 
 pub returns : goal.returns
-returns c = rw (← c.self.view_is) (rw c.bytes.ensures.value at c.get.ensures.value ∙ sym (tree_at_entries c.args.path.now c.self.inside.trees.entries))
+returns c = rw (← c.self.view_is) (c.get.ensures.value ∙ sym (tree_at_entries c.args.path.now c.self.inside.trees.entries))

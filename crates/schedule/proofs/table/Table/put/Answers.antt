@@ -7,8 +7,8 @@ use Rattle.schedule.proofs.table.Table.put.Goals as goal
 
 pub returns : goal.returns
 returns c =
-    let absent : lookup (λ k. bytes_eq c.args.path.items k.items) c.self.inside.trees.entries ≡ None =
-    sym (tree_at_entries c.args.path.items c.self.inside.trees.entries) ∙ rw (← c.self.view_is) at c.requires.absent in
+    let absent : lookup (bytes_eq c.args.path) c.self.inside.trees.entries ≡ None =
+    sym (tree_at_entries c.args.path c.self.inside.trees.entries) ∙ rw (← c.self.view_is) at c.requires.absent in
     let entries = rw c.unwrap-absent.ensures at c.insert.ensures.entries in
-    rw (← c.self.view_is, entries, insert_entry-new (λ a b. bytes_eq a.items b.items) c.self.inside.trees c.args.path c.args.tree absent)
+    rw (← c.self.view_is, entries, insert_entry-new bytes_eq c.self.inside.trees c.args.path c.args.tree absent)
     (sources_of-push c.self.inside.trees.entries (c.args.path, c.args.tree))

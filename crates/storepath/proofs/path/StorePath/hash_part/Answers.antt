@@ -1,11 +1,12 @@
 use Rattle.std.proofs.Common.{◌≤◌, length, arith, ◌∙◌, ap}
+use Rattle.std.specs.Arc.{arc_slice_items}
 use Rattle.storepath.specs.Parts.{hash_part_of}
 use Rattle.storepath.proofs.PathLemmas.{length-IsPath, hash_part_of-path_text}
 use Rattle.storepath.proofs.path.StorePath.hash_part.Goals as goal
 
 pub slice_bounds-result-end : goal.slice_bounds-result-end
 slice_bounds-result-end c =
-    let long : 44 ≤ length c.deref.result.now = rw c.deref.ensures.value (length-IsPath c.self.inside.text.items c.self.invariant) in
+    let long : 44 ≤ length c.deref.result.now = rw c.deref.ensures.value (length-IsPath (arc_slice_items c.self.inside.text) c.self.invariant) in
     omega arith
 
 pub returns-clause-part : goal.returns-clause-part
