@@ -18,6 +18,10 @@ const SOURCE: &[u8] = b"/nix/store/10000000000000000000000000000000-s";
 const WHOLE: &[u8] =
     b"Derive([(\"out\",\"\",\"\",\"\")],[(\"/nix/store/00000000000000000000000000000000-a.drv\",[\"out\"]),(\"/nix/store/00000000000000000000000000000001-a.drv\",[\"out\"])],[\"/nix/store/10000000000000000000000000000000-s\"],\"p\",\"nb\",[\"\\\"\\\\\\n\\r\\t ~\",\"\"],[(\"name\",\"b\"),(\"out\",\"\")])";
 
+/// The derivation without inputs, with an input and a source.
+const MADE: &[u8] =
+    b"Derive([(\"out\",\"\",\"\",\"\")],[(\"/nix/store/00000000000000000000000000000000-a.drv\",[\"out\"])],[\"/nix/store/10000000000000000000000000000000-s\"],\"p\",\"nb\",[],[(\"name\",\"a\"),(\"out\",\"\")])";
+
 fn text(alloc: Global, bytes: &[u8]) -> Result<Text, Fail> {
     Ok(Text::new(Vec::from_slice(alloc, bytes)?))
 }
@@ -30,7 +34,39 @@ fn is_refused(alloc: Global, bytes: &[u8]) -> bool {
     }
 }
 
-/// A text with other bytes in place of those from `start` to `end`.
+/// Whether every beginning of a text is refused.
+fn refuses_beginnings(alloc: Global, bytes: &[u8]) -> bool {
+    for place in 0..bytes.len() {
+        if !is_refused(alloc, &bytes[..place]) {
+            return false;
+        }
+    }
+    true
+}
+
+/// A text with one byte more, which stands behind that of a place.
+fn with_byte_behind(alloc: Global, bytes: &[u8], place: usize, more: u8) -> Result<Vec<u8>, Fail> {
+    let mut out = Vec::new(alloc);
+    for (here, byte) in bytes.iter().enumerate() {
+        out.push(*byte)?;
+        if here == place {
+            out.push(more)?;
+        }
+    }
+    Ok(out)
+}
+
+/// Whether a text is refused with a blank behind any of its commas.
+fn refuses_blanks(alloc: Global, bytes: &[u8]) -> Result<bool, Fail> {
+    for (place, byte) in bytes.iter().enumerate() {
+        if *byte == b',' && !is_refused(alloc, &with_byte_behind(alloc, bytes, place, b' ')?) {
+            return Ok(false);
+        }
+    }
+    Ok(true)
+}
+
+/// The first place of a text where other bytes stand, filled with new ones.
 fn replaced(alloc: Global, bytes: &[u8], old: &[u8], new: &[u8]) -> Result<Vec<u8>, Fail> {
     let mut out = Vec::new(alloc);
     let mut rest = bytes;
@@ -53,67 +89,80 @@ fn replaced(alloc: Global, bytes: &[u8], old: &[u8], new: &[u8]) -> Result<Vec<u
     Ok(out)
 }
 
+/// The text of the derivation that a text is parsed as.
+fn printed_again(alloc: Global, bytes: &[u8]) -> Result<Vec<u8>, Fail> {
+    let derivation = parse(alloc, bytes)?;
+    Ok(print(alloc, &derivation)?)
+}
+
 #[test]
 fn derivation_round_trip(rt: HostRuntime) -> Result<(), Fail> {
     let alloc = rt.alloc();
     assert_eq!(rt; ALONE.len(), 70);
-    let derivation = parse(alloc, ALONE)?;
-    assert_eq!(rt; print(alloc, &derivation)?.as_slice(), ALONE);
-    assert_eq!(rt; derivation.name(), b"a".as_slice());
-    for place in 0..ALONE.len() {
-        assert!(rt; is_refused(alloc, &ALONE[..place]));
-        if ALONE[place] == b',' {
-            let mut blank = Vec::from_slice(alloc, &ALONE[..=place])?;
-            blank.push(b' ')?;
-            blank.extend_from_slice(&ALONE[place + 1..])?;
-            assert!(rt; is_refused(alloc, &blank));
-        }
-    }
-    let mut longer = Vec::from_slice(alloc, ALONE)?;
-    longer.push(b'\n')?;
-    assert!(rt; is_refused(alloc, &longer));
+    assert_eq!(rt; printed_again(alloc, ALONE)?.as_slice(), ALONE);
+    assert_eq!(rt; parse(alloc, ALONE)?.name(), b"a".as_slice());
+    assert!(rt; refuses_beginnings(alloc, ALONE));
+    assert!(rt; refuses_blanks(alloc, ALONE)?);
+    assert!(rt; is_refused(alloc, &with_byte_behind(alloc, ALONE, 69, b'\n')?));
     Ok(())
+}
+
+fn has_every_part(parts: &Parts) -> bool {
+    let ([input, other], [source], [escapes, nothing]) = (
+        parts.inputs.as_slice(),
+        parts.sources.as_slice(),
+        parts.arguments.as_slice(),
+    ) else {
+        return false;
+    };
+    input.bytes() == INPUT
+        && other.bytes() == OTHER_INPUT
+        && source.bytes() == SOURCE
+        && escapes.bytes() == b"\"\\\n\r\t ~".as_slice()
+        && nothing.bytes() == b"".as_slice()
 }
 
 #[test]
 fn every_part(rt: HostRuntime) -> Result<(), Fail> {
     let alloc = rt.alloc();
-    let derivation = parse(alloc, WHOLE)?;
-    assert_eq!(rt; print(alloc, &derivation)?.as_slice(), WHOLE);
-    let parts = derivation.parts();
-    assert_eq!(rt; parts.inputs.len(), 2);
-    assert_eq!(rt; parts.inputs[0].bytes(), INPUT);
-    assert_eq!(rt; parts.inputs[1].bytes(), OTHER_INPUT);
-    assert_eq!(rt; parts.sources.len(), 1);
-    assert_eq!(rt; parts.sources[0].bytes(), SOURCE);
-    assert_eq!(rt; parts.arguments.len(), 2);
-    assert_eq!(rt; parts.arguments[0].bytes(), b"\"\\\n\r\t ~".as_slice());
-    let other = vec![in alloc; text(alloc, b"x")?]?;
-    let masked = print_with_inputs(alloc, &derivation, &other)?;
-    assert!(rt;
-        masked.starts_with(b"Derive([(\"out\",\"\",\"\",\"\")],[(\"x\",[\"out\"])],[\"/nix")
-    );
-    for place in 0..WHOLE.len() {
-        assert!(rt; is_refused(alloc, &WHOLE[..place]));
-    }
+    assert_eq!(rt; printed_again(alloc, WHOLE)?.as_slice(), WHOLE);
+    assert!(rt; refuses_beginnings(alloc, WHOLE));
+    assert!(rt; has_every_part(parse(alloc, WHOLE)?.parts()));
     Ok(())
+}
+
+/// The text of a derivation with one other text in place of its inputs.
+fn masked(alloc: Global, bytes: &[u8], input: &[u8]) -> Result<Vec<u8>, Fail> {
+    let derivation = parse(alloc, bytes)?;
+    let inputs = vec![in alloc; text(alloc, input)?]?;
+    Ok(print_with_inputs(alloc, &derivation, &inputs)?)
+}
+
+#[test]
+fn other_inputs(rt: HostRuntime) -> Result<(), Fail> {
+    let alloc = rt.alloc();
+    assert!(rt;
+        masked(alloc, WHOLE, b"x")?.starts_with(
+            b"Derive([(\"out\",\"\",\"\",\"\")],[(\"x\",[\"out\"])],[\"/nix"
+        )
+    );
+    Ok(())
+}
+
+/// The parts of a derivation with an input and a source.
+fn parts_of(alloc: Global, bytes: &[u8], input: &[u8], source: &[u8]) -> Result<Parts, Fail> {
+    let mut parts = parse(alloc, bytes)?.into_parts();
+    parts.inputs.push(read_path(alloc, input)?)?;
+    parts.sources.push(read_path(alloc, source)?)?;
+    Ok(parts)
 }
 
 #[test]
 fn made_of_parts(rt: HostRuntime) -> Result<(), Fail> {
     let alloc = rt.alloc();
-    let parts = Parts {
-        inputs: vec![in alloc; read_path(alloc, INPUT)?]?,
-        sources: vec![in alloc; read_path(alloc, SOURCE)?]?,
-        ..parse(alloc, ALONE)?.into_parts()
-    };
-    let derivation = Derivation::new(parts)?;
+    let derivation = Derivation::new(parts_of(alloc, ALONE, INPUT, SOURCE)?)?;
     assert_eq!(rt; derivation.parts().platform.bytes(), b"p".as_slice());
-    let same = print(alloc, &derivation)?;
-    assert_eq!(rt;
-        print(alloc, &parse(alloc, &same)?)?.as_slice(),
-        same.as_slice()
-    );
+    assert_eq!(rt; print(alloc, &derivation)?.as_slice(), MADE);
     Ok(())
 }
 

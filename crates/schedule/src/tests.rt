@@ -74,40 +74,59 @@ fn said(alloc: Global, reply: &Reply) -> Result<Vec<u8>, Fail> {
     })
 }
 
-#[test]
-fn first_path(rt: HostRuntime) -> Result<(), Fail> {
+/// A core of the users alice and bob, with that charge or the largest.
+fn core_of(rt: &HostRuntime, charge: u64) -> Result<Core, Fail> {
     let alloc = rt.alloc();
-    let hashing = RandomState::new(&rt)?;
+    let names = users(alloc, &[b"alice", b"bob"])?;
+    let limits = Limits {
+        charge: charge.min(LARGEST_CHARGE),
+    };
+    Ok(Core::new(alloc, RandomState::new(rt)?, names, limits)?)
+}
+
+/// Whether a core answers an event with these words.
+fn answers(alloc: Global, core: &mut Core, event: Event, text: &[u8]) -> Result<bool, Fail> {
+    let reply = core.step(alloc, event);
+    Ok(said(alloc, &reply)?.as_slice() == text)
+}
+
+/// What is said to the events of a list, each behind the name of its user.
+fn said_to(rt: &HostRuntime, events: Vec<Event>) -> Result<Vec<u8>, Fail> {
+    let alloc = rt.alloc();
+    let names = users(alloc, &[b"alice", b"bob"])?;
     let limits = Limits {
         charge: LARGEST_CHARGE,
     };
-    let names = users(alloc, &[b"alice", b"bob"])?;
+    let given = run(alloc, RandomState::new(rt)?, names, limits, events)?;
+    let mut text = Vec::new(alloc);
+    for (user, reply) in given.iter() {
+        text.extend_from_slice(user.bytes())?;
+        text.push(b' ')?;
+        text.extend_from_slice(said(alloc, reply)?.as_slice())?;
+        text.push(b'\n')?;
+    }
+    Ok(text)
+}
+
+#[test]
+fn first_path(rt: HostRuntime) -> Result<(), Fail> {
+    let alloc = rt.alloc();
     let mut events = Vec::new(alloc);
     events.push(source(alloc, b"alice", b"a", b"")?)?;
     events.push(fetch(alloc, b"bob", EMPTY_A)?)?;
     events.push(fetch(alloc, b"alice", EMPTY_A)?)?;
     events.push(fetch(alloc, b"eve", EMPTY_A)?)?;
-    let given = run(alloc, hashing, names, limits, events)?;
-    let wanted: [(&[u8], &[u8]); 4] = [
-        (b"alice", EMPTY_A),
-        (b"bob", b"53 NotHeld"),
-        (b"alice", b"f:"),
-        (b"eve", b"11 UnknownUser"),
-    ];
-    assert_eq!(rt; given.len(), wanted.len());
-    for (answer, (actor, text)) in given.iter().zip(wanted.iter()) {
-        assert!(rt; answer.0 == User::new(alloc, actor)?);
-        assert_eq!(rt; said(alloc, &answer.1)?.as_slice(), *text);
-    }
+    assert_eq!(rt;
+        said_to(&rt, events)?.as_slice(),
+        b"alice /nix/store/w996igw5fhzp5pmk8g9bfv99is99b0ap-a\nbob 53 NotHeld\nalice f:\neve 11 UnknownUser\n".as_slice()
+    );
     Ok(())
 }
 
 #[test]
 fn charge_limit(rt: HostRuntime) -> Result<(), Fail> {
     let alloc = rt.alloc();
-    let hashing = RandomState::new(&rt)?;
-    let names = users(alloc, &[b"alice", b"bob"])?;
-    let mut core = Core::new(alloc, hashing, names, Limits { charge: 112 })?;
+    let mut core = core_of(&rt, 112)?;
     let steps: [(&[u8], &[u8], &[u8], &[u8]); 5] = [
         (b"alice", b"a", b"", EMPTY_A),
         (b"alice", b"b", b"", b"13 Quota"),
@@ -116,42 +135,46 @@ fn charge_limit(rt: HostRuntime) -> Result<(), Fail> {
         (b"alice", b"c", b"a", b"13 Quota"),
     ];
     for (actor, name, bytes, text) in steps {
-        let reply = core.step(alloc, source(alloc, actor, name, bytes)?);
-        assert_eq!(rt; said(alloc, &reply)?.as_slice(), text);
+        let event = source(alloc, actor, name, bytes)?;
+        assert!(rt; answers(alloc, &mut core, event, text)?);
     }
     Ok(())
+}
+
+/// Adds as many sources to the desk of alice as it may have. Whether each was added.
+fn adds_most_sources(alloc: Global, core: &mut Core) -> Result<bool, Fail> {
+    for number in 0..1024u16 {
+        let name = format!(in alloc; "n{number}")?;
+        let reply = core.step(alloc, source(alloc, b"alice", name.as_bytes(), b"")?);
+        if !matches!(reply, Reply::Path(_)) {
+            return Ok(false);
+        }
+    }
+    Ok(true)
 }
 
 #[test]
 fn most_sources(rt: HostRuntime) -> Result<(), Fail> {
     let alloc = rt.alloc();
-    let hashing = RandomState::new(&rt)?;
-    let limits = Limits {
-        charge: LARGEST_CHARGE,
-    };
-    let names = users(alloc, &[b"alice", b"bob"])?;
-    let mut core = Core::new(alloc, hashing, names, limits)?;
-    for number in 0..1024u16 {
-        let name = format!(in alloc; "n{number}")?;
-        let reply = core.step(alloc, source(alloc, b"alice", name.as_bytes(), b"")?);
-        assert!(rt; matches!(reply, Reply::Path(_)));
-    }
-    let over = core.step(alloc, source(alloc, b"alice", b"b", b"")?);
-    assert_eq!(rt; said(alloc, &over)?.as_slice(), b"13 Quota".as_slice());
-    let other = core.step(alloc, source(alloc, b"bob", b"b", b"")?);
-    assert_eq!(rt; said(alloc, &other)?.as_slice(), EMPTY_B);
+    let mut core = core_of(&rt, LARGEST_CHARGE)?;
+    assert!(rt; adds_most_sources(alloc, &mut core)?);
+    let over = source(alloc, b"alice", b"b", b"")?;
+    assert!(rt; answers(alloc, &mut core, over, b"13 Quota")?);
+    let other = source(alloc, b"bob", b"b", b"")?;
+    assert!(rt; answers(alloc, &mut core, other, EMPTY_B)?);
     Ok(())
+}
+
+/// A text of one byte more than the longest derivation.
+fn too_long(alloc: Global) -> Result<Vec<u8>, Fail> {
+    Ok(vec![in alloc; b'D'; 1_048_577]?)
 }
 
 #[test]
 fn checks_of_a_derivation(rt: HostRuntime) -> Result<(), Fail> {
     let alloc = rt.alloc();
-    let hashing = RandomState::new(&rt)?;
-    let names = users(alloc, &[b"alice", b"bob"])?;
-    let limits = Limits { charge: 1 };
-    let mut core = Core::new(alloc, hashing, names, limits)?;
-    let mut long = Vec::new(alloc);
-    long.resize(1_048_577, b'D')?;
+    let mut core = core_of(&rt, 1)?;
+    let long = too_long(alloc)?;
     let steps: [(&[u8], &[u8], &[u8]); 8] = [
         (b"alice", Q, Q_TOLD),
         (b"bob", P, b"32 MissingInput"),
@@ -163,34 +186,41 @@ fn checks_of_a_derivation(rt: HostRuntime) -> Result<(), Fail> {
         (b"bob", Q, Q_TOLD),
     ];
     for (actor, text, told) in steps {
-        let reply = core.step(alloc, derivation(alloc, actor, text)?);
-        assert_eq!(rt; said(alloc, &reply)?.as_slice(), told);
+        let event = derivation(alloc, actor, text)?;
+        assert!(rt; answers(alloc, &mut core, event, told)?);
     }
     Ok(())
+}
+
+/// Adds all derivations but one that the desk of alice may have. Whether each was added.
+fn adds_derivations(alloc: Global, core: &mut Core) -> Result<bool, Fail> {
+    for number in 1..1024u16 {
+        let text = format!(in alloc;
+            "Derive([(\"out\",\"\",\"\",\"\")],[],[],\"p\",\"nb\",[],[(\"name\",\"n{number}\"),(\"out\",\"\")])"
+        )?;
+        let reply = core.step(alloc, derivation(alloc, b"alice", text.as_bytes())?);
+        if !matches!(reply, Reply::Derivation { .. }) {
+            return Ok(false);
+        }
+    }
+    Ok(true)
 }
 
 #[test]
 fn most_derivations(rt: HostRuntime) -> Result<(), Fail> {
     let alloc = rt.alloc();
-    let hashing = RandomState::new(&rt)?;
-    let names = users(alloc, &[b"alice", b"bob"])?;
-    let limits = Limits { charge: 1 };
-    let mut core = Core::new(alloc, hashing, names, limits)?;
-    let mut reply = core.step(alloc, derivation(alloc, b"alice", Q)?);
-    for number in 1..1024u16 {
-        assert!(rt; matches!(reply, Reply::Derivation { .. }));
-        let text = format!(in alloc;
-            "Derive([(\"out\",\"\",\"\",\"\")],[],[],\"p\",\"nb\",[],[(\"name\",\"n{number}\"),(\"out\",\"\")])"
-        )?;
-        reply = core.step(alloc, derivation(alloc, b"alice", text.as_bytes())?);
+    let mut core = core_of(&rt, 1)?;
+    assert!(rt; adds_derivations(alloc, &mut core)?);
+    let steps: [(&[u8], &[u8], &[u8]); 4] = [
+        (b"alice", Q, Q_TOLD),
+        (b"alice", P, b"13 Quota"),
+        (b"alice", Q, Q_TOLD),
+        (b"bob", Q, Q_TOLD),
+    ];
+    for (actor, text, told) in steps {
+        let event = derivation(alloc, actor, text)?;
+        assert!(rt; answers(alloc, &mut core, event, told)?);
     }
-    assert!(rt; matches!(reply, Reply::Derivation { .. }));
-    let over = core.step(alloc, derivation(alloc, b"alice", P)?);
-    assert_eq!(rt; said(alloc, &over)?.as_slice(), b"13 Quota".as_slice());
-    let again = core.step(alloc, derivation(alloc, b"alice", Q)?);
-    assert_eq!(rt; said(alloc, &again)?.as_slice(), Q_TOLD);
-    let other = core.step(alloc, derivation(alloc, b"bob", Q)?);
-    assert_eq!(rt; said(alloc, &other)?.as_slice(), Q_TOLD);
     Ok(())
 }
 
@@ -210,6 +240,12 @@ fn lists_of_users(rt: HostRuntime) -> Result<(), Fail> {
         let refused = Core::new(alloc, hashing, users(alloc, list)?, limits);
         assert_eq!(rt; refused.err(), Some(Refusal::BadUsers));
     }
+    Ok(())
+}
+
+#[test]
+fn longest_name_of_a_user(rt: HostRuntime) -> Result<(), Fail> {
+    let alloc = rt.alloc();
     let longest = User::new(alloc, b"abcdefghijklmnopqrstuvwxyz012345")?;
     assert!(rt; longest.is_well_formed());
     assert_eq!(rt;
