@@ -6,7 +6,7 @@ use Rattle.std.specs.contracts.vec.Vec as Vec
 use Rattle.std.specs.contracts.alloc.Global as Global
 use Rattle.std.specs.contracts.impls.GlobalAllocator.TheImpl.{ghosts}
 use Rattle.std.proofs.Crossing.{crosses, Vec-send}
-use Rattle.nar.proofs.node.Node.TheLaws.TheKnot.{send-Node}
+use Rattle.nar.proofs.node.Node.TheLaws.TheKnot.{both_send-Node, both_sync-Node}
 use Rattle.nar.specs.contracts.tree.Tree as Tree
 use Rattle.model.specs.contracts.refusal.Refusal as Refusal
 use Rattle.storepath.specs.contracts.path.StorePath as StorePath
@@ -25,7 +25,7 @@ use Rattle.book.specs.declared.naming.Naming as Naming
 use Rattle.std.specs.declared.sync.ledger.Ledger as Ledger
 
 pub tree_send : IsSend Tree.the_row
-tree_send = search (sendable, crosses, send-Node) depth 40
+tree_send = search (sendable, crosses, both_send-Node, both_sync-Node) depth 60
 
 pub path_send : IsSend StorePath.the_row
 path_send = search (sendable, crosses) depth 40

@@ -2,6 +2,7 @@
 use Rattle.std.proofs.Common.{◌≡◌, ℕ, ◌+◌, ◌≤◌, Bool, true, false, List, [], length, codes, refl, ap, sym, ◌∙◌, arith, length-append, lit≤, subst}
 use Rattle.std.specs.Prelude.{unwrap_or}
 use Rattle.model.specs.Archives.{Tree, File, Link, Directory, Entries, Entry, executable_mark, entries_text, nar, IsTree, AreBytes}
+use Rattle.model.specs.Forms.{IsWellFormed}
 use Rattle.nar.specs.ArchiveParts.{string_length, mark_length}
 use Rattle.nar.specs.ArchiveReading.{tree_at, tree_in}
 use Rattle.nar.proofs.ArchiveCompleteness.{length-archive_string, tree_at-nar}
@@ -25,6 +26,12 @@ length-entry n t es = omega (arith, length-append {A = ℕ}, length-archive_stri
 
 pub IsTree-file : (x : Bool) (s : List ℕ) → AreBytes s → length (nar (File x s)) ≤ 67108864 → IsTree (File x s)
 IsTree-file x s b h = record { bytes = b; sound = tt; depth = lit≤ tt; length = h }
+
+pub IsWellFormed-file : (x : Bool) (s : List ℕ) → AreBytes s → IsWellFormed (File x s)
+IsWellFormed-file x s b = record { bytes = b; sound = tt; depth = lit≤ tt }
+
+pub IsWellFormed-link : (s : List ℕ) → AreBytes s → IsWellFormed (Link s)
+IsWellFormed-link s b = record { bytes = b; sound = tt; depth = lit≤ tt }
 
 pub IsTree-link : (s : List ℕ) → AreBytes s → length (nar (Link s)) ≤ 67108864 → IsTree (Link s)
 IsTree-link s b h = record { bytes = b; sound = tt; depth = lit≤ tt; length = h }

@@ -1,19 +1,17 @@
 -- Reading entries, one after another.
 use Rattle.std.proofs.Common.{◌≡◌, ℕ, zero, suc, ◌-◌, ◌<◌, max, true, false, List, [], ◌∷◌, ◌++◌, refl, ap, sym, subst, ◌+◌, ◌∙◌, append_assoc, append-nil, arith, codes}
 use Rattle.std.specs.Prelude.{Option, Some, None}
-use Rattle.std.specs.Global.{Vec}
 use Rattle.model.specs.Archives.{archive_string, executable_mark, Tree, Entries, NoEntries, Entry, entries_text, AreSound, HasBytes, HaveBytes, AreBytes, IsSound, is_entry_name, bytes_before, deepest, depth_of}
 use Rattle.nar.specs.ArchiveParts.{entry_text}
-use Rattle.nar.specs.NodeTrees.{tree_of, entries_of, named_trees, chained}
+use Rattle.nar.specs.NodeTrees.{tree_of, entries_of, named_trees, chained, NamedNode}
 use Rattle.nar.specs.ArchiveReading.{Reader, ◌>>=◌, string_at, entry_at, entries_at, in_front}
 use Rattle.std.specs.Str.{bytes_eq}
-use Rattle.nar.specs.declared.node.Node.{Node}
 use Rattle.nar.specs.Outcomes.{Fails}
 use Rattle.nar.specs.declared.reading.ReadError.{ReadError}
 use Rattle.nar.specs.declared.reading.ReadError.TheVariants.{Memory, Malformed}
 
 -- what was read, behind entries
-abbrev pub behind : List (Vec ℕ × Node) → Option (Entries × List ℕ) → Option (Entries × List ℕ)
+abbrev pub behind : List NamedNode → Option (Entries × List ℕ) → Option (Entries × List ℕ)
 behind es r = r >>= λ x. Some (chained (named_trees es) x.0, x.1)
 
 pub entries_at-no_string : (f : Reader) (m : ℕ) (last rest : List ℕ) → 0 < m → string_at rest ≡ None
@@ -40,13 +38,13 @@ pub entries_at-next : (f : Reader) (m : ℕ) (last rest : List ℕ) (s : List �
 unfolding entries_at
 entries_at-next f m last rest s n t after e k g = rw (e, k, g) refl
 
-pub chained-push : (es : List (Vec ℕ × Node)) (e : Vec ℕ × Node) (fs : Entries)
-    → chained (named_trees (es ++ e ∷ [])) fs ≡ chained (named_trees es) (Entry e.0.items (tree_of e.1) fs)
+pub chained-push : (es : List NamedNode) (e : NamedNode) (fs : Entries)
+    → chained (named_trees (es ++ e ∷ [])) fs ≡ chained (named_trees es) (Entry e.0.items (tree_of e.1.value) fs)
 chained-push [] e fs = refl
-chained-push (d ∷ es) e fs = ap (Entry d.0.items (tree_of d.1)) (chained-push es e fs)
+chained-push (d ∷ es) e fs = ap (Entry d.0.items (tree_of d.1.value)) (chained-push es e fs)
 
-pub behind-push : (es : List (Vec ℕ × Node)) (e : Vec ℕ × Node) (r : Option (Entries × List ℕ))
-    → behind (es ++ e ∷ []) r ≡ behind es (in_front e.0.items (tree_of e.1) r)
+pub behind-push : (es : List NamedNode) (e : NamedNode) (r : Option (Entries × List ℕ))
+    → behind (es ++ e ∷ []) r ≡ behind es (in_front e.0.items (tree_of e.1.value) r)
 behind-push es e None = refl
 behind-push es e (Some x) = ap (λ fs. Some (fs, x.1)) (chained-push es e x.0)
 
@@ -64,42 +62,42 @@ fails_on Memory r q f h = h
 fails_on Malformed r q f h = f h
 
 -- the next entry makes the entries after it longer
-pub entries_at-push : (f : Reader) (n i : ℕ) (bytes last rest : List ℕ) (s : List ℕ × List ℕ) (es : List (Vec ℕ × Node)) (e : Vec ℕ × Node) (after : List ℕ)
+pub entries_at-push : (f : Reader) (n i : ℕ) (bytes last rest : List ℕ) (s : List ℕ × List ℕ) (es : List NamedNode) (e : NamedNode) (after : List ℕ)
     → i < n → string_at rest ≡ Some s → bytes_eq s.0 (codes "entry") ≡ true
-    → entry_at f last rest ≡ Some ((e.0.items, tree_of e.1), after)
+    → entry_at f last rest ≡ Some ((e.0.items, tree_of e.1.value), after)
     → entries_at f n [] bytes ≡ behind es (entries_at f (n - i) last rest)
     → entries_at f n [] bytes ≡ behind (es ++ e ∷ []) (entries_at f (n - (i + 1)) e.0.items after)
 entries_at-push f n i bytes last rest s es e after lt g k h so_far =
     let less : n - i ≡ suc (n - (i + 1)) = omega arith in
-    so_far ∙ ap (λ m. behind es (entries_at f m last rest)) less ∙ ap (behind es) (entries_at-next f (n - (i + 1)) last rest s e.0.items (tree_of e.1) after g k h)
+    so_far ∙ ap (λ m. behind es (entries_at f m last rest)) less ∙ ap (behind es) (entries_at-next f (n - (i + 1)) last rest s e.0.items (tree_of e.1.value) after g k h)
     ∙ sym (behind-push es e (entries_at f (n - (i + 1)) e.0.items after))
 
-pub AreSound-push : (es : List (Vec ℕ × Node)) (e : Vec ℕ × Node) (last : List ℕ)
+pub AreSound-push : (es : List NamedNode) (e : NamedNode) (last : List ℕ)
     → ((fs : Entries) → AreSound last fs → AreSound [] (chained (named_trees es) fs))
-    → is_entry_name e.0.items ≡ true → bytes_before last e.0.items ≡ true → IsSound (tree_of e.1) → (fs : Entries)
+    → is_entry_name e.0.items ≡ true → bytes_before last e.0.items ≡ true → IsSound (tree_of e.1.value) → (fs : Entries)
     → AreSound e.0.items fs → AreSound [] (chained (named_trees (es ++ e ∷ [])) fs)
 AreSound-push es e last so_far n b s fs h =
     let P : Entries → Type 0 = λ gs. AreSound [] gs in
-    subst P (sym (chained-push es e fs)) (so_far (Entry e.0.items (tree_of e.1) fs) (n, b, s, h))
+    subst P (sym (chained-push es e fs)) (so_far (Entry e.0.items (tree_of e.1.value) fs) (n, b, s, h))
 
-pub HaveBytes-push : (es : List (Vec ℕ × Node)) (e : Vec ℕ × Node) → HaveBytes (entries_of es) → AreBytes e.0.items
-    → HasBytes (tree_of e.1) → HaveBytes (entries_of (es ++ e ∷ []))
+pub HaveBytes-push : (es : List NamedNode) (e : NamedNode) → HaveBytes (entries_of es) → AreBytes e.0.items
+    → HasBytes (tree_of e.1.value) → HaveBytes (entries_of (es ++ e ∷ []))
 HaveBytes-push [] e h name tree = (name, tree, tt)
 HaveBytes-push (d ∷ es) e h name tree = (h.0, h.1, HaveBytes-push es e h.2 name tree)
 
-pub deepest-push : (es : List (Vec ℕ × Node)) (e : Vec ℕ × Node)
-    → deepest (entries_of (es ++ e ∷ [])) ≡ max (deepest (entries_of es)) (depth_of (tree_of e.1))
+pub deepest-push : (es : List NamedNode) (e : NamedNode)
+    → deepest (entries_of (es ++ e ∷ [])) ≡ max (deepest (entries_of es)) (depth_of (tree_of e.1.value))
 deepest-push [] e = omega arith
 deepest-push (d ∷ es) e = omega (arith, deepest-push es e)
 
-pub entries_text-push : (es : List (Vec ℕ × Node)) (e : Vec ℕ × Node)
-    → entries_text (entries_of (es ++ e ∷ [])) ≡ entries_text (entries_of es) ++ entry_text e.0.items (tree_of e.1)
+pub entries_text-push : (es : List NamedNode) (e : NamedNode)
+    → entries_text (entries_of (es ++ e ∷ [])) ≡ entries_text (entries_of es) ++ entry_text e.0.items (tree_of e.1.value)
 entries_text-push [] e = grind (arith, append_assoc, append-nil)
 entries_text-push (x ∷ es) e = rw (entries_text-push es e) (grind (arith, append_assoc))
 
-pub entries_text-push_onto : (es : List (Vec ℕ × Node)) (e : Vec ℕ × Node) (bytes rest after : List ℕ)
-    → bytes ≡ entries_text (entries_of es) ++ rest → rest ≡ entry_text e.0.items (tree_of e.1) ++ after
+pub entries_text-push_onto : (es : List NamedNode) (e : NamedNode) (bytes rest after : List ℕ)
+    → bytes ≡ entries_text (entries_of es) ++ rest → rest ≡ entry_text e.0.items (tree_of e.1.value) ++ after
     → bytes ≡ entries_text (entries_of (es ++ e ∷ [])) ++ after
 entries_text-push_onto es e bytes rest after so_far here =
-    so_far ∙ ap (λ r. entries_text (entries_of es) ++ r) here ∙ sym (append_assoc (entries_text (entries_of es)) (entry_text e.0.items (tree_of e.1)) after)
+    so_far ∙ ap (λ r. entries_text (entries_of es) ++ r) here ∙ sym (append_assoc (entries_text (entries_of es)) (entry_text e.0.items (tree_of e.1.value)) after)
     ∙ ap (λ r. r ++ after) (sym (entries_text-push es e))

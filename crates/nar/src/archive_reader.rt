@@ -10,12 +10,13 @@ ghost use Rattle.nar.specs.Refusing.{IsNoArchive};
 
 use crate::measures::node_depth;
 use crate::names::{comes_before, is_name};
-use crate::node::Node;
+use crate::node::{Node, shared};
 use crate::reading::ReadError;
 use crate::strings::{read_string, skip_string};
 use crate::tree::{MAX_DEPTH, MAX_NAR_LEN, Tree};
 use model::Refusal;
 use std::alloc::Global;
+use std::sync::Arc;
 
 /// The tree of an archive.
 ///
@@ -37,11 +38,8 @@ pub fn decode(alloc: Global, bytes: &[u8]) -> Result<Tree, Refusal>
     match read_whole(alloc, bytes) {
         Ok(node) => {
             let depth = node_depth(&node);
-            Ok(Tree {
-                node,
-                depth,
-                nar_len: bytes.len(),
-            })
+            let tree = Tree::measured(alloc, node, depth, bytes.len())?;
+            Ok(tree)
         }
         Err(ReadError::Malformed) => Err(Refusal::BadNar),
         Err(ReadError::Memory) => Err(Refusal::Memory),
@@ -184,7 +182,7 @@ fn read_closed(bytes: &[u8]) -> Result<(&[u8], &[u8]), ReadError>
 
 // A directory, behind the name of its kind.
 #[cycle(read)]
-#[tactic(auto, unfolding(crate::specs::ArchiveReading::directory_at))]
+#[tactic(auto, using(crate::proofs::NodeViews::directory_tree), unfolding(crate::specs::ArchiveReading::directory_at))]
 fn read_directory(alloc: Global, bytes: &[u8], depth: usize) -> Result<(Node, &[u8]), ReadError>
     ensures found { IfOk result (λ r. node_head (codes "directory") ++ bytes.now ≡ node_text (tree_of r.0) ++ r.1.now) }
     ensures sound { IfOk result (λ r. IsSound (tree_of r.0)) }
@@ -202,7 +200,7 @@ fn read_entries(
     alloc: Global,
     bytes: &[u8],
     depth: usize,
-) -> Result<(Vec<(Vec<u8>, Node)>, &[u8]), ReadError>
+) -> Result<(Vec<(Vec<u8>, Arc<Node>)>, &[u8]), ReadError>
     ensures found { IfOk result (λ r. bytes.now ≡ entries_text (entries_of r.0.items) ++ r.1.now) }
     ensures sound { IfOk result (λ r. AreSound [] (entries_of r.0.items)) }
     ensures depth { IfOk result (λ r. deepest (entries_of r.0.items) ≤ depth) }
@@ -218,6 +216,7 @@ fn read_entries(
         }
         let ((name, node), after) = read_entry(alloc, last, rest, depth)?;
         let kept = Vec::from_slice(alloc, name)?;
+        let node = shared(alloc, node)?;
         entries.push((kept, node))?;
         last = name;
         rest = after;

@@ -10,6 +10,7 @@ use crate::tree::Tree;
 use model::Refusal;
 use std::alloc::{AllocError, Global};
 use std::marker::Model;
+use std::sync::Arc;
 
 /// The archive of a tree.
 #[derive(Drop)]
@@ -54,6 +55,7 @@ pub fn encode(alloc: Global, tree: &Tree) -> Result<Nar, Refusal>
 }
 
 #[cycle(node)]
+#[tactic(auto, using(crate::proofs::NodeViews::directory_tree))]
 fn write_node(text: &mut Vec<u8>, node: &Node) -> Result<(), AllocError>
     ensures { OnOk result (text.new.items ≡ text.old.items ++ node_text (tree_of node.now)) }
 {
@@ -65,7 +67,7 @@ fn write_node(text: &mut Vec<u8>, node: &Node) -> Result<(), AllocError>
 }
 
 #[cycle(node)]
-fn write_directory(text: &mut Vec<u8>, entries: &[(Vec<u8>, Node)]) -> Result<(), AllocError>
+fn write_directory(text: &mut Vec<u8>, entries: &[(Vec<u8>, Arc<Node>)]) -> Result<(), AllocError>
     ensures { OnOk result (text.new.items ≡ text.old.items ++ node_text (Directory (entries_of entries.now))) }
 {
     write_directory_head(text)?;
@@ -74,7 +76,7 @@ fn write_directory(text: &mut Vec<u8>, entries: &[(Vec<u8>, Node)]) -> Result<()
 }
 
 #[cycle(node)]
-fn write_entries(text: &mut Vec<u8>, entries: &[(Vec<u8>, Node)]) -> Result<(), AllocError>
+fn write_entries(text: &mut Vec<u8>, entries: &[(Vec<u8>, Arc<Node>)]) -> Result<(), AllocError>
     ensures { OnOk result (text.new.items ≡ text.old.items ++ entries_text (entries_of entries.now)) }
 {
     for entry in entries {

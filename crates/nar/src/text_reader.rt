@@ -14,13 +14,14 @@ ghost use Rattle.nar.specs.Refusing.{IsNoText};
 
 use crate::measures::{node_depth, node_len};
 use crate::names::{comes_before, is_name};
-use crate::node::Node;
+use crate::node::{Node, shared};
 use crate::reading::{ReadError, skip_prefix, split};
 use crate::text_writer::separator_before;
 use crate::tree::{MAX_DEPTH, MAX_NAR_LEN, Tree};
 use hex::FromHexError;
 use model::Refusal;
 use std::alloc::Global;
+use std::sync::Arc;
 
 // So many bytes are looked at together.
 const BLOCK: usize = 64;
@@ -47,11 +48,8 @@ pub fn read_tree_text(alloc: Global, text: &[u8]) -> Result<Tree, Refusal>
                 return Err(Refusal::TooLarge);
             }
             let depth = node_depth(&node);
-            Ok(Tree {
-                node,
-                depth,
-                nar_len,
-            })
+            let tree = Tree::measured(alloc, node, depth, nar_len)?;
+            Ok(tree)
         }
         Err(ReadError::Malformed) => Err(Refusal::BadNar),
         Err(ReadError::Memory) => Err(Refusal::Memory),
@@ -138,7 +136,7 @@ fn read_kind<'a>(
 
 // A directory, behind its mark.
 #[cycle(parse)]
-#[tactic(auto, unfolding(crate::specs::TextReading::listed_at))]
+#[tactic(auto, using(crate::proofs::NodeViews::directory_tree), unfolding(crate::specs::TextReading::listed_at))]
 fn read_listed(alloc: Global, bytes: &[u8], depth: usize) -> Result<(Node, &[u8]), ReadError>
     ensures found { IfOk result (λ r. codes "d(" ++ bytes.now ≡ tree_text_of (tree_of r.0) ++ r.1.now) }
     ensures sound { IfOk result (λ r. IsSound (tree_of r.0)) }
@@ -157,7 +155,7 @@ fn read_items(
     alloc: Global,
     bytes: &[u8],
     depth: usize,
-) -> Result<(Vec<(Vec<u8>, Node)>, &[u8]), ReadError>
+) -> Result<(Vec<(Vec<u8>, Arc<Node>)>, &[u8]), ReadError>
     ensures found { IfOk result (λ r. bytes.now ≡ entries_text_of true (entries_of r.0.items) ++ r.1.now) }
     ensures sound { IfOk result (λ r. AreSound [] (entries_of r.0.items)) }
     ensures bytes { IfOk result (λ r. HaveBytes (entries_of r.0.items)) }
@@ -172,8 +170,9 @@ fn read_items(
             return Ok((entries, rest));
         }
         let start = skip_separator(rest, first)?;
-        let (entry, after) = read_item(alloc, last_name(&entries), start, depth)?;
-        entries.push(entry)?;
+        let ((name, node), after) = read_item(alloc, last_name(&entries), start, depth)?;
+        let node = shared(alloc, node)?;
+        entries.push((name, node))?;
         first = false;
         rest = after;
     }
@@ -181,7 +180,7 @@ fn read_items(
 }
 
 // The name of the last entry, or nothing.
-fn last_name(entries: &[(Vec<u8>, Node)]) -> &[u8]
+fn last_name(entries: &[(Vec<u8>, Arc<Node>)]) -> &[u8]
     ensures { result.now ≡ last_name_of entries.now }
 {
     match entries {

@@ -12,6 +12,7 @@ use crate::node::Node;
 use crate::tree::Tree;
 use model::Refusal;
 use std::alloc::{AllocError, Global};
+use std::sync::Arc;
 
 /// The tree text of a tree: `f:` and the bytes of a file, `x:` and those of an executable file,
 /// `l:` and the target of a link, or `d(`, the entries with `,` between, each its name, `=` and its
@@ -39,7 +40,7 @@ fn write_node(text: &mut Vec<u8>, node: &Node) -> Result<(), AllocError>
 }
 
 #[cycle(node_text)]
-fn write_directory(text: &mut Vec<u8>, entries: &[(Vec<u8>, Node)]) -> Result<(), AllocError>
+fn write_directory(text: &mut Vec<u8>, entries: &[(Vec<u8>, Arc<Node>)]) -> Result<(), AllocError>
     ensures { OnOk result (text.new.items ≡ text.old.items ++ tree_text_of (Directory (entries_of entries.now))) }
 {
     text.extend_from_slice(b"d(")?;
@@ -48,7 +49,7 @@ fn write_directory(text: &mut Vec<u8>, entries: &[(Vec<u8>, Node)]) -> Result<()
 }
 
 #[cycle(node_text)]
-fn write_entries(text: &mut Vec<u8>, entries: &[(Vec<u8>, Node)]) -> Result<(), AllocError>
+fn write_entries(text: &mut Vec<u8>, entries: &[(Vec<u8>, Arc<Node>)]) -> Result<(), AllocError>
     ensures { OnOk result (text.new.items ≡ text.old.items ++ entries_text_of true (entries_of entries.now)) }
 {
     let mut first = true;

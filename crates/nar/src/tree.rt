@@ -3,16 +3,17 @@
 ghost use Rattle.std.specs.Prelude.{◌≡◌, ◌<◌, ◌≤◌, IfOk, IfErr, IfSome, IfNone, MatchResult, IsTrue, ◌↔◌, [], length};
 ghost use Rattle.model.specs.Archives.{nar, File, Link, Directory, AreSound, IsTree};
 ghost use Rattle.model.specs.declared.refusal.Refusal.TheVariants.{TooLarge, Memory};
-ghost use Rattle.nar.specs.NodeTrees.{named_trees, as_entries};
-ghost use Rattle.nar.specs.Measuring.{AreMeasured};
+ghost use Rattle.nar.specs.NodeTrees.{tree_of, named_trees, as_entries};
+ghost use Rattle.nar.specs.Measuring.{AreMeasured, IsMeasuredTree};
 ghost use Rattle.nar.specs.Refusing.{IsNoTree};
 
 use crate::measures::{mark_len, string_len};
 use crate::names::{comes_before, is_name};
-use crate::node::{Node, copy_node, same_node};
+use crate::node::{Node, same_node, shared};
 use model::Refusal;
 use std::alloc::{AllocError, Global};
 use std::marker::Model;
+use std::sync::Arc;
 
 // The length of the longest archive in bytes: 64 MiB.
 pub(crate) const MAX_NAR_LEN: usize = 67_108_864;
@@ -27,7 +28,7 @@ pub(crate) const MAX_DEPTH: usize = 64;
 /// depth 1, and its archive has at most 64 MiB. So a recursion over a tree is at most 64 deep.
 #[derive(Drop)]
 pub struct Tree {
-    pub(crate) node: Node,
+    pub(crate) node: Arc<Node>,
     pub(crate) depth: usize,
     pub(crate) nar_len: usize,
 }
@@ -40,23 +41,25 @@ impl Model for Tree {
 
     ghost coded = { tree_code };
 
+    ghost use Rattle.std.specs.Arc.{arc_value};
     ghost use Rattle.nar.specs.NodeTrees.{tree_of};
     ghost use Rattle.nar.specs.Measuring.{IsMeasuredTree};
 
-    ghost view = { λ tree. tree_of tree.node };
+    ghost view = { λ tree. tree_of (arc_value tree.node) };
 
-    ghost invariant = { λ tree. IsMeasuredTree (tree_of tree.node) tree.depth tree.nar_len };
+    ghost invariant = { λ tree. IsMeasuredTree (tree_of (arc_value tree.node)) tree.depth tree.nar_len };
 }
 
 impl Tree {
-    /// A file with these bytes, executable or not. It takes no memory.
+    /// A file with these bytes, executable or not. The bytes are not copied.
     ///
     /// # Errors
     ///
-    /// `TooLarge` exactly where the file's archive would have more than 67,108,864 bytes.
+    /// - `TooLarge` exactly where the file's archive would have more than 67,108,864 bytes.
+    /// - `Memory` only where it would not, and memory was refused.
     pub fn file(executable: bool, bytes: Vec<u8>) -> Result<Tree, Refusal>
         ensures file { IfOk result (λ tree. (tree ≡ File executable bytes.items) × IsTree tree) }
-        ensures too_large { IfErr result (λ why. (why ≡ TooLarge) × (67108864 < length (nar (File executable bytes.items)))) }
+        ensures refused { IfErr result (IsNoTree (File executable bytes.items)) }
     {
         if bytes.len() > MAX_NAR_LEN {
             return Err(Refusal::TooLarge);
@@ -65,21 +68,21 @@ impl Tree {
         if nar_len > MAX_NAR_LEN {
             return Err(Refusal::TooLarge);
         }
-        Ok(Tree {
-            node: Node::File { executable, bytes },
-            depth: 1,
-            nar_len,
-        })
+        let alloc = *bytes.allocator();
+        let node = Node::File { executable, bytes };
+        let tree = Tree::measured(alloc, node, 1, nar_len)?;
+        Ok(tree)
     }
 
-    /// A link to a target, which is any bytes, also none. It takes no memory.
+    /// A link to a target, which is any bytes, also none. They are not copied.
     ///
     /// # Errors
     ///
-    /// `TooLarge` exactly where the link's archive would have more than 67,108,864 bytes.
+    /// - `TooLarge` exactly where the link's archive would have more than 67,108,864 bytes.
+    /// - `Memory` only where it would not, and memory was refused.
     pub fn link(target: Vec<u8>) -> Result<Tree, Refusal>
         ensures link { IfOk result (λ tree. (tree ≡ Link target.items) × IsTree tree) }
-        ensures too_large { IfErr result (λ why. (why ≡ TooLarge) × (67108864 < length (nar (Link target.items)))) }
+        ensures refused { IfErr result (IsNoTree (Link target.items)) }
     {
         if target.len() > MAX_NAR_LEN {
             return Err(Refusal::TooLarge);
@@ -88,11 +91,10 @@ impl Tree {
         if nar_len > MAX_NAR_LEN {
             return Err(Refusal::TooLarge);
         }
-        Ok(Tree {
-            node: Node::Link { target },
-            depth: 1,
-            nar_len,
-        })
+        let alloc = *target.allocator();
+        let node = Node::Link { target };
+        let tree = Tree::measured(alloc, node, 1, nar_len)?;
+        Ok(tree)
     }
 
     /// A directory of entries, each a name and its tree. The work is in proportion to the number of
@@ -105,6 +107,7 @@ impl Tree {
     /// - `TooLarge` exactly where none of these holds, and the directory's archive would have more
     ///   than 67,108,864 bytes.
     /// - `Memory` only where none of these holds, and memory was refused.
+    #[tactic(auto, using(crate::proofs::NodeViews::directory_tree))]
     pub fn dir(alloc: Global, entries: Vec<(Vec<u8>, Tree)>) -> Result<Tree, Refusal>
         ensures directory { IfOk result (λ tree. (tree ≡ Directory (as_entries entries.items)) × IsTree tree) }
         ensures refused { IfErr result (IsNoTree (Directory (as_entries entries.items))) }
@@ -119,9 +122,25 @@ impl Tree {
             return Err(Refusal::TooLarge);
         }
         let nodes = nodes_of(alloc, entries)?;
+        let node = Node::Directory { entries: nodes };
+        Tree::measured(alloc, node, deepest + 1, nar_len)
+    }
+
+    // The tree of a node whose depth and whose archive's length are known. The one error is memory.
+    pub(crate) fn measured(
+        alloc: Global,
+        node: Node,
+        depth: usize,
+        nar_len: usize,
+    ) -> Result<Tree, Refusal>
+        requires { IsMeasuredTree (tree_of node) depth nar_len }
+        ensures tree { IfOk result (λ tree. tree ≡ tree_of node) }
+        ensures memory { IfErr result (λ why. why ≡ Memory) }
+    {
+        let node = shared(alloc, node)?;
         Ok(Tree {
-            node: Node::Directory { entries: nodes },
-            depth: deepest + 1,
+            node,
+            depth,
             nar_len,
         })
     }
@@ -143,7 +162,7 @@ impl Tree {
     }
 }
 
-/// A copy is the same tree. The one error is memory.
+/// A copy is the same tree, and shares what it holds. The one error is memory.
 impl Clone for Tree {
     ghost use Rattle.std.specs.Prelude.{◌≡◌};
 
@@ -156,7 +175,7 @@ impl Clone for Tree {
             nar_len,
         } = self;
         Ok(Tree {
-            node: copy_node(node)?,
+            node: node.clone()?,
             depth: *depth,
             nar_len: *nar_len,
         })
@@ -186,7 +205,10 @@ fn measure(entries: &[(Vec<u8>, Tree)]) -> Option<(usize, usize)>
 }
 
 // What the trees hold.
-fn nodes_of(alloc: Global, entries: Vec<(Vec<u8>, Tree)>) -> Result<Vec<(Vec<u8>, Node)>, Refusal>
+fn nodes_of(
+    alloc: Global,
+    entries: Vec<(Vec<u8>, Tree)>,
+) -> Result<Vec<(Vec<u8>, Arc<Node>)>, Refusal>
     ensures { MatchResult result (λ nodes. named_trees nodes.items ≡ entries.items) (λ why. why ≡ Memory) }
 {
     let mut nodes = Vec::with_capacity(alloc, entries.len())?;

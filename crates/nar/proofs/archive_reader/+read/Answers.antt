@@ -1,13 +1,12 @@
-use Rattle.std.proofs.Common.{rules, ◌≡◌, ◌++◌, ◌-◌, ◌<◌, ◌+◌, ℕ, List, ◌∷◌, [], length, true, false, codes, arith, subst, sym, ap, ◌∙◌, ◌≤◌}
+use Rattle.std.proofs.Common.{rules, append_assoc, ◌≡◌, ◌++◌, ◌-◌, ◌<◌, ◌+◌, ℕ, List, ◌∷◌, [], length, true, false, codes, arith, subst, sym, ap, ◌∙◌, ◌≤◌}
 use Rattle.std.proofs.lemmas.Result.{err_from_is_err_and}
 use Rattle.std.specs.Prelude.{Some}
-use Rattle.std.specs.Global.{Vec}
-use Rattle.model.specs.Archives.{Entries, AreSound, deepest, entries_text, is_entry_name, bytes_before}
-use Rattle.nar.specs.ArchiveParts.{entry_text}
-use Rattle.nar.specs.NodeTrees.{tree_of, entries_of, chained, named_trees}
+use Rattle.model.specs.Archives.{Tree, Directory, Entries, node_text, IsSound, AreSound, deepest, depth_of, entries_text, archive_string, is_entry_name, bytes_before}
+use Rattle.nar.specs.ArchiveParts.{node_head, entry_text}
+use Rattle.nar.specs.NodeTrees.{tree_of, entries_of, chained, named_trees, NamedNode}
 use Rattle.nar.specs.ArchiveReading.{entry_at, entries_at, node_at}
 use Rattle.std.specs.Str.{bytes_eq}
-use Rattle.nar.specs.declared.node.Node.{Node}
+use Rattle.nar.proofs.NodeViews.{directory_tree}
 use Rattle.nar.proofs.ReadEntries.{behind, entries_at-no_string, entries_at-other_string, entries_at-bad_entry, fails_on, entries_at-push, AreSound-push, deepest-push, entries_text-push_onto}
 use Rattle.nar.proofs.archive_reader.+read.Goals as goal
 
@@ -38,7 +37,8 @@ read_entries-returns-clause-exact t c =
 
 pub read_entries-loop-preserved : goal.read_entries-loop-preserved
 read_entries-loop-preserved t c =
-    let e : Vec ℕ × Node = (c.in_ok-kept.kept, c.in_ok-name.node) in
+    let e : NamedNode = (c.in_ok-kept.kept, c.in_ok-node.node) in
+    let tree : tree_of c.in_ok-name.node ≡ tree_of e.1.value = ap tree_of (sym c.in_ok-node.ensures) in
     let es = c.loop.entries.items in
     let pushed : c.push.new.self.items ≡ es ++ e ∷ [] = search rules in
     let kept : c.in_ok-kept.kept.items ≡ c.in_ok-name.name.now = search rules in
@@ -48,20 +48,33 @@ read_entries-loop-preserved t c =
     let rest = c.loop.rest.now in
     let after = c.in_ok-name.after.now in
     let node = node_at c.args.depth in
-    let Found : List ℕ → Type 0 = λ n. rest ≡ entry_text n (tree_of e.1) ++ after in
+    let Found : Tree → List ℕ → Type 0 = λ t n. rest ≡ entry_text n t ++ after in
     let Named : List ℕ → Type 0 = λ n. is_entry_name n ≡ true in
     let Ordered : List ℕ → Type 0 = λ n. bytes_before c.loop.last.now n ≡ true in
-    let Exact : List ℕ → Type 0 = λ n. entry_at node c.loop.last.now rest ≡ Some ((n, tree_of e.1), after) in
-    let AllFound : List (Vec ℕ × Node) → Type 0 = λ xs. bytes ≡ entries_text (entries_of xs) ++ after in
-    let AllSound : List (Vec ℕ × Node) → Type 0 = λ xs. (fs : Entries) → AreSound c.in_ok-name.name.now fs → AreSound [] (chained (named_trees xs) fs) in
-    let AllDeep : List (Vec ℕ × Node) → Type 0 = λ xs. deepest (entries_of xs) ≤ c.args.depth in
-    let AllExact : List (Vec ℕ × Node) → Type 0 = λ xs. entries_at node (length bytes) [] bytes ≡ behind xs (entries_at node (length bytes - (c.loop.counter + 1)) c.in_ok-name.name.now after) in
+    let Exact : Tree → List ℕ → Type 0 = λ t n. entry_at node c.loop.last.now rest ≡ Some ((n, t), after) in
+    let found = subst (λ t. Found t e.0.items) tree (subst (Found (tree_of c.in_ok-name.node)) (sym kept) c.in_ok-name.ensures.found) in
+    let exact = subst (λ t. Exact t e.0.items) tree (subst (Exact (tree_of c.in_ok-name.node)) (sym kept) c.in_ok-name.ensures.exact) in
+    let sound = subst IsSound tree c.in_ok-name.ensures.sound in
+    let AllFound : List NamedNode → Type 0 = λ xs. bytes ≡ entries_text (entries_of xs) ++ after in
+    let AllSound : List NamedNode → Type 0 = λ xs. (fs : Entries) → AreSound c.in_ok-name.name.now fs → AreSound [] (chained (named_trees xs) fs) in
+    let AllDeep : List NamedNode → Type 0 = λ xs. deepest (entries_of xs) ≤ c.args.depth in
+    let AllExact : List NamedNode → Type 0 = λ xs. entries_at node (length bytes) [] bytes ≡ behind xs (entries_at node (length bytes - (c.loop.counter + 1)) c.in_ok-name.name.now after) in
     let Sound : List ℕ → Type 0 = λ n. (fs : Entries) → AreSound n fs → AreSound [] (chained (named_trees (es ++ e ∷ [])) fs) in
     let More : List ℕ → Type 0 = λ n. entries_at node (length bytes) [] bytes ≡ behind (es ++ e ∷ []) (entries_at node (length bytes - (c.loop.counter + 1)) n after) in
-    let deep : deepest (entries_of (es ++ e ∷ [])) ≤ c.args.depth = omega (arith, deepest-push es e, c.in_ok-name.ensures.depth, c.loop.invariant.depth) in
+    let deep : deepest (entries_of (es ++ e ∷ [])) ≤ c.args.depth = omega (arith, deepest-push es e, c.in_ok-name.ensures.depth, ap depth_of tree, c.loop.invariant.depth) in
     record {
-      found = subst AllFound (sym pushed) (entries_text-push_onto es e bytes rest after c.loop.invariant.found (subst Found (sym kept) c.in_ok-name.ensures.found));
-      sound = subst AllSound (sym pushed) (subst Sound kept (AreSound-push es e c.loop.last.now c.loop.invariant.sound (subst Named (sym kept) c.in_ok-name.ensures.name) (subst Ordered (sym kept) c.in_ok-name.ensures.order) c.in_ok-name.ensures.sound));
+      found = subst AllFound (sym pushed) (entries_text-push_onto es e bytes rest after c.loop.invariant.found found);
+      sound = subst AllSound (sym pushed) (subst Sound kept (AreSound-push es e c.loop.last.now c.loop.invariant.sound (subst Named (sym kept) c.in_ok-name.ensures.name) (subst Ordered (sym kept) c.in_ok-name.ensures.order) sound));
       depth = subst AllDeep (sym pushed) deep;
-      exact = subst AllExact (sym pushed) (subst More kept (entries_at-push node (length bytes) c.loop.counter bytes c.loop.last.now rest _ es e after lt c.in_ok-tag.ensures.exact here (subst Exact (sym kept) c.in_ok-name.ensures.exact) c.loop.invariant.exact));
+      exact = subst AllExact (sym pushed) (subst More kept (entries_at-push node (length bytes) c.loop.counter bytes c.loop.last.now rest _ es e after lt c.in_ok-tag.ensures.exact here exact c.loop.invariant.exact));
     }
+
+pub read_directory-returns-clause-found : goal.read_directory-returns-clause-found
+read_directory-returns-clause-found t c =
+    let entries = entries_of c.in_ok-entries.entries.items in
+    let Found : Tree → Type 0 = λ t. node_head (codes "directory") ++ c.args.bytes.now ≡ node_text t ++ c.in_ok-rest.rest.now in
+    let rest = c.in_ok-rest.rest.now in
+    let grouped : node_head (codes "directory") ++ (entries_text entries ++ (archive_string (codes ")") ++ rest)) ≡ node_text (Directory entries) ++ rest = grind (arith, append_assoc) in
+    let plain : Found (Directory entries) =
+    ap (λ b. node_head (codes "directory") ++ b) (c.in_ok-entries.ensures.found ∙ ap (λ r. entries_text entries ++ r) c.in_ok-rest.ensures.found) ∙ grouped in
+    subst Found (sym (directory_tree _)) plain

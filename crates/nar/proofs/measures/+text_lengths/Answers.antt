@@ -1,7 +1,8 @@
-use Rattle.std.proofs.Common.{◌≡◌, ◌∙◌, ◌+◌, ◌*◌, ◌<◌, ap, arith, length, true}
+use Rattle.std.proofs.Common.{rules, ◌≡◌, ◌∙◌, ◌+◌, ◌*◌, ◌<◌, ap, arith, length, true}
+use Rattle.nar.specs.declared.node.Node.TheViews.{the_lemmas}
 use Rattle.model.specs.TreeTexts.{tree_text_of, entries_text_of, separator}
 use Rattle.nar.specs.NodeTrees.{tree_of, entries_of}
-use Rattle.nar.proofs.TextLengths.{length-file_node, length-link_node, length-directory_node, length-entries_here}
+use Rattle.nar.proofs.TextLengths.{length-file_node, length-link_node, length-directory_node, length-entries_here, entries_text_fits}
 use Rattle.nar.proofs.measures.+text_lengths.Goals as goal
 
 pub text_len-overflow_add-result : goal.text_len-overflow_add-result
@@ -52,7 +53,7 @@ entries_text_len-overflow_add-len-in-loop-entry-2 t c =
     let below : i < length xs = omega arith in
     let here = length-entries_here xs i c.entry-item.result c.loop-entry.first below c.entry-item.is in
     let mark : length c.separator_before-separator.result.now ≡ length (separator c.loop-entry.first) = ap length c.separator_before-separator.ensures in
-    omega (arith, here, mark)
+    omega (arith, here, mark, ap (λ n. length (tree_text_of (tree_of n))) c.deref.ensures)
 
 pub entries_text_len-overflow_add-len-in-loop-entry-3 : goal.entries_text_len-overflow_add-len-in-loop-entry-3
 entries_text_len-overflow_add-len-in-loop-entry-3 t c =
@@ -61,7 +62,7 @@ entries_text_len-overflow_add-len-in-loop-entry-3 t c =
     let below : i < length xs = omega arith in
     let here = length-entries_here xs i c.entry-item.result c.loop-entry.first below c.entry-item.is in
     let mark : length c.separator_before-separator.result.now ≡ length (separator c.loop-entry.first) = ap length c.separator_before-separator.ensures in
-    omega (arith, here, mark)
+    omega (arith, here, mark, ap (λ n. length (tree_text_of (tree_of n))) c.deref.ensures)
 
 pub entries_text_len-loop-entry-preserved : goal.entries_text_len-loop-entry-preserved
 entries_text_len-loop-entry-preserved t c =
@@ -70,4 +71,8 @@ entries_text_len-loop-entry-preserved t c =
     let below : i < length xs = omega arith in
     let here = length-entries_here xs i c.entry-item.result c.loop-entry.first below c.entry-item.is in
     let mark : length c.separator_before-separator.result.now ≡ length (separator c.loop-entry.first) = ap length c.separator_before-separator.ensures in
-    omega (arith, here, mark)
+    omega (arith, here, mark, ap (λ n. length (tree_text_of (tree_of n))) c.deref.ensures)
+
+pub text_len-entries_text_len-requires : goal.text_len-entries_text_len-requires
+text_len-entries_text_len-requires t c =
+    (search (rules, the_lemmas), entries_text_fits _ _ _ c.requires c.in-Directory.is c.deref.ensures.value)

@@ -1,5 +1,6 @@
-use Rattle.std.proofs.Common.{◌≡◌, ◌+◌, ◌≤◌, ◌<◌, sym, ◌∙◌, ap, arith, length}
-use Rattle.model.specs.Archives.{IsTree, nar}
+use Rattle.std.proofs.Common.{◌≡◌, ◌+◌, ◌≤◌, ◌<◌, subst, sym, ◌∙◌, ap, arith, length}
+use Rattle.model.specs.Archives.{Tree, IsTree, nar}
+use Rattle.model.specs.TreeTexts.{tree_text_of}
 use Rattle.nar.specs.NodeTrees.{tree_of}
 use Rattle.nar.specs.TextReading.{whole_at}
 use Rattle.model.specs.Forms.{IsWellFormed}
@@ -14,20 +15,21 @@ returns-then-nar_len-gt-MAX_NAR_LEN-clause-refused c =
     let formed : IsWellFormed tree = record { bytes = c.in-Ok.ensures.bytes; sound = c.in-Ok.ensures.sound; depth = c.in-Ok.ensures.depth } in
     (tree, formed, sym c.in-Ok.ensures.found, long)
 
-pub invariant_of-result : goal.invariant_of-result
-invariant_of-result c =
+pub measured-requires : goal.measured-requires
+measured-requires c =
     let tree = tree_of c.in-Ok.node in
     let len : 24 + c.node_len-nar_len.result ≡ length (nar tree) = omega (arith, length-nar tree, c.node_len-nar_len.ensures) in
     let fits : length (nar tree) ≤ 67108864 = omega (arith, len) in
     let whole : IsTree tree = record { bytes = c.in-Ok.ensures.bytes; sound = c.in-Ok.ensures.sound; depth = c.in-Ok.ensures.depth; length = fits } in
     record { whole = whole; depth = c.node_depth-depth.ensures; nar_len = len }
 
-pub returns-else-nar_len-gt-MAX_NAR_LEN-clause-tree : goal.returns-else-nar_len-gt-MAX_NAR_LEN-clause-tree
-returns-else-nar_len-gt-MAX_NAR_LEN-clause-tree c =
+pub returns-in_ok-tree-in-Ok-clause-tree : goal.returns-in_ok-tree-in-Ok-clause-tree
+returns-in_ok-tree-in-Ok-clause-tree c =
     let tree = tree_of c.in-Ok.node in
     let fits : length (nar tree) ≤ 67108864 = omega (arith, length-nar tree, c.node_len-nar_len.ensures) in
     let whole : IsTree tree = record { bytes = c.in-Ok.ensures.bytes; sound = c.in-Ok.ensures.sound; depth = c.in-Ok.ensures.depth; length = fits } in
-    (c.in-Ok.ensures.found, whole)
+    let Read : Tree → Type 0 = λ t. (c.args.text.now ≡ tree_text_of t) × IsTree t in
+    subst Read (sym c.in_ok-tree-in-Ok.ensures.tree) (c.in-Ok.ensures.found, whole)
 
 pub returns-in-Err-Malformed-clause-refused : goal.returns-in-Err-Malformed-clause-refused
 returns-in-Err-Malformed-clause-refused c =
