@@ -1,7 +1,9 @@
 -- Looking paths up among the entries of a desk's tables.
-use Rattle.std.proofs.Common.{◌≡◌, ℕ, Bool, true, false, inl, inr, ◌⊎◌, List, [], ◌∷◌, ◌++◌, refl, ap, sym, ◌∙◌}
+use Rattle.std.proofs.Common.{◌≡◌, ℕ, ◌||◌, Bool, true, false, inl, inr, ◌⊎◌, List, [], ◌∷◌, ◌++◌, refl, ap, sym, ◌∙◌}
 use Rattle.std.specs.Prelude.{bytes_eq}
 use Rattle.std.specs.List.{list_any}
+use Rattle.indexmap.specs.IndexSet.{insert_key}
+use Rattle.std.proofs.lemmas.List.Folds.{list_any-append}
 use Rattle.std.specs.Map.{lookup}
 use Rattle.std.proofs.lemmas.Slice.Eq.{bytes_eq-Decides}
 use Rattle.std.proofs.lemmas.Bool.Decides.{same_from_decides}
@@ -36,3 +38,20 @@ admissions_of-push (x ∷ entries) e = ap (λ rest. x.1 ∷ rest) (admissions_of
 pub one_of_keys : (path : List ℕ) (keys : List (List ℕ)) → list_any (bytes_eq path) keys ≡ is_one_of keys path
 one_of_keys path [] = refl
 one_of_keys path (k ∷ keys) = rw (bytes_eq_sym path k, one_of_keys path keys) refl
+
+-- one path more in a set of those that came earlier
+pub any_insert : (path : List ℕ) (keys earlier : List (List ℕ)) → ((q : List ℕ) → list_any (bytes_eq q) keys ≡ list_any (bytes_eq q) earlier) → (q : List ℕ)
+    → list_any (bytes_eq q) (insert_key bytes_eq keys path) ≡ list_any (bytes_eq q) (earlier ++ path ∷ [])
+any_insert path keys earlier same q =
+    let later : list_any (bytes_eq q) (earlier ++ path ∷ []) ≡ (list_any (bytes_eq q) keys || list_any (bytes_eq q) (path ∷ [])) =
+    list_any-append (bytes_eq q) earlier (path ∷ []) ∙ ap (λ b. b || list_any (bytes_eq q) (path ∷ [])) (sym (same q)) in
+    elim (either (list_any (bytes_eq path) keys)) [
+      | inl t ↦
+          let there : list_any (bytes_eq q) keys ≡ (list_any (bytes_eq q) keys || list_any (bytes_eq q) (path ∷ [])) =
+          elim (either (bytes_eq q path)) [
+            | inl e ↦ let found : list_any (bytes_eq q) keys ≡ true = ap (λ p. list_any (bytes_eq p) keys) ((bytes_eq-Decides q path).0 e) ∙ t in rw found refl
+            | inr n ↦ rw n (elim (either (list_any (bytes_eq q) keys)) [ inl u ↦ rw u refl | inr u ↦ rw u refl ])
+          ] in
+          rw t (there ∙ sym later)
+      | inr f ↦ rw f (list_any-append (bytes_eq q) keys (path ∷ []) ∙ sym later)
+    ]

@@ -1,7 +1,7 @@
 //! Admitting a derivation.
 
-ghost use Rattle.std.specs.Prelude.{◌≡◌, ◌≤◌, ◌⊎◌, ◌++◌, IfOk, MatchResult, is_some, map, filter, not, codes, true, false};
-ghost use Rattle.std.specs.List.{list_all};
+ghost use Rattle.std.specs.Prelude.{◌≡◌, ◌≤◌, ◌⊎◌, ◌++◌, IfOk, MatchResult, is_some, map, filter, not, codes, true, false, bytes_eq, ℕ, List};
+ghost use Rattle.std.specs.List.{list_all, list_any};
 ghost use Rattle.model.specs.Paths.{OutputClass, store_path};
 ghost use Rattle.model.specs.Derivations.{name_of};
 ghost use Rattle.model.specs.Classes.{known_at, is_one_of, mask_of, rank_at, greatest, sorted, derivation_path, admit};
@@ -11,6 +11,7 @@ use crate::class::{Admitted, Class};
 use crate::known::Known;
 use aterm::{Derivation, Text, print, print_with_inputs};
 use hashmod::sha256;
+use indexmap::IndexSet;
 use model::Refusal;
 use std::alloc::{AllocError, Global};
 use storepath::{Kind, Name, StorePath, make_path};
@@ -68,13 +69,27 @@ fn references(
         (λ e. e ≡ Memory) }
 {
     let mut paths = copies(alloc, inputs)?;
+    let among_inputs = set_of(alloc, inputs)?;
     for path in sources {
-        if !inputs.contains(path) {
+        if !among_inputs.contains(path) {
             paths.push(path.clone()?)?;
         }
     }
     paths.sort()?;
     Ok(paths)
+}
+
+// The paths, to be looked up among them.
+fn set_of(alloc: Global, paths: &[StorePath]) -> Result<IndexSet<StorePath>, Refusal>
+    ensures { MatchResult result
+        (λ set. (path : List ℕ) → list_any (bytes_eq path) set.keys ≡ is_one_of paths.now path)
+        (λ e. e ≡ Memory) }
+{
+    let mut set = IndexSet::new(alloc);
+    for path in paths {
+        let _is_new = set.insert(path.clone()?)?;
+    }
+    Ok(set)
 }
 
 fn copies(alloc: Global, paths: &[StorePath]) -> Result<Vec<StorePath>, AllocError>

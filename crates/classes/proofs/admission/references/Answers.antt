@@ -1,4 +1,4 @@
-use Rattle.std.proofs.Common.{rules, ◌≡◌, ◌++◌, ◌∷◌, [], ◌<◌, length, true, false, not, arith, ap, ◌∙◌}
+use Rattle.std.proofs.Common.{rules, ◌≡◌, ◌++◌, ◌∷◌, [], ◌<◌, length, true, false, not, arith, ap, sym, ◌∙◌}
 use Rattle.std.specs.Prelude.{filter}
 use Rattle.std.proofs.lemmas.List.{take_all}
 use Rattle.model.specs.Classes.{is_one_of, sorted}
@@ -15,11 +15,11 @@ loop-path-preserved c =
     let lt : c.loop-path.path-index < length sources = omega arith in
     elim c.if-not-contains.branch [
       | then-not-contains+in_ok-clone+in_ok-push w ↦
-          let other : is_one_of inputs path ≡ false = search rules in
+          let other : is_one_of inputs path ≡ false = sym (c.in_ok-among_inputs.ensures path) ∙ search rules in
           let pushed : c.if-not-contains.paths.items ≡ c.loop-path.paths.items ++ path ∷ [] = search rules in
           takes inputs sources c.loop-path.paths.items c.if-not-contains.paths.items path c.loop-path.path-index lt c.path-item.is other c.loop-path.invariant pushed
       | else-not-contains w ↦
-          let input : is_one_of inputs path ≡ true = search rules in
+          let input : is_one_of inputs path ≡ true = sym (c.in_ok-among_inputs.ensures path) ∙ search rules in
           let same : c.if-not-contains.paths.items ≡ c.loop-path.paths.items = search rules in
           same ∙ skips inputs sources c.loop-path.paths.items path c.loop-path.path-index lt c.path-item.is input c.loop-path.invariant
     ]
