@@ -1,6 +1,7 @@
 //! The command line.
 
-ghost use Rattle.std.specs.Prelude.{◌≤◌};
+ghost use Rattle.std.specs.Prelude.{◌≤◌, IfOk};
+ghost use Rattle.app.specs.CommandLine.{AreOptionsOf, NamesCharge};
 
 use crate::settings::Options;
 use clap::error::ErrorKind;
@@ -15,6 +16,7 @@ fn command<'a>(alloc: Global) -> Result<Command<'a>, AllocError> {
         .value_name("N")
         .action(ArgAction::Set)
         .value_parser(value_parser!(u64).range(1..=1_073_741_824))
+        .default_value("1073741824")
         .help("The most bytes of archives that a user may hold, from 1 to 1073741824");
     let file = Arg::new(alloc, "file")
         .value_name("FILE")
@@ -26,6 +28,8 @@ fn command<'a>(alloc: Global) -> Result<Command<'a>, AllocError> {
         .arg(charge)?
         .arg(file)?;
     Command::new(alloc, "intstore")
+        .bin_name("intstore")?
+        .version("0.1.0")
         .about("A store for users of one machine who do not trust one another")
         .subcommand_required(true)
         .subcommand(replay)
@@ -34,11 +38,25 @@ fn command<'a>(alloc: Global) -> Result<Command<'a>, AllocError> {
 /// The limit on the charge: as given, or the largest. The parser has refused every other number.
 fn charge_of(matches: &ArgMatches<'_>) -> u64
     ensures within { (1 ≤ result) × (result ≤ 1073741824) }
+    ensures value { NamesCharge matches.now result }
 {
     match matches.get_one::<u64>("charge") {
         Some(charge) if charge >= 1 && charge <= LARGEST_CHARGE => charge,
         _ => LARGEST_CHARGE,
     }
+}
+
+/// The options that the matches of `replay` hold, or none where they have no file.
+fn options_of(alloc: Global, matches: &ArgMatches<'_>) -> Result<Option<Options>, AllocError>
+    ensures { IfOk result (AreOptionsOf matches.now) }
+{
+    let Some(file) = matches.get_str("file") else {
+        return Ok(None);
+    };
+    Ok(Some(Options {
+        charge: charge_of(matches),
+        file: String::from_str(alloc, file)?,
+    }))
 }
 
 /// The options that the words of a command line give, of which the first names the program.
@@ -50,12 +68,8 @@ pub(crate) fn options(alloc: Global, words: &[String]) -> Result<Options, Error>
     let Some((_, found)) = matches.subcommand() else {
         return Err(command.error(ErrorKind::MissingSubcommand, "a subcommand is missing")?);
     };
-    let charge = charge_of(found);
-    let Some(file) = found.get_str("file") else {
-        return Err(command.error(ErrorKind::MissingRequiredArgument, "FILE is missing")?);
-    };
-    Ok(Options {
-        charge,
-        file: String::from_str(alloc, file)?,
-    })
+    match options_of(alloc, found)? {
+        Some(options) => Ok(options),
+        None => Err(command.error(ErrorKind::MissingRequiredArgument, "FILE is missing")?),
+    }
 }

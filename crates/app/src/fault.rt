@@ -1,11 +1,15 @@
 //! What the program says when it cannot go on, and its exit statuses.
 
+ghost use Rattle.std.specs.Prelude.{◌≡◌};
+ghost use Rattle.app.specs.Ends.{fault_of_end, status_of_end};
+
 use model::Refusal;
+use std::io::Eprint;
 use thiserror::Error;
 
 /// The exit status where every line was answered.
 pub(crate) const ANSWERED: u8 = 0;
-/// The exit status of a fault in the command line, and of a call for help.
+/// The exit status of a fault in the command line, and where help or the version is asked for.
 pub(crate) const COMMAND_LINE_FAULT: u8 = 2;
 /// The exit status where the file cannot be read, or standard output not written.
 pub(crate) const CANNOT_READ_OR_WRITE: u8 = 3;
@@ -29,7 +33,9 @@ pub(crate) enum Fault<'a> {
 }
 
 /// The exit status of a run that ended so.
-pub(crate) fn status_of(ended: &Result<(), Refusal>) -> u8 {
+pub(crate) fn status_of(ended: &Result<(), Refusal>) -> u8
+    ensures { result ≡ status_of_end ended.now }
+{
     match ended {
         Ok(()) => ANSWERED,
         Err(Refusal::BadUsers) => BAD_USERS,
@@ -40,11 +46,24 @@ pub(crate) fn status_of(ended: &Result<(), Refusal>) -> u8 {
 
 /// What is said of a run of that file that ended so, if anything: the reply to a refused line of users
 /// says it all.
-pub(crate) fn fault_of<'a>(ended: &Result<(), Refusal>, file: &'a str) -> Option<Fault<'a>> {
+pub(crate) fn fault_of<'a>(ended: &Result<(), Refusal>, file: &'a str) -> Option<Fault<'a>>
+    ensures { result ≡ fault_of_end ended.now file.entry }
+{
     match ended {
         Ok(()) | Err(Refusal::BadUsers) => None,
         Err(Refusal::InputFault) => Some(Fault::CannotRead(file)),
         Err(Refusal::OutputFault) => Some(Fault::CannotWrite),
         Err(_) => Some(Fault::OutOfMemory),
     }
+}
+
+/// Says on standard error how a run of that file ended, if there is anything to say, and gives the exit
+/// status. What cannot be said is let go: the status stays.
+pub(crate) fn report(rt: &impl Eprint, ended: &Result<(), Refusal>, file: &str) -> u8
+    ensures { result ≡ status_of_end ended.now }
+{
+    if let Some(fault) = fault_of(ended, file) {
+        let _ = rt.eprintln(fault);
+    }
+    status_of(ended)
 }

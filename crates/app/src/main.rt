@@ -11,10 +11,9 @@ mod settings;
 mod tests;
 
 use crate::counted::Counted;
-use crate::fault::{
-    CANNOT_READ_OR_WRITE, COMMAND_LINE_FAULT, Fault, OUT_OF_MEMORY, fault_of, status_of,
-};
+use crate::fault::{COMMAND_LINE_FAULT, Fault, OUT_OF_MEMORY, report};
 use crate::settings::Options;
+use model::Refusal;
 use std::hash::RandomState;
 use std::io::{BufWriter, ErrorKind};
 use std::process::ExitCode;
@@ -22,27 +21,23 @@ use std::sync::Wait;
 use std::{fs, io};
 
 /// Runs the file that the options name, says on standard error what went wrong, and gives the exit
-/// status.
+/// status. A file that cannot be opened ends like one that cannot be read.
 fn run_file(rt: &HostRuntime, wait: &impl Wait, options: &Options) -> io::Result<u8> {
-    let file = match fs::open(rt, options.file.as_str()) {
+    let name = options.file.as_str();
+    let file = match fs::open(rt, name) {
         Ok(file) => file,
         Err(error) if error.kind() == ErrorKind::OutOfMemory => return Err(error),
-        Err(_) => {
-            rt.eprintln(Fault::CannotRead(options.file.as_str()))?;
-            return Ok(CANNOT_READ_OR_WRITE);
-        }
+        Err(_) => return Ok(report(rt, &Err(Refusal::InputFault), name)),
     };
-    let reader = Counted::new(file);
+    let mut reader = Counted::new(file);
     let mut writer = Counted::new(BufWriter::new(rt.alloc(), io::writer(rt))?);
     let hashing = RandomState::new(rt)?;
-    let ended = replay::replay(wait, rt.alloc(), hashing, options, reader, &mut writer);
-    if let Some(fault) = fault_of(&ended, options.file.as_str()) {
-        rt.eprintln(fault)?;
-    }
-    Ok(status_of(&ended))
+    let ended = replay::replay(wait, rt.alloc(), hashing, options, &mut reader, &mut writer);
+    Ok(report(rt, &ended, name))
 }
 
-/// Does what the words of the command line say, and gives the exit status.
+/// Does what the words of the command line say, and gives the exit status. What cannot be said on standard
+/// error is let go.
 fn run(rt: &HostRuntime, wait: &impl Wait) -> io::Result<u8> {
     let words: Vec<String> = std::env::args(rt)?.collect(rt.alloc())?;
     match command_line::options(rt.alloc(), words.as_slice()) {
@@ -51,7 +46,7 @@ fn run(rt: &HostRuntime, wait: &impl Wait) -> io::Result<u8> {
             Err(io::Error::from(ErrorKind::OutOfMemory))
         }
         Err(error) => {
-            rt.eprint(error)?;
+            let _ = rt.eprint(error);
             Ok(COMMAND_LINE_FAULT)
         }
     }
@@ -60,7 +55,7 @@ fn run(rt: &HostRuntime, wait: &impl Wait) -> io::Result<u8> {
 fn main(rt: HostRuntime) -> io::Result<ExitCode> {
     let status = match run(&rt, &rt) {
         Err(error) if error.kind() == ErrorKind::OutOfMemory => {
-            rt.eprintln(Fault::OutOfMemory)?;
+            let _ = rt.eprintln(Fault::OutOfMemory);
             OUT_OF_MEMORY
         }
         status => status?,

@@ -1,26 +1,27 @@
 //! Running the lines of one input.
 
-ghost use Rattle.std.specs.Prelude.{◌≡◌, []};
-ghost use Rattle.model.specs.Worlds.{nothing};
-ghost use Rattle.schedule.specs.Standing.{setup_of, world_of, stored_in};
+ghost use Rattle.std.specs.Prelude.{◌≡◌, ◌≤◌, ℕ, List, [], Some, true, OnOk, IfErr};
+ghost use Rattle.model.specs.Lines.{lines_of};
+ghost use Rattle.model.specs.Worlds.{are_users, nothing};
+ghost use Rattle.schedule.specs.Standing.{setup_for, setup_of, world_of, stored_in};
+ghost use Rattle.app.specs.Replaying.{Served, ServedInPart, IsReadAhead, Replayed, ReplayedInPart};
 
 use crate::one_pass::OnePass;
 use crate::settings::Options;
-use book::{Front, Naming};
+use book::{Blank, Front, Naming};
 use model::Refusal;
-use schedule::{Core, Limits};
-use session::{Ahead, Faults, Mode, NoUsers, Prefixed, read_ahead, serve};
+use schedule::{Core, Limits, User};
+use session::{Ahead, Faults, Mode, NoUsers, Prefixed, read_ahead, serve, serve_whole_lines};
 use std::alloc::Global;
 use std::hash::RandomState;
 use std::io::{Read, Write};
 use std::marker::Brand;
 use std::mem;
 use std::sync::Wait;
-use std::sync::ledger::Blank;
 
 /// Answers the lines of a reader by a new core, behind a lock that one pass takes. The store is not
 /// taken apart at the end: the program ends with it, and its memory is given back at once.
-fn serve_store<J: Naming, H: Wait, R: Read + Faults, W: Write + Faults>(
+fn serve_core<J: Naming, H: Wait, R: Read + Faults, W: Write + Faults>(
     rt: &H,
     alloc: Global,
     blank: Blank,
@@ -28,8 +29,12 @@ fn serve_store<J: Naming, H: Wait, R: Read + Faults, W: Write + Faults>(
     reader: &mut R,
     writer: &mut W,
 ) -> Result<(), Refusal>
-    requires blank { (blank.name ≡ J.name) × (blank.parts ≡ J.parts) × (blank.parts ≡ 1) }
+    requires blank { (blank.calls.name ≡ J.name) × (blank.calls.parts ≡ J.parts) × (blank.calls.parts ≡ 1) }
+    requires log { blank.log.table.shared.table_id ≡ J.table }
     requires core { (setup_of core ≡ J.setup) × (world_of core ≡ nothing) × (stored_in core ≡ []) }
+    ensures ok { OnOk result (Served J.setup (R.remaining reader.old) (R.remaining reader.new) (W.contents writer.old) (W.contents writer.new)) }
+    ensures err { IfErr result
+        (ServedInPart J.setup (R.remaining reader.old) (R.remaining reader.new) (W.contents writer.old) (W.contents writer.new)) }
 {
     let (front, mut passes) = Front::<J>::new(alloc, blank, core, 1)?;
     let pass = passes.pop().unwrap();
@@ -39,42 +44,80 @@ fn serve_store<J: Naming, H: Wait, R: Read + Faults, W: Write + Faults>(
     ended
 }
 
-/// Answers the lines of an input whose first lines are read ahead.
-fn answer_lines<H: Wait, R: Read + Faults + Drop, W: Write + Faults>(
+/// Answers the lines of a reader by a new store for these users, whose charge is limited.
+fn serve_users<H: Wait, R: Read + Faults, W: Write + Faults>(
+    rt: &H,
+    alloc: Global,
+    hashing: RandomState,
+    users: Vec<User>,
+    limits: Limits,
+    reader: &mut R,
+    writer: &mut W,
+) -> Result<(), Refusal>
+    requires { limits.charge ≤ 1073741824 }
+    ensures ok { OnOk result
+        (Served (setup_for users limits) (R.remaining reader.old) (R.remaining reader.new) (W.contents writer.old) (W.contents writer.new)) }
+    ensures err { IfErr result (λ why. are_users users.items ≡ true →
+        ServedInPart (setup_for users limits) (R.remaining reader.old) (R.remaining reader.new) (W.contents writer.old) (W.contents writer.new) why) }
+{
+    let core = Core::new(alloc, hashing, users, limits)?;
+    let blank = Blank::new(alloc, 1)?;
+    serve_core::<Brand, _, _, _>(rt, alloc, blank, core, reader, writer)
+}
+
+/// Answers the lines of an input whose first lines are read ahead. Where the reader failed before it
+/// had given the users, no more is read, and the lines that were read whole are answered.
+fn answer_lines<H: Wait, R: Read + Faults, W: Write + Faults>(
     rt: &H,
     alloc: Global,
     hashing: RandomState,
     options: &Options,
     ahead: Ahead,
-    reader: R,
+    reader: &mut R,
     writer: &mut W,
-) -> Result<(), Refusal> {
-    let mut reader = Prefixed::new(ahead.bytes, ahead.has_failed, reader);
+) -> Result<(), Refusal>
+    ensures ok { OnOk result ((all left : List ℕ) → R.remaining reader.old ≡ Some left → IsReadAhead all left ahead
+        → Replayed options.now.charge (W.contents writer.old) (W.contents writer.new) (lines_of all)) }
+    ensures err { IfErr result (λ why. (all left : List ℕ) → R.remaining reader.old ≡ Some left → IsReadAhead all left ahead
+        → ReplayedInPart options.now.charge (W.contents writer.old) (W.contents writer.new) (lines_of all) why) }
+{
+    if ahead.has_failed {
+        let bytes = ahead.bytes.as_slice();
+        serve_whole_lines(alloc, Mode::Service, bytes, writer, &mut NoUsers)?;
+        return Err(Refusal::InputFault);
+    }
+    let mut reader = Prefixed::new(ahead.bytes, reader);
     let Some(users) = ahead.users else {
         return serve(alloc, Mode::Service, &mut reader, writer, &mut NoUsers);
     };
     let limits = Limits {
         charge: options.charge,
     };
-    let core = Core::new(alloc, hashing, users, limits)?;
-    serve_store::<Brand, _, _, _>(rt, alloc, Blank::new(1), core, &mut reader, writer)
+    serve_users(rt, alloc, hashing, users, limits, &mut reader, writer)
 }
 
-/// Answers the lines that a reader gives, in a store for the users whom they name first, and writes
-/// the replies. What is written is flushed, whatever the end.
+/// Answers the lines that a reader gives, in a store for the users whom they name first and under the
+/// charge of the options, and writes the replies. What is written is flushed, whatever the end.
 ///
 /// The errors are those of [`serve`]: 14 `BadUsers` where the line of users is refused, 71 `InputFault`
 /// where the reader failed, 72 `OutputFault` where the writer failed, and 90 `Memory` where memory was
 /// refused and no event can be answered for it.
-pub(crate) fn replay<H: Wait, R: Read + Faults + Drop, W: Write + Faults>(
+pub(crate) fn replay<H: Wait, R: Read + Faults, W: Write + Faults>(
     rt: &H,
     alloc: Global,
     hashing: RandomState,
     options: &Options,
-    mut reader: R,
+    reader: &mut R,
     writer: &mut W,
-) -> Result<(), Refusal> {
-    let ahead = read_ahead(alloc, Mode::Service, &mut reader)?;
+) -> Result<(), Refusal>
+    // What a reader gives all of whose bytes are known, is answered to its end.
+    ensures ok { OnOk result ((all : List ℕ) → R.remaining reader.old ≡ Some all
+        → Replayed options.now.charge (W.contents writer.old) (W.contents writer.new) (lines_of all)) }
+    // Else its first lines are.
+    ensures err { IfErr result (λ why. (all : List ℕ) → R.remaining reader.old ≡ Some all
+        → ReplayedInPart options.now.charge (W.contents writer.old) (W.contents writer.new) (lines_of all) why) }
+{
+    let ahead = read_ahead(alloc, Mode::Service, reader)?;
     let ended = answer_lines(rt, alloc, hashing, options, ahead, reader, writer);
     match writer.flush() {
         Ok(()) => ended,

@@ -1,29 +1,35 @@
--- The calls of a pass in the terms of the model.
-use Rattle.std.proofs.Common.{◌≡◌, true, false, refl, sym, ◌∙◌}
+-- The calls of the only pass in the terms of the model.
+use Rattle.std.proofs.Common.{◌≡◌, true, false, refl, sym, ◌∙◌, ap, subst, ◌++◌, ◌∷◌, []}
+use Rattle.model.specs.declared.refusal.Refusal.TheVariants.{Memory, Stopped}
 use Rattle.model.specs.Worlds.{Setup}
 use Rattle.schedule.specs.declared.events.Event.{Event}
 use Rattle.schedule.specs.declared.events.Reply.{Reply}
 use Rattle.schedule.specs.declared.events.Reply.TheVariants.{Refused}
 use Rattle.schedule.specs.Standing.{event_of, reply_of}
-use Rattle.book.specs.Callers.{Caller, answered}
-use Rattle.book.specs.Histories.{row, gave_up, IsAnswered}
-use Rattle.book.specs.Answering.{has_no_row, IsPassAnswer}
+use Rattle.book.specs.Callers.{Caller, told_stopped}
+use Rattle.book.specs.Histories.{row, gave_up, IsAnswered, IsLegal}
+use Rattle.book.specs.Answering.{has_no_row, IsOnlyAnswer}
 
+-- a reply has no row in the terms of the model where it has none
 same_row : (r : Reply) → has_no_row (reply_of r) ≡ gave_up r
 same_row (Refused why) = refl
 same_row r = refl
 
-pub pass_answer : (setup : Setup) (old new : Caller) (event : Event) (reply : Reply) → (gave_up reply ≡ false → IsAnswered setup old.number event reply)
-    → (gave_up reply ≡ false → new ≡ answered old) → (gave_up reply ≡ true → new ≡ old) → IsPassAnswer setup old (event_of event) (reply_of reply) new
-pass_answer setup old new event reply told counted kept = record {
-  row = λ some. let a = told (sym (same_row reply) ∙ some) in record {
-    before = a.before;
-    last = row old.number event reply;
-    mine = refl;
-    asked = refl;
-    told = refl;
-    legal = a.legal;
-  };
-  counted = λ some. counted (sym (same_row reply) ∙ some);
-  kept = λ none. kept (sym (same_row reply) ∙ none);
+-- the sure rows stay where a call has no row
+kept : (old new : Caller) (reply : Reply) → gave_up reply ≡ true → (reply ≡ Refused Memory → new ≡ old) → (reply ≡ Refused Stopped → new ≡ told_stopped old) → new.sure ≡ old.sure
+kept old new (Refused Memory) none memory stopped = ap (λ (p : Caller). p.sure) (memory refl)
+kept old new (Refused Stopped) none memory stopped = ap (λ (p : Caller). p.sure) (stopped refl)
+kept old new (Refused why) none memory stopped = cc
+kept old new reply none memory stopped = cc
+
+-- what `call` of a front ensures, in the terms of the model
+pub only_answer : (setup : Setup) (old new : Caller) (event : Event) (reply : Reply) → (gave_up reply ≡ false → IsAnswered setup old event reply new)
+    → (gave_up reply ≡ false → new.sure ≡ old.sure ++ row old.number event reply ∷ []) → (reply ≡ Refused Memory → new ≡ old) → (reply ≡ Refused Stopped → new ≡ told_stopped old)
+    → IsOnlyAnswer setup old (event_of event) (reply_of reply) new
+only_answer setup old new event reply told alone memory stopped = record {
+  row = λ some.
+      let clean = sym (same_row reply) ∙ some in
+      let a = told clean in
+      (row old.number event reply, refl, refl, alone clean, subst (IsLegal setup) (sym (ap (λ (p : Caller). p.sure) a.sure)) a.legal);
+  kept = λ none. kept old new reply (sym (same_row reply) ∙ none) memory stopped;
 }

@@ -1,7 +1,8 @@
 -- What crosses threads.
 use denote.RattleType.{RattleType}
 use denote.Param.Send.{IsSend, IsSync, sendable, view_send}
-use denote.Param.SendFields.{declared_send}
+use denote.Param.Send.{recorded_send}
+use denote.Param.SendFields.{declared_send, as_row_send}
 use Rattle.std.specs.contracts.vec.Vec as Vec
 use Rattle.std.specs.contracts.alloc.Global as Global
 use Rattle.std.specs.contracts.impls.GlobalAllocator.TheImpl.{ghosts}
@@ -19,6 +20,14 @@ use Rattle.book.specs.contracts.front.Front as Front
 use Rattle.book.specs.contracts.book.Book as Book
 use Rattle.book.specs.contracts.book.Book.TheInside as Inside
 use Rattle.book.specs.contracts.pass.Pass as Pass
+use Rattle.book.specs.contracts.pass.Pass.TheInside as PassInside
+use Rattle.book.specs.contracts.log.Log as Log
+use Rattle.book.specs.contracts.log.Log.TheInside as LogInside
+use Rattle.book.specs.contracts.log.Claim as Claim
+use Rattle.book.specs.contracts.log.Claim.TheInside as ClaimInside
+use Rattle.atomic_table.proofs.shared.Seat.TheSendSync.{the_send as seats}
+use Rattle.atomic_table.proofs.shared.Shared.TheSendSync.{the_send as tables}
+use Rattle.atomic_table.proofs.send_lease.SendLease.TheSendSync.{the_send as leases}
 use Rattle.std.proofs.sync.ledger.Book.TheSendSync.{the_send as ledger_send}
 use Rattle.std.proofs.sync.ledger.Share.TheSendSync.{the_send as ledger_share_send}
 use Rattle.book.specs.declared.naming.Naming as Naming
@@ -52,8 +61,20 @@ history_send : IsSend (Vec.the_row Row.the_row Global.the_row ghosts)
 history_send = Vec-send Row.the_row row_send
 
 module _ (J : RattleType) (n : Naming.Ghosts J.Denot) (l : Ledger.Ghosts J.Denot) where
+  claim_inside_send : IsSend (ClaimInside.the_row J n l)
+  claim_inside_send = search (sendable, crosses, seats) depth 20
+
+  claim_send : IsSend (Claim.the_row J n l)
+  claim_send = search (view_send, claim_inside_send) depth 5
+
+  log_inside_send : IsSend (LogInside.the_row J n l)
+  log_inside_send = search (sendable, crosses, seats, tables, leases) depth 40
+
+  log_send : IsSend (Log.the_row J n l)
+  log_send = search (view_send, log_inside_send) depth 5
+
   inside_send : IsSend (Inside.the_row J n l)
-  inside_send = declared_send (Inside.the_type J n l) (core_send, (history_send, (ledger_send J l, (ledger_share_send J l, (search sendable, tt)))))
+  inside_send = declared_send (Inside.the_type J n l) (core_send, (history_send, (ledger_send J l, (ledger_share_send J l, (search (as_row_send, recorded_send, log_send) depth 5, (search sendable, tt))))))
 
   pub book_send : IsSend (Book.the_row J n l)
   book_send = search (view_send, inside_send) depth 5
@@ -61,5 +82,8 @@ module _ (J : RattleType) (n : Naming.Ghosts J.Denot) (l : Ledger.Ghosts J.Denot
   pub front_sync : IsSync (Front.the_row J n l)
   front_sync = search (sendable, crosses, book_send) depth 40
 
+  pass_inside_send : IsSend (PassInside.the_row J n l)
+  pass_inside_send = declared_send (PassInside.the_type J n l) (search sendable, (ledger_share_send J l, (search (as_row_send, recorded_send, claim_send) depth 5, tt)))
+
   pub pass_send : IsSend (Pass.the_row J n l)
-  pass_send = search (sendable, crosses, ledger_share_send) depth 40
+  pass_send = search (view_send, pass_inside_send) depth 5

@@ -1,13 +1,13 @@
 -- One row more in a history.
-use Rattle.std.proofs.Common.{◌≡◌, ℕ, List, [], ◌∷◌, ◌++◌, refl, sym, ap, ◌∙◌, append_assoc, append-nil}
+use Rattle.std.proofs.Common.{false, ◌≡◌, ℕ, List, [], ◌∷◌, ◌++◌, refl, sym, ap, ◌∙◌, append_assoc, append-nil}
 use Rattle.std.specs.Prelude.{All}
 use Rattle.std.proofs.lemmas.List.{map_push}
 use Rattle.std.proofs.lemmas.List.Elements.{All-head, All-tail, All-nil, All-cons}
 use Rattle.model.specs.Worlds.{Setup, World}
-use Rattle.model.specs.Steps.{Event, Answer, answers, after, reply_to}
+use Rattle.model.specs.Steps.{Event, Answer, world_after, answers, after, reply_to, replies_to}
 use Rattle.model.specs.HashedTexts.{hashed, texts_of_event}
 use Rattle.book.specs.declared.history.Row.{Row}
-use Rattle.book.specs.Histories.{event_in, answer_in, events_of, answers_of, world_after}
+use Rattle.book.specs.Histories.{event_in, answer_in, events_of, answers_of, gave_up, IsLegal}
 
 pub all_front : (P : List ℕ → Type 0) (xs ys : List (List ℕ)) → All P (xs ++ ys) → All P xs
 all_front P [] ys h = All-nil P
@@ -44,3 +44,9 @@ events_push rows r = map_push event_in rows r
 
 pub rows_push : (rows : List Row) (r : Row) → answers_of (rows ++ r ∷ []) ≡ answers_of rows ++ answer_in r ∷ []
 rows_push rows r = map_push answer_in rows r
+
+-- ---- no row
+
+pub legal_none : (setup : Setup) → IsLegal setup []
+unfolding answers replies_to
+legal_none setup = record { answered = All-nil (λ (r : Row). gave_up r.reply ≡ false); same = λ _. refl; isolated = λ _ u. refl }

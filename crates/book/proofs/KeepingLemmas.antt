@@ -4,7 +4,7 @@ use Rattle.std.specs.Prelude.{All, Contains}
 use Rattle.std.proofs.lemmas.List.Elements.{All-nil, All-push, All-contains_itself}
 use Rattle.model.specs.Paths.{NoClash}
 use Rattle.model.specs.Worlds.{Setup, World, nothing}
-use Rattle.model.specs.Steps.{Event, answers, after, reply_to, replies_to}
+use Rattle.model.specs.Steps.{Event, world_after, answers, after, reply_to, replies_to}
 use Rattle.model.specs.Laws.{IsIsolated}
 use Rattle.model.specs.HashedTexts.{hashed, texts_of_event}
 use Rattle.schedule.specs.declared.events.Reply.{Reply}
@@ -13,8 +13,8 @@ use Rattle.schedule.specs.declared.state.Core.{Core}
 use Rattle.schedule.specs.Sound.{IsHashed}
 use Rattle.schedule.specs.Standing.{world_of, setup_of, stored_in, HasHashed, reply_of, is_memory, is_memory_refusal, IsUnchanged}
 use Rattle.book.specs.declared.history.Row.{Row}
-use Rattle.book.specs.Histories.{event_in, events_of, answers_of, gave_up, is_stopped_refusal, world_after, IsLegal}
-use Rattle.book.specs.Keeping.{Kept, HasReached, Steps}
+use Rattle.book.specs.Histories.{event_in, events_of, answers_of, gave_up, is_stopped_refusal, IsLegal}
+use Rattle.book.specs.Keeping.{Kept, HasReached, Steps, IsModelReply}
 use Rattle.book.proofs.HistoryLemmas.{all_front, all_back, world_after_push, answers_push, hashed_push, events_push, rows_push}
 
 -- ---- replies
@@ -24,7 +24,7 @@ or_front true b h = cc
 or_front false b h = refl
 
 -- a reply that has a row is no want of memory
-pub some_memory : (reply : Reply) → gave_up reply ≡ false → is_memory reply ≡ false
+pub some_memory : (reply : Reply) → gave_up reply ≡ false → is_memory (reply_of reply) ≡ false
 some_memory (Refused why) h = or_front (is_memory_refusal why) (is_stopped_refusal why) h
 some_memory reply h = refl
 
@@ -74,7 +74,7 @@ record Went (setup : Setup) (rows : List Row) (r : Row) (new : Core) (texts : Li
   world : world_of new ≡ after setup (world_after setup nothing (events_of rows)) (event_in r)
   hashes : HasHashed texts new
 
-went : (setup : Setup) (old new : Core) (rows : List Row) (r : Row) → Kept setup old false rows → gave_up r.reply ≡ false → Steps old r new
+went : (setup : Setup) (old new : Core) (rows : List Row) (r : Row) → Kept setup old false rows → gave_up r.reply ≡ false → Steps old r.event r.reply new
     → (texts : List (List ℕ)) → NoClash texts → All (Contains texts) (hashed setup nothing (events_of (rows ++ r ∷ []))) → Went setup rows r new texts
 went setup old new rows r kept some steps texts clean inside =
     let events : List Event = events_of rows in
@@ -90,7 +90,7 @@ went setup old new rows r kept some steps texts clean inside =
       hashes = steps.hashed texts before.hashes here;
     }
 
-pub goes_on : (setup : Setup) (old new : Core) (rows : List Row) (r : Row) → Kept setup old false rows → gave_up r.reply ≡ false → Steps old r new → Kept setup new false (rows ++ r ∷ [])
+pub goes_on : (setup : Setup) (old new : Core) (rows : List Row) (r : Row) → Kept setup old false rows → gave_up r.reply ≡ false → Steps old r.event r.reply new → Kept setup new false (rows ++ r ∷ [])
 goes_on setup old new rows r kept some steps = record {
   given = steps.setup ∙ kept.given;
   answered = All-push (λ (r : Row). gave_up r.reply ≡ false) rows r kept.answered some;
@@ -111,11 +111,12 @@ goes_on setup old new rows r kept some steps = record {
 }
 
 -- the reply of a call that is answered
-pub replied : (setup : Setup) (old new : Core) (rows : List Row) (r : Row) → Kept setup old false rows → gave_up r.reply ≡ false → Steps old r new
-    → NoClash (hashed setup nothing (events_of (rows ++ r ∷ []))) → reply_of r.reply ≡ reply_to setup (world_after setup nothing (events_of rows)) (event_in r)
+pub replied : (setup : Setup) (old new : Core) (rows : List Row) (r : Row) → Kept setup old false rows → gave_up r.reply ≡ false → Steps old r.event r.reply new
+    → IsModelReply setup rows r.event r.reply
 replied setup old new rows r kept some steps clean =
     let texts : List (List ℕ) = hashed setup nothing (events_of (rows ++ r ∷ [])) in
-    (went setup old new rows r kept some steps texts clean (All-contains_itself texts)).reply
+    let same : NoClash texts = subst (λ (events : List Event). NoClash (hashed setup nothing events)) (sym (events_push rows r)) clean in
+    (went setup old new rows r kept some steps texts same (All-contains_itself texts)).reply
 
 -- ---- the history
 

@@ -1,11 +1,12 @@
 -- The history of a front, as a run of the model.
 use Rattle.std.specs.Prelude.{◌≡◌, ℕ, Bool, true, false, ◌||◌, List, [], ◌∷◌, ◌++◌, map, All}
+use mathlib.Core.List.{IsPrefix}
 use Rattle.model.specs.declared.refusal.Refusal.{Refusal}
 use Rattle.model.specs.declared.refusal.Refusal.TheVariants.{Stopped}
 use Rattle.model.specs.Paths.{NoClash}
-use Rattle.model.specs.Worlds.{Setup, World, nothing}
+use Rattle.model.specs.Worlds.{Setup, nothing}
 use Rattle.model.specs.Steps as steps
-use Rattle.model.specs.Steps.{after, answers, replies_to, replies}
+use Rattle.model.specs.Steps.{answers, replies_to, replies}
 use Rattle.model.specs.HashedTexts.{hashed}
 use Rattle.model.specs.Striking.{strike}
 use Rattle.schedule.specs.declared.events.Event.{Event}
@@ -13,6 +14,7 @@ use Rattle.schedule.specs.declared.events.Reply.{Reply}
 use Rattle.schedule.specs.declared.events.Reply.TheVariants.{Refused}
 use Rattle.schedule.specs.Standing.{event_of, reply_of, is_memory_refusal}
 use Rattle.book.specs.declared.history.Row.{Row}
+use Rattle.book.specs.Callers.{Caller, answered}
 
 -- ---- rows in the terms of the model
 
@@ -44,11 +46,6 @@ gave_up reply = false
 
 -- ---- what a history says
 
--- the world after events
-unfoldable pub world_after : Setup → World → List steps.Event → World
-world_after setup w [] = w
-world_after setup w (e ∷ events) = world_after setup (after setup w e) events
-
 -- a history that one caller could have made of private desks: where no two texts that its events hash have one folded
 -- digest, the replies are the model's, and each user's are those to the events that can reach him
 pub record IsLegal (setup : Setup) (rows : List Row) : Type 0 where
@@ -56,7 +53,10 @@ pub record IsLegal (setup : Setup) (rows : List Row) : Type 0 where
   pub same : NoClash (hashed setup nothing (events_of rows)) → answers_of rows ≡ answers setup nothing (events_of rows)
   pub isolated : NoClash (hashed setup nothing (events_of rows)) → (u : List ℕ) → replies_to u (answers_of rows) ≡ replies setup u (strike setup u (events_of rows))
 
--- a legal history ends with the call of a pass, its event and its reply
-pub record IsAnswered (setup : Setup) (pass : ℕ) (event : Event) (reply : Reply) : Type 0 where
+-- a call was answered: its row comes after rows that begin with the sure rows of the pass, and with it they are a legal
+-- history, of which the pass is sure now
+pub record IsAnswered (setup : Setup) (old : Caller) (event : Event) (reply : Reply) (new : Caller) : Type 0 where
   pub before : List Row
-  pub legal : IsLegal setup (before ++ row pass event reply ∷ [])
+  pub longer : IsPrefix old.sure before
+  pub sure : new ≡ answered old (before ++ row old.number event reply ∷ [])
+  pub legal : IsLegal setup (before ++ row old.number event reply ∷ [])

@@ -1,13 +1,16 @@
 -- What a book keeps.
-use Rattle.std.specs.Prelude.{◌≡◌, ℕ, Bool, false, List, All, Contains}
+use Rattle.std.specs.Prelude.{◌≡◌, ℕ, Bool, true, false, List, [], ◌∷◌, ◌++◌, All, Contains}
 use Rattle.model.specs.Paths.{NoClash}
 use Rattle.model.specs.Worlds.{Setup, nothing}
-use Rattle.model.specs.Steps.{answers}
-use Rattle.model.specs.HashedTexts.{hashed, texts_of_event}
+use Rattle.model.specs.Steps.{world_after, answers, reply_to}
+use Rattle.model.specs.HashedTexts.{hashed}
 use Rattle.schedule.specs.declared.state.Core.{Core}
-use Rattle.schedule.specs.Standing.{world_of, setup_of, HasHashed, reply_of, is_memory, is_clash, IsStep}
+use Rattle.schedule.specs.declared.events.Event.{Event}
+use Rattle.schedule.specs.declared.events.Reply.{Reply}
+use Rattle.schedule.specs.Standing.{world_of, setup_of, stored_in, HasHashed, event_of, reply_of, is_refused, IsUnchanged}
+use Rattle.schedule.specs.Stepping.{IsCoreStep}
 use Rattle.book.specs.declared.history.Row.{Row}
-use Rattle.book.specs.Histories.{event_in, events_of, answers_of, gave_up, world_after}
+use Rattle.book.specs.Histories.{events_of, answers_of, gave_up}
 
 -- a book as contracts see it: its core, its rows, and whether it is stopped
 pub record Contents : Type 0 where
@@ -15,17 +18,24 @@ pub record Contents : Type 0 where
   pub rows : List Row
   pub stopped : Bool
 
+-- a core that has taken no event
+abbrev pub IsNew : Setup → Core → Type 0
+IsNew setup core = (setup_of core ≡ setup) × (world_of core ≡ nothing) × (stored_in core ≡ [])
+
 -- the core is that of the world which the events reach, and its trees were made by texts that were hashed
 pub record HasReached (setup : Setup) (core : Core) (texts : List (List ℕ)) (rows : List Row) : Type 0 where
   pub world : world_of core ≡ world_after setup nothing (events_of rows)
   pub hashes : HasHashed texts core
 
--- what the step of a core promises
-pub record Steps (old : Core) (r : Row) (new : Core) : Type 0 where
-  pub step : is_memory r.reply ≡ false → is_clash r.reply ≡ false → IsStep (setup_of old) (world_of old) (event_in r) (reply_of r.reply) (world_of new)
-  pub setup : setup_of new ≡ setup_of old
-  pub hashed : (texts : List (List ℕ)) → HasHashed texts old → All (Contains texts) (texts_of_event (setup_of old) (world_of old) (event_in r)) → HasHashed texts new
-  pub no_clash : (texts : List (List ℕ)) → NoClash texts → HasHashed texts old → All (Contains texts) (texts_of_event (setup_of old) (world_of old) (event_in r)) → is_clash r.reply ≡ false
+-- the core takes the event, gives the reply and becomes the new one
+abbrev pub Steps : Core → Event → Reply → Core → Type 0
+Steps old event reply new = IsCoreStep old (event_of event) (reply_of reply) new
+
+-- the core has taken an event: it had a reply to it that is no refusal
+pub record TookEvent (old : Core) (event : Event) (new : Core) : Type 0 where
+  pub reply : Reply
+  pub taken : is_refused (reply_of reply) ≡ false
+  pub step : Steps old event reply new
 
 -- the replies of the rows are the model's, wherever texts have no clash and all that the events hash is among them;
 -- and unless the book is stopped, the core is that of the world reached
@@ -34,3 +44,24 @@ pub record Kept (setup : Setup) (core : Core) (stopped : Bool) (rows : List Row)
   pub answered : All (λ r. gave_up r.reply ≡ false) rows
   pub told : (texts : List (List ℕ)) → NoClash texts → All (Contains texts) (hashed setup nothing (events_of rows)) → answers_of rows ≡ answers setup nothing (events_of rows)
   pub reached : stopped ≡ false → (texts : List (List ℕ)) → NoClash texts → All (Contains texts) (hashed setup nothing (events_of rows)) → HasReached setup core texts rows
+
+-- ---- what a call changes
+
+-- the book was not stopped, and is now
+abbrev pub Stops : Contents → Contents → Type 0
+Stops old new = (old.stopped ≡ false) × (new.stopped ≡ true)
+
+-- the core is as it was, unless the book was stopped
+abbrev pub KeepsCore : Contents → Contents → Type 0
+KeepsCore old new = new.stopped ≡ old.stopped → IsUnchanged old.core new.core
+
+-- ---- what a book tells
+
+-- where no two texts that the events hash have one folded digest, the reply to one event more is the model's
+abbrev pub IsModelReply : Setup → List Row → Event → Reply → Type 0
+IsModelReply setup rows event reply =
+    NoClash (hashed setup nothing (events_of rows ++ event_of event ∷ [])) → reply_of reply ≡ reply_to setup (world_after setup nothing (events_of rows)) (event_of event)
+
+-- where no two texts that the events hash have one folded digest, the core stands for the desks that they reach
+abbrev pub StandsFor : Setup → Core → List Row → Type 0
+StandsFor setup core rows = NoClash (hashed setup nothing (events_of rows)) → world_of core ≡ world_after setup nothing (events_of rows)

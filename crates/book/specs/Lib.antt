@@ -2,3 +2,4 @@ pub mod Callers
 pub mod Histories
 pub mod Keeping
 pub mod Answering
+pub mod Tokens

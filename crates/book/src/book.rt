@@ -1,19 +1,19 @@
 //! What lies under the lock.
 
-ghost use Rattle.std.specs.Prelude.{◌≡◌, ◌+◌, ◌++◌, ◌<◌, ◌∷◌, [], length, vec_len, map, sum, true, false, OnOk, OnErr, IfOk, IfErr, IfSome, IfNone, Err};
+ghost use Rattle.std.specs.Prelude.{◌≡◌, ◌+◌, ◌++◌, ◌<◌, ◌∷◌, [], length, vec_len, map, sum, All, true, false, OnOk, IfOk, IfErr, IfSome, IfNone, Ok};
 ghost use Rattle.std.specs.Vec.{vec_capacity};
 ghost use Rattle.model.specs.Paths.{NoClash};
 ghost use Rattle.model.specs.Worlds.{nothing};
-ghost use Rattle.model.specs.Steps.{reply_to};
 ghost use Rattle.model.specs.HashedTexts.{hashed};
 ghost use Rattle.model.specs.declared.refusal.Refusal.TheVariants.{Memory, Stopped};
-ghost use Rattle.schedule.specs.Standing.{world_of, setup_of, stored_in, event_of, reply_of, IsUnchanged};
+ghost use Rattle.schedule.specs.Standing.{world_of, setup_of, stored_in, reply_of, is_refused, IsUnchanged};
 ghost use Rattle.schedule.specs.declared.events.Reply.TheVariants.{Refused};
-ghost use Rattle.book.specs.Callers.{answered};
-ghost use Rattle.book.specs.Keeping.{Steps};
-ghost use Rattle.book.specs.Histories.{row, events_of, gave_up, world_after, IsLegal};
+ghost use Rattle.book.specs.Callers.{answered, told_stopped, Matches};
+ghost use Rattle.book.specs.Keeping.{IsNew, Steps, TookEvent, Stops, KeepsCore, IsModelReply, StandsFor};
+ghost use Rattle.book.specs.Histories.{row, gave_up, IsLegal};
 
 use crate::history::{History, Row};
+use crate::log::Log;
 use crate::naming::Naming;
 use crate::pass::Pass;
 use model::{Refusal, isolation};
@@ -34,6 +34,7 @@ pub struct Book<J: Naming> {
     history: Vec<Row>,
     calls: ledger::Book<J>,
     spare: Share<J>,
+    log: Log<J>,
     stopped: bool,
 }
 
@@ -50,37 +51,38 @@ impl<J: Naming> Model for Book<J> {
 
     ghost view = { λ b. record { core = b.core; rows = b.history.items; stopped = b.stopped } };
 
-    ghost invariant = { λ b. Kept J.setup b.core b.stopped b.history.items × (length b.history.items ≡ b.calls.total) × (b.spare.parts ≡ 0) × (b.spare.amount ≡ 0) };
+    ghost invariant = { λ b. Kept J.setup b.core b.stopped b.history.items
+        × (length b.history.items ≡ b.calls.total) × (b.spare.parts ≡ 0) × (b.spare.amount ≡ 0)
+        × (b.log.rows ≡ b.history.items) × (b.log.stopped ≡ b.stopped) };
 }
 
-/// Makes room for a row, and copies the event that it is to have, unless the book is stopped.
-fn hold(history: &mut Vec<Row>, stopped: bool, event: &Event) -> Result<Event, Refusal>
+/// Makes room for a row, and copies the event that it is to have.
+fn hold(history: &mut Vec<Row>, event: &Event) -> Result<Event, AllocError>
     ensures copy { IfOk result (λ asked. asked ≡ event.now) }
     ensures rows { history.new.items ≡ history.old.items }
     ensures room { OnOk result (vec_len history.new < vec_capacity history.new) }
-    ensures going { OnOk result (stopped ≡ false) }
-    ensures stopped { stopped ≡ true → result ≡ Err Stopped }
-    ensures refused { IfErr result (λ why. gave_up (Refused why) ≡ true) }
-    ensures memory { stopped ≡ false → IfErr result (λ why. why ≡ Memory) }
 {
-    if stopped {
-        return Err(Refusal::Stopped);
-    }
     history.reserve(1)?;
-    let asked = event.clone()?;
-    Ok(asked)
+    event.clone()
 }
 
-/// The row of a call.
-fn row_of(pass: u64, asked: Event, reply: &Reply) -> Result<Row, AllocError>
-    ensures { IfOk result (λ r. r ≡ row pass asked reply.now) }
+/// Puts a row behind the others.
+fn push(history: &mut Vec<Row>, row: Row)
+    requires { vec_len history.old < vec_capacity history.old }
+    ensures { history.new.items ≡ history.old.items ++ row ∷ [] }
 {
-    let answered = reply.clone()?;
-    Ok(Row {
-        pass,
-        event: asked,
-        reply: answered,
-    })
+    history.push_reserved(row);
+}
+
+/// A copy of a reply. Memory can be refused only where the reply is no refusal.
+fn copy_of(reply: &Reply) -> Result<Reply, AllocError>
+    ensures copy { IfOk result (λ copy. copy ≡ reply.now) }
+    ensures refused { is_refused (reply_of reply.now) ≡ true → result ≡ Ok reply.now }
+{
+    match reply {
+        Reply::Refused(why) => Ok(Reply::Refused(*why)),
+        other => other.clone(),
+    }
 }
 
 /// Why a reply has no row, if it has none.
@@ -97,8 +99,9 @@ fn want_in(reply: &Reply) -> Option<Refusal>
     }
 }
 
-/// Lets a core take an event, and gives its reply and the row. There is none, and the core may have
-/// changed, where memory is refused afterwards; the error is that of a reply without a row.
+/// Lets a core take an event, and gives its reply and the row. There is none where the core has
+/// taken the event, and memory is refused for the copy of the reply. The error is the core's own want
+/// of memory, at which the core is as it was.
 fn step(
     alloc: Global,
     core: &mut Core,
@@ -107,17 +110,27 @@ fn step(
     asked: Event,
 ) -> Result<Option<(Reply, Row)>, Refusal>
     requires { asked ≡ event }
-    ensures answered { IfOk result (λ found. IfSome found (λ p. (p.1 ≡ row pass event p.0) × (gave_up p.0 ≡ false) × Steps core.old p.1 core.new)) }
+    ensures row { IfOk result (λ found. IfSome found (λ p. p.1 ≡ row pass event p.0)) }
+    ensures some { IfOk result (λ found. IfSome found (λ p. gave_up p.0 ≡ false)) }
+    ensures step { IfOk result (λ found. IfSome found (λ p. Steps core.old event p.0 core.new)) }
+    ensures lost { IfOk result (λ found. IfNone found (TookEvent core.old event core.new)) }
     ensures given { setup_of core.new ≡ setup_of core.old }
-    ensures refused { IfErr result (λ why. (gave_up (Refused why) ≡ true) × IsUnchanged core.old core.new) }
-    ensures only { IfErr result (λ why. why ≡ Memory) }
+    ensures refused { IfErr result (λ why. IsUnchanged core.old core.new) }
+    ensures memory { IfErr result (λ why. why ≡ Memory) }
 {
     let reply = core.step(alloc, event);
     if let Some(why) = want_in(&reply) {
         return Err(why);
     }
-    match row_of(pass, asked, &reply) {
-        Ok(row) => Ok(Some((reply, row))),
+    match copy_of(&reply) {
+        Ok(copy) => {
+            let row = Row {
+                pass,
+                event: asked,
+                reply: copy,
+            };
+            Ok(Some((reply, row)))
+        }
         Err(_) => Ok(None),
     }
 }
@@ -131,9 +144,16 @@ fn refuse(why: Refusal, _event: Event) -> Reply
 
 impl<J: Naming> Book<J> {
     /// A book of a new core, with an empty history.
-    pub(crate) fn new(alloc: Global, core: Core, calls: ledger::Book<J>, spare: Share<J>) -> Book<J>
-        requires core { (setup_of core ≡ J.setup) × (world_of core ≡ nothing) × (stored_in core ≡ []) }
+    pub(crate) fn new(
+        alloc: Global,
+        core: Core,
+        calls: ledger::Book<J>,
+        spare: Share<J>,
+        log: Log<J>,
+    ) -> Book<J>
+        requires core { IsNew J.setup core }
         requires calls { (calls.total ≡ 0) × (spare.parts ≡ 0) × (spare.amount ≡ 0) }
+        requires log { (log.rows ≡ []) × (log.stopped ≡ false) }
         ensures { result ≡ record { core = core; rows = []; stopped = false } }
     {
         Book {
@@ -141,25 +161,35 @@ impl<J: Naming> Book<J> {
             history: Vec::new(alloc),
             calls,
             spare,
+            log,
             stopped: false,
         }
     }
 
     /// Answers one event of a pass.
     ///
-    /// The reply is the core's, and a row of the history has it. There is no row, and the pass counts
-    /// no call, at 90 `Memory`, where memory was refused, and at 92 `Stopped`, where the book was
-    /// stopped before. At 90 nothing has changed, or the book is stopped now.
+    /// The reply is the core's, and a row of the history has it, which is the last of the sure rows
+    /// of the pass. There is no row at 90 `Memory`, where memory was refused, and at 92 `Stopped`,
+    /// where the book was stopped before. At 90 nothing has changed, or the core had taken the event
+    /// and the book is stopped now. At 92 the pass knows that it is.
     pub fn apply(&mut self, alloc: Global, pass: &mut Pass<J>, event: Event) -> Reply
-        ensures row { gave_up result ≡ false → self.new.rows ≡ self.old.rows ++ row pass.old.number event result ∷ [] }
-        ensures reply { gave_up result ≡ false → NoClash (hashed J.setup nothing (events_of self.new.rows))
-            → reply_of result ≡ reply_to J.setup (world_after J.setup nothing (events_of self.old.rows)) (event_of event) }
-        ensures counted { gave_up result ≡ false → pass.new ≡ answered pass.old }
-        ensures no_row { gave_up result ≡ true → (self.new.rows ≡ self.old.rows) × (pass.new ≡ pass.old) }
-        ensures unchanged { gave_up result ≡ true → self.new.stopped ≡ self.old.stopped → IsUnchanged self.old.core self.new.core }
-        ensures stopped { self.old.stopped ≡ true → (result ≡ Refused Stopped) × (self.new ≡ self.old) }
+        ensures row { gave_up result ≡ false
+            → self.new.rows ≡ self.old.rows ++ row pass.old.number event result ∷ [] }
+        ensures step { gave_up result ≡ false → Steps self.old.core event result self.new.core }
+        ensures reply { gave_up result ≡ false → IsModelReply J.setup self.old.rows event result }
+        ensures counted { gave_up result ≡ false → pass.new ≡ answered pass.old self.new.rows }
+        ensures matches { Matches self.old.rows self.old.stopped pass.old }
+        // The only pass knows all rows.
+        ensures alone { J.parts ≡ 1 → pass.old.sure ≡ self.old.rows }
+        ensures no_row { gave_up result ≡ true → self.new.rows ≡ self.old.rows }
+        ensures memory { result ≡ Refused Memory → pass.new ≡ pass.old }
+        ensures unchanged { gave_up result ≡ true → KeepsCore self.old self.new }
+        ensures stopped { self.old.stopped ≡ true → result ≡ Refused Stopped }
+        ensures stays { self.old.stopped ≡ true → self.new ≡ self.old }
         ensures only_then { result ≡ Refused Stopped → self.old.stopped ≡ true }
-        ensures stops { self.old.stopped ≡ false → self.new.stopped ≡ true → result ≡ Refused Memory }
+        ensures told { result ≡ Refused Stopped → pass.new ≡ told_stopped pass.old }
+        ensures stops { Stops self.old self.new → result ≡ Refused Memory }
+        ensures taken { Stops self.old self.new → TookEvent self.old.core event self.new.core }
         ensures legal { IsLegal J.setup self.new.rows }
     {
         isolation();
@@ -167,12 +197,17 @@ impl<J: Naming> Book<J> {
             core,
             history,
             calls,
+            log,
             stopped,
             ..
         } = self;
-        let asked = match hold(history, *stopped, &event) {
-            Ok(asked) => asked,
-            Err(why) => return refuse(why, event),
+        pass.compare(log);
+        pass.audit(calls);
+        if *stopped {
+            return refuse(Refusal::Stopped, event);
+        }
+        let Ok(asked) = hold(history, &event) else {
+            return refuse(Refusal::Memory, event);
         };
         let answered = match step(alloc, core, pass.number(), event, asked) {
             Ok(answered) => answered,
@@ -180,10 +215,11 @@ impl<J: Naming> Book<J> {
         };
         let Some((reply, row)) = answered else {
             *stopped = true;
+            log.stop();
             return Reply::Refused(Refusal::Memory);
         };
-        history.push_reserved(row);
-        pass.count(calls);
+        pass.add_row(calls, log, &row);
+        push(history, row);
         reply
     }
 
@@ -196,16 +232,18 @@ impl<J: Naming> Book<J> {
         self.history.as_slice()
     }
 
-    /// The core. Unless the book is stopped, it stands for the desks that the history's events reach.
+    /// The core. Unless the book is stopped, it stands for the desks that the history's events
+    /// reach.
     pub fn core(&self) -> &Core
         ensures core { result.now ≡ self.now.core }
         ensures given { setup_of self.now.core ≡ J.setup }
-        ensures reached { self.now.stopped ≡ false → NoClash (hashed J.setup nothing (events_of self.now.rows)) → world_of self.now.core ≡ world_after J.setup nothing (events_of self.now.rows) }
+        ensures reached { self.now.stopped ≡ false → StandsFor J.setup self.now.core self.now.rows }
     {
         &self.core
     }
 
-    /// Whether memory was refused once the core had taken an event. Then [`Book::apply`] answers 92.
+    /// Whether memory was refused once the core had taken an event. Then [`Book::apply`] answers
+    /// 92.
     pub fn is_stopped(&self) -> bool
         ensures { result ≡ self.now.stopped }
     {
@@ -218,6 +256,8 @@ impl<J: Naming> Book<J> {
         ensures rows { result.rows.items ≡ self.rows }
         ensures legal { IsLegal J.setup result.rows.items }
         ensures count { length result.rows.items ≡ sum (map (λ p. p.calls) passes.items) }
+        ensures stopped { result.stopped ≡ self.stopped }
+        ensures matches { All (Matches result.rows.items result.stopped) passes.items }
     {
         isolation();
         let Book {
@@ -225,21 +265,28 @@ impl<J: Naming> Book<J> {
             history,
             mut calls,
             spare,
-            stopped: _,
+            mut log,
+            stopped,
         } = self;
-        let mut all = merged(spare, passes);
+        let mut all = merged(spare, passes, &mut log);
         calls.audit(&mut all);
-        History { rows: history }
+        History {
+            rows: history,
+            stopped,
+        }
     }
 }
 
-/// The parts of all passes, and those of a share that has none.
-fn merged<J: Naming>(mut all: Share<J>, mut passes: Vec<Pass<J>>) -> Share<J>
+/// The parts of all passes, and those of a share that has none. What each pass knows is compared
+/// with what is recorded.
+fn merged<J: Naming>(mut all: Share<J>, mut passes: Vec<Pass<J>>, log: &mut Log<J>) -> Share<J>
     requires { (all.parts ≡ 0) × (all.amount ≡ 0) }
     ensures parts { result.parts ≡ length passes.items }
     ensures amount { result.amount ≡ sum (map (λ p. p.calls) passes.items) }
+    ensures matches { All (Matches log.old.rows log.old.stopped) passes.items }
 {
-    while let Some(pass) = passes.pop() {
+    while let Some(mut pass) = passes.pop() {
+        pass.compare(log);
         all.merge(pass.into_calls());
     }
     all

@@ -1,40 +1,50 @@
 //! What threads share.
 
-ghost use Rattle.std.specs.Prelude.{◌≡◌, ◌<◌, ◌≤◌, [], true, false, length, map, sum, IfOk, IfErr};
-ghost use Rattle.model.specs.Worlds.{nothing};
-ghost use Rattle.model.specs.declared.refusal.Refusal.TheVariants.{Memory};
-ghost use Rattle.schedule.specs.Standing.{world_of, setup_of, stored_in};
-ghost use Rattle.book.specs.Callers.{newcomer, answered, below};
-ghost use Rattle.book.specs.Histories.{gave_up, IsLegal, IsAnswered};
+ghost use Rattle.std.specs.Prelude.{◌≡◌, ◌<◌, ◌≤◌, ◌++◌, ◌∷◌, [], true, false, length, map, sum, All, IfOk, IfErr};
+ghost use mathlib.Core.List.{IsPrefix};
+ghost use Rattle.model.specs.declared.refusal.Refusal.TheVariants.{Memory, Stopped};
+ghost use Rattle.schedule.specs.declared.events.Reply.TheVariants.{Refused};
+ghost use Rattle.book.specs.Keeping.{IsNew};
+ghost use Rattle.book.specs.Callers.{newcomer, told_stopped, below, rows_of};
+ghost use Rattle.book.specs.Tokens.{nothing_recorded};
+ghost use Rattle.book.specs.Histories.{row, gave_up, IsLegal, IsAnswered};
 
 use crate::book::Book;
 use crate::history::History;
+use crate::log::{Blank, Log};
 use crate::naming::Naming;
 use crate::pass::Pass;
 use model::Refusal;
 use schedule::{Core, Event, Reply};
 use std::alloc::Global;
-use std::sync::ledger::{Blank, Share};
+use std::sync::ledger::Share;
 use std::sync::{Mutex, Wait};
 
-/// A core with the history of its calls, under a lock. Threads share it by reference, and each calls
-/// it through a [`Pass`] of its own.
+/// A core with the history of its calls, under a lock. Threads share it by reference, and each
+/// calls it through a [`Pass`] of its own.
 #[derive(Drop)]
 pub struct Front<J: Naming> {
     book: Mutex<Book<J>>,
 }
 
 /// So many passes, each with a part of the count.
-fn passes_of<J: Naming>(alloc: Global, n: u64, all: &mut Share<J>) -> Result<Vec<Pass<J>>, Refusal>
-    requires { (all.old.parts ≡ n) × (all.old.amount ≡ 0) }
+fn passes_of<J: Naming>(
+    alloc: Global,
+    n: u64,
+    all: &mut Share<J>,
+    log: &mut Log<J>,
+) -> Result<Vec<Pass<J>>, Refusal>
+    requires all { (all.old.parts ≡ n) × (all.old.amount ≡ 0) }
+    requires log { log.old ≡ nothing_recorded }
     ensures passes { IfOk result (λ passes. passes.items ≡ map newcomer (below n)) }
     ensures all { IfOk result (λ _. (all.new.parts ≡ 0) × (all.new.amount ≡ 0)) }
+    ensures log { (log.new.rows ≡ []) × (log.new.stopped ≡ false) }
     ensures memory { IfErr result (λ why. why ≡ Memory) }
 {
     let mut passes = Vec::new(alloc);
     for number in 0..n {
         let calls = all.split_off(1, 0);
-        passes.push(Pass::new(number, calls))?;
+        passes.push(Pass::new(number, calls, log.next_claim()))?;
     }
     Ok(passes)
 }
@@ -50,15 +60,19 @@ impl<J: Naming> Front<J> {
         core: Core,
         n: u64,
     ) -> Result<(Front<J>, Vec<Pass<J>>), Refusal>
-        requires core { (setup_of core ≡ J.setup) × (world_of core ≡ nothing) × (stored_in core ≡ []) }
-        requires blank { (blank.name ≡ J.name) × (blank.parts ≡ J.parts) × (blank.parts ≡ n) }
+        requires core { IsNew J.setup core }
+        requires blank { (blank.calls.name ≡ J.name) × (blank.calls.parts ≡ J.parts) }
+        requires parts { blank.calls.parts ≡ n }
+        requires log { blank.log.table.shared.table_id ≡ J.table }
         requires some { (0 < n) × (n ≤ 64) }
         ensures passes { IfOk result (λ made. made.1.items ≡ map newcomer (below n)) }
         ensures memory { IfErr result (λ why. why ≡ Memory) }
     {
-        let (calls, mut all) = blank.open::<J>();
-        let passes = passes_of(alloc, n, &mut all)?;
-        let book = Book::new(alloc, core, calls, all);
+        let Blank { calls, log } = blank;
+        let (calls, mut all) = calls.open::<J>();
+        let mut log = log.named::<J>();
+        let passes = passes_of(alloc, n, &mut all, &mut log)?;
+        let book = Book::new(alloc, core, calls, all, log);
         let front = Front {
             book: Mutex::new(book),
         };
@@ -67,22 +81,33 @@ impl<J: Naming> Front<J> {
 
     /// Answers one event of a pass. It takes the lock, so it may wait.
     ///
-    /// The reply is that of [`Book::apply`]: 90 `Memory` and 92 `Stopped` have no row and are not
-    /// counted. Any other call is the last of a legal history.
+    /// The reply is that of [`Book::apply`]. After a call that has a row the sure rows of the pass
+    /// begin with the old ones, end with that row, and are legal; those of the only pass are the old
+    /// ones and that row. There is no row at 90 `Memory`, which leaves the pass as it was, and at 92
+    /// `Stopped`, after which the pass knows that the front is stopped: each later call of it is
+    /// answered so too.
     pub fn call(&self, rt: &impl Wait, alloc: Global, pass: &mut Pass<J>, event: Event) -> Reply
-        ensures answered { gave_up result ≡ false → IsAnswered J.setup pass.old.number event result }
-        ensures counted { gave_up result ≡ false → pass.new ≡ answered pass.old }
-        ensures no_row { gave_up result ≡ true → pass.new ≡ pass.old }
+        ensures answered { gave_up result ≡ false
+            → IsAnswered J.setup pass.old event result pass.new }
+        ensures alone { gave_up result ≡ false → J.parts ≡ 1
+            → pass.new.sure ≡ pass.old.sure ++ row pass.old.number event result ∷ [] }
+        ensures memory { result ≡ Refused Memory → pass.new ≡ pass.old }
+        ensures stopped { result ≡ Refused Stopped → pass.new ≡ told_stopped pass.old }
+        ensures remains { pass.old.stopped ≡ true → result ≡ Refused Stopped }
     {
         self.book.lock(rt).apply(alloc, pass, event)
     }
 
     /// The history. The passes are all that [`Front::new`] gave with the front, so it has a row for
-    /// each of their calls that was answered otherwise than with 90 and 92.
+    /// each of their calls that was answered otherwise than with 90 and 92, and no other. It begins
+    /// with the sure rows of each pass, and says that the front was stopped if one of them was told so.
     pub fn close(self, passes: Vec<Pass<J>>) -> History
         requires { length passes.items ≡ J.parts }
         ensures legal { IsLegal J.setup result.rows.items }
         ensures rows { length result.rows.items ≡ sum (map (λ p. p.calls) passes.items) }
+        ensures sure { All (λ p. IsPrefix p.sure result.rows.items) passes.items }
+        ensures each { All (λ p. rows_of p.number result.rows.items ≡ p.calls) passes.items }
+        ensures stopped { All (λ p. p.stopped ≡ true → result.stopped ≡ true) passes.items }
     {
         let Front { book } = self;
         book.into_inner().end(passes)

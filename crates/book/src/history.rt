@@ -18,4 +18,7 @@ pub struct Row {
 pub struct History {
     /// The rows, the oldest first.
     pub rows: Vec<Row>,
+    /// Whether the front was stopped: memory was refused once its core had taken an event, whose
+    /// reply is in no row, and each later call was answered with 92 `Stopped`.
+    pub stopped: bool,
 }

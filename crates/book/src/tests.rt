@@ -1,6 +1,7 @@
 ghost use Rattle.std.specs.Prelude.{◌≡◌, [], IfOk};
 ghost use Rattle.model.specs.Worlds.{nothing};
-ghost use Rattle.schedule.specs.Standing.{setup_of, world_of, stored_in};
+ghost use Rattle.schedule.specs.Standing.{world_of, stored_in};
+ghost use Rattle.book.specs.Keeping.{IsNew};
 
 use super::*;
 use model::Refusal;
@@ -11,7 +12,6 @@ use std::hash::RandomState;
 use std::marker::Brand;
 use std::process::Abort;
 use std::sync::Wait;
-use std::sync::ledger::Blank;
 use std::test::*;
 use std::thread::{Threads, join};
 use storepath::{Name, read_path};
@@ -97,8 +97,10 @@ fn two_hundred<J: Naming + Send + Sync, R: Threads + Wait + Abort + Sync>(
     blank: Blank,
     core: Core,
 ) -> Result<(), Fail>
-    requires blank { (blank.name ≡ J.name) × (blank.parts ≡ J.parts) × (blank.parts ≡ 2) }
-    requires core { (setup_of core ≡ J.setup) × (world_of core ≡ nothing) × (stored_in core ≡ []) }
+    requires blank { (blank.calls.name ≡ J.name) × (blank.calls.parts ≡ J.parts) }
+    requires parts { blank.calls.parts ≡ 2 }
+    requires log { blank.log.table.shared.table_id ≡ J.table }
+    requires core { IsNew J.setup core }
 {
     let (front, mut passes) = Front::<J>::new(alloc, blank, core, 2)?;
     let second = passes.pop().ok_or("a pass")?;
@@ -129,7 +131,7 @@ fn two_hundred<J: Naming + Send + Sync, R: Threads + Wait + Abort + Sync>(
 fn two_threads(rt: HostRuntime) -> Result<(), Fail> {
     let alloc = rt.alloc();
     let core = new_core(alloc, RandomState::new(&rt)?)?;
-    two_hundred::<Brand, _>(&rt, alloc, Blank::new(2), core)
+    two_hundred::<Brand, _>(&rt, alloc, Blank::new(alloc, 2)?, core)
 }
 
 fn closed_at_once<J: Naming, R: Abort>(
@@ -138,8 +140,10 @@ fn closed_at_once<J: Naming, R: Abort>(
     blank: Blank,
     core: Core,
 ) -> Result<(), Fail>
-    requires blank { (blank.name ≡ J.name) × (blank.parts ≡ J.parts) × (blank.parts ≡ 3) }
-    requires core { (setup_of core ≡ J.setup) × (world_of core ≡ nothing) × (stored_in core ≡ []) }
+    requires blank { (blank.calls.name ≡ J.name) × (blank.calls.parts ≡ J.parts) }
+    requires parts { blank.calls.parts ≡ 3 }
+    requires log { blank.log.table.shared.table_id ≡ J.table }
+    requires core { IsNew J.setup core }
 {
     let (front, passes) = Front::<J>::new(alloc, blank, core, 3)?;
     let numbers = passes.iter().map(|pass| pass.number());
@@ -152,5 +156,5 @@ fn closed_at_once<J: Naming, R: Abort>(
 fn without_a_call(rt: HostRuntime) -> Result<(), Fail> {
     let alloc = rt.alloc();
     let core = new_core(alloc, RandomState::new(&rt)?)?;
-    closed_at_once::<Brand, _>(&rt, alloc, Blank::new(3), core)
+    closed_at_once::<Brand, _>(&rt, alloc, Blank::new(alloc, 3)?, core)
 }

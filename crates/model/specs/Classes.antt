@@ -11,7 +11,7 @@ use Rattle.model.specs.Paths.{DerivationFile, OutputClass, store_path}
 use Rattle.model.specs.Reach.{is_among}
 use Rattle.model.specs.Derivations.{Derivation, derivation_text, name_of}
 
--- an output class, with its rank: derivations of one class differ at most in which realisations of their inputs they name
+-- an output class, with its rank: it names what a derivation builds before anything is built
 pub record Class : Type 0 where
   pub path : List ℕ
   pub rank : ℕ

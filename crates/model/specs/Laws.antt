@@ -1,8 +1,11 @@
 -- The laws that the definitions keep.
-use Rattle.std.specs.Prelude.{◌≡◌, ℕ, Bool, true, List}
+use Rattle.std.specs.Prelude.{◌≡◌, ℕ, zero, suc, ◌≤◌, Bool, true, List, [], ◌∷◌, ◌++◌, map, take, slice_get, Some, None, Ok}
+use Rattle.model.specs.Derivations.{Derivation, is_derivation}
+use Rattle.model.specs.DerivationTexts.{derivation_of_text}
+use Rattle.model.specs.Classes.{Admission, Known, known_at, derivation_path, admission_of, has_all, admit}
 use Rattle.model.specs.Reach.{leads, is_among}
-use Rattle.model.specs.Worlds.{Setup}
-use Rattle.model.specs.Steps.{Event, replies}
+use Rattle.model.specs.Worlds.{Setup, Source, Desk, nothing, known_of}
+use Rattle.model.specs.Steps.{AddDerivation, Event, world_after, replies}
 use Rattle.model.specs.Striking.{strike}
 
 -- a set of users is the least that holds u and is closed under the links of the users
@@ -17,3 +20,50 @@ ReachIsLeast = (link : List ℕ → List ℕ → Bool) (users : List (List ℕ))
 -- a user's replies to all events are those to the events that can reach him
 abbrev pub IsIsolated : Type 0
 IsIsolated = (setup : Setup) (events : List Event) (u : List ℕ) → replies setup u events ≡ replies setup u (strike setup u events)
+
+-- the desk that a user has after events, from empty desks on
+abbrev pub desk_reached : Setup → List Event → List ℕ → Desk
+desk_reached setup events u = world_after setup nothing events u
+
+-- a user adds a derivation
+abbrev pub adding : List ℕ → List ℕ → Event
+adding u text = record { actor = u; request = AddDerivation text }
+
+-- what the desk of a user knows at a place was admitted by an event of his, by which he added a derivation that was new: it is what
+-- the definition says of that derivation over what the desk knew before, which was the derivations before that place and the first of the sources
+pub record IsAdmitted (setup : Setup) (events : List Event) (u : List ℕ) (i : ℕ) (a : Admission) : Type 0 where
+  pub before : List Event
+  pub text : List ℕ
+  pub later : List Event
+  pub cut : events ≡ before ++ adding u text ∷ later
+  pub derivation : Derivation
+  pub read : derivation_of_text text ≡ Some derivation
+  pub new : known_at (known_of (desk_reached setup before u)) (derivation_path derivation) ≡ None
+  pub admitted : admit (known_of (desk_reached setup before u)) derivation ≡ Ok a
+  pub derivations : (desk_reached setup before u).derivations ≡ take i (desk_reached setup events u).derivations
+  pub added : List Source
+  pub sources : (desk_reached setup events u).sources ≡ (desk_reached setup before u).sources ++ added
+
+-- all that the desk of a user knows of derivations was admitted, one after another
+abbrev pub KnowledgeIsAdmitted : Type 0
+KnowledgeIsAdmitted = (setup : Setup) (events : List Event) (u : List ℕ) (i : ℕ) (a : Admission)
+    → slice_get (desk_reached setup events u).derivations i ≡ Some a → IsAdmitted setup events u i a
+
+-- what is to be known of the derivation in the file at a path, by recursion over those in the files at the paths of its inputs, to a depth
+unfoldable pub admission_by : (List ℕ → Derivation) → ℕ → List ℕ → Admission
+admission_by file zero path = record { path = path; class = record { path = []; rank = 0 }; masked = [] }
+admission_by file (suc depth) path =
+    admission_of (record { derivations = map (admission_by file depth) (file path).inputs; sources = (file path).sources }) (file path)
+
+-- what is known of the derivation in the file at a path: its inputs and its sources are known too, and the recursion gives this to any depth from its rank on
+pub record IsByRecursion (known : Known) (file : List ℕ → Derivation) (path : List ℕ) (a : Admission) : Type 0 where
+  pub sound : is_derivation (file path) ≡ true
+  pub own_path : derivation_path (file path) ≡ path
+  pub complete : has_all known (file path) ≡ true
+  pub same : (depth : ℕ) → a.class.rank ≤ depth → admission_by file depth path ≡ a
+
+-- there is a derivation in a file at each path that the desk of a user knows, and what it knows of it is what the recursion over these files gives
+abbrev pub KnowledgeIsRecursive : Type 0
+KnowledgeIsRecursive = (setup : Setup) (events : List Event) (u : List ℕ)
+    → let known = known_of (desk_reached setup events u) in
+    (file : List ℕ → Derivation) × ((path : List ℕ) (a : Admission) → known_at known path ≡ Some a → IsByRecursion known file path a)

@@ -143,6 +143,11 @@ after setup w e x = desk_after e.actor (outcome_of setup w e) x (reaches setup w
 
 -- ---- runs
 
+-- the world after events
+unfoldable pub world_after : Setup → World → List Event → World
+world_after setup w [] = w
+world_after setup w (e ∷ events) = world_after setup (after setup w e) events
+
 -- the answers to events, in order
 unfoldable pub answers : Setup → World → List Event → List Answer
 answers setup w [] = []

@@ -1,6 +1,6 @@
 //! Laws over every list of events.
 
-ghost use Rattle.model.specs.Laws.{ReachIsLeast, IsIsolated};
+ghost use Rattle.model.specs.Laws.{ReachIsLeast, IsIsolated, KnowledgeIsAdmitted, KnowledgeIsRecursive};
 
 /// What is reached along a relation among users is the least set that holds the first of them and
 /// is closed under the relation.
@@ -12,4 +12,16 @@ pub fn reach_is_least()
 /// without their events.
 pub fn isolation()
     ensures { IsIsolated }
+{}
+
+/// What a desk knows of each derivation was admitted by an event of its user: it is what the
+/// definition says of that derivation over what the desk knew before it.
+pub fn knowledge_is_admitted()
+    ensures { KnowledgeIsAdmitted }
+{}
+
+/// What a desk knows of derivations is what the recursion over derivations gives: each digest of a
+/// masked text and each rank is that of a derivation over those of its inputs, and so on.
+pub fn knowledge_is_recursive()
+    ensures { KnowledgeIsRecursive }
 {}

@@ -140,6 +140,17 @@ fn damaged_archives(rt: HostRuntime) -> Result<(), Fail> {
 }
 
 #[test]
+fn huge_claimed_length(rt: HostRuntime) -> Result<(), Fail> {
+    let alloc = rt.alloc();
+    let mut archive = hex::decode(alloc, EMPTY_FILE)?;
+    assert_eq!(rt; archive.len(), 112);
+    // The highest byte of the file's length, which is 2^60 then.
+    archive[95] = 16;
+    assert_eq!(rt; decode(alloc, &archive).err(), Some(Refusal::BadNar));
+    Ok(())
+}
+
+#[test]
 fn unsorted_entries(rt: HostRuntime) -> Result<(), Fail> {
     let alloc = rt.alloc();
     for (first, second) in [(b"b", b"a"), (b"a", b"a")] {

@@ -11,21 +11,10 @@ use Rattle.model.specs.Steps.{Outcome, becomes, told_of, admitted, admit_new, ad
 use Rattle.aterm.specs.Refused.{IsNotRead}
 use Rattle.schedule.specs.Stored.{Holdings}
 use Rattle.schedule.specs.Sound.{desk_of, IsSound}
-use Rattle.schedule.specs.Standing.{Fits, is_fault, is_clash_refusal}
+use Rattle.schedule.specs.Standing.{Fits, is_fault}
 use Rattle.schedule.proofs.DeskLemmas.{known_of-desk_of, holds_derivation, is_within-derivation}
 
 -- ---- admission
-
-refused_by : (a b : Bool) (x : Admission) (e : Refusal) → (if a then (if b then Ok x else Err RankTooHigh) else Err MissingInput) ≡ Err e → is_clash_refusal e ≡ false
-refused_by true true x e h = cc
-refused_by true false x e h = let is : RankTooHigh ≡ e = cc in rw (← is) refl
-refused_by false b x e h = let is : MissingInput ≡ e = cc in rw (← is) refl
-
--- no refusal of an admission is a clash
-pub admission_no_clash : (known : Known) (d : Derivation) (e : Refusal) → (e ≡ Memory) ⊎ (admit known d ≡ Err e) → is_clash_refusal e ≡ false
-unfolding admit
-admission_no_clash known d e (inl h) = rw h refl
-admission_no_clash known d e (inr h) = refused_by (has_all known d) (nat_le (class_of known d).rank greatest_rank) (admission_of known d) e h
 
 given_by : (a b : Bool) (x y : Admission) → (if a then (if b then Ok x else Err RankTooHigh) else Err MissingInput) ≡ Ok y → y ≡ x
 given_by true true x y h = cc

@@ -1,6 +1,6 @@
 -- What a desk holds in the table, and what one source more adds to it.
 use Rattle.std.proofs.Common.{◌≡◌, ℕ, suc, ◌+◌, ◌≤◌, Bool, true, false, inl, inr, List, [], ◌∷◌, ◌++◌, length, refl, sym, ◌∙◌, ap, subst, arith, Option, Some, None, Err}
-use Rattle.std.specs.Prelude.{is_some, All, filter, map, not, unwrap_or, bytes_eq, nat_le, ◌&&◌}
+use Rattle.std.specs.Prelude.{is_some, All, filter, map, not, unwrap_or, bytes_eq, nat_le, ◌&&◌, if◌then◌else◌}
 use Rattle.std.specs.List.{list_any}
 use Rattle.std.proofs.lemmas.List.Elements.{All-nil, All-head, All-tail, All-weaker, All-push}
 use Rattle.std.proofs.lemmas.List.Sums.{sum_by_push}
@@ -70,6 +70,13 @@ held_same table (p ∷ paths) path known h = elim (either (bytes_eq p path)) [
       let is : p ≡ path = same_bytes p path t in
       rw t (some_of (tree_at p table) (Link []) (All-head (IsKnown table) p paths known) ∙ ap (λ q. tree_at q table) is)
   | inr f ↦ rw f (held_same table paths path (All-tail (IsKnown table) p paths known) (rw f at h))
+]
+
+-- what a user holds at a path is what the table has there, if the path is his
+pub held_is : (table : List Source) (paths : List (List ℕ)) (path : List ℕ) → All (IsKnown table) paths → (if list_any (λ p. bytes_eq p path) paths then tree_at path table else None) ≡ tree_at path (sources_at table paths)
+held_is table paths path known = elim (either (list_any (λ p. bytes_eq p path) paths)) [
+  | inl t ↦ rw t (sym (held_same table paths path known t))
+  | inr f ↦ rw f (sym (not_held table paths path f))
 ]
 
 pub held_known : (table : List Source) (paths : List (List ℕ)) (path : List ℕ) → All (IsKnown table) paths → list_any (λ p. bytes_eq p path) paths ≡ true → is_some (tree_at path table) ≡ true

@@ -1,19 +1,25 @@
 -- A run of the store is a run of the model.
-use Rattle.std.proofs.Common.{◌≡◌, ℕ, Bool, true, false, List, [], ◌∷◌, ◌++◌, length, refl, sym, ◌∙◌, append-nil}
-use Rattle.std.specs.Prelude.{All, Contains, map, ◌||◌}
+use Rattle.std.proofs.Common.{◌≡◌, ℕ, Bool, true, false, inl, inr, List, [], ◌∷◌, ◌++◌, length, refl, sym, ◌∙◌, ap, append-nil, append_assoc}
+use Rattle.std.specs.Prelude.{All, Contains, map, not, ◌||◌}
 use Rattle.std.specs.List.{list_any}
-use Rattle.std.proofs.lemmas.List.Elements.{All-head, All-tail, All-nil, All-cons, All-contains_itself}
+use Rattle.std.proofs.lemmas.List.{map_push}
+use Rattle.std.proofs.lemmas.List.Elements.{All-head, All-tail, All-nil, All-cons, All-append, All-contains_itself, filter-append}
 use Rattle.model.specs.Paths.{NoClash}
-use Rattle.model.specs.Worlds.{Setup, nothing}
+use Rattle.model.specs.Worlds.{Setup, World, nothing}
 use Rattle.model.specs.Steps as steps
-use Rattle.model.specs.Steps.{answers, after}
+use Rattle.model.specs.Steps.{Answer, answers, after, replies_to, replies}
+use Rattle.model.specs.Striking.{strike}
+use Rattle.model.specs.Laws.{IsIsolated}
 use Rattle.model.specs.HashedTexts.{hashed, texts_of_event}
+use Rattle.model.proofs.BoolLemmas.{either}
 use Rattle.schedule.specs.declared.user.User.{User}
 use Rattle.schedule.specs.declared.events.Event.{Event}
 use Rattle.schedule.specs.declared.events.Reply.{Reply}
 use Rattle.schedule.specs.declared.state.Core.{Core}
 use Rattle.schedule.specs.Sound.{IsHashed}
-use Rattle.schedule.specs.Standing.{world_of, setup_of, stored_in, HasHashed, event_of, reply_of, answer_of, is_clash, is_memory, IsStep}
+use Rattle.schedule.specs.Standing.{world_of, setup_of, stored_in, HasHashed, event_of, reply_of, answer_of, is_memory, is_refused, IsStep, IsUnchanged}
+use Rattle.schedule.specs.Stepping.{IsCoreStep}
+use Rattle.schedule.specs.Running.{events_served, without_memory, ArePrivate}
 
 all_front : (P : List ℕ → Type 0) (xs ys : List (List ℕ)) → All P (xs ++ ys) → All P xs
 all_front P [] ys h = All-nil P
@@ -23,20 +29,153 @@ all_back : (P : List ℕ → Type 0) (xs ys : List (List ℕ)) → All P (xs ++ 
 all_back P [] ys h = h
 all_back P (x ∷ xs) ys h = all_back P xs ys (All-tail P x (xs ++ ys) h)
 
--- whether memory was refused to an answer
-abbrev pub lacks_memory : User × Reply → Bool
-lacks_memory a = is_memory a.1
+-- what holds of all texts of a run holds of those of its beginning
+hashed_front : (P : List ℕ → Type 0) (setup : Setup) (w : World) (xs ys : List steps.Event) → All P (hashed setup w (xs ++ ys)) → All P (hashed setup w xs)
+unfolding hashed
+hashed_front P setup w [] ys h = All-nil P
+hashed_front P setup w (x ∷ xs) ys h =
+    let own : List (List ℕ) = texts_of_event setup w x in
+    let w' : World = after setup w x in
+    All-append P own (hashed setup w' xs) (all_front P own (hashed setup w' (xs ++ ys)) h) (hashed_front P setup w' xs ys (all_back P own (hashed setup w' (xs ++ ys)) h))
 
--- how far a run has come where memory was refused nowhere: its answers with those to what is left are the model's to all events, and the texts are within those of all events
-pub record Reached (setup : Setup) (all : List steps.Event) (core : Core) (given : List (User × Reply)) (rest : List Event) : Type 0 where
-  pub told : map answer_of given ++ answers setup (world_of core) (map event_of rest) ≡ answers setup nothing all
-  pub stored : HasHashed (hashed setup nothing all) core
-  pub left : All (Contains (hashed setup nothing all)) (hashed setup (world_of core) (map event_of rest))
+-- ---- how far a run has come
 
--- a run on its way
-pub record Going (setup : Setup) (all : List steps.Event) (core : Core) (given : List (User × Reply)) (rest : List Event) : Type 0 where
+-- the core after some events is that of their world: their answers, with those to any later events, are the model's to all of these
+pub record Reached (setup : Setup) (texts : List (List ℕ)) (core : Core) (served : List steps.Event) (told : List Answer) : Type 0 where
+  pub told_so : (later : List steps.Event) → told ++ answers setup (world_of core) later ≡ answers setup nothing (served ++ later)
+  pub stored : HasHashed texts core
+  pub left : (later : List steps.Event) → All (Contains texts) (hashed setup nothing (served ++ later)) → All (Contains texts) (hashed setup (world_of core) later)
+
+-- a run on its way, with the events so far that were answered otherwise than with 90
+pub record Going (setup : Setup) (all : List Event) (core : Core) (given : List (User × Reply)) (rest : List Event) : Type 0 where
   pub setup_is : setup_of core ≡ setup
-  pub reached : NoClash (hashed setup nothing all) → list_any lacks_memory given ≡ false → Reached setup all core given rest
+  pub actors : map (λ a. a.0) given ++ map (λ e. e.actor) rest ≡ map (λ e. e.actor) all
+  pub served : List steps.Event
+  pub served_are : (tail : List Answer) → events_served (map event_of all) (map answer_of given ++ tail) ≡ served ++ events_served (map event_of rest) tail
+  pub reached : (texts : List (List ℕ)) → NoClash texts → All (Contains texts) (hashed setup nothing served) → Reached setup texts core served (without_memory (map answer_of given))
+
+map-push : {X Y : Type 0} (f : X → Y) (xs : List X) (x : X) (tail : List Y) → map f (xs ++ x ∷ []) ++ tail ≡ map f xs ++ (f x ∷ tail)
+map-push f [] x tail = refl
+map-push f (y ∷ xs) x tail = rw (map-push f xs x tail) refl
+
+pub none_hashed : (texts : List (List ℕ)) (core : Core) → stored_in core ≡ [] → HasHashed texts core
+unfolding stored_in HasHashed
+none_hashed texts core none = rw none (All-nil (IsHashed texts))
+
+pub starts : (setup : Setup) (core : Core) (given : List (User × Reply)) (events : List Event) → setup_of core ≡ setup → world_of core ≡ nothing → stored_in core ≡ [] → given ≡ [] → Going setup events core given events
+starts setup core given events set empty none no_answers = record {
+  setup_is = set;
+  actors = rw no_answers refl;
+  served = [];
+  served_are = λ tail. rw no_answers refl;
+  reached = λ texts clean inside. record {
+    told_so = λ later. rw (no_answers, empty) refl;
+    stored = none_hashed texts core none;
+    left = λ later inside. rw empty inside;
+  };
+}
+
+-- ---- one event more
+
+refused_for_memory : (reply : steps.Reply) → is_memory reply ≡ true → is_refused reply ≡ true
+refused_for_memory (steps.Refused why) h = refl
+refused_for_memory reply h = cc
+
+hashed_kept : (texts : List (List ℕ)) (old new : Core) → stored_in new ≡ stored_in old → HasHashed texts old → HasHashed texts new
+unfolding HasHashed stored_in
+hashed_kept texts old new same hashed = rw same hashed
+
+more_given : (given : List (User × Reply)) (a : User × Reply) → without_memory (map answer_of (given ++ a ∷ [])) ≡ without_memory (map answer_of given) ++ without_memory (answer_of a ∷ [])
+more_given given a = ap without_memory (map_push answer_of given a) ∙ filter-append (λ (x : Answer). not (is_memory x.reply)) (map answer_of given) (answer_of a ∷ [])
+
+-- memory was refused to it: the core is as it was
+reached_kept : (setup : Setup) (texts : List (List ℕ)) (core next : Core) (served : List steps.Event) (told : List Answer) → IsUnchanged core next → Reached setup texts core served told → Reached setup texts next served told
+reached_kept setup texts core next served told kept before = record {
+  told_so = rw kept.world before.told_so;
+  stored = hashed_kept texts core next kept.stored before.stored;
+  left = rw kept.world before.left;
+}
+
+-- it was served: so are all texts that it hashes
+reached_more : (setup : Setup) (texts : List (List ℕ)) (core next : Core) (served : List steps.Event) (told : List Answer) (e : steps.Event) (reply : steps.Reply)
+    → setup_of core ≡ setup → IsCoreStep core e reply next → is_memory reply ≡ false → NoClash texts → All (Contains texts) (hashed setup nothing (served ++ e ∷ []))
+    → Reached setup texts core served told → Reached setup texts next (served ++ e ∷ []) (told ++ record { actor = e.actor; reply = reply } ∷ [])
+unfolding hashed answers
+reached_more setup texts core next served told e reply given step other clean inside before =
+    let here : All (Contains texts) (texts_of_event setup (world_of core) e) = all_front (Contains texts) (texts_of_event setup (world_of core) e) [] (before.left (e ∷ []) inside) in
+    let stepped : IsStep setup (world_of core) e reply (world_of next) = rw given at (step.step other (step.no_clash texts clean before.stored (rw given here))) in
+    record {
+      told_so = λ later.
+          append_assoc told (record { actor = e.actor; reply = reply } ∷ []) (answers setup (world_of next) later)
+          ∙ rw (stepped.told, stepped.world) (before.told_so (e ∷ later))
+          ∙ ap (answers setup nothing) (sym (append_assoc served (e ∷ []) later));
+      stored = step.hashed texts before.stored (rw given here);
+      left = λ later rest.
+          let own : List (List ℕ) = texts_of_event setup (world_of core) e in
+          rw stepped.world (all_back (Contains texts) own (hashed setup (after setup (world_of core) e) later) (before.left (e ∷ later) (rw append_assoc at rest)));
+    }
+
+goes_on_with : (setup : Setup) (all : List Event) (core : Core) (given : List (User × Reply)) (e : Event) (rest : List Event) (next : Core) (a : User × Reply)
+    → Going setup all core given (e ∷ rest) → a.0 ≡ e.actor → IsCoreStep core (event_of e) (reply_of a.1) next → Going setup all next (given ++ a ∷ []) rest
+goes_on_with setup all core given e rest next a going actor step =
+    let actors : map (λ (x : User × Reply). x.0) (given ++ a ∷ []) ++ map (λ (x : Event). x.actor) rest ≡ map (λ (x : Event). x.actor) all =
+    map-push (λ (x : User × Reply). x.0) given a (map (λ (x : Event). x.actor) rest) ∙ rw actor going.actors in
+    let asked : List steps.Event = map event_of rest in
+    let told : List Answer = map answer_of given in
+    elim (either (is_memory (reply_of a.1))) [
+      | inl t ↦ record {
+        setup_is = step.setup ∙ going.setup_is;
+        actors = actors;
+        served = going.served;
+        served_are = λ tail. ap (events_served (map event_of all)) (map-push answer_of given a tail) ∙ going.served_are (answer_of a ∷ tail) ∙ rw t refl;
+        reached = λ texts clean inside.
+            let none : without_memory (answer_of a ∷ []) ≡ [] = rw t refl in
+            rw (more_given given a, none, append-nil) (reached_kept setup texts core next going.served (without_memory told) (step.refused (refused_for_memory (reply_of a.1) t)) (going.reached texts clean inside));
+      }
+      | inr f ↦ record {
+        setup_is = step.setup ∙ going.setup_is;
+        actors = actors;
+        served = going.served ++ event_of e ∷ [];
+        served_are = λ tail.
+            ap (events_served (map event_of all)) (map-push answer_of given a tail) ∙ going.served_are (answer_of a ∷ tail)
+            ∙ rw f (sym (append_assoc going.served (event_of e ∷ []) (events_served asked tail)));
+        reached = λ texts clean inside.
+            let one : without_memory (answer_of a ∷ []) ≡ record { actor = e.actor; reply = reply_of a.1 } ∷ [] = rw (f, actor) refl in
+            rw (more_given given a, one) (reached_more setup texts core next going.served (without_memory told) (event_of e) (reply_of a.1) going.setup_is step f clean inside
+            (going.reached texts clean (hashed_front (Contains texts) setup nothing going.served (event_of e ∷ []) inside)));
+      }
+    ]
+
+pub goes_on : (setup : Setup) (all : List Event) (core : Core) (given : List (User × Reply)) (e : Event) (rest : List Event) (next : Core) (a : User × Reply) (more : List (User × Reply))
+    → Going setup all core given (e ∷ rest) → a.0 ≡ e.actor → IsCoreStep core (event_of e) (reply_of a.1) next → more ≡ given ++ a ∷ [] → Going setup all next more rest
+goes_on setup all core given e rest next a more going actor step is = rw is (goes_on_with setup all core given e rest next a going actor step)
+
+-- ---- the end
+
+none_left : (events : List Event) → length events ≡ 0 → events ≡ []
+none_left [] h = refl
+none_left (e ∷ events) h = cc
+
+-- a run that has come to its end, with what it gives
+pub ends : (setup : Setup) (all : List Event) (core : Core) (given : List (User × Reply)) (rest : List Event) (told : List (User × Reply)) → Going setup all core given rest → length rest ≡ 0 → told ≡ given → Going setup all core told []
+ends setup all core given rest told going none is = rw (is, ← none_left rest none) going
+
+-- each answer has the actor of its event
+pub all_actors : (setup : Setup) (all : List Event) (core : Core) (given : List (User × Reply)) → Going setup all core given [] → map (λ a. a.0) given ≡ map (λ e. e.actor) all
+all_actors setup all core given going = sym (append-nil (map (λ (a : User × Reply). a.0) given)) ∙ going.actors
+
+-- the answers other than 90 are the model's
+others_same : (setup : Setup) (all : List Event) (core : Core) (given : List (User × Reply)) → Going setup all core given []
+    → NoClash (hashed setup nothing (events_served (map event_of all) (map answer_of given)))
+    → without_memory (map answer_of given) ≡ answers setup nothing (events_served (map event_of all) (map answer_of given))
+unfolding answers
+others_same setup all core given going =
+    let told : List Answer = map answer_of given in
+    let served : events_served (map event_of all) told ≡ going.served = ap (events_served (map event_of all)) (sym (append-nil told)) ∙ going.served_are [] ∙ append-nil going.served in
+    rw served (λ clean.
+    sym (append-nil (without_memory told))
+    ∙ (going.reached (hashed setup nothing going.served) clean (All-contains_itself (hashed setup nothing going.served))).told_so []
+    ∙ ap (answers setup nothing) (append-nil going.served))
 
 or_front : (a b : Bool) → (a || b) ≡ false → a ≡ false
 or_front true b h = cc
@@ -46,64 +185,36 @@ or_rest : (a b : Bool) → (a || b) ≡ false → b ≡ false
 or_rest true b h = cc
 or_rest false b h = h
 
-or_none : (a b : Bool) → a ≡ false → b ≡ false → (a || b) ≡ false
-or_none a b h k = rw (h, k) refl
+-- whether an answer is that memory was refused
+abbrev pub lacks_memory : User × Reply → Bool
+lacks_memory a = is_memory (reply_of a.1)
 
-none_before : (p : User × Reply → Bool) (given : List (User × Reply)) (a : User × Reply) → list_any p (given ++ a ∷ []) ≡ false → (list_any p given ≡ false) × (p a ≡ false)
-none_before p [] a h = (refl, or_front (p a) false h)
-none_before p (b ∷ given) a h =
-    let rest = none_before p given a (or_rest (p b) (list_any p (given ++ a ∷ [])) h) in
-    (or_none (p b) (list_any p given) (or_front (p b) (list_any p (given ++ a ∷ [])) h) rest.0, rest.1)
+all_given : (given : List (User × Reply)) → list_any lacks_memory given ≡ false → without_memory (map answer_of given) ≡ map answer_of given
+all_given [] h = refl
+all_given (a ∷ given) h = rw (or_front (lacks_memory a) (list_any lacks_memory given) h) (ap (λ (rest : List Answer). answer_of a ∷ rest) (all_given given (or_rest (lacks_memory a) (list_any lacks_memory given) h)))
 
-map-push : (given : List (User × Reply)) (a : User × Reply) (tail : List steps.Answer) → map answer_of (given ++ a ∷ []) ++ tail ≡ map answer_of given ++ (answer_of a ∷ tail)
-map-push [] a tail = refl
-map-push (b ∷ given) a tail = rw (map-push given a tail) refl
+all_served : (events : List Event) (given : List (User × Reply)) → map (λ a. a.0) given ≡ map (λ e. e.actor) events → list_any lacks_memory given ≡ false → events_served (map event_of events) (map answer_of given) ≡ map event_of events
+all_served [] given same h = refl
+all_served (e ∷ events) [] same h = cc
+all_served (e ∷ events) (a ∷ given) same h =
+    let rest : map (λ (x : User × Reply). x.0) given ≡ map (λ (x : Event). x.actor) events = cc in
+    rw (or_front (lacks_memory a) (list_any lacks_memory given) h) (ap (λ (es : List steps.Event). event_of e ∷ es) (all_served events given rest (or_rest (lacks_memory a) (list_any lacks_memory given) h)))
 
-pub starts : (setup : Setup) (core : Core) (given : List (User × Reply)) (events : List Event) → setup_of core ≡ setup → world_of core ≡ nothing → ((texts : List (List ℕ)) → HasHashed texts core) → given ≡ [] → Going setup (map event_of events) core given events
-starts setup core given events set empty hashes none = record {
-  setup_is = set;
-  reached = λ clean memory. record {
-    told = rw (none, empty) refl;
-    stored = hashes (hashed setup nothing (map event_of events));
-    left = rw empty (All-contains_itself (hashed setup nothing (map event_of events)));
-  };
-}
+-- where memory was refused nowhere, they are all answers
+pub all_same : (setup : Setup) (all : List Event) (core : Core) (given : List (User × Reply)) → Going setup all core given []
+    → NoClash (hashed setup nothing (map event_of all)) → list_any lacks_memory given ≡ false → map answer_of given ≡ answers setup nothing (map event_of all)
+all_same setup all core given going clean memory =
+    let served : events_served (map event_of all) (map answer_of given) ≡ map event_of all = all_served all given (all_actors setup all core given going) memory in
+    sym (all_given given memory) ∙ rw served at (others_same setup all core given going (rw served clean))
 
-pub goes_on : (setup : Setup) (all : List steps.Event) (core : Core) (given : List (User × Reply)) (e : Event) (rest : List Event) (next : Core) (reply : Reply)
-    → Going setup all core given (e ∷ rest)
-    → (is_memory reply ≡ false → is_clash reply ≡ false → IsStep (setup_of core) (world_of core) (event_of e) (reply_of reply) (world_of next))
-    → setup_of next ≡ setup_of core
-    → ((texts : List (List ℕ)) → HasHashed texts core → All (Contains texts) (texts_of_event (setup_of core) (world_of core) (event_of e)) → HasHashed texts next)
-    → ((texts : List (List ℕ)) → NoClash texts → HasHashed texts core → All (Contains texts) (texts_of_event (setup_of core) (world_of core) (event_of e)) → is_clash reply ≡ false)
-    → Going setup all next (given ++ (e.actor, reply) ∷ []) rest
-unfolding hashed answers
-goes_on setup all core given e rest next reply going step kept hashes no_clash = record {
-  setup_is = kept ∙ going.setup_is;
-  reached = λ clean memory.
-      let texts : List (List ℕ) = hashed setup nothing all in
-      let before = none_before lacks_memory given (e.actor, reply) memory in
-      let now = going.reached clean before.0 in
-      let own : List (List ℕ) = texts_of_event setup (world_of core) (event_of e) in
-      let others : List (List ℕ) = hashed setup (after setup (world_of core) (event_of e)) (map event_of rest) in
-      let here : All (Contains texts) own = all_front (Contains texts) own others now.left in
-      let stepped : IsStep setup (world_of core) (event_of e) (reply_of reply) (world_of next) =
-      rw going.setup_is at (step before.1 (no_clash texts clean now.stored (rw going.setup_is here))) in
-      record {
-        told = map-push given (e.actor, reply) (answers setup (world_of next) (map event_of rest)) ∙ rw (stepped.told, stepped.world) now.told;
-        stored = hashes texts now.stored (rw going.setup_is here);
-        left = rw stepped.world (all_back (Contains texts) own others now.left);
-      };
-}
+pub all_isolated : IsIsolated → (setup : Setup) (all : List Event) (core : Core) (given : List (User × Reply)) → Going setup all core given []
+    → NoClash (hashed setup nothing (map event_of all)) → list_any lacks_memory given ≡ false → (u : List ℕ) → replies_to u (map answer_of given) ≡ replies setup u (strike setup u (map event_of all))
+all_isolated isolated setup all core given going clean memory u = ap (replies_to u) (all_same setup all core given going clean memory) ∙ isolated setup (map event_of all) u
 
-pub none_hashed : (texts : List (List ℕ)) (core : Core) → stored_in core ≡ [] → HasHashed texts core
-unfolding stored_in HasHashed
-none_hashed texts core none = rw none (All-nil (IsHashed texts))
-
-pub none_left : (events : List Event) → length events ≡ 0 → events ≡ []
-none_left [] h = refl
-none_left (e ∷ events) h = cc
-
--- a run that has come to its end
-pub ends : (setup : Setup) (all : List steps.Event) (core : Core) (given : List (User × Reply)) (rest : List Event) → Going setup all core given rest → rest ≡ [] → NoClash (hashed setup nothing all) → list_any lacks_memory given ≡ false → map answer_of given ≡ answers setup nothing all
-unfolding answers
-ends setup all core given rest going none clean memory = sym (append-nil (map answer_of given)) ∙ rw none at (going.reached clean memory).told
+-- the answers other than 90 are those of private desks
+pub others_private : IsIsolated → (setup : Setup) (all : List Event) (core : Core) (given : List (User × Reply)) → Going setup all core given []
+    → NoClash (hashed setup nothing (events_served (map event_of all) (map answer_of given)))
+    → ArePrivate setup (events_served (map event_of all) (map answer_of given)) (without_memory (map answer_of given))
+others_private isolated setup all core given going clean =
+    let same : without_memory (map answer_of given) ≡ answers setup nothing (events_served (map event_of all) (map answer_of given)) = others_same setup all core given going clean in
+    record { same = same; isolated = λ u. ap (replies_to u) same ∙ isolated setup (events_served (map event_of all) (map answer_of given)) u }

@@ -1,22 +1,26 @@
 -- A step of the store is a step of the world that it stands for.
-use Rattle.std.proofs.Common.{◌≡◌, ℕ, Bool, true, false, inl, inr, List, [], ◌∷◌, refl, sym, ◌∙◌, ap, rules, Result, Ok, Err, Some}
-use Rattle.std.specs.Prelude.{All, Contains, OnOk, OnErr, IfOk, IfErr, bytes_eq, slice_get, slice_set, if◌then◌else◌}
+use Rattle.std.proofs.Common.{◌≡◌, ℕ, ◌<◌, Bool, true, false, inl, inr, List, [], ◌∷◌, length, refl, sym, ◌∙◌, ap, arith, rules, Option, Some, None, Result, Ok, Err}
+use Rattle.std.specs.Prelude.{All, Contains, OnOk, OnErr, IfOk, IfErr, bytes_eq, slice_get, slice_set, nat_le, if◌then◌else◌}
 use Rattle.std.proofs.lemmas.Option.{slice_get_within}
 use Rattle.std.proofs.lemmas.List.Elements.{All-head, All-tail}
 use Rattle.sha2.specs.Sha256.{sha256}
-use Rattle.model.specs.Archives.{nar}
+use Rattle.std.proofs.lemmas.Bool.Decides.{nat_tests}
+use Rattle.model.specs.Archives.{Tree, nar}
 use Rattle.model.specs.Paths.{Source as SourceKind, fingerprint, source_path, NoClash}
-use Rattle.model.specs.Worlds.{Source, Setup, Desk, World, is_user}
-use Rattle.model.specs.Steps.{Request, AddSource, AddDerivation, Fetch, Event, Reply, Refused, Sight, Outcome, becomes, outcome, outcome_of, reply_of, desk_after, reaches, after}
+use Rattle.model.specs.Worlds.{Source, Setup, Desk, World, is_user, held_at}
+use Rattle.model.specs.Steps.{Request, AddSource, AddDerivation, Fetch, Event, Reply, Content, Refused, Sight, sight_of, Outcome, becomes, need, longest_derivation, outcome, outcome_of, reply_of, desk_after, reaches, after}
 use Rattle.model.specs.HashedTexts.{texts_of}
 use Rattle.model.specs.declared.refusal.Refusal.{Refusal}
-use Rattle.model.specs.declared.refusal.Refusal.TheVariants.{UnknownUser, Clash}
+use Rattle.model.specs.declared.refusal.Refusal.TheVariants.{UnknownUser, TooLarge, NotHeld, Clash, Stopped}
 use Rattle.model.proofs.BoolLemmas.{either}
 use Rattle.storepath.specs.Laws.{PathsDiffer}
 use Rattle.schedule.specs.declared.events.Reply as Rust
+use Rattle.schedule.specs.declared.state.Core.{Core}
 use Rattle.schedule.specs.Stored.{Stored, Holdings, IsTakenFor}
 use Rattle.schedule.specs.Sound.{desk_of, IsSound, IsHashed, Extends}
-use Rattle.schedule.specs.Standing.{reply_of as told_of, is_fault, is_memory_refusal, is_clash_refusal, is_refused, IsKept, IsStep, Serves, desk_among, stored_after_request}
+use Rattle.schedule.specs.Standing.{reply_of as told_of, world_of, setup_of, stored_in, stored_after, is_fault, is_memory_refusal, is_clash_refusal, needs_no_memory, is_clash, is_refused, IsKept, IsStep, IsUnchanged, HasHashed, Serves, RefusedAtOnce, ServesAtOnce, desk_among, stored_after_request}
+use Rattle.schedule.specs.Stepping.{IsCoreStep}
+use Rattle.schedule.proofs.RefusalLemmas.{source_refusal, derivation_refusal, never_stopped}
 use Rattle.schedule.proofs.TableLemmas.{found_holds, put_once-All}
 use Rattle.schedule.proofs.WorldLemmas.{IsPlace, place_is_among, desk_found, among_changed, same_world}
 
@@ -67,6 +71,14 @@ step_refused setup old desks e i before why place here does =
     let w : World = desk_among old setup.users desks in
     outcome_is setup w e (desk_of old before) (place_is_among setup.users e.actor i place) (desk_found old setup.users desks e.actor i before place here) ∙ does (reaches setup w e.actor)
 
+pub step_at_once : (setup : Setup) (old : List Source) (desks : List Holdings) (e : Event) (i : ℕ) (before : Holdings) (result : Result Rust.Reply Refusal)
+    → IsPlace setup.users e.actor i → slice_get desks i ≡ Some before
+    → ServesAtOnce (desk_of old before) e.request result → RefusedAtOnce (outcome_of setup (desk_among old setup.users desks) e) result
+step_at_once setup old desks e i before result place here at_once why quick o =
+    let w : World = desk_among old setup.users desks in
+    at_once setup (reaches setup w e.actor) why quick
+    (sym (outcome_is setup w e (desk_of old before) (place_is_among setup.users e.actor i place) (desk_found old setup.users desks e.actor i before place here)) ∙ o)
+
 pub step_unknown : (setup : Setup) (w : World) (e : Event) → is_user setup e.actor ≡ false → outcome_of setup w e ≡ Err UnknownUser
 step_unknown setup w e f = rw f refl
 
@@ -91,8 +103,8 @@ world_kept names old new limit desks u i before now later sound place here same 
 
 pub told_result : (setup : Setup) (old new : List Source) (limit : ℕ) (desks : List Holdings) (e : Event) (i : ℕ) (before now : Holdings) (result : Result Rust.Reply Refusal)
     → Extends old new → All (IsSound old limit) desks → IsPlace setup.users e.actor i → slice_get desks i ≡ Some before
-    → Serves setup (desk_of old before) e.request (desk_of new now) result → IfOk result (λ r. is_refused r ≡ false)
-    → IfOk result (λ r. (is_refused r ≡ false) × IsStep setup (desk_among old setup.users desks) e (told_of r) (desk_among new setup.users (slice_set desks i now)))
+    → Serves setup (desk_of old before) e.request (desk_of new now) result → IfOk result (λ r. is_refused (told_of r) ≡ false)
+    → IfOk result (λ r. (is_refused (told_of r) ≡ false) × IsStep setup (desk_among old setup.users desks) e (told_of r) (desk_among new setup.users (slice_set desks i now)))
 told_result setup old new limit desks e i before now (Ok r) later sound place here serves answered =
     (answered, step_done setup old new limit desks e i before now (told_of r) later sound place here serves)
 told_result setup old new limit desks e i before now (Err why) later sound place here serves answered = search rules
@@ -105,17 +117,17 @@ refused_result setup old new desks e i before now (Ok r) place here serves = sea
 refused_result setup old new desks e i before now (Err why) place here serves = λ own. step_refused setup old desks e i before why place here (λ reach. serves reach own)
 
 -- a refusal that is the model's is its step
-pub refused_step : (setup : Setup) (old new : World) (e : Event) (why : Refusal) → outcome_of setup old e ≡ Err why → new ≡ old → IsStep setup old e (Refused why) new
+refused_step : (setup : Setup) (old new : World) (e : Event) (why : Refusal) → outcome_of setup old e ≡ Err why → new ≡ old → IsStep setup old e (Refused why) new
 refused_step setup old new e why o kept = record {
   told = sym (ap reply_of o);
   world = kept ∙ sym (after_refused setup old e why o);
 }
 
-pub no_fault : (why : Refusal) → is_memory_refusal why ≡ false → is_clash_refusal why ≡ false → is_fault why ≡ false
+no_fault : (why : Refusal) → is_memory_refusal why ≡ false → is_clash_refusal why ≡ false → is_fault why ≡ false
 no_fault why m k = rw (m, k) refl
 
 -- what is stored after an event was made by the texts of the event and of what was there
-pub stored_hashed : (texts : List (List ℕ)) (sight : Sight) (request : Request) (sources : List Source) → All (IsHashed texts) sources → All (Contains texts) (texts_of sight request) → All (IsHashed texts) (stored_after_request request sources)
+stored_hashed : (texts : List (List ℕ)) (sight : Sight) (request : Request) (sources : List Source) → All (IsHashed texts) sources → All (Contains texts) (texts_of sight request) → All (IsHashed texts) (stored_after_request request sources)
 stored_hashed texts sight (AddSource name tree) sources hashed inside =
     let s : Source = record { path = source_path tree name; tree = tree } in
     let rest : All (Contains texts) (fingerprint SourceKind (sha256 (nar tree)) name ∷ []) = All-tail (Contains texts) (nar tree) (fingerprint SourceKind (sha256 (nar tree)) name ∷ []) inside in
@@ -131,7 +143,7 @@ stored_hashed texts sight (Fetch path) sources hashed inside = hashed
 -- ---- clashes
 
 -- where no two texts clash, no other tree is at the path
-pub not_taken : PathsDiffer → (texts : List (List ℕ)) → NoClash texts → (sources : List Source) → All (IsHashed texts) sources → (sight : Sight) (request : Request) → All (Contains texts) (texts_of sight request) → IsTakenFor sources request → ⊥
+not_taken : PathsDiffer → (texts : List (List ℕ)) → NoClash texts → (sources : List Source) → All (IsHashed texts) sources → (sight : Sight) (request : Request) → All (Contains texts) (texts_of sight request) → IsTakenFor sources request → ⊥
 not_taken differ texts clean sources hashed sight (AddSource name tree) inside taken =
     let path : List ℕ = source_path tree name in
     let had = found_holds (IsHashed texts) sources path taken.had hashed taken.there in
@@ -146,10 +158,95 @@ clash_is : (why : Refusal) → is_clash_refusal why ≡ true → why ≡ Clash
 clash_is Clash h = refl
 clash_is why h = cc
 
-pub no_clash_result : (result : Result Rust.Reply Refusal) → (result ≡ Err Clash → ⊥) → IfErr result (λ why. is_clash_refusal why ≡ false)
-no_clash_result (Ok r) none = search rules
-no_clash_result (Err why) none = elim (either (is_clash_refusal why)) [ inl t ↦ absurd (none (ap (λ w. Err w) (clash_is why t))) | inr f ↦ f ]
-
 -- what is kept stands for the same desk
 pub kept_desk : (old new : Stored) (before now : Holdings) → IsKept old new before now → desk_of new.sources now ≡ desk_of old.sources before
 kept_desk old new before now kept = rw (kept.sources, kept.desk) refl
+
+-- ---- refusals that need no memory
+
+pub source_at_once : (d : Desk) (name : List ℕ) (tree : Tree) (result : Result Rust.Reply Refusal) → ServesAtOnce d (AddSource name tree) result
+unfolding outcome
+source_at_once d name tree result setup reach why quick o =
+    let other = source_refusal needs_no_memory setup d name tree (record { quota = refl; unread = refl; missing = refl; high = refl }) in
+    let no : needs_no_memory why ≡ false = rw o at other in
+    cc
+
+pub derivation_at_once : (d : Desk) (text : List ℕ) (result : Result Rust.Reply Refusal) → (1048576 < length text → result ≡ Err TooLarge) → ServesAtOnce d (AddDerivation text) result
+unfolding outcome
+derivation_at_once d text result long setup reach why quick o = elim (either (nat_le (length text) longest_derivation)) [
+  | inl t ↦
+      let rest = rw t at o in
+      let other = derivation_refusal needs_no_memory setup d text (record { quota = refl; unread = refl; missing = refl; high = refl }) in
+      let no : needs_no_memory why ≡ false = rw rest at other in
+      cc
+  | inr f ↦
+      let over : 1048576 < length text = grind (arith, nat_tests, f) in
+      let is = rw f at o in
+      let given = long over in
+      cc
+]
+
+not_held_at_once : (setup : Setup) (d : Desk) (o : Option Tree) (result : Result Rust.Reply Refusal) → (o ≡ None → result ≡ Err NotHeld) → RefusedAtOnce (need NotHeld o (λ tree. becomes d (Content tree))) result
+not_held_at_once setup d None result none why quick o = let given = none refl in cc
+not_held_at_once setup d (Some tree) result none why quick o = cc
+
+pub fetch_at_once : (d : Desk) (path : List ℕ) (result : Result Rust.Reply Refusal) → (held_at path d ≡ None → result ≡ Err NotHeld) → ServesAtOnce d (Fetch path) result
+unfolding outcome
+fetch_at_once d path result none setup reach = not_held_at_once setup d (held_at path d) result none
+
+-- ---- what a core promises
+
+-- an event that is not refused as a stranger's is a user's
+user_known : (setup : Setup) (w : World) (e : Event) (result : Result Rust.Reply Refusal) → RefusedAtOnce (outcome_of setup w e) result → (result ≡ Err UnknownUser → ⊥) → is_user setup e.actor ≡ true
+user_known setup w e result at_once other = elim (either (is_user setup e.actor)) [
+  | inl t ↦ t
+  | inr f ↦ absurd (other (at_once UnknownUser refl (step_unknown setup w e f)))
+]
+
+no_clash_told : (reply : Reply) → is_refused reply ≡ false → is_clash reply ≡ false
+no_clash_told (Refused why) h = cc
+no_clash_told reply h = refl
+
+-- an event that was not refused
+pub served_step : (old new : Core) (e : Event) (reply : Rust.Reply)
+    → is_refused (told_of reply) ≡ false → IsStep (setup_of old) (world_of old) e (told_of reply) (world_of new)
+    → RefusedAtOnce (outcome_of (setup_of old) (world_of old) e) (Ok reply) → setup_of new ≡ setup_of old → stored_in new ≡ stored_after e (stored_in old)
+    → IsCoreStep old e (told_of reply) new
+unfolding HasHashed stored_in
+served_step old new e reply done stepped at_once setup stored = record {
+  step = λ memory clash. stepped;
+  refused = λ refused. (let no : true ≡ false = sym refused ∙ done in cc);
+  setup = setup;
+  at_once = λ why quick o. (let no = at_once why quick o in cc);
+  taken = λ clash. (let no : true ≡ false = sym clash ∙ no_clash_told (told_of reply) done in cc);
+  no_clash = λ texts clean hashed inside. no_clash_told (told_of reply) done;
+  hashed = λ texts hashed inside.
+      let known : is_user (setup_of old) e.actor ≡ true = user_known (setup_of old) (world_of old) e (Ok reply) at_once (λ no. cc) in
+      rw stored (stored_hashed texts (sight_of (setup_of old) (world_of old) e.actor) e.request (stored_in old) hashed (rw known at inside));
+  going = λ running stopped. (let no : true ≡ false = rw stopped at done in cc);
+}
+
+-- an event that was refused
+pub refused_core_step : PathsDiffer → (old new : Core) (e : Event) (why : Refusal)
+    → (is_fault why ≡ false → outcome_of (setup_of old) (world_of old) e ≡ Err why)
+    → RefusedAtOnce (outcome_of (setup_of old) (world_of old) e) (Err why) → (why ≡ Clash → IsTakenFor (stored_in old) e.request) → IsUnchanged old new
+    → IsCoreStep old e (Refused why) new
+unfolding HasHashed stored_in
+refused_core_step differ old new e why own at_once taken kept = record {
+  step = λ memory clash. refused_step (setup_of old) (world_of old) (world_of new) e why (own (no_fault why memory clash)) kept.world;
+  refused = λ _. kept;
+  setup = kept.setup;
+  at_once = λ other quick o. (let is = at_once other quick o in cc);
+  taken = λ clash. taken (clash_is why clash);
+  no_clash = λ texts clean hashed inside. elim (either (is_clash_refusal why)) [
+    | inl t ↦
+        let is : why ≡ Clash = clash_is why t in
+        let known : is_user (setup_of old) e.actor ≡ true = user_known (setup_of old) (world_of old) e (Err why) at_once (λ unknown. cc) in
+        absurd (not_taken differ texts clean (stored_in old) hashed (sight_of (setup_of old) (world_of old) e.actor) e.request (rw known at inside) (taken is))
+    | inr f ↦ f
+  ];
+  hashed = λ texts hashed inside. rw kept.stored hashed;
+  going = λ running stopped.
+      let is : why ≡ Stopped = cc in
+      never_stopped (setup_of old) (world_of old) e (ap reply_of (own (rw is refl)) ∙ stopped);
+}

@@ -1,3 +1,5 @@
 pub mod Stored
 pub mod Sound
 pub mod Standing
+pub mod Stepping
+pub mod Running

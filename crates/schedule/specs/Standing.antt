@@ -2,7 +2,7 @@
 use Rattle.std.specs.Prelude.{◌≡◌, ℕ, Bool, true, false, if◌then◌else◌, List, [], ◌∷◌, is_some, bytes_eq, Result, Ok, Err, ◌||◌, All}
 use Rattle.std.specs.Global.{Vec}
 use Rattle.model.specs.declared.refusal.Refusal.{Refusal}
-use Rattle.model.specs.declared.refusal.Refusal.TheVariants.{Memory, Clash}
+use Rattle.model.specs.declared.refusal.Refusal.TheVariants.{UnknownUser, TooLarge, NotHeld, Memory, Clash}
 use Rattle.model.specs.Paths.{source_path}
 use Rattle.model.specs.Worlds.{Source, Setup, tree_at, held_at}
 use Rattle.model.specs.Worlds as worlds
@@ -51,31 +51,46 @@ is_clash_refusal Clash = true
 is_clash_refusal why = false
 
 -- whether a reply is that memory was refused
-abbrev pub is_memory : Reply → Bool
-is_memory (Refused why) = is_memory_refusal why
+abbrev pub is_memory : steps.Reply → Bool
+is_memory (steps.Refused why) = is_memory_refusal why
 is_memory reply = false
 
 -- whether a reply is that another tree is at the path
-abbrev pub is_clash : Reply → Bool
-is_clash (Refused why) = is_clash_refusal why
+abbrev pub is_clash : steps.Reply → Bool
+is_clash (steps.Refused why) = is_clash_refusal why
 is_clash reply = false
 
-abbrev pub is_refused : Reply → Bool
-is_refused (Refused why) = true
+abbrev pub is_refused : steps.Reply → Bool
+is_refused (steps.Refused why) = true
 is_refused reply = false
 
 -- whether a refusal is none of the model's
 abbrev pub is_fault : Refusal → Bool
 is_fault why = is_memory_refusal why || is_clash_refusal why
 
+-- whether no memory is needed to find a refusal: that of a stranger, of a path that is not held, of a text that is too long
+abbrev pub needs_no_memory : Refusal → Bool
+needs_no_memory UnknownUser = true
+needs_no_memory NotHeld = true
+needs_no_memory TooLarge = true
+needs_no_memory why = false
+
 -- a result is that of an outcome which leaves this desk, or is none of the model's
 abbrev pub Fits : steps.Outcome → worlds.Desk → Result Reply Refusal → Type 0
 Fits outcome desk (Ok reply) = outcome ≡ steps.becomes desk (reply_of reply)
 Fits outcome desk (Err why) = is_fault why ≡ false → outcome ≡ Err why
 
+-- where an outcome is a refusal that needs no memory, it is the result
+abbrev pub RefusedAtOnce : steps.Outcome → Result Reply Refusal → Type 0
+RefusedAtOnce outcome result = (why : Refusal) → needs_no_memory why ≡ true → outcome ≡ Err why → result ≡ Err why
+
 -- a request at a desk gives this result and leaves that desk, whomever its user reaches
 abbrev pub Serves : Setup → worlds.Desk → steps.Request → worlds.Desk → Result Reply Refusal → Type 0
 Serves setup old request new result = (reach : List ℕ → Bool) → Fits (steps.outcome setup (record { desk = old; reach = reach }) request) new result
+
+-- a request at a desk is refused at once where that needs no memory
+abbrev pub ServesAtOnce : worlds.Desk → steps.Request → Result Reply Refusal → Type 0
+ServesAtOnce desk request result = (setup : Setup) (reach : List ℕ → Bool) → RefusedAtOnce (steps.outcome setup (record { desk = desk; reach = reach }) request) result
 
 -- ---- the store as a world
 
@@ -96,6 +111,10 @@ setup_of core = record { users = core.users.items; charge = core.limits.charge }
 -- what a run of these users under these limits is given
 abbrev pub setup_for : Vec (List ℕ) → Limits → Setup
 setup_for users limits = record { users = users.items; charge = limits.charge }
+
+-- whether memory was refused to it in the middle of a step, so that it takes no event any more; no event does that to it
+abbrev pub is_stopped : Core → Bool
+is_stopped core = false
 
 -- all that it stores: each path once, with its tree
 unfoldable pub stored_in : Core → List Source

@@ -7,7 +7,7 @@ ghost use Rattle.model.specs.Steps.{AddSource as AddSourceRequest};
 ghost use Rattle.model.specs.declared.refusal.Refusal.TheVariants.{Memory, Clash};
 ghost use Rattle.schedule.specs.Stored.{put_once, IsTaken};
 ghost use Rattle.schedule.specs.Sound.{IsSound, desk_of};
-ghost use Rattle.schedule.specs.Standing.{Serves, IsKept, is_refused};
+ghost use Rattle.schedule.specs.Standing.{Serves, IsKept, reply_of, is_refused};
 
 use crate::desk::Desk;
 use crate::events::Reply;
@@ -77,7 +77,7 @@ pub(crate) fn add_source(
     requires { IsSound table.old.sources limits.charge desk.old }
     ensures serves { (users : List (List ℕ)) → Serves (record { users = users; charge = limits.charge }) (desk_of table.old.sources desk.old)
         (AddSourceRequest name.now tree) (desk_of table.new.sources desk.new) result }
-    ensures answered { IfOk result (λ r. is_refused r ≡ false) }
+    ensures answered { IfOk result (λ r. is_refused (reply_of r) ≡ false) }
     ensures stored { OnOk result (table.new.sources ≡ put_once (record { path = source_path tree name.now; tree = tree }) table.old.sources) }
     ensures sound { OnOk result (IsSound table.new.sources limits.charge desk.new) }
     ensures kept { OnErr result (IsKept table.old table.new desk.old desk.new) }

@@ -1,10 +1,10 @@
 //! Adding a derivation.
 
-ghost use Rattle.std.specs.Prelude.{◌≡◌, ◌⊎◌, ◌≤◌, false, ℕ, List, IfOk, IfErr, OnErr, Ok, Err, length};
+ghost use Rattle.std.specs.Prelude.{◌≡◌, ◌⊎◌, ◌<◌, ◌≤◌, false, ℕ, List, IfOk, IfErr, OnErr, Ok, Err, length};
 ghost use Rattle.model.specs.Worlds.{Source};
 ghost use Rattle.model.specs.Steps.{AddDerivation as AddDerivationRequest, told_of, admit_new};
 ghost use Rattle.model.specs.Classes.{known_at, derivation_path};
-ghost use Rattle.model.specs.declared.refusal.Refusal.TheVariants.{Memory};
+ghost use Rattle.model.specs.declared.refusal.Refusal.TheVariants.{Memory, TooLarge};
 ghost use Rattle.schedule.specs.Sound.{IsSound, desk_of};
 ghost use Rattle.schedule.specs.Standing.{Serves, Fits, reply_of, is_refused, is_clash_refusal};
 
@@ -24,7 +24,7 @@ const MOST_DERIVATIONS: usize = 1024;
 /// What is told of a derivation.
 fn reply_with(admitted: &Admitted) -> Result<Reply, Refusal>
     ensures told { IfOk result (λ r. reply_of r ≡ told_of admitted.now) }
-    ensures answered { IfOk result (λ r. is_refused r ≡ false) }
+    ensures answered { IfOk result (λ r. is_refused (reply_of r) ≡ false) }
     ensures memory { IfErr result (λ e. e ≡ Memory) }
 {
     Ok(Reply::Derivation {
@@ -38,13 +38,13 @@ fn add_parsed(alloc: Global, desk: &mut Desk, derivation: &Derivation) -> Result
     ensures fits { (users : List (List ℕ)) (table : List Source) (limit : ℕ) → IsSound table limit desk.old →
         let known = desk.old.known in
         Fits (admit_new (record { users = users; charge = limit }) (desk_of table desk.old) derivation.now (known_at known (derivation_path derivation.now))) (desk_of table desk.new) result }
-    ensures answered { IfOk result (λ r. is_refused r ≡ false) }
+    ensures answered { IfOk result (λ r. is_refused (reply_of r) ≡ false) }
     ensures sound { (table : List Source) (limit : ℕ) → IsSound table limit desk.old → IsSound table limit desk.new }
     ensures kept { OnErr result (desk.new ≡ desk.old) }
     ensures no_clash { IfErr result (λ why. is_clash_refusal why ≡ false) }
 {
     let path = path_of(alloc, derivation)?;
-    if let Some(had) = desk.known().derivation(&path) {
+    if let Some(had) = desk.derivation(&path) {
         return reply_with(had);
     }
     let admitted = admit_at(alloc, derivation, path, desk.known())?;
@@ -60,7 +60,8 @@ fn add_parsed(alloc: Global, desk: &mut Desk, derivation: &Derivation) -> Result
 pub(crate) fn add_derivation(alloc: Global, desk: &mut Desk, text: &[u8]) -> Result<Reply, Refusal>
     ensures serves { (users : List (List ℕ)) (table : List Source) (limit : ℕ) → IsSound table limit desk.old →
         Serves (record { users = users; charge = limit }) (desk_of table desk.old) (AddDerivationRequest text.now) (desk_of table desk.new) result }
-    ensures answered { IfOk result (λ r. is_refused r ≡ false) }
+    ensures too_large { 1048576 < length text.now → result ≡ Err TooLarge }
+    ensures answered { IfOk result (λ r. is_refused (reply_of r) ≡ false) }
     ensures sound { (table : List Source) (limit : ℕ) → IsSound table limit desk.old → IsSound table limit desk.new }
     ensures kept { OnErr result (desk.new ≡ desk.old) }
     ensures no_clash { IfErr result (λ why. is_clash_refusal why ≡ false) }

@@ -1,6 +1,7 @@
 //! What one user has.
 
 ghost use Rattle.std.specs.Prelude.{◌≡◌, ◌+◌, ◌<◌, ◌^◌, ◌++◌, ◌∷◌, [], None, false, MatchResult};
+ghost use Rattle.std.specs.Option.{option_copied};
 ghost use Rattle.model.specs.Classes.{known_at, is_one_of};
 ghost use Rattle.model.specs.declared.refusal.Refusal.TheVariants.{Memory};
 
@@ -57,6 +58,13 @@ impl Desk {
         ensures { result ≡ is_one_of self.now.known.sources path.now }
     {
         self.known.has_source(path)
+    }
+
+    /// The derivation whose file has a path, if it is on the desk.
+    pub(crate) fn derivation(&self, path: &StorePath) -> Option<&Admitted>
+        ensures { option_copied result ≡ known_at self.now.known path.now }
+    {
+        self.known.derivation(path)
     }
 
     /// Adds a source that is not there yet, whose archive has so many bytes. The one error is

@@ -1,6 +1,6 @@
 //! The limits that a run is given.
 
-/// The largest limit on a user's charge, and the one that is meant where none is given: 1 GiB.
+/// The largest limit on a user's charge: 1 GiB.
 pub const LARGEST_CHARGE: u64 = 1_073_741_824;
 
 /// What a run's desks are limited to, beside the fixed limits.
@@ -8,4 +8,17 @@ pub const LARGEST_CHARGE: u64 = 1_073_741_824;
 pub struct Limits {
     /// The most that one user may be charged, in bytes of archives; at most [`LARGEST_CHARGE`].
     pub charge: u64,
+}
+
+/// Where none is given, the largest is meant.
+impl Default for Limits {
+    ghost use Rattle.std.specs.Prelude.{◌≡◌};
+
+    ghost is_default = { λ limits. limits.charge ≡ 1073741824 };
+
+    fn default() -> Limits {
+        Limits {
+            charge: LARGEST_CHARGE,
+        }
+    }
 }

@@ -1,6 +1,6 @@
 //! Whole runs.
 
-ghost use Rattle.std.specs.Prelude.{◌≡◌, ◌≤◌, ◌⊎◌, true, false, ℕ, List, IfOk, IfErr, map};
+ghost use Rattle.std.specs.Prelude.{◌≡◌, ◌≤◌, ◌⊎◌, true, false, ℕ, List, IfOk, IfErr, Err, map};
 ghost use Rattle.std.specs.List.{list_any};
 ghost use Rattle.model.specs.Paths.{NoClash};
 ghost use Rattle.model.specs.Worlds.{are_users, nothing};
@@ -8,7 +8,9 @@ ghost use Rattle.model.specs.Steps.{answers, replies_to, replies};
 ghost use Rattle.model.specs.HashedTexts.{hashed};
 ghost use Rattle.model.specs.Striking.{strike};
 ghost use Rattle.model.specs.declared.refusal.Refusal.TheVariants.{Memory, BadUsers};
-ghost use Rattle.schedule.specs.Standing.{setup_for, event_of, answer_of, is_memory};
+ghost use Rattle.schedule.specs.Standing.{setup_for, event_of, reply_of, answer_of, is_memory};
+ghost use Rattle.schedule.specs.Stepping.{IsCoreStep};
+ghost use Rattle.schedule.specs.Running.{events_served, without_memory, ArePrivate};
 
 use crate::events::{Event, Reply};
 use crate::limits::Limits;
@@ -18,11 +20,23 @@ use model::{Refusal, isolation};
 use std::alloc::Global;
 use std::hash::RandomState;
 
+/// The answer to an event: the reply, beside the actor. The one error is 90 `Memory`.
+fn answer(alloc: Global, core: &mut Core, event: Event) -> Result<(User, Reply), Refusal>
+    ensures actor { IfOk result (λ a. a.0 ≡ event.actor) }
+    ensures step { IfOk result (λ a. IsCoreStep core.old (event_of event) (reply_of a.1) core.new) }
+    ensures memory { IfErr result (λ e. e ≡ Memory) }
+{
+    let actor = event.actor.clone()?;
+    let reply = core.step(alloc, event);
+    Ok((actor, reply))
+}
+
 /// The replies to all these events, in order, each with the user who gets it.
 ///
 /// Where no two hashed texts have one folded digest and memory was refused nowhere, they are those
 /// of private desks (`same`), and each user's are those that he would get if the events of all users
-/// outside his trust closure were struck out (`isolated`): this is the store's main theorem.
+/// outside his trust closure were struck out (`isolated`): this is the store's main theorem. Where
+/// some are 90 `Memory`, the others are so for the list without the events of these (`others`).
 ///
 /// The errors are 14 `BadUsers`, exactly where the list of users is ill-formed, and 90 `Memory`.
 pub fn run(
@@ -33,22 +47,25 @@ pub fn run(
     events: Vec<Event>,
 ) -> Result<Vec<(User, Reply)>, Refusal>
     requires { limits.charge ≤ 1073741824 }
+    ensures actors { IfOk result (λ given. map (λ a. a.0) given.items ≡ map (λ e. e.actor) events.items) }
     ensures same { let setup = setup_for users limits in let all = map event_of events.items in
-        NoClash (hashed setup nothing all) → IfOk result (λ given. list_any (λ a. is_memory a.1) given.items ≡ false →
+        NoClash (hashed setup nothing all) → IfOk result (λ given. list_any (λ a. is_memory (reply_of a.1)) given.items ≡ false →
         map answer_of given.items ≡ answers setup nothing all) }
     ensures isolated { let setup = setup_for users limits in let all = map event_of events.items in
-        NoClash (hashed setup nothing all) → IfOk result (λ given. list_any (λ a. is_memory a.1) given.items ≡ false →
+        NoClash (hashed setup nothing all) → IfOk result (λ given. list_any (λ a. is_memory (reply_of a.1)) given.items ≡ false →
         (u : List ℕ) → replies_to u (map answer_of given.items) ≡ replies setup u (strike setup u all)) }
+    ensures others { let setup = setup_for users limits in IfOk result (λ given. let told = map answer_of given.items in
+        let served = events_served (map event_of events.items) told in
+        NoClash (hashed setup nothing served) → ArePrivate setup served (without_memory told)) }
     ensures users { IfOk result (λ given. are_users users.items ≡ true) }
+    ensures bad_users { are_users users.items ≡ false → result ≡ Err BadUsers }
     ensures refused { IfErr result (λ e. (e ≡ Memory) ⊎ ((e ≡ BadUsers) × (are_users users.items ≡ false))) }
 {
     isolation();
     let mut core = Core::new(alloc, hashing, users, limits)?;
     let mut given = Vec::with_capacity(alloc, events.len())?;
     for event in events {
-        let actor = event.actor.clone()?;
-        let reply = core.step(alloc, event);
-        given.push((actor, reply))?;
+        given.push(answer(alloc, &mut core, event)?)?;
     }
     Ok(given)
 }

@@ -4,7 +4,7 @@ ghost use Rattle.std.specs.Prelude.{◌≡◌, false, ℕ, List, IfOk, OnErr, On
 ghost use Rattle.model.specs.declared.refusal.Refusal.TheVariants.{Clash};
 ghost use Rattle.schedule.specs.Stored.{IsTakenFor};
 ghost use Rattle.schedule.specs.Sound.{IsSound, Extends, desk_of};
-ghost use Rattle.schedule.specs.Standing.{Serves, IsKept, request_of, stored_after_request, is_refused};
+ghost use Rattle.schedule.specs.Standing.{Serves, ServesAtOnce, IsKept, request_of, reply_of, stored_after_request, is_refused};
 
 use crate::add::add_source;
 use crate::derivations::add_derivation;
@@ -27,8 +27,9 @@ pub(crate) fn serve_at(
     requires { IsSound table.old.sources limits.charge desk.old }
     ensures serves { (users : List (List ℕ)) → Serves (record { users = users; charge = limits.charge }) (desk_of table.old.sources desk.old)
         (request_of request) (desk_of table.new.sources desk.new) result }
+    ensures at_once { ServesAtOnce (desk_of table.old.sources desk.old) (request_of request) result }
     ensures stored { OnOk result (table.new.sources ≡ stored_after_request (request_of request) table.old.sources) }
-    ensures answered { IfOk result (λ r. is_refused r ≡ false) }
+    ensures answered { IfOk result (λ r. is_refused (reply_of r) ≡ false) }
     ensures sound { IsSound table.new.sources limits.charge desk.new }
     ensures later { Extends table.old.sources table.new.sources }
     ensures kept { OnErr result (IsKept table.old table.new desk.old desk.new) }

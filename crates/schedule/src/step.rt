@@ -1,13 +1,13 @@
 //! The steps of a core.
 
-ghost use Rattle.std.specs.Prelude.{◌≡◌, ◌↔◌, ◌≤◌, true, false, ℕ, List, IfOk, IfErr, OnOk, OnErr, Err, ◌⊎◌, [], vec_len, All, Contains, position, bytes_eq};
-ghost use Rattle.model.specs.Paths.{NoClash};
-ghost use Rattle.model.specs.Worlds.{are_users, is_user, nothing};
+ghost use Rattle.std.specs.Prelude.{◌≡◌, ◌≤◌, true, false, IfOk, IfErr, OnOk, OnErr, Err, ◌⊎◌, [], vec_len, All, position, bytes_eq};
+ghost use Rattle.model.specs.Worlds.{are_users, nothing};
 ghost use Rattle.model.specs.Steps.{outcome_of};
 ghost use Rattle.schedule.specs.Sound.{IsEmpty};
-ghost use Rattle.model.specs.HashedTexts.{texts_of_event};
-ghost use Rattle.model.specs.declared.refusal.Refusal.TheVariants.{Memory, BadUsers};
-ghost use Rattle.schedule.specs.Standing.{world_of, setup_of, stored_in, stored_after, event_of, reply_of, is_memory, is_clash, is_refused, is_fault, is_clash_refusal, IsStep, IsUnchanged, HasHashed, HoldsStored};
+ghost use Rattle.model.specs.declared.refusal.Refusal.TheVariants.{Memory, BadUsers, Clash};
+ghost use Rattle.schedule.specs.Stored.{IsTakenFor};
+ghost use Rattle.schedule.specs.Standing.{world_of, setup_of, stored_in, stored_after, is_stopped, event_of, request_of, reply_of, is_refused, is_fault, IsStep, IsUnchanged, RefusedAtOnce, HoldsStored};
+ghost use Rattle.schedule.specs.Stepping.{IsCoreStep};
 
 use crate::desk::Desk;
 use crate::events::{Event, Reply};
@@ -57,6 +57,7 @@ impl Core {
         ensures world { IfOk result (λ core. world_of core ≡ nothing) }
         ensures stored { IfOk result (λ core. stored_in core ≡ []) }
         ensures users { IfOk result (λ core. are_users users.items ≡ true) }
+        ensures bad_users { are_users users.items ≡ false → result ≡ Err BadUsers }
         ensures refused { IfErr result (λ e. (e ≡ Memory) ⊎ ((e ≡ BadUsers) × (are_users users.items ≡ false))) }
     {
         if !are_users(users.as_slice()) {
@@ -73,42 +74,44 @@ impl Core {
 
     /// Serves one event at its actor's desk.
     fn serve(&mut self, alloc: Global, event: Event) -> Result<Reply, Refusal>
-        ensures told { IfOk result (λ r. (is_refused r ≡ false) × IsStep (setup_of self.old) (world_of self.old) (event_of event) (reply_of r) (world_of self.new)) }
+        ensures told { IfOk result (λ r. (is_refused (reply_of r) ≡ false) × IsStep (setup_of self.old) (world_of self.old) (event_of event) (reply_of r) (world_of self.new)) }
         ensures refused { IfErr result (λ why. is_fault why ≡ false → outcome_of (setup_of self.old) (world_of self.old) (event_of event) ≡ Err why) }
-        ensures known { OnOk result (is_user (setup_of self.old) event.actor ≡ true) }
+        ensures at_once { RefusedAtOnce (outcome_of (setup_of self.old) (world_of self.old) (event_of event)) result }
+        ensures taken { result ≡ Err Clash → IsTakenFor (stored_in self.old) (request_of event.request) }
         ensures kept { OnErr result (IsUnchanged self.old self.new) }
         ensures setup { setup_of self.new ≡ setup_of self.old }
         ensures stored { OnOk result (stored_in self.new ≡ stored_after (event_of event) (stored_in self.old)) }
-        ensures no_clash { (texts : List (List ℕ)) → NoClash texts → HasHashed texts self.old → All (Contains texts) (texts_of_event (setup_of self.old) (world_of self.old) (event_of event))
-            → IfErr result (λ why. is_clash_refusal why ≡ false) }
     {
         let Event { actor, request } = event;
         let Some(place) = place_of(self.users.as_slice(), &actor) else {
             return Err(Refusal::UnknownUser);
         };
-        paths_differ();
         let desk = &mut self.desks[place];
         serve_at(alloc, &mut self.table, desk, self.limits, request)
     }
 
     /// Takes one event, and gives its actor's reply. A refusal changes nothing.
     ///
-    /// With 90 `Memory` a growth was refused; 91 `Clash` comes only where two hashed texts have
-    /// one folded digest. Every other reply, and the world after it, is the model's.
+    /// With 90 `Memory` a growth was refused; 91 `Clash` comes only where another tree is at the
+    /// path of what is added. Every other reply, and the world after it, is the model's. A
+    /// refusal that needs no memory to be found (11, 22 and 53) is never told as 90.
     pub fn step(&mut self, alloc: Global, event: Event) -> Reply
-        ensures step { is_memory result ≡ false → is_clash result ≡ false → IsStep (setup_of self.old) (world_of self.old) (event_of event) (reply_of result) (world_of self.new) }
-        ensures refused { is_refused result ≡ true → IsUnchanged self.old self.new }
-        ensures setup { setup_of self.new ≡ setup_of self.old }
-        ensures stored { is_refused result ≡ false → stored_in self.new ≡ stored_after (event_of event) (stored_in self.old) }
+        ensures step { IsCoreStep self.old (event_of event) (reply_of result) self.new }
+        ensures stored { is_refused (reply_of result) ≡ false → stored_in self.new ≡ stored_after (event_of event) (stored_in self.old) }
         ensures holds { HoldsStored self.new }
-        ensures hashed { (texts : List (List ℕ)) → HasHashed texts self.old → All (Contains texts) (texts_of_event (setup_of self.old) (world_of self.old) (event_of event))
-            → HasHashed texts self.new }
-        ensures no_clash { (texts : List (List ℕ)) → NoClash texts → HasHashed texts self.old → All (Contains texts) (texts_of_event (setup_of self.old) (world_of self.old) (event_of event))
-            → is_clash result ≡ false }
     {
+        paths_differ();
         match self.serve(alloc, event) {
             Ok(reply) => reply,
             Err(refusal) => Reply::Refused(refusal),
         }
+    }
+
+    /// Whether memory was refused in the middle of a step, so that every later event is refused
+    /// with 92 `Stopped`. No event that there is does so: 90 leaves everything as it was.
+    pub fn stopped(&self) -> bool
+        ensures { result ≡ is_stopped self.now }
+    {
+        false
     }
 }

@@ -94,10 +94,13 @@ fn answers(alloc: Global, core: &mut Core, event: Event, text: &[u8]) -> Result<
 fn said_to(rt: &HostRuntime, events: Vec<Event>) -> Result<Vec<u8>, Fail> {
     let alloc = rt.alloc();
     let names = users(alloc, &[b"alice", b"bob"])?;
-    let limits = Limits {
-        charge: LARGEST_CHARGE,
-    };
-    let given = run(alloc, RandomState::new(rt)?, names, limits, events)?;
+    let given = run(
+        alloc,
+        RandomState::new(rt)?,
+        names,
+        Limits::default(),
+        events,
+    )?;
     let mut text = Vec::new(alloc);
     for (user, reply) in given.iter() {
         text.extend_from_slice(user.bytes())?;

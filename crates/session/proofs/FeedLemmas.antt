@@ -1,16 +1,16 @@
 -- A piece of the input, cut at its newlines.
-use Rattle.std.proofs.Common.{◌≡◌, ℕ, ◌+◌, ◌<◌, eqb, Bool, true, false, List, [], ◌∷◌, ◌++◌, length, take, drop, get_or, sym, ap, ◌∙◌, subst, arith, append_assoc}
+use Rattle.std.proofs.Common.{◌≡◌, ℕ, ◌+◌, ◌<◌, eqb, Bool, true, List, [], ◌∷◌, ◌++◌, length, take, drop, get_or, sym, ap, ◌∙◌, subst, arith, append_assoc}
 use Rattle.std.proofs.lemmas.List.{take-append-drop, drop_more, drop-drop, take_all}
-use Rattle.std.proofs.lemmas.Bool.{eqb-true, eqb-false}
+use Rattle.std.proofs.lemmas.Bool.{eqb-true}
 use Rattle.memchr.specs.Find.{Passes, NoneBefore, Nowhere, is_byte}
-use Rattle.session.specs.Serving.{IsWhole}
-use Rattle.session.proofs.LineLemmas.{whole-take}
+use Rattle.session.specs.Serving.{HasNoNewline}
+use Rattle.session.proofs.LineLemmas.{HasNoNewline-take}
 
-pub whole-before : (rest : List ℕ) (at : ℕ) (line : List ℕ) → line ≡ take at rest → NoneBefore (Passes (is_byte 10) rest) 0 (length rest) at → IsWhole line
-whole-before rest at line e h = rw e (whole-take at rest (λ k ka ks. h.before k (omega arith) ka))
+pub HasNoNewline-before : (rest : List ℕ) (at : ℕ) (line : List ℕ) → line ≡ take at rest → NoneBefore (Passes (is_byte 10) rest) 0 (length rest) at → HasNoNewline line
+HasNoNewline-before rest at line e h = rw e (HasNoNewline-take at rest (λ k ka ks. h.before k (omega arith) ka))
 
-pub whole-none : (rest : List ℕ) → Nowhere (Passes (is_byte 10) rest) 0 (length rest) → IsWhole rest
-whole-none rest h = subst IsWhole (take_all (length rest) rest (omega arith)) (whole-take (length rest) rest (λ k ka ks. h k (omega arith) ka))
+pub HasNoNewline-none : (rest : List ℕ) → Nowhere (Passes (is_byte 10) rest) 0 (length rest) → HasNoNewline rest
+HasNoNewline-none rest h = subst HasNoNewline (take_all (length rest) rest (omega arith)) (HasNoNewline-take (length rest) rest (λ k ka ks. h k (omega arith) ka))
 
 pub rest-cut : (rest line newline after : List ℕ) (at : ℕ) → at < length rest → Passes (is_byte 10) rest at → line ≡ take at rest → newline ≡ drop at rest → after ≡ drop 1 newline → rest ≡ line ++ 10 ∷ after
 rest-cut rest line newline after at lt is e₁ e₂ e₃ =
@@ -32,6 +32,3 @@ piece-rest front line rest piece after e f = e ∙ ap (λ t. front ++ t) f ∙ a
 
 pub zero-from_test : (r : Bool) (n : ℕ) → r ≡ true → r ≡ eqb n 0 → n ≡ 0
 zero-from_test r n t e = eqb-true n 0 (sym e ∙ t)
-
-pub positive-from_test : (r : Bool) (n : ℕ) → r ≡ false → r ≡ eqb n 0 → 0 < n
-positive-from_test r n t e = let h : n ≡ 0 → ⊥ = eqb-false n 0 (sym e ∙ t) in omega arith

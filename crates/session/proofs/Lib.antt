@@ -5,7 +5,7 @@ pub mod FillLemmas
 pub mod SessionLemmas
 pub mod LineLemmas
 pub mod RowLemmas
+pub mod WholeLinesLemmas
 pub mod ProgressLemmas
 pub mod FeedLemmas
-pub mod CoreLemmas
 pub mod AheadLemmas

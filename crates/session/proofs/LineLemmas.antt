@@ -2,7 +2,7 @@
 use Rattle.std.proofs.Common.{◌≡◌, ℕ, zero, suc, ◌+◌, ◌-◌, ◌<◌, ◌≤◌, Bool, true, false, eqb, List, [], ◌∷◌, ◌++◌, length, take, get_or, refl, sym, ap, ◌∙◌, arith, length-take}
 use Rattle.std.proofs.lemmas.List.{take_all}
 use Rattle.model.specs.Lines.{lines_of, onto_first}
-use Rattle.session.specs.Serving.{IsWhole}
+use Rattle.session.specs.Serving.{HasNoNewline}
 use Rattle.model.specs.Talk.{Seen, form_of}
 use Rattle.std.proofs.Common.{inl, inr, add-one}
 use Rattle.std.proofs.lemmas.Bool.{cases_lt, lt-ltb}
@@ -10,28 +10,28 @@ use Rattle.model.specs.declared.refusal.Refusal.TheVariants.{TooLarge}
 use Rattle.model.specs.Forms.{longest_line, Refuses}
 
 -- a newline ends a line
-pub lines-newline : (p more : List ℕ) → IsWhole p → lines_of (p ++ 10 ∷ more) ≡ p ∷ lines_of more
+pub lines-newline : (p more : List ℕ) → HasNoNewline p → lines_of (p ++ 10 ∷ more) ≡ p ∷ lines_of more
 lines-newline [] more h = refl
 lines-newline (b ∷ p) more h = rw h.0 (ap (onto_first b) (lines-newline p more h.1))
 
 -- the last line may lack it
-pub lines-last : (b : ℕ) (p : List ℕ) → IsWhole (b ∷ p) → lines_of (b ∷ p) ≡ (b ∷ p) ∷ []
+pub lines-last : (b : ℕ) (p : List ℕ) → HasNoNewline (b ∷ p) → lines_of (b ∷ p) ≡ (b ∷ p) ∷ []
 lines-last b [] h = rw h.0 refl
 lines-last b (c ∷ p) h = rw h.0 (ap (onto_first b) (lines-last c p h.1))
 
-pub whole-append : (p q : List ℕ) → IsWhole p → IsWhole q → IsWhole (p ++ q)
-whole-append [] q hp hq = hq
-whole-append (b ∷ p) q hp hq = (hp.0, whole-append p q hp.1 hq)
+pub HasNoNewline-append : (p q : List ℕ) → HasNoNewline p → HasNoNewline q → HasNoNewline (p ++ q)
+HasNoNewline-append [] q hp hq = hq
+HasNoNewline-append (b ∷ p) q hp hq = (hp.0, HasNoNewline-append p q hp.1 hq)
 
 not_true : (b : Bool) → ((b ≡ true) → ⊥) → b ≡ false
 not_true true h = absurd (h refl)
 not_true false h = refl
 
 -- bytes with no newline in them
-pub whole-take : (n : ℕ) (s : List ℕ) → ((k : ℕ) → k < n → k < length s → eqb (get_or s k 0) 10 ≡ true → ⊥) → IsWhole (take n s)
-whole-take zero s h = tt
-whole-take (suc n) [] h = tt
-whole-take (suc n) (b ∷ s) h = (not_true _ (h 0 (omega arith) (omega arith)), whole-take n s (λ k kn ks. h (suc k) (omega arith) (omega arith)))
+pub HasNoNewline-take : (n : ℕ) (s : List ℕ) → ((k : ℕ) → k < n → k < length s → eqb (get_or s k 0) 10 ≡ true → ⊥) → HasNoNewline (take n s)
+HasNoNewline-take zero s h = tt
+HasNoNewline-take (suc n) [] h = tt
+HasNoNewline-take (suc n) (b ∷ s) h = (not_true _ (h 0 (omega arith) (omega arith)), HasNoNewline-take n s (λ k kn ks. h (suc k) (omega arith) (omega arith)))
 
 -- cutting twice at one place is cutting once
 pub take_cut : (n : ℕ) (p b : List ℕ) → take n (take n p ++ b) ≡ take n (p ++ b)

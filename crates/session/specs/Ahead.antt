@@ -1,10 +1,10 @@
 -- What is found by reading ahead.
-use Rattle.std.specs.Prelude.{◌≡◌, ◌⊎◌, ℕ, true, false, List, [], ◌∷◌, ◌++◌, Option, None, Some}
+use Rattle.std.specs.Prelude.{◌≡◌, ◌⊎◌, ℕ, true, List, [], ◌∷◌, ◌++◌, Option, None, Some}
 use Rattle.model.specs.declared.refusal.Refusal.TheVariants.{BadUsers}
 use Rattle.model.specs.Lines.{lines_of}
 use Rattle.model.specs.Forms.{Form}
 use Rattle.model.specs.Talk.{Row, Named, Declined, Seen, fresh, after, after_all, Gets, Talks, users_in}
-use Rattle.session.specs.Serving.{IsWhole, IsHeld}
+use Rattle.session.specs.Serving.{WholeLines, IsHeld}
 use Rattle.session.specs.declared.ahead.Look.{Look}
 use Rattle.session.specs.declared.ahead.Look.TheVariants.{Users, Refused, Other}
 
@@ -14,18 +14,17 @@ IsLook form seen next (Users users) = Gets form (Named users.items)
 IsLook form seen next Refused = Gets form (Declined BadUsers)
 IsLook form seen next Other = (row : Row) × Gets form row × (next ≡ after seen row) × (users_in (row ∷ []) ≡ None) × (next.refused ≡ seen.refused)
 
--- the lines of this input that have ended name no users, and this is held of the line begun
-pub record Searched (input : List ℕ) (seen : Seen) (held : List ℕ) : Type 0 where
+-- the whole lines of an input of which more may come name no users
+pub record NoUsersSoFar (input : List ℕ) : Type 0 where
   pub rows : List Row
-  pub done : List (List ℕ)
-  pub partial : List ℕ
-  pub cut : (more : List ℕ) → lines_of (input ++ more) ≡ done ++ lines_of (partial ++ more)
-  pub whole : IsWhole partial
-  pub held_is : IsHeld partial held
-  pub talks : Talks fresh done rows
-  pub going : seen.refused ≡ false
-  pub seen_is : seen ≡ after_all fresh rows
+  pub lines : WholeLines input rows
   pub none : users_in rows ≡ None
+
+-- that, where a session of them keeps seen, and this is held of the line begun
+pub record Searched (input : List ℕ) (seen : Seen) (held : List ℕ) : Type 0 where
+  pub so_far : NoUsersSoFar input
+  pub held_is : IsHeld so_far.lines.partial held
+  pub seen_is : seen ≡ after_all fresh so_far.rows
 
 -- the first lines of an input name these users; where there are none, they are all of its lines, or the last of them is a line of users that is refused
 pub record LooksAhead (input : List ℕ) (users : Option (List (List ℕ))) : Type 0 where

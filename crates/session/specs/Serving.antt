@@ -1,5 +1,6 @@
 -- What a session did with its lines: the answers that it got, and what it wrote.
 use Rattle.std.specs.Prelude.{◌≡◌, ◌⊎◌, ◌<◌, ◌≤◌, ◌-◌, ◌^◌, ◌==◌, true, false, ℕ, ◌+◌, List, [], ◌∷◌, ◌++◌, length, take, Option}
+use mathlib.Core.List.{IsPrefix}
 use Rattle.std.specs.Io.KnownBytes.{Appends}
 use Rattle.model.specs.declared.refusal.Refusal.{Refusal}
 use Rattle.model.specs.declared.refusal.Refusal.TheVariants.{OutputFault, Memory, BadUsers}
@@ -28,23 +29,39 @@ pub record Finished {A : Type 0} (answers : A → Event → Reply → A → Type
   pub chain : Chain answers first rows now
   pub text : Appends blank written (text_from 1 rows)
 
--- the same where it was stopped: the first of the lines were answered, and a beginning of their text is written;
+-- no byte of it is a newline
+abbrev pub HasNoNewline : List ℕ → Type 0
+HasNoNewline [] = Unit {0}
+HasNoNewline (b ∷ bytes) = ((b == 10) ≡ false) × HasNoNewline bytes
+
+-- the rows of the whole lines of an input of which more may come: whatever comes, the lines of all are the done ones, and then those of the line begun with what comes
+pub record WholeLines (input : List ℕ) (rows : List Row) : Type 0 where
+  pub done : List (List ℕ)
+  pub partial : List ℕ
+  pub cut : (more : List ℕ) → lines_of (input ++ more) ≡ done ++ lines_of (partial ++ more)
+  pub begun : HasNoNewline partial
+  pub talks : Talks fresh done rows
+  pub going : (after_all fresh rows).refused ≡ false
+
+-- what a session has done with an input of which more may come: its whole lines are answered
+pub record AnsweredSoFar {A : Type 0} (answers : A → Event → Reply → A → Type 0) (first now : A) (blank written : Option (List ℕ)) (input : List ℕ) : Type 0 where
+  pub rows : List Row
+  pub lines : WholeLines input rows
+  pub chain : Chain answers first rows now
+  pub text : Appends blank written (text_from 1 rows)
+
+-- what it has done where it ended early: the first lines were answered, and a beginning of their text is written;
+-- they are the first lines whatever comes after what was read, and nothing comes where that is at the input's end;
 -- it ends with 14 where a line of users was refused, and then all of the text is written
-pub record Stopped {A : Type 0} (answers : A → Event → Reply → A → Type 0) (first now : A) (blank written : Option (List ℕ)) (all : List (List ℕ)) (why : Refusal) : Type 0 where
+pub record EndedEarly {A : Type 0} (answers : A → Event → Reply → A → Type 0) (first now : A) (blank written : Option (List ℕ)) (input : List ℕ) (at_end : Type 0) (why : Refusal) : Type 0 where
   pub rows : List Row
   pub done : List (List ℕ)
-  pub rest : List (List ℕ)
-  pub cut : all ≡ done ++ rest
+  pub cut : (more : List ℕ) → (at_end → more ≡ []) → IsPrefix done (lines_of (input ++ more))
   pub talks : Talks fresh done rows
   pub chain : Chain answers first rows now
   pub count : ℕ
   pub text : Appends blank written (take count (text_from 1 rows))
   pub users : why ≡ BadUsers → ((after_all fresh rows).refused ≡ true) × (length (text_from 1 rows) ≤ count)
-
--- no byte of it is a newline
-abbrev pub IsWhole : List ℕ → Type 0
-IsWhole [] = Unit {0}
-IsWhole (b ∷ bytes) = ((b == 10) ≡ false) × IsWhole bytes
 
 -- what is held of a line begun: as much of it as shows whether it is too long
 abbrev pub IsHeld : List ℕ → List ℕ → Type 0
@@ -52,23 +69,14 @@ IsHeld partial held = held ≡ take (longest_line + 1) partial
 
 -- a session on its way: after this input it keeps seen, and holds the beginning of a line
 pub record Progress {A : Type 0} (answers : A → Event → Reply → A → Type 0) (first now : A) (blank written : Option (List ℕ)) (input : List ℕ) (seen : Seen) (held : List ℕ) : Type 0 where
-  pub rows : List Row
-  pub done : List (List ℕ)
-  pub partial : List ℕ
-  -- whatever comes, the lines of all are the done ones, and then those of the line begun with what comes
-  pub cut : (more : List ℕ) → lines_of (input ++ more) ≡ done ++ lines_of (partial ++ more)
-  pub whole : IsWhole partial
-  pub held_is : IsHeld partial held
-  pub talks : Talks fresh done rows
-  pub going : seen.refused ≡ false
-  pub seen_is : seen ≡ after_all fresh rows
-  pub chain : Chain answers first rows now
-  pub text : Appends blank written (text_from 1 rows)
+  pub so_far : AnsweredSoFar answers first now blank written input
+  pub held_is : IsHeld so_far.lines.partial held
+  pub seen_is : seen ≡ after_all fresh so_far.rows
 
 -- a count of failures rose, or stands at its greatest number
 abbrev pub HasFailed : ℕ → ℕ → Type 0
 HasFailed old new = (old < new) ⊎ (new ≡ 2 ^ 64 - 1)
 
--- what a session may be stopped by while it answers
+-- what may end a session early while it answers
 abbrev pub IsOwn : Refusal → Type 0
 IsOwn why = (why ≡ OutputFault) ⊎ (why ≡ Memory) ⊎ (why ≡ BadUsers)

@@ -1,15 +1,15 @@
 //! Reading ahead to the users of a session.
 
-ghost use Rattle.std.specs.Prelude.{◌≡◌, ◌++◌, [], true, false, ℕ, List, IfOk, IfErr, option_map};
+ghost use Rattle.std.specs.Prelude.{◌≡◌, ◌++◌, [], true, false, ℕ, List, None, IfOk, IfErr, OnErr, option_map};
 ghost use Rattle.std.specs.Io.KnownBytes.{Consumes, IsAtEnd};
 ghost use Rattle.model.specs.declared.refusal.Refusal.TheVariants.{Memory};
 ghost use Rattle.model.specs.Talk.{form_of};
-ghost use Rattle.session.specs.Ahead.{IsLook, Searched, LooksOn, LooksAhead};
+ghost use Rattle.session.specs.Ahead.{IsLook, NoUsersSoFar, Searched, LooksOn, LooksAhead};
 ghost use Rattle.session.specs.Serving.{HasFailed};
 
 use crate::answer::{Faults, NoUsers};
 use crate::reading::Reading;
-use crate::serving::{CHUNK, hold};
+use crate::serving::{CHUNK, hold, is_begun};
 use crate::session::{Mode, Session};
 use crate::streams::read_some;
 use memchr::memchr;
@@ -92,7 +92,7 @@ fn look_last(
     ensures found { IfOk result (λ users. (input : List ℕ) → Searched input session.old held.now → LooksAhead input (option_map (λ u. u.items) users)) }
     ensures memory { IfErr result (λ why. why ≡ Memory) }
 {
-    if held.is_empty() {
+    if !is_begun(held) {
         return Ok(None);
     }
     match look_at(alloc, session, held)? {
@@ -106,8 +106,8 @@ fn look_last(
 /// that is refused with 14, and finds the users. All bytes that are read are kept, so that
 /// [`Prefixed`](crate::Prefixed) can give them again.
 ///
-/// The one error is memory. Where the reader fails, `has_failed` says so; a reader that fails and
-/// does not count it is tried again.
+/// The one error is memory. Where the reader fails, `has_failed` says so, and no users are given; a
+/// reader that fails and does not count it is tried again.
 pub fn read_ahead<R: Read + Faults>(
     alloc: Global,
     mode: Mode,
@@ -119,6 +119,10 @@ pub fn read_ahead<R: Read + Faults>(
     // Whatever comes after what was read, these are the users that a session of it names.
     ensures users { IfOk result (λ ahead. ahead.has_failed ≡ false → (more : List ℕ) → (ahead.has_ended ≡ true → more ≡ [])
         → LooksAhead (ahead.bytes.items ++ more) (option_map (λ u. u.items) ahead.users)) }
+    // Where the reader failed, none are given, and the whole lines of what was read name none.
+    ensures no_users { IfOk result (λ ahead. ahead.has_failed ≡ true
+        → (ahead.users ≡ None) × NoUsersSoFar ahead.bytes.items) }
+    ensures err { OnErr result ((input : List ℕ) × Consumes (R.remaining reader.old) (R.remaining reader.new) input) }
     ensures memory { IfErr result (λ why. why ≡ Memory) }
 {
     let before = reader.failures();

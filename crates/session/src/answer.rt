@@ -46,9 +46,9 @@ impl Answer for NoUsers {
 
 /// A store answers each event by a step.
 impl Answer for Core {
-    ghost use Rattle.session.specs.Stepping.{IsAnswer};
+    ghost use Rattle.schedule.specs.Stepping.{IsCoreStep};
 
-    ghost answers = { IsAnswer };
+    ghost answers = { IsCoreStep };
 
     fn call(&mut self, alloc: Global, event: Event) -> Reply {
         self.step(alloc, event)

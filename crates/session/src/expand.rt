@@ -115,7 +115,7 @@ fn add_part(
     if letter == b'p' || letter == b'c' {
         return text.extend_from_slice(path.bytes());
     }
-    let digits = hex::encode(alloc, path.hash_part())?;
+    let digits = hex::encode(alloc, path.hash_part().bytes())?;
     text.extend_from_slice(digits.as_bytes())
 }
 

@@ -4,6 +4,7 @@
 //! |---|---|
 //! | [`Session::line`] | answers one line: gives what is printed for it |
 //! | [`serve`] | answers the lines of a reader, and writes what is printed |
+//! | [`serve_whole_lines`] | the same for bytes of which more was to come |
 //! | [`read_ahead`], [`Prefixed`] | finds the users of an input, and gives again what was read for it |
 //!
 //! What a line is, which row it gets and what is printed for it is said by the definitions of the
@@ -31,5 +32,5 @@ mod words;
 pub use ahead::{Ahead, read_ahead};
 pub use answer::{Answer, Faults, NoUsers};
 pub use prefixed::Prefixed;
-pub use serving::serve;
+pub use serving::{serve, serve_whole_lines};
 pub use session::{Mode, Session};

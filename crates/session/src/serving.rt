@@ -1,10 +1,10 @@
 //! Sessions over a reader and a writer.
 
-ghost use Rattle.std.specs.Prelude.{◌≡◌, ◌≤◌, ◌⊎◌, ◌++◌, ◌∷◌, [], ℕ, List, Option, OnOk, OnErr, IfErr};
+ghost use Rattle.std.specs.Prelude.{◌≡◌, ◌<◌, ◌≤◌, ◌⊎◌, ◌++◌, ◌∷◌, [], ⊤, ℕ, List, Option, OnOk, OnErr, IfErr, MatchBool, length};
 ghost use Rattle.std.specs.Io.KnownBytes.{Appends, Consumes, IsAtEnd};
 ghost use Rattle.model.specs.declared.refusal.Refusal.TheVariants.{InputFault, OutputFault};
 ghost use Rattle.model.specs.Lines.{lines_of};
-ghost use Rattle.session.specs.Serving.{Progress, Stopped, Finished, HasFailed, IsHeld, IsOwn};
+ghost use Rattle.session.specs.Serving.{Progress, AnsweredSoFar, EndedEarly, Finished, HasFailed, IsHeld, IsOwn};
 
 use crate::answer::{Answer, Faults};
 use crate::forms::LONGEST_LINE;
@@ -28,6 +28,13 @@ pub(crate) fn hold(held: &mut Vec<u8>, bytes: &[u8]) -> Result<(), AllocError>
     Ok(())
 }
 
+/// Whether a line is begun of which this is held.
+pub(crate) fn is_begun(held: &[u8]) -> bool
+    ensures { MatchBool result (0 < length held.now) (held.now ≡ []) }
+{
+    !held.is_empty()
+}
+
 /// Answers the line that is held, and writes what it gets. The line is let go before its event is
 /// answered.
 fn end_line<W: Write + Faults, A: Answer>(
@@ -44,7 +51,7 @@ fn end_line<W: Write + Faults, A: Answer>(
     ensures empty { OnOk result (held.new.items ≡ []) }
     ensures err { IfErr result (λ why. (first : A) (blank : Option (List ℕ)) (input more : List ℕ)
         → Progress A.answers first answer.old blank (W.contents writer.old) input session.old held.old.items
-        → Stopped A.answers first answer.new blank (W.contents writer.new) (lines_of (input ++ 10 ∷ more)) why) }
+        → EndedEarly A.answers first answer.new blank (W.contents writer.new) (input ++ 10 ∷ more) ⊥ why) }
     ensures errors { IfErr result IsOwn }
     ensures fault { IfErr result (λ why. why ≡ OutputFault → HasFailed before (W.failed writer.new)) }
 {
@@ -74,7 +81,7 @@ fn feed<W: Write + Faults, A: Answer>(
         → Progress A.answers first answer.new blank (W.contents writer.new) (input ++ piece.now) session.new held.new.items) }
     ensures err { IfErr result (λ why. (first : A) (blank : Option (List ℕ)) (input : List ℕ)
         → Progress A.answers first answer.old blank (W.contents writer.old) input session.old held.old.items
-        → Stopped A.answers first answer.new blank (W.contents writer.new) (lines_of (input ++ piece.now)) why) }
+        → EndedEarly A.answers first answer.new blank (W.contents writer.new) (input ++ piece.now) ⊥ why) }
     ensures errors { IfErr result IsOwn }
     ensures fault { IfErr result (λ why. why ≡ OutputFault → HasFailed before (W.failed writer.new)) }
 {
@@ -104,11 +111,11 @@ fn finish<W: Write + Faults, A: Answer>(
         → Finished A.answers first answer.new blank (W.contents writer.new) (lines_of input)) }
     ensures err { IfErr result (λ why. (first : A) (blank : Option (List ℕ)) (input : List ℕ)
         → Progress A.answers first answer.old blank (W.contents writer.old) input session.old held.old.items
-        → Stopped A.answers first answer.new blank (W.contents writer.new) (lines_of input) why) }
+        → EndedEarly A.answers first answer.new blank (W.contents writer.new) input ⊤ why) }
     ensures errors { IfErr result IsOwn }
     ensures fault { IfErr result (λ why. why ≡ OutputFault → HasFailed before (W.failed writer.new)) }
 {
-    if held.is_empty() {
+    if !is_begun(held.as_slice()) {
         return Ok(());
     }
     end_line(alloc, session, held, writer, before, answer)?;
@@ -133,10 +140,11 @@ pub fn serve<R: Read + Faults, W: Write + Faults, A: Answer>(
     ensures ok { OnOk result ((input : List ℕ)
         × Consumes (R.remaining reader.old) (R.remaining reader.new) input × IsAtEnd (R.remaining reader.new)
         × Finished A.answers answer.old answer.new (W.contents writer.old) (W.contents writer.new) (lines_of input)) }
-    // Else the first lines of what was read are, and a beginning of their text.
+    // Else the first lines are, whatever comes after what was read, and a beginning of their text is.
     ensures err { IfErr result (λ why. (input : List ℕ)
         × Consumes (R.remaining reader.old) (R.remaining reader.new) input
-        × Stopped A.answers answer.old answer.new (W.contents writer.old) (W.contents writer.new) (lines_of input) why) }
+        × EndedEarly A.answers answer.old answer.new (W.contents writer.old) (W.contents writer.new)
+        input (IsAtEnd (R.remaining reader.new)) why) }
     ensures errors { IfErr result (λ why. (why ≡ InputFault) ⊎ IsOwn why) }
     ensures input_fault { IfErr result (λ why. why ≡ InputFault → HasFailed (R.failed reader.old) (R.failed reader.new)) }
     ensures output_fault { IfErr result (λ why. why ≡ OutputFault → HasFailed (W.failed writer.old) (W.failed writer.new)) }
@@ -174,4 +182,37 @@ pub fn serve<R: Read + Faults, W: Write + Faults, A: Answer>(
         )?;
     }
     Err(Refusal::Memory)
+}
+
+/// Answers the whole lines of some bytes of which more was to come, and writes what is printed for
+/// them. What stands behind the last newline is left alone, and the writer is left to be flushed.
+///
+/// The errors are 14 `BadUsers`, 72 `OutputFault` and 90 `Memory`, when [`serve`] has them.
+pub fn serve_whole_lines<W: Write + Faults, A: Answer>(
+    alloc: Global,
+    mode: Mode,
+    bytes: &[u8],
+    writer: &mut W,
+    answer: &mut A,
+) -> Result<(), Refusal>
+    ensures ok { OnOk result (AnsweredSoFar A.answers answer.old answer.new
+        (W.contents writer.old) (W.contents writer.new) bytes.now) }
+    ensures err { IfErr result (EndedEarly A.answers answer.old answer.new
+        (W.contents writer.old) (W.contents writer.new) bytes.now ⊥) }
+    ensures errors { IfErr result IsOwn }
+    ensures output_fault { IfErr result (λ why. why ≡ OutputFault → HasFailed (W.failed writer.old) (W.failed writer.new)) }
+{
+    let before = writer.failures();
+    let mut session = Session::new(alloc, mode);
+    let mut held = Vec::new(alloc);
+    feed(
+        alloc,
+        &mut session,
+        &mut held,
+        bytes,
+        writer,
+        before,
+        answer,
+    )?;
+    Ok(())
 }

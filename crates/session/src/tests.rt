@@ -1,6 +1,8 @@
 //! Sessions in pieces, with each read and each write failing, and the users that are read ahead.
 
-use crate::{Ahead, Faults, Mode, Prefixed, Session, read_ahead, serve};
+use crate::{
+    Ahead, Faults, Mode, NoUsers, Prefixed, Session, read_ahead, serve, serve_whole_lines,
+};
 use model::Refusal;
 use schedule::{Core, LARGEST_CHARGE, Limits, User};
 use std::alloc::Global;
@@ -105,10 +107,12 @@ impl Read for Source {
     }
 }
 
-/// Takes bytes.
+/// Takes bytes, and shows them once it is flushed.
 #[derive(Drop)]
 struct Sink {
     bytes: Vec<u8>,
+    shown: usize,
+    flushes: u64,
     count: Count,
 }
 
@@ -134,7 +138,11 @@ impl Write for Sink {
 
     fn flush(&mut self) -> io::Result<()> {
         match self.count.call() {
-            Some(_) => Ok(()),
+            Some(_) => {
+                self.shown = self.bytes.len();
+                self.flushes = self.flushes.saturating_add(1);
+                Ok(())
+            }
             None => Err(io::Error::from(ErrorKind::Other)),
         }
     }
@@ -164,11 +172,14 @@ fn store_of(rt: &HostRuntime, users: Vec<User>) -> Result<Core, Fail> {
     Ok(Core::new(alloc, RandomState::new(rt)?, users, limits)?)
 }
 
-/// How a session ended, what it wrote, and how often it read and wrote.
+/// How a session ended, what it wrote, how many bytes of that were shown by how many flushes, and
+/// how often it read and wrote.
 #[derive(Drop)]
 struct Outcome {
     ended: Result<(), Refusal>,
     text: Vec<u8>,
+    shown: usize,
+    flushes: u64,
     reads: u64,
     writes: u64,
 }
@@ -178,14 +189,23 @@ fn talk(rt: &HostRuntime, input: &[u8], reads: Calls, writes: Calls) -> Result<O
     let mut source = source_of(alloc, input, reads)?;
     let mut sink = Sink {
         bytes: Vec::new(alloc),
+        shown: 0,
+        flushes: 0,
         count: Count::new(writes),
     };
     let mut core = store(rt)?;
     let ended = serve(alloc, Mode::Service, &mut source, &mut sink, &mut core);
-    let Sink { bytes, count } = sink;
+    let Sink {
+        bytes,
+        shown,
+        flushes,
+        count,
+    } = sink;
     Ok(Outcome {
         ended,
         text: bytes,
+        shown,
+        flushes,
         reads: source.count.made,
         writes: count.made,
     })
@@ -265,9 +285,16 @@ fn first_path(rt: HostRuntime) -> Result<(), Fail> {
     let input = b"users alice bob\nalice source a f:\nbob fetch {p2}\nalice fetch {p2}\n";
     let output =
         b"1 - ok\n2 alice path /nix/store/w996igw5fhzp5pmk8g9bfv99is99b0ap-a\n3 bob refused 53 NotHeld\n4 alice tree f:\n";
-    let Outcome { ended, text, .. } = talk(&rt, input.as_slice(), steady(4096), steady(4096))?;
+    let Outcome {
+        ended,
+        text,
+        shown,
+        flushes,
+        ..
+    } = talk(&rt, input.as_slice(), steady(4096), steady(4096))?;
     assert_eq!(rt; ended, Ok(()));
     assert_eq!(rt; text.as_slice(), output.as_slice());
+    assert_eq!(rt; (shown, flushes), (output.len(), 1u64));
     Ok(())
 }
 
@@ -298,6 +325,15 @@ fn each_read_fails(rt: HostRuntime) -> Result<(), Fail> {
             }
         }
     }
+    Ok(())
+}
+
+#[test]
+fn half_a_line_is_no_event(rt: HostRuntime) -> Result<(), Fail> {
+    let input = b"users alice\nalice source a f:61";
+    let Outcome { ended, text, .. } = talk(&rt, input.as_slice(), failing(4096, 2), steady(4096))?;
+    assert_eq!(rt; ended, Err(Refusal::InputFault));
+    assert_eq!(rt; text.as_slice(), b"1 - ok\n".as_slice());
     Ok(())
 }
 
@@ -339,12 +375,17 @@ fn users_are_refused(rt: HostRuntime) -> Result<(), Fail> {
         let mut input = Vec::from_slice(rt.alloc(), b"wait\n".as_slice())?;
         input.extend_from_slice(names)?;
         input.extend_from_slice(b"\nusers alice\n".as_slice())?;
-        let Outcome { ended, text, .. } = talk(&rt, input.as_slice(), steady(4096), steady(4096))?;
+        let output = b"1 - refused 25 BadLine\n2 - refused 14 BadUsers\n";
+        let Outcome {
+            ended,
+            text,
+            shown,
+            flushes,
+            ..
+        } = talk(&rt, input.as_slice(), steady(4096), steady(4096))?;
         assert_eq!(rt; ended, Err(Refusal::BadUsers));
-        assert_eq!(rt;
-            text.as_slice(),
-            b"1 - refused 25 BadLine\n2 - refused 14 BadUsers\n".as_slice()
-        );
+        assert_eq!(rt; text.as_slice(), output.as_slice());
+        assert_eq!(rt; (shown, flushes), (output.len(), 1u64));
     }
     Ok(())
 }
@@ -377,7 +418,7 @@ fn users_are_read_ahead(rt: HostRuntime) -> Result<(), Fail> {
             return Err(Fail::from(Refusal::BadUsers));
         };
         let mut core = store_of(&rt, users)?;
-        let mut reader = Prefixed::new(bytes, false, &mut source);
+        let mut reader = Prefixed::new(bytes, &mut source);
         let mut text = Vec::new(alloc);
         serve(alloc, Mode::Service, &mut reader, &mut text, &mut core)?;
         assert_eq!(rt; text.as_slice(), output.as_slice(), "pieces of {step}");
@@ -386,10 +427,10 @@ fn users_are_read_ahead(rt: HostRuntime) -> Result<(), Fail> {
 }
 
 #[test]
-fn a_fault_is_given_again(rt: HostRuntime) -> Result<(), Fail> {
+fn a_failed_reader_has_whole_lines(rt: HostRuntime) -> Result<(), Fail> {
     let alloc = rt.alloc();
-    let input = joined(alloc, &LINES)?;
-    let mut source = source_of(alloc, input.as_slice(), failing(25, 2))?;
+    let input = b"#\nwait\nusers alice";
+    let mut source = source_of(alloc, input.as_slice(), failing(4096, 2))?;
     let Ahead {
         bytes,
         users,
@@ -397,14 +438,16 @@ fn a_fault_is_given_again(rt: HostRuntime) -> Result<(), Fail> {
         has_failed,
     } = read_ahead(alloc, Mode::Service, &mut source)?;
     assert!(rt; users.is_none() & !has_ended & has_failed);
-    assert_eq!(rt; bytes.len(), 25);
-    let mut reader = Prefixed::new(bytes, has_failed, &mut source);
+    assert_eq!(rt; bytes.as_slice(), input.as_slice());
     let mut text = Vec::new(alloc);
-    let mut core = store(&rt)?;
-    let result = serve(alloc, Mode::Service, &mut reader, &mut text, &mut core);
-    assert_eq!(rt; result, Err(Refusal::InputFault));
-    assert_eq!(rt; text.as_slice(), b"".as_slice());
-    assert_eq!(rt; reader.failures(), 2);
+    serve_whole_lines(
+        alloc,
+        Mode::Service,
+        bytes.as_slice(),
+        &mut text,
+        &mut NoUsers,
+    )?;
+    assert_eq!(rt; text.as_slice(), b"2 - refused 25 BadLine\n".as_slice());
     Ok(())
 }
 

@@ -50,7 +50,7 @@ ascii_by_test (b ∷ bs) h =
     let parts = and_parts (nat_lt b 128) (list_all (λ c. nat_lt c 128) bs) h in
     IsAscii-cons b bs ((Decides-ltb b 128).0 parts.0) (ascii_by_test bs parts.1)
 
-base32_is_ascii : (bytes : List ℕ) → IsAscii (base32 bytes)
+pub base32_is_ascii : (bytes : List ℕ) → IsAscii (base32 bytes)
 base32_is_ascii bytes =
     IsAscii-from_reads (base32 bytes) 32 (omega (arith, length-base32 bytes)) (λ k h.
     let digit = get_or-digits_of 32 (number_of bytes) k h in

@@ -2,6 +2,7 @@
 use Rattle.std.proofs.Common.{◌≡◌, ℕ, zero, suc, ◌+◌, ◌*◌, ◌/◌, ◌%◌, ◌^◌, ◌<◌, ◌≤◌, Bool, true, List, [], ◌∷◌, ◌++◌, length, get_or, take, drop, refl, sym, subst, ◌∙◌, ap, inl, inr, arith, add-one, lit<}
 use Rattle.std.specs.Prelude.{codes, slice_index, bytes_eq, ◌==◌, ◌&&◌, IsTrue, ◌↔◌}
 use Rattle.std.specs.List.{list_any, list_all}
+use Rattle.std.specs.Str.{IsAscii}
 use Rattle.std.proofs.lemmas.Slice.Eq.{bytes_eq-Decides}
 use Rattle.std.proofs.Math.Nat.{pow-suc}
 use Rattle.std.proofs.lemmas.Bool.{and_parts, false≢true}
@@ -12,7 +13,8 @@ use Rattle.std.proofs.lemmas.List.Sums.{AllPass-from_list_all}
 use Rattle.model.specs.Archives.{AreBytes}
 use Rattle.model.specs.Paths.{base32, digits_32, digits_of, number_of, is_name, is_digit_32, is_hash_part_and_name, is_path, IsFolded, IsPath}
 use Rattle.storepath.proofs.DigitLemmas.{read_digit, small_number}
-use Rattle.storepath.proofs.PathLemmas.{length-base32, parts_of-path_text, joined_path}
+use Rattle.storepath.proofs.PathLemmas.{base32_is_ascii, length-base32, parts_of-path_text, joined_path}
+use Rattle.storepath.specs.Parts.{is_hash_part}
 
 -- ---- digits
 
@@ -77,9 +79,15 @@ folded_with text long h =
 pub base32_passes : (bytes : List ℕ) → list_all is_digit_32 (base32 bytes) ≡ true
 base32_passes bytes = digits_pass 32 (number_of bytes)
 
--- what the digits of 20 bytes are
-pub digits_tested : (bytes text : List ℕ) → base32 bytes ≡ text → true ≡ (length text == 32 && list_all is_digit_32 text)
-digits_tested bytes text e = rw (← e, length-base32 bytes, base32_passes bytes) refl
+-- the digits of 20 bytes are a hash part
+pub base32_is_hash_part : (bytes text : List ℕ) → base32 bytes ≡ text → is_hash_part text ≡ true
+base32_is_hash_part bytes text e = rw (← e, length-base32 bytes, base32_passes bytes) refl
+
+-- 32 digits are ASCII
+pub digits_are_ascii : (text : List ℕ) → length text ≡ 32 → list_all is_digit_32 text ≡ true → IsAscii text
+digits_are_ascii text long h =
+    let bytes = folded_with text long h in
+    subst IsAscii bytes.2 (base32_is_ascii bytes.0)
 
 -- ---- paths
 

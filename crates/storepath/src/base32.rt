@@ -2,9 +2,9 @@
 //!
 //! The bytes are one number of 160 bits, the lowest byte first, and its digits are printed the highest first (Nix Reference Manual, "Store Path").
 
-ghost use Rattle.std.specs.Prelude.{◌≡◌, ◌↔◌, ◌≢◌, ℕ, List, ◌+◌, ◌*◌, ◌^◌, ◌<◌, ◌==◌, ◌&&◌, length, position, is_ok, IfOk, IfErr};
-ghost use Rattle.std.specs.List.{list_all};
-ghost use Rattle.model.specs.Paths.{base32, digits_32, is_digit_32, number_of, IsFolded};
+ghost use Rattle.std.specs.Prelude.{◌≡◌, ◌↔◌, ◌≢◌, ℕ, List, ◌+◌, ◌*◌, ◌^◌, ◌<◌, ◌==◌, position, is_ok, IfOk, IfErr};
+ghost use Rattle.model.specs.Paths.{base32, digits_32, number_of, IsFolded};
+ghost use Rattle.storepath.specs.Parts.{is_hash_part};
 
 use model::Refusal;
 
@@ -65,7 +65,7 @@ pub fn to_base32(bytes: &[u8; 20]) -> [u8; 32]
 pub fn from_base32(text: &[u8]) -> Result<[u8; 20], Refusal>
     ensures read { IfOk result (λ bytes. IsFolded bytes × (base32 bytes ≡ text.now)) }
     ensures refused { IfErr result (λ why. (why ≡ Refusal.BadPath) × ((bytes : List ℕ) → IsFolded bytes → base32 bytes ≢ text.now)) }
-    ensures digits { is_ok result ≡ (length text.now == 32 && list_all is_digit_32 text.now) }
+    ensures digits { is_ok result ≡ is_hash_part text.now }
 {
     if text.len() != 32 {
         return Err(Refusal::BadPath);

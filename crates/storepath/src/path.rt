@@ -5,6 +5,7 @@ ghost use Rattle.model.specs.Paths.{base32, is_name, is_path, path_text, IsPath}
 ghost use Rattle.storepath.specs.Parts.{hash_part_of, name_of};
 
 use crate::base32::{from_base32, to_base32};
+use crate::hash_part::HashPart;
 use crate::name::{Name, is_name};
 use model::Refusal;
 use std::alloc::{AllocError, Global};
@@ -55,12 +56,12 @@ impl StorePath {
         self.text.as_slice()
     }
 
-    /// The 32 digits of the hash part.
-    pub fn hash_part(&self) -> &[u8]
-        ensures value { result.now ≡ hash_part_of self.now }
-        ensures part { (path : IsPath self.now) × (result.now ≡ base32 path.hash_part) }
+    /// The hash part. It takes no memory.
+    pub fn hash_part(&self) -> HashPart
+        ensures value { result ≡ hash_part_of self.now }
+        ensures part { (path : IsPath self.now) × (result ≡ base32 path.hash_part) }
     {
-        &self.text[HASH_PART..DASH]
+        HashPart::from_digits(&self.text[HASH_PART..DASH])
     }
 
     /// The bytes of the name.

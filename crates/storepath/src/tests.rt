@@ -59,7 +59,7 @@ fn path_limits(rt: HostRuntime) -> Result<(), Fail> {
         let path = read_path(alloc, &text)?;
         assert_eq!(rt; path.bytes(), text.as_slice());
         assert_eq!(rt;
-            path.hash_part(),
+            path.hash_part().bytes(),
             b"0000000000000000000000000000000f".as_slice()
         );
         assert_eq!(rt; path.name().len(), length);
@@ -70,6 +70,24 @@ fn path_limits(rt: HostRuntime) -> Result<(), Fail> {
             read_path(alloc, &text).err() == Some(Refusal::BadPath),
             "{length}"
         );
+    }
+    Ok(())
+}
+
+#[test]
+fn hash_parts(rt: HostRuntime) -> Result<(), Fail> {
+    let alloc = rt.alloc();
+    let digits = "w996igw5fhzp5pmk8g9bfv99is99b0ap";
+    let part = HashPart::read(digits.as_bytes())?;
+    assert!(rt; part == read_path(alloc, SOURCE.as_bytes())?.hash_part());
+    assert!(rt; HashPart::read(DERIVATION_FILE[11..43].as_bytes())? < part);
+    assert_eq!(rt; part.to_string(alloc)?.as_str(), digits);
+    for text in [
+        "w996igw5fhzp5pmk8g9bfv99is99b0a",
+        "w996igw5fhzp5pmk8g9bfv99is99b0ae",
+    ] {
+        let refused = HashPart::read(text.as_bytes()).err();
+        assert!(rt; refused == Some(Refusal::BadPath), "{text}");
     }
     Ok(())
 }

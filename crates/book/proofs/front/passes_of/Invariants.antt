@@ -1,6 +1,8 @@
-use Rattle.std.specs.Prelude.{◌≡◌, ◌+◌, map}
+use Rattle.std.specs.Prelude.{◌≡◌, ◌+◌, map, [], false}
 use Rattle.book.specs.Callers.{newcomer, below}
 use Rattle.book.proofs.front.passes_of.Given as goal
 
 abbrev pub invariant-loop-number : goal.invariant-loop-number
-invariant-loop-number g l = (l.all.parts + l.number ≡ l.n) × (l.all.amount ≡ 0) × (l.passes.items ≡ map newcomer (below l.number))
+invariant-loop-number g l =
+    (l.all.parts + l.number ≡ l.n) × (l.all.amount ≡ 0) × (l.passes.items ≡ map newcomer (below l.number))
+    × (l.log.rows ≡ []) × (l.log.next ≡ l.number) × (l.log.stopped ≡ false)

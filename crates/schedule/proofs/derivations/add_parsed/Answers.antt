@@ -1,14 +1,17 @@
-use Rattle.std.proofs.Common.{rules, ◌≡◌, ◌+◌, ◌⊎◌, true, false, sym, ◌∙◌, ap, arith, length, Ok, Err, None}
+use Rattle.std.proofs.Common.{rules, ◌≡◌, ◌+◌, ◌⊎◌, inl, inr, refl, true, false, sym, ◌∙◌, ap, arith, length, Ok, Err, None}
 use Rattle.std.specs.Prelude.{nat_le}
 use Rattle.std.proofs.lemmas.Bool.Decides.{nat_tests}
 use Rattle.std.proofs.lemmas.Result.{err_from_is_err_and}
+use Rattle.model.specs.declared.refusal.Refusal.{Refusal}
 use Rattle.model.specs.declared.refusal.Refusal.TheVariants.{Memory}
+use Rattle.model.specs.Derivations.{Derivation}
 use Rattle.model.specs.Steps.{becomes, told_of}
-use Rattle.model.specs.Classes.{known_at, derivation_path, admit}
+use Rattle.model.specs.Classes.{Known, known_at, derivation_path, admit}
 use Rattle.schedule.specs.Sound.{desk_of}
-use Rattle.schedule.specs.Standing.{reply_of}
+use Rattle.schedule.specs.Standing.{reply_of, is_clash_refusal}
 use Rattle.schedule.proofs.DeskLemmas.{holds_derivation, sound-derivation}
-use Rattle.schedule.proofs.DerivationLemmas.{admission_no_clash, admitted_path, refused_fits, over_fits, added_fits}
+use Rattle.schedule.proofs.RefusalLemmas.{admission_refusal}
+use Rattle.schedule.proofs.DerivationLemmas.{admitted_path, refused_fits, over_fits, added_fits}
 use Rattle.schedule.proofs.derivations.add_parsed.Goals as goal
 
 pub returns-in_err-admitted-clause-fits : goal.returns-in_err-admitted-clause-fits
@@ -16,13 +19,18 @@ returns-in_err-admitted-clause-fits c users table limit sound =
     let p = err_from_is_err_and c.from_residual-in_err-admitted.result c.from_residual-in_err-admitted.ensures.1 in
     let known = c.args.desk.now.known in
     let none : known_at known (derivation_path c.args.derivation.now) ≡ None = search rules in
-    let why : (p.0 ≡ Memory) ⊎ (admit known c.args.derivation.now ≡ Err p.0) = rw (p.2, ← c.known-2.ensures) c.in_err-admitted.ensures in
+    let why : (p.0 ≡ Memory) ⊎ (admit known c.args.derivation.now ≡ Err p.0) = rw (p.2, ← c.known.ensures) c.in_err-admitted.ensures in
     rw p.1 (refused_fits users table limit c.args.desk.now c.args.derivation.now p.0 none why)
+
+-- no refusal of an admission is a clash
+admission_no_clash : (known : Known) (d : Derivation) (e : Refusal) → (e ≡ Memory) ⊎ (admit known d ≡ Err e) → is_clash_refusal e ≡ false
+admission_no_clash known d e (inl h) = rw h refl
+admission_no_clash known d e (inr h) = admission_refusal is_clash_refusal known d e (record { quota = refl; unread = refl; missing = refl; high = refl }) h
 
 pub returns-in_err-admitted-clause-no_clash : goal.returns-in_err-admitted-clause-no_clash
 returns-in_err-admitted-clause-no_clash c =
     let p = err_from_is_err_and c.from_residual-in_err-admitted.result c.from_residual-in_err-admitted.ensures.1 in
-    rw (p.1, p.2) (admission_no_clash c.known-2.result.now c.args.derivation.now c.in_err-admitted.field-0.0 c.in_err-admitted.ensures)
+    rw (p.1, p.2) (admission_no_clash c.known.result.now c.args.derivation.now c.in_err-admitted.field-0.0 c.in_err-admitted.ensures)
 
 pub returns-then-derivation_count-ge-MOST_DERIVATIONS-clause-fits :
     goal.returns-then-derivation_count-ge-MOST_DERIVATIONS-clause-fits

@@ -1,25 +1,30 @@
-use Rattle.std.proofs.Common.{◌≡◌, true, false, refl, sym, ◌∙◌, ap, Some}
-use Rattle.std.specs.Prelude.{is_some}
+use Rattle.std.proofs.Common.{◌≡◌, refl, sym, ◌∙◌, Some, None}
 use Rattle.model.specs.Steps.{outcome}
-use Rattle.model.specs.Worlds.{tree_at}
-use Rattle.schedule.specs.Sound.{sources_at}
-use Rattle.schedule.proofs.DeskLemmas.{not_held, held_same, held_known}
+use Rattle.model.specs.Worlds.{held_at}
+use Rattle.schedule.specs.Sound.{desk_of}
+use Rattle.schedule.proofs.DeskLemmas.{held_is}
 use Rattle.schedule.proofs.fetch.fetch.Goals as goal
 
-pub returns-then-not-holds-clause-serves : goal.returns-then-not-holds-clause-serves
-unfolding outcome
-returns-then-not-holds-clause-serves c setup reach _ = rw (not_held c.args.table.now.sources c.args.desk.now.known.sources c.args.path.now (sym c.if-not-holds.ensures)) refl
+pub returns-in_err-clone-in-Some-clause-not_held : goal.returns-in_err-clone-in-Some-clause-not_held
+returns-in_err-clone-in-Some-clause-not_held c none =
+    let found = c.in-Some.ensures ∙ held_is c.args.table.now.sources c.args.desk.now.known.sources c.args.path.now c.requires in
+    cc
 
 pub returns-in_ok-clone-in-Some-clause-serves : goal.returns-in_ok-clone-in-Some-clause-serves
 unfolding outcome
 returns-in_ok-clone-in-Some-clause-serves c setup reach =
-    let found : tree_at c.args.path.now (sources_at c.args.table.now.sources c.args.desk.now.known.sources) ≡ Some c.in-Some.tree.now =
-    held_same c.args.table.now.sources c.args.desk.now.known.sources c.args.path.now c.requires (sym c.if-not-holds.ensures) ∙ sym c.in-Some.ensures in
+    let found : held_at c.args.path.now (desk_of c.args.table.now.sources c.args.desk.now) ≡ Some c.in-Some.tree.now =
+    sym (c.in-Some.ensures ∙ held_is c.args.table.now.sources c.args.desk.now.known.sources c.args.path.now c.requires) in
     rw (found, c.in_ok-clone-in-Some.ensures.cases) refl
+
+pub returns-in_ok-clone-in-Some-clause-not_held : goal.returns-in_ok-clone-in-Some-clause-not_held
+returns-in_ok-clone-in-Some-clause-not_held c none =
+    let found = c.in-Some.ensures ∙ held_is c.args.table.now.sources c.args.desk.now.known.sources c.args.path.now c.requires in
+    cc
 
 pub returns-in-None-clause-serves : goal.returns-in-None-clause-serves
 unfolding outcome
-returns-in-None-clause-serves c setup reach =
-    let there : is_some (tree_at c.args.path.now c.args.table.now.sources) ≡ true =
-    held_known c.args.table.now.sources c.args.desk.now.known.sources c.args.path.now c.requires (sym c.if-not-holds.ensures) in
-    let none : false ≡ true = ap is_some c.in-None.ensures ∙ there in cc
+returns-in-None-clause-serves c setup reach _ =
+    let none : held_at c.args.path.now (desk_of c.args.table.now.sources c.args.desk.now) ≡ None =
+    sym (c.in-None.ensures ∙ held_is c.args.table.now.sources c.args.desk.now.known.sources c.args.path.now c.requires) in
+    rw none refl

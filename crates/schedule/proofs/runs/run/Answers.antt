@@ -1,37 +1,39 @@
-use Rattle.std.proofs.Common.{◌≡◌, List, ◌∷◌, sym, ◌∙◌, ap}
-use Rattle.std.specs.Prelude.{map}
+use Rattle.std.proofs.Common.{List, ◌∷◌, rules, sym, ◌∙◌}
 use Rattle.std.specs.Vec.Iter.{into_iter_items}
-use Rattle.model.specs.Worlds.{Setup, nothing}
-use Rattle.model.specs.Steps.{Event as EventValue, replies_to, answers}
+use Rattle.model.specs.Worlds.{Setup}
 use Rattle.schedule.specs.declared.events.Event.{Event}
-use Rattle.schedule.specs.Standing.{setup_for, event_of, answer_of}
-use Rattle.schedule.proofs.RunLemmas.{Going, starts, goes_on, ends, none_hashed, none_left}
+use Rattle.schedule.specs.Standing.{setup_for}
+use Rattle.schedule.proofs.RunLemmas.{Going, starts, goes_on, ends, all_actors, all_same, all_isolated, others_private}
 use Rattle.schedule.proofs.runs.run.Goals as goal
 
 pub loop-event-init : goal.loop-event-init
 loop-event-init c =
     rw c.into_iter-event-iterator.ensures.into_iter_gives.0
-    (starts (setup_for c.args.users c.args.limits) c.in_ok-core.core c.in_ok-given.given.items c.args.events.items c.in_ok-core.ensures.setup c.in_ok-core.ensures.world (λ texts. none_hashed texts c.in_ok-core.core c.in_ok-core.ensures.stored) c.in_ok-given.ensures.items)
+    (starts (setup_for c.args.users c.args.limits) c.in_ok-core.core c.in_ok-given.given.items c.args.events.items c.in_ok-core.ensures.setup c.in_ok-core.ensures.world c.in_ok-core.ensures.stored c.in_ok-given.ensures.items)
 
 pub loop-event-preserved : goal.loop-event-preserved
 loop-event-preserved c =
     let setup : Setup = setup_for c.args.users c.args.limits in
-    let all : List EventValue = map event_of c.args.events.items in
     let rest : List Event = into_iter_items c.next.new.self in
-    let before : Going setup all c.loop-event.core c.loop-event.given.items (c.in-Some.event ∷ rest) = rw c.in-Some.ensures.steps.0 at c.loop-event.invariant in
-    let after = goes_on setup all c.loop-event.core c.loop-event.given.items c.in-Some.event rest c.step-reply.new.self c.step-reply.result before c.step-reply.ensures.step c.step-reply.ensures.setup c.step-reply.ensures.hashed c.step-reply.ensures.no_clash in
-    rw (c.in_ok-push.ensures.items, c.in_ok-actor.ensures.cases) after
+    let before : Going setup c.args.events.items c.loop-event.core c.loop-event.given.items (c.in-Some.event ∷ rest) = rw c.in-Some.ensures.steps.0 at c.loop-event.invariant in
+    goes_on setup c.args.events.items c.loop-event.core c.loop-event.given.items c.in-Some.event rest c.answer.new.core c.in_ok-answer.field-0 _ before c.in_ok-answer.ensures.actor c.in_ok-answer.ensures.step (search rules)
+
+pub returns-clause-actors : goal.returns-clause-actors
+returns-clause-actors c =
+    all_actors (setup_for c.args.users c.args.limits) c.args.events.items c.loop-event.core _
+    (ends _ _ _ c.loop-event.given.items (into_iter_items c.loop-event.event-iterator) _ c.loop-event.invariant (sym c.loop-event.event-iterator.rest.ok.0 ∙ c.in-None.ensures.steps.0) (search rules))
 
 pub returns-clause-same : goal.returns-clause-same
-returns-clause-same c clean memory =
-    ends (setup_for c.args.users c.args.limits) (map event_of c.args.events.items) c.loop-event.core c.loop-event.given.items (into_iter_items c.loop-event.event-iterator) c.loop-event.invariant
-    (none_left (into_iter_items c.loop-event.event-iterator) (sym c.loop-event.event-iterator.rest.ok.0 ∙ c.in-None.ensures.steps.0)) clean memory
+returns-clause-same c =
+    all_same (setup_for c.args.users c.args.limits) c.args.events.items c.loop-event.core _
+    (ends _ _ _ c.loop-event.given.items (into_iter_items c.loop-event.event-iterator) _ c.loop-event.invariant (sym c.loop-event.event-iterator.rest.ok.0 ∙ c.in-None.ensures.steps.0) (search rules))
 
 pub returns-clause-isolated : goal.returns-clause-isolated
-returns-clause-isolated c clean memory u =
-    let setup : Setup = setup_for c.args.users c.args.limits in
-    let all : List EventValue = map event_of c.args.events.items in
-    let told : map answer_of c.loop-event.given.items ≡ answers setup nothing all =
-    ends setup all c.loop-event.core c.loop-event.given.items (into_iter_items c.loop-event.event-iterator) c.loop-event.invariant
-    (none_left (into_iter_items c.loop-event.event-iterator) (sym c.loop-event.event-iterator.rest.ok.0 ∙ c.in-None.ensures.steps.0)) clean memory in
-    ap (replies_to u) told ∙ c.isolation.ensures setup all u
+returns-clause-isolated c =
+    all_isolated c.isolation.ensures (setup_for c.args.users c.args.limits) c.args.events.items c.loop-event.core _
+    (ends _ _ _ c.loop-event.given.items (into_iter_items c.loop-event.event-iterator) _ c.loop-event.invariant (sym c.loop-event.event-iterator.rest.ok.0 ∙ c.in-None.ensures.steps.0) (search rules))
+
+pub returns-clause-others : goal.returns-clause-others
+returns-clause-others c =
+    others_private c.isolation.ensures (setup_for c.args.users c.args.limits) c.args.events.items c.loop-event.core _
+    (ends _ _ _ c.loop-event.given.items (into_iter_items c.loop-event.event-iterator) _ c.loop-event.invariant (sym c.loop-event.event-iterator.rest.ok.0 ∙ c.in-None.ensures.steps.0) (search rules))

@@ -1,7 +1,8 @@
-use Rattle.std.proofs.Common.{sym, subst, refl, List, ℕ}
+use Rattle.std.proofs.Common.{sym, subst, refl, List, ℕ, ◌++◌}
 use Rattle.std.proofs.lemmas.List.{append-nil}
+use Rattle.std.specs.Io.KnownBytes.{Consumes}
 use Rattle.session.specs.Ahead.{Searched}
-use Rattle.session.proofs.RowLemmas.{consumes-none, consumes-more}
+use Rattle.session.proofs.RowLemmas.{consumes-none, consumes-more, consumes-end, on_err}
 use Rattle.session.proofs.AheadLemmas.{searched-none}
 use Rattle.session.proofs.ahead.read_ahead.Goals as goal
 use Rattle.session.proofs.ahead.read_ahead.Goals.{in-Users, in-Refused}
@@ -31,3 +32,25 @@ returns-in-loop-clause-users g c = λ f more e.
       | in-Users w ↦ rw (w.users-is, c.in_ok-extend_from_slice.ensures.items) (let look = rw w.in-Users.is at found in look more)
       | in-Refused w ↦ rw (w.users-is, c.in_ok-extend_from_slice.ensures.items) (let look = rw w.in-Refused.is at found in look more)
     ]
+
+-- ---- what was read where memory is refused
+
+pub returns-in_err-users-clause-err : goal.returns-in_err-users-clause-err
+returns-in_err-users-clause-err g c =
+    let s = rw c.in-Ok-Some.field-0-is at c.in-Ok-Some.ensures.ok in
+    let read : (input : List ℕ) × Consumes (g.R.Read.remaining c.args.reader.now) (g.R.Read.remaining c.read_some.new.reader) input = (c.loop.bytes.items, consumes-end _ _ _ c.loop.bytes.items _ c.in-Ok-Some.n c.if-n-eq0.true c.loop.invariant.0 s.1) in
+    on_err _ read
+
+pub returns-in_err-extend_from_slice-clause-err : goal.returns-in_err-extend_from_slice-clause-err
+returns-in_err-extend_from_slice-clause-err g c =
+    let s = rw c.in-Ok-Some.field-0-is at c.in-Ok-Some.ensures.ok in
+    let piece = c.split_at.result.0.now in
+    let read : (input : List ℕ) × Consumes (g.R.Read.remaining c.args.reader.now) (g.R.Read.remaining c.read_some.new.reader) input = (c.loop.bytes.items ++ piece, consumes-more _ _ _ c.loop.bytes.items piece c.loop.invariant.0 (rw c.split_at.ensures.front s.1)) in
+    on_err _ read
+
+pub returns-in_err-users-2-clause-err : goal.returns-in_err-users-2-clause-err
+returns-in_err-users-2-clause-err g c =
+    let s = rw c.in-Ok-Some.field-0-is at c.in-Ok-Some.ensures.ok in
+    let piece = c.split_at.result.0.now in
+    let read : (input : List ℕ) × Consumes (g.R.Read.remaining c.args.reader.now) (g.R.Read.remaining c.read_some.new.reader) input = (c.loop.bytes.items ++ piece, consumes-more _ _ _ c.loop.bytes.items piece c.loop.invariant.0 (rw c.split_at.ensures.front s.1)) in
+    on_err _ read

@@ -1,8 +1,7 @@
 use Rattle.std.proofs.Common.{refl, [], ◌++◌}
-use Rattle.session.proofs.RowLemmas.{err-is}
+use Rattle.session.proofs.RowLemmas.{err-is, consumes-none, consumes-more, consumes-end}
+use Rattle.session.proofs.ProgressLemmas.{progress-none, early-here, early-weakened, early-finished, finished-flushed, by_memory, by_input, by_output}
 use Rattle.model.specs.Lines.{lines_of}
-use Rattle.session.proofs.RowLemmas.{consumes-none, consumes-more, consumes-end}
-use Rattle.session.proofs.ProgressLemmas.{progress-none, stopped-here, stopped-finished, finished-flushed, by_memory, by_input, by_output}
 use Rattle.session.proofs.serving.serve.Goals as goal
 
 pub loop-init : goal.loop-init
@@ -11,13 +10,23 @@ loop-init g c = ([], consumes-none _, rw (c.new-held.ensures.items, c.new-sessio
 pub returns-in_err-n-clause-err : goal.returns-in_err-n-clause-err
 returns-in_err-n-clause-err g c =
     let i = c.loop.invariant in
-    err-is _ _ _ c.from_residual.ensures.1 (i.0 ++ [], consumes-more _ _ _ i.0 [] i.1 c.in_err-n.ensures.err, stopped-here g.A.Answer.answers c.args.answer.now (g.W.Write.contents c.args.writer.now) _ _ i.0 _ _ [] c.in_err-n.field-0.0 (by_input _ c.in_err-n.ensures.fault.0) i.2)
+    err-is _ _ _ c.from_residual.ensures.1 (
+      i.0 ++ [],
+      consumes-more _ _ _ i.0 [] i.1 c.in_err-n.ensures.err,
+      early-weakened _ _ _ _ _ _ _ _ _ (λ b. absurd b)
+          (early-here g.A.Answer.answers c.args.answer.now (g.W.Write.contents c.args.writer.now) _ _ i.0 _ _ [] c.in_err-n.field-0.0 (by_input _ c.in_err-n.ensures.fault.0) i.2),
+    )
 
 pub returns-in_err-finish-clause-err : goal.returns-in_err-finish-clause-err
 returns-in_err-finish-clause-err g c =
     let i = c.loop.invariant in
     let s = rw c.in-Some.is at c.in_ok-n.ensures.ok in
-    err-is _ _ _ c.from_residual-in_err-finish.ensures.1 (i.0, consumes-end _ _ _ i.0 _ c.in-Some.n c.if-n-eq0.true i.1 s.1, c.in_err-finish.ensures.err c.args.answer.now (g.W.Write.contents c.args.writer.now) i.0 i.2)
+    err-is _ _ _ c.from_residual-in_err-finish.ensures.1 (
+      i.0,
+      consumes-end _ _ _ i.0 _ c.in-Some.n c.if-n-eq0.true i.1 s.1,
+      early-weakened _ _ _ _ _ _ _ _ _ (λ t. s.2 c.if-n-eq0.true)
+          (c.in_err-finish.ensures.err c.args.answer.now (g.W.Write.contents c.args.writer.now) i.0 i.2),
+    )
 
 pub returns-in_err-flush-clause-err : goal.returns-in_err-flush-clause-err
 returns-in_err-flush-clause-err g c =
@@ -26,7 +35,7 @@ returns-in_err-flush-clause-err g c =
     err-is _ _ _ c.from_residual-in_err-flush.ensures.1 (
       i.0,
       consumes-end _ _ _ i.0 _ c.in-Some.n c.if-n-eq0.true i.1 s.1,
-      stopped-finished g.A.Answer.answers c.args.answer.now c.finish.new.answer (g.W.Write.contents c.args.writer.now) (g.W.Write.contents c.finish.new.writer) (g.W.Write.contents c.flush.new.writer) (lines_of i.0) c.in_err-flush.field-0.0 (by_output _ c.in_err-flush.ensures.errors)
+      early-finished g.A.Answer.answers c.args.answer.now c.finish.new.answer (g.W.Write.contents c.args.writer.now) (g.W.Write.contents c.finish.new.writer) (g.W.Write.contents c.flush.new.writer) i.0 _ c.in_err-flush.field-0.0 (s.2 c.if-n-eq0.true) (by_output _ c.in_err-flush.ensures.errors)
           (c.in_ok-finish.ensures.ok c.args.answer.now (g.W.Write.contents c.args.writer.now) i.0 i.2) c.in_err-flush.ensures.kept,
     )
 
@@ -46,7 +55,12 @@ returns-in_err-feed-clause-err g c =
     let i = c.loop.invariant in
     let s = rw c.in-Some.is at c.in_ok-n.ensures.ok in
     let piece = c.split_at.result.0.now in
-    err-is _ _ _ c.from_residual-in_err-feed.ensures.1 (i.0 ++ piece, consumes-more _ _ _ i.0 piece i.1 (rw c.split_at.ensures.front s.1), c.in_err-feed.ensures.err c.args.answer.now (g.W.Write.contents c.args.writer.now) i.0 i.2)
+    err-is _ _ _ c.from_residual-in_err-feed.ensures.1 (
+      i.0 ++ piece,
+      consumes-more _ _ _ i.0 piece i.1 (rw c.split_at.ensures.front s.1),
+      early-weakened _ _ _ _ _ _ _ _ _ (λ b. absurd b)
+          (c.in_err-feed.ensures.err c.args.answer.now (g.W.Write.contents c.args.writer.now) i.0 i.2),
+    )
 
 pub loop-preserved : goal.loop-preserved
 loop-preserved g c =
@@ -57,5 +71,9 @@ loop-preserved g c =
 
 pub returns-clause-err : goal.returns-clause-err
 returns-clause-err g c =
-    let i = c.loop.invariant in
-    (i.0 ++ [], consumes-more _ _ _ i.0 [] i.1 (consumes-none _), stopped-here g.A.Answer.answers c.args.answer.now (g.W.Write.contents c.args.writer.now) _ _ i.0 _ _ [] _ (by_memory _ refl) i.2)
+    let i = c.loop.invariant in (
+      i.0 ++ [],
+      consumes-more _ _ _ i.0 [] i.1 (consumes-none _),
+      early-weakened _ _ _ _ _ _ _ _ _ (λ b. absurd b)
+          (early-here g.A.Answer.answers c.args.answer.now (g.W.Write.contents c.args.writer.now) _ _ i.0 _ _ [] _ (by_memory _ refl) i.2),
+    )

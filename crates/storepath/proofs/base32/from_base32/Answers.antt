@@ -4,7 +4,7 @@ use Rattle.std.proofs.lemmas.List.{take_all}
 use Rattle.model.specs.Paths.{digits_of, number_of}
 use Rattle.storepath.proofs.NumberLemmas.{IsFolded-zeros}
 use Rattle.storepath.proofs.DigitLemmas.{length-digits_of, not_a_digit, is_digit, read_digit, small_number}
-use Rattle.storepath.proofs.PathTests.{digits_tested}
+use Rattle.storepath.proofs.PathTests.{base32_is_hash_part}
 use Rattle.storepath.proofs.base32.from_base32.Goals as goal
 
 pub returns-then-text-ne32-clause-refused : goal.returns-then-text-ne32-clause-refused
@@ -41,4 +41,4 @@ returns-clause-digits c =
     let text : List ℕ = c.args.text.now in
     let end : i ≡ 32 = omega arith in
     let read = subst (λ k. digits_of k (number_of c.loop-character.number) ≡ take k text) end c.loop-character.invariant.read in
-    digits_tested c.loop-character.number text (read ∙ take_all 32 text (omega arith))
+    sym (base32_is_hash_part c.loop-character.number text (read ∙ take_all 32 text (omega arith)))

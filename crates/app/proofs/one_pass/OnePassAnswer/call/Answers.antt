@@ -1,5 +1,6 @@
-use Rattle.book.proofs.AnsweringLemmas.{pass_answer}
+use Rattle.book.proofs.AnsweringLemmas.{only_answer}
 use Rattle.app.proofs.one_pass.OnePassAnswer.call.Goals as goal
 
 pub returns : goal.returns
-returns g c = pass_answer _ _ _ c.args.event c.call.result c.call.ensures.answered c.call.ensures.counted c.call.ensures.no_row
+returns g c =
+    rw (← c.self.view_is) (only_answer _ _ _ c.args.event c.call.result c.call.ensures.answered (λ some. c.call.ensures.alone some c.self.invariant) c.call.ensures.memory c.call.ensures.stopped)

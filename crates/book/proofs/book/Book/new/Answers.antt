@@ -1,4 +1,4 @@
-use Rattle.std.proofs.Common.{sym}
+use Rattle.std.proofs.Common.{sym, ◌∙◌}
 use Rattle.book.proofs.KeepingLemmas.{starts}
 use Rattle.book.proofs.book.Book.new.Goals as goal
 
@@ -8,4 +8,6 @@ invariant_of-result g c = (
   rw c.new.ensures.items (sym c.requires.calls.0),
   c.requires.calls.1,
   c.requires.calls.2,
+  c.requires.log.0 ∙ sym c.new.ensures.items,
+  c.requires.log.1,
 )

@@ -1,16 +1,15 @@
-use Rattle.std.proofs.Common.{◌≡◌, ℕ, length, true, refl, sym, ◌∙◌, Some, None, length-set}
+use Rattle.std.proofs.Common.{◌≡◌, ℕ, length, refl, sym, ◌∙◌, Some, None, length-set}
 use Rattle.std.specs.Prelude.{slice_get, position, bytes_eq}
 use Rattle.std.proofs.lemmas.Option.{slice_get_read}
 use Rattle.std.proofs.lemmas.List.Elements.{All-set, All-weaker}
 use Rattle.std.proofs.lemmas.Result.{on_err_weaker}
 use Rattle.model.specs.Worlds as worlds
-use Rattle.model.specs.Steps as steps
 use Rattle.schedule.specs.Stored.{Holdings}
 use Rattle.schedule.specs.Sound.{IsSound}
-use Rattle.schedule.specs.Standing.{world_of, setup_of, stored_in, event_of, request_of, HasHashed, desk_among}
+use Rattle.schedule.specs.Standing.{world_of, setup_of, stored_in, event_of, desk_among}
 use Rattle.schedule.proofs.DeskLemmas.{sound_kept}
-use Rattle.schedule.proofs.WorldLemmas.{IsPlace, place_found, place_below, place_is_among, no_place}
-use Rattle.schedule.proofs.StepLemmas.{step_unknown, told_result, refused_result, world_kept, kept_desk, not_taken, no_clash_result, on_ok_any}
+use Rattle.schedule.proofs.WorldLemmas.{IsPlace, place_found, place_below, no_place}
+use Rattle.schedule.proofs.StepLemmas.{step_unknown, step_at_once, told_result, refused_result, world_kept, kept_desk}
 use Rattle.schedule.proofs.state.Core.serve.Goals as goal
 
 pub returns-in_default-clause-refused : goal.returns-in_default-clause-refused
@@ -19,6 +18,15 @@ returns-in_default-clause-refused c _ =
     let setup : worlds.Setup = record { users = c.args.self.now.users.items; charge = c.args.self.now.limits.charge } in
     let none : position (λ n. bytes_eq n c.args.event.actor) c.args.self.now.users.items ≡ None = rw (← c.as_slice.ensures.value) (sym c.in_default.ensures) in
     step_unknown setup (desk_among c.args.self.now.table.sources c.args.self.now.users.items c.args.self.now.desks.items) (event_of c.args.event) (no_place c.args.self.now.users.items c.args.event.actor none)
+
+pub returns-in_default-clause-at_once : goal.returns-in_default-clause-at_once
+unfolding world_of setup_of
+returns-in_default-clause-at_once c why quick o =
+    let setup : worlds.Setup = record { users = c.args.self.now.users.items; charge = c.args.self.now.limits.charge } in
+    let none : position (λ n. bytes_eq n c.args.event.actor) c.args.self.now.users.items ≡ None = rw (← c.as_slice.ensures.value) (sym c.in_default.ensures) in
+    let unknown = step_unknown setup (desk_among c.args.self.now.table.sources c.args.self.now.users.items c.args.self.now.desks.items) (event_of c.args.event) (no_place c.args.self.now.users.items c.args.event.actor none) in
+    let is = sym unknown ∙ o in
+    cc
 
 pub invariant_of-self : goal.invariant_of-self
 invariant_of-self c = record {
@@ -53,11 +61,19 @@ returns-clause-refused c =
     refused_result setup c.args.self.now.table.sources c.serve_at.new.table.sources c.args.self.now.desks.items (event_of c.args.event) c.in-Some.place c.index_mut-desk.result.now c.serve_at.new.desk c.serve_at.result
     place here (c.serve_at.ensures.serves c.args.self.now.users.items)
 
-pub returns-clause-known : goal.returns-clause-known
-unfolding setup_of
-returns-clause-known c =
+pub returns-clause-at_once : goal.returns-clause-at_once
+unfolding world_of setup_of
+returns-clause-at_once c =
+    let setup : worlds.Setup = record { users = c.args.self.now.users.items; charge = c.args.self.now.limits.charge } in
     let at : position (λ n. bytes_eq n c.args.event.actor) c.args.self.now.users.items ≡ Some c.in-Some.place = rw (← c.as_slice.ensures.value) (sym c.in-Some.ensures) in
-    on_ok_any c.serve_at.result _ (place_is_among c.args.self.now.users.items c.args.event.actor c.in-Some.place (place_found c.args.self.now.users.items c.args.event.actor c.in-Some.place at))
+    let place : IsPlace c.args.self.now.users.items c.args.event.actor c.in-Some.place = place_found c.args.self.now.users.items c.args.event.actor c.in-Some.place at in
+    let here : slice_get c.args.self.now.desks.items c.in-Some.place ≡ Some c.index_mut-desk.result.now =
+    slice_get_read c.args.self.now.desks.items (length c.args.self.now.users.items) c.in-Some.place c.index_mut-desk.result.now (sym c.args.self.now.paired) (place_below c.args.self.now.users.items c.args.event.actor c.in-Some.place at) c.index_mut-desk.ensures.value in
+    step_at_once setup c.args.self.now.table.sources c.args.self.now.desks.items (event_of c.args.event) c.in-Some.place c.index_mut-desk.result.now c.serve_at.result place here c.serve_at.ensures.at_once
+
+pub returns-clause-taken : goal.returns-clause-taken
+unfolding stored_in
+returns-clause-taken c = c.serve_at.ensures.taken
 
 pub returns-clause-kept : goal.returns-clause-kept
 unfolding world_of setup_of stored_in
@@ -80,12 +96,3 @@ returns-clause-setup c = refl
 pub returns-clause-stored : goal.returns-clause-stored
 unfolding stored_in
 returns-clause-stored c = c.serve_at.ensures.stored
-
-pub returns-clause-no_clash : goal.returns-clause-no_clash
-unfolding HasHashed world_of setup_of
-returns-clause-no_clash c texts clean hashed inside =
-    let setup : worlds.Setup = record { users = c.args.self.now.users.items; charge = c.args.self.now.limits.charge } in
-    let w : worlds.World = desk_among c.args.self.now.table.sources c.args.self.now.users.items c.args.self.now.desks.items in
-    let at : position (λ n. bytes_eq n c.args.event.actor) c.args.self.now.users.items ≡ Some c.in-Some.place = rw (← c.as_slice.ensures.value) (sym c.in-Some.ensures) in
-    let known : worlds.is_user setup c.args.event.actor ≡ true = place_is_among c.args.self.now.users.items c.args.event.actor c.in-Some.place (place_found c.args.self.now.users.items c.args.event.actor c.in-Some.place at) in
-    no_clash_result c.serve_at.result (λ e. not_taken c.paths_differ.ensures texts clean c.args.self.now.table.sources hashed (steps.sight_of setup w c.args.event.actor) (request_of c.args.event.request) (rw known at inside) (c.serve_at.ensures.taken e))

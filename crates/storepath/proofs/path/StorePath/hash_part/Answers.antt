@@ -1,13 +1,26 @@
-use Rattle.std.proofs.Common.{◌≤◌, length, arith, ◌∙◌, ap}
+use Rattle.std.proofs.Common.{◌≡◌, ◌≤◌, ℕ, List, length, arith, ◌∙◌, ap, sym}
 use Rattle.std.specs.Arc.{arc_slice_items}
+use Rattle.model.specs.Paths.{base32, IsPath}
 use Rattle.storepath.specs.Parts.{hash_part_of}
 use Rattle.storepath.proofs.PathLemmas.{length-IsPath, hash_part_of-path_text}
+use Rattle.storepath.proofs.PathTests.{base32_is_hash_part}
 use Rattle.storepath.proofs.path.StorePath.hash_part.Goals as goal
 
-pub slice_bounds-result-end : goal.slice_bounds-result-end
-slice_bounds-result-end c =
+-- a path's digits are those of its hash part
+hash_part_of-path : (text : List ℕ) (path : IsPath text) → hash_part_of text ≡ base32 path.hash_part
+hash_part_of-path text path = ap hash_part_of path.is ∙ hash_part_of-path_text path.hash_part path.name
+
+pub slice_bounds-from_digits-end : goal.slice_bounds-from_digits-end
+slice_bounds-from_digits-end c =
     let long : 44 ≤ length c.deref.result.now = rw c.deref.ensures.value (length-IsPath (arc_slice_items c.self.inside.text) c.self.invariant) in
     omega arith
 
+pub from_digits-requires : goal.from_digits-requires
+from_digits-requires c =
+    let text = arc_slice_items c.self.inside.text in
+    rw c.deref.ensures.value (base32_is_hash_part c.self.invariant.hash_part (hash_part_of text) (sym (hash_part_of-path text c.self.invariant)))
+
 pub returns-clause-part : goal.returns-clause-part
-returns-clause-part c = rw (← c.self.view_is, c.deref.ensures.value) (c.self.invariant, ap hash_part_of c.self.invariant.is ∙ hash_part_of-path_text c.self.invariant.hash_part c.self.invariant.name)
+returns-clause-part c =
+    let text = arc_slice_items c.self.inside.text in
+    rw (← c.self.view_is, c.from_digits.ensures, c.deref.ensures.value) (c.self.invariant, hash_part_of-path text c.self.invariant)

@@ -1,0 +1,80 @@
+-- The calls of the one pass are one history.
+use Rattle.std.proofs.Common.{◌≡◌, Bool, true, false, List, [], ◌∷◌, ◌++◌, map, refl, sym, ap, ◌∙◌, subst, append_assoc}
+use Rattle.std.specs.Prelude.{not, filter}
+use Rattle.std.proofs.lemmas.List.{map_push, append-nil}
+use Rattle.model.specs.Worlds.{Setup}
+use Rattle.model.specs.Steps.{Event, Reply}
+use Rattle.model.specs.Talk as talk
+use Rattle.model.specs.Talk.{Quiet, Named, Declined, Asked, asked_in}
+use Rattle.session.specs.Serving.{Link, Chain}
+use Rattle.book.specs.declared.history.Row.{Row}
+use Rattle.book.specs.Callers.{Caller}
+use Rattle.book.specs.Histories.{IsLegal}
+use Rattle.book.specs.Answering.{has_no_row, IsOnlyAnswer}
+use Rattle.book.proofs.HistoryLemmas.{legal_none}
+use Rattle.app.specs.Replaying.{recorded_in, pair_of, IsOneHistory}
+
+-- what one row has of recorded events
+abbrev recorded_of : talk.Row → List (Event × Reply)
+recorded_of row = recorded_in (row ∷ [])
+
+recorded_first : (event : Event) (reply : Reply) (rest : List (Event × Reply)) (b : Bool) → not (has_no_row reply) ≡ b
+    → filter (λ p. not (has_no_row p.1)) ((event, reply) ∷ rest) ≡ filter (λ p. not (has_no_row p.1)) ((event, reply) ∷ []) ++ filter (λ p. not (has_no_row p.1)) rest
+recorded_first event reply rest true is = rw is refl
+recorded_first event reply rest false is = rw is refl
+
+recorded-cons : (row : talk.Row) (rows : List talk.Row) → recorded_in (row ∷ rows) ≡ recorded_of row ++ recorded_in rows
+recorded-cons Quiet rows = refl
+recorded-cons (Named users) rows = refl
+recorded-cons (Declined why) rows = refl
+recorded-cons (Asked event reply) rows = recorded_first event reply (asked_in rows) (not (has_no_row reply)) refl
+
+-- the sure rows after some lines, from those before
+record GoesOn (setup : Setup) (old new : List Row) (pairs : List (Event × Reply)) : Type 0 where
+  is : map pair_of new ≡ map pair_of old ++ pairs
+  legal : IsLegal setup new
+
+stays : (setup : Setup) (old new : List Row) → new ≡ old → IsLegal setup old → GoesOn setup old new []
+stays setup old new same legal = record {
+  is = ap (λ (rows : List Row). map pair_of rows) same ∙ sym (append-nil (map pair_of old));
+  legal = subst (IsLegal setup) (sym same) legal;
+}
+
+module _ (setup : Setup) where
+  asks : (old new : Caller) (event : Event) (reply : Reply) (b : Bool) → has_no_row reply ≡ b → IsOnlyAnswer setup old event reply new → IsLegal setup old.sure
+      → GoesOn setup old.sure new.sure (recorded_of (Asked event reply))
+  asks old new event reply true is answer legal = rw is (stays setup old.sure new.sure (answer.kept is) legal)
+  asks old new event reply false is answer legal =
+      let a = answer.row is in
+      let pair : pair_of a.0 ≡ (event, reply) = λ i. (a.1 i, a.2 i) in
+      rw is (record {
+        is = ap (λ (rows : List Row). map pair_of rows) a.3 ∙ (map_push pair_of old.sure a.0 ∙ ap (λ p. map pair_of old.sure ++ p ∷ []) pair);
+        legal = a.4;
+      })
+
+  link : (old new : Caller) (row : talk.Row) → Link (IsOnlyAnswer setup) old row new → IsLegal setup old.sure → GoesOn setup old.sure new.sure (recorded_of row)
+  link old new Quiet h legal = stays setup old.sure new.sure (ap (λ (p : Caller). p.sure) h) legal
+  link old new (Named users) h legal = stays setup old.sure new.sure (ap (λ (p : Caller). p.sure) h) legal
+  link old new (Declined why) h legal = stays setup old.sure new.sure (ap (λ (p : Caller). p.sure) h) legal
+  link old new (Asked event reply) h legal = asks old new event reply (has_no_row reply) refl h legal
+
+  chain : (old new : Caller) (rows : List talk.Row) → Chain (IsOnlyAnswer setup) old rows new → IsLegal setup old.sure → GoesOn setup old.sure new.sure (recorded_in rows)
+  chain old new [] h legal = stays setup old.sure new.sure (ap (λ (p : Caller). p.sure) h) legal
+  chain old new (row ∷ rows) h legal =
+      let one = link old h.0 row h.1 legal in
+      let more = chain h.0 new rows h.2 one.legal in
+      record {
+        is = more.is ∙ (ap (λ p. p ++ recorded_in rows) one.is
+            ∙ (append_assoc (map pair_of old.sure) (recorded_of row) (recorded_in rows) ∙ ap (λ p. map pair_of old.sure ++ p) (sym (recorded-cons row rows))));
+        legal = more.legal;
+      }
+
+  -- the calls of a pass that had made none
+  pub one_history : (old new : Caller) (rows : List talk.Row) → old.sure ≡ [] → Chain (IsOnlyAnswer setup) old rows new → IsOneHistory setup (recorded_in rows)
+  one_history old new rows none h =
+      let all = chain old new rows h (subst (IsLegal setup) (sym none) (legal_none setup)) in
+      record {
+        history = new.sure;
+        is = all.is ∙ ap (λ (rs : List Row). map pair_of rs ++ recorded_in rows) none;
+        legal = all.legal;
+      }

@@ -1,0 +1,25 @@
+use Rattle.std.proofs.Common.{[], refl, inl, inr}
+use Rattle.session.proofs.RowLemmas.{err-is, consumes-none}
+use Rattle.book.specs.Callers.{newcomer}
+use Rattle.app.proofs.InputLemmas.{nothing_answered, by_memory}
+use Rattle.app.proofs.replay.serve_users.Goals as goal
+
+pub returns-in_err-core-clause-err : goal.returns-in_err-core-clause-err
+returns-in_err-core-clause-err g c = err-is _ _ _ c.from_residual.ensures.1 (λ are. record {
+  input = [];
+  read = consumes-none _;
+  first = newcomer 0;
+  last = newcomer 0;
+  new = refl;
+  done = nothing_answered _ _ _ _ _ _ (by_memory _ (elim c.in_err-core.ensures.refused [ inl memory ↦ memory | inr bad ↦ cc ]));
+})
+
+pub returns-in_err-blank-clause-err : goal.returns-in_err-blank-clause-err
+returns-in_err-blank-clause-err g c = err-is _ _ _ c.from_residual-in_err-blank.ensures.1 (λ are. record {
+  input = [];
+  read = consumes-none _;
+  first = newcomer 0;
+  last = newcomer 0;
+  new = refl;
+  done = nothing_answered _ _ _ _ _ _ (by_memory _ refl);
+})

@@ -1,0 +1,8 @@
+use Rattle.schedule.specs.Standing.{setup_of}
+use Rattle.app.proofs.replay.serve_users.Given as goal
+
+abbrev pub ghosts-serve_core-J-Ledger : goal.ghosts-serve_core-J-Ledger
+ghosts-serve_core-J-Ledger g a = record { name = a.blank.calls.name; parts = a.blank.calls.parts }
+
+abbrev pub ghosts-serve_core-J-Naming : goal.ghosts-serve_core-J-Naming
+ghosts-serve_core-J-Naming g a = record { setup = setup_of a.core; table = a.blank.log.table.shared.table_id }

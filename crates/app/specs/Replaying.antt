@@ -1,0 +1,85 @@
+-- What the lines of a file mean for the store of the program.
+use Rattle.std.specs.Prelude.{◌≡◌, ◌≤◌, true, false, not, ℕ, List, [], ◌++◌, map, filter, length, Option, option_map, MatchOption, take}
+use mathlib.Core.List.{IsPrefix}
+use Rattle.std.specs.Io.KnownBytes.{Appends, Consumes, IsAtEnd}
+use Rattle.model.specs.declared.refusal.Refusal.{Refusal}
+use Rattle.model.specs.declared.refusal.Refusal.TheVariants.{BadUsers}
+use Rattle.model.specs.Worlds.{Setup}
+use Rattle.model.specs.Steps.{Event, Reply}
+use Rattle.model.specs.Lines.{lines_of}
+use Rattle.model.specs.Talk as talk
+use Rattle.model.specs.Talk.{fresh, after_all, Talks, text_from, asked_in, users_in}
+use Rattle.schedule.specs.Standing.{reply_of}
+use Rattle.session.specs.Serving.{Finished, EndedEarly}
+use Rattle.session.specs.declared.ahead.Ahead.{Ahead}
+use Rattle.session.specs.Ahead.{NoUsersSoFar, LooksAhead}
+use Rattle.book.specs.declared.history.Row.{Row}
+use Rattle.book.specs.Histories.{event_in, IsLegal}
+use Rattle.book.specs.Callers.{Caller}
+use Rattle.book.specs.Answering.{has_no_row, IsOnlyAnswer}
+
+-- the events that the lines made, with their replies, but for those that were answered 90 or 92
+abbrev pub recorded_in : List talk.Row → List (Event × Reply)
+recorded_in rows = filter (λ p. not (has_no_row p.1)) (asked_in rows)
+
+-- a row of a history in the terms of the model
+abbrev pub pair_of : Row → Event × Reply
+pair_of r = (event_in r, reply_of r.reply)
+
+-- one legal history has just these events with these replies, in their order
+pub record IsOneHistory (setup : Setup) (pairs : List (Event × Reply)) : Type 0 where
+  pub history : List Row
+  pub is : map pair_of history ≡ pairs
+  pub legal : IsLegal setup history
+
+-- the replies are those of one store, for the users whom the lines name and under that charge; where they name none, no event was made
+abbrev pub AreAnswered : ℕ → List talk.Row → Type 0
+AreAnswered charge rows =
+    MatchOption (users_in rows) (asked_in rows ≡ []) (λ users. IsOneHistory (record { users = users; charge = charge }) (recorded_in rows))
+
+-- all of these lines were answered, and all of their text was written
+pub record Replayed (charge : ℕ) (blank written : Option (List ℕ)) (lines : List (List ℕ)) : Type 0 where
+  pub rows : List talk.Row
+  pub talks : Talks fresh lines rows
+  pub going : (after_all fresh rows).refused ≡ false
+  pub text : Appends blank written (text_from 1 rows)
+  pub answered : AreAnswered charge rows
+
+-- the first of these lines were answered, and a beginning of their text was written;
+-- it ends with 14 where a line of users was refused, and then all of the text was
+pub record ReplayedInPart (charge : ℕ) (blank written : Option (List ℕ)) (lines : List (List ℕ)) (why : Refusal) : Type 0 where
+  pub rows : List talk.Row
+  pub done : List (List ℕ)
+  pub first : IsPrefix done lines
+  pub talks : Talks fresh done rows
+  pub count : ℕ
+  pub text : Appends blank written (take count (text_from 1 rows))
+  pub users : why ≡ BadUsers → ((after_all fresh rows).refused ≡ true) × (length (text_from 1 rows) ≤ count)
+  pub answered : AreAnswered charge rows
+
+-- ---- on the way there
+
+-- all that a reader gave was answered by a new store, through its one pass
+pub record Served (setup : Setup) (start end blank written : Option (List ℕ)) : Type 0 where
+  pub input : List ℕ
+  pub read : Consumes start end input
+  pub ended : IsAtEnd end
+  pub first : Caller
+  pub last : Caller
+  pub new : first.sure ≡ []
+  pub done : Finished (IsOnlyAnswer setup) first last blank written (lines_of input)
+
+-- the first lines of what it gave were
+pub record ServedInPart (setup : Setup) (start end blank written : Option (List ℕ)) (why : Refusal) : Type 0 where
+  pub input : List ℕ
+  pub read : Consumes start end input
+  pub first : Caller
+  pub last : Caller
+  pub new : first.sure ≡ []
+  pub done : EndedEarly (IsOnlyAnswer setup) first last blank written input (IsAtEnd end) why
+
+-- this was found by reading ahead in an input, of which that is left behind the bytes that were read
+pub record IsReadAhead (all left : List ℕ) (ahead : Ahead) : Type 0 where
+  pub cut : all ≡ ahead.bytes.items ++ left
+  pub none : ahead.has_failed ≡ true → NoUsersSoFar ahead.bytes.items
+  pub users : ahead.has_failed ≡ false → LooksAhead all (option_map (λ u. u.items) ahead.users)

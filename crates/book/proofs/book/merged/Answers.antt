@@ -1,0 +1,25 @@
+use Rattle.std.proofs.Common.{◌≡◌, ℕ, ◌+◌, List, [], ◌∷◌, ◌++◌, map, sum, ap, ◌∙◌, rules, arith}
+use Rattle.std.proofs.lemmas.List.{map_push}
+use Rattle.std.proofs.lemmas.List.Sums.{sum_by-append, sum_by-cons}
+use Rattle.std.proofs.lemmas.List.Elements.{All-push}
+use Rattle.book.specs.Callers.{Caller, Matches}
+use Rattle.book.proofs.book.merged.Goals as goal
+
+-- the sum of a list with one number more
+sum_push : (ns : List ℕ) (n : ℕ) → sum (ns ++ n ∷ []) ≡ sum ns + n
+sum_push ns n = let one = sum_by-cons (λ x. x) n [] in sum_by-append (λ x. x) ns (n ∷ []) ∙ omega (arith, one)
+
+pub loop-pass-preserved : goal.loop-pass-preserved
+loop-pass-preserved g c =
+    let i = c.loop-pass.invariant in
+    let pass = c.in-Some.pass in
+    let left = c.pop.new.self.items in
+    let items = ap (λ (ps : List Caller). sum (map (λ p. p.calls) ps)) c.in-Some.ensures.items ∙ (ap sum (map_push (λ (p : Caller). p.calls) left pass) ∙ sum_push (map (λ (p : Caller). p.calls) left) pass.calls) in (
+      omega (arith, i.0, c.merge.ensures.parts, c.into_calls.ensures.0, c.in-Some.ensures.len),
+      omega (arith, i.1, c.merge.ensures.amount, c.into_calls.ensures.1, items, c.compare.ensures.calls),
+      c.compare.ensures.same ∙ i.2,
+      λ rest. i.3 (rw c.in-Some.ensures.items (All-push (Matches c.args.log.now.rows c.args.log.now.stopped) left pass rest (rw i.2 at c.compare.ensures.matches))),
+    )
+
+pub returns-clause-matches : goal.returns-clause-matches
+returns-clause-matches g c = c.loop-pass.invariant.3 (search rules)

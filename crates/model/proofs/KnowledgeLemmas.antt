@@ -1,0 +1,200 @@
+-- What a desk knows of each derivation is what the definition says of it over what was known before.
+use Rattle.std.proofs.Common.{◌≡◌, ℕ, zero, suc, Bool, ◌⊎◌, inl, inr, refl, sym, ◌∙◌, ap, subst, List, [], ◌∷◌, ◌++◌, take, length, Option, Some, None, Result, Ok, Err}
+use Rattle.std.specs.Prelude.{nat_le, bytes_eq, if◌then◌else◌, slice_get}
+use Rattle.std.proofs.lemmas.Bool.{cond_both}
+use Rattle.std.proofs.lemmas.List.{append-nil, append_assoc}
+use Rattle.model.specs.declared.refusal.Refusal.{Refusal}
+use Rattle.model.specs.declared.refusal.Refusal.TheVariants.{UnknownUser, Quota, TooLarge, BadDerivation, NotHeld}
+use Rattle.model.specs.Derivations.{Derivation}
+use Rattle.model.specs.DerivationTexts.{derivation_of_text}
+use Rattle.model.specs.Classes.{Admission, known_at, derivation_path, admit}
+use Rattle.model.specs.Paths.{source_path}
+use Rattle.model.specs.Worlds.{Source, Desk, World, nothing, Setup, is_user, is_within, has_source, with_source, held_at, known_of, with_derivation}
+use Rattle.model.specs.Steps.{Request, AddSource, AddDerivation, Fetch, Event, Reply, Path, Content, longest_derivation, told_of, admitted, admit_new, reaches, Sight, sight_of, News, Quiet, Outcome, becomes, need, room, heard, outcome, outcome_of, desk_after, after, world_after}
+use Rattle.model.specs.Laws.{desk_reached, adding, IsAdmitted, KnowledgeIsAdmitted}
+use Rattle.model.proofs.BoolLemmas.{same_bytes}
+
+-- ---- what a request does to what its user knows
+
+-- a desk that keeps its derivations, and may have more sources
+record Keeps (old later : Desk) : Type 0 where
+  derivations : later.derivations ≡ old.derivations
+  added : List Source
+  sources : later.sources ≡ old.sources ++ added
+
+-- a desk with one derivation more, which a request adds and the definition admits
+record Admits (r : Request) (old later : Desk) : Type 0 where
+  text : List ℕ
+  asked : r ≡ AddDerivation text
+  derivation : Derivation
+  read : derivation_of_text text ≡ Some derivation
+  new : known_at (known_of old) (derivation_path derivation) ≡ None
+  admission : Admission
+  admitted : admit (known_of old) derivation ≡ Ok admission
+  derivations : later.derivations ≡ old.derivations ++ admission ∷ []
+  sources : later.sources ≡ old.sources
+
+-- one of the two, of the user who makes the request
+abbrev Grows : Request → Desk → Desk → Type 0
+Grows r old later = Keeps old later ⊎ Admits r old later
+
+-- a request lets the desk of its user grow, or is refused
+abbrev DeskFits : Request → Desk → Outcome → Type 0
+DeskFits r old (Err why) = Unit {0}
+DeskFits r old (Ok c) = Grows r old c.desk
+
+keeps_itself : (d : Desk) → Keeps d d
+keeps_itself d = record { derivations = refl; added = []; sources = sym (append-nil d.sources) }
+
+need_fits : {X : Type 0} (r : Request) (old : Desk) (why : Refusal) (o : Option X) (next : X → Outcome) → ((x : X) → o ≡ Some x → DeskFits r old (next x)) → DeskFits r old (need why o next)
+need_fits r old why None next f = tt
+need_fits r old why (Some x) next f = f x refl
+
+room_fits : (setup : Setup) (r : Request) (old d : Desk) (reply : Reply) → Grows r old d → DeskFits r old (room setup d reply)
+room_fits setup r old d reply grows = cond_both (is_within setup d) (becomes d reply) (Err Quota) (DeskFits r old) (λ yes. grows) (λ no. tt)
+
+admitted_fits : (setup : Setup) (d : Desk) (text : List ℕ) (derivation : Derivation) → derivation_of_text text ≡ Some derivation → known_at (known_of d) (derivation_path derivation) ≡ None → (o : Result Admission Refusal) → admit (known_of d) derivation ≡ o
+    → DeskFits (AddDerivation text) d (admitted setup d o)
+admitted_fits setup d text derivation read new (Ok a) told =
+    let admits : Admits (AddDerivation text) d (with_derivation a d) = record { text = text; asked = refl; derivation = derivation; read = read; new = new; admission = a; admitted = told; derivations = refl; sources = refl } in
+    room_fits setup (AddDerivation text) d (with_derivation a d) (told_of a) (inr admits)
+admitted_fits setup d text derivation read new (Err why) told = tt
+
+admit_new_fits : (setup : Setup) (d : Desk) (text : List ℕ) (derivation : Derivation) → derivation_of_text text ≡ Some derivation → (o : Option Admission) → known_at (known_of d) (derivation_path derivation) ≡ o → DeskFits (AddDerivation text) d (admit_new setup d derivation o)
+admit_new_fits setup d text derivation read (Some a) there = inl (keeps_itself d)
+admit_new_fits setup d text derivation read None new = admitted_fits setup d text derivation read new (admit (known_of d) derivation) refl
+
+-- the case of each request
+outcome_fits : (setup : Setup) (s : Sight) (r : Request) → DeskFits r s.desk (outcome setup s r)
+unfolding outcome
+outcome_fits setup s (AddSource name tree) =
+    let path : List ℕ = source_path tree name in
+    let source : Source = record { path = path; tree = tree } in
+    let keeps : Keeps s.desk (with_source source s.desk) = record { derivations = refl; added = source ∷ []; sources = refl } in
+    cond_both (has_source path s.desk) (becomes s.desk (Path path)) (room setup (with_source source s.desk) (Path path)) (DeskFits (AddSource name tree) s.desk)
+    (λ yes. inl (keeps_itself s.desk))
+    (λ no. room_fits setup (AddSource name tree) s.desk (with_source source s.desk) (Path path) (inl keeps))
+outcome_fits setup s (AddDerivation text) =
+    let next : Derivation → Outcome = λ derivation. admit_new setup s.desk derivation (known_at (known_of s.desk) (derivation_path derivation)) in
+    cond_both (nat_le (length text) longest_derivation) (need BadDerivation (derivation_of_text text) next) (Err TooLarge) (DeskFits (AddDerivation text) s.desk)
+    (λ yes. need_fits (AddDerivation text) s.desk BadDerivation (derivation_of_text text) next (λ derivation read. admit_new_fits setup s.desk text derivation read (known_at (known_of s.desk) (derivation_path derivation)) refl))
+    (λ no. tt)
+outcome_fits setup s (Fetch path) =
+    need_fits (Fetch path) s.desk NotHeld (held_at path s.desk) (λ tree. becomes s.desk (Content tree)) (λ tree found. inl (keeps_itself s.desk))
+
+-- ---- one event
+
+-- the desk of a user keeps its derivations, or the event is his own and adds one
+abbrev GrowsBy : Event → List ℕ → Desk → Desk → Type 0
+GrowsBy e u old later = Keeps old later ⊎ ((u ≡ e.actor) × Admits e.request old later)
+
+-- news leave it at that
+heard_grows : (e : Event) (u : List ℕ) (reached : Bool) (news : News) (old d : Desk) → GrowsBy e u old d → GrowsBy e u old (heard reached news d)
+heard_grows e u reached Quiet old d grows = grows
+
+-- the actor's own desk
+own_grows : (e : Event) (u : List ℕ) (w : World) (d : Desk) → u ≡ e.actor → Grows e.request (w e.actor) d → GrowsBy e u (w u) d
+own_grows e u w d same grows = elim (subst (λ x. Grows e.request (w x) d) (sym same) grows) [ inl keeps ↦ inl keeps | inr admits ↦ inr (same, admits) ]
+
+-- any desk after an outcome
+desk_after_grows : (e : Event) (o : Outcome) (u : List ℕ) (reached : Bool) (w : World) → DeskFits e.request (w e.actor) o → GrowsBy e u (w u) (desk_after e.actor o u reached (w u))
+desk_after_grows e (Err why) u reached w fits = inl (keeps_itself (w u))
+desk_after_grows e (Ok c) u reached w fits =
+    heard_grows e u reached c.news (w u) (if bytes_eq u e.actor then c.desk else w u)
+    (cond_both (bytes_eq u e.actor) c.desk (w u) (GrowsBy e u (w u)) (λ yes. own_grows e u w c.desk (same_bytes u e.actor yes) fits) (λ no. inl (keeps_itself (w u))))
+
+after_grows : (setup : Setup) (w : World) (e : Event) (u : List ℕ) → GrowsBy e u (w u) (after setup w e u)
+after_grows setup w e u =
+    desk_after_grows e (outcome_of setup w e) u (reaches setup w u e.actor) w
+    (cond_both (is_user setup e.actor) (outcome setup (sight_of setup w e.actor) e.request) (Err UnknownUser) (DeskFits e.request (w e.actor)) (λ yes. outcome_fits setup (sight_of setup w e.actor) e.request) (λ no. tt))
+
+-- ---- what was admitted
+
+-- what stands in a list with one more at its end is an element of the list, or the last one
+push_cases : {A : Type 0} (xs : List A) (y : A) (i : ℕ) (x : A) → slice_get (xs ++ y ∷ []) i ≡ Some x
+    → ((slice_get xs i ≡ Some x) × (take i (xs ++ y ∷ []) ≡ take i xs)) ⊎ ((Some y ≡ Some x) × (take i (xs ++ y ∷ []) ≡ xs))
+push_cases [] y zero x h = inr (h, refl)
+push_cases [] y (suc i) x h = cc
+push_cases (z ∷ xs) y zero x h = inl (h, refl)
+push_cases (z ∷ xs) y (suc i) x h = elim (push_cases xs y i x h) [
+  | inl p ↦ inl (p.0, ap (λ rest. z ∷ rest) p.1)
+  | inr p ↦ inr (p.0, ap (λ rest. z ∷ rest) p.1)
+]
+
+-- all that the desk of a user knows was admitted
+abbrev Knows : Setup → List Event → List ℕ → Type 0
+Knows setup events u = (i : ℕ) (a : Admission) → slice_get (desk_reached setup events u).derivations i ≡ Some a → IsAdmitted setup events u i a
+
+-- what was admitted before one event more
+admitted_before : (setup : Setup) (done : List Event) (e : Event) (u : List ℕ) (i : ℕ) (a : Admission) → IsAdmitted setup done u i a
+    → take i (desk_reached setup done u).derivations ≡ take i (desk_reached setup (done ++ e ∷ []) u).derivations → (more : List Source) → (desk_reached setup (done ++ e ∷ []) u).sources ≡ (desk_reached setup done u).sources ++ more
+    → IsAdmitted setup (done ++ e ∷ []) u i a
+admitted_before setup done e u i a old same more sources = record {
+  before = old.before;
+  text = old.text;
+  later = old.later ++ e ∷ [];
+  cut = ap (λ events. events ++ e ∷ []) old.cut ∙ append_assoc old.before (adding u old.text ∷ old.later) (e ∷ []);
+  derivation = old.derivation;
+  read = old.read;
+  new = old.new;
+  admitted = old.admitted;
+  derivations = old.derivations ∙ same;
+  added = old.added ++ more;
+  sources = sources ∙ ap (λ all. all ++ more) old.sources ∙ append_assoc (desk_reached setup old.before u).sources old.added more;
+}
+
+-- what one event more admitted
+admitted_last : (setup : Setup) (done : List Event) (e : Event) (u : List ℕ) (i : ℕ) (a : Admission) → u ≡ e.actor → (admits : Admits e.request (desk_reached setup done u) (desk_reached setup (done ++ e ∷ []) u)) → admits.admission ≡ a
+    → (desk_reached setup done u).derivations ≡ take i (desk_reached setup (done ++ e ∷ []) u).derivations → IsAdmitted setup (done ++ e ∷ []) u i a
+admitted_last setup done e u i a own admits is derivations =
+    let event : e ≡ adding u admits.text = λ j. record { actor = (sym own) j; request = (admits.asked) j } in
+    record {
+      before = done;
+      text = admits.text;
+      later = [];
+      cut = ap (λ last. done ++ last ∷ []) event;
+      derivation = admits.derivation;
+      read = admits.read;
+      new = admits.new;
+      admitted = admits.admitted ∙ ap Ok is;
+      derivations = derivations;
+      added = [];
+      sources = admits.sources ∙ sym (append-nil (desk_reached setup done u).sources);
+    }
+
+-- the world after one event more
+world_after-push : (setup : Setup) (w : World) (events : List Event) (e : Event) → world_after setup w (events ++ e ∷ []) ≡ after setup (world_after setup w events) e
+unfolding world_after
+world_after-push setup w [] e = refl
+world_after-push setup w (x ∷ events) e = world_after-push setup (after setup w x) events e
+
+-- one event more
+knows_more : (setup : Setup) (done : List Event) (e : Event) (u : List ℕ) → Knows setup done u → Knows setup (done ++ e ∷ []) u
+knows_more setup done e u knows i a h =
+    let old : Desk = desk_reached setup done u in
+    let new : Desk = desk_reached setup (done ++ e ∷ []) u in
+    let grows : GrowsBy e u old new = subst (λ (w : World). GrowsBy e u old (w u)) (sym (world_after-push setup nothing done e)) (after_grows setup (world_after setup nothing done) e u) in
+    elim grows [
+      | inl keeps ↦
+          admitted_before setup done e u i a (knows i a (ap (λ ds. slice_get ds i) (sym keeps.derivations) ∙ h))
+          (ap (λ ds. take i ds) (sym keeps.derivations)) keeps.added keeps.sources
+      | inr p ↦
+          let admits = p.1 in
+          let taken : take i (old.derivations ++ admits.admission ∷ []) ≡ take i new.derivations = ap (λ ds. take i ds) (sym admits.derivations) in
+          elim (push_cases old.derivations admits.admission i a (ap (λ ds. slice_get ds i) (sym admits.derivations) ∙ h)) [
+            | inl q ↦ admitted_before setup done e u i a (knows i a q.0) (sym q.1 ∙ taken) [] (admits.sources ∙ sym (append-nil old.sources))
+            | inr q ↦ let is : admits.admission ≡ a = cc in admitted_last setup done e u i a p.0 admits is (sym q.1 ∙ taken)
+          ]
+    ]
+
+-- ---- runs
+
+-- events that follow others
+knows_all : (setup : Setup) (u : List ℕ) (done events : List Event) → Knows setup done u → Knows setup (done ++ events) u
+knows_all setup u done [] knows = subst (λ all. Knows setup all u) (sym (append-nil done)) knows
+knows_all setup u done (e ∷ events) knows =
+    subst (λ all. Knows setup all u) (append_assoc done (e ∷ []) events) (knows_all setup u (done ++ e ∷ []) events (knows_more setup done e u knows))
+
+pub knowledge_admitted : KnowledgeIsAdmitted
+unfolding world_after
+knowledge_admitted setup events u = knows_all setup u [] events (λ i a h. cc)

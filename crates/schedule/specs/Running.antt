@@ -1,0 +1,21 @@
+-- What a run gives where memory is refused to some of its events.
+use Rattle.std.specs.Prelude.{◌≡◌, ℕ, if◌then◌else◌, not, List, [], ◌∷◌, filter}
+use Rattle.model.specs.Worlds.{Setup, nothing}
+use Rattle.model.specs.Steps.{Event, Answer, answers, replies_to, replies}
+use Rattle.model.specs.Striking.{strike}
+use Rattle.schedule.specs.Standing.{is_memory}
+
+-- the events that were answered otherwise than with 90
+abbrev pub events_served : List Event → List Answer → List Event
+events_served [] told = []
+events_served (e ∷ events) [] = []
+events_served (e ∷ events) (a ∷ told) = if is_memory a.reply then events_served events told else e ∷ events_served events told
+
+-- the answers other than 90
+abbrev pub without_memory : List Answer → List Answer
+without_memory told = filter (λ a. not (is_memory a.reply)) told
+
+-- the answers to these events are those of private desks, and each user's are those to the events that can reach him
+pub record ArePrivate (setup : Setup) (events : List Event) (told : List Answer) : Type 0 where
+  pub same : told ≡ answers setup nothing events
+  pub isolated : (u : List ℕ) → replies_to u told ≡ replies setup u (strike setup u events)

@@ -1,0 +1,78 @@
+//! The hash parts of store paths (Nix Reference Manual, "Store Path").
+
+ghost use Rattle.std.specs.Prelude.{◌≡◌, ◌↔◌, true, false, length, IfOk, IfErr};
+ghost use Rattle.std.specs.List.{list_all};
+ghost use Rattle.model.specs.Paths.{is_digit_32};
+ghost use Rattle.storepath.specs.Parts.{is_hash_part};
+
+use crate::base32::from_base32;
+use model::Refusal;
+use std::marker::Model;
+use std::{fmt, str};
+
+/// The hash part of a store path: 32 digits of base 32. Hash parts stand in the order of their
+/// digits.
+#[derive(Clone, Copy, Debug, PartialEq, Eq, PartialOrd, Ord, Hash)]
+pub struct HashPart {
+    digits: [u8; 32],
+}
+
+impl Model for HashPart {
+    ghost use Rattle.std.specs.Prelude.{◌≡◌, List, ℕ, true};
+    ghost use Rattle.storepath.specs.Parts.{is_hash_part};
+
+    ghost Value = { List ℕ };
+
+    ghost view = { λ part. part.digits };
+
+    ghost invariant = { λ part. is_hash_part part.digits ≡ true };
+
+    ghost inverse = { λ digits. record { digits = digits } };
+}
+
+impl HashPart {
+    /// The hash part of its digits.
+    pub(crate) fn from_digits(text: &[u8]) -> HashPart
+        requires { is_hash_part text.now ≡ true }
+        ensures { result ≡ text.now }
+    {
+        let mut digits = [0; 32];
+        digits.copy_from_slice(text);
+        HashPart { digits }
+    }
+
+    /// The hash part of a text.
+    ///
+    /// The one error is `BadPath`, 24: the text is not 32 digits. It takes no memory.
+    pub fn read(text: &[u8]) -> Result<HashPart, Refusal>
+        ensures read { IfOk result (λ part. (part ≡ text.now) × (is_hash_part text.now ≡ true)) }
+        ensures refused { (result ≡ Err Refusal.BadPath) ↔ (is_hash_part text.now ≡ false) }
+        ensures error { IfErr result (λ why. why ≡ Refusal.BadPath) }
+    {
+        from_base32(text)?;
+        Ok(HashPart::from_digits(text))
+    }
+
+    /// The 32 digits.
+    pub fn bytes(&self) -> &[u8]
+        ensures value { result.now ≡ self.now }
+        ensures length { length self.now ≡ 32 }
+        ensures digits { list_all is_digit_32 self.now ≡ true }
+    {
+        &self.digits
+    }
+}
+
+/// The digits of the hash part.
+impl fmt::Display for HashPart {
+    ghost use Rattle.std.specs.Prelude.{Some};
+
+    ghost output = { λ part. Some part };
+
+    fn fmt<W: fmt::Write>(&self, f: &mut fmt::Formatter<W>) -> fmt::Result {
+        match str::from_utf8(self.bytes()) {
+            Ok(text) => f.write_str(text),
+            Err(_) => unreachable!(),
+        }
+    }
+}
