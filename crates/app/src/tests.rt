@@ -77,7 +77,7 @@ fn broken_devices(rt: HostRuntime) -> Result<(), Fail> {
     );
     assert!(rt; matches!(unread, Err(Refusal::InputFault)));
     assert_eq!(rt; status_of(&unread), 3);
-    let lines = "users alice\n".as_bytes();
+    let mut lines = "users alice\n".as_bytes();
     let unwritten = replay(
         &rt,
         alloc,
