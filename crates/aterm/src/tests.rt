@@ -23,7 +23,7 @@ const MADE: &[u8] =
     b"Derive([(\"out\",\"\",\"\",\"\")],[(\"/nix/store/00000000000000000000000000000000-a.drv\",[\"out\"])],[\"/nix/store/10000000000000000000000000000000-s\"],\"p\",\"nb\",[],[(\"name\",\"a\"),(\"out\",\"\")])";
 
 fn text(alloc: Global, bytes: &[u8]) -> Result<Text, Fail> {
-    Ok(Text::new(Vec::from_slice(alloc, bytes)?))
+    Ok(Text::new(Vec::from_slice(alloc, bytes)?)?)
 }
 
 /// Whether a text is refused as no derivation's.
