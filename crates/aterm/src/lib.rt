@@ -4,8 +4,6 @@
 mod derivation;
 mod laws;
 mod read;
-#[cfg(test)]
-mod tests;
 mod text;
 mod write;
 

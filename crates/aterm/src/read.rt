@@ -117,7 +117,8 @@ fn read_string<'a>(
     let mut characters = Vec::new(alloc);
     for _ in 0..rest.len() {
         if let Some(after) = rest.strip_prefix(b"\"".as_slice()) {
-            return Ok((Text::new(characters), after));
+            let text = Text::new(characters)?;
+            return Ok((text, after));
         }
         let (character, after) = read_character(rest)?;
         characters.push(character)?;

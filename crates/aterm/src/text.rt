@@ -1,34 +1,37 @@
 //! The strings of a derivation.
 
-ghost use Rattle.std.specs.Prelude.{◌≡◌};
+ghost use Rattle.std.specs.Prelude.{◌≡◌, IfOk};
 ghost use Rattle.model.specs.Derivations.{is_character, is_text};
 
 use std::alloc::AllocError;
 use std::cmp::Ordering;
 use std::marker::Model;
+use std::sync::ArcSlice;
 
-/// A string of a derivation, of any bytes.
+/// A string of a derivation, of any bytes. A copy shares them.
 ///
 /// A derivation's own strings have bytes 32 to 126, tabs, newlines and carriage returns alone.
 #[derive(Drop)]
 pub struct Text {
-    bytes: Vec<u8>,
+    bytes: ArcSlice<u8>,
 }
 
 impl Model for Text {
     ghost use Rattle.std.specs.Prelude.{List, ℕ};
+    ghost use Rattle.std.specs.Arc.{arc_slice_items};
 
     ghost Value = { List ℕ };
 
-    ghost view = { λ a. a.bytes.items };
+    ghost view = { λ a. arc_slice_items a.bytes };
 }
 
 impl Text {
-    /// The string of these bytes. It takes no memory.
-    pub fn new(bytes: Vec<u8>) -> Text
-        ensures { result ≡ bytes.items }
+    /// The string of these bytes, which are not copied. The one error is memory.
+    pub fn new(bytes: Vec<u8>) -> Result<Text, AllocError>
+        ensures { IfOk result (λ text. text ≡ bytes.items) }
     {
-        Text { bytes }
+        let bytes = ArcSlice::from_vec(bytes)?;
+        Ok(Text { bytes })
     }
 
     /// The bytes.
@@ -97,14 +100,16 @@ impl PartialOrd for Text {
     }
 }
 
-/// The copy is equal. It fails only where memory is refused.
+/// The copy is equal, and shares the bytes. It takes no memory; it fails only where there are 2^63 - 1
+/// copies.
 impl Clone for Text {
     ghost use Rattle.std.specs.Prelude.{◌≡◌};
 
     ghost is_clone = { λ text copy. copy ≡ text };
 
     fn clone(&self) -> Result<Text, AllocError> {
-        Ok(Text::new(self.bytes.clone()?))
+        let bytes = self.bytes.clone()?;
+        Ok(Text { bytes })
     }
 }
 

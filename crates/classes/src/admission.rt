@@ -32,7 +32,7 @@ fn masks_of(alloc: Global, known: &Known, inputs: &[StorePath]) -> Result<Vec<Te
             return Err(Refusal::MissingInput);
         };
         let digits = hex::encode(alloc, admitted.masked().as_slice())?;
-        masks.push(Text::new(digits.into_bytes()))?;
+        masks.push(Text::new(digits.into_bytes())?)?;
     }
     Ok(masks)
 }

@@ -4,8 +4,6 @@
 mod admission;
 mod class;
 mod known;
-#[cfg(test)]
-mod tests;
 
 pub use admission::{admit, admit_at, path_of};
 pub use class::{Admitted, Class};

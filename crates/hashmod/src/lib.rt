@@ -2,7 +2,5 @@
 #![tactic(auto)]
 
 mod digest;
-#[cfg(test)]
-mod tests;
 
 pub use digest::{fold, sha256};

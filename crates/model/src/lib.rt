@@ -5,8 +5,6 @@
 
 mod laws;
 mod refusal;
-#[cfg(test)]
-mod tests;
 
 pub use laws::{isolation, knowledge_is_admitted, knowledge_is_recursive, reach_is_least};
 pub use refusal::{Refusal, RewriteFault};

@@ -20,8 +20,6 @@ mod names;
 mod node;
 mod reading;
 mod strings;
-#[cfg(test)]
-mod tests;
 mod text_reader;
 mod text_writer;
 mod tree;

@@ -53,7 +53,7 @@ fn fetch(alloc: Global, actor: &[u8], path: &[u8]) -> Result<Event, Fail> {
 fn derivation(alloc: Global, actor: &[u8], text: &[u8]) -> Result<Event, Fail> {
     Ok(Event {
         actor: User::new(alloc, actor)?,
-        request: Request::AddDerivation(Text::new(Vec::from_slice(alloc, text)?)),
+        request: Request::AddDerivation(Text::new(Vec::from_slice(alloc, text)?)?),
     })
 }
 

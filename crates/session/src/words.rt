@@ -65,7 +65,7 @@ pub(crate) fn read_derivation(alloc: Global, user: &[u8], text: &[u8]) -> Result
     ensures { let wish = ToAddDerivation text.now in MatchResult result (IsReadAs user.now wish) (IsNotRead user.now wish) }
 {
     let actor = read_user(alloc, user)?;
-    let text = Text::new(Vec::from_slice(alloc, text)?);
+    let text = Text::new(Vec::from_slice(alloc, text)?)?;
     Ok(Event {
         actor,
         request: Request::AddDerivation(text),

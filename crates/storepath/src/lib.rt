@@ -7,8 +7,6 @@ mod kind;
 mod laws;
 mod name;
 mod path;
-#[cfg(test)]
-mod tests;
 
 pub use base32::{from_base32, to_base32};
 pub use hash_part::HashPart;

@@ -6,6 +6,7 @@ ghost use Rattle.model.specs.Paths.{is_name, is_name_byte};
 use model::Refusal;
 use std::alloc::{AllocError, Global};
 use std::marker::Model;
+use std::sync::ArcSlice;
 use std::{fmt, str};
 
 /// The greatest length of a name, in bytes.
@@ -28,21 +29,23 @@ pub fn is_name(text: &[u8]) -> bool
     text.iter().all(|byte| is_name_byte(*byte))
 }
 
-/// A name of a store path: 1 to 211 ASCII letters, digits and `+-._?=`, the first no dot.
+/// A name of a store path: 1 to 211 ASCII letters, digits and `+-._?=`, the first no dot. A copy
+/// shares the bytes.
 #[derive(Debug, Drop)]
 pub struct Name {
-    text: Vec<u8>,
+    text: ArcSlice<u8>,
 }
 
 impl Model for Name {
     ghost use Rattle.std.specs.Prelude.{◌≡◌, List, ℕ, true};
+    ghost use Rattle.std.specs.Arc.{arc_slice_items};
     ghost use Rattle.model.specs.Paths.{is_name};
 
     ghost Value = { List ℕ };
 
-    ghost view = { λ name. name.text.items };
+    ghost view = { λ name. arc_slice_items name.text };
 
-    ghost invariant = { λ name. is_name name.text.items ≡ true };
+    ghost invariant = { λ name. is_name (arc_slice_items name.text) ≡ true };
 }
 
 impl Name {
@@ -57,7 +60,7 @@ impl Name {
         if !is_name(text) {
             return Err(Refusal::BadName);
         }
-        let text = Vec::from_slice(alloc, text)?;
+        let text = ArcSlice::from_slice(alloc, text)?;
         Ok(Name { text })
     }
 
@@ -70,7 +73,8 @@ impl Name {
     }
 }
 
-/// The copy is equal. It fails only where memory is refused.
+/// The copy is equal, and shares the bytes. It takes no memory; it fails only where there are 2^63 - 1
+/// copies.
 impl Clone for Name {
     ghost use Rattle.std.specs.Prelude.{◌≡◌};
 

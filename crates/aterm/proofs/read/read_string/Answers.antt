@@ -9,7 +9,7 @@ pub returns-in-Some : goal.returns-in-Some
 returns-in-Some c =
     let here : is_at (codes "\"") c.loop.rest.now ≡ true = search rules in
     let after : drop 1 c.loop.rest.now ≡ c.in-Some.after.now = search rules in
-    loop_ends character_at (codes "\"") [] (string_at c.args.tag.now c.args.bytes.now) c.loop.characters.items _ [] c.loop.rest.now _ c.loop.invariant (omega arith) here after ∙ ap (λ t. Some (t, c.in-Some.after.now)) (sym c.new.ensures)
+    loop_ends character_at (codes "\"") [] (string_at c.args.tag.now c.args.bytes.now) c.loop.characters.items _ [] c.loop.rest.now _ c.loop.invariant (omega arith) here after ∙ ap (λ t. Some (t, c.in-Some.after.now)) (sym c.in_ok-text.ensures)
 
 pub returns-in_err-character : goal.returns-in_err-character
 returns-in_err-character c =
