@@ -3,7 +3,7 @@ use Rattle.std.proofs.Common.{◌≡◌, inl, inr, ℕ, ◌+◌, ◌<◌, true, 
 use Rattle.std.proofs.lemmas.List.{append-nil}
 use Rattle.model.specs.Lines.{lines_of}
 use Rattle.model.specs.Forms.{longest_line}
-use Rattle.model.specs.Talk.{Row, Quiet, Named, Declined, Asked, Seen, fresh, form_of, Gets, after, after_all, users_in}
+use Rattle.model.specs.Talk.{Row, Silent, Names, Refuses, Asks, Seen, fresh, form_of, Gets, after, after_all, users_in}
 use Rattle.session.specs.Serving.{HasNoNewline, IsHeld}
 use Rattle.session.specs.Ahead.{Searched, LooksAhead}
 use Rattle.session.proofs.LineLemmas.{nothing-held, lines-last}
@@ -12,10 +12,10 @@ use Rattle.session.proofs.WholeLinesLemmas.{no_lines, line-grown, ended-cut, hel
 -- the users that more rows name
 pub users_in-more : (rows : List Row) (row : Row) → users_in rows ≡ None → users_in (rows ++ row ∷ []) ≡ users_in (row ∷ [])
 users_in-more [] row e = refl
-users_in-more (Quiet ∷ rows) row e = users_in-more rows row e
-users_in-more (Named users ∷ rows) row e = cc
-users_in-more (Declined why ∷ rows) row e = users_in-more rows row e
-users_in-more (Asked event reply ∷ rows) row e = users_in-more rows row e
+users_in-more (Silent ∷ rows) row e = users_in-more rows row e
+users_in-more (Names users ∷ rows) row e = cc
+users_in-more (Refuses why ∷ rows) row e = users_in-more rows row e
+users_in-more (Asks event reply ∷ rows) row e = users_in-more rows row e
 
 pub searched-none : Searched [] fresh []
 searched-none = record {

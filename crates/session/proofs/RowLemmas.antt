@@ -6,7 +6,7 @@ use Rattle.std.proofs.lemmas.List.{append-nil, take_all, take_at, take-append-dr
 use Rattle.std.specs.Io.KnownBytes.{Appends, Consumes, Keeps, ReadConsumes, prepend_known}
 use Rattle.model.specs.Steps.{Event, Reply}
 use Rattle.model.specs.Lines.{Told}
-use Rattle.model.specs.Talk.{Row, Quiet, Named, Declined, Asked, Seen, Gets, after, after_all, Talks, form_of, text_from, row_text}
+use Rattle.model.specs.Talk.{Row, Silent, Names, Refuses, Asks, Seen, Gets, after, after_all, Talks, form_of, text_from, row_text}
 use Rattle.session.specs.Serving.{Link, Chain}
 
 pub talks-more : (seen : Seen) (done : List (List ℕ)) (rows : List Row) (line : List ℕ) (row : Row) → Talks seen done rows → (after_all seen rows).refused ≡ false → Gets (form_of (after_all seen rows) line) row → Talks seen (done ++ line ∷ []) (rows ++ row ∷ [])
@@ -24,10 +24,10 @@ chain-more R a [] b row c h l = (c, subst (λ x. Link R x row c) h l, refl)
 chain-more R a (r ∷ rows) b row c h l = (h.0, h.1, chain-more R h.0 rows b row c h.2 l)
 
 length-after : (seen : Seen) (row : Row) → length (after seen row).told ≡ length seen.told + 1
-length-after seen Quiet = omega (arith, length-append {A = Told})
-length-after seen (Named users) = omega (arith, length-append {A = Told})
-length-after seen (Declined why) = omega (arith, length-append {A = Told})
-length-after seen (Asked event reply) = omega (arith, length-append {A = Told})
+length-after seen Silent = omega (arith, length-append {A = Told})
+length-after seen (Names users) = omega (arith, length-append {A = Told})
+length-after seen (Refuses why) = omega (arith, length-append {A = Told})
+length-after seen (Asks event reply) = omega (arith, length-append {A = Told})
 
 pub length-after_all : (seen : Seen) (rows : List Row) → length (after_all seen rows).told ≡ length seen.told + length rows
 length-after_all seen [] = omega arith

@@ -3,15 +3,15 @@ use Rattle.std.specs.Prelude.{◌≡◌, ◌⊎◌, ℕ, true, List, [], ◌∷�
 use Rattle.model.specs.declared.refusal.Refusal.TheVariants.{BadUsers}
 use Rattle.model.specs.Lines.{lines_of}
 use Rattle.model.specs.Forms.{Form}
-use Rattle.model.specs.Talk.{Row, Named, Declined, Seen, fresh, after, after_all, Gets, Talks, users_in}
+use Rattle.model.specs.Talk.{Row, Names, Refuses, Seen, fresh, after, after_all, Gets, Talks, users_in}
 use Rattle.session.specs.Serving.{WholeLines, IsHeld}
 use Rattle.session.specs.declared.ahead.Look.{Look}
 use Rattle.session.specs.declared.ahead.Look.TheVariants.{Users, Refused, Other}
 
 -- a line of that form names these users, or is a line of users that is refused, or gets another row
 abbrev pub IsLook : Form → Seen → Seen → Look → Type 0
-IsLook form seen next (Users users) = Gets form (Named users.items)
-IsLook form seen next Refused = Gets form (Declined BadUsers)
+IsLook form seen next (Users users) = Gets form (Names users.items)
+IsLook form seen next Refused = Gets form (Refuses BadUsers)
 IsLook form seen next Other = (row : Row) × Gets form row × (next ≡ after seen row) × (users_in (row ∷ []) ≡ None) × (next.refused ≡ seen.refused)
 
 -- the whole lines of an input of which more may come name no users

@@ -7,14 +7,14 @@ use Rattle.model.specs.declared.refusal.Refusal.TheVariants.{OutputFault, Memory
 use Rattle.model.specs.Steps.{Event, Reply}
 use Rattle.model.specs.Lines.{lines_of}
 use Rattle.model.specs.Forms.{longest_line}
-use Rattle.model.specs.Talk.{Row, Quiet, Named, Declined, Asked, Seen, fresh, after_all, Talks, text_from}
+use Rattle.model.specs.Talk.{Row, Silent, Names, Refuses, Asks, Seen, fresh, after_all, Talks, text_from}
 
 -- one row's link of the chain: an event is one answer, any other line leaves the answer alone
 abbrev pub Link : {A : Type 0} → (A → Event → Reply → A → Type 0) → A → Row → A → Type 0
-Link answers old Quiet new = new ≡ old
-Link answers old (Named users) new = new ≡ old
-Link answers old (Declined why) new = new ≡ old
-Link answers old (Asked event reply) new = answers old event reply new
+Link answers old Silent new = new ≡ old
+Link answers old (Names users) new = new ≡ old
+Link answers old (Refuses why) new = new ≡ old
+Link answers old (Asks event reply) new = answers old event reply new
 
 -- the answers to the rows' events form one chain from old to new
 abbrev pub Chain : {A : Type 0} → (A → Event → Reply → A → Type 0) → A → List Row → A → Type 0

@@ -49,7 +49,7 @@ fn look_at(alloc: Global, session: &mut Session, line: &[u8]) -> Result<Look, Re
 {
     match session.read(alloc, line)? {
         Reading::Names(users) => Ok(Look::Users(users)),
-        Reading::Refused(Refusal::BadUsers) => Ok(Look::Refused),
+        Reading::Refuses(Refusal::BadUsers) => Ok(Look::Refused),
         reading => {
             session.answer(alloc, reading, &mut NoUsers)?;
             Ok(Look::Other)

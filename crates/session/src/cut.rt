@@ -1,6 +1,6 @@
 //! Cutting a text at a byte.
 
-ghost use Rattle.std.specs.Prelude.{◌≡◌, ◌<◌, IfOk, MatchOption, length, take};
+ghost use Rattle.std.specs.Prelude.{◌≡◌, ◌<◌, ◌∷◌, [], IfOk, MatchOption, length, take};
 ghost use Rattle.std.specs.List.{list_any};
 ghost use Rattle.model.specs.Lines.{cut_at, split};
 ghost use Rattle.model.specs.Forms.{is_empty_word};
@@ -30,6 +30,15 @@ impl<'a> Word<'a> {
     {
         self.bytes
     }
+}
+
+/// A whole text as one word.
+pub(crate) fn one_word(alloc: Global, text: &[u8]) -> Result<Vec<Word<'_>>, AllocError>
+    ensures { IfOk result (λ words. words.items ≡ text.now ∷ []) }
+{
+    let mut words = Vec::new(alloc);
+    words.push(Word { bytes: text })?;
+    Ok(words)
 }
 
 /// What stands before the first `byte` of a text, and what stands behind it.

@@ -27,6 +27,7 @@ mod streams;
 mod tests;
 mod texts;
 mod told;
+mod wishes;
 mod words;
 
 pub use ahead::{Ahead, read_ahead};

@@ -95,7 +95,7 @@ impl Session {
                 let text = answer_text(alloc, number, b"-", &Reply::Done)?;
                 Ok(text)
             }
-            Reading::Refused(why) => {
+            Reading::Refuses(why) => {
                 self.told.push(Told::nothing())?;
                 self.refused = is_bad_users(why) | self.refused;
                 let text = answer_text(alloc, number, b"-", &Reply::Refused(why))?;

@@ -1,7 +1,7 @@
 use Rattle.std.proofs.Common.{◌≡◌, ◌∙◌, sym, ap, subst, refl, List, ℕ, [], ◌∷◌, ◌++◌, Some, None, append_assoc}
 use Rattle.std.proofs.lemmas.List.{append-nil}
 use Rattle.model.specs.declared.refusal.Refusal.TheVariants.{BadUsers}
-use Rattle.model.specs.Talk.{Named, Declined, form_of, Gets}
+use Rattle.model.specs.Talk.{Names, Refuses, form_of, Gets}
 use Rattle.session.specs.Ahead.{Searched, LooksAhead}
 use Rattle.session.proofs.FeedLemmas.{HasNoNewline-before, HasNoNewline-none, rest-cut, piece-all, piece-line, input-line, piece-rest}
 use Rattle.session.proofs.AheadLemmas.{searched-held, searched-line, found-line}
@@ -19,9 +19,9 @@ returns-in-Users-clause-found c = λ input p more.
     let cut : rest ≡ line ++ 10 ∷ after = rest-cut rest line c.split_at.result.1.now after c.in-Some.at c.in-Some.ensures.0.high c.in-Some.ensures.1 c.split_at.ensures.front c.split_at.ensures.back c.split_at-in-Some.ensures.back in
     let held : Searched ((input ++ i.0) ++ line) c.loop-at.session c.hold.new.held.items = searched-held (input ++ i.0) c.loop-at.session c.loop-at.held.items line c.hold.new.held.items (i.2 input p) (HasNoNewline-before rest c.in-Some.at line c.split_at.ensures.front c.in-Some.ensures.0) c.in_ok-hold.ensures in
     let look = rw c.in-Users.is at c.in_ok-users.ensures.found in
-    let g : Gets (form_of c.loop-at.session c.hold.new.held.items) (Named c.in-Users.users.items) = subst (λ (t : List ℕ). Gets (form_of c.loop-at.session t) (Named c.in-Users.users.items)) c.as_slice.ensures.value look in
+    let g : Gets (form_of c.loop-at.session c.hold.new.held.items) (Names c.in-Users.users.items) = subst (λ (t : List ℕ). Gets (form_of c.loop-at.session t) (Names c.in-Users.users.items)) c.as_slice.ensures.value look in
     let all : ((input ++ i.0) ++ line) ++ 10 ∷ (after ++ more) ≡ (input ++ c.args.piece.now) ++ more = sym (append_assoc ((input ++ i.0) ++ line) (10 ∷ after) more) ∙ ap (λ t. t ++ more) (piece-line input i.0 line rest c.args.piece.now after i.1 cut) in
-    subst (λ (t : List ℕ). LooksAhead t (Some c.in-Users.users.items)) all (found-line ((input ++ i.0) ++ line) c.loop-at.session c.hold.new.held.items (Named c.in-Users.users.items) (Some c.in-Users.users.items) (after ++ more) held g refl (λ e. cc))
+    subst (λ (t : List ℕ). LooksAhead t (Some c.in-Users.users.items)) all (found-line ((input ++ i.0) ++ line) c.loop-at.session c.hold.new.held.items (Names c.in-Users.users.items) (Some c.in-Users.users.items) (after ++ more) held g refl (λ e. cc))
 
 pub returns-in-Refused-clause-found : goal.returns-in-Refused-clause-found
 returns-in-Refused-clause-found c = λ input p more.
@@ -32,9 +32,9 @@ returns-in-Refused-clause-found c = λ input p more.
     let cut : rest ≡ line ++ 10 ∷ after = rest-cut rest line c.split_at.result.1.now after c.in-Some.at c.in-Some.ensures.0.high c.in-Some.ensures.1 c.split_at.ensures.front c.split_at.ensures.back c.split_at-in-Some.ensures.back in
     let held : Searched ((input ++ i.0) ++ line) c.loop-at.session c.hold.new.held.items = searched-held (input ++ i.0) c.loop-at.session c.loop-at.held.items line c.hold.new.held.items (i.2 input p) (HasNoNewline-before rest c.in-Some.at line c.split_at.ensures.front c.in-Some.ensures.0) c.in_ok-hold.ensures in
     let look = rw c.in-Refused.is at c.in_ok-users.ensures.found in
-    let g : Gets (form_of c.loop-at.session c.hold.new.held.items) (Declined BadUsers) = subst (λ (t : List ℕ). Gets (form_of c.loop-at.session t) (Declined BadUsers)) c.as_slice.ensures.value look in
+    let g : Gets (form_of c.loop-at.session c.hold.new.held.items) (Refuses BadUsers) = subst (λ (t : List ℕ). Gets (form_of c.loop-at.session t) (Refuses BadUsers)) c.as_slice.ensures.value look in
     let all : ((input ++ i.0) ++ line) ++ 10 ∷ (after ++ more) ≡ (input ++ c.args.piece.now) ++ more = sym (append_assoc ((input ++ i.0) ++ line) (10 ∷ after) more) ∙ ap (λ t. t ++ more) (piece-line input i.0 line rest c.args.piece.now after i.1 cut) in
-    subst (λ (t : List ℕ). LooksAhead t None) all (found-line ((input ++ i.0) ++ line) c.loop-at.session c.hold.new.held.items (Declined BadUsers) None (after ++ more) held g refl (λ e. refl))
+    subst (λ (t : List ℕ). LooksAhead t None) all (found-line ((input ++ i.0) ++ line) c.loop-at.session c.hold.new.held.items (Refuses BadUsers) None (after ++ more) held g refl (λ e. refl))
 
 pub loop-at-preserved : goal.loop-at-preserved
 loop-at-preserved c =
