@@ -1,11 +1,11 @@
--- Names of users, and the number of words.
-use Rattle.std.proofs.Common.{◌≡◌, ℕ, zero, suc, ◌+◌, ◌-◌, ◌<◌, Bool, true, false, ◌&&◌, leb, ltb, eqb, List, [], ◌∷◌, get_or, take, length, length-take, Option, Some, None, refl, sym, ap, ◌∙◌, arith, inl, inr}
-use Rattle.std.specs.List.{list_all, list_any}
+-- Names of users, and how many words of a line are read.
+use Rattle.std.proofs.Common.{◌≡◌, ℕ, zero, suc, ◌-◌, ◌<◌, Bool, true, false, ◌&&◌, leb, ltb, List, [], ◌∷◌, get_or, take, length, length-take, refl, sym, ap, ◌∙◌, arith, inl, inr}
+use Rattle.std.specs.List.{list_all}
 use Rattle.std.proofs.lemmas.List.{take_all}
 use Rattle.std.proofs.lemmas.Bool.{cases_lt}
 use Rattle.model.specs.declared.refusal.Refusal.TheVariants.{BadUsers}
 use Rattle.model.specs.Worlds.{is_user_name, are_users, begins_with_letter}
-use Rattle.model.specs.Forms.{Refuses, names_form, users_form, is_empty_word, so_many}
+use Rattle.model.specs.Forms.{Refuses, names_form, users_form}
 
 and-false : (a : Bool) → (a && false) ≡ false
 and-false true = refl
@@ -50,25 +50,3 @@ pub users_form-take : (n : ℕ) (words : List (List ℕ)) → 65 < n → users_f
 users_form-take n words h =
     let e : n ≡ suc (n - 1) = omega arith in
     ap (λ m. users_form (take m words)) e ∙ users_form-take_more (n - 1) words (omega arith)
-
--- ---- as many words as there are kinds
-
-eqb-true : (m n : ℕ) → m ≡ n → eqb m n ≡ true
-eqb-true m n h = grind arith
-
-eqb-false : (m n : ℕ) → (m ≡ n → ⊥) → eqb m n ≡ false
-eqb-false m n h = grind (arith, h)
-
-pub so_many-empty : (n : ℕ) (words : List (List ℕ)) → list_any is_empty_word words ≡ true → so_many n words ≡ None
-so_many-empty n words e = rw e refl
-
--- the first words are so many, and so are all
-pub so_many-some : (n : ℕ) (words first : List (List ℕ)) → list_any is_empty_word words ≡ false → first ≡ take (n + 1) words → length first ≡ n → so_many n words ≡ Some first
-so_many-some n words first e t h =
-    let all : length words ≡ n = omega (arith, ap (λ (ws : List (List ℕ)). length ws) t, length-take (n + 1) words) in
-    rw (e, eqb-true (length words) n all) (ap Some (sym (t ∙ take_all (n + 1) words (omega arith))))
-
-pub so_many-none : (n : ℕ) (words first : List (List ℕ)) → list_any is_empty_word words ≡ false → first ≡ take (n + 1) words → (length first ≡ n → ⊥) → so_many n words ≡ None
-so_many-none n words first e t h =
-    let other : length words ≡ n → ⊥ = λ l. h (omega (arith, ap (λ (ws : List (List ℕ)). length ws) t, length-take (n + 1) words)) in
-    rw (e, eqb-false (length words) n other) refl

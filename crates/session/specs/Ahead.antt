@@ -1,5 +1,6 @@
 -- What is found by reading ahead.
-use Rattle.std.specs.Prelude.{◌≡◌, ◌⊎◌, ℕ, true, List, [], ◌∷◌, ◌++◌, Option, None, Some}
+use Rattle.std.specs.Prelude.{◌≡◌, ◌⊎◌, ℕ, true, List, [], ◌∷◌, ◌++◌, Option, None, Some, option_map}
+use Rattle.std.specs.Global.{Vec}
 use Rattle.model.specs.declared.refusal.Refusal.TheVariants.{BadUsers}
 use Rattle.model.specs.Lines.{lines_of}
 use Rattle.model.specs.Forms.{Form}
@@ -26,7 +27,8 @@ pub record Searched (input : List ℕ) (seen : Seen) (held : List ℕ) : Type 0 
   pub held_is : IsHeld so_far.lines.partial held
   pub seen_is : seen ≡ after_all fresh so_far.rows
 
--- the first lines of an input name these users; where there are none, they are all of its lines, or the last of them is a line of users that is refused
+-- the first lines of an input name these users;
+-- where there are none, they are all of its lines, or the last of them is a line of users that is refused
 pub record LooksAhead (input : List ℕ) (users : Option (List (List ℕ))) : Type 0 where
   pub rows : List Row
   pub done : List (List ℕ)
@@ -41,3 +43,11 @@ abbrev pub LooksOn : List ℕ → Seen → List ℕ → Look → Type 0
 LooksOn input seen held (Users users) = (more : List ℕ) → LooksAhead (input ++ more) (Some users.items)
 LooksOn input seen held Refused = (more : List ℕ) → LooksAhead (input ++ more) None
 LooksOn input seen held Other = Searched input seen held
+
+-- from any input on: what is found where these bytes come after it
+abbrev pub SearchesOn : (seen : Seen) (held bytes : List ℕ) (next : Seen) (held' : List ℕ) → Look → Type 0
+SearchesOn seen held bytes next held' look = (input : List ℕ) → Searched input seen held → LooksOn (input ++ bytes) next held' look
+
+-- and where it ends
+abbrev pub SearchesLast : (seen : Seen) (held : List ℕ) → Option (Vec (List ℕ)) → Type 0
+SearchesLast seen held users = (input : List ℕ) → Searched input seen held → LooksAhead input (option_map (λ u. u.items) users)

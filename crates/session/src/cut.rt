@@ -43,7 +43,8 @@ pub(crate) fn one_word(alloc: Global, text: &[u8]) -> Result<Vec<Word<'_>>, Allo
 
 /// What stands before the first `byte` of a text, and what stands behind it.
 pub(crate) fn cut(byte: u8, text: &[u8]) -> Option<(&[u8], &[u8])>
-    ensures parts { MatchOption result (cut_at byte text.now ≡ None) (λ r. cut_at byte text.now ≡ Some (r.0.now, r.1.now)) }
+    ensures parts { MatchOption result (cut_at byte text.now ≡ None)
+        (λ r. cut_at byte text.now ≡ Some (r.0.now, r.1.now)) }
     ensures shorter { MatchOption result (Unit {0}) (λ r. length r.1.now < length text.now) }
 {
     let at = memchr(byte, text)?;

@@ -49,7 +49,8 @@ pub(crate) fn read_text(alloc: Global, word: &[u8]) -> Result<Text, AllocError>
 
 /// The users of these words, where they are a list of users.
 pub(crate) fn read_users(alloc: Global, words: &[Word<'_>]) -> Result<Option<Vec<User>>, Refusal>
-    ensures read { IfOk result (λ users. MatchOption users (are_users words.now ≡ false) (λ users. (users.items ≡ words.now) × (are_users words.now ≡ true))) }
+    ensures read { IfOk result (λ users. MatchOption users (are_users words.now ≡ false)
+        (λ users. (users.items ≡ words.now) × (are_users words.now ≡ true))) }
     ensures memory { IfErr result (λ why. why ≡ Memory) }
 {
     let mut users = Vec::new(alloc);
