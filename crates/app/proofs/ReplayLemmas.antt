@@ -5,7 +5,7 @@ use Rattle.std.proofs.lemmas.List.{map_push, append-nil}
 use Rattle.model.specs.Worlds.{Setup}
 use Rattle.model.specs.Steps.{Event, Reply}
 use Rattle.model.specs.Talk as talk
-use Rattle.model.specs.Talk.{Quiet, Named, Declined, Asked, asked_in}
+use Rattle.model.specs.Talk.{Silent, Names, Refuses, Asks, asked_in}
 use Rattle.session.specs.Serving.{Link, Chain}
 use Rattle.book.specs.declared.history.Row.{Row}
 use Rattle.book.specs.Callers.{Caller}
@@ -24,10 +24,10 @@ recorded_first event reply rest true is = rw is refl
 recorded_first event reply rest false is = rw is refl
 
 recorded-cons : (row : talk.Row) (rows : List talk.Row) → recorded_in (row ∷ rows) ≡ recorded_of row ++ recorded_in rows
-recorded-cons Quiet rows = refl
-recorded-cons (Named users) rows = refl
-recorded-cons (Declined why) rows = refl
-recorded-cons (Asked event reply) rows = recorded_first event reply (asked_in rows) (not (has_no_row reply)) refl
+recorded-cons Silent rows = refl
+recorded-cons (Names users) rows = refl
+recorded-cons (Refuses why) rows = refl
+recorded-cons (Asks event reply) rows = recorded_first event reply (asked_in rows) (not (has_no_row reply)) refl
 
 -- the sure rows after some lines, from those before
 record GoesOn (setup : Setup) (old new : List Row) (pairs : List (Event × Reply)) : Type 0 where
@@ -42,7 +42,7 @@ stays setup old new same legal = record {
 
 module _ (setup : Setup) where
   asks : (old new : Caller) (event : Event) (reply : Reply) (b : Bool) → has_no_row reply ≡ b → IsOnlyAnswer setup old event reply new → IsLegal setup old.sure
-      → GoesOn setup old.sure new.sure (recorded_of (Asked event reply))
+      → GoesOn setup old.sure new.sure (recorded_of (Asks event reply))
   asks old new event reply true is answer legal = rw is (stays setup old.sure new.sure (answer.kept is) legal)
   asks old new event reply false is answer legal =
       let a = answer.row is in
@@ -53,10 +53,10 @@ module _ (setup : Setup) where
       })
 
   link : (old new : Caller) (row : talk.Row) → Link (IsOnlyAnswer setup) old row new → IsLegal setup old.sure → GoesOn setup old.sure new.sure (recorded_of row)
-  link old new Quiet h legal = stays setup old.sure new.sure (ap (λ (p : Caller). p.sure) h) legal
-  link old new (Named users) h legal = stays setup old.sure new.sure (ap (λ (p : Caller). p.sure) h) legal
-  link old new (Declined why) h legal = stays setup old.sure new.sure (ap (λ (p : Caller). p.sure) h) legal
-  link old new (Asked event reply) h legal = asks old new event reply (has_no_row reply) refl h legal
+  link old new Silent h legal = stays setup old.sure new.sure (ap (λ (p : Caller). p.sure) h) legal
+  link old new (Names users) h legal = stays setup old.sure new.sure (ap (λ (p : Caller). p.sure) h) legal
+  link old new (Refuses why) h legal = stays setup old.sure new.sure (ap (λ (p : Caller). p.sure) h) legal
+  link old new (Asks event reply) h legal = asks old new event reply (has_no_row reply) refl h legal
 
   chain : (old new : Caller) (rows : List talk.Row) → Chain (IsOnlyAnswer setup) old rows new → IsLegal setup old.sure → GoesOn setup old.sure new.sure (recorded_in rows)
   chain old new [] h legal = stays setup old.sure new.sure (ap (λ (p : Caller). p.sure) h) legal

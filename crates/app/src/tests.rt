@@ -1,5 +1,5 @@
-//! A file of lines in memory, and a reader and a writer that fail. `tests/program`, at the top of the
-//! repository, runs the built program.
+//! A file of lines in memory, and a reader and a writer that fail. `tests/program/run`, at the top of
+//! the repository, runs the built program.
 
 use crate::command_line::options;
 use crate::counted::Counted;

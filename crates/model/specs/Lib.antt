@@ -13,6 +13,8 @@ pub mod Steps
 pub mod Striking
 pub mod HashedTexts
 pub mod Lines
+pub mod Words
+pub mod Verbs
 pub mod Forms
 pub mod Talk
 pub mod Laws

@@ -6,14 +6,18 @@ use Rattle.model.specs.Refusals.{text_of_refusal}
 use Rattle.model.specs.TreeTexts.{tree_text_of}
 use Rattle.model.specs.Steps.{Event, Reply, Done, Path, Derivation, Content, Refused}
 use Rattle.model.specs.Lines.{Told, nothing_told}
-use Rattle.model.specs.Forms.{Form, Silent, Names, Refuses, Asks, UserWord, words_of_wish, IsRequestOf, AreWell, FirstIll, line_form}
+use Rattle.model.specs.declared.verb.WordKind.TheVariants as kind
+use Rattle.model.specs.Words.{AreWell, FirstIll}
+use Rattle.model.specs.Verbs.{kinds_of, IsRequestOf}
+use Rattle.model.specs.Forms.{Form, line_form}
+use Rattle.model.specs.Forms as form
 
 -- what a line got: nothing, ok since it names the users, a refusal by the session itself, or the reply to the event that was made of it
 pub data Row : Type 0 where
-  Quiet : Row
-  Named : (users : List (List ℕ)) → Row
-  Declined : Refusal → Row
-  Asked : Event → Reply → Row
+  Silent : Row
+  Names : (users : List (List ℕ)) → Row
+  Refuses : Refusal → Row
+  Asks : Event → Reply → Row
 
 -- ---- what is kept of earlier lines
 
@@ -37,10 +41,10 @@ is_bad_users why = false
 
 -- what is kept once a line has got its row
 abbrev pub after : Seen → Row → Seen
-after seen Quiet = record seen { told = seen.told ++ nothing_told ∷ [] }
-after seen (Named users) = record { begun = true; refused = seen.refused; told = seen.told ++ nothing_told ∷ [] }
-after seen (Declined why) = record { begun = seen.begun; refused = is_bad_users why || seen.refused; told = seen.told ++ nothing_told ∷ [] }
-after seen (Asked event reply) = record seen { told = seen.told ++ told_in reply ∷ [] }
+after seen Silent = record seen { told = seen.told ++ nothing_told ∷ [] }
+after seen (Names users) = record { begun = true; refused = seen.refused; told = seen.told ++ nothing_told ∷ [] }
+after seen (Refuses why) = record { begun = seen.begun; refused = is_bad_users why || seen.refused; told = seen.told ++ nothing_told ∷ [] }
+after seen (Asks event reply) = record seen { told = seen.told ++ told_in reply ∷ [] }
 
 abbrev pub after_all : Seen → List Row → Seen
 after_all seen [] = seen
@@ -54,11 +58,12 @@ form_of seen line = line_form seen.begun seen.told line
 
 -- a line of that form gets that row: a wish is refused for its first ill-formed word, and makes an event where there is none
 abbrev pub Gets : Form → Row → Type 0
-Gets Silent Quiet = Unit {0}
-Gets (Names users) (Named named) = named ≡ users
-Gets (Refuses why) (Declined told) = told ≡ why
-Gets (Asks user wish) (Declined told) = FirstIll (UserWord user ∷ words_of_wish wish) told
-Gets (Asks user wish) (Asked event reply) = AreWell (UserWord user ∷ words_of_wish wish) × (event.actor ≡ user) × IsRequestOf wish event.request
+Gets form.Silent Silent = Unit {0}
+Gets (form.Names users) (Names named) = named ≡ users
+Gets (form.Refuses why) (Refuses told) = told ≡ why
+Gets (form.Asks user wish) (Refuses told) = FirstIll (kind.User ∷ kinds_of wish.verb) (user ∷ wish.words) told
+Gets (form.Asks user wish) (Asks event reply) =
+    AreWell (kind.User ∷ kinds_of wish.verb) (user ∷ wish.words) × (event.actor ≡ user) × IsRequestOf wish.verb wish.words event.request
 Gets form row = ⊥
 
 -- these are the rows of the lines, one each; no line is read after a line of users that was refused
@@ -83,10 +88,10 @@ answer_text n actor reply = decimal n ++ 32 ∷ actor ++ 32 ∷ reply_text reply
 
 -- what is printed for the line of that number
 abbrev pub row_text : ℕ → Row → List ℕ
-row_text n Quiet = []
-row_text n (Named users) = answer_text n (codes "-") Done
-row_text n (Declined why) = answer_text n (codes "-") (Refused why)
-row_text n (Asked event reply) = answer_text n event.actor reply
+row_text n Silent = []
+row_text n (Names users) = answer_text n (codes "-") Done
+row_text n (Refuses why) = answer_text n (codes "-") (Refused why)
+row_text n (Asks event reply) = answer_text n event.actor reply
 
 -- what is printed for rows, of which the first has that number
 abbrev pub text_from : ℕ → List Row → List ℕ
@@ -95,10 +100,10 @@ text_from n (row ∷ rows) = row_text n row ++ text_from (n + 1) rows
 
 -- the events that were made of the lines, in order, each with its reply
 abbrev pub asked_of : Row → List (Event × Reply)
-asked_of Quiet = []
-asked_of (Named users) = []
-asked_of (Declined why) = []
-asked_of (Asked event reply) = (event, reply) ∷ []
+asked_of Silent = []
+asked_of (Names users) = []
+asked_of (Refuses why) = []
+asked_of (Asks event reply) = (event, reply) ∷ []
 
 abbrev pub asked_in : List Row → List (Event × Reply)
 asked_in [] = []
@@ -107,5 +112,5 @@ asked_in (row ∷ rows) = asked_of row ++ asked_in rows
 -- the users that a row names first
 abbrev pub users_in : List Row → Option (List (List ℕ))
 users_in [] = None
-users_in (Named users ∷ rows) = Some users
+users_in (Names users ∷ rows) = Some users
 users_in (row ∷ rows) = users_in rows

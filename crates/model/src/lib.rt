@@ -1,10 +1,12 @@
-//! What the store means: definitions, the laws that they keep, and the refusals.
+//! What the store means: definitions, the laws that they keep, the refusals, and the verbs of lines.
 //!
 //! No program calls the laws: each is a function with an empty body, whose contract is proved.
 #![tactic(auto)]
 
 mod laws;
 mod refusal;
+mod verb;
 
 pub use laws::{isolation, knowledge_is_admitted, knowledge_is_recursive, reach_is_least};
 pub use refusal::{Refusal, RewriteFault};
+pub use verb::{Verb, WordKind};

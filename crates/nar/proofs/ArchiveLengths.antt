@@ -2,7 +2,7 @@
 use Rattle.std.proofs.Common.{◌≡◌, ℕ, ◌+◌, ◌≤◌, Bool, true, false, List, [], length, codes, refl, ap, sym, ◌∙◌, arith, length-append, lit≤, subst}
 use Rattle.std.specs.Prelude.{unwrap_or}
 use Rattle.model.specs.Archives.{Tree, File, Link, Directory, Entries, Entry, executable_mark, entries_text, nar, IsTree, AreBytes}
-use Rattle.model.specs.Forms.{IsWellFormed}
+use Rattle.model.specs.Words.{IsWellFormed}
 use Rattle.nar.specs.ArchiveParts.{string_length, mark_length}
 use Rattle.nar.specs.ArchiveReading.{tree_at, tree_in}
 use Rattle.nar.proofs.ArchiveCompleteness.{length-archive_string, tree_at-nar}

@@ -3,8 +3,8 @@ use Rattle.std.proofs.Common.{◌≡◌, inl, inr, ℕ, ◌+◌, ◌<◌, true, 
 use Rattle.std.proofs.lemmas.List.{append-nil}
 use Rattle.model.specs.Lines.{lines_of}
 use Rattle.model.specs.Forms.{longest_line}
-use Rattle.model.specs.Talk.{Row, Quiet, Named, Declined, Asked, Seen, fresh, form_of, Gets, after, after_all, users_in}
-use Rattle.session.specs.Serving.{HasNoNewline, IsHeld}
+use Rattle.model.specs.Talk.{Row, Silent, Names, Refuses, Asks, Seen, fresh, form_of, Gets, after, after_all, users_in}
+use Rattle.session.specs.Serving.{HasNoNewline, HoldsMore}
 use Rattle.session.specs.Ahead.{Searched, LooksAhead}
 use Rattle.session.proofs.LineLemmas.{nothing-held, lines-last}
 use Rattle.session.proofs.WholeLinesLemmas.{no_lines, line-grown, ended-cut, held-gets, ended-talks, line-ended, seen-more, refused-same}
@@ -12,10 +12,10 @@ use Rattle.session.proofs.WholeLinesLemmas.{no_lines, line-grown, ended-cut, hel
 -- the users that more rows name
 pub users_in-more : (rows : List Row) (row : Row) → users_in rows ≡ None → users_in (rows ++ row ∷ []) ≡ users_in (row ∷ [])
 users_in-more [] row e = refl
-users_in-more (Quiet ∷ rows) row e = users_in-more rows row e
-users_in-more (Named users ∷ rows) row e = cc
-users_in-more (Declined why ∷ rows) row e = users_in-more rows row e
-users_in-more (Asked event reply ∷ rows) row e = users_in-more rows row e
+users_in-more (Silent ∷ rows) row e = users_in-more rows row e
+users_in-more (Names users ∷ rows) row e = cc
+users_in-more (Refuses why ∷ rows) row e = users_in-more rows row e
+users_in-more (Asks event reply ∷ rows) row e = users_in-more rows row e
 
 pub searched-none : Searched [] fresh []
 searched-none = record {
@@ -24,14 +24,16 @@ searched-none = record {
   seen_is = refl;
 }
 
-pub searched-held : (input : List ℕ) (seen : Seen) (held bytes held' : List ℕ) → Searched input seen held → HasNoNewline bytes → ((partial : List ℕ) → IsHeld partial held → IsHeld (partial ++ bytes) held') → Searched (input ++ bytes) seen held'
+pub searched-held : (input : List ℕ) (seen : Seen) (held bytes held' : List ℕ) → Searched input seen held → HasNoNewline bytes
+    → HoldsMore held bytes held' → Searched (input ++ bytes) seen held'
 searched-held input seen held bytes held' p w h = record {
   so_far = record { rows = p.so_far.rows; lines = line-grown p.so_far.lines bytes w; none = p.so_far.none };
   held_is = h p.so_far.lines.partial p.held_is;
   seen_is = p.seen_is;
 }
 
-pub searched-line : (input : List ℕ) (seen next : Seen) (held : List ℕ) (row : Row) → Searched input seen held → Gets (form_of seen held) row → next ≡ after seen row → users_in (row ∷ []) ≡ None → next.refused ≡ seen.refused → Searched (input ++ 10 ∷ []) next []
+pub searched-line : (input : List ℕ) (seen next : Seen) (held : List ℕ) (row : Row) → Searched input seen held → Gets (form_of seen held) row
+    → next ≡ after seen row → users_in (row ∷ []) ≡ None → next.refused ≡ seen.refused → Searched (input ++ 10 ∷ []) next []
 searched-line input seen next held row p g s n f =
     let rows = p.so_far.rows in
     let l = p.so_far.lines in
@@ -39,7 +41,8 @@ searched-line input seen next held row p g s n f =
     record {
       so_far = record {
         rows = rows ++ row ∷ [];
-        lines = line-ended l row (held-gets l seen held row p.held_is p.seen_is g) (refused-same (rows ++ row ∷ []) next seen_is ∙ f ∙ sym (refused-same rows seen p.seen_is) ∙ l.going);
+        lines = line-ended l row (held-gets l seen held row p.held_is p.seen_is g)
+            (refused-same (rows ++ row ∷ []) next seen_is ∙ f ∙ sym (refused-same rows seen p.seen_is) ∙ l.going);
         none = users_in-more rows row p.so_far.none ∙ n;
       };
       held_is = refl;
@@ -47,7 +50,9 @@ searched-line input seen next held row p g s n f =
     }
 
 -- the line that is held ends the search
-pub found-line : (input : List ℕ) (seen : Seen) (held : List ℕ) (row : Row) (users : Option (List (List ℕ))) (more : List ℕ) → Searched input seen held → Gets (form_of seen held) row → users_in (row ∷ []) ≡ users → (users ≡ None → (after seen row).refused ≡ true) → LooksAhead (input ++ 10 ∷ more) users
+pub found-line : (input : List ℕ) (seen : Seen) (held : List ℕ) (row : Row) (users : Option (List (List ℕ))) (more : List ℕ)
+    → Searched input seen held → Gets (form_of seen held) row → users_in (row ∷ []) ≡ users → (users ≡ None → (after seen row).refused ≡ true)
+    → LooksAhead (input ++ 10 ∷ more) users
 found-line input seen held row users more p g n f =
     let rows = p.so_far.rows in
     let l = p.so_far.lines in
@@ -81,7 +86,8 @@ last_line [] w h = absurd (omega arith)
 last_line (b ∷ partial) w h = ap lines_of (append-nil (b ∷ partial)) ∙ lines-last b partial w
 
 -- or with a last line
-pub found-last : (input : List ℕ) (seen : Seen) (held : List ℕ) (row : Row) (users : Option (List (List ℕ))) → 0 < length held → Searched input seen held → Gets (form_of seen held) row → users_in (row ∷ []) ≡ users → LooksAhead input users
+pub found-last : (input : List ℕ) (seen : Seen) (held : List ℕ) (row : Row) (users : Option (List (List ℕ))) → 0 < length held
+    → Searched input seen held → Gets (form_of seen held) row → users_in (row ∷ []) ≡ users → LooksAhead input users
 found-last input seen held row users h p g n =
     let l = p.so_far.lines in
     let some : 0 < length l.partial = omega (arith, ap length p.held_is, length-take (longest_line + 1) l.partial) in

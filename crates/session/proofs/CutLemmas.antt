@@ -9,19 +9,24 @@ not_true false h = refl
 
 pub cut-none : (c : ℕ) (s : List ℕ) → ((k : ℕ) → k < length s → eqb (get_or s k 0) c ≡ true → ⊥) → cut_at c s ≡ None
 cut-none c [] h = refl
-cut-none c (b ∷ s) h = rw (not_true _ (h 0 (omega arith))) (ap (option_map (λ (r : List ℕ × List ℕ). (b ∷ r.0, r.1))) (cut-none c s (λ k lt. h (suc k) (omega arith))))
+cut-none c (b ∷ s) h =
+    rw (not_true _ (h 0 (omega arith))) (ap (option_map (λ (r : List ℕ × List ℕ). (b ∷ r.0, r.1))) (cut-none c s (λ k lt. h (suc k) (omega arith))))
 
-pub cut-some : (c : ℕ) (s : List ℕ) (at : ℕ) → at < length s → eqb (get_or s at 0) c ≡ true → ((k : ℕ) → k < at → eqb (get_or s k 0) c ≡ true → ⊥) → cut_at c s ≡ Some (take at s, drop 1 (drop at s))
+pub cut-some : (c : ℕ) (s : List ℕ) (at : ℕ) → at < length s → eqb (get_or s at 0) c ≡ true → ((k : ℕ) → k < at → eqb (get_or s k 0) c ≡ true → ⊥)
+    → cut_at c s ≡ Some (take at s, drop 1 (drop at s))
 cut-some c [] at lt is h = absurd (omega arith)
 cut-some c (b ∷ s) zero lt is h = rw is refl
-cut-some c (b ∷ s) (suc at) lt is h = rw (not_true _ (h 0 (omega arith))) (ap (option_map (λ (r : List ℕ × List ℕ). (b ∷ r.0, r.1))) (cut-some c s at (omega arith) is (λ k lt. h (suc k) (omega arith))))
+cut-some c (b ∷ s) (suc at) lt is h =
+    rw (not_true _ (h 0 (omega arith)))
+    (ap (option_map (λ (r : List ℕ × List ℕ). (b ∷ r.0, r.1))) (cut-some c s at (omega arith) is (λ k lt. h (suc k) (omega arith))))
 
 -- the parts of a text, by what it is cut into
 abbrev pub parts_by : ℕ → List ℕ → Option (List ℕ × List ℕ) → List (List ℕ)
 parts_by c s None = s ∷ []
 parts_by c s (Some r) = r.0 ∷ split c r.1
 
-step : (t : Bool) (c b : ℕ) (s : List ℕ) (o : Option (List ℕ × List ℕ)) → split c s ≡ parts_by c s o → cond t ([] ∷ split c s) (onto_first b (split c s)) ≡ parts_by c (b ∷ s) (cond t (Some ([], s)) (option_map (λ r. (b ∷ r.0, r.1)) o))
+step : (t : Bool) (c b : ℕ) (s : List ℕ) (o : Option (List ℕ × List ℕ)) → split c s ≡ parts_by c s o
+    → cond t ([] ∷ split c s) (onto_first b (split c s)) ≡ parts_by c (b ∷ s) (cond t (Some ([], s)) (option_map (λ r. (b ∷ r.0, r.1)) o))
 step true c b s o e = refl
 step false c b s None e = ap (onto_first b) e
 step false c b s (Some r) e = ap (onto_first b) e

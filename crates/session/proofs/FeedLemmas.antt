@@ -1,34 +1,46 @@
 -- A piece of the input, cut at its newlines.
-use Rattle.std.proofs.Common.{◌≡◌, ℕ, ◌+◌, ◌<◌, eqb, Bool, true, List, [], ◌∷◌, ◌++◌, length, take, drop, get_or, sym, ap, ◌∙◌, subst, arith, append_assoc}
-use Rattle.std.proofs.lemmas.List.{take-append-drop, drop_more, drop-drop, take_all}
+use Rattle.std.proofs.Common.{◌≡◌, ℕ, eqb, cond, Bool, true, false, List, [], ◌∷◌, ◌++◌, Option, Some, None, option_map, refl, sym, ap, ◌∙◌, subst, append_assoc}
 use Rattle.std.proofs.lemmas.Bool.{eqb-true}
-use Rattle.memchr.specs.Find.{Passes, NoneBefore, Nowhere, is_byte}
+use Rattle.model.specs.Lines.{cut_at}
 use Rattle.session.specs.Serving.{HasNoNewline}
-use Rattle.session.proofs.LineLemmas.{HasNoNewline-take}
 
-pub HasNoNewline-before : (rest : List ℕ) (at : ℕ) (line : List ℕ) → line ≡ take at rest → NoneBefore (Passes (is_byte 10) rest) 0 (length rest) at → HasNoNewline line
-HasNoNewline-before rest at line e h = rw e (HasNoNewline-take at rest (λ k ka ks. h.before k (omega arith) ka))
+-- what cutting at the first newline says of a text
+abbrev IsCut : List ℕ → Option (List ℕ × List ℕ) → Type 0
+IsCut text None = HasNoNewline text
+IsCut text (Some r) = (text ≡ r.0 ++ 10 ∷ r.1) × HasNoNewline r.0
 
-pub HasNoNewline-none : (rest : List ℕ) → Nowhere (Passes (is_byte 10) rest) 0 (length rest) → HasNoNewline rest
-HasNoNewline-none rest h = subst HasNoNewline (take_all (length rest) rest (omega arith)) (HasNoNewline-take (length rest) rest (λ k ka ks. h k (omega arith) ka))
+cut-step : (t : Bool) (b : ℕ) (s : List ℕ) (o : Option (List ℕ × List ℕ)) → eqb b 10 ≡ t → IsCut s o
+    → IsCut (b ∷ s) (cond t (Some ([], s)) (option_map (λ (r : List ℕ × List ℕ). (b ∷ r.0, r.1)) o))
+cut-step true b s o e h = (ap (λ x. x ∷ s) (eqb-true b 10 e), tt)
+cut-step false b s None e h = (e, h)
+cut-step false b s (Some r) e h = (ap (λ t. b ∷ t) h.0, (e, h.1))
 
-pub rest-cut : (rest line newline after : List ℕ) (at : ℕ) → at < length rest → Passes (is_byte 10) rest at → line ≡ take at rest → newline ≡ drop at rest → after ≡ drop 1 newline → rest ≡ line ++ 10 ∷ after
-rest-cut rest line newline after at lt is e₁ e₂ e₃ =
-    let more : after ≡ drop (at + 1) rest = e₃ ∙ ap (drop 1) e₂ ∙ drop-drop 1 at rest in
-    let here : drop at rest ≡ 10 ∷ after = drop_more rest at 0 lt ∙ ap (λ b. b ∷ drop (at + 1) rest) (eqb-true (get_or rest at 0) 10 is) ∙ ap (λ t. 10 ∷ t) (sym more) in
-    sym (take-append-drop at rest) ∙ ap (λ t. take at rest ++ t) here ∙ ap (λ t. t ++ 10 ∷ after) (sym e₁)
+is-cut : (s : List ℕ) → IsCut s (cut_at 10 s)
+is-cut [] = tt
+is-cut (b ∷ s) = cut-step (eqb b 10) b s (cut_at 10 s) refl (is-cut s)
+
+-- it is a line, its newline, and what stands behind it
+pub cut-line : (s line after : List ℕ) → cut_at 10 s ≡ Some (line, after) → (s ≡ line ++ 10 ∷ after) × HasNoNewline line
+cut-line s line after e = subst (IsCut s) e (is-cut s)
+
+-- or has no newline
+pub cut-rest : (s : List ℕ) → cut_at 10 s ≡ None → HasNoNewline s
+cut-rest s e = subst (IsCut s) e (is-cut s)
 
 pub piece-all : (input front rest piece : List ℕ) → piece ≡ front ++ rest → (input ++ front) ++ rest ≡ input ++ piece
 piece-all input front rest piece e = append_assoc input front rest ∙ ap (λ t. input ++ t) (sym e)
 
-pub piece-line : (input front line rest piece after : List ℕ) → piece ≡ front ++ rest → rest ≡ line ++ 10 ∷ after → ((input ++ front) ++ line) ++ 10 ∷ after ≡ input ++ piece
-piece-line input front line rest piece after e f = append_assoc (input ++ front) line (10 ∷ after) ∙ ap (λ t. (input ++ front) ++ t) (sym f) ∙ piece-all input front rest piece e
+pub piece-line : (input front line rest piece after : List ℕ) → piece ≡ front ++ rest → rest ≡ line ++ 10 ∷ after
+    → ((input ++ front) ++ line) ++ 10 ∷ after ≡ input ++ piece
+piece-line input front line rest piece after e f =
+    append_assoc (input ++ front) line (10 ∷ after) ∙ ap (λ t. (input ++ front) ++ t) (sym f) ∙ piece-all input front rest piece e
 
 pub input-line : (input front line : List ℕ) → ((input ++ front) ++ line) ++ 10 ∷ [] ≡ input ++ (front ++ (line ++ 10 ∷ []))
 input-line input front line = append_assoc (input ++ front) line (10 ∷ []) ∙ append_assoc input front (line ++ 10 ∷ [])
 
 pub piece-rest : (front line rest piece after : List ℕ) → piece ≡ front ++ rest → rest ≡ line ++ 10 ∷ after → piece ≡ (front ++ (line ++ 10 ∷ [])) ++ after
-piece-rest front line rest piece after e f = e ∙ ap (λ t. front ++ t) f ∙ ap (λ t. front ++ t) (sym (append_assoc line (10 ∷ []) after)) ∙ sym (append_assoc front (line ++ 10 ∷ []) after)
+piece-rest front line rest piece after e f =
+    e ∙ ap (λ t. front ++ t) f ∙ ap (λ t. front ++ t) (sym (append_assoc line (10 ∷ []) after)) ∙ sym (append_assoc front (line ++ 10 ∷ []) after)
 
 pub zero-from_test : (r : Bool) (n : ℕ) → r ≡ true → r ≡ eqb n 0 → n ≡ 0
 zero-from_test r n t e = eqb-true n 0 (sym e ∙ t)

@@ -1,5 +1,5 @@
 -- Lines cut from bytes, and the bytes that are held of one.
-use Rattle.std.proofs.Common.{◌≡◌, ℕ, zero, suc, ◌+◌, ◌-◌, ◌<◌, ◌≤◌, Bool, true, false, eqb, List, [], ◌∷◌, ◌++◌, length, take, get_or, refl, sym, ap, ◌∙◌, arith, length-take}
+use Rattle.std.proofs.Common.{◌≡◌, ℕ, zero, suc, ◌+◌, ◌-◌, ◌<◌, ◌≤◌, List, [], ◌∷◌, ◌++◌, length, take, refl, sym, ap, ◌∙◌, arith, length-take}
 use Rattle.std.proofs.lemmas.List.{take_all}
 use Rattle.model.specs.Lines.{lines_of, onto_first}
 use Rattle.session.specs.Serving.{HasNoNewline}
@@ -22,16 +22,6 @@ lines-last b (c ∷ p) h = rw h.0 (ap (onto_first b) (lines-last c p h.1))
 pub HasNoNewline-append : (p q : List ℕ) → HasNoNewline p → HasNoNewline q → HasNoNewline (p ++ q)
 HasNoNewline-append [] q hp hq = hq
 HasNoNewline-append (b ∷ p) q hp hq = (hp.0, HasNoNewline-append p q hp.1 hq)
-
-not_true : (b : Bool) → ((b ≡ true) → ⊥) → b ≡ false
-not_true true h = absurd (h refl)
-not_true false h = refl
-
--- bytes with no newline in them
-pub HasNoNewline-take : (n : ℕ) (s : List ℕ) → ((k : ℕ) → k < n → k < length s → eqb (get_or s k 0) 10 ≡ true → ⊥) → HasNoNewline (take n s)
-HasNoNewline-take zero s h = tt
-HasNoNewline-take (suc n) [] h = tt
-HasNoNewline-take (suc n) (b ∷ s) h = (not_true _ (h 0 (omega arith) (omega arith)), HasNoNewline-take n s (λ k kn ks. h (suc k) (omega arith) (omega arith)))
 
 -- cutting twice at one place is cutting once
 pub take_cut : (n : ℕ) (p b : List ℕ) → take n (take n p ++ b) ≡ take n (p ++ b)

@@ -7,7 +7,8 @@ pub number-grows : (n : ℕ) (digits : List ℕ) → n ≤ number_behind n digit
 number-grows n [] = omega arith
 number-grows n (d ∷ digits) = omega (arith, number-grows (10 * n + (d - 48)) digits)
 
-pub number-step : (n : ℕ) (digits : List ℕ) (i : ℕ) → i < length digits → number_behind n (drop i digits) ≡ number_behind (10 * n + (get_or digits i 0 - 48)) (drop (i + 1) digits)
+pub number-step : (n : ℕ) (digits : List ℕ) (i : ℕ) → i < length digits
+    → number_behind n (drop i digits) ≡ number_behind (10 * n + (get_or digits i 0 - 48)) (drop (i + 1) digits)
 number-step n digits i h = ap (number_behind n) (drop_more digits i 0 h)
 
 pub number-end : (n : ℕ) (digits : List ℕ) (i : ℕ) → length digits ≤ i → number_behind n (drop i digits) ≡ n

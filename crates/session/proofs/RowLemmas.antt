@@ -6,10 +6,11 @@ use Rattle.std.proofs.lemmas.List.{append-nil, take_all, take_at, take-append-dr
 use Rattle.std.specs.Io.KnownBytes.{Appends, Consumes, Keeps, ReadConsumes, prepend_known}
 use Rattle.model.specs.Steps.{Event, Reply}
 use Rattle.model.specs.Lines.{Told}
-use Rattle.model.specs.Talk.{Row, Quiet, Named, Declined, Asked, Seen, Gets, after, after_all, Talks, form_of, text_from, row_text}
+use Rattle.model.specs.Talk.{Row, Silent, Names, Refuses, Asks, Seen, Gets, after, after_all, Talks, form_of, text_from, row_text}
 use Rattle.session.specs.Serving.{Link, Chain}
 
-pub talks-more : (seen : Seen) (done : List (List ℕ)) (rows : List Row) (line : List ℕ) (row : Row) → Talks seen done rows → (after_all seen rows).refused ≡ false → Gets (form_of (after_all seen rows) line) row → Talks seen (done ++ line ∷ []) (rows ++ row ∷ [])
+pub talks-more : (seen : Seen) (done : List (List ℕ)) (rows : List Row) (line : List ℕ) (row : Row) → Talks seen done rows
+    → (after_all seen rows).refused ≡ false → Gets (form_of (after_all seen rows) line) row → Talks seen (done ++ line ∷ []) (rows ++ row ∷ [])
 talks-more seen [] [] line row t f g = (f, g, tt)
 talks-more seen [] (r ∷ rows) line row t f g = absurd t
 talks-more seen (l ∷ done) [] line row t f g = absurd t
@@ -19,15 +20,16 @@ pub after_all-more : (seen : Seen) (rows : List Row) (row : Row) → after_all s
 after_all-more seen [] row = refl
 after_all-more seen (r ∷ rows) row = after_all-more (after seen r) rows row
 
-pub chain-more : {A : Type 0} (R : A → Event → Reply → A → Type 0) (a : A) (rows : List Row) (b : A) (row : Row) (c : A) → Chain R a rows b → Link R b row c → Chain R a (rows ++ row ∷ []) c
+pub chain-more : {A : Type 0} (R : A → Event → Reply → A → Type 0) (a : A) (rows : List Row) (b : A) (row : Row) (c : A) → Chain R a rows b
+    → Link R b row c → Chain R a (rows ++ row ∷ []) c
 chain-more R a [] b row c h l = (c, subst (λ x. Link R x row c) h l, refl)
 chain-more R a (r ∷ rows) b row c h l = (h.0, h.1, chain-more R h.0 rows b row c h.2 l)
 
 length-after : (seen : Seen) (row : Row) → length (after seen row).told ≡ length seen.told + 1
-length-after seen Quiet = omega (arith, length-append {A = Told})
-length-after seen (Named users) = omega (arith, length-append {A = Told})
-length-after seen (Declined why) = omega (arith, length-append {A = Told})
-length-after seen (Asked event reply) = omega (arith, length-append {A = Told})
+length-after seen Silent = omega (arith, length-append {A = Told})
+length-after seen (Names users) = omega (arith, length-append {A = Told})
+length-after seen (Refuses why) = omega (arith, length-append {A = Told})
+length-after seen (Asks event reply) = omega (arith, length-append {A = Told})
 
 pub length-after_all : (seen : Seen) (rows : List Row) → length (after_all seen rows).told ≡ length seen.told + length rows
 length-after_all seen [] = omega arith
@@ -65,7 +67,8 @@ on_err (Err e) p = p
 pub text-step : (text front rest : List ℕ) (n : ℕ) → text ≡ front ++ rest → text ≡ (front ++ take n rest) ++ drop n rest
 text-step text front rest n e = e ∙ ap (λ t. front ++ t) (sym (take-append-drop n rest)) ∙ sym (append_assoc front (take n rest) (drop n rest))
 
-pub front-written : (a b c : Option (List ℕ)) (text front rest : List ℕ) → text ≡ front ++ rest → Appends a b front → Appends b c [] → (n : ℕ) × Appends a c (take n text)
+pub front-written : (a b c : Option (List ℕ)) (text front rest : List ℕ) → text ≡ front ++ rest → Appends a b front → Appends b c []
+    → (n : ℕ) × Appends a c (take n text)
 front-written a b c text front rest e h k =
     let same : take (length front) text ≡ front ++ [] = ap (take (length front)) e ∙ take_at front rest (length front) refl ∙ sym (append-nil front) in
     (length front, subst (λ t. Appends a c t) (sym same) (appends-more a b c front [] h k))
@@ -105,5 +108,6 @@ prepend-none : (o : Option (List ℕ)) → prepend_known [] o ≡ o
 prepend-none None = refl
 prepend-none (Some xs) = refl
 
-pub reads-behind : {E : Type 0} (xs : List ℕ) (old new : Option (List ℕ)) (r : Result ℕ E) (buf : List ℕ) → xs ≡ [] → ReadConsumes old new r buf → ReadConsumes (prepend_known xs old) (prepend_known xs new) r buf
+pub reads-behind : {E : Type 0} (xs : List ℕ) (old new : Option (List ℕ)) (r : Result ℕ E) (buf : List ℕ) → xs ≡ [] → ReadConsumes old new r buf
+    → ReadConsumes (prepend_known xs old) (prepend_known xs new) r buf
 reads-behind xs old new r buf e h = rw (e, prepend-none old, prepend-none new) h

@@ -23,7 +23,8 @@ module _ {input : List ℕ} {rows : List Row} (l : WholeLines input rows) where
   line-grown bytes w = record {
     done = l.done;
     partial = l.partial ++ bytes;
-    cut = λ more. ap lines_of (append_assoc input bytes more) ∙ l.cut (bytes ++ more) ∙ ap (λ t. l.done ++ lines_of t) (sym (append_assoc l.partial bytes more));
+    cut = λ more. ap lines_of (append_assoc input bytes more) ∙ l.cut (bytes ++ more)
+        ∙ ap (λ t. l.done ++ lines_of t) (sym (append_assoc l.partial bytes more));
     begun = HasNoNewline-append l.partial bytes l.begun w;
     talks = l.talks;
     going = l.going;
@@ -34,7 +35,8 @@ module _ {input : List ℕ} {rows : List Row} (l : WholeLines input rows) where
   ended-cut more = l.cut (10 ∷ more) ∙ ap (λ t. l.done ++ t) (lines-newline l.partial more l.begun) ∙ sym (append_assoc l.done (l.partial ∷ []) (lines_of more))
 
   -- what is held of it reads as it does
-  pub held-gets : (seen : Seen) (held : List ℕ) (row : Row) → IsHeld l.partial held → seen ≡ after_all fresh rows → Gets (form_of seen held) row → Gets (form_of (after_all fresh rows) l.partial) row
+  pub held-gets : (seen : Seen) (held : List ℕ) (row : Row) → IsHeld l.partial held → seen ≡ after_all fresh rows → Gets (form_of seen held) row
+      → Gets (form_of (after_all fresh rows) l.partial) row
   held-gets seen held row held_is seen_is g =
       let e : form_of seen held ≡ form_of (after_all fresh rows) l.partial = rw (held_is, seen_is) (form_of-held (after_all fresh rows) l.partial) in
       subst (λ r. Gets r row) e g
@@ -43,7 +45,8 @@ module _ {input : List ℕ} {rows : List Row} (l : WholeLines input rows) where
   pub ended-talks : (row : Row) → Gets (form_of (after_all fresh rows) l.partial) row → Talks fresh (l.done ++ l.partial ∷ []) (rows ++ row ∷ [])
   ended-talks row g = talks-more fresh l.done rows l.partial row l.talks l.going g
 
-  abbrev pub line-ended : (row : Row) → Gets (form_of (after_all fresh rows) l.partial) row → (after_all fresh (rows ++ row ∷ [])).refused ≡ false → WholeLines (input ++ 10 ∷ []) (rows ++ row ∷ [])
+  abbrev pub line-ended : (row : Row) → Gets (form_of (after_all fresh rows) l.partial) row → (after_all fresh (rows ++ row ∷ [])).refused ≡ false
+      → WholeLines (input ++ 10 ∷ []) (rows ++ row ∷ [])
   line-ended row g f = record {
     done = l.done ++ l.partial ∷ [];
     partial = [];
@@ -54,7 +57,8 @@ module _ {input : List ℕ} {rows : List Row} (l : WholeLines input rows) where
   }
 
 -- what is kept with one more row
-pub seen-more : (rows : List Row) (seen next : Seen) (row : Row) → seen ≡ after_all fresh rows → next ≡ after seen row → next ≡ after_all fresh (rows ++ row ∷ [])
+pub seen-more : (rows : List Row) (seen next : Seen) (row : Row) → seen ≡ after_all fresh rows → next ≡ after seen row
+    → next ≡ after_all fresh (rows ++ row ∷ [])
 seen-more rows seen next row e s = s ∙ ap (λ x. after x row) e ∙ sym (after_all-more fresh rows row)
 
 -- whether users were refused, by what is kept

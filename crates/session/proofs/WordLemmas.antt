@@ -1,11 +1,11 @@
--- Names of users, and forms by the first words.
+-- Names of users, and how many words of a line are read.
 use Rattle.std.proofs.Common.{◌≡◌, ℕ, zero, suc, ◌-◌, ◌<◌, Bool, true, false, ◌&&◌, leb, ltb, List, [], ◌∷◌, get_or, take, length, length-take, refl, sym, ap, ◌∙◌, arith, inl, inr}
 use Rattle.std.specs.List.{list_all}
 use Rattle.std.proofs.lemmas.List.{take_all}
 use Rattle.std.proofs.lemmas.Bool.{cases_lt}
 use Rattle.model.specs.declared.refusal.Refusal.TheVariants.{BadUsers}
 use Rattle.model.specs.Worlds.{is_user_name, are_users, begins_with_letter}
-use Rattle.model.specs.Forms.{Refuses, wish_form, users_form, worded_form}
+use Rattle.model.specs.Forms.{Refuses, names_form, users_form}
 
 and-false : (a : Bool) → (a && false) ≡ false
 and-false true = refl
@@ -32,30 +32,21 @@ pub many_users : (words : List (List ℕ)) → 64 < length words → are_users w
 unfolding are_users
 many_users words h = rw (leb-false (length words) 64 h) (and-false (ltb 0 (length words)))
 
-too_many : (words : List (List ℕ)) → 64 < length words → users_form false words ≡ Refuses BadUsers
-too_many words h = rw (many_users words h) refl
+too_many : (names : List (List ℕ)) → 64 < length names → names_form names ≡ Refuses BadUsers
+too_many names h = rw (many_users names h) refl
 
-users_form-take : (begun : Bool) (n : ℕ) (words : List (List ℕ)) → 64 < n → users_form begun (take n words) ≡ users_form begun words
-users_form-take true n words h = refl
-users_form-take false n words h = elim (cases_lt n (length words)) [
-  | inl lt ↦ too_many (take n words) (omega (arith, length-take n words)) ∙ sym (too_many words (omega arith))
-  | inr le ↦ ap (users_form false) (take_all n words (omega arith))
+names_form-take : (n : ℕ) (names : List (List ℕ)) → 64 < n → names_form (take n names) ≡ names_form names
+names_form-take n names h = elim (cases_lt n (length names)) [
+  | inl lt ↦ too_many (take n names) (omega (arith, length-take n names)) ∙ sym (too_many names (omega arith))
+  | inr le ↦ ap names_form (take_all n names (omega arith))
 ]
 
-wish_form-take : (n : ℕ) (words : List (List ℕ)) → wish_form (take (suc (suc (suc (suc (suc n))))) words) ≡ wish_form words
-wish_form-take n [] = refl
-wish_form-take n (a ∷ []) = refl
-wish_form-take n (a ∷ b ∷ []) = refl
-wish_form-take n (a ∷ b ∷ c ∷ []) = refl
-wish_form-take n (a ∷ b ∷ c ∷ d ∷ []) = refl
-wish_form-take n (a ∷ b ∷ c ∷ d ∷ e ∷ words) = refl
+users_form-take_more : (n : ℕ) (words : List (List ℕ)) → 64 < n → users_form (take (suc n) words) ≡ users_form words
+users_form-take_more n [] h = refl
+users_form-take_more n (word ∷ names) h = rw (names_form-take n names h) refl
 
-worded_form-take_more : (begun : Bool) (n : ℕ) (words : List (List ℕ)) → 64 < suc (suc (suc (suc n))) → worded_form begun (take (suc (suc (suc (suc (suc n))))) words) ≡ worded_form begun words
-worded_form-take_more begun n [] h = refl
-worded_form-take_more begun n (word ∷ words) h =
-    rw (users_form-take begun (suc (suc (suc (suc n)))) words h, wish_form-take n (word ∷ words)) refl
-
-pub worded_form-take : (begun : Bool) (n : ℕ) (words : List (List ℕ)) → 65 < n → worded_form begun (take n words) ≡ worded_form begun words
-worded_form-take begun n words h =
-    let e : n ≡ suc (suc (suc (suc (suc (n - 5))))) = omega arith in
-    ap (λ m. worded_form begun (take m words)) e ∙ worded_form-take_more begun (n - 5) words (omega arith)
+-- a line of users is told by its first words
+pub users_form-take : (n : ℕ) (words : List (List ℕ)) → 65 < n → users_form (take n words) ≡ users_form words
+users_form-take n words h =
+    let e : n ≡ suc (n - 1) = omega arith in
+    ap (λ m. users_form (take m words)) e ∙ users_form-take_more (n - 1) words (omega arith)

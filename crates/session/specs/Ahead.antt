@@ -1,17 +1,18 @@
 -- What is found by reading ahead.
-use Rattle.std.specs.Prelude.{◌≡◌, ◌⊎◌, ℕ, true, List, [], ◌∷◌, ◌++◌, Option, None, Some}
+use Rattle.std.specs.Prelude.{◌≡◌, ◌⊎◌, ℕ, true, List, [], ◌∷◌, ◌++◌, Option, None, Some, option_map}
+use Rattle.std.specs.Global.{Vec}
 use Rattle.model.specs.declared.refusal.Refusal.TheVariants.{BadUsers}
 use Rattle.model.specs.Lines.{lines_of}
 use Rattle.model.specs.Forms.{Form}
-use Rattle.model.specs.Talk.{Row, Named, Declined, Seen, fresh, after, after_all, Gets, Talks, users_in}
+use Rattle.model.specs.Talk.{Row, Names, Refuses, Seen, fresh, after, after_all, Gets, Talks, users_in}
 use Rattle.session.specs.Serving.{WholeLines, IsHeld}
 use Rattle.session.specs.declared.ahead.Look.{Look}
 use Rattle.session.specs.declared.ahead.Look.TheVariants.{Users, Refused, Other}
 
 -- a line of that form names these users, or is a line of users that is refused, or gets another row
 abbrev pub IsLook : Form → Seen → Seen → Look → Type 0
-IsLook form seen next (Users users) = Gets form (Named users.items)
-IsLook form seen next Refused = Gets form (Declined BadUsers)
+IsLook form seen next (Users users) = Gets form (Names users.items)
+IsLook form seen next Refused = Gets form (Refuses BadUsers)
 IsLook form seen next Other = (row : Row) × Gets form row × (next ≡ after seen row) × (users_in (row ∷ []) ≡ None) × (next.refused ≡ seen.refused)
 
 -- the whole lines of an input of which more may come name no users
@@ -26,7 +27,8 @@ pub record Searched (input : List ℕ) (seen : Seen) (held : List ℕ) : Type 0 
   pub held_is : IsHeld so_far.lines.partial held
   pub seen_is : seen ≡ after_all fresh so_far.rows
 
--- the first lines of an input name these users; where there are none, they are all of its lines, or the last of them is a line of users that is refused
+-- the first lines of an input name these users;
+-- where there are none, they are all of its lines, or the last of them is a line of users that is refused
 pub record LooksAhead (input : List ℕ) (users : Option (List (List ℕ))) : Type 0 where
   pub rows : List Row
   pub done : List (List ℕ)
@@ -41,3 +43,11 @@ abbrev pub LooksOn : List ℕ → Seen → List ℕ → Look → Type 0
 LooksOn input seen held (Users users) = (more : List ℕ) → LooksAhead (input ++ more) (Some users.items)
 LooksOn input seen held Refused = (more : List ℕ) → LooksAhead (input ++ more) None
 LooksOn input seen held Other = Searched input seen held
+
+-- from any input on: what is found where these bytes come after it
+abbrev pub SearchesOn : (seen : Seen) (held bytes : List ℕ) (next : Seen) (held' : List ℕ) → Look → Type 0
+SearchesOn seen held bytes next held' look = (input : List ℕ) → Searched input seen held → LooksOn (input ++ bytes) next held' look
+
+-- and where it ends
+abbrev pub SearchesLast : (seen : Seen) (held : List ℕ) → Option (Vec (List ℕ)) → Type 0
+SearchesLast seen held users = (input : List ℕ) → Searched input seen held → LooksAhead input (option_map (λ u. u.items) users)

@@ -1,33 +1,52 @@
 -- What reading a line gives, against the line's form.
-use Rattle.std.specs.Prelude.{◌≡◌, ◌⊎◌, ℕ, List, ◌∷◌}
+use Rattle.std.specs.Prelude.{◌≡◌, ◌⊎◌, ℕ, List, ◌∷◌, Result, MatchResult}
 use Rattle.model.specs.declared.refusal.Refusal.{Refusal}
 use Rattle.model.specs.declared.refusal.Refusal.TheVariants.{Memory}
-use Rattle.model.specs.Forms.{Form, Wish, UserWord, words_of_wish, AreWell, FirstIll, IsRequestOf}
-use Rattle.model.specs.Talk.{Row, Quiet, Named, Declined, Asked, Gets}
+use Rattle.model.specs.declared.verb.WordKind.TheVariants as kind
+use Rattle.model.specs.Words.{AreWell, FirstIll}
+use Rattle.model.specs.Verbs.{kinds_of, IsRequestOf}
+use Rattle.model.specs.Forms.{Form, Wish}
+use Rattle.model.specs.Forms as form
+use Rattle.model.specs.Talk.{Row, Silent, Names, Refuses, Asks, Gets}
 use Rattle.model.specs.Steps as steps
 use Rattle.schedule.specs.declared.events.Event.{Event}
+use Rattle.schedule.specs.declared.events.Request.{Request}
 use Rattle.schedule.specs.Standing.{event_of, request_of}
 use Rattle.session.specs.declared.reading.Reading.{Reading}
-use Rattle.session.specs.declared.reading.Reading.TheVariants.{Silent, Names, Refused, Asks}
+use Rattle.session.specs.declared.reading.Reading.TheVariants as reading
 
--- a user's wish makes this event
-abbrev pub IsReadAs : List ℕ → Wish → Event → Type 0
-IsReadAs user wish event = AreWell (UserWord user ∷ words_of_wish wish) × (event.actor ≡ user) × IsRequestOf wish (request_of event.request)
+-- a wish makes this request
+abbrev pub IsRequestOfWish : Wish → Request → Type 0
+IsRequestOfWish wish request = AreWell (kinds_of wish.verb) wish.words × IsRequestOf wish.verb wish.words (request_of request)
 
 -- it makes none: a word is ill-formed, or memory was refused
-abbrev pub IsNotRead : List ℕ → Wish → Refusal → Type 0
-IsNotRead user wish why = (why ≡ Memory) ⊎ FirstIll (UserWord user ∷ words_of_wish wish) why
+abbrev pub IsNoRequest : Wish → Refusal → Type 0
+IsNoRequest wish why = (why ≡ Memory) ⊎ FirstIll (kinds_of wish.verb) wish.words why
+
+-- a user's wish makes this event
+abbrev pub IsEventOfWish : List ℕ → Wish → Event → Type 0
+IsEventOfWish user wish event =
+    AreWell (kind.User ∷ kinds_of wish.verb) (user ∷ wish.words) × (event.actor ≡ user) × IsRequestOf wish.verb wish.words (request_of event.request)
+
+-- it makes none
+abbrev pub IsNoEvent : List ℕ → Wish → Refusal → Type 0
+IsNoEvent user wish why = (why ≡ Memory) ⊎ FirstIll (kind.User ∷ kinds_of wish.verb) (user ∷ wish.words) why
 
 -- the row of what a line comes to
 abbrev pub IsRowOf : Reading → Row → Type 0
-IsRowOf Silent row = row ≡ Quiet
-IsRowOf (Names users) row = row ≡ Named users.items
-IsRowOf (Refused why) row = row ≡ Declined why
-IsRowOf (Asks event) row = (reply : steps.Reply) × (row ≡ Asked (event_of event) reply)
+IsRowOf reading.Silent row = row ≡ Silent
+IsRowOf (reading.Names users) row = row ≡ Names users.items
+IsRowOf (reading.Refuses why) row = row ≡ Refuses why
+IsRowOf (reading.Asks event) row = (reply : steps.Reply) × (row ≡ Asks (event_of event) reply)
 
 -- a line of that form comes to this
 abbrev pub Becomes : Form → Reading → Type 0
-Becomes form Silent = Gets form Quiet
-Becomes form (Names users) = Gets form (Named users.items)
-Becomes form (Refused why) = Gets form (Declined why)
-Becomes form (Asks event) = (reply : steps.Reply) → Gets form (Asked (event_of event) reply)
+Becomes form reading.Silent = Gets form Silent
+Becomes form (reading.Names users) = Gets form (Names users.items)
+Becomes form (reading.Refuses why) = Gets form (Refuses why)
+Becomes form (reading.Asks event) = (reply : steps.Reply) → Gets form (Asks (event_of event) reply)
+
+-- a line of any wish that makes this event, or none for this, comes to this
+abbrev pub BecomesOfWish : Result Event Refusal → Reading → Type 0
+BecomesOfWish event reading =
+    (user : List ℕ) (wish : Wish) → MatchResult event (IsEventOfWish user wish) (IsNoEvent user wish) → Becomes (form.Asks user wish) reading

@@ -4,15 +4,15 @@ ghost use Rattle.std.specs.Prelude.{◌≡◌, ◌++◌, [], true, false, ℕ, L
 ghost use Rattle.std.specs.Io.KnownBytes.{Consumes, IsAtEnd};
 ghost use Rattle.model.specs.declared.refusal.Refusal.TheVariants.{Memory};
 ghost use Rattle.model.specs.Talk.{form_of};
-ghost use Rattle.session.specs.Ahead.{IsLook, NoUsersSoFar, Searched, LooksOn, LooksAhead};
+ghost use Rattle.session.specs.Ahead.{IsLook, NoUsersSoFar, LooksAhead, SearchesOn, SearchesLast};
 ghost use Rattle.session.specs.Serving.{HasFailed};
 
 use crate::answer::{Faults, NoUsers};
+use crate::cut::cut;
 use crate::reading::Reading;
 use crate::serving::{CHUNK, hold, is_begun};
 use crate::session::{Mode, Session};
 use crate::streams::read_some;
-use memchr::memchr;
 use model::Refusal;
 use schedule::User;
 use std::alloc::Global;
@@ -49,7 +49,7 @@ fn look_at(alloc: Global, session: &mut Session, line: &[u8]) -> Result<Look, Re
 {
     match session.read(alloc, line)? {
         Reading::Names(users) => Ok(Look::Users(users)),
-        Reading::Refused(Refusal::BadUsers) => Ok(Look::Refused),
+        Reading::Refuses(Refusal::BadUsers) => Ok(Look::Refused),
         reading => {
             session.answer(alloc, reading, &mut NoUsers)?;
             Ok(Look::Other)
@@ -64,13 +64,12 @@ fn look_on(
     held: &mut Vec<u8>,
     piece: &[u8],
 ) -> Result<Look, Refusal>
-    ensures found { IfOk result (λ found. (input : List ℕ) → Searched input session.old held.old.items → LooksOn (input ++ piece.now) session.new held.new.items found) }
+    ensures found { IfOk result
+        (SearchesOn session.old held.old.items piece.now session.new held.new.items) }
     ensures memory { IfErr result (λ why. why ≡ Memory) }
 {
     let mut rest = piece;
-    while let Some(at) = memchr(b'\n', rest) {
-        let (line, newline) = rest.split_at(at);
-        let (_, after) = newline.split_at(1);
+    while let Some((line, after)) = cut(b'\n', rest) {
         hold(held, line)?;
         match look_at(alloc, session, held.as_slice())? {
             Look::Users(users) => return Ok(Look::Users(users)),
@@ -89,7 +88,7 @@ fn look_last(
     session: &mut Session,
     held: &[u8],
 ) -> Result<Option<Vec<User>>, Refusal>
-    ensures found { IfOk result (λ users. (input : List ℕ) → Searched input session.old held.now → LooksAhead input (option_map (λ u. u.items) users)) }
+    ensures found { IfOk result (SearchesLast session.old held.now) }
     ensures memory { IfErr result (λ why. why ≡ Memory) }
 {
     if !is_begun(held) {
@@ -113,16 +112,21 @@ pub fn read_ahead<R: Read + Faults>(
     mode: Mode,
     reader: &mut R,
 ) -> Result<Ahead, Refusal>
-    ensures read { IfOk result (λ ahead. Consumes (R.remaining reader.old) (R.remaining reader.new) ahead.bytes.items) }
-    ensures ended { IfOk result (λ ahead. ahead.has_ended ≡ true → IsAtEnd (R.remaining reader.new)) }
-    ensures failed { IfOk result (λ ahead. ahead.has_failed ≡ true → HasFailed (R.failed reader.old) (R.failed reader.new)) }
+    ensures read { IfOk result (λ ahead.
+        Consumes (R.remaining reader.old) (R.remaining reader.new) ahead.bytes.items) }
+    ensures ended { IfOk result (λ ahead.
+        ahead.has_ended ≡ true → IsAtEnd (R.remaining reader.new)) }
+    ensures failed { IfOk result (λ ahead.
+        ahead.has_failed ≡ true → HasFailed (R.failed reader.old) (R.failed reader.new)) }
     // Whatever comes after what was read, these are the users that a session of it names.
-    ensures users { IfOk result (λ ahead. ahead.has_failed ≡ false → (more : List ℕ) → (ahead.has_ended ≡ true → more ≡ [])
+    ensures users { IfOk result (λ ahead. ahead.has_failed ≡ false
+        → (more : List ℕ) → (ahead.has_ended ≡ true → more ≡ [])
         → LooksAhead (ahead.bytes.items ++ more) (option_map (λ u. u.items) ahead.users)) }
     // Where the reader failed, none are given, and the whole lines of what was read name none.
     ensures no_users { IfOk result (λ ahead. ahead.has_failed ≡ true
         → (ahead.users ≡ None) × NoUsersSoFar ahead.bytes.items) }
-    ensures err { OnErr result ((input : List ℕ) × Consumes (R.remaining reader.old) (R.remaining reader.new) input) }
+    ensures err { OnErr result ((input : List ℕ)
+        × Consumes (R.remaining reader.old) (R.remaining reader.new) input) }
     ensures memory { IfErr result (λ why. why ≡ Memory) }
 {
     let before = reader.failures();

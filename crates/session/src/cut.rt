@@ -1,6 +1,6 @@
 //! Cutting a text at a byte.
 
-ghost use Rattle.std.specs.Prelude.{◌≡◌, ◌<◌, IfOk, MatchOption, length, take};
+ghost use Rattle.std.specs.Prelude.{◌≡◌, ◌<◌, ◌∷◌, [], IfOk, MatchOption, length, take};
 ghost use Rattle.std.specs.List.{list_any};
 ghost use Rattle.model.specs.Lines.{cut_at, split};
 ghost use Rattle.model.specs.Forms.{is_empty_word};
@@ -32,9 +32,19 @@ impl<'a> Word<'a> {
     }
 }
 
+/// A whole text as one word.
+pub(crate) fn one_word(alloc: Global, text: &[u8]) -> Result<Vec<Word<'_>>, AllocError>
+    ensures { IfOk result (λ words. words.items ≡ text.now ∷ []) }
+{
+    let mut words = Vec::new(alloc);
+    words.push(Word { bytes: text })?;
+    Ok(words)
+}
+
 /// What stands before the first `byte` of a text, and what stands behind it.
 pub(crate) fn cut(byte: u8, text: &[u8]) -> Option<(&[u8], &[u8])>
-    ensures parts { MatchOption result (cut_at byte text.now ≡ None) (λ r. cut_at byte text.now ≡ Some (r.0.now, r.1.now)) }
+    ensures parts { MatchOption result (cut_at byte text.now ≡ None)
+        (λ r. cut_at byte text.now ≡ Some (r.0.now, r.1.now)) }
     ensures shorter { MatchOption result (Unit {0}) (λ r. length r.1.now < length text.now) }
 {
     let at = memchr(byte, text)?;

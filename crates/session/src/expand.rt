@@ -93,7 +93,9 @@ fn expansion_in(count: usize, text: &[u8]) -> Option<Expansion<'_>>
 
 /// The path that an expansion is of, where the reply to its line has one.
 fn named_path<'a>(told: &'a [Told], expansion: &Expansion<'_>) -> Option<&'a StorePath>
-    ensures { let named = told_by expansion.now.letter (slice_index_or told.now expansion.now.line nothing_told) in MatchOption result (named ≡ None) (λ path. named ≡ Some path.now) }
+    ensures { let told = slice_index_or told.now expansion.now.line nothing_told in
+        let named = told_by expansion.now.letter told in
+        MatchOption result (named ≡ None) (λ path. named ≡ Some path.now) }
 {
     let told = told.get(expansion.line)?;
     if expansion.letter == b'c' || expansion.letter == b'g' {
@@ -126,7 +128,8 @@ fn add_piece(
     told: &[Told],
     piece: &[u8],
 ) -> Result<bool, AllocError>
-    ensures { IfOk result (λ whole. (if whole then Some text.new.items else None) ≡ joined (Some text.old.items) (piece_text told.now piece.now)) }
+    ensures { IfOk result (λ whole. (if whole then Some text.new.items else None)
+        ≡ joined (Some text.old.items) (piece_text told.now piece.now)) }
 {
     let Some(expansion) = expansion_in(told.len(), piece) else {
         text.push(b'{')?;

@@ -5,7 +5,7 @@
 //! | [`Session::line`] | answers one line: gives what is printed for it |
 //! | [`serve`] | answers the lines of a reader, and writes what is printed |
 //! | [`serve_whole_lines`] | the same for bytes of which more was to come |
-//! | [`read_ahead`], [`Prefixed`] | finds the users of an input, and gives again what was read for it |
+//! | [`read_ahead`], [`Prefixed`] | finds the users of an input, and gives again what was read |
 //!
 //! What a line is, which row it gets and what is printed for it is said by the definitions of the
 //! crate `model`; whoever answers the events is an [`Answer`].
@@ -14,8 +14,6 @@
 mod ahead;
 mod answer;
 mod cut;
-#[cfg(test)]
-mod derivation_tests;
 mod expand;
 mod forms;
 mod prefixed;
@@ -27,6 +25,7 @@ mod streams;
 mod tests;
 mod texts;
 mod told;
+mod wishes;
 mod words;
 
 pub use ahead::{Ahead, read_ahead};

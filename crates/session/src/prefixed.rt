@@ -1,6 +1,7 @@
 //! A reader that gives again what was read ahead.
 
-ghost use Rattle.std.specs.Prelude.{◌≡◌, ◌≢◌, ◌≤◌, [], min, drop, length, Ok};
+ghost use Rattle.std.specs.Prelude.{◌≡◌, ◌≢◌, [], min, length, Ok};
+ghost use Rattle.session.specs.Prefixed.{shorter};
 
 use crate::answer::Faults;
 use std::io;
@@ -57,9 +58,12 @@ impl<R: Read> Read for Prefixed<R> {
     /// The bytes come first, as many as there is room for.
     fn read(&mut self, buf: &mut [u8]) -> io::Result<usize>
         ensures bound { ReadsAtMost result buf.new }
-        ensures bytes { ReadConsumes (prepend_known self.old.rest (R.remaining self.old.inner)) (prepend_known self.new.rest (R.remaining self.new.inner)) result buf.new }
-        ensures ahead { self.old.rest ≢ [] → result ≡ Ok (min (length self.old.rest) (length buf.old)) }
-        ensures rest { self.old.rest ≢ [] → self.new ≡ record { rest = drop (min (length self.old.rest) (length buf.old)) self.old.rest; inner = self.old.inner } }
+        ensures bytes { ReadConsumes (prepend_known self.old.rest (R.remaining self.old.inner))
+            (prepend_known self.new.rest (R.remaining self.new.inner)) result buf.new }
+        ensures ahead { self.old.rest ≢ []
+            → result ≡ Ok (min (length self.old.rest) (length buf.old)) }
+        ensures rest { self.old.rest ≢ []
+            → self.new ≡ shorter (min (length self.old.rest) (length buf.old)) self.old }
         ensures behind { self.old.rest ≡ [] → self.new.rest ≡ [] }
     {
         let (_, mut rest) = self.bytes.as_slice().split_at(self.at);

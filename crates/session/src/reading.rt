@@ -11,7 +11,7 @@ pub(crate) enum Reading {
     /// It names the users.
     Names(Vec<User>),
     /// The line is refused.
-    Refused(Refusal),
+    Refuses(Refusal),
     /// The line makes this event.
     Asks(Event),
 }

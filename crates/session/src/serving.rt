@@ -1,16 +1,16 @@
 //! Sessions over a reader and a writer.
 
-ghost use Rattle.std.specs.Prelude.{◌≡◌, ◌<◌, ◌≤◌, ◌⊎◌, ◌++◌, ◌∷◌, [], ⊤, ℕ, List, Option, OnOk, OnErr, IfErr, MatchBool, length};
-ghost use Rattle.std.specs.Io.KnownBytes.{Appends, Consumes, IsAtEnd};
+ghost use Rattle.std.specs.Prelude.{◌≡◌, ◌<◌, ◌⊎◌, ◌∷◌, [], ℕ, List, OnOk, OnErr, IfErr, MatchBool, length};
+ghost use Rattle.std.specs.Io.KnownBytes.{Consumes, IsAtEnd};
 ghost use Rattle.model.specs.declared.refusal.Refusal.TheVariants.{InputFault, OutputFault};
 ghost use Rattle.model.specs.Lines.{lines_of};
-ghost use Rattle.session.specs.Serving.{Progress, AnsweredSoFar, EndedEarly, Finished, HasFailed, IsHeld, IsOwn};
+ghost use Rattle.session.specs.Serving.{GoesOn, EndsIn, Finishes, EndsAtLast, AnsweredSoFar, EndedEarly, Finished, HoldsMore, IsOwn, MayBeFault};
 
 use crate::answer::{Answer, Faults};
+use crate::cut::cut;
 use crate::forms::LONGEST_LINE;
 use crate::session::{Mode, Session};
 use crate::streams::{flush, read_some, write_whole};
-use memchr::memchr;
 use model::Refusal;
 use std::alloc::{AllocError, Global};
 use std::io::{Read, Write};
@@ -20,7 +20,7 @@ pub(crate) const CHUNK: usize = 65_536;
 
 /// Holds more of the line begun, no more than shows whether it is too long.
 pub(crate) fn hold(held: &mut Vec<u8>, bytes: &[u8]) -> Result<(), AllocError>
-    ensures { OnOk result ((partial : List ℕ) → IsHeld partial held.old.items → IsHeld (partial ++ bytes.now) held.new.items) }
+    ensures { OnOk result (HoldsMore held.old.items bytes.now held.new.items) }
 {
     let room = (LONGEST_LINE + 1).saturating_sub(held.len());
     let fits = room.min(bytes.len());
@@ -45,15 +45,15 @@ fn end_line<W: Write + Faults, A: Answer>(
     before: u64,
     answer: &mut A,
 ) -> Result<(), Refusal>
-    ensures ok { OnOk result ((first : A) (blank : Option (List ℕ)) (input : List ℕ)
-        → Progress A.answers first answer.old blank (W.contents writer.old) input session.old held.old.items
-        → Progress A.answers first answer.new blank (W.contents writer.new) (input ++ 10 ∷ []) session.new held.new.items) }
+    ensures ok { OnOk result (GoesOn A.answers answer.old answer.new
+        (W.contents writer.old) (W.contents writer.new)
+        session.old session.new held.old.items held.new.items (10 ∷ [])) }
     ensures empty { OnOk result (held.new.items ≡ []) }
-    ensures err { IfErr result (λ why. (first : A) (blank : Option (List ℕ)) (input more : List ℕ)
-        → Progress A.answers first answer.old blank (W.contents writer.old) input session.old held.old.items
-        → EndedEarly A.answers first answer.new blank (W.contents writer.new) (input ++ 10 ∷ more) ⊥ why) }
+    ensures err { IfErr result (λ why. (more : List ℕ) → EndsIn A.answers answer.old answer.new
+        (W.contents writer.old) (W.contents writer.new)
+        session.old held.old.items (10 ∷ more) why) }
     ensures errors { IfErr result IsOwn }
-    ensures fault { IfErr result (λ why. why ≡ OutputFault → HasFailed before (W.failed writer.new)) }
+    ensures fault { IfErr result (MayBeFault OutputFault before (W.failed writer.new)) }
 {
     let reading = session.read(alloc, held.as_slice())?;
     *held = Vec::new(alloc);
@@ -76,19 +76,17 @@ fn feed<W: Write + Faults, A: Answer>(
     before: u64,
     answer: &mut A,
 ) -> Result<(), Refusal>
-    ensures ok { OnOk result ((first : A) (blank : Option (List ℕ)) (input : List ℕ)
-        → Progress A.answers first answer.old blank (W.contents writer.old) input session.old held.old.items
-        → Progress A.answers first answer.new blank (W.contents writer.new) (input ++ piece.now) session.new held.new.items) }
-    ensures err { IfErr result (λ why. (first : A) (blank : Option (List ℕ)) (input : List ℕ)
-        → Progress A.answers first answer.old blank (W.contents writer.old) input session.old held.old.items
-        → EndedEarly A.answers first answer.new blank (W.contents writer.new) (input ++ piece.now) ⊥ why) }
+    ensures ok { OnOk result (GoesOn A.answers answer.old answer.new
+        (W.contents writer.old) (W.contents writer.new)
+        session.old session.new held.old.items held.new.items piece.now) }
+    ensures err { IfErr result (EndsIn A.answers answer.old answer.new
+        (W.contents writer.old) (W.contents writer.new)
+        session.old held.old.items piece.now) }
     ensures errors { IfErr result IsOwn }
-    ensures fault { IfErr result (λ why. why ≡ OutputFault → HasFailed before (W.failed writer.new)) }
+    ensures fault { IfErr result (MayBeFault OutputFault before (W.failed writer.new)) }
 {
     let mut rest = piece;
-    while let Some(at) = memchr(b'\n', rest) {
-        let (line, newline) = rest.split_at(at);
-        let (_, after) = newline.split_at(1);
+    while let Some((line, after)) = cut(b'\n', rest) {
         hold(held, line)?;
         end_line(alloc, session, held, writer, before, answer)?;
         rest = after;
@@ -106,14 +104,12 @@ fn finish<W: Write + Faults, A: Answer>(
     before: u64,
     answer: &mut A,
 ) -> Result<(), Refusal>
-    ensures ok { OnOk result ((first : A) (blank : Option (List ℕ)) (input : List ℕ)
-        → Progress A.answers first answer.old blank (W.contents writer.old) input session.old held.old.items
-        → Finished A.answers first answer.new blank (W.contents writer.new) (lines_of input)) }
-    ensures err { IfErr result (λ why. (first : A) (blank : Option (List ℕ)) (input : List ℕ)
-        → Progress A.answers first answer.old blank (W.contents writer.old) input session.old held.old.items
-        → EndedEarly A.answers first answer.new blank (W.contents writer.new) input ⊤ why) }
+    ensures ok { OnOk result (Finishes A.answers answer.old answer.new
+        (W.contents writer.old) (W.contents writer.new) session.old held.old.items) }
+    ensures err { IfErr result (EndsAtLast A.answers answer.old answer.new
+        (W.contents writer.old) (W.contents writer.new) session.old held.old.items) }
     ensures errors { IfErr result IsOwn }
-    ensures fault { IfErr result (λ why. why ≡ OutputFault → HasFailed before (W.failed writer.new)) }
+    ensures fault { IfErr result (MayBeFault OutputFault before (W.failed writer.new)) }
 {
     if !is_begun(held.as_slice()) {
         return Ok(());
@@ -138,16 +134,21 @@ pub fn serve<R: Read + Faults, W: Write + Faults, A: Answer>(
 ) -> Result<(), Refusal>
     // To the input's end, each of its lines is answered, and all of their text is written.
     ensures ok { OnOk result ((input : List ℕ)
-        × Consumes (R.remaining reader.old) (R.remaining reader.new) input × IsAtEnd (R.remaining reader.new)
-        × Finished A.answers answer.old answer.new (W.contents writer.old) (W.contents writer.new) (lines_of input)) }
-    // Else the first lines are, whatever comes after what was read, and a beginning of their text is.
+        × Consumes (R.remaining reader.old) (R.remaining reader.new) input
+        × IsAtEnd (R.remaining reader.new)
+        × Finished A.answers answer.old answer.new
+        (W.contents writer.old) (W.contents writer.new) (lines_of input)) }
+    // Else the first lines are, whatever comes after what was read, and a beginning of their text.
     ensures err { IfErr result (λ why. (input : List ℕ)
         × Consumes (R.remaining reader.old) (R.remaining reader.new) input
-        × EndedEarly A.answers answer.old answer.new (W.contents writer.old) (W.contents writer.new)
+        × EndedEarly A.answers answer.old answer.new
+        (W.contents writer.old) (W.contents writer.new)
         input (IsAtEnd (R.remaining reader.new)) why) }
     ensures errors { IfErr result (λ why. (why ≡ InputFault) ⊎ IsOwn why) }
-    ensures input_fault { IfErr result (λ why. why ≡ InputFault → HasFailed (R.failed reader.old) (R.failed reader.new)) }
-    ensures output_fault { IfErr result (λ why. why ≡ OutputFault → HasFailed (W.failed writer.old) (W.failed writer.new)) }
+    ensures input_fault { IfErr result
+        (MayBeFault InputFault (R.failed reader.old) (R.failed reader.new)) }
+    ensures output_fault { IfErr result
+        (MayBeFault OutputFault (W.failed writer.old) (W.failed writer.new)) }
 {
     let reader_before = reader.failures();
     let writer_before = writer.failures();
@@ -200,7 +201,8 @@ pub fn serve_whole_lines<W: Write + Faults, A: Answer>(
     ensures err { IfErr result (EndedEarly A.answers answer.old answer.new
         (W.contents writer.old) (W.contents writer.new) bytes.now ⊥) }
     ensures errors { IfErr result IsOwn }
-    ensures output_fault { IfErr result (λ why. why ≡ OutputFault → HasFailed (W.failed writer.old) (W.failed writer.new)) }
+    ensures output_fault { IfErr result
+        (MayBeFault OutputFault (W.failed writer.old) (W.failed writer.new)) }
 {
     let before = writer.failures();
     let mut session = Session::new(alloc, mode);

@@ -1,12 +1,12 @@
 //! Sessions, a line at a time.
 
-ghost use Rattle.std.specs.Prelude.{◌≡◌, ◌+◌, ◌⊎◌, IfOk, IfErr, OnErr, length};
+ghost use Rattle.std.specs.Prelude.{◌≡◌, ◌⊎◌, IfOk, IfErr, OnErr};
 ghost use Rattle.model.specs.declared.refusal.Refusal.TheVariants.{Memory};
-ghost use Rattle.model.specs.Talk.{Row, fresh, form_of, Gets, after, row_text, answer_text, told_in, is_bad_users};
+ghost use Rattle.model.specs.Talk.{fresh, form_of, Gets, answer_text, told_in, is_bad_users};
 ghost use Rattle.model.specs.Steps as steps;
 ghost use Rattle.schedule.specs.Standing.{event_of, reply_of};
 ghost use Rattle.session.specs.Reading.{Becomes, IsRowOf};
-ghost use Rattle.session.specs.Serving.{Link};
+ghost use Rattle.session.specs.Serving.{Gives, StopsAt};
 
 use crate::answer::Answer;
 use crate::forms::read_line;
@@ -76,12 +76,11 @@ impl Session {
         reading: Reading,
         answer: &mut A,
     ) -> Result<Vec<u8>, Refusal>
-        ensures ok { IfOk result (λ text. (row : Row) × IsRowOf reading row
-            × (self.new ≡ after self.old row)
-            × (text.items ≡ row_text (length self.old.told + 1) row)
-            × Link A.answers answer.old row answer.new) }
+        ensures ok { IfOk result (λ text. Gives (IsRowOf reading)
+            A.answers self.old self.new answer.old answer.new text.items) }
         ensures memory { IfErr result (λ why. why ≡ Memory) }
-        ensures err { OnErr result ((answer.new ≡ answer.old) ⊎ ((row : Row) × IsRowOf reading row × Link A.answers answer.old row answer.new)) }
+        ensures err { OnErr result
+            (StopsAt (IsRowOf reading) A.answers answer.old answer.new) }
     {
         let number = self.told.len() + 1;
         match reading {
@@ -95,7 +94,7 @@ impl Session {
                 let text = answer_text(alloc, number, b"-", &Reply::Done)?;
                 Ok(text)
             }
-            Reading::Refused(why) => {
+            Reading::Refuses(why) => {
                 self.told.push(Told::nothing())?;
                 self.refused = is_bad_users(why) | self.refused;
                 let text = answer_text(alloc, number, b"-", &Reply::Refused(why))?;
@@ -120,14 +119,11 @@ impl Session {
         line: &[u8],
         answer: &mut A,
     ) -> Result<Vec<u8>, Refusal>
-        // The row that the line got, what is kept of it, what is printed for it, and what became of the answer.
-        ensures ok { IfOk result (λ text. (row : Row) × Gets (form_of self.old line.now) row
-            × (self.new ≡ after self.old row)
-            × (text.items ≡ row_text (length self.old.told + 1) row)
-            × Link A.answers answer.old row answer.new) }
+        ensures ok { IfOk result (λ text. Gives (Gets (form_of self.old line.now))
+            A.answers self.old self.new answer.old answer.new text.items) }
         ensures memory { IfErr result (λ why. why ≡ Memory) }
-        ensures err { OnErr result ((answer.new ≡ answer.old) ⊎ ((row : Row) × Gets (form_of self.old line.now) row
-            × Link A.answers answer.old row answer.new)) }
+        ensures err { OnErr result (StopsAt (Gets (form_of self.old line.now))
+            A.answers answer.old answer.new) }
     {
         let reading = self.read(alloc, line)?;
         self.answer(alloc, reading, answer)
@@ -148,9 +144,11 @@ fn ask<A: Answer>(
     answer: &mut A,
 ) -> Result<(Told, Vec<u8>), Refusal>
     ensures ok { IfOk result (λ r. (reply : steps.Reply) × (r.0 ≡ told_in reply)
-        × (r.1.items ≡ answer_text number event.actor reply) × A.answers answer.old (event_of event) reply answer.new) }
+        × (r.1.items ≡ answer_text number event.actor reply)
+        × A.answers answer.old (event_of event) reply answer.new) }
     ensures memory { IfErr result (λ why. why ≡ Memory) }
-    ensures err { OnErr result ((answer.new ≡ answer.old) ⊎ ((reply : steps.Reply) × A.answers answer.old (event_of event) reply answer.new)) }
+    ensures err { OnErr result ((answer.new ≡ answer.old)
+        ⊎ ((reply : steps.Reply) × A.answers answer.old (event_of event) reply answer.new)) }
 {
     let actor = event.actor.clone()?;
     let reply = answer.call(alloc, event);

@@ -1,21 +1,27 @@
 //! Reading from a reader and writing to a writer that count their failures.
 
-ghost use Rattle.std.specs.Prelude.{◌≡◌, ◌<◌, ◌≤◌, ◌⊎◌, ℕ, [], OnOk, OnErr, IfOk, IfErr, MatchOption, MatchResult, take, length};
-ghost use Rattle.std.specs.Io.KnownBytes.{Appends, Consumes, IsAtEnd};
+ghost use Rattle.std.specs.Prelude.{◌≡◌, ◌<◌, ◌⊎◌, ℕ, [], IsTrue, OnOk, OnErr, IfOk, IfErr, MatchResult, take, length};
+ghost use Rattle.std.specs.Io.KnownBytes.{Appends, Consumes};
 ghost use Rattle.model.specs.declared.refusal.Refusal.TheVariants.{InputFault, OutputFault, Memory};
-ghost use Rattle.session.specs.Serving.{HasFailed};
+ghost use Rattle.session.specs.Serving.{HasFailed, IsFault, MayBeFault, HasRead, HasWritten};
 
 use crate::answer::Faults;
 use model::Refusal;
 use std::io::{Read, Write};
 
+/// Whether a count of failures says that there was one since it was `before`.
+fn has_failed(before: u64, now: u64) -> bool
+    ensures { IsTrue result → HasFailed before now }
+{
+    now > before || now == u64::MAX
+}
+
 /// What becomes of a write or a flush that did nothing: the count of failures says whether it
 /// failed since `before`.
 fn stalled<W: Faults>(writer: &W, before: u64) -> Result<usize, Refusal>
-    ensures { MatchResult result (λ n. n ≡ 0) (λ why. (why ≡ OutputFault) × HasFailed before (W.failed writer.now)) }
+    ensures { MatchResult result (λ n. n ≡ 0) (IsFault OutputFault before (W.failed writer.now)) }
 {
-    let now = writer.failures();
-    if now > before || now == u64::MAX {
+    if has_failed(before, writer.failures()) {
         return Err(Refusal::OutputFault);
     }
     Ok(0)
@@ -27,9 +33,10 @@ fn write_some<W: Write + Faults>(
     before: u64,
     bytes: &[u8],
 ) -> Result<usize, Refusal>
-    ensures ok { IfOk result (λ n. (n ≤ length bytes.now) × Appends (W.contents writer.old) (W.contents writer.new) (take n bytes.now)) }
+    ensures ok { IfOk result
+        (HasWritten (W.contents writer.old) (W.contents writer.new) bytes.now) }
     ensures err { OnErr result (Appends (W.contents writer.old) (W.contents writer.new) []) }
-    ensures fault { IfErr result (λ why. (why ≡ OutputFault) × HasFailed before (W.failed writer.new)) }
+    ensures fault { IfErr result (IsFault OutputFault before (W.failed writer.new)) }
 {
     match writer.write(bytes) {
         Ok(0) | Err(_) => stalled(writer, before),
@@ -46,9 +53,10 @@ pub(crate) fn write_whole<W: Write + Faults>(
     text: &[u8],
 ) -> Result<(), Refusal>
     ensures ok { OnOk result (Appends (W.contents writer.old) (W.contents writer.new) text.now) }
-    ensures err { OnErr result ((n : ℕ) × Appends (W.contents writer.old) (W.contents writer.new) (take n text.now)) }
+    ensures err { OnErr result ((n : ℕ)
+        × Appends (W.contents writer.old) (W.contents writer.new) (take n text.now)) }
     ensures errors { IfErr result (λ why. (why ≡ OutputFault) ⊎ (why ≡ Memory)) }
-    ensures fault { IfErr result (λ why. why ≡ OutputFault → HasFailed before (W.failed writer.new)) }
+    ensures fault { IfErr result (MayBeFault OutputFault before (W.failed writer.new)) }
 {
     let mut rest = text;
     for _ in 0..u64::MAX {
@@ -65,7 +73,7 @@ pub(crate) fn write_whole<W: Write + Faults>(
 /// Flushes once. Whether it was flushed.
 fn flush_once<W: Write + Faults>(writer: &mut W, before: u64) -> Result<bool, Refusal>
     ensures kept { Appends (W.contents writer.old) (W.contents writer.new) [] }
-    ensures fault { IfErr result (λ why. (why ≡ OutputFault) × HasFailed before (W.failed writer.new)) }
+    ensures fault { IfErr result (IsFault OutputFault before (W.failed writer.new)) }
 {
     match writer.flush() {
         Ok(()) => Ok(true),
@@ -80,7 +88,7 @@ fn flush_once<W: Write + Faults>(writer: &mut W, before: u64) -> Result<bool, Re
 pub(crate) fn flush<W: Write + Faults>(writer: &mut W, before: u64) -> Result<(), Refusal>
     ensures kept { Appends (W.contents writer.old) (W.contents writer.new) [] }
     ensures errors { IfErr result (λ why. (why ≡ OutputFault) ⊎ (why ≡ Memory)) }
-    ensures fault { IfErr result (λ why. why ≡ OutputFault → HasFailed before (W.failed writer.new)) }
+    ensures fault { IfErr result (MayBeFault OutputFault before (W.failed writer.new)) }
 {
     for _ in 0..u64::MAX {
         if flush_once(writer, before)? {
@@ -98,16 +106,15 @@ pub(crate) fn read_some<R: Read + Faults>(
     chunk: &mut [u8],
 ) -> Result<Option<usize>, Refusal>
     requires { 0 < length chunk.old }
-    ensures ok { IfOk result (λ r. MatchOption r (Consumes (R.remaining reader.old) (R.remaining reader.new) []) (λ n. (n ≤ length chunk.new)
-        × Consumes (R.remaining reader.old) (R.remaining reader.new) (take n chunk.new) × (n ≡ 0 → IsAtEnd (R.remaining reader.new)))) }
+    ensures ok { IfOk result
+        (HasRead (R.remaining reader.old) (R.remaining reader.new) chunk.new) }
     ensures err { OnErr result (Consumes (R.remaining reader.old) (R.remaining reader.new) []) }
-    ensures fault { IfErr result (λ why. (why ≡ InputFault) × HasFailed before (R.failed reader.new)) }
+    ensures fault { IfErr result (IsFault InputFault before (R.failed reader.new)) }
 {
     match reader.read(chunk) {
         Ok(n) => Ok(Some(n)),
         Err(_) => {
-            let now = reader.failures();
-            if now > before || now == u64::MAX {
+            if has_failed(before, reader.failures()) {
                 return Err(Refusal::InputFault);
             }
             Ok(None)

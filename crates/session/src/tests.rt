@@ -1,4 +1,5 @@
 //! Sessions in pieces, with each read and each write failing, and the users that are read ahead.
+//! What lines get is tested by the files in `tests/program/lines`, at the top of the repository.
 
 use crate::{
     Ahead, Faults, Mode, NoUsers, Prefixed, Session, read_ahead, serve, serve_whole_lines,
@@ -64,16 +65,16 @@ impl Count {
         }
     }
 
-    /// Counts a call. Gives how many bytes it moves at most, or nothing where it fails.
-    fn call(&mut self) -> Option<usize> {
+    /// Counts a call. Gives how many bytes it moves at most.
+    fn call(&mut self) -> io::Result<usize> {
         self.made = self.made.saturating_add(1);
         if self.made == self.calls.fails {
             self.failed = self.failed.saturating_add(1);
-            None
+            Err(io::Error::from(ErrorKind::Other))
         } else if self.made == self.calls.part {
-            Some(1)
+            Ok(1)
         } else {
-            Some(self.calls.step)
+            Ok(self.calls.step)
         }
     }
 }
@@ -96,9 +97,7 @@ impl Faults for Source {
 
 impl Read for Source {
     fn read(&mut self, buf: &mut [u8]) -> io::Result<usize> {
-        let Some(most) = self.count.call() else {
-            return Err(io::Error::from(ErrorKind::Other));
-        };
+        let most = self.count.call()?;
         let rest = self.bytes.as_slice().get(self.at..).unwrap_or(&[]);
         let n = rest.len().min(most).min(buf.len());
         buf[..n].copy_from_slice(&rest[..n]);
@@ -126,9 +125,7 @@ impl Faults for Sink {
 
 impl Write for Sink {
     fn write(&mut self, buf: &[u8]) -> io::Result<usize> {
-        let Some(most) = self.count.call() else {
-            return Err(io::Error::from(ErrorKind::Other));
-        };
+        let most = self.count.call()?;
         let n = buf.len().min(most);
         match self.bytes.extend_from_slice(&buf[..n]) {
             Ok(()) => Ok(n),
@@ -137,14 +134,10 @@ impl Write for Sink {
     }
 
     fn flush(&mut self) -> io::Result<()> {
-        match self.count.call() {
-            Some(_) => {
-                self.shown = self.bytes.len();
-                self.flushes = self.flushes.saturating_add(1);
-                Ok(())
-            }
-            None => Err(io::Error::from(ErrorKind::Other)),
-        }
+        self.count.call()?;
+        self.shown = self.bytes.len();
+        self.flushes = self.flushes.saturating_add(1);
+        Ok(())
     }
 }
 
@@ -211,118 +204,44 @@ fn talk(rt: &HostRuntime, input: &[u8], reads: Calls, writes: Calls) -> Result<O
     })
 }
 
-// The lines of a session, and what is printed for them. The paths are those of Python's hashlib.
-const LINES: [&[u8]; 28] = [
-    b"# comment\n",
-    b"\n",
-    b"alice source a f:\n",
-    b"users alice bob\n",
-    b"alice source a f:\n",
-    b"alice source  f:\n",
-    b"alice source .x\n",
-    b"eve source .x f:\n",
-    b"eve source x f:\n",
-    b"alice fetch {p5}\n",
-    b"alice fetch {p9}\n",
-    b"alice fetch {p12}\n",
-    b"alice fetch {p05}\n",
-    b"alice source b f:{h5}\n",
-    b"alice fetch {p14}\n",
-    b"users alice\n",
-    b"users source a f:\n",
-    b"alice source x f:6\n",
-    b"alice source x f:6G\n",
-    b"Alice source x f:\n",
-    b"alice source x q:\n",
-    b"alice fetch {p1}\n",
-    b"alice fetch {{p5}\n",
-    b"alice fetch x\x7f\n",
-    b"wait\n",
-    b"alice source a \n",
-    b"alice fetch {x5}\n",
-    b"alice fetch {p5\n",
-];
+// A session, of which the last line lacks its newline, and what is printed for it. The path is that
+// of Python's hashlib.
+const INPUT: &[u8] =
+    b"# comment\nusers alice bob\nalice source a f:\n\nbob fetch {p3}\nalice fetch {p3}";
 
-const TEXT: [&[u8]; 26] = [
-    b"3 - refused 25 BadLine\n",
-    b"4 - ok\n",
-    b"5 alice path /nix/store/w996igw5fhzp5pmk8g9bfv99is99b0ap-a\n",
-    b"6 - refused 25 BadLine\n",
-    b"7 - refused 25 BadLine\n",
-    b"8 - refused 21 BadName\n",
-    b"9 eve refused 11 UnknownUser\n",
-    b"10 alice tree f:\n",
-    b"11 - refused 25 BadLine\n",
-    b"12 - refused 24 BadPath\n",
-    b"13 - refused 24 BadPath\n",
-    b"14 alice path /nix/store/jdxq9ya4mvpqh13g2b23xhvgfby5gddw-b\n",
-    b"15 alice tree f:773939366967773566687a7035706d6b38673962667639396973393962306170\n",
-    b"16 - refused 25 BadLine\n",
-    b"17 - refused 25 BadLine\n",
-    b"18 - refused 23 BadNar\n",
-    b"19 - refused 23 BadNar\n",
-    b"20 - refused 25 BadLine\n",
-    b"21 - refused 23 BadNar\n",
-    b"22 - refused 25 BadLine\n",
-    b"23 - refused 24 BadPath\n",
-    b"24 - refused 25 BadLine\n",
-    b"25 - refused 25 BadLine\n",
-    b"26 - refused 25 BadLine\n",
-    b"27 - refused 24 BadPath\n",
-    b"28 - refused 24 BadPath\n",
-];
+const OUTPUT: &[u8] =
+    b"2 - ok\n3 alice path /nix/store/w996igw5fhzp5pmk8g9bfv99is99b0ap-a\n5 bob refused 53 NotHeld\n6 alice tree f:\n";
 
-fn joined(alloc: Global, lines: &[&[u8]]) -> Result<Vec<u8>, Fail> {
-    let mut text = Vec::new(alloc);
-    for line in lines {
-        text.extend_from_slice(*line)?;
-    }
-    Ok(text)
-}
-
-#[test]
-fn first_path(rt: HostRuntime) -> Result<(), Fail> {
-    let input = b"users alice bob\nalice source a f:\nbob fetch {p2}\nalice fetch {p2}\n";
-    let output =
-        b"1 - ok\n2 alice path /nix/store/w996igw5fhzp5pmk8g9bfv99is99b0ap-a\n3 bob refused 53 NotHeld\n4 alice tree f:\n";
-    let Outcome {
-        ended,
-        text,
-        shown,
-        flushes,
-        ..
-    } = talk(&rt, input.as_slice(), steady(4096), steady(4096))?;
-    assert_eq!(rt; ended, Ok(()));
-    assert_eq!(rt; text.as_slice(), output.as_slice());
-    assert_eq!(rt; (shown, flushes), (output.len(), 1u64));
-    Ok(())
-}
+// The lengths of these lines.
+const LENGTHS: [usize; 4] = [7, 59, 25, 16];
 
 #[test]
 fn pieces_do_not_matter(rt: HostRuntime) -> Result<(), Fail> {
-    let input = joined(rt.alloc(), &LINES)?;
-    let output = joined(rt.alloc(), &TEXT)?;
     for step in [1usize, 2, 7, 4096] {
-        let Outcome { ended, text, .. } = talk(&rt, input.as_slice(), steady(step), steady(step))?;
-        assert_eq!(rt; ended, Ok(()), "pieces of {step}");
-        assert_eq!(rt; text.as_slice(), output.as_slice(), "pieces of {step}");
+        let whole = talk(&rt, INPUT, steady(step), steady(step))?;
+        assert_eq!(rt; whole.ended, Ok(()), "pieces of {step}");
+        assert_eq!(rt; whole.text.as_slice(), OUTPUT, "pieces of {step}");
+        assert_eq!(rt; (whole.shown, whole.flushes), (OUTPUT.len(), 1u64));
     }
+    Ok(())
+}
+
+/// The first read that fails ends the session with 71, after a beginning of the output.
+fn read_fails(rt: &HostRuntime, reads: Calls) -> Result<(), Fail> {
+    let outcome = talk(rt, INPUT, reads, steady(4096))?;
+    assert_eq!(rt; outcome.ended, Err(Refusal::InputFault));
+    assert!(rt; OUTPUT.starts_with(outcome.text.as_slice()));
     Ok(())
 }
 
 #[test]
 fn each_read_fails(rt: HostRuntime) -> Result<(), Fail> {
-    let input = joined(rt.alloc(), &LINES)?;
-    let output = joined(rt.alloc(), &TEXT)?;
     for step in [7usize, 25, 4096] {
-        let whole = talk(&rt, input.as_slice(), steady(step), steady(4096))?;
-        assert_eq!(rt; whole.reads, input.len().div_ceil(step) as u64 + 1);
+        let whole = talk(&rt, INPUT, steady(step), steady(4096))?;
+        assert_eq!(rt; whole.reads, INPUT.len().div_ceil(step) as u64 + 1);
         for k in 1..=whole.reads {
-            for reads in [failing(step, k), failing_after_a_part(step, k)] {
-                let Outcome { ended, text, .. } = talk(&rt, input.as_slice(), reads, steady(4096))?;
-                assert_eq!(rt; ended, Err(Refusal::InputFault), "read {k} of {step}");
-                assert!(rt; output.starts_with(text.as_slice()), "read {k} of {step}");
-            }
+            read_fails(&rt, failing(step, k))?;
+            read_fails(&rt, failing_after_a_part(step, k))?;
         }
     }
     Ok(())
@@ -331,62 +250,45 @@ fn each_read_fails(rt: HostRuntime) -> Result<(), Fail> {
 #[test]
 fn half_a_line_is_no_event(rt: HostRuntime) -> Result<(), Fail> {
     let input = b"users alice\nalice source a f:61";
-    let Outcome { ended, text, .. } = talk(&rt, input.as_slice(), failing(4096, 2), steady(4096))?;
-    assert_eq!(rt; ended, Err(Refusal::InputFault));
-    assert_eq!(rt; text.as_slice(), b"1 - ok\n".as_slice());
+    let outcome = talk(&rt, input.as_slice(), failing(4096, 2), steady(4096))?;
+    assert_eq!(rt; outcome.ended, Err(Refusal::InputFault));
+    assert_eq!(rt; outcome.text.as_slice(), b"1 - ok\n".as_slice());
+    Ok(())
+}
+
+/// The first write that fails ends the session with 72, after a beginning of the output.
+fn write_fails(rt: &HostRuntime, writes: Calls) -> Result<(), Fail> {
+    let outcome = talk(rt, INPUT, steady(4096), writes)?;
+    assert_eq!(rt; outcome.ended, Err(Refusal::OutputFault));
+    assert!(rt; OUTPUT.starts_with(outcome.text.as_slice()));
     Ok(())
 }
 
 #[test]
 fn each_write_fails(rt: HostRuntime) -> Result<(), Fail> {
-    let input = joined(rt.alloc(), &LINES)?;
-    let output = joined(rt.alloc(), &TEXT)?;
     for step in [5usize, 4096] {
-        let whole = talk(&rt, input.as_slice(), steady(4096), steady(step))?;
+        let whole = talk(&rt, INPUT, steady(4096), steady(step))?;
         let mut writes = 1u64;
-        for line in TEXT {
-            writes = writes.saturating_add(line.len().div_ceil(step) as u64);
+        for length in LENGTHS {
+            writes = writes.saturating_add(length.div_ceil(step) as u64);
         }
         assert_eq!(rt; whole.writes, writes);
         for k in 1..=whole.writes {
-            for writes in [failing(step, k), failing_after_a_part(step, k)] {
-                let Outcome { ended, text, .. } = talk(
-                    &rt,
-                    input.as_slice(),
-                    steady(4096),
-                    writes,
-                )?;
-                assert_eq!(rt; ended, Err(Refusal::OutputFault), "write {k} of {step}");
-                assert!(rt; output.starts_with(text.as_slice()), "write {k} of {step}");
-            }
+            write_fails(&rt, failing(step, k))?;
+            write_fails(&rt, failing_after_a_part(step, k))?;
         }
     }
     Ok(())
 }
 
 #[test]
-fn users_are_refused(rt: HostRuntime) -> Result<(), Fail> {
-    for names in [
-        b"users".as_slice(),
-        b"users alice alice",
-        b"users {p9}",
-        b"users a2345678901234567890123456789012x",
-    ] {
-        let mut input = Vec::from_slice(rt.alloc(), b"wait\n".as_slice())?;
-        input.extend_from_slice(names)?;
-        input.extend_from_slice(b"\nusers alice\n".as_slice())?;
-        let output = b"1 - refused 25 BadLine\n2 - refused 14 BadUsers\n";
-        let Outcome {
-            ended,
-            text,
-            shown,
-            flushes,
-            ..
-        } = talk(&rt, input.as_slice(), steady(4096), steady(4096))?;
-        assert_eq!(rt; ended, Err(Refusal::BadUsers));
-        assert_eq!(rt; text.as_slice(), output.as_slice());
-        assert_eq!(rt; (shown, flushes), (output.len(), 1u64));
-    }
+fn refused_users_are_shown(rt: HostRuntime) -> Result<(), Fail> {
+    let input = b"wait\nusers alice alice\nusers alice\n";
+    let output = b"1 - refused 25 BadLine\n2 - refused 14 BadUsers\n";
+    let outcome = talk(&rt, input.as_slice(), steady(4096), steady(4096))?;
+    assert_eq!(rt; outcome.ended, Err(Refusal::BadUsers));
+    assert_eq!(rt; outcome.text.as_slice(), output.as_slice());
+    assert_eq!(rt; (outcome.shown, outcome.flushes), (output.len(), 1u64));
     Ok(())
 }
 
@@ -408,12 +310,9 @@ fn a_line_at_a_time(rt: HostRuntime) -> Result<(), Fail> {
 #[test]
 fn users_are_read_ahead(rt: HostRuntime) -> Result<(), Fail> {
     let alloc = rt.alloc();
-    let input = joined(alloc, &LINES)?;
-    let output = joined(alloc, &TEXT)?;
     for step in [1usize, 7, 4096] {
-        let mut source = source_of(alloc, input.as_slice(), steady(step))?;
-        let ahead = read_ahead(alloc, Mode::Service, &mut source)?;
-        let Ahead { bytes, users, .. } = ahead;
+        let mut source = source_of(alloc, INPUT, steady(step))?;
+        let Ahead { bytes, users, .. } = read_ahead(alloc, Mode::Service, &mut source)?;
         let Some(users) = users else {
             return Err(Fail::from(Refusal::BadUsers));
         };
@@ -421,7 +320,7 @@ fn users_are_read_ahead(rt: HostRuntime) -> Result<(), Fail> {
         let mut reader = Prefixed::new(bytes, &mut source);
         let mut text = Vec::new(alloc);
         serve(alloc, Mode::Service, &mut reader, &mut text, &mut core)?;
-        assert_eq!(rt; text.as_slice(), output.as_slice(), "pieces of {step}");
+        assert_eq!(rt; text.as_slice(), OUTPUT, "pieces of {step}");
     }
     Ok(())
 }

@@ -12,7 +12,8 @@ use std::alloc::Global;
 
 /// Adds the text of a reply.
 fn add_reply(alloc: Global, text: &mut Vec<u8>, reply: &Reply) -> Result<(), Refusal>
-    ensures text { OnOk result (text.new.items ≡ text.old.items ++ reply_text (reply_of reply.now)) }
+    ensures text { OnOk result
+        (text.new.items ≡ text.old.items ++ reply_text (reply_of reply.now)) }
     ensures memory { IfErr result (λ why. why ≡ Memory) }
 {
     match reply {
@@ -48,7 +49,8 @@ pub(crate) fn answer_text(
     actor: &[u8],
     reply: &Reply,
 ) -> Result<Vec<u8>, Refusal>
-    ensures text { IfOk result (λ text. text.items ≡ answer_text number actor.now (reply_of reply.now)) }
+    ensures text { IfOk result (λ text.
+        text.items ≡ answer_text number actor.now (reply_of reply.now)) }
     ensures memory { IfErr result (λ why. why ≡ Memory) }
 {
     let digits = number.to_string(alloc)?;

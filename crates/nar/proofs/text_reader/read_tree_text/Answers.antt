@@ -3,7 +3,7 @@ use Rattle.model.specs.Archives.{Tree, IsTree, nar}
 use Rattle.model.specs.TreeTexts.{tree_text_of}
 use Rattle.nar.specs.NodeTrees.{tree_of}
 use Rattle.nar.specs.TextReading.{whole_at}
-use Rattle.model.specs.Forms.{IsWellFormed}
+use Rattle.model.specs.Words.{IsWellFormed}
 use Rattle.nar.proofs.NodeLengths.{length-nar}
 use Rattle.nar.proofs.TextCompleteness.{whole_at-tree_text_of}
 use Rattle.nar.proofs.text_reader.read_tree_text.Goals as goal

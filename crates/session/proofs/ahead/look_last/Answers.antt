@@ -1,6 +1,6 @@
 use Rattle.std.proofs.Common.{subst, refl, List, ℕ, Some, None}
 use Rattle.model.specs.declared.refusal.Refusal.TheVariants.{BadUsers}
-use Rattle.model.specs.Talk.{Named, Declined}
+use Rattle.model.specs.Talk.{Names, Refuses}
 use Rattle.session.specs.Ahead.{Searched}
 use Rattle.session.proofs.AheadLemmas.{found-none, found-last}
 use Rattle.session.proofs.ahead.look_last.Goals as goal
@@ -14,13 +14,13 @@ pub returns-in-Users-clause-found : goal.returns-in-Users-clause-found
 returns-in-Users-clause-found c = λ input p.
     let some = rw c.if-not-is_begun.false at c.is_begun.ensures in
     let look = rw c.in-Users.is at c.in_ok-users.ensures.found in
-    found-last input c.args.session.now c.args.held.now (Named c.in-Users.users.items) (Some c.in-Users.users.items) some p look refl
+    found-last input c.args.session.now c.args.held.now (Names c.in-Users.users.items) (Some c.in-Users.users.items) some p look refl
 
 pub returns-in-Refused-clause-found : goal.returns-in-Refused-clause-found
 returns-in-Refused-clause-found c = λ input p.
     let some = rw c.if-not-is_begun.false at c.is_begun.ensures in
     let look = rw c.in-Refused.is at c.in_ok-users.ensures.found in
-    found-last input c.args.session.now c.args.held.now (Declined BadUsers) None some p look refl
+    found-last input c.args.session.now c.args.held.now (Refuses BadUsers) None some p look refl
 
 pub returns-in-Other-clause-found : goal.returns-in-Other-clause-found
 returns-in-Other-clause-found c = λ input p.

@@ -1,59 +1,73 @@
 use Rattle.std.proofs.Common.{◌≡◌, ◌∙◌, sym, ap, subst, refl, List, ℕ, [], ◌∷◌, ◌++◌, Some, None, append_assoc}
 use Rattle.std.proofs.lemmas.List.{append-nil}
 use Rattle.model.specs.declared.refusal.Refusal.TheVariants.{BadUsers}
-use Rattle.model.specs.Talk.{Named, Declined, form_of, Gets}
+use Rattle.model.specs.Talk.{Names, Refuses, form_of, Gets}
 use Rattle.session.specs.Ahead.{Searched, LooksAhead}
-use Rattle.session.proofs.FeedLemmas.{HasNoNewline-before, HasNoNewline-none, rest-cut, piece-all, piece-line, input-line, piece-rest}
+use Rattle.session.proofs.FeedLemmas.{cut-line, cut-rest, piece-all, piece-line, input-line, piece-rest}
 use Rattle.session.proofs.AheadLemmas.{searched-held, searched-line, found-line}
 use Rattle.session.proofs.ahead.look_on.Goals as goal
 
-pub loop-at-init : goal.loop-at-init
-loop-at-init c = ([], refl, λ input p. subst (λ (t : List ℕ). Searched t c.args.session.now c.args.held.now.items) (sym (append-nil input)) p)
+pub loop-line-init : goal.loop-line-init
+loop-line-init c = ([], refl, λ input p. subst (λ (t : List ℕ). Searched t c.args.session.now c.args.held.now.items) (sym (append-nil input)) p)
 
 pub returns-in-Users-clause-found : goal.returns-in-Users-clause-found
 returns-in-Users-clause-found c = λ input p more.
-    let i = c.loop-at.invariant in
-    let rest = c.loop-at.rest.now in
-    let line = c.split_at.result.0.now in
-    let after = c.split_at-in-Some.result.1.now in
-    let cut : rest ≡ line ++ 10 ∷ after = rest-cut rest line c.split_at.result.1.now after c.in-Some.at c.in-Some.ensures.0.high c.in-Some.ensures.1 c.split_at.ensures.front c.split_at.ensures.back c.split_at-in-Some.ensures.back in
-    let held : Searched ((input ++ i.0) ++ line) c.loop-at.session c.hold.new.held.items = searched-held (input ++ i.0) c.loop-at.session c.loop-at.held.items line c.hold.new.held.items (i.2 input p) (HasNoNewline-before rest c.in-Some.at line c.split_at.ensures.front c.in-Some.ensures.0) c.in_ok-hold.ensures in
+    let i = c.loop-line.invariant in
+    let rest = c.loop-line.rest.now in
+    let line = c.in-Some.line.now in
+    let after = c.in-Some.after.now in
+    let cut = cut-line rest line after c.in-Some.ensures.parts in
+    let held : Searched ((input ++ i.0) ++ line) c.loop-line.session c.hold.new.held.items =
+    searched-held (input ++ i.0) c.loop-line.session c.loop-line.held.items line c.hold.new.held.items (i.2 input p) cut.1 c.in_ok-hold.ensures in
     let look = rw c.in-Users.is at c.in_ok-users.ensures.found in
-    let g : Gets (form_of c.loop-at.session c.hold.new.held.items) (Named c.in-Users.users.items) = subst (λ (t : List ℕ). Gets (form_of c.loop-at.session t) (Named c.in-Users.users.items)) c.as_slice.ensures.value look in
-    let all : ((input ++ i.0) ++ line) ++ 10 ∷ (after ++ more) ≡ (input ++ c.args.piece.now) ++ more = sym (append_assoc ((input ++ i.0) ++ line) (10 ∷ after) more) ∙ ap (λ t. t ++ more) (piece-line input i.0 line rest c.args.piece.now after i.1 cut) in
-    subst (λ (t : List ℕ). LooksAhead t (Some c.in-Users.users.items)) all (found-line ((input ++ i.0) ++ line) c.loop-at.session c.hold.new.held.items (Named c.in-Users.users.items) (Some c.in-Users.users.items) (after ++ more) held g refl (λ e. cc))
+    let g : Gets (form_of c.loop-line.session c.hold.new.held.items) (Names c.in-Users.users.items) =
+    subst (λ (t : List ℕ). Gets (form_of c.loop-line.session t) (Names c.in-Users.users.items)) c.as_slice.ensures.value look in
+    let all : ((input ++ i.0) ++ line) ++ 10 ∷ (after ++ more) ≡ (input ++ c.args.piece.now) ++ more =
+    sym (append_assoc ((input ++ i.0) ++ line) (10 ∷ after) more) ∙ ap (λ t. t ++ more) (piece-line input i.0 line rest c.args.piece.now after i.1 cut.0) in
+    subst (λ (t : List ℕ). LooksAhead t (Some c.in-Users.users.items)) all
+    (found-line ((input ++ i.0) ++ line) c.loop-line.session c.hold.new.held.items (Names c.in-Users.users.items) (Some c.in-Users.users.items)
+    (after ++ more) held g refl (λ e. cc))
 
 pub returns-in-Refused-clause-found : goal.returns-in-Refused-clause-found
 returns-in-Refused-clause-found c = λ input p more.
-    let i = c.loop-at.invariant in
-    let rest = c.loop-at.rest.now in
-    let line = c.split_at.result.0.now in
-    let after = c.split_at-in-Some.result.1.now in
-    let cut : rest ≡ line ++ 10 ∷ after = rest-cut rest line c.split_at.result.1.now after c.in-Some.at c.in-Some.ensures.0.high c.in-Some.ensures.1 c.split_at.ensures.front c.split_at.ensures.back c.split_at-in-Some.ensures.back in
-    let held : Searched ((input ++ i.0) ++ line) c.loop-at.session c.hold.new.held.items = searched-held (input ++ i.0) c.loop-at.session c.loop-at.held.items line c.hold.new.held.items (i.2 input p) (HasNoNewline-before rest c.in-Some.at line c.split_at.ensures.front c.in-Some.ensures.0) c.in_ok-hold.ensures in
+    let i = c.loop-line.invariant in
+    let rest = c.loop-line.rest.now in
+    let line = c.in-Some.line.now in
+    let after = c.in-Some.after.now in
+    let cut = cut-line rest line after c.in-Some.ensures.parts in
+    let held : Searched ((input ++ i.0) ++ line) c.loop-line.session c.hold.new.held.items =
+    searched-held (input ++ i.0) c.loop-line.session c.loop-line.held.items line c.hold.new.held.items (i.2 input p) cut.1 c.in_ok-hold.ensures in
     let look = rw c.in-Refused.is at c.in_ok-users.ensures.found in
-    let g : Gets (form_of c.loop-at.session c.hold.new.held.items) (Declined BadUsers) = subst (λ (t : List ℕ). Gets (form_of c.loop-at.session t) (Declined BadUsers)) c.as_slice.ensures.value look in
-    let all : ((input ++ i.0) ++ line) ++ 10 ∷ (after ++ more) ≡ (input ++ c.args.piece.now) ++ more = sym (append_assoc ((input ++ i.0) ++ line) (10 ∷ after) more) ∙ ap (λ t. t ++ more) (piece-line input i.0 line rest c.args.piece.now after i.1 cut) in
-    subst (λ (t : List ℕ). LooksAhead t None) all (found-line ((input ++ i.0) ++ line) c.loop-at.session c.hold.new.held.items (Declined BadUsers) None (after ++ more) held g refl (λ e. refl))
+    let g : Gets (form_of c.loop-line.session c.hold.new.held.items) (Refuses BadUsers) =
+    subst (λ (t : List ℕ). Gets (form_of c.loop-line.session t) (Refuses BadUsers)) c.as_slice.ensures.value look in
+    let all : ((input ++ i.0) ++ line) ++ 10 ∷ (after ++ more) ≡ (input ++ c.args.piece.now) ++ more =
+    sym (append_assoc ((input ++ i.0) ++ line) (10 ∷ after) more) ∙ ap (λ t. t ++ more) (piece-line input i.0 line rest c.args.piece.now after i.1 cut.0) in
+    subst (λ (t : List ℕ). LooksAhead t None) all
+    (found-line ((input ++ i.0) ++ line) c.loop-line.session c.hold.new.held.items (Refuses BadUsers) None (after ++ more) held g refl (λ e. refl))
 
-pub loop-at-preserved : goal.loop-at-preserved
-loop-at-preserved c =
-    let i = c.loop-at.invariant in
-    let rest = c.loop-at.rest.now in
-    let line = c.split_at.result.0.now in
-    let after = c.split_at-in-Some.result.1.now in
-    let cut : rest ≡ line ++ 10 ∷ after = rest-cut rest line c.split_at.result.1.now after c.in-Some.at c.in-Some.ensures.0.high c.in-Some.ensures.1 c.split_at.ensures.front c.split_at.ensures.back c.split_at-in-Some.ensures.back in
+pub loop-line-preserved : goal.loop-line-preserved
+loop-line-preserved c =
+    let i = c.loop-line.invariant in
+    let rest = c.loop-line.rest.now in
+    let line = c.in-Some.line.now in
+    let after = c.in-Some.after.now in
+    let cut = cut-line rest line after c.in-Some.ensures.parts in
     let look = rw c.in-Other.is at c.in_ok-users.ensures.found in
-    let g : Gets (form_of c.loop-at.session c.hold.new.held.items) look.0 = subst (λ (t : List ℕ). Gets (form_of c.loop-at.session t) look.0) c.as_slice.ensures.value look.1 in (
+    let g : Gets (form_of c.loop-line.session c.hold.new.held.items) look.0 =
+    subst (λ (t : List ℕ). Gets (form_of c.loop-line.session t) look.0) c.as_slice.ensures.value look.1 in (
       i.0 ++ (line ++ 10 ∷ []),
-      piece-rest i.0 line rest c.args.piece.now after i.1 cut,
+      piece-rest i.0 line rest c.args.piece.now after i.1 cut.0,
       λ input p.
-          let held : Searched ((input ++ i.0) ++ line) c.loop-at.session c.hold.new.held.items = searched-held (input ++ i.0) c.loop-at.session c.loop-at.held.items line c.hold.new.held.items (i.2 input p) (HasNoNewline-before rest c.in-Some.at line c.split_at.ensures.front c.in-Some.ensures.0) c.in_ok-hold.ensures in
-          rw c.clear.ensures.items (subst (λ (t : List ℕ). Searched t c.look_at.new.session []) (input-line input i.0 line) (searched-line ((input ++ i.0) ++ line) c.loop-at.session c.look_at.new.session c.hold.new.held.items look.0 held g look.2 look.3 look.4)),
+          let held : Searched ((input ++ i.0) ++ line) c.loop-line.session c.hold.new.held.items =
+          searched-held (input ++ i.0) c.loop-line.session c.loop-line.held.items line c.hold.new.held.items (i.2 input p) cut.1 c.in_ok-hold.ensures in
+          rw c.clear.ensures.items
+          (subst (λ (t : List ℕ). Searched t c.look_at.new.session []) (input-line input i.0 line)
+          (searched-line ((input ++ i.0) ++ line) c.loop-line.session c.look_at.new.session c.hold.new.held.items look.0 held g look.2 look.3 look.4)),
     )
 
 pub returns-clause-found : goal.returns-clause-found
 returns-clause-found c = λ input p.
-    let i = c.loop-at.invariant in
-    subst (λ (t : List ℕ). Searched t c.loop-at.session c.hold-2.new.held.items) (piece-all input i.0 c.loop-at.rest.now c.args.piece.now i.1)
-    (searched-held (input ++ i.0) c.loop-at.session c.loop-at.held.items c.loop-at.rest.now c.hold-2.new.held.items (i.2 input p) (HasNoNewline-none c.loop-at.rest.now c.in_default.ensures) c.in_ok-hold-2.ensures)
+    let i = c.loop-line.invariant in
+    subst (λ (t : List ℕ). Searched t c.loop-line.session c.hold-2.new.held.items) (piece-all input i.0 c.loop-line.rest.now c.args.piece.now i.1)
+    (searched-held (input ++ i.0) c.loop-line.session c.loop-line.held.items c.loop-line.rest.now c.hold-2.new.held.items (i.2 input p)
+    (cut-rest c.loop-line.rest.now c.in_default.ensures.parts) c.in_ok-hold-2.ensures)

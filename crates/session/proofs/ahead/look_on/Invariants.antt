@@ -3,8 +3,10 @@ use Rattle.session.specs.Ahead.{Searched}
 use Rattle.session.proofs.ahead.look_on.Given as goal
 
 -- a front of the piece is searched, and the rest is left
-abbrev pub invariant-loop-at : goal.invariant-loop-at
-invariant-loop-at l = (front : List ℕ) × (l.piece ≡ front ++ l.rest) × ((input : List ℕ) → Searched input l.fn.session l.fn.held.items → Searched (input ++ front) l.session l.held.items)
+abbrev pub invariant-loop-line : goal.invariant-loop-line
+invariant-loop-line l =
+    (front : List ℕ) × (l.piece ≡ front ++ l.rest) × ((input : List ℕ) → Searched input l.fn.session l.fn.held.items
+    → Searched (input ++ front) l.session l.held.items)
 
-abbrev pub decreases-loop-at : goal.decreases-loop-at
-decreases-loop-at l = length l.rest
+abbrev pub decreases-loop-line : goal.decreases-loop-line
+decreases-loop-line l = length l.rest

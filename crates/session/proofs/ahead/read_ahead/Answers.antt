@@ -14,7 +14,8 @@ pub returns-then-n-eq0-clause-users : goal.returns-then-n-eq0-clause-users
 returns-then-n-eq0-clause-users g c = λ f more e.
     let i = c.loop.invariant in
     let bytes = c.loop.bytes.items in
-    let held : Searched bytes c.loop.session c.as_slice.result.now = subst (λ (t : List ℕ). Searched bytes c.loop.session t) (sym c.as_slice.ensures.value) i.1 in
+    let held : Searched bytes c.loop.session c.as_slice.result.now =
+    subst (λ (t : List ℕ). Searched bytes c.loop.session t) (sym c.as_slice.ensures.value) i.1 in
     rw (e refl, append-nil) (c.in_ok-users.ensures.found bytes held)
 
 pub loop-preserved : goal.loop-preserved
@@ -22,7 +23,10 @@ loop-preserved g c =
     let i = c.loop.invariant in
     let s = rw c.in-Ok-Some.field-0-is at c.in-Ok-Some.ensures.ok in
     let piece = c.split_at.result.0.now in
-    rw c.in_ok-extend_from_slice.ensures.items (consumes-more _ _ _ c.loop.bytes.items piece i.0 (rw c.split_at.ensures.front s.1), rw c.in-Other.is at (c.in_ok-users-2.ensures.found c.loop.bytes.items i.1))
+    rw c.in_ok-extend_from_slice.ensures.items (
+      consumes-more _ _ _ c.loop.bytes.items piece i.0 (rw c.split_at.ensures.front s.1),
+      rw c.in-Other.is at (c.in_ok-users-2.ensures.found c.loop.bytes.items i.1),
+    )
 
 pub returns-in-loop-clause-users : goal.returns-in-loop-clause-users
 returns-in-loop-clause-users g c = λ f more e.
@@ -38,19 +42,22 @@ returns-in-loop-clause-users g c = λ f more e.
 pub returns-in_err-users-clause-err : goal.returns-in_err-users-clause-err
 returns-in_err-users-clause-err g c =
     let s = rw c.in-Ok-Some.field-0-is at c.in-Ok-Some.ensures.ok in
-    let read : (input : List ℕ) × Consumes (g.R.Read.remaining c.args.reader.now) (g.R.Read.remaining c.read_some.new.reader) input = (c.loop.bytes.items, consumes-end _ _ _ c.loop.bytes.items _ c.in-Ok-Some.n c.if-n-eq0.true c.loop.invariant.0 s.1) in
+    let read : (input : List ℕ) × Consumes (g.R.Read.remaining c.args.reader.now) (g.R.Read.remaining c.read_some.new.reader) input =
+    (c.loop.bytes.items, consumes-end _ _ _ c.loop.bytes.items _ c.in-Ok-Some.n c.if-n-eq0.true c.loop.invariant.0 s.1) in
     on_err _ read
 
 pub returns-in_err-extend_from_slice-clause-err : goal.returns-in_err-extend_from_slice-clause-err
 returns-in_err-extend_from_slice-clause-err g c =
     let s = rw c.in-Ok-Some.field-0-is at c.in-Ok-Some.ensures.ok in
     let piece = c.split_at.result.0.now in
-    let read : (input : List ℕ) × Consumes (g.R.Read.remaining c.args.reader.now) (g.R.Read.remaining c.read_some.new.reader) input = (c.loop.bytes.items ++ piece, consumes-more _ _ _ c.loop.bytes.items piece c.loop.invariant.0 (rw c.split_at.ensures.front s.1)) in
+    let read : (input : List ℕ) × Consumes (g.R.Read.remaining c.args.reader.now) (g.R.Read.remaining c.read_some.new.reader) input =
+    (c.loop.bytes.items ++ piece, consumes-more _ _ _ c.loop.bytes.items piece c.loop.invariant.0 (rw c.split_at.ensures.front s.1)) in
     on_err _ read
 
 pub returns-in_err-users-2-clause-err : goal.returns-in_err-users-2-clause-err
 returns-in_err-users-2-clause-err g c =
     let s = rw c.in-Ok-Some.field-0-is at c.in-Ok-Some.ensures.ok in
     let piece = c.split_at.result.0.now in
-    let read : (input : List ℕ) × Consumes (g.R.Read.remaining c.args.reader.now) (g.R.Read.remaining c.read_some.new.reader) input = (c.loop.bytes.items ++ piece, consumes-more _ _ _ c.loop.bytes.items piece c.loop.invariant.0 (rw c.split_at.ensures.front s.1)) in
+    let read : (input : List ℕ) × Consumes (g.R.Read.remaining c.args.reader.now) (g.R.Read.remaining c.read_some.new.reader) input =
+    (c.loop.bytes.items ++ piece, consumes-more _ _ _ c.loop.bytes.items piece c.loop.invariant.0 (rw c.split_at.ensures.front s.1)) in
     on_err _ read

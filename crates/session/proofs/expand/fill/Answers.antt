@@ -14,7 +14,8 @@ returns-then-not-branch c =
     let told = c.args.told.now in
     let old = c.loop-piece.text.items in
     let piece = c.in-Some-cut.piece.now in
-    let none = none-of_test c.in_ok-add_piece.field-0 c.add_piece.new.text.items (joined (Some old) (piece_text told piece)) c.if-not-branch.true c.in_ok-add_piece.ensures in
+    let none = none-of_test c.in_ok-add_piece.field-0 c.add_piece.new.text.items
+    (joined (Some old) (piece_text told piece)) c.if-not-branch.true c.in_ok-add_piece.ensures in
     fill-stop told old c.loop-piece.rest.now piece c.in-Some-cut.others.now c.in-Some-cut.ensures.parts none ∙ c.loop-piece.invariant
 
 pub loop-piece-preserved : goal.loop-piece-preserved
@@ -31,7 +32,8 @@ returns-then-branch c =
     let told = c.args.told.now in
     let old = c.loop-piece.text.items in
     let rest = c.loop-piece.rest.now in
-    text-of_test c.in_ok-add_piece-2.field-0 c.add_piece-2.new.text.items (joined (Some old) (piece_text told rest)) c.if-branch.true c.in_ok-add_piece-2.ensures
+    text-of_test c.in_ok-add_piece-2.field-0 c.add_piece-2.new.text.items
+    (joined (Some old) (piece_text told rest)) c.if-branch.true c.in_ok-add_piece-2.ensures
     ∙ fill-last told old rest c.in_default-cut.ensures.parts ∙ c.loop-piece.invariant
 
 pub returns-else-branch : goal.returns-else-branch
@@ -39,5 +41,6 @@ returns-else-branch c =
     let told = c.args.told.now in
     let old = c.loop-piece.text.items in
     let rest = c.loop-piece.rest.now in
-    none-of_test c.in_ok-add_piece-2.field-0 c.add_piece-2.new.text.items (joined (Some old) (piece_text told rest)) c.if-branch.false c.in_ok-add_piece-2.ensures
+    none-of_test c.in_ok-add_piece-2.field-0 c.add_piece-2.new.text.items
+    (joined (Some old) (piece_text told rest)) c.if-branch.false c.in_ok-add_piece-2.ensures
     ∙ fill-last told old rest c.in_default-cut.ensures.parts ∙ c.loop-piece.invariant

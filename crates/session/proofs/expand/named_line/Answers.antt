@@ -4,4 +4,5 @@ use Rattle.session.proofs.expand.named_line.Goals as goal
 
 pub returns-then-count-number : goal.returns-then-count-number
 returns-then-count-number c =
-    sym (named-over c.args.count c.args.digits.now (omega (arith, c.loop-digit.invariant, number-grows c.loop-digit.number (drop c.loop-digit.digit-index c.args.digits.now))))
+    sym (named-over c.args.count c.args.digits.now
+    (omega (arith, c.loop-digit.invariant, number-grows c.loop-digit.number (drop c.loop-digit.digit-index c.args.digits.now))))

@@ -14,12 +14,17 @@ pub returns-in_err-end_line-clause-err : goal.returns-in_err-end_line-clause-err
 returns-in_err-end_line-clause-err g c =
     err-is _ _ _ c.from_residual.ensures.1 (λ first blank input p.
     let some : 0 < length c.args.held.now.items = rw c.as_slice.ensures.value at (rw c.if-not-is_begun.false at c.is_begun.ensures) in
-    early-closed g.A.Answer.answers first c.end_line.new.answer blank (g.W.Write.contents c.end_line.new.writer) input c.in_err-end_line.field-0.0 (lines-closed g.A.Answer.answers first blank c.args.answer.now (g.W.Write.contents c.args.writer.now) input c.args.session.now c.args.held.now.items p some)
-    (c.in_err-end_line.ensures.err first blank input [] p))
+    early-closed g.A.Answer.answers first c.end_line.new.answer blank (g.W.Write.contents c.end_line.new.writer) input c.in_err-end_line.field-0.0
+    (lines-closed g.A.Answer.answers first blank c.args.answer.now
+    (g.W.Write.contents c.args.writer.now) input c.args.session.now c.args.held.now.items p some)
+    (c.in_err-end_line.ensures.err [] first blank input p))
 
 pub returns-clause-ok : goal.returns-clause-ok
 returns-clause-ok g c = λ first blank input p.
     let some : 0 < length c.args.held.now.items = rw c.as_slice.ensures.value at (rw c.if-not-is_begun.false at c.is_begun.ensures) in
-    subst (λ t. Finished g.A.Answer.answers first c.end_line.new.answer blank (g.W.Write.contents c.end_line.new.writer) t) (lines-closed g.A.Answer.answers first blank c.args.answer.now (g.W.Write.contents c.args.writer.now) input c.args.session.now c.args.held.now.items p some)
+    subst (λ t. Finished g.A.Answer.answers first c.end_line.new.answer blank (g.W.Write.contents c.end_line.new.writer) t)
+    (lines-closed g.A.Answer.answers first blank c.args.answer.now
+    (g.W.Write.contents c.args.writer.now) input c.args.session.now c.args.held.now.items p some)
     (finished g.A.Answer.answers first blank c.end_line.new.answer (g.W.Write.contents c.end_line.new.writer) (input ++ 10 ∷ []) c.end_line.new.session
-    (subst (λ t. Progress g.A.Answer.answers first c.end_line.new.answer blank (g.W.Write.contents c.end_line.new.writer) (input ++ 10 ∷ []) c.end_line.new.session t) c.in_ok-end_line.ensures.empty (c.in_ok-end_line.ensures.ok first blank input p)))
+    (subst (λ t. Progress g.A.Answer.answers first c.end_line.new.answer blank (g.W.Write.contents c.end_line.new.writer)
+    (input ++ 10 ∷ []) c.end_line.new.session t) c.in_ok-end_line.ensures.empty (c.in_ok-end_line.ensures.ok first blank input p)))

@@ -9,4 +9,5 @@ returns c = λ partial e.
     let held = c.args.held.now.items in
     let bytes = c.args.bytes.now in
     let k : c.min-fits.result ≡ min (longest_line + 1 - length held) (length bytes) = omega (arith, c.args.held.now.ok.0) in
-    c.in_ok-extend_from_slice.ensures.items ∙ ap (λ k. held ++ take k bytes) k ∙ ap (λ t. held ++ t) (take_min (longest_line + 1 - length held) bytes) ∙ held-more (longest_line + 1) partial bytes held e
+    c.in_ok-extend_from_slice.ensures.items ∙ ap (λ k. held ++ take k bytes) k ∙ ap (λ t. held ++ t) (take_min (longest_line + 1 - length held) bytes)
+    ∙ held-more (longest_line + 1) partial bytes held e

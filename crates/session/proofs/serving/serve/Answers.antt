@@ -5,7 +5,12 @@ use Rattle.model.specs.Lines.{lines_of}
 use Rattle.session.proofs.serving.serve.Goals as goal
 
 pub loop-init : goal.loop-init
-loop-init g c = ([], consumes-none _, rw (c.new-held.ensures.items, c.new-session.ensures) (progress-none g.A.Answer.answers c.args.answer.now (g.W.Write.contents c.args.writer.now)))
+loop-init g c = (
+  [],
+  consumes-none _,
+  rw (c.new-held.ensures.items, c.new-session.ensures)
+      (progress-none g.A.Answer.answers c.args.answer.now (g.W.Write.contents c.args.writer.now)),
+)
 
 pub returns-in_err-n-clause-err : goal.returns-in_err-n-clause-err
 returns-in_err-n-clause-err g c =
@@ -14,7 +19,8 @@ returns-in_err-n-clause-err g c =
       i.0 ++ [],
       consumes-more _ _ _ i.0 [] i.1 c.in_err-n.ensures.err,
       early-weakened _ _ _ _ _ _ _ _ _ (λ b. absurd b)
-          (early-here g.A.Answer.answers c.args.answer.now (g.W.Write.contents c.args.writer.now) _ _ i.0 _ _ [] c.in_err-n.field-0.0 (by_input _ c.in_err-n.ensures.fault.0) i.2),
+          (early-here g.A.Answer.answers c.args.answer.now (g.W.Write.contents c.args.writer.now) _ _ i.0 _ _ [] c.in_err-n.field-0.0
+          (by_input _ c.in_err-n.ensures.fault.0) i.2),
     )
 
 pub returns-in_err-finish-clause-err : goal.returns-in_err-finish-clause-err
@@ -35,7 +41,9 @@ returns-in_err-flush-clause-err g c =
     err-is _ _ _ c.from_residual-in_err-flush.ensures.1 (
       i.0,
       consumes-end _ _ _ i.0 _ c.in-Some.n c.if-n-eq0.true i.1 s.1,
-      early-finished g.A.Answer.answers c.args.answer.now c.finish.new.answer (g.W.Write.contents c.args.writer.now) (g.W.Write.contents c.finish.new.writer) (g.W.Write.contents c.flush.new.writer) i.0 _ c.in_err-flush.field-0.0 (s.2 c.if-n-eq0.true) (by_output _ c.in_err-flush.ensures.errors)
+      early-finished g.A.Answer.answers c.args.answer.now c.finish.new.answer (g.W.Write.contents c.args.writer.now)
+          (g.W.Write.contents c.finish.new.writer) (g.W.Write.contents c.flush.new.writer) i.0 _ c.in_err-flush.field-0.0 (s.2 c.if-n-eq0.true)
+          (by_output _ c.in_err-flush.ensures.errors)
           (c.in_ok-finish.ensures.ok c.args.answer.now (g.W.Write.contents c.args.writer.now) i.0 i.2) c.in_err-flush.ensures.kept,
     )
 
@@ -46,7 +54,8 @@ returns-then-n-eq0-clause-ok g c =
       i.0,
       consumes-end _ _ _ i.0 _ c.in-Some.n c.if-n-eq0.true i.1 s.1,
       s.2 c.if-n-eq0.true,
-      finished-flushed g.A.Answer.answers c.args.answer.now c.finish.new.answer (g.W.Write.contents c.args.writer.now) (g.W.Write.contents c.finish.new.writer) (g.W.Write.contents c.flush.new.writer) (lines_of i.0)
+      finished-flushed g.A.Answer.answers c.args.answer.now c.finish.new.answer (g.W.Write.contents c.args.writer.now)
+          (g.W.Write.contents c.finish.new.writer) (g.W.Write.contents c.flush.new.writer) (lines_of i.0)
           (c.in_ok-finish.ensures.ok c.args.answer.now (g.W.Write.contents c.args.writer.now) i.0 i.2) c.in_ok-flush.ensures.kept,
     )
 
@@ -66,8 +75,11 @@ pub loop-preserved : goal.loop-preserved
 loop-preserved g c =
     let i = c.loop.invariant in
     let s = rw c.in-Some.is at c.in_ok-n.ensures.ok in
-    let piece = c.split_at.result.0.now in
-    (i.0 ++ piece, consumes-more _ _ _ i.0 piece i.1 (rw c.split_at.ensures.front s.1), c.in_ok-feed.ensures.ok c.args.answer.now (g.W.Write.contents c.args.writer.now) i.0 i.2)
+    let piece = c.split_at.result.0.now in (
+      i.0 ++ piece,
+      consumes-more _ _ _ i.0 piece i.1 (rw c.split_at.ensures.front s.1),
+      c.in_ok-feed.ensures.ok c.args.answer.now (g.W.Write.contents c.args.writer.now) i.0 i.2,
+    )
 
 pub returns-clause-err : goal.returns-clause-err
 returns-clause-err g c =

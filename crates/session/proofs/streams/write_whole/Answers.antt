@@ -5,8 +5,11 @@ use Rattle.session.proofs.streams.write_whole.Goals as goal
 pub loop-preserved : goal.loop-preserved
 loop-preserved g c =
     let i = c.loop.invariant in
-    let n = c.in_ok-n.n in
-    (i.0 ++ take n c.loop.rest.now, rw c.split_at.ensures.back (text-step c.args.text.now i.0 c.loop.rest.now n i.1), appends-more _ _ _ _ _ i.2 c.in_ok-n.ensures.ok.1)
+    let n = c.in_ok-n.n in (
+      i.0 ++ take n c.loop.rest.now,
+      rw c.split_at.ensures.back (text-step c.args.text.now i.0 c.loop.rest.now n i.1),
+      appends-more _ _ _ _ _ i.2 c.in_ok-n.ensures.ok.1,
+    )
 
 pub returns-in_err-n-clause-err : goal.returns-in_err-n-clause-err
 returns-in_err-n-clause-err g c =

@@ -1,0 +1,58 @@
+//! The verbs of lines, each with the kinds of its words.
+
+ghost use Rattle.std.specs.Prelude.{◌≡◌};
+ghost use Rattle.model.specs.Verbs.{verb_of, kinds_of};
+
+/// What a word of a line is to be.
+#[derive(Clone, Copy, Debug, PartialEq, Eq)]
+pub enum WordKind {
+    /// The name of a user.
+    User,
+    /// The name of a source.
+    Name,
+    /// The text of a store path.
+    Path,
+    /// The text of a tree.
+    Tree,
+    /// All that is left of the line, with its blanks. It is the only word of its verb.
+    Text,
+}
+
+/// What a line asks for its user. The word of a verb stands behind the user's name.
+#[derive(Clone, Copy, Debug, PartialEq, Eq)]
+pub enum Verb {
+    /// `source`: to add a tree under a name.
+    Source,
+    /// `derivation`: to add the derivation of a text.
+    Derivation,
+    /// `fetch`: the tree at a path.
+    Fetch,
+}
+
+impl Verb {
+    /// The verb that a word is, where it is one.
+    pub fn of(word: &[u8]) -> Option<Verb>
+        ensures { result ≡ verb_of word.now }
+    {
+        if word == b"source".as_slice() {
+            Some(Verb::Source)
+        } else if word == b"derivation".as_slice() {
+            Some(Verb::Derivation)
+        } else if word == b"fetch".as_slice() {
+            Some(Verb::Fetch)
+        } else {
+            None
+        }
+    }
+
+    /// The kinds of the words behind the verb.
+    pub fn kinds(self) -> &'static [WordKind]
+        ensures { result.now ≡ kinds_of self }
+    {
+        match self {
+            Verb::Source => &[WordKind::Name, WordKind::Tree],
+            Verb::Derivation => &[WordKind::Text],
+            Verb::Fetch => &[WordKind::Path],
+        }
+    }
+}
