@@ -4,7 +4,7 @@ use Rattle.std.specs.Prelude.{if◌then◌else◌, bytes_eq, codes, nat_lt, leng
 use Rattle.std.specs.List.{list_any, list_all}
 use Rattle.model.specs.declared.refusal.Refusal.TheVariants.{BadLine, TooLarge}
 use Rattle.model.specs.Worlds.{are_users}
-use Rattle.model.specs.Steps.{Event, Reply}
+use Rattle.model.specs.Events.{Event, Reply}
 use Rattle.model.specs.Lines.{Told, split, filled}
 use Rattle.model.specs.Forms.{Form, Silent, Names, Refuses, Asks, users_form, worded_form, text_form, line_form, is_empty_word, is_quiet, is_printable, longest_line}
 use Rattle.model.specs.Talk.{Row, Quiet, Named, Declined, Asked, Seen, after, after_all, form_of, Gets, Talks, asked_in, users_in}

@@ -8,5 +8,7 @@ mod refusal;
 #[cfg(test)]
 mod tests;
 
-pub use laws::{isolation, knowledge_is_admitted, knowledge_is_recursive, reach_is_least};
+pub use laws::{
+    isolation, knowledge_is_admitted, knowledge_is_recursive, never_fails, reach_is_least,
+};
 pub use refusal::{Refusal, RewriteFault};

@@ -4,7 +4,7 @@ use Rattle.model.specs.declared.refusal.Refusal.{Refusal}
 use Rattle.model.specs.declared.refusal.Refusal.TheVariants.{Memory}
 use Rattle.model.specs.Forms.{Form, Wish, UserWord, words_of_wish, AreWell, FirstIll, IsRequestOf}
 use Rattle.model.specs.Talk.{Row, Quiet, Named, Declined, Asked, Gets}
-use Rattle.model.specs.Steps as steps
+use Rattle.model.specs.Events as events
 use Rattle.schedule.specs.declared.events.Event.{Event}
 use Rattle.schedule.specs.Standing.{event_of, request_of}
 use Rattle.session.specs.declared.reading.Reading.{Reading}
@@ -23,11 +23,11 @@ abbrev pub IsRowOf : Reading → Row → Type 0
 IsRowOf Silent row = row ≡ Quiet
 IsRowOf (Names users) row = row ≡ Named users.items
 IsRowOf (Refused why) row = row ≡ Declined why
-IsRowOf (Asks event) row = (reply : steps.Reply) × (row ≡ Asked (event_of event) reply)
+IsRowOf (Asks event) row = (reply : events.Reply) × (row ≡ Asked (event_of event) reply)
 
 -- a line of that form comes to this
 abbrev pub Becomes : Form → Reading → Type 0
 Becomes form Silent = Gets form Quiet
 Becomes form (Names users) = Gets form (Named users.items)
 Becomes form (Refused why) = Gets form (Declined why)
-Becomes form (Asks event) = (reply : steps.Reply) → Gets form (Asked (event_of event) reply)
+Becomes form (Asks event) = (reply : events.Reply) → Gets form (Asked (event_of event) reply)

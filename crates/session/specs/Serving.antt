@@ -4,7 +4,7 @@ use mathlib.Core.List.{IsPrefix}
 use Rattle.std.specs.Io.KnownBytes.{Appends}
 use Rattle.model.specs.declared.refusal.Refusal.{Refusal}
 use Rattle.model.specs.declared.refusal.Refusal.TheVariants.{OutputFault, Memory, BadUsers}
-use Rattle.model.specs.Steps.{Event, Reply}
+use Rattle.model.specs.Events.{Event, Reply}
 use Rattle.model.specs.Lines.{lines_of}
 use Rattle.model.specs.Forms.{longest_line}
 use Rattle.model.specs.Talk.{Row, Quiet, Named, Declined, Asked, Seen, fresh, after_all, Talks, text_from}
