@@ -7,7 +7,7 @@ use Rattle.std.specs.Io.KnownBytes.{Appends, Consumes, IsAtEnd, prepend_known}
 use Rattle.model.specs.declared.refusal.Refusal.{Refusal}
 use Rattle.model.specs.declared.refusal.Refusal.TheVariants.{BadUsers, InputFault, OutputFault, Memory}
 use Rattle.model.specs.Worlds.{Setup, are_users}
-use Rattle.model.specs.Steps.{Event, Reply}
+use Rattle.model.specs.Events.{Event, Reply}
 use Rattle.model.specs.Lines.{lines_of}
 use Rattle.model.specs.Talk.{Row, fresh, Talks, text_from, asked_in, users_in}
 use Rattle.model.proofs.TalkLemmas.{none_asked, named_are_users, same_users, no_users}

@@ -3,14 +3,15 @@ use Rattle.std.proofs.Common.{◌≡◌, Bool, true, false, List, [], ◌∷◌,
 use Rattle.std.specs.Prelude.{not, filter}
 use Rattle.std.proofs.lemmas.List.{map_push, append-nil}
 use Rattle.model.specs.Worlds.{Setup}
-use Rattle.model.specs.Steps.{Event, Reply}
+use Rattle.model.specs.Events.{Event, Reply}
 use Rattle.model.specs.Talk as talk
 use Rattle.model.specs.Talk.{Silent, Names, Refuses, Asks, asked_in}
 use Rattle.session.specs.Serving.{Link, Chain}
 use Rattle.book.specs.declared.history.Row.{Row}
 use Rattle.book.specs.Callers.{Caller}
 use Rattle.book.specs.Histories.{IsLegal}
-use Rattle.book.specs.Answering.{has_no_row, IsOnlyAnswer}
+use Rattle.model.specs.Replies.{is_unrecorded}
+use Rattle.book.specs.Answering.{IsOnlyAnswer}
 use Rattle.book.proofs.HistoryLemmas.{legal_none}
 use Rattle.app.specs.Replaying.{recorded_in, pair_of, IsOneHistory}
 
@@ -18,8 +19,8 @@ use Rattle.app.specs.Replaying.{recorded_in, pair_of, IsOneHistory}
 abbrev recorded_of : talk.Row → List (Event × Reply)
 recorded_of row = recorded_in (row ∷ [])
 
-recorded_first : (event : Event) (reply : Reply) (rest : List (Event × Reply)) (b : Bool) → not (has_no_row reply) ≡ b
-    → filter (λ p. not (has_no_row p.1)) ((event, reply) ∷ rest) ≡ filter (λ p. not (has_no_row p.1)) ((event, reply) ∷ []) ++ filter (λ p. not (has_no_row p.1)) rest
+recorded_first : (event : Event) (reply : Reply) (rest : List (Event × Reply)) (b : Bool) → not (is_unrecorded reply) ≡ b
+    → filter (λ p. not (is_unrecorded p.1)) ((event, reply) ∷ rest) ≡ filter (λ p. not (is_unrecorded p.1)) ((event, reply) ∷ []) ++ filter (λ p. not (is_unrecorded p.1)) rest
 recorded_first event reply rest true is = rw is refl
 recorded_first event reply rest false is = rw is refl
 
@@ -27,7 +28,7 @@ recorded-cons : (row : talk.Row) (rows : List talk.Row) → recorded_in (row ∷
 recorded-cons Silent rows = refl
 recorded-cons (Names users) rows = refl
 recorded-cons (Refuses why) rows = refl
-recorded-cons (Asks event reply) rows = recorded_first event reply (asked_in rows) (not (has_no_row reply)) refl
+recorded-cons (Asks event reply) rows = recorded_first event reply (asked_in rows) (not (is_unrecorded reply)) refl
 
 -- the sure rows after some lines, from those before
 record GoesOn (setup : Setup) (old new : List Row) (pairs : List (Event × Reply)) : Type 0 where
@@ -41,7 +42,7 @@ stays setup old new same legal = record {
 }
 
 module _ (setup : Setup) where
-  asks : (old new : Caller) (event : Event) (reply : Reply) (b : Bool) → has_no_row reply ≡ b → IsOnlyAnswer setup old event reply new → IsLegal setup old.sure
+  asks : (old new : Caller) (event : Event) (reply : Reply) (b : Bool) → is_unrecorded reply ≡ b → IsOnlyAnswer setup old event reply new → IsLegal setup old.sure
       → GoesOn setup old.sure new.sure (recorded_of (Asks event reply))
   asks old new event reply true is answer legal = rw is (stays setup old.sure new.sure (answer.kept is) legal)
   asks old new event reply false is answer legal =
@@ -56,7 +57,7 @@ module _ (setup : Setup) where
   link old new Silent h legal = stays setup old.sure new.sure (ap (λ (p : Caller). p.sure) h) legal
   link old new (Names users) h legal = stays setup old.sure new.sure (ap (λ (p : Caller). p.sure) h) legal
   link old new (Refuses why) h legal = stays setup old.sure new.sure (ap (λ (p : Caller). p.sure) h) legal
-  link old new (Asks event reply) h legal = asks old new event reply (has_no_row reply) refl h legal
+  link old new (Asks event reply) h legal = asks old new event reply (is_unrecorded reply) refl h legal
 
   chain : (old new : Caller) (rows : List talk.Row) → Chain (IsOnlyAnswer setup) old rows new → IsLegal setup old.sure → GoesOn setup old.sure new.sure (recorded_in rows)
   chain old new [] h legal = stays setup old.sure new.sure (ap (λ (p : Caller). p.sure) h) legal

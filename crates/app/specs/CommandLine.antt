@@ -1,6 +1,7 @@
 -- What the matches of a command line name.
 use Rattle.std.specs.Prelude.{◌≡◌, ◌≤◌, ℕ, List, Option, Some, None, codes, string_bytes}
 use Rattle.std.specs.Str.Parse.{IsNumeral, digits_value, without_leading_plus}
+use Rattle.model.specs.Limits.{most_charge}
 use Rattle.clap.specs.Words.{first_value, found_of, one_text}
 use Rattle.clap.specs.declared.parser.matches.ArgMatches.{ArgMatches}
 use Rattle.app.specs.declared.settings.Options.{Options}
@@ -12,13 +13,13 @@ number_of text = digits_value 10 (without_leading_plus text)
 -- the text is a number that may limit the charge
 abbrev pub IsCharge : List ℕ → Type 0
 IsCharge text =
-    IsNumeral 10 (without_leading_plus text) × (1 ≤ number_of text) × (number_of text ≤ 1073741824)
+    IsNumeral 10 (without_leading_plus text) × (1 ≤ number_of text) × (number_of text ≤ most_charge)
 
 -- the limit is the number of the text where it may limit the charge, and else the largest
 abbrev pub IsChargeOf : Option (List ℕ) → ℕ → Type 0
-IsChargeOf None charge = charge ≡ 1073741824
+IsChargeOf None charge = charge ≡ most_charge
 IsChargeOf (Some text) charge =
-    (IsCharge text → charge ≡ number_of text) × (¬ IsCharge text → charge ≡ 1073741824)
+    (IsCharge text → charge ≡ number_of text) × (¬ IsCharge text → charge ≡ most_charge)
 
 -- the limit on the charge is what stands for `--charge`
 abbrev pub NamesCharge : ArgMatches → ℕ → Type 0

@@ -5,7 +5,7 @@ use Rattle.std.specs.Io.KnownBytes.{Appends, Consumes, IsAtEnd}
 use Rattle.model.specs.declared.refusal.Refusal.{Refusal}
 use Rattle.model.specs.declared.refusal.Refusal.TheVariants.{BadUsers}
 use Rattle.model.specs.Worlds.{Setup}
-use Rattle.model.specs.Steps.{Event, Reply}
+use Rattle.model.specs.Events.{Event, Reply}
 use Rattle.model.specs.Lines.{lines_of}
 use Rattle.model.specs.Talk as talk
 use Rattle.model.specs.Talk.{fresh, after_all, Talks, text_from, asked_in, users_in}
@@ -16,11 +16,12 @@ use Rattle.session.specs.Ahead.{NoUsersSoFar, LooksAhead}
 use Rattle.book.specs.declared.history.Row.{Row}
 use Rattle.book.specs.Histories.{event_in, IsLegal}
 use Rattle.book.specs.Callers.{Caller}
-use Rattle.book.specs.Answering.{has_no_row, IsOnlyAnswer}
+use Rattle.model.specs.Replies.{is_unrecorded}
+use Rattle.book.specs.Answering.{IsOnlyAnswer}
 
 -- the events that the lines made, with their replies, but for those that were answered 90 or 92
 abbrev pub recorded_in : List talk.Row → List (Event × Reply)
-recorded_in rows = filter (λ p. not (has_no_row p.1)) (asked_in rows)
+recorded_in rows = filter (λ p. not (is_unrecorded p.1)) (asked_in rows)
 
 -- a row of a history in the terms of the model
 abbrev pub pair_of : Row → Event × Reply

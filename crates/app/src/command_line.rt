@@ -1,6 +1,7 @@
 //! The command line.
 
 ghost use Rattle.std.specs.Prelude.{◌≤◌, IfOk};
+ghost use Rattle.model.specs.Limits.{most_charge};
 ghost use Rattle.app.specs.CommandLine.{AreOptionsOf, NamesCharge};
 
 use crate::settings::Options;
@@ -37,7 +38,7 @@ fn command<'a>(alloc: Global) -> Result<Command<'a>, AllocError> {
 
 /// The limit on the charge: as given, or the largest. The parser has refused every other number.
 fn charge_of(matches: &ArgMatches<'_>) -> u64
-    ensures within { (1 ≤ result) × (result ≤ 1073741824) }
+    ensures within { (1 ≤ result) × (result ≤ most_charge) }
     ensures value { NamesCharge matches.now result }
 {
     match matches.get_one::<u64>("charge") {

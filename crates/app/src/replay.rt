@@ -2,6 +2,7 @@
 
 ghost use Rattle.std.specs.Prelude.{◌≡◌, ◌≤◌, ℕ, List, [], Some, true, OnOk, IfErr};
 ghost use Rattle.model.specs.Lines.{lines_of};
+ghost use Rattle.model.specs.Limits.{most_charge};
 ghost use Rattle.model.specs.Worlds.{are_users, nothing};
 ghost use Rattle.schedule.specs.Standing.{setup_for, setup_of, world_of, stored_in};
 ghost use Rattle.app.specs.Replaying.{Served, ServedInPart, IsReadAhead, Replayed, ReplayedInPart};
@@ -54,7 +55,7 @@ fn serve_users<H: Wait, R: Read + Faults, W: Write + Faults>(
     reader: &mut R,
     writer: &mut W,
 ) -> Result<(), Refusal>
-    requires { limits.charge ≤ 1073741824 }
+    requires { limits.charge ≤ most_charge }
     ensures ok { OnOk result
         (Served (setup_for users limits) (R.remaining reader.old) (R.remaining reader.new) (W.contents writer.old) (W.contents writer.new)) }
     ensures err { IfErr result (λ why. are_users users.items ≡ true →

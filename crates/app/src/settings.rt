@@ -1,6 +1,7 @@
 //! What the program is to do.
 
 ghost use Rattle.std.specs.Prelude.{◌≤◌};
+ghost use Rattle.model.specs.Limits.{most_charge};
 
 /// What the program is to do.
 #[derive(Debug, Drop)]
@@ -9,5 +10,5 @@ pub(crate) struct Options {
     pub(crate) charge: u64,
     /// The file whose lines are run.
     pub(crate) file: String,
-    ghost in_range: { (1 ≤ charge) × (charge ≤ 1073741824) },
+    ghost in_range: { (1 ≤ charge) × (charge ≤ most_charge) },
 }

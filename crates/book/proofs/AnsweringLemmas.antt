@@ -8,12 +8,7 @@ use Rattle.schedule.specs.declared.events.Reply.TheVariants.{Refused}
 use Rattle.schedule.specs.Standing.{event_of, reply_of}
 use Rattle.book.specs.Callers.{Caller, told_stopped}
 use Rattle.book.specs.Histories.{row, gave_up, IsAnswered, IsLegal}
-use Rattle.book.specs.Answering.{has_no_row, IsOnlyAnswer}
-
--- a reply has no row in the terms of the model where it has none
-same_row : (r : Reply) → has_no_row (reply_of r) ≡ gave_up r
-same_row (Refused why) = refl
-same_row r = refl
+use Rattle.book.specs.Answering.{IsOnlyAnswer}
 
 -- the sure rows stay where a call has no row
 kept : (old new : Caller) (reply : Reply) → gave_up reply ≡ true → (reply ≡ Refused Memory → new ≡ old) → (reply ≡ Refused Stopped → new ≡ told_stopped old) → new.sure ≡ old.sure
@@ -28,8 +23,7 @@ pub only_answer : (setup : Setup) (old new : Caller) (event : Event) (reply : Re
     → IsOnlyAnswer setup old (event_of event) (reply_of reply) new
 only_answer setup old new event reply told alone memory stopped = record {
   row = λ some.
-      let clean = sym (same_row reply) ∙ some in
-      let a = told clean in
-      (row old.number event reply, refl, refl, alone clean, subst (IsLegal setup) (sym (ap (λ (p : Caller). p.sure) a.sure)) a.legal);
-  kept = λ none. kept old new reply (sym (same_row reply) ∙ none) memory stopped;
+      let a = told some in
+      (row old.number event reply, refl, refl, alone some, subst (IsLegal setup) (sym (ap (λ (p : Caller). p.sure) a.sure)) a.legal);
+  kept = λ none. kept old new reply none memory stopped;
 }

@@ -4,7 +4,8 @@ use Rattle.std.specs.Prelude.{All}
 use Rattle.std.proofs.lemmas.List.{map_push}
 use Rattle.std.proofs.lemmas.List.Elements.{All-head, All-tail, All-nil, All-cons}
 use Rattle.model.specs.Worlds.{Setup, World}
-use Rattle.model.specs.Steps.{Event, Answer, world_after, answers, after, reply_to, replies_to}
+use Rattle.model.specs.Events.{Event, Answer}
+use Rattle.model.specs.Steps.{world_after, answers, after, reply_to, replies_to}
 use Rattle.model.specs.HashedTexts.{hashed, texts_of_event}
 use Rattle.book.specs.declared.history.Row.{Row}
 use Rattle.book.specs.Histories.{event_in, answer_in, events_of, answers_of, gave_up, IsLegal}

@@ -4,16 +4,18 @@ use Rattle.std.specs.Prelude.{All, Contains}
 use Rattle.std.proofs.lemmas.List.Elements.{All-nil, All-push, All-contains_itself}
 use Rattle.model.specs.Paths.{NoClash}
 use Rattle.model.specs.Worlds.{Setup, World, nothing}
-use Rattle.model.specs.Steps.{Event, world_after, answers, after, reply_to, replies_to}
+use Rattle.model.specs.Events.{Event}
+use Rattle.model.specs.Steps.{world_after, answers, after, reply_to, replies_to}
 use Rattle.model.specs.Laws.{IsIsolated}
+use Rattle.model.specs.Replies.{is_memory, is_memory_refusal, is_stopped_refusal}
 use Rattle.model.specs.HashedTexts.{hashed, texts_of_event}
 use Rattle.schedule.specs.declared.events.Reply.{Reply}
 use Rattle.schedule.specs.declared.events.Reply.TheVariants.{Refused}
 use Rattle.schedule.specs.declared.state.Core.{Core}
 use Rattle.schedule.specs.Sound.{IsHashed}
-use Rattle.schedule.specs.Standing.{world_of, setup_of, stored_in, HasHashed, reply_of, is_memory, is_memory_refusal, IsUnchanged}
+use Rattle.schedule.specs.Standing.{world_of, setup_of, stored_in, HasHashed, reply_of, IsUnchanged}
 use Rattle.book.specs.declared.history.Row.{Row}
-use Rattle.book.specs.Histories.{event_in, events_of, answers_of, gave_up, is_stopped_refusal, IsLegal}
+use Rattle.book.specs.Histories.{event_in, events_of, answers_of, gave_up, IsLegal}
 use Rattle.book.specs.Keeping.{Kept, HasReached, Steps, IsModelReply}
 use Rattle.book.proofs.HistoryLemmas.{all_front, all_back, world_after_push, answers_push, hashed_push, events_push, rows_push}
 

@@ -1,18 +1,16 @@
 -- The history of a front, as a run of the model.
-use Rattle.std.specs.Prelude.{◌≡◌, ℕ, Bool, true, false, ◌||◌, List, [], ◌∷◌, ◌++◌, map, All}
+use Rattle.std.specs.Prelude.{◌≡◌, ℕ, Bool, false, List, [], ◌∷◌, ◌++◌, map, All}
 use mathlib.Core.List.{IsPrefix}
-use Rattle.model.specs.declared.refusal.Refusal.{Refusal}
-use Rattle.model.specs.declared.refusal.Refusal.TheVariants.{Stopped}
 use Rattle.model.specs.Paths.{NoClash}
 use Rattle.model.specs.Worlds.{Setup, nothing}
-use Rattle.model.specs.Steps as steps
+use Rattle.model.specs.Events as events
 use Rattle.model.specs.Steps.{answers, replies_to, replies}
+use Rattle.model.specs.Replies.{is_unrecorded}
 use Rattle.model.specs.HashedTexts.{hashed}
 use Rattle.model.specs.Striking.{strike}
 use Rattle.schedule.specs.declared.events.Event.{Event}
 use Rattle.schedule.specs.declared.events.Reply.{Reply}
-use Rattle.schedule.specs.declared.events.Reply.TheVariants.{Refused}
-use Rattle.schedule.specs.Standing.{event_of, reply_of, is_memory_refusal}
+use Rattle.schedule.specs.Standing.{event_of, reply_of}
 use Rattle.book.specs.declared.history.Row.{Row}
 use Rattle.book.specs.Callers.{Caller, answered}
 
@@ -21,28 +19,23 @@ use Rattle.book.specs.Callers.{Caller, answered}
 abbrev pub row : ℕ → Event → Reply → Row
 row pass event reply = record { pass = pass; event = event; reply = reply }
 
-abbrev pub event_in : Row → steps.Event
+abbrev pub event_in : Row → events.Event
 event_in r = event_of r.event
 
-abbrev pub events_of : List Row → List steps.Event
+abbrev pub events_of : List Row → List events.Event
 events_of rows = map event_in rows
 
-abbrev pub answer_in : Row → steps.Answer
+abbrev pub answer_in : Row → events.Answer
 answer_in r = record { actor = r.event.actor; reply = reply_of r.reply }
 
-abbrev pub answers_of : List Row → List steps.Answer
+abbrev pub answers_of : List Row → List events.Answer
 answers_of rows = map answer_in rows
 
 -- ---- replies that have no row
 
-abbrev pub is_stopped_refusal : Refusal → Bool
-is_stopped_refusal Stopped = true
-is_stopped_refusal why = false
-
 -- whether a reply is that memory was refused, or that an earlier want of memory stopped the writer
 abbrev pub gave_up : Reply → Bool
-gave_up (Refused why) = is_memory_refusal why || is_stopped_refusal why
-gave_up reply = false
+gave_up reply = is_unrecorded (reply_of reply)
 
 -- ---- what a history says
 

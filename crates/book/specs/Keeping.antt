@@ -3,11 +3,12 @@ use Rattle.std.specs.Prelude.{◌≡◌, ℕ, Bool, true, false, List, [], ◌�
 use Rattle.model.specs.Paths.{NoClash}
 use Rattle.model.specs.Worlds.{Setup, nothing}
 use Rattle.model.specs.Steps.{world_after, answers, reply_to}
+use Rattle.model.specs.Replies.{is_refused}
 use Rattle.model.specs.HashedTexts.{hashed}
 use Rattle.schedule.specs.declared.state.Core.{Core}
 use Rattle.schedule.specs.declared.events.Event.{Event}
 use Rattle.schedule.specs.declared.events.Reply.{Reply}
-use Rattle.schedule.specs.Standing.{world_of, setup_of, stored_in, HasHashed, event_of, reply_of, is_refused, IsUnchanged}
+use Rattle.schedule.specs.Standing.{world_of, setup_of, stored_in, HasHashed, event_of, reply_of, IsUnchanged}
 use Rattle.schedule.specs.Stepping.{IsCoreStep}
 use Rattle.book.specs.declared.history.Row.{Row}
 use Rattle.book.specs.Histories.{events_of, answers_of, gave_up}

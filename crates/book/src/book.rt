@@ -4,9 +4,10 @@ ghost use Rattle.std.specs.Prelude.{◌≡◌, ◌+◌, ◌++◌, ◌<◌, ◌�
 ghost use Rattle.std.specs.Vec.{vec_capacity};
 ghost use Rattle.model.specs.Paths.{NoClash};
 ghost use Rattle.model.specs.Worlds.{nothing};
+ghost use Rattle.model.specs.Replies.{is_refused};
 ghost use Rattle.model.specs.HashedTexts.{hashed};
 ghost use Rattle.model.specs.declared.refusal.Refusal.TheVariants.{Memory, Stopped};
-ghost use Rattle.schedule.specs.Standing.{world_of, setup_of, stored_in, reply_of, is_refused, IsUnchanged};
+ghost use Rattle.schedule.specs.Standing.{world_of, setup_of, stored_in, reply_of, IsUnchanged};
 ghost use Rattle.schedule.specs.declared.events.Reply.TheVariants.{Refused};
 ghost use Rattle.book.specs.Callers.{answered, told_stopped, Matches};
 ghost use Rattle.book.specs.Keeping.{IsNew, Steps, TookEvent, Stops, KeepsCore, IsModelReply, StandsFor};

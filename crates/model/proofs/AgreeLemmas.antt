@@ -4,7 +4,9 @@ use Rattle.std.specs.Prelude.{◌||◌, ◌&&◌, bytes_eq}
 use Rattle.model.specs.declared.refusal.Refusal.TheVariants.{UnknownUser}
 use Rattle.model.specs.Reach.{leads}
 use Rattle.model.specs.Worlds.{Desk, World, Setup, is_user}
-use Rattle.model.specs.Steps.{Event, trusts, reaches, Sight, sight_of, Outcome, outcome_of, outcome, check}
+use Rattle.model.specs.Events.{Event}
+use Rattle.model.specs.Outcomes.{trusts, reaches, Sight, sight_of, Outcome, check}
+use Rattle.model.specs.Steps.{outcome_of, outcome}
 use Rattle.model.proofs.ReachLemmas.{leads_least}
 
 -- two worlds have the same desks for the users of a set, and that set is closed under trust
@@ -27,7 +29,7 @@ leads_agree set w v agree (k ∷ ks) x y h =
 pub sight_agree : (setup : Setup) (set : List ℕ → Bool) (w v : World) → Agree set w v → (u : List ℕ) → set u ≡ true → sight_of setup w u ≡ sight_of setup v u
 sight_agree setup set w v agree u h =
     let same : (x : List ℕ) → reaches setup w u x ≡ reaches setup v u x = λ x. leads_agree set w v agree setup.users u x h in
-    λ i. record { desk = (agree.desks u h) i; reach = λ x. (same x) i }
+    λ i. record { user = u; desk = (agree.desks u h) i; reach = λ x. (same x) i }
 
 -- the outcome of an event, by the sight of its actor
 abbrev outcome_of_sight : Setup → Event → Sight → Outcome

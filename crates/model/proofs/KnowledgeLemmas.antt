@@ -1,18 +1,21 @@
 -- What a desk knows of each derivation is what the definition says of it over what was known before.
-use Rattle.std.proofs.Common.{◌≡◌, ℕ, zero, suc, Bool, ◌⊎◌, inl, inr, refl, sym, ◌∙◌, ap, subst, List, [], ◌∷◌, ◌++◌, take, length, Option, Some, None, Result, Ok, Err}
-use Rattle.std.specs.Prelude.{nat_le, bytes_eq, if◌then◌else◌, slice_get}
+use Rattle.std.proofs.Common.{◌≡◌, ℕ, zero, suc, Bool, ◌⊎◌, inl, inr, refl, sym, ◌∙◌, ap, subst, List, [], ◌∷◌, ◌++◌, take, Some, None, Ok, Err}
+use Rattle.std.specs.Prelude.{bytes_eq, if◌then◌else◌, slice_get}
 use Rattle.std.proofs.lemmas.Bool.{cond_both}
 use Rattle.std.proofs.lemmas.List.{append-nil, append_assoc}
-use Rattle.model.specs.declared.refusal.Refusal.{Refusal}
-use Rattle.model.specs.declared.refusal.Refusal.TheVariants.{UnknownUser, Quota, TooLarge, BadDerivation, NotHeld}
+use Rattle.model.specs.declared.refusal.Refusal.TheVariants.{UnknownUser}
 use Rattle.model.specs.Derivations.{Derivation}
 use Rattle.model.specs.DerivationTexts.{derivation_of_text}
 use Rattle.model.specs.Classes.{Admission, known_at, derivation_path, admit}
-use Rattle.model.specs.Paths.{source_path}
-use Rattle.model.specs.Worlds.{Source, Desk, World, nothing, Setup, is_user, is_within, has_source, with_source, held_at, known_of, with_derivation}
-use Rattle.model.specs.Steps.{Request, AddSource, AddDerivation, Fetch, Event, Reply, Path, Content, longest_derivation, told_of, admitted, admit_new, reaches, Sight, sight_of, News, Quiet, Outcome, becomes, need, room, heard, outcome, outcome_of, desk_after, after, world_after}
+use Rattle.model.specs.Worlds.{Source, Desk, World, nothing, Setup, is_user, with_source, known_of, with_derivation}
+use Rattle.model.specs.Events.{Request, AddSource, AddDerivation, Fetch, Event}
+use Rattle.model.specs.Outcomes.{reaches, Sight, sight_of, News, Quiet, Outcome, heard, desk_after}
+use Rattle.model.specs.SourceRequests.{source_named}
+use Rattle.model.specs.Steps.{outcome, outcome_of, after, world_after}
 use Rattle.model.specs.Laws.{desk_reached, adding, IsAdmitted, KnowledgeIsAdmitted}
 use Rattle.model.proofs.BoolLemmas.{same_bytes}
+use Rattle.model.proofs.SourceRequestLemmas.{add_source_cases, fetch_cases}
+use Rattle.model.proofs.DerivationRequestLemmas.{IsAdmission, add_derivation_cases}
 
 -- ---- what a request does to what its user knows
 
@@ -46,41 +49,19 @@ DeskFits r old (Ok c) = Grows r old c.desk
 keeps_itself : (d : Desk) → Keeps d d
 keeps_itself d = record { derivations = refl; added = []; sources = sym (append-nil d.sources) }
 
-need_fits : {X : Type 0} (r : Request) (old : Desk) (why : Refusal) (o : Option X) (next : X → Outcome) → ((x : X) → o ≡ Some x → DeskFits r old (next x)) → DeskFits r old (need why o next)
-need_fits r old why None next f = tt
-need_fits r old why (Some x) next f = f x refl
-
-room_fits : (setup : Setup) (r : Request) (old d : Desk) (reply : Reply) → Grows r old d → DeskFits r old (room setup d reply)
-room_fits setup r old d reply grows = cond_both (is_within setup d) (becomes d reply) (Err Quota) (DeskFits r old) (λ yes. grows) (λ no. tt)
-
-admitted_fits : (setup : Setup) (d : Desk) (text : List ℕ) (derivation : Derivation) → derivation_of_text text ≡ Some derivation → known_at (known_of d) (derivation_path derivation) ≡ None → (o : Result Admission Refusal) → admit (known_of d) derivation ≡ o
-    → DeskFits (AddDerivation text) d (admitted setup d o)
-admitted_fits setup d text derivation read new (Ok a) told =
-    let admits : Admits (AddDerivation text) d (with_derivation a d) = record { text = text; asked = refl; derivation = derivation; read = read; new = new; admission = a; admitted = told; derivations = refl; sources = refl } in
-    room_fits setup (AddDerivation text) d (with_derivation a d) (told_of a) (inr admits)
-admitted_fits setup d text derivation read new (Err why) told = tt
-
-admit_new_fits : (setup : Setup) (d : Desk) (text : List ℕ) (derivation : Derivation) → derivation_of_text text ≡ Some derivation → (o : Option Admission) → known_at (known_of d) (derivation_path derivation) ≡ o → DeskFits (AddDerivation text) d (admit_new setup d derivation o)
-admit_new_fits setup d text derivation read (Some a) there = inl (keeps_itself d)
-admit_new_fits setup d text derivation read None new = admitted_fits setup d text derivation read new (admit (known_of d) derivation) refl
-
 -- the case of each request
 outcome_fits : (setup : Setup) (s : Sight) (r : Request) → DeskFits r s.desk (outcome setup s r)
 unfolding outcome
 outcome_fits setup s (AddSource name tree) =
-    let path : List ℕ = source_path tree name in
-    let source : Source = record { path = path; tree = tree } in
+    let source : Source = source_named name tree in
     let keeps : Keeps s.desk (with_source source s.desk) = record { derivations = refl; added = source ∷ []; sources = refl } in
-    cond_both (has_source path s.desk) (becomes s.desk (Path path)) (room setup (with_source source s.desk) (Path path)) (DeskFits (AddSource name tree) s.desk)
-    (λ yes. inl (keeps_itself s.desk))
-    (λ no. room_fits setup (AddSource name tree) s.desk (with_source source s.desk) (Path path) (inl keeps))
+    add_source_cases (DeskFits (AddSource name tree) s.desk) setup s.desk name tree (inl (keeps_itself s.desk)) (inl keeps) tt
 outcome_fits setup s (AddDerivation text) =
-    let next : Derivation → Outcome = λ derivation. admit_new setup s.desk derivation (known_at (known_of s.desk) (derivation_path derivation)) in
-    cond_both (nat_le (length text) longest_derivation) (need BadDerivation (derivation_of_text text) next) (Err TooLarge) (DeskFits (AddDerivation text) s.desk)
-    (λ yes. need_fits (AddDerivation text) s.desk BadDerivation (derivation_of_text text) next (λ derivation read. admit_new_fits setup s.desk text derivation read (known_at (known_of s.desk) (derivation_path derivation)) refl))
-    (λ no. tt)
-outcome_fits setup s (Fetch path) =
-    need_fits (Fetch path) s.desk NotHeld (held_at path s.desk) (λ tree. becomes s.desk (Content tree)) (λ tree found. inl (keeps_itself s.desk))
+    let admits : (derivation : Derivation) (a : Admission) → IsAdmission s.desk text derivation a → Admits (AddDerivation text) s.desk (with_derivation a s.desk) =
+    λ derivation a is. record { text = text; asked = refl; derivation = derivation; read = is.read; new = is.new; admission = a; admitted = is.admitted; derivations = refl; sources = refl } in
+    add_derivation_cases (DeskFits (AddDerivation text) s.desk) setup s.desk text
+    (record { had = λ a. inl (keeps_itself s.desk); added = λ derivation a is. inr (admits derivation a is); over = tt; unread = tt; missing = tt; high = tt }) (λ large. tt)
+outcome_fits setup s (Fetch path) = fetch_cases (DeskFits (Fetch path) s.desk) s.desk path (λ tree held. inl (keeps_itself s.desk)) (λ absent. tt)
 
 -- ---- one event
 
@@ -89,23 +70,23 @@ abbrev GrowsBy : Event → List ℕ → Desk → Desk → Type 0
 GrowsBy e u old later = Keeps old later ⊎ ((u ≡ e.actor) × Admits e.request old later)
 
 -- news leave it at that
-heard_grows : (e : Event) (u : List ℕ) (reached : Bool) (news : News) (old d : Desk) → GrowsBy e u old d → GrowsBy e u old (heard reached news d)
-heard_grows e u reached Quiet old d grows = grows
+heard_grows : (setup : Setup) (e : Event) (u : List ℕ) (reached : Bool) (news : News) (old d : Desk) → GrowsBy e u old d → GrowsBy e u old (heard setup e.actor u reached news d)
+heard_grows setup e u reached Quiet old d grows = grows
 
 -- the actor's own desk
 own_grows : (e : Event) (u : List ℕ) (w : World) (d : Desk) → u ≡ e.actor → Grows e.request (w e.actor) d → GrowsBy e u (w u) d
 own_grows e u w d same grows = elim (subst (λ x. Grows e.request (w x) d) (sym same) grows) [ inl keeps ↦ inl keeps | inr admits ↦ inr (same, admits) ]
 
 -- any desk after an outcome
-desk_after_grows : (e : Event) (o : Outcome) (u : List ℕ) (reached : Bool) (w : World) → DeskFits e.request (w e.actor) o → GrowsBy e u (w u) (desk_after e.actor o u reached (w u))
-desk_after_grows e (Err why) u reached w fits = inl (keeps_itself (w u))
-desk_after_grows e (Ok c) u reached w fits =
-    heard_grows e u reached c.news (w u) (if bytes_eq u e.actor then c.desk else w u)
+desk_after_grows : (setup : Setup) (e : Event) (o : Outcome) (u : List ℕ) (reached : Bool) (w : World) → DeskFits e.request (w e.actor) o → GrowsBy e u (w u) (desk_after setup e.actor o u reached (w u))
+desk_after_grows setup e (Err why) u reached w fits = inl (keeps_itself (w u))
+desk_after_grows setup e (Ok c) u reached w fits =
+    heard_grows setup e u reached c.news (w u) (if bytes_eq u e.actor then c.desk else w u)
     (cond_both (bytes_eq u e.actor) c.desk (w u) (GrowsBy e u (w u)) (λ yes. own_grows e u w c.desk (same_bytes u e.actor yes) fits) (λ no. inl (keeps_itself (w u))))
 
 after_grows : (setup : Setup) (w : World) (e : Event) (u : List ℕ) → GrowsBy e u (w u) (after setup w e u)
 after_grows setup w e u =
-    desk_after_grows e (outcome_of setup w e) u (reaches setup w u e.actor) w
+    desk_after_grows setup e (outcome_of setup w e) u (reaches setup w u e.actor) w
     (cond_both (is_user setup e.actor) (outcome setup (sight_of setup w e.actor) e.request) (Err UnknownUser) (DeskFits e.request (w e.actor)) (λ yes. outcome_fits setup (sight_of setup w e.actor) e.request) (λ no. tt))
 
 -- ---- what was admitted

@@ -1,6 +1,10 @@
 pub mod BoolLemmas
 pub mod ReachLemmas
 pub mod AgreeLemmas
+pub mod OutcomeLemmas
+pub mod SourceRequestLemmas
+pub mod DerivationRequestLemmas
+pub mod FailureLemmas
 pub mod StrikeLemmas
 pub mod KnowledgeLemmas
 pub mod RecursionLemmas

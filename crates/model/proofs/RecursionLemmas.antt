@@ -17,7 +17,7 @@ use Rattle.model.specs.DerivationTexts.{◌>>=◌, derivation_of_text, derivatio
 use Rattle.model.specs.Reach.{is_among}
 use Rattle.model.specs.Classes.{Admission, Known, known_at, is_one_of, mask_of, rank_at, greatest, sorted, derivation_path, class_of, admission_of, has_all, greatest_rank, admit}
 use Rattle.model.specs.Worlds.{Source, Setup, known_of}
-use Rattle.model.specs.Steps.{Event}
+use Rattle.model.specs.Events.{Event}
 use Rattle.model.specs.Laws.{desk_reached, IsAdmitted, admission_by, IsByRecursion, KnowledgeIsRecursive}
 use Rattle.model.proofs.BoolLemmas.{either, or_cases, or_left, or_right, both, both_parts, same_bytes, bytes_same, bytes_differ}
 use Rattle.model.proofs.KnowledgeLemmas.{knowledge_admitted}

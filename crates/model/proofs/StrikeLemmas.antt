@@ -1,20 +1,18 @@
 -- A user's replies are those of the run without the events of those whom he never reaches.
-use Rattle.std.proofs.Common.{◌≡◌, ℕ, Bool, true, false, ◌⊎◌, inl, inr, refl, sym, ◌∙◌, ap, subst, List, [], ◌∷◌, length, Option, Some, None, Result, Ok, Err}
-use Rattle.std.specs.Prelude.{◌&&◌, nat_le, filter, bytes_eq, if◌then◌else◌}
+use Rattle.std.proofs.Common.{◌≡◌, ℕ, Bool, true, false, ◌⊎◌, inl, inr, refl, sym, ◌∙◌, ap, subst, List, [], ◌∷◌, Ok, Err}
+use Rattle.std.specs.Prelude.{◌&&◌, filter, bytes_eq, if◌then◌else◌}
 use Rattle.std.specs.List.{list_any}
-use Rattle.model.specs.declared.refusal.Refusal.{Refusal}
-use Rattle.model.specs.declared.refusal.Refusal.TheVariants.{Quota, TooLarge, BadDerivation, NotHeld}
-use Rattle.model.specs.Derivations as derivations
-use Rattle.model.specs.DerivationTexts.{derivation_of_text}
-use Rattle.model.specs.Classes.{Admission, known_at, derivation_path, admit}
-use Rattle.model.specs.Paths.{source_path}
 use Rattle.model.specs.Reach.{is_among}
-use Rattle.model.specs.Worlds.{Desk, World, nothing, Setup, is_user, is_within, has_source, with_source, held_at, known_of, with_derivation}
-use Rattle.model.specs.Steps.{Request, AddSource, AddDerivation, Fetch, Event, Reply, Path, Content, longest_derivation, told_of, admitted, admit_new, reaches, Sight, sight_of, News, Quiet, Outcome, becomes, need, room, heard, outcome, outcome_of, reply_of, desk_after, after, answers, replies_to, replies}
+use Rattle.model.specs.Worlds.{Desk, World, nothing, Setup, is_user}
+use Rattle.model.specs.Events.{Request, AddSource, AddDerivation, Fetch, Event, Reply}
+use Rattle.model.specs.Outcomes.{reaches, Sight, sight_of, News, Quiet, Outcome, heard, reply_of, desk_after}
+use Rattle.model.specs.Steps.{outcome, outcome_of, after, answers, replies_to, replies}
 use Rattle.model.specs.Striking.{asks_to_trust, gives_trust, ever, strike}
 use Rattle.model.proofs.BoolLemmas.{either, or_cases, or_left, or_right, both, both_parts, same_bytes, bytes_same}
 use Rattle.model.proofs.ReachLemmas.{leads-IsLeast}
 use Rattle.model.proofs.AgreeLemmas.{Agree, leads_agree, outcome_agree}
+use Rattle.model.proofs.SourceRequestLemmas.{add_source_cases, fetch_cases}
+use Rattle.model.proofs.DerivationRequestLemmas.{add_derivation_cases}
 
 -- ---- what a request does to whom its user trusts
 
@@ -23,48 +21,14 @@ abbrev TrustFits : Setup → (List ℕ → Bool) → Request → Outcome → Typ
 TrustFits setup old r (Err why) = Unit {0}
 TrustFits setup old r (Ok c) = (y : List ℕ) → c.desk.trusted y ≡ true → (old y ≡ true) ⊎ ((asks_to_trust y r && is_user setup y) ≡ true)
 
-fits_if : (setup : Setup) (b : Bool) (old : List ℕ → Bool) (r : Request) (o p : Outcome) → TrustFits setup old r o → TrustFits setup old r p → TrustFits setup old r (if b then o else p)
-fits_if setup true old r o p f g = f
-fits_if setup false old r o p f g = g
-
-fits_need : {X : Type 0} (setup : Setup) (old : List ℕ → Bool) (r : Request) (why : Refusal) (o : Option X) (next : X → Outcome) → ((x : X) → TrustFits setup old r (next x)) → TrustFits setup old r (need why o next)
-fits_need setup old r why None next f = tt
-fits_need setup old r why (Some x) next f = f x
-
--- a request that leaves the trust of its user as it is
-becomes_fits : (setup : Setup) (old : List ℕ → Bool) (r : Request) (d : Desk) (reply : Reply) → d.trusted ≡ old → TrustFits setup old r (becomes d reply)
-becomes_fits setup old r d reply e y t = inl (subst (λ (f : List ℕ → Bool). f y ≡ true) e t)
-
-room_fits : (setup : Setup) (old : List ℕ → Bool) (r : Request) (d : Desk) (reply : Reply) → d.trusted ≡ old → TrustFits setup old r (room setup d reply)
-room_fits setup old r d reply e = fits_if setup (is_within setup d) old r (becomes d reply) (Err Quota) (becomes_fits setup old r d reply e) tt
-
-admitted_fits : (setup : Setup) (r : Request) (d : Desk) (o : Result Admission Refusal) → TrustFits setup d.trusted r (admitted setup d o)
-admitted_fits setup r d (Ok a) = room_fits setup d.trusted r (with_derivation a d) (told_of a) refl
-admitted_fits setup r d (Err why) = tt
-
-admit_new_fits : (setup : Setup) (r : Request) (d : Desk) (derivation : derivations.Derivation) (o : Option Admission) → TrustFits setup d.trusted r (admit_new setup d derivation o)
-admit_new_fits setup r d derivation (Some a) = becomes_fits setup d.trusted r d (told_of a) refl
-admit_new_fits setup r d derivation None = admitted_fits setup r d (admit (known_of d) derivation)
-
 outcome_fits : (setup : Setup) (s : Sight) (r : Request) → TrustFits setup s.desk.trusted r (outcome setup s r)
 unfolding outcome
 outcome_fits setup s (AddSource name tree) =
-    let r : Request = AddSource name tree in
-    let path : List ℕ = source_path tree name in
-    let old : List ℕ → Bool = s.desk.trusted in
-    let d : Desk = with_source (record { path = path; tree = tree }) s.desk in
-    fits_if setup (has_source path s.desk) old r (becomes s.desk (Path path)) (room setup d (Path path))
-    (becomes_fits setup old r s.desk (Path path) refl)
-    (room_fits setup old r d (Path path) refl)
+    add_source_cases (TrustFits setup s.desk.trusted (AddSource name tree)) setup s.desk name tree (λ y t. inl t) (λ y t. inl t) tt
 outcome_fits setup s (AddDerivation text) =
-    let r : Request = AddDerivation text in
-    let old : List ℕ → Bool = s.desk.trusted in
-    let next : derivations.Derivation → Outcome = λ derivation. admit_new setup s.desk derivation (known_at (known_of s.desk) (derivation_path derivation)) in
-    fits_if setup (nat_le (length text) longest_derivation) old r (need BadDerivation (derivation_of_text text) next) (Err TooLarge)
-    (fits_need setup old r BadDerivation (derivation_of_text text) next (λ derivation. admit_new_fits setup r s.desk derivation (known_at (known_of s.desk) (derivation_path derivation)))) tt
-outcome_fits setup s (Fetch path) =
-    fits_need setup s.desk.trusted (Fetch path) NotHeld (held_at path s.desk) (λ tree. becomes s.desk (Content tree))
-    (λ tree. becomes_fits setup s.desk.trusted (Fetch path) s.desk (Content tree) refl)
+    add_derivation_cases (TrustFits setup s.desk.trusted (AddDerivation text)) setup s.desk text
+    (record { had = λ a y t. inl t; added = λ derivation a is y t. inl t; over = tt; unread = tt; missing = tt; high = tt }) (λ large. tt)
+outcome_fits setup s (Fetch path) = fetch_cases (TrustFits setup s.desk.trusted (Fetch path)) s.desk path (λ tree held y t. inl t) (λ absent. tt)
 
 -- ---- one desk after an outcome
 
@@ -76,26 +40,26 @@ abbrev NewStays : (List ℕ → Bool) → Outcome → Type 0
 NewStays set (Err why) = Unit {0}
 NewStays set (Ok c) = Stays set c.desk
 
-stays_heard : (set : List ℕ → Bool) (reached : Bool) (news : News) (d : Desk) → Stays set d → Stays set (heard reached news d)
-stays_heard set reached Quiet d s = s
+stays_heard : (setup : Setup) (set : List ℕ → Bool) (actor x : List ℕ) (reached : Bool) (news : News) (d : Desk) → Stays set d → Stays set (heard setup actor x reached news d)
+stays_heard setup set actor x reached Quiet d s = s
 
 stays_if : (set : List ℕ → Bool) (b : Bool) (d e : Desk) → Stays set d → Stays set e → Stays set (if b then d else e)
 stays_if set true d e f g = f
 stays_if set false d e f g = g
 
-stays_after : (set : List ℕ → Bool) (actor : List ℕ) (o : Outcome) (x : List ℕ) (reached : Bool) (d : Desk) → NewStays set o → Stays set d → Stays set (desk_after actor o x reached d)
-stays_after set actor (Err why) x reached d n s = s
-stays_after set actor (Ok c) x reached d n s = stays_heard set reached c.news (if bytes_eq x actor then c.desk else d) (stays_if set (bytes_eq x actor) c.desk d n s)
+stays_after : (setup : Setup) (set : List ℕ → Bool) (actor : List ℕ) (o : Outcome) (x : List ℕ) (reached : Bool) (d : Desk) → NewStays set o → Stays set d → Stays set (desk_after setup actor o x reached d)
+stays_after setup set actor (Err why) x reached d n s = s
+stays_after setup set actor (Ok c) x reached d n s = stays_heard setup set actor x reached c.news (if bytes_eq x actor then c.desk else d) (stays_if set (bytes_eq x actor) c.desk d n s)
 
-heard_nothing : (reached : Bool) (news : News) (d : Desk) → heard reached news d ≡ d
-heard_nothing reached Quiet d = refl
+heard_nothing : (setup : Setup) (actor x : List ℕ) (reached : Bool) (news : News) (d : Desk) → heard setup actor x reached news d ≡ d
+heard_nothing setup actor x reached Quiet d = refl
 
 -- a stranger changes no desk of the set
-stranger_after : (set : List ℕ → Bool) (actor : List ℕ) (o : Outcome) (x : List ℕ) (reached : Bool) (d : Desk) → set actor ≡ false → set x ≡ true → desk_after actor o x reached d ≡ d
-stranger_after set actor (Err why) x reached d f h = refl
-stranger_after set actor (Ok c) x reached d f h = elim (either (bytes_eq x actor)) [
+stranger_after : (setup : Setup) (set : List ℕ → Bool) (actor : List ℕ) (o : Outcome) (x : List ℕ) (reached : Bool) (d : Desk) → set actor ≡ false → set x ≡ true → desk_after setup actor o x reached d ≡ d
+stranger_after setup set actor (Err why) x reached d f h = refl
+stranger_after setup set actor (Ok c) x reached d f h = elim (either (bytes_eq x actor)) [
   | inl t ↦ let yes : set actor ≡ true = subst (λ z. set z ≡ true) (same_bytes x actor t) h in cc
-  | inr n ↦ rw n (heard_nothing reached c.news d)
+  | inr n ↦ rw n (heard_nothing setup actor x reached c.news d)
 ]
 
 -- ---- one event
@@ -120,14 +84,14 @@ after_agree setup set w v agree e gives h = record {
   desks = λ x s.
       let o = outcome_agree setup set w v agree e h in
       let r : reaches setup w x e.actor ≡ reaches setup v x e.actor = leads_agree set w v agree setup.users x e.actor s in
-      λ i. desk_after e.actor (o i) x (r i) ((agree.desks x s) i);
-  closed = λ x y s t. stays_after set e.actor (outcome_of setup w e) x (reaches setup w x e.actor) (w x) (new_stays setup set w v agree e gives h) (λ z q. agree.closed x z s q) y t;
+      λ i. desk_after setup e.actor (o i) x (r i) ((agree.desks x s) i);
+  closed = λ x y s t. stays_after setup set e.actor (outcome_of setup w e) x (reaches setup w x e.actor) (w x) (new_stays setup set w v agree e gives h) (λ z q. agree.closed x z s q) y t;
 }
 
 after_stranger : (setup : Setup) (set : List ℕ → Bool) (w v : World) → Agree set w v → (e : Event) → set e.actor ≡ false → Agree set (after setup w e) v
 after_stranger setup set w v agree e f =
     let same : (x : List ℕ) → set x ≡ true → after setup w e x ≡ w x = λ x s.
-    stranger_after set e.actor (outcome_of setup w e) x (reaches setup w x e.actor) (w x) f s in
+    stranger_after setup set e.actor (outcome_of setup w e) x (reaches setup w x e.actor) (w x) f s in
     record {
       desks = λ x s. same x s ∙ agree.desks x s;
       closed = λ x y s t. agree.closed x y s (subst (λ (d : Desk). d.trusted y ≡ true) (same x s) t);

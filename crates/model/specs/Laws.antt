@@ -1,11 +1,13 @@
 -- The laws that the definitions keep.
-use Rattle.std.specs.Prelude.{◌≡◌, ℕ, zero, suc, ◌≤◌, Bool, true, List, [], ◌∷◌, ◌++◌, map, take, slice_get, Some, None, Ok}
+use Rattle.std.specs.Prelude.{◌≡◌, ℕ, zero, suc, ◌≤◌, Bool, true, false, List, [], ◌∷◌, ◌++◌, map, take, slice_get, Some, None, Ok}
 use Rattle.model.specs.Derivations.{Derivation, is_derivation}
 use Rattle.model.specs.DerivationTexts.{derivation_of_text}
 use Rattle.model.specs.Classes.{Admission, Known, known_at, derivation_path, admission_of, has_all, admit}
 use Rattle.model.specs.Reach.{leads, is_among}
-use Rattle.model.specs.Worlds.{Setup, Source, Desk, nothing, known_of}
-use Rattle.model.specs.Steps.{AddDerivation, Event, world_after, replies}
+use Rattle.model.specs.Worlds.{Setup, Source, Desk, World, nothing, known_of}
+use Rattle.model.specs.Events.{AddDerivation, Event}
+use Rattle.model.specs.Replies.{is_failure}
+use Rattle.model.specs.Steps.{reply_to, world_after, replies}
 use Rattle.model.specs.Striking.{strike}
 
 -- a set of users is the least that holds u and is closed under the links of the users
@@ -20,6 +22,10 @@ ReachIsLeast = (link : List ℕ → List ℕ → Bool) (users : List (List ℕ))
 -- a user's replies to all events are those to the events that can reach him
 abbrev pub IsIsolated : Type 0
 IsIsolated = (setup : Setup) (events : List Event) (u : List ℕ) → replies setup u events ≡ replies setup u (strike setup u events)
+
+-- private desks never refuse for memory, for a clash of digests, or because the store is stopped
+abbrev pub NeverFails : Type 0
+NeverFails = (setup : Setup) (w : World) (e : Event) → is_failure (reply_to setup w e) ≡ false
 
 -- the desk that a user has after events, from empty desks on
 abbrev pub desk_reached : Setup → List Event → List ℕ → Desk

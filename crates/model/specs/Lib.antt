@@ -8,7 +8,13 @@ pub mod Derivations
 pub mod DerivationTexts
 pub mod Reach
 pub mod Classes
+pub mod Limits
 pub mod Worlds
+pub mod Events
+pub mod Replies
+pub mod Outcomes
+pub mod SourceRequests
+pub mod DerivationRequests
 pub mod Steps
 pub mod Striking
 pub mod HashedTexts

@@ -3,13 +3,11 @@ use Rattle.std.specs.Prelude.{ℕ, Bool, false, ◌&&◌, List, filter, bytes_eq
 use Rattle.std.specs.List.{list_any}
 use Rattle.model.specs.Reach.{leads}
 use Rattle.model.specs.Worlds.{Setup, is_user}
-use Rattle.model.specs.Steps.{Request, AddSource, AddDerivation, Fetch, Event}
+use Rattle.model.specs.Events.{Request, Event}
 
 -- whether a request is to trust v; there is none yet
 abbrev pub asks_to_trust : List ℕ → Request → Bool
-asks_to_trust v (AddSource name tree) = false
-asks_to_trust v (AddDerivation text) = false
-asks_to_trust v (Fetch path) = false
+asks_to_trust v request = false
 
 -- whether an event makes the user u trust the user v
 abbrev pub gives_trust : Setup → List ℕ → List ℕ → Event → Bool

@@ -4,7 +4,7 @@ use Rattle.model.specs.declared.refusal.Refusal.{Refusal}
 use Rattle.model.specs.declared.refusal.Refusal.TheVariants.{BadUsers}
 use Rattle.model.specs.Refusals.{text_of_refusal}
 use Rattle.model.specs.TreeTexts.{tree_text_of}
-use Rattle.model.specs.Steps.{Event, Reply, Done, Path, Derivation, Content, Refused}
+use Rattle.model.specs.Events.{Event, Reply, Done, Path, Derivation, Content, Refused}
 use Rattle.model.specs.Lines.{Told, nothing_told}
 use Rattle.model.specs.declared.verb.WordKind.TheVariants as kind
 use Rattle.model.specs.Words.{AreWell, FirstIll}

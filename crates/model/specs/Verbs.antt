@@ -5,8 +5,8 @@ use Rattle.model.specs.declared.verb.Verb.TheVariants.{Source, Derivation, Fetch
 use Rattle.model.specs.declared.verb.WordKind.{WordKind}
 use Rattle.model.specs.declared.verb.WordKind.TheVariants as kind
 use Rattle.model.specs.Archives.{Tree}
-use Rattle.model.specs.Steps.{Request}
-use Rattle.model.specs.Steps as steps
+use Rattle.model.specs.Events.{Request}
+use Rattle.model.specs.Events as events
 use Rattle.model.specs.Words.{IsTreeText}
 
 -- the verb that a word is
@@ -25,7 +25,7 @@ kinds_of Fetch = kind.Path ∷ []
 
 -- the request that it makes of its words
 abbrev pub IsRequestOf : Verb → List (List ℕ) → Request → Type 0
-IsRequestOf Source (name ∷ word ∷ []) request = (tree : Tree) × IsTreeText word tree × (request ≡ steps.AddSource name tree)
-IsRequestOf Derivation (text ∷ []) request = request ≡ steps.AddDerivation text
-IsRequestOf Fetch (path ∷ []) request = request ≡ steps.Fetch path
+IsRequestOf Source (name ∷ word ∷ []) request = (tree : Tree) × IsTreeText word tree × (request ≡ events.AddSource name tree)
+IsRequestOf Derivation (text ∷ []) request = request ≡ events.AddDerivation text
+IsRequestOf Fetch (path ∷ []) request = request ≡ events.Fetch path
 IsRequestOf verb words request = ⊥

@@ -6,6 +6,7 @@ use Rattle.model.specs.Archives.{Tree, nar}
 use Rattle.model.specs.Characters.{is_lower_case, is_digit}
 use Rattle.model.specs.Reach.{is_among}
 use Rattle.model.specs.Classes.{Admission, Known}
+use Rattle.model.specs.Limits.{most_sources, most_derivations}
 
 -- ---- users
 
@@ -72,13 +73,6 @@ first_of_each (s ∷ ss) = s ∷ filter (λ t. not (bytes_eq t.path s.path)) (fi
 -- the sum of the archive lengths of the distinct paths that a user holds, in bytes
 unfoldable pub charge_of : Desk → ℕ
 charge_of d = sum_by (λ s. length (nar s.tree)) (first_of_each (held d))
-
--- the most sources of a user, and the most derivations
-abbrev pub most_sources : ℕ
-most_sources = 1024
-
-abbrev pub most_derivations : ℕ
-most_derivations = 1024
 
 -- whether a desk is within every limit
 unfoldable pub is_within : Setup → Desk → Bool

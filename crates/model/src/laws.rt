@@ -1,6 +1,6 @@
 //! Laws over every list of events.
 
-ghost use Rattle.model.specs.Laws.{ReachIsLeast, IsIsolated, KnowledgeIsAdmitted, KnowledgeIsRecursive};
+ghost use Rattle.model.specs.Laws.{ReachIsLeast, IsIsolated, NeverFails, KnowledgeIsAdmitted, KnowledgeIsRecursive};
 
 /// What is reached along a relation among users is the least set that holds the first of them and
 /// is closed under the relation.
@@ -12,6 +12,11 @@ pub fn reach_is_least()
 /// without their events.
 pub fn isolation()
     ensures { IsIsolated }
+{}
+
+/// Private desks never refuse with 90 `Memory`, 91 `Clash` or 92 `Stopped`.
+pub fn never_fails()
+    ensures { NeverFails }
 {}
 
 /// What a desk knows of each derivation was admitted by an event of its user: it is what the

@@ -6,8 +6,11 @@ use Rattle.model.specs.declared.refusal.Refusal.TheVariants.{Memory, MissingInpu
 use Rattle.model.specs.Derivations.{Derivation}
 use Rattle.model.specs.DerivationTexts.{derivation_of_text}
 use Rattle.model.specs.Classes.{Admission, Known, known_at, derivation_path, class_of, has_all, greatest_rank, admission_of, admit}
+use Rattle.model.specs.Limits.{most_derivations}
 use Rattle.model.specs.Worlds.{Source, Setup, Desk}
-use Rattle.model.specs.Steps.{Outcome, becomes, told_of, admitted, admit_new, add_derivation, longest_derivation}
+use Rattle.model.specs.Limits.{most_derivation_bytes}
+use Rattle.model.specs.Outcomes.{Outcome, becomes}
+use Rattle.model.specs.DerivationRequests.{told_of, admitted, admit_new, add_derivation}
 use Rattle.aterm.specs.Refused.{IsNotRead}
 use Rattle.schedule.specs.Stored.{Holdings}
 use Rattle.schedule.specs.Sound.{desk_of, IsSound}
@@ -41,28 +44,28 @@ module _ (users : List (List ℕ)) (table : List Source) (limit : ℕ) (d : Hold
   refused_fits e none (inl h) own = let wrong = rw h at own in cc
   refused_fits e none (inr h) own = is_new (Err e) none h
 
-  pub over_fits : (a : Admission) → IsSound table limit d → known_at d.known (derivation_path derivation) ≡ None → admit d.known derivation ≡ Ok a → nat_le (length d.known.derivations + 1) 1024 ≡ false → new_outcome ≡ Err Quota
+  pub over_fits : (a : Admission) → IsSound table limit d → known_at d.known (derivation_path derivation) ≡ None → admit d.known derivation ≡ Ok a → nat_le (length d.known.derivations + 1) most_derivations ≡ false → new_outcome ≡ Err Quota
   over_fits a sound none ok over = is_new (Ok a) none ok ∙ rw (is_within-derivation users table limit d a sound, over) refl
 
-  pub added_fits : (a : Admission) → IsSound table limit d → known_at d.known (derivation_path derivation) ≡ None → admit d.known derivation ≡ Ok a → nat_le (length d.known.derivations + 1) 1024 ≡ true → new_outcome ≡ becomes (desk_of table (holds_derivation a d)) (told_of a)
+  pub added_fits : (a : Admission) → IsSound table limit d → known_at d.known (derivation_path derivation) ≡ None → admit d.known derivation ≡ Ok a → nat_le (length d.known.derivations + 1) most_derivations ≡ true → new_outcome ≡ becomes (desk_of table (holds_derivation a d)) (told_of a)
   added_fits a sound none ok within = is_new (Ok a) none ok ∙ rw (is_within-derivation users table limit d a sound, within) refl
 
 -- ---- a text
 
-pub too_large : (setup : Setup) (d : Desk) (text : List ℕ) → nat_le (length text) longest_derivation ≡ false → add_derivation setup d text ≡ Err TooLarge
+pub too_large : (setup : Setup) (d : Desk) (text : List ℕ) → nat_le (length text) most_derivation_bytes ≡ false → add_derivation setup d text ≡ Err TooLarge
 too_large setup d text over = rw over refl
 
-pub no_derivation : (setup : Setup) (d : Desk) (text : List ℕ) → nat_le (length text) longest_derivation ≡ true → derivation_of_text text ≡ None → add_derivation setup d text ≡ Err BadDerivation
+pub no_derivation : (setup : Setup) (d : Desk) (text : List ℕ) → nat_le (length text) most_derivation_bytes ≡ true → derivation_of_text text ≡ None → add_derivation setup d text ≡ Err BadDerivation
 no_derivation setup d text within none = rw (within, none) refl
 
-pub derivation_read : (users : List (List ℕ)) (table : List Source) (limit : ℕ) (d : Holdings) (text : List ℕ) (derivation : Derivation) → nat_le (length text) longest_derivation ≡ true → derivation_of_text text ≡ Some derivation
+pub derivation_read : (users : List (List ℕ)) (table : List Source) (limit : ℕ) (d : Holdings) (text : List ℕ) (derivation : Derivation) → nat_le (length text) most_derivation_bytes ≡ true → derivation_of_text text ≡ Some derivation
     → add_derivation (record { users = users; charge = limit }) (desk_of table d) text ≡ new_outcome users table limit d derivation
 derivation_read users table limit d text derivation within is =
     let K : Known → Outcome = λ known. admit_new (record { users = users; charge = limit }) (desk_of table d) derivation (known_at known (derivation_path derivation)) in
     rw (within, is) (ap K (known_of-desk_of table d))
 
 -- a refusal to read a text fits
-pub unread_fits : (setup : Setup) (d new : Desk) (text : List ℕ) (e : Refusal) → nat_le (length text) longest_derivation ≡ true → IsNotRead text e → Fits (add_derivation setup d text) new (Err e)
+pub unread_fits : (setup : Setup) (d new : Desk) (text : List ℕ) (e : Refusal) → nat_le (length text) most_derivation_bytes ≡ true → IsNotRead text e → Fits (add_derivation setup d text) new (Err e)
 unread_fits setup d new text BadDerivation within none = λ own. no_derivation setup d text within none
 unread_fits setup d new text Memory within none = λ own. cc
 unread_fits setup d new text e within none = absurd none

@@ -8,8 +8,12 @@ use Rattle.std.proofs.lemmas.List.{length-append}
 use Rattle.std.proofs.lemmas.Bool.Decides.{nat_tests}
 use Rattle.model.specs.Archives.{Tree, Link, nar}
 use Rattle.model.specs.Classes.{Known, Admission}
+use Rattle.model.specs.Reach.{is_among}
+use Rattle.model.specs.Limits.{most_sources, most_derivations}
 use Rattle.model.specs.Worlds.{Source, Desk, Setup, tree_at, first_of_each, charge_of, is_within, has_source, with_source, known_of, with_derivation}
-use Rattle.model.specs.Steps.{add_source, becomes, Path}
+use Rattle.model.specs.Events.{Path}
+use Rattle.model.specs.Outcomes.{becomes}
+use Rattle.model.specs.SourceRequests.{add_source}
 use Rattle.model.specs.declared.refusal.Refusal.TheVariants.{Quota}
 use Rattle.model.proofs.BoolLemmas.{either, same_bytes}
 use Rattle.schedule.specs.Stored.{Holdings}
@@ -32,7 +36,7 @@ known_kept old new later paths known = All-weaker (IsKnown old) (IsKnown new) (�
 
 pub desk_kept : (old new : List Source) (limit : ℕ) (d : Holdings) → Extends old new → IsSound old limit d → desk_of new d ≡ desk_of old d
 desk_kept old new limit d later sound =
-    let P : List Source → Desk = λ sources. record { trusted = λ _. false; sources = sources; derivations = d.known.derivations } in
+    let P : List Source → Desk = λ sources. record { trusted = λ name. is_among name d.trusted; sources = sources; derivations = d.known.derivations } in
     ap P (same_sources old new later d.known.sources sound.known)
 
 pub sound_kept : (old new : List Source) (limit : ℕ) (d : Holdings) → Extends old new → IsSound old limit d → IsSound new limit d
@@ -117,18 +121,19 @@ charge_of-with_source d s h = rw (first_of_each-push d.sources s h) (sum_by_push
 -- a desk that holds one path more
 pub record HoldsMore (table : List Source) (before after : Holdings) (s : Source) : Type 0 where
   pub there : tree_at s.path table ≡ Some s.tree
+  pub trusted : after.trusted ≡ before.trusted
   pub known : after.known ≡ record before.known { sources = before.known.sources ++ s.path ∷ [] }
   pub charge : after.charge ≡ before.charge + length (nar s.tree)
 
 pub desk_of-more : (old new : List Source) (limit : ℕ) (before after : Holdings) (s : Source) → Extends old new → IsSound old limit before → HoldsMore new before after s → desk_of new after ≡ with_source s (desk_of old before)
 desk_of-more old new limit before after s later sound more =
-    let D : Known → Desk = λ known. record { trusted = λ _. false; sources = sources_at new known.sources; derivations = known.derivations } in
-    let P : List Source → Desk = λ sources. record { trusted = λ _. false; sources = sources; derivations = before.known.derivations } in
+    let D : List (List ℕ) → Known → Desk = λ trusted known. record { trusted = λ name. is_among name trusted; sources = sources_at new known.sources; derivations = known.derivations } in
+    let P : List Source → Desk = λ sources. record { trusted = λ name. is_among name before.trusted; sources = sources; derivations = before.known.derivations } in
     let paths : List (List ℕ) = before.known.sources in
-    ap D more.known ∙ ap P (sources_at-push new paths s.path s.tree more.there ∙ ap (λ xs. xs ++ s ∷ []) (same_sources old new later paths sound.known))
+    (λ i. D (more.trusted i) (more.known i)) ∙ ap P (sources_at-push new paths s.path s.tree more.there ∙ ap (λ xs. xs ++ s ∷ []) (same_sources old new later paths sound.known))
 
 pub sound-more : (old new : List Source) (limit : ℕ) (before after : Holdings) (s : Source) → Extends old new → IsSound old limit before → HoldsMore new before after s → list_any (λ p. bytes_eq p s.path) before.known.sources ≡ false
-    → length before.known.sources + 1 ≤ 1024 → before.charge + length (nar s.tree) ≤ limit → IsSound new limit after
+    → length before.known.sources + 1 ≤ most_sources → before.charge + length (nar s.tree) ≤ limit → IsSound new limit after
 sound-more old new limit before after s later sound more absent few within = record {
   charged =
       rw (desk_of-more old new limit before after s later sound more, charge_of-with_source (desk_of old before) s (sym (held_found old before.known.sources s.path) ∙ absent), ← sound.charged) more.charge;
@@ -155,11 +160,11 @@ length-sources_at table (p ∷ paths) = ap (λ n. suc n) (length-sources_at tabl
 
 -- whether a desk with one source more is within its limits
 pub is_within-more : (users : List (List ℕ)) (table : List Source) (limit : ℕ) (d : Holdings) (s : Source) → IsSound table limit d → list_any (λ p. bytes_eq p s.path) d.known.sources ≡ false
-    → is_within (record { users = users; charge = limit }) (with_source s (desk_of table d)) ≡ (nat_le (length d.known.sources + 1) 1024 && nat_le (d.charge + length (nar s.tree)) limit)
+    → is_within (record { users = users; charge = limit }) (with_source s (desk_of table d)) ≡ (nat_le (length d.known.sources + 1) most_sources && nat_le (d.charge + length (nar s.tree)) limit)
 unfolding is_within
 is_within-more users table limit d s sound absent =
     let count : length (sources_at table d.known.sources ++ s ∷ []) ≡ length d.known.sources + 1 = rw (length-append (sources_at table d.known.sources) (s ∷ []), length-sources_at table d.known.sources) refl in
-    let few : nat_le (length d.known.derivations) 1024 ≡ true = grind (arith, nat_tests, sound.few_derivations) in
+    let few : nat_le (length d.known.derivations) most_derivations ≡ true = grind (arith, nat_tests, sound.few_derivations) in
     rw (count, few, charge_of-with_source (desk_of table d) s (sym (held_found table d.known.sources s.path) ∙ absent), ← sound.charged) refl
 
 -- ---- derivations
@@ -182,7 +187,7 @@ known_of-desk_of table d =
 abbrev pub holds_derivation : Admission → Holdings → Holdings
 holds_derivation a d = record d { known = record d.known { derivations = d.known.derivations ++ a ∷ [] } }
 
-pub sound-derivation : (table : List Source) (limit : ℕ) (d : Holdings) (a : Admission) → IsSound table limit d → length d.known.derivations + 1 ≤ 1024 → IsSound table limit (holds_derivation a d)
+pub sound-derivation : (table : List Source) (limit : ℕ) (d : Holdings) (a : Admission) → IsSound table limit d → length d.known.derivations + 1 ≤ most_derivations → IsSound table limit (holds_derivation a d)
 unfolding charge_of
 sound-derivation table limit d a sound few = record {
   charged = sound.charged;
@@ -194,13 +199,13 @@ sound-derivation table limit d a sound few = record {
 
 -- whether a desk with one derivation more is within its limits
 pub is_within-derivation : (users : List (List ℕ)) (table : List Source) (limit : ℕ) (d : Holdings) (a : Admission) → IsSound table limit d
-    → is_within (record { users = users; charge = limit }) (with_derivation a (desk_of table d)) ≡ nat_le (length d.known.derivations + 1) 1024
+    → is_within (record { users = users; charge = limit }) (with_derivation a (desk_of table d)) ≡ nat_le (length d.known.derivations + 1) most_derivations
 unfolding is_within charge_of
 is_within-derivation users table limit d a sound =
     let count : length (d.known.derivations ++ a ∷ []) ≡ length d.known.derivations + 1 = length-append d.known.derivations (a ∷ []) in
-    let few : nat_le (length (sources_at table d.known.sources)) 1024 ≡ true = grind (arith, nat_tests, sound.few_sources, length-sources_at table d.known.sources) in
+    let few : nat_le (length (sources_at table d.known.sources)) most_sources ≡ true = grind (arith, nat_tests, sound.few_sources, length-sources_at table d.known.sources) in
     let charge : nat_le (charge_of (desk_of table d)) limit ≡ true = grind (arith, nat_tests, sound.within, sound.charged) in
-    rw (few, count, charge) (and_true (nat_le (length d.known.derivations + 1) 1024))
+    rw (few, count, charge) (and_true (nat_le (length d.known.derivations + 1) most_derivations))
 
 -- ---- empty desks
 

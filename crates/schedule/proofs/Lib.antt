@@ -1,7 +1,6 @@
 pub mod EntryLemmas
 pub mod TableLemmas
 pub mod DeskLemmas
-pub mod RefusalLemmas
 pub mod DerivationLemmas
 pub mod WorldLemmas
 pub mod StepLemmas

@@ -6,10 +6,11 @@ use Rattle.std.proofs.lemmas.List.{map_push}
 use Rattle.std.proofs.lemmas.List.Elements.{All-head, All-tail, All-nil, All-cons, All-append, All-contains_itself, filter-append}
 use Rattle.model.specs.Paths.{NoClash}
 use Rattle.model.specs.Worlds.{Setup, World, nothing}
-use Rattle.model.specs.Steps as steps
-use Rattle.model.specs.Steps.{Answer, answers, after, replies_to, replies}
+use Rattle.model.specs.Events.{Answer, Event as ModelEvent, Reply as ModelReply, Refused as ModelRefused}
+use Rattle.model.specs.Steps.{answers, after, replies_to, replies}
 use Rattle.model.specs.Striking.{strike}
 use Rattle.model.specs.Laws.{IsIsolated}
+use Rattle.model.specs.Replies.{is_memory, is_refused}
 use Rattle.model.specs.HashedTexts.{hashed, texts_of_event}
 use Rattle.model.proofs.BoolLemmas.{either}
 use Rattle.schedule.specs.declared.user.User.{User}
@@ -17,7 +18,7 @@ use Rattle.schedule.specs.declared.events.Event.{Event}
 use Rattle.schedule.specs.declared.events.Reply.{Reply}
 use Rattle.schedule.specs.declared.state.Core.{Core}
 use Rattle.schedule.specs.Sound.{IsHashed}
-use Rattle.schedule.specs.Standing.{world_of, setup_of, stored_in, HasHashed, event_of, reply_of, answer_of, is_memory, is_refused, IsStep, IsUnchanged}
+use Rattle.schedule.specs.Standing.{world_of, setup_of, stored_in, HasHashed, event_of, reply_of, answer_of, IsStep, IsUnchanged}
 use Rattle.schedule.specs.Stepping.{IsCoreStep}
 use Rattle.schedule.specs.Running.{events_served, without_memory, ArePrivate}
 
@@ -30,7 +31,7 @@ all_back P [] ys h = h
 all_back P (x ∷ xs) ys h = all_back P xs ys (All-tail P x (xs ++ ys) h)
 
 -- what holds of all texts of a run holds of those of its beginning
-hashed_front : (P : List ℕ → Type 0) (setup : Setup) (w : World) (xs ys : List steps.Event) → All P (hashed setup w (xs ++ ys)) → All P (hashed setup w xs)
+hashed_front : (P : List ℕ → Type 0) (setup : Setup) (w : World) (xs ys : List ModelEvent) → All P (hashed setup w (xs ++ ys)) → All P (hashed setup w xs)
 unfolding hashed
 hashed_front P setup w [] ys h = All-nil P
 hashed_front P setup w (x ∷ xs) ys h =
@@ -41,16 +42,16 @@ hashed_front P setup w (x ∷ xs) ys h =
 -- ---- how far a run has come
 
 -- the core after some events is that of their world: their answers, with those to any later events, are the model's to all of these
-pub record Reached (setup : Setup) (texts : List (List ℕ)) (core : Core) (served : List steps.Event) (told : List Answer) : Type 0 where
-  pub told_so : (later : List steps.Event) → told ++ answers setup (world_of core) later ≡ answers setup nothing (served ++ later)
+pub record Reached (setup : Setup) (texts : List (List ℕ)) (core : Core) (served : List ModelEvent) (told : List Answer) : Type 0 where
+  pub told_so : (later : List ModelEvent) → told ++ answers setup (world_of core) later ≡ answers setup nothing (served ++ later)
   pub stored : HasHashed texts core
-  pub left : (later : List steps.Event) → All (Contains texts) (hashed setup nothing (served ++ later)) → All (Contains texts) (hashed setup (world_of core) later)
+  pub left : (later : List ModelEvent) → All (Contains texts) (hashed setup nothing (served ++ later)) → All (Contains texts) (hashed setup (world_of core) later)
 
 -- a run on its way, with the events so far that were answered otherwise than with 90
 pub record Going (setup : Setup) (all : List Event) (core : Core) (given : List (User × Reply)) (rest : List Event) : Type 0 where
   pub setup_is : setup_of core ≡ setup
   pub actors : map (λ a. a.0) given ++ map (λ e. e.actor) rest ≡ map (λ e. e.actor) all
-  pub served : List steps.Event
+  pub served : List ModelEvent
   pub served_are : (tail : List Answer) → events_served (map event_of all) (map answer_of given ++ tail) ≡ served ++ events_served (map event_of rest) tail
   pub reached : (texts : List (List ℕ)) → NoClash texts → All (Contains texts) (hashed setup nothing served) → Reached setup texts core served (without_memory (map answer_of given))
 
@@ -77,8 +78,8 @@ starts setup core given events set empty none no_answers = record {
 
 -- ---- one event more
 
-refused_for_memory : (reply : steps.Reply) → is_memory reply ≡ true → is_refused reply ≡ true
-refused_for_memory (steps.Refused why) h = refl
+refused_for_memory : (reply : ModelReply) → is_memory reply ≡ true → is_refused reply ≡ true
+refused_for_memory (ModelRefused why) h = refl
 refused_for_memory reply h = cc
 
 hashed_kept : (texts : List (List ℕ)) (old new : Core) → stored_in new ≡ stored_in old → HasHashed texts old → HasHashed texts new
@@ -89,7 +90,7 @@ more_given : (given : List (User × Reply)) (a : User × Reply) → without_memo
 more_given given a = ap without_memory (map_push answer_of given a) ∙ filter-append (λ (x : Answer). not (is_memory x.reply)) (map answer_of given) (answer_of a ∷ [])
 
 -- memory was refused to it: the core is as it was
-reached_kept : (setup : Setup) (texts : List (List ℕ)) (core next : Core) (served : List steps.Event) (told : List Answer) → IsUnchanged core next → Reached setup texts core served told → Reached setup texts next served told
+reached_kept : (setup : Setup) (texts : List (List ℕ)) (core next : Core) (served : List ModelEvent) (told : List Answer) → IsUnchanged core next → Reached setup texts core served told → Reached setup texts next served told
 reached_kept setup texts core next served told kept before = record {
   told_so = rw kept.world before.told_so;
   stored = hashed_kept texts core next kept.stored before.stored;
@@ -97,7 +98,7 @@ reached_kept setup texts core next served told kept before = record {
 }
 
 -- it was served: so are all texts that it hashes
-reached_more : (setup : Setup) (texts : List (List ℕ)) (core next : Core) (served : List steps.Event) (told : List Answer) (e : steps.Event) (reply : steps.Reply)
+reached_more : (setup : Setup) (texts : List (List ℕ)) (core next : Core) (served : List ModelEvent) (told : List Answer) (e : ModelEvent) (reply : ModelReply)
     → setup_of core ≡ setup → IsCoreStep core e reply next → is_memory reply ≡ false → NoClash texts → All (Contains texts) (hashed setup nothing (served ++ e ∷ []))
     → Reached setup texts core served told → Reached setup texts next (served ++ e ∷ []) (told ++ record { actor = e.actor; reply = reply } ∷ [])
 unfolding hashed answers
@@ -120,7 +121,7 @@ goes_on_with : (setup : Setup) (all : List Event) (core : Core) (given : List (U
 goes_on_with setup all core given e rest next a going actor step =
     let actors : map (λ (x : User × Reply). x.0) (given ++ a ∷ []) ++ map (λ (x : Event). x.actor) rest ≡ map (λ (x : Event). x.actor) all =
     map-push (λ (x : User × Reply). x.0) given a (map (λ (x : Event). x.actor) rest) ∙ rw actor going.actors in
-    let asked : List steps.Event = map event_of rest in
+    let asked : List ModelEvent = map event_of rest in
     let told : List Answer = map answer_of given in
     elim (either (is_memory (reply_of a.1))) [
       | inl t ↦ record {
@@ -198,7 +199,7 @@ all_served [] given same h = refl
 all_served (e ∷ events) [] same h = cc
 all_served (e ∷ events) (a ∷ given) same h =
     let rest : map (λ (x : User × Reply). x.0) given ≡ map (λ (x : Event). x.actor) events = cc in
-    rw (or_front (lacks_memory a) (list_any lacks_memory given) h) (ap (λ (es : List steps.Event). event_of e ∷ es) (all_served events given rest (or_rest (lacks_memory a) (list_any lacks_memory given) h)))
+    rw (or_front (lacks_memory a) (list_any lacks_memory given) h) (ap (λ (es : List ModelEvent). event_of e ∷ es) (all_served events given rest (or_rest (lacks_memory a) (list_any lacks_memory given) h)))
 
 -- where memory was refused nowhere, they are all answers
 pub all_same : (setup : Setup) (all : List Event) (core : Core) (given : List (User × Reply)) → Going setup all core given []

@@ -8,7 +8,11 @@ use Rattle.std.proofs.lemmas.Bool.Decides.{nat_tests}
 use Rattle.model.specs.Archives.{Tree, nar}
 use Rattle.model.specs.Paths.{Source as SourceKind, fingerprint, source_path, NoClash}
 use Rattle.model.specs.Worlds.{Source, Setup, Desk, World, is_user, held_at}
-use Rattle.model.specs.Steps.{Request, AddSource, AddDerivation, Fetch, Event, Reply, Content, Refused, Sight, sight_of, Outcome, becomes, need, longest_derivation, outcome, outcome_of, reply_of, desk_after, reaches, after}
+use Rattle.model.specs.Limits.{most_derivation_bytes}
+use Rattle.model.specs.Events.{Request, AddSource, AddDerivation, Fetch, Event, Reply, Content, Refused}
+use Rattle.model.specs.Outcomes.{Sight, sight_of, Outcome, becomes, need, reply_of, desk_after, reaches}
+use Rattle.model.specs.Steps.{outcome, outcome_of, reply_to, after}
+use Rattle.model.specs.Replies.{is_memory_refusal, is_clash_refusal, needs_no_memory, is_clash, is_refused, is_failure}
 use Rattle.model.specs.HashedTexts.{texts_of}
 use Rattle.model.specs.declared.refusal.Refusal.{Refusal}
 use Rattle.model.specs.declared.refusal.Refusal.TheVariants.{UnknownUser, TooLarge, NotHeld, Clash, Stopped}
@@ -18,9 +22,11 @@ use Rattle.schedule.specs.declared.events.Reply as Rust
 use Rattle.schedule.specs.declared.state.Core.{Core}
 use Rattle.schedule.specs.Stored.{Stored, Holdings, IsTakenFor}
 use Rattle.schedule.specs.Sound.{desk_of, IsSound, IsHashed, Extends}
-use Rattle.schedule.specs.Standing.{reply_of as told_of, world_of, setup_of, stored_in, stored_after, is_fault, is_memory_refusal, is_clash_refusal, needs_no_memory, is_clash, is_refused, IsKept, IsStep, IsUnchanged, HasHashed, Serves, RefusedAtOnce, ServesAtOnce, desk_among, stored_after_request}
+use Rattle.schedule.specs.Standing.{reply_of as told_of, world_of, setup_of, stored_in, stored_after, is_fault, IsKept, IsStep, IsUnchanged, HasHashed, Serves, RefusedAtOnce, ServesAtOnce, desk_among, stored_after_request}
 use Rattle.schedule.specs.Stepping.{IsCoreStep}
-use Rattle.schedule.proofs.RefusalLemmas.{source_refusal, derivation_refusal, never_stopped}
+use Rattle.model.specs.Laws.{NeverFails}
+use Rattle.model.proofs.SourceRequestLemmas.{add_source_cases, fetch_cases}
+use Rattle.model.proofs.DerivationRequestLemmas.{add_derivation_cases}
 use Rattle.schedule.proofs.TableLemmas.{found_holds, put_once-All}
 use Rattle.schedule.proofs.WorldLemmas.{IsPlace, place_is_among, desk_found, among_changed, same_world}
 
@@ -42,41 +48,41 @@ kept_later old new before after kept path h = rw kept.sources refl
 -- ---- the model's step
 
 -- the outcome of a user of the run, by his desk
-outcome_is : (setup : Setup) (w : World) (e : Event) (d : Desk) → is_user setup e.actor ≡ true → w e.actor ≡ d → outcome_of setup w e ≡ outcome setup (record { desk = d; reach = reaches setup w e.actor }) e.request
-outcome_is setup w e d known here = rw known (ap (λ x. outcome setup (record { desk = x; reach = reaches setup w e.actor }) e.request) here)
+outcome_is : (setup : Setup) (w : World) (e : Event) (d : Desk) → is_user setup e.actor ≡ true → w e.actor ≡ d → outcome_of setup w e ≡ outcome setup (record { user = e.actor; desk = d; reach = reaches setup w e.actor }) e.request
+outcome_is setup w e d known here = rw known (ap (λ x. outcome setup (record { user = e.actor; desk = x; reach = reaches setup w e.actor }) e.request) here)
 
 -- a desk after a change that all hear nothing of
-after_becomes : (actor : List ℕ) (o : Outcome) (d : Desk) (r : Reply) (x : List ℕ) (reached : Bool) (old : Desk) → o ≡ becomes d r → desk_after actor o x reached old ≡ (if bytes_eq x actor then d else old)
-after_becomes actor o d r x reached old e = ap (λ p. desk_after actor p x reached old) e
+after_becomes : (setup : Setup) (actor : List ℕ) (o : Outcome) (d : Desk) (r : Reply) (x : List ℕ) (reached : Bool) (old : Desk) → o ≡ becomes d r → desk_after setup actor o x reached old ≡ (if bytes_eq x actor then d else old)
+after_becomes setup actor o d r x reached old e = ap (λ p. desk_after setup actor p x reached old) e
 
 pub step_done : (setup : Setup) (old new : List Source) (limit : ℕ) (desks : List Holdings) (e : Event) (i : ℕ) (before now : Holdings) (reply : Reply)
     → Extends old new → All (IsSound old limit) desks → IsPlace setup.users e.actor i → slice_get desks i ≡ Some before
-    → ((reach : List ℕ → Bool) → outcome setup (record { desk = desk_of old before; reach = reach }) e.request ≡ becomes (desk_of new now) reply)
+    → ((sight : Sight) → sight.desk ≡ desk_of old before → outcome setup sight e.request ≡ becomes (desk_of new now) reply)
     → IsStep setup (desk_among old setup.users desks) e reply (desk_among new setup.users (slice_set desks i now))
 step_done setup old new limit desks e i before now reply later sound place here does =
     let w : World = desk_among old setup.users desks in
     let o : outcome_of setup w e ≡ becomes (desk_of new now) reply =
-    outcome_is setup w e (desk_of old before) (place_is_among setup.users e.actor i place) (desk_found old setup.users desks e.actor i before place here) ∙ does (reaches setup w e.actor) in
+    outcome_is setup w e (desk_of old before) (place_is_among setup.users e.actor i place) (desk_found old setup.users desks e.actor i before place here) ∙ does (record { user = e.actor; desk = desk_of old before; reach = reaches setup w e.actor }) refl in
     record {
       told = sym (ap reply_of o);
       world = same_world (λ v. among_changed old new limit setup.users desks e.actor i now later sound place (slice_get_within desks i before here) v
-          ∙ sym (after_becomes e.actor (outcome_of setup w e) (desk_of new now) reply v (reaches setup w v e.actor) (w v) o));
+          ∙ sym (after_becomes setup e.actor (outcome_of setup w e) (desk_of new now) reply v (reaches setup w v e.actor) (w v) o));
     }
 
 pub step_refused : (setup : Setup) (old : List Source) (desks : List Holdings) (e : Event) (i : ℕ) (before : Holdings) (why : Refusal)
     → IsPlace setup.users e.actor i → slice_get desks i ≡ Some before
-    → ((reach : List ℕ → Bool) → outcome setup (record { desk = desk_of old before; reach = reach }) e.request ≡ Err why)
+    → ((sight : Sight) → sight.desk ≡ desk_of old before → outcome setup sight e.request ≡ Err why)
     → outcome_of setup (desk_among old setup.users desks) e ≡ Err why
 step_refused setup old desks e i before why place here does =
     let w : World = desk_among old setup.users desks in
-    outcome_is setup w e (desk_of old before) (place_is_among setup.users e.actor i place) (desk_found old setup.users desks e.actor i before place here) ∙ does (reaches setup w e.actor)
+    outcome_is setup w e (desk_of old before) (place_is_among setup.users e.actor i place) (desk_found old setup.users desks e.actor i before place here) ∙ does (record { user = e.actor; desk = desk_of old before; reach = reaches setup w e.actor }) refl
 
 pub step_at_once : (setup : Setup) (old : List Source) (desks : List Holdings) (e : Event) (i : ℕ) (before : Holdings) (result : Result Rust.Reply Refusal)
     → IsPlace setup.users e.actor i → slice_get desks i ≡ Some before
     → ServesAtOnce (desk_of old before) e.request result → RefusedAtOnce (outcome_of setup (desk_among old setup.users desks) e) result
 step_at_once setup old desks e i before result place here at_once why quick o =
     let w : World = desk_among old setup.users desks in
-    at_once setup (reaches setup w e.actor) why quick
+    at_once setup (record { user = e.actor; desk = desk_of old before; reach = reaches setup w e.actor }) refl why quick
     (sym (outcome_is setup w e (desk_of old before) (place_is_among setup.users e.actor i place) (desk_found old setup.users desks e.actor i before place here)) ∙ o)
 
 pub step_unknown : (setup : Setup) (w : World) (e : Event) → is_user setup e.actor ≡ false → outcome_of setup w e ≡ Err UnknownUser
@@ -84,7 +90,7 @@ step_unknown setup w e f = rw f refl
 
 -- a refusal leaves the world
 pub after_refused : (setup : Setup) (w : World) (e : Event) (why : Refusal) → outcome_of setup w e ≡ Err why → after setup w e ≡ w
-after_refused setup w e why o = same_world (λ v. ap (λ p. desk_after e.actor p v (reaches setup w v e.actor) (w v)) o)
+after_refused setup w e why o = same_world (λ v. ap (λ p. desk_after setup e.actor p v (reaches setup w v e.actor) (w v)) o)
 
 -- a desk that stands for the same leaves the world too
 pub world_kept : (names : List (List ℕ)) (old new : List Source) (limit : ℕ) (desks : List Holdings) (u : List ℕ) (i : ℕ) (before now : Holdings)
@@ -114,7 +120,7 @@ pub refused_result : (setup : Setup) (old new : List Source) (desks : List Holdi
     → Serves setup (desk_of old before) e.request (desk_of new now) result
     → IfErr result (λ why. is_fault why ≡ false → outcome_of setup (desk_among old setup.users desks) e ≡ Err why)
 refused_result setup old new desks e i before now (Ok r) place here serves = search rules
-refused_result setup old new desks e i before now (Err why) place here serves = λ own. step_refused setup old desks e i before why place here (λ reach. serves reach own)
+refused_result setup old new desks e i before now (Err why) place here serves = λ own. step_refused setup old desks e i before why place here (λ sight same. serves sight same own)
 
 -- a refusal that is the model's is its step
 refused_step : (setup : Setup) (old new : World) (e : Event) (why : Refusal) → outcome_of setup old e ≡ Err why → new ≡ old → IsStep setup old e (Refused why) new
@@ -127,8 +133,8 @@ no_fault : (why : Refusal) → is_memory_refusal why ≡ false → is_clash_refu
 no_fault why m k = rw (m, k) refl
 
 -- what is stored after an event was made by the texts of the event and of what was there
-stored_hashed : (texts : List (List ℕ)) (sight : Sight) (request : Request) (sources : List Source) → All (IsHashed texts) sources → All (Contains texts) (texts_of sight request) → All (IsHashed texts) (stored_after_request request sources)
-stored_hashed texts sight (AddSource name tree) sources hashed inside =
+stored_hashed : (texts : List (List ℕ)) (setup : Setup) (w : World) (u : List ℕ) (request : Request) (sources : List Source) → All (IsHashed texts) sources → All (Contains texts) (texts_of setup w u request) → All (IsHashed texts) (stored_after_request request sources)
+stored_hashed texts setup w u (AddSource name tree) sources hashed inside =
     let s : Source = record { path = source_path tree name; tree = tree } in
     let rest : All (Contains texts) (fingerprint SourceKind (sha256 (nar tree)) name ∷ []) = All-tail (Contains texts) (nar tree) (fingerprint SourceKind (sha256 (nar tree)) name ∷ []) inside in
     put_once-All (IsHashed texts) s sources hashed (record {
@@ -137,22 +143,22 @@ stored_hashed texts sight (AddSource name tree) sources hashed inside =
       inner = All-head (Contains texts) (nar tree) (fingerprint SourceKind (sha256 (nar tree)) name ∷ []) inside;
       outer = All-head (Contains texts) (fingerprint SourceKind (sha256 (nar tree)) name) [] rest;
     })
-stored_hashed texts sight (AddDerivation text) sources hashed inside = hashed
-stored_hashed texts sight (Fetch path) sources hashed inside = hashed
+stored_hashed texts setup w u (AddDerivation text) sources hashed inside = hashed
+stored_hashed texts setup w u (Fetch path) sources hashed inside = hashed
 
 -- ---- clashes
 
 -- where no two texts clash, no other tree is at the path
-not_taken : PathsDiffer → (texts : List (List ℕ)) → NoClash texts → (sources : List Source) → All (IsHashed texts) sources → (sight : Sight) (request : Request) → All (Contains texts) (texts_of sight request) → IsTakenFor sources request → ⊥
-not_taken differ texts clean sources hashed sight (AddSource name tree) inside taken =
+not_taken : PathsDiffer → (texts : List (List ℕ)) → NoClash texts → (sources : List Source) → All (IsHashed texts) sources → (setup : Setup) (w : World) (u : List ℕ) (request : Request) → All (Contains texts) (texts_of setup w u request) → IsTakenFor sources request → ⊥
+not_taken differ texts clean sources hashed setup w u (AddSource name tree) inside taken =
     let path : List ℕ = source_path tree name in
     let had = found_holds (IsHashed texts) sources path taken.had hashed taken.there in
     let inner : Contains texts (nar tree) = All-head (Contains texts) (nar tree) (fingerprint SourceKind (sha256 (nar tree)) name ∷ []) inside in
     let outer : Contains texts (fingerprint SourceKind (sha256 (nar tree)) name) =
     All-head (Contains texts) (fingerprint SourceKind (sha256 (nar tree)) name) [] (All-tail (Contains texts) (nar tree) (fingerprint SourceKind (sha256 (nar tree)) name ∷ []) inside) in
     taken.other (differ texts clean (nar taken.had) (nar tree) had.name name had.inner inner had.outer outer (sym had.is)).0
-not_taken differ texts clean sources hashed sight (AddDerivation text) inside taken = taken
-not_taken differ texts clean sources hashed sight (Fetch path) inside taken = taken
+not_taken differ texts clean sources hashed setup w u (AddDerivation text) inside taken = taken
+not_taken differ texts clean sources hashed setup w u (Fetch path) inside taken = taken
 
 clash_is : (why : Refusal) → is_clash_refusal why ≡ true → why ≡ Clash
 clash_is Clash h = refl
@@ -164,35 +170,26 @@ kept_desk old new before now kept = rw (kept.sources, kept.desk) refl
 
 -- ---- refusals that need no memory
 
+-- where such a refusal comes, it is the result
+abbrev AtOnce : Result Rust.Reply Refusal → Outcome → Type 0
+AtOnce result o = RefusedAtOnce o result
+
 pub source_at_once : (d : Desk) (name : List ℕ) (tree : Tree) (result : Result Rust.Reply Refusal) → ServesAtOnce d (AddSource name tree) result
 unfolding outcome
-source_at_once d name tree result setup reach why quick o =
-    let other = source_refusal needs_no_memory setup d name tree (record { quota = refl; unread = refl; missing = refl; high = refl }) in
-    let no : needs_no_memory why ≡ false = rw o at other in
-    cc
+source_at_once d name tree result setup sight same =
+    rw same (add_source_cases (AtOnce result) setup d name tree (λ why quick o. cc) (λ why quick o. cc) (λ why quick o. cc))
 
-pub derivation_at_once : (d : Desk) (text : List ℕ) (result : Result Rust.Reply Refusal) → (1048576 < length text → result ≡ Err TooLarge) → ServesAtOnce d (AddDerivation text) result
+pub derivation_at_once : (d : Desk) (text : List ℕ) (result : Result Rust.Reply Refusal) → (most_derivation_bytes < length text → result ≡ Err TooLarge) → ServesAtOnce d (AddDerivation text) result
 unfolding outcome
-derivation_at_once d text result long setup reach why quick o = elim (either (nat_le (length text) longest_derivation)) [
-  | inl t ↦
-      let rest = rw t at o in
-      let other = derivation_refusal needs_no_memory setup d text (record { quota = refl; unread = refl; missing = refl; high = refl }) in
-      let no : needs_no_memory why ≡ false = rw rest at other in
-      cc
-  | inr f ↦
-      let over : 1048576 < length text = grind (arith, nat_tests, f) in
-      let is = rw f at o in
-      let given = long over in
-      cc
-]
-
-not_held_at_once : (setup : Setup) (d : Desk) (o : Option Tree) (result : Result Rust.Reply Refusal) → (o ≡ None → result ≡ Err NotHeld) → RefusedAtOnce (need NotHeld o (λ tree. becomes d (Content tree))) result
-not_held_at_once setup d None result none why quick o = let given = none refl in cc
-not_held_at_once setup d (Some tree) result none why quick o = cc
+derivation_at_once d text result long setup sight same =
+    rw same (add_derivation_cases (AtOnce result) setup d text
+    (record { had = λ a why quick o. cc; added = λ derivation a is why quick o. cc; over = λ why quick o. cc; unread = λ why quick o. cc; missing = λ why quick o. cc; high = λ why quick o. cc })
+    (λ large why quick o. let over : most_derivation_bytes < length text = grind (arith, nat_tests, large) in let given = long over in cc))
 
 pub fetch_at_once : (d : Desk) (path : List ℕ) (result : Result Rust.Reply Refusal) → (held_at path d ≡ None → result ≡ Err NotHeld) → ServesAtOnce d (Fetch path) result
 unfolding outcome
-fetch_at_once d path result none setup reach = not_held_at_once setup d (held_at path d) result none
+fetch_at_once d path result none setup sight same =
+    rw same (fetch_cases (AtOnce result) d path (λ tree held why quick o. cc) (λ absent why quick o. let given = none absent in cc))
 
 -- ---- what a core promises
 
@@ -222,17 +219,17 @@ served_step old new e reply done stepped at_once setup stored = record {
   no_clash = λ texts clean hashed inside. no_clash_told (told_of reply) done;
   hashed = λ texts hashed inside.
       let known : is_user (setup_of old) e.actor ≡ true = user_known (setup_of old) (world_of old) e (Ok reply) at_once (λ no. cc) in
-      rw stored (stored_hashed texts (sight_of (setup_of old) (world_of old) e.actor) e.request (stored_in old) hashed (rw known at inside));
+      rw stored (stored_hashed texts (setup_of old) (world_of old) e.actor e.request (stored_in old) hashed (rw known at inside));
   going = λ running stopped. (let no : true ≡ false = rw stopped at done in cc);
 }
 
 -- an event that was refused
-pub refused_core_step : PathsDiffer → (old new : Core) (e : Event) (why : Refusal)
+pub refused_core_step : PathsDiffer → NeverFails → (old new : Core) (e : Event) (why : Refusal)
     → (is_fault why ≡ false → outcome_of (setup_of old) (world_of old) e ≡ Err why)
     → RefusedAtOnce (outcome_of (setup_of old) (world_of old) e) (Err why) → (why ≡ Clash → IsTakenFor (stored_in old) e.request) → IsUnchanged old new
     → IsCoreStep old e (Refused why) new
 unfolding HasHashed stored_in
-refused_core_step differ old new e why own at_once taken kept = record {
+refused_core_step differ own_refusals old new e why own at_once taken kept = record {
   step = λ memory clash. refused_step (setup_of old) (world_of old) (world_of new) e why (own (no_fault why memory clash)) kept.world;
   refused = λ _. kept;
   setup = kept.setup;
@@ -242,11 +239,13 @@ refused_core_step differ old new e why own at_once taken kept = record {
     | inl t ↦
         let is : why ≡ Clash = clash_is why t in
         let known : is_user (setup_of old) e.actor ≡ true = user_known (setup_of old) (world_of old) e (Err why) at_once (λ unknown. cc) in
-        absurd (not_taken differ texts clean (stored_in old) hashed (sight_of (setup_of old) (world_of old) e.actor) e.request (rw known at inside) (taken is))
+        absurd (not_taken differ texts clean (stored_in old) hashed (setup_of old) (world_of old) e.actor e.request (rw known at inside) (taken is))
     | inr f ↦ f
   ];
   hashed = λ texts hashed inside. rw kept.stored hashed;
   going = λ running stopped.
       let is : why ≡ Stopped = cc in
-      never_stopped (setup_of old) (world_of old) e (ap reply_of (own (rw is refl)) ∙ stopped);
+      let told : reply_to (setup_of old) (world_of old) e ≡ Refused Stopped = ap reply_of (own (rw is refl)) ∙ stopped in
+      let no : true ≡ false = rw told at (own_refusals (setup_of old) (world_of old) e) in
+      cc;
 }

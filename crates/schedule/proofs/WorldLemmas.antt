@@ -109,8 +109,9 @@ empty_world table [] desks all u = refl
 empty_world table (name ∷ names) [] all u = refl
 empty_world table (name ∷ names) (d ∷ desks) all u = elim (either (bytes_eq name u)) [
   | inl t ↦
-      let D : Known → Desk = λ known. record { trusted = λ _. false; sources = sources_at table known.sources; derivations = known.derivations } in
-      rw t (ap D (All-head IsEmpty d desks all).known)
+      let D : List (List ℕ) → Known → Desk = λ trusted known. record { trusted = λ name. is_among name trusted; sources = sources_at table known.sources; derivations = known.derivations } in
+      let empty = All-head IsEmpty d desks all in
+      rw t (λ i. D (empty.trusted i) (empty.known i))
   | inr f ↦ rw f (empty_world table names desks (All-tail IsEmpty d desks all) u)
 ]
 

@@ -1,9 +1,10 @@
 -- What a run gives where memory is refused to some of its events.
 use Rattle.std.specs.Prelude.{◌≡◌, ℕ, if◌then◌else◌, not, List, [], ◌∷◌, filter}
 use Rattle.model.specs.Worlds.{Setup, nothing}
-use Rattle.model.specs.Steps.{Event, Answer, answers, replies_to, replies}
+use Rattle.model.specs.Events.{Event, Answer}
+use Rattle.model.specs.Steps.{answers, replies_to, replies}
 use Rattle.model.specs.Striking.{strike}
-use Rattle.schedule.specs.Standing.{is_memory}
+use Rattle.model.specs.Replies.{is_memory}
 
 -- the events that were answered otherwise than with 90
 abbrev pub events_served : List Event → List Answer → List Event

@@ -2,11 +2,13 @@
 use Rattle.std.specs.Prelude.{◌≡◌, ℕ, Bool, true, false, if◌then◌else◌, List, [], ◌∷◌, is_some, bytes_eq, Result, Ok, Err, ◌||◌, All}
 use Rattle.std.specs.Global.{Vec}
 use Rattle.model.specs.declared.refusal.Refusal.{Refusal}
-use Rattle.model.specs.declared.refusal.Refusal.TheVariants.{UnknownUser, TooLarge, NotHeld, Memory, Clash}
 use Rattle.model.specs.Paths.{source_path}
 use Rattle.model.specs.Worlds.{Source, Setup, tree_at, held_at}
 use Rattle.model.specs.Worlds as worlds
-use Rattle.model.specs.Steps as steps
+use Rattle.model.specs.Events as events
+use Rattle.model.specs.Replies.{is_memory_refusal, is_clash_refusal, needs_no_memory}
+use Rattle.model.specs.Outcomes.{Sight, Outcome, becomes}
+use Rattle.model.specs.Steps.{outcome, reply_to, after}
 use Rattle.schedule.specs.declared.user.User.{User}
 use Rattle.schedule.specs.declared.limits.Limits.{Limits}
 use Rattle.schedule.specs.declared.state.Core.{Core}
@@ -20,77 +22,47 @@ use Rattle.schedule.specs.Sound.{desk_of, IsHashed}
 
 -- ---- events and replies in the terms of the model
 
-abbrev pub request_of : Request → steps.Request
-request_of (AddSource name tree) = steps.AddSource name tree
-request_of (AddDerivation text) = steps.AddDerivation text
-request_of (Fetch path) = steps.Fetch path
+abbrev pub request_of : Request → events.Request
+request_of (AddSource name tree) = events.AddSource name tree
+request_of (AddDerivation text) = events.AddDerivation text
+request_of (Fetch path) = events.Fetch path
 
-abbrev pub event_of : Event → steps.Event
+abbrev pub event_of : Event → events.Event
 event_of e = record { actor = e.actor; request = request_of e.request }
 
-abbrev pub reply_of : Reply → steps.Reply
-reply_of Done = steps.Done
-reply_of (Path path) = steps.Path path
-reply_of (Derivation path class) = steps.Derivation path class
-reply_of (Content tree) = steps.Content tree
-reply_of (Refused why) = steps.Refused why
+abbrev pub reply_of : Reply → events.Reply
+reply_of Done = events.Done
+reply_of (Path path) = events.Path path
+reply_of (Derivation path class) = events.Derivation path class
+reply_of (Content tree) = events.Content tree
+reply_of (Refused why) = events.Refused why
 
 -- a user with his reply
-abbrev pub answer_of : User × Reply → steps.Answer
+abbrev pub answer_of : User × Reply → events.Answer
 answer_of a = record { actor = a.0; reply = reply_of a.1 }
 
 -- ---- refusals
-
--- a refusal that says nothing of the model: memory was refused, or two texts have one digest
-abbrev pub is_memory_refusal : Refusal → Bool
-is_memory_refusal Memory = true
-is_memory_refusal why = false
-
-abbrev pub is_clash_refusal : Refusal → Bool
-is_clash_refusal Clash = true
-is_clash_refusal why = false
-
--- whether a reply is that memory was refused
-abbrev pub is_memory : steps.Reply → Bool
-is_memory (steps.Refused why) = is_memory_refusal why
-is_memory reply = false
-
--- whether a reply is that another tree is at the path
-abbrev pub is_clash : steps.Reply → Bool
-is_clash (steps.Refused why) = is_clash_refusal why
-is_clash reply = false
-
-abbrev pub is_refused : steps.Reply → Bool
-is_refused (steps.Refused why) = true
-is_refused reply = false
 
 -- whether a refusal is none of the model's
 abbrev pub is_fault : Refusal → Bool
 is_fault why = is_memory_refusal why || is_clash_refusal why
 
--- whether no memory is needed to find a refusal: that of a stranger, of a path that is not held, of a text that is too long
-abbrev pub needs_no_memory : Refusal → Bool
-needs_no_memory UnknownUser = true
-needs_no_memory NotHeld = true
-needs_no_memory TooLarge = true
-needs_no_memory why = false
-
 -- a result is that of an outcome which leaves this desk, or is none of the model's
-abbrev pub Fits : steps.Outcome → worlds.Desk → Result Reply Refusal → Type 0
-Fits outcome desk (Ok reply) = outcome ≡ steps.becomes desk (reply_of reply)
+abbrev pub Fits : Outcome → worlds.Desk → Result Reply Refusal → Type 0
+Fits outcome desk (Ok reply) = outcome ≡ becomes desk (reply_of reply)
 Fits outcome desk (Err why) = is_fault why ≡ false → outcome ≡ Err why
 
 -- where an outcome is a refusal that needs no memory, it is the result
-abbrev pub RefusedAtOnce : steps.Outcome → Result Reply Refusal → Type 0
+abbrev pub RefusedAtOnce : Outcome → Result Reply Refusal → Type 0
 RefusedAtOnce outcome result = (why : Refusal) → needs_no_memory why ≡ true → outcome ≡ Err why → result ≡ Err why
 
--- a request at a desk gives this result and leaves that desk, whomever its user reaches
-abbrev pub Serves : Setup → worlds.Desk → steps.Request → worlds.Desk → Result Reply Refusal → Type 0
-Serves setup old request new result = (reach : List ℕ → Bool) → Fits (steps.outcome setup (record { desk = old; reach = reach }) request) new result
+-- a request at a desk gives this result and leaves that desk, whoever its user is and whatever else he sees
+abbrev pub Serves : Setup → worlds.Desk → events.Request → worlds.Desk → Result Reply Refusal → Type 0
+Serves setup old request new result = (sight : Sight) → sight.desk ≡ old → Fits (outcome setup sight request) new result
 
 -- a request at a desk is refused at once where that needs no memory
-abbrev pub ServesAtOnce : worlds.Desk → steps.Request → Result Reply Refusal → Type 0
-ServesAtOnce desk request result = (setup : Setup) (reach : List ℕ → Bool) → RefusedAtOnce (steps.outcome setup (record { desk = desk; reach = reach }) request) result
+abbrev pub ServesAtOnce : worlds.Desk → events.Request → Result Reply Refusal → Type 0
+ServesAtOnce desk request result = (setup : Setup) (sight : Sight) → sight.desk ≡ desk → RefusedAtOnce (outcome setup sight request) result
 
 -- ---- the store as a world
 
@@ -126,12 +98,12 @@ pub record IsKept (table_old table_new : Stored) (desk_old desk_new : Holdings) 
   pub desk : desk_new ≡ desk_old
 
 -- what is stored once an event was not refused
-abbrev pub stored_after_request : steps.Request → List Source → List Source
-stored_after_request (steps.AddSource name tree) sources = put_once (record { path = source_path tree name; tree = tree }) sources
-stored_after_request (steps.AddDerivation text) sources = sources
-stored_after_request (steps.Fetch path) sources = sources
+abbrev pub stored_after_request : events.Request → List Source → List Source
+stored_after_request (events.AddSource name tree) sources = put_once (record { path = source_path tree name; tree = tree }) sources
+stored_after_request (events.AddDerivation text) sources = sources
+stored_after_request (events.Fetch path) sources = sources
 
-abbrev pub stored_after : steps.Event → List Source → List Source
+abbrev pub stored_after : events.Event → List Source → List Source
 stored_after event sources = stored_after_request event.request sources
 
 -- nothing of it changed
@@ -141,9 +113,9 @@ pub record IsUnchanged (old new : Core) : Type 0 where
   pub stored : stored_in new ≡ stored_in old
 
 -- the reply is the model's, and so is the world after it
-pub record IsStep (setup : Setup) (old : worlds.World) (event : steps.Event) (reply : steps.Reply) (new : worlds.World) : Type 0 where
-  pub told : reply ≡ steps.reply_to setup old event
-  pub world : new ≡ steps.after setup old event
+pub record IsStep (setup : Setup) (old : worlds.World) (event : events.Event) (reply : events.Reply) (new : worlds.World) : Type 0 where
+  pub told : reply ≡ reply_to setup old event
+  pub world : new ≡ after setup old event
 
 -- all that made the stored paths is among the texts
 unfoldable pub HasHashed : List (List ℕ) → Core → Type 0

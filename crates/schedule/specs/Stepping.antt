@@ -3,11 +3,13 @@ use Rattle.std.specs.Prelude.{◌≡◌, ◌≢◌, ℕ, true, false, List, All,
 use Rattle.model.specs.declared.refusal.Refusal.{Refusal}
 use Rattle.model.specs.declared.refusal.Refusal.TheVariants.{Stopped}
 use Rattle.model.specs.Paths.{NoClash}
-use Rattle.model.specs.Steps.{Event, Reply, Refused, outcome_of}
+use Rattle.model.specs.Events.{Event, Reply, Refused}
+use Rattle.model.specs.Steps.{outcome_of}
+use Rattle.model.specs.Replies.{is_memory, is_clash, is_refused, needs_no_memory}
 use Rattle.model.specs.HashedTexts.{texts_of_event}
 use Rattle.schedule.specs.declared.state.Core.{Core}
 use Rattle.schedule.specs.Stored.{IsTakenFor}
-use Rattle.schedule.specs.Standing.{world_of, setup_of, stored_in, is_stopped, is_memory, is_clash, is_refused, needs_no_memory, IsStep, IsUnchanged, HasHashed}
+use Rattle.schedule.specs.Standing.{world_of, setup_of, stored_in, is_stopped, IsStep, IsUnchanged, HasHashed}
 
 -- all that an event hashes at a core is among the texts
 abbrev pub HashesWithin : List (List ℕ) → Core → Event → Type 0

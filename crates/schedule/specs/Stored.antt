@@ -6,15 +6,16 @@ use Rattle.model.specs.TreeCode.{tree_code}
 use Rattle.model.specs.Paths.{source_path}
 use Rattle.model.specs.Classes.{Known}
 use Rattle.model.specs.Worlds.{Source, tree_at}
-use Rattle.model.specs.Steps.{Request, AddSource, AddDerivation, Fetch}
+use Rattle.model.specs.Events.{Request, AddSource, AddDerivation, Fetch}
 
 -- the trees of the table with their paths, in order, and for how many more there is room
 pub record Stored : Type 0 where
   pub sources : List Source
   pub room : ℕ
 
--- what a desk knows, and the charge of its sources in bytes
+-- whom the user of a desk trusts, what it knows, and the charge of its sources in bytes
 pub record Holdings : Type 0 where
+  pub trusted : List (List ℕ)
   pub known : Known
   pub charge : ℕ
 

@@ -3,11 +3,13 @@
 ghost use Rattle.std.specs.Prelude.{◌≡◌, false, ◌↔◌, ◌+◌, ◌<◌, ◌≤◌, ℕ, List, length, OnErr, OnOk, IfOk, IfErr, IsTrue, Err, Some, None, if◌then◌else◌};
 ghost use Rattle.model.specs.Paths.{source_path};
 ghost use Rattle.model.specs.Worlds.{Setup, tree_at};
-ghost use Rattle.model.specs.Steps.{AddSource as AddSourceRequest};
+ghost use Rattle.model.specs.Events.{AddSource as AddSourceRequest};
 ghost use Rattle.model.specs.declared.refusal.Refusal.TheVariants.{Memory, Clash};
+ghost use Rattle.model.specs.Limits.{most_sources};
+ghost use Rattle.model.specs.Replies.{is_refused};
 ghost use Rattle.schedule.specs.Stored.{put_once, IsTaken};
 ghost use Rattle.schedule.specs.Sound.{IsSound, desk_of};
-ghost use Rattle.schedule.specs.Standing.{Serves, IsKept, reply_of, is_refused};
+ghost use Rattle.schedule.specs.Standing.{Serves, IsKept, reply_of};
 
 use crate::desk::Desk;
 use crate::events::Reply;
@@ -59,7 +61,7 @@ fn store(table: &mut Table, is_stored: bool, path: StorePath, tree: Tree)
 /// Whether a desk stays within its limits with one source more, whose archive has that many bytes.
 fn has_room(desk: &Desk, limits: Limits, archive: u64) -> bool
     requires { desk.now.charge ≤ limits.charge }
-    ensures { IsTrue result ↔ ((length desk.now.known.sources + 1 ≤ 1024) × (desk.now.charge + archive ≤ limits.charge)) }
+    ensures { IsTrue result ↔ ((length desk.now.known.sources + 1 ≤ most_sources) × (desk.now.charge + archive ≤ limits.charge)) }
 {
     desk.known().source_count() < MOST_SOURCES && archive <= limits.charge - desk.charge()
 }

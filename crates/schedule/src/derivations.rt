@@ -2,11 +2,14 @@
 
 ghost use Rattle.std.specs.Prelude.{◌≡◌, ◌⊎◌, ◌<◌, ◌≤◌, false, ℕ, List, IfOk, IfErr, OnErr, Ok, Err, length};
 ghost use Rattle.model.specs.Worlds.{Source};
-ghost use Rattle.model.specs.Steps.{AddDerivation as AddDerivationRequest, told_of, admit_new};
+ghost use Rattle.model.specs.Events.{AddDerivation as AddDerivationRequest};
+ghost use Rattle.model.specs.DerivationRequests.{told_of, admit_new};
 ghost use Rattle.model.specs.Classes.{known_at, derivation_path};
 ghost use Rattle.model.specs.declared.refusal.Refusal.TheVariants.{Memory, TooLarge};
+ghost use Rattle.model.specs.Limits.{most_derivation_bytes};
+ghost use Rattle.model.specs.Replies.{is_clash_refusal, is_refused};
 ghost use Rattle.schedule.specs.Sound.{IsSound, desk_of};
-ghost use Rattle.schedule.specs.Standing.{Serves, Fits, reply_of, is_refused, is_clash_refusal};
+ghost use Rattle.schedule.specs.Standing.{Serves, Fits, reply_of};
 
 use crate::desk::Desk;
 use crate::events::Reply;
@@ -60,7 +63,7 @@ fn add_parsed(alloc: Global, desk: &mut Desk, derivation: &Derivation) -> Result
 pub(crate) fn add_derivation(alloc: Global, desk: &mut Desk, text: &[u8]) -> Result<Reply, Refusal>
     ensures serves { (users : List (List ℕ)) (table : List Source) (limit : ℕ) → IsSound table limit desk.old →
         Serves (record { users = users; charge = limit }) (desk_of table desk.old) (AddDerivationRequest text.now) (desk_of table desk.new) result }
-    ensures too_large { 1048576 < length text.now → result ≡ Err TooLarge }
+    ensures too_large { most_derivation_bytes < length text.now → result ≡ Err TooLarge }
     ensures answered { IfOk result (λ r. is_refused (reply_of r) ≡ false) }
     ensures sound { (table : List Source) (limit : ℕ) → IsSound table limit desk.old → IsSound table limit desk.new }
     ensures kept { OnErr result (desk.new ≡ desk.old) }

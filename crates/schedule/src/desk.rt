@@ -5,16 +5,18 @@ ghost use Rattle.std.specs.Option.{option_copied};
 ghost use Rattle.model.specs.Classes.{known_at, is_one_of};
 ghost use Rattle.model.specs.declared.refusal.Refusal.TheVariants.{Memory};
 
+use crate::user::User;
 use classes::{Admitted, Known};
 use model::Refusal;
 use std::alloc::Global;
 use std::marker::Model;
 use storepath::StorePath;
 
-/// What a user's desk knows of his derivations and sources, and the sum of the archive lengths of
-/// the sources, in bytes.
+/// Whom a user trusts, what his desk knows of his derivations and sources, and the sum of the archive
+/// lengths of the sources, in bytes.
 #[derive(Drop)]
 pub(crate) struct Desk {
+    trusted: Vec<User>,
     known: Known,
     charge: u64,
 }
@@ -24,16 +26,18 @@ impl Model for Desk {
 
     ghost Value = { Holdings };
 
-    ghost view = { λ d. record { known = d.known; charge = d.charge } };
+    ghost view = { λ d. record { trusted = d.trusted.items; known = d.known; charge = d.charge } };
 }
 
 impl Desk {
     /// A desk with nothing on it.
     pub(crate) fn new(alloc: Global) -> Desk
+        ensures trusted { result.trusted ≡ [] }
         ensures known { result.known ≡ record { derivations = []; sources = [] } }
         ensures charge { result.charge ≡ 0 }
     {
         Desk {
+            trusted: Vec::new(alloc),
             known: Known::new(alloc),
             charge: 0,
         }
@@ -73,7 +77,7 @@ impl Desk {
         requires absent { is_one_of self.old.known.sources path ≡ false }
         requires fits { self.old.charge + archive < 2 ^ 64 }
         ensures { MatchResult result
-            (λ _. self.new ≡ record { known = record self.old.known { sources = self.old.known.sources ++ path ∷ [] }; charge = self.old.charge + archive })
+            (λ _. self.new ≡ record self.old { known = record self.old.known { sources = self.old.known.sources ++ path ∷ [] }; charge = self.old.charge + archive })
             (λ e. (e ≡ Memory) × (self.new ≡ self.old)) }
     {
         self.known.add_source(path)?;

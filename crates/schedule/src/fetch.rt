@@ -4,10 +4,11 @@ ghost use Rattle.std.specs.Prelude.{◌≡◌, true, false, All, IfOk, IfErr, Er
 ghost use Rattle.std.specs.Option.{option_copied};
 ghost use Rattle.model.specs.Classes.{is_one_of};
 ghost use Rattle.model.specs.Worlds.{Setup, tree_at, held_at};
-ghost use Rattle.model.specs.Steps.{Fetch as FetchRequest};
+ghost use Rattle.model.specs.Events.{Fetch as FetchRequest};
 ghost use Rattle.model.specs.declared.refusal.Refusal.TheVariants.{NotHeld};
+ghost use Rattle.model.specs.Replies.{is_clash_refusal, is_refused};
 ghost use Rattle.schedule.specs.Sound.{desk_of};
-ghost use Rattle.schedule.specs.Standing.{Serves, reply_of, is_clash_refusal, is_refused};
+ghost use Rattle.schedule.specs.Standing.{Serves, reply_of};
 
 use crate::desk::Desk;
 use crate::events::Reply;

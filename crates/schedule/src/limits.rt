@@ -13,8 +13,9 @@ pub struct Limits {
 /// Where none is given, the largest is meant.
 impl Default for Limits {
     ghost use Rattle.std.specs.Prelude.{◌≡◌};
+    ghost use Rattle.model.specs.Limits.{most_charge};
 
-    ghost is_default = { λ limits. limits.charge ≡ 1073741824 };
+    ghost is_default = { λ limits. limits.charge ≡ most_charge };
 
     fn default() -> Limits {
         Limits {

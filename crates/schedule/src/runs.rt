@@ -5,10 +5,12 @@ ghost use Rattle.std.specs.List.{list_any};
 ghost use Rattle.model.specs.Paths.{NoClash};
 ghost use Rattle.model.specs.Worlds.{are_users, nothing};
 ghost use Rattle.model.specs.Steps.{answers, replies_to, replies};
+ghost use Rattle.model.specs.Limits.{most_charge};
+ghost use Rattle.model.specs.Replies.{is_memory};
 ghost use Rattle.model.specs.HashedTexts.{hashed};
 ghost use Rattle.model.specs.Striking.{strike};
 ghost use Rattle.model.specs.declared.refusal.Refusal.TheVariants.{Memory, BadUsers};
-ghost use Rattle.schedule.specs.Standing.{setup_for, event_of, reply_of, answer_of, is_memory};
+ghost use Rattle.schedule.specs.Standing.{setup_for, event_of, reply_of, answer_of};
 ghost use Rattle.schedule.specs.Stepping.{IsCoreStep};
 ghost use Rattle.schedule.specs.Running.{events_served, without_memory, ArePrivate};
 
@@ -46,7 +48,7 @@ pub fn run(
     limits: Limits,
     events: Vec<Event>,
 ) -> Result<Vec<(User, Reply)>, Refusal>
-    requires { limits.charge ≤ 1073741824 }
+    requires { limits.charge ≤ most_charge }
     ensures actors { IfOk result (λ given. map (λ a. a.0) given.items ≡ map (λ e. e.actor) events.items) }
     ensures same { let setup = setup_for users limits in let all = map event_of events.items in
         NoClash (hashed setup nothing all) → IfOk result (λ given. list_any (λ a. is_memory (reply_of a.1)) given.items ≡ false →

@@ -2,9 +2,10 @@
 
 ghost use Rattle.std.specs.Prelude.{◌≡◌, false, ℕ, List, IfOk, OnErr, OnOk, Err};
 ghost use Rattle.model.specs.declared.refusal.Refusal.TheVariants.{Clash};
+ghost use Rattle.model.specs.Replies.{is_refused};
 ghost use Rattle.schedule.specs.Stored.{IsTakenFor};
 ghost use Rattle.schedule.specs.Sound.{IsSound, Extends, desk_of};
-ghost use Rattle.schedule.specs.Standing.{Serves, ServesAtOnce, IsKept, request_of, reply_of, stored_after_request, is_refused};
+ghost use Rattle.schedule.specs.Standing.{Serves, ServesAtOnce, IsKept, request_of, reply_of, stored_after_request};
 
 use crate::add::add_source;
 use crate::derivations::add_derivation;

@@ -3,10 +3,12 @@
 ghost use Rattle.std.specs.Prelude.{◌≡◌, ◌≤◌, true, false, IfOk, IfErr, OnOk, OnErr, Err, ◌⊎◌, [], vec_len, All, position, bytes_eq};
 ghost use Rattle.model.specs.Worlds.{are_users, nothing};
 ghost use Rattle.model.specs.Steps.{outcome_of};
+ghost use Rattle.model.specs.Limits.{most_charge};
+ghost use Rattle.model.specs.Replies.{is_refused};
 ghost use Rattle.schedule.specs.Sound.{IsEmpty};
 ghost use Rattle.model.specs.declared.refusal.Refusal.TheVariants.{Memory, BadUsers, Clash};
 ghost use Rattle.schedule.specs.Stored.{IsTakenFor};
-ghost use Rattle.schedule.specs.Standing.{world_of, setup_of, stored_in, stored_after, is_stopped, event_of, request_of, reply_of, is_refused, is_fault, IsStep, IsUnchanged, RefusedAtOnce, HoldsStored};
+ghost use Rattle.schedule.specs.Standing.{world_of, setup_of, stored_in, stored_after, is_stopped, event_of, request_of, reply_of, is_fault, IsStep, IsUnchanged, RefusedAtOnce, HoldsStored};
 ghost use Rattle.schedule.specs.Stepping.{IsCoreStep};
 
 use crate::desk::Desk;
@@ -16,7 +18,7 @@ use crate::serve::serve_at;
 use crate::state::Core;
 use crate::table::Table;
 use crate::user::{User, are_users};
-use model::Refusal;
+use model::{Refusal, never_fails};
 use std::alloc::Global;
 use std::hash::RandomState;
 use storepath::paths_differ;
@@ -52,7 +54,7 @@ impl Core {
         users: Vec<User>,
         limits: Limits,
     ) -> Result<Core, Refusal>
-        requires { limits.charge ≤ 1073741824 }
+        requires { limits.charge ≤ most_charge }
         ensures setup { IfOk result (λ core. setup_of core ≡ record { users = users.items; charge = limits.charge }) }
         ensures world { IfOk result (λ core. world_of core ≡ nothing) }
         ensures stored { IfOk result (λ core. stored_in core ≡ []) }
@@ -101,6 +103,7 @@ impl Core {
         ensures holds { HoldsStored self.new }
     {
         paths_differ();
+        never_fails();
         match self.serve(alloc, event) {
             Ok(reply) => reply,
             Err(refusal) => Reply::Refused(refusal),

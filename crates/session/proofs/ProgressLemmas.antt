@@ -6,7 +6,7 @@ use mathlib.Core.List.{IsPrefix}
 use Rattle.std.specs.Io.KnownBytes.{Appends}
 use Rattle.model.specs.declared.refusal.Refusal.{Refusal}
 use Rattle.model.specs.declared.refusal.Refusal.TheVariants.{BadUsers, InputFault, OutputFault, Memory}
-use Rattle.model.specs.Steps.{Event, Reply}
+use Rattle.model.specs.Events.{Event, Reply}
 use Rattle.model.specs.Forms.{longest_line}
 use Rattle.model.specs.Lines.{lines_of}
 use Rattle.model.specs.Talk.{Row, Seen, fresh, Gets, after, after_all, Talks, form_of, text_from, row_text}

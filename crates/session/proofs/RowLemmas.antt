@@ -4,7 +4,7 @@ use Rattle.std.proofs.Common.{drop, Result, Ok, Err, false}
 use Rattle.std.specs.Result.{OnErr, IfErr, IsErrAnd}
 use Rattle.std.proofs.lemmas.List.{append-nil, take_all, take_at, take-append-drop}
 use Rattle.std.specs.Io.KnownBytes.{Appends, Consumes, Keeps, ReadConsumes, prepend_known}
-use Rattle.model.specs.Steps.{Event, Reply}
+use Rattle.model.specs.Events.{Event, Reply}
 use Rattle.model.specs.Lines.{Told}
 use Rattle.model.specs.Talk.{Row, Silent, Names, Refuses, Asks, Seen, Gets, after, after_all, Talks, form_of, text_from, row_text}
 use Rattle.session.specs.Serving.{Link, Chain}

@@ -2,7 +2,7 @@
 use Rattle.std.proofs.Common.{◌≡◌, ◌⊎◌, inl, inr, ℕ, ◌+◌, Bool, true, ◌||◌, List, [], ◌∷◌, ◌++◌, length, refl, ap, ◌∙◌, codes}
 use Rattle.std.specs.Global.{Vec}
 use Rattle.model.specs.declared.refusal.Refusal.{Refusal}
-use Rattle.model.specs.Steps as steps
+use Rattle.model.specs.Events as events
 use Rattle.model.specs.Lines.{Told, nothing_told}
 use Rattle.model.specs.Forms.{Form}
 use Rattle.model.specs.Talk.{Row, Names, Refuses, Asks, Seen, form_of, Gets, answer_text, told_in, is_bad_users}
@@ -23,9 +23,9 @@ row-gets form (reading.Names users) row b e = rw e b
 row-gets form (reading.Refuses why) row b e = rw e b
 row-gets form (reading.Asks event) row b e = rw e.1 (b e.0)
 
-module _ {A : Type 0} (R : A → steps.Event → steps.Reply → A → Type 0) (begun refused : Bool) (told told' : List Told) (text : List ℕ) (n : ℕ)
+module _ {A : Type 0} (R : A → events.Event → events.Reply → A → Type 0) (begun refused : Bool) (told told' : List Told) (text : List ℕ) (n : ℕ)
     (r : Reading) where
-  pub gives-asked : (event : Event) (reply : steps.Reply) (one : Told) (now next : A)
+  pub gives-asked : (event : Event) (reply : events.Reply) (one : Told) (now next : A)
       → r ≡ reading.Asks event → told' ≡ told ++ one ∷ [] → one ≡ told_in reply → n ≡ length told + 1 → text ≡ answer_text n event.actor reply
       → R now (event_of event) reply next → Gives (IsRowOf r) R (seen_by begun refused told) (seen_by begun refused told') now next text
   gives-asked event reply one now next is e₁ e₂ e₃ e₄ h = (
@@ -37,30 +37,30 @@ module _ {A : Type 0} (R : A → steps.Event → steps.Reply → A → Type 0) (
   )
 
   pub gives-named : (users : Vec (List ℕ)) (one : Told) (now : A)
-      → r ≡ reading.Names users → told' ≡ told ++ one ∷ [] → one ≡ nothing_told → n ≡ length told + 1 → text ≡ answer_text n (codes "-") steps.Done
+      → r ≡ reading.Names users → told' ≡ told ++ one ∷ [] → one ≡ nothing_told → n ≡ length told + 1 → text ≡ answer_text n (codes "-") events.Done
       → Gives (IsRowOf r) R (seen_by begun refused told) (seen_by true refused told') now now text
   gives-named users one now is e₁ e₂ e₃ e₄ = (
     Names users.items,
     rw is refl,
     ap (seen_by true refused) (e₁ ∙ ap (λ x. told ++ x ∷ []) e₂),
-    e₄ ∙ ap (λ k. answer_text k (codes "-") steps.Done) e₃,
+    e₄ ∙ ap (λ k. answer_text k (codes "-") events.Done) e₃,
     refl,
   )
 
   pub gives-refused : (why : Refusal) (refused' : Bool) (one : Told) (now : A)
       → r ≡ reading.Refuses why → refused' ≡ (is_bad_users why || refused) → told' ≡ told ++ one ∷ [] → one ≡ nothing_told → n ≡ length told + 1
-      → text ≡ answer_text n (codes "-") (steps.Refused why) → Gives (IsRowOf r) R (seen_by begun refused told) (seen_by begun refused' told') now now text
+      → text ≡ answer_text n (codes "-") (events.Refused why) → Gives (IsRowOf r) R (seen_by begun refused told) (seen_by begun refused' told') now now text
   gives-refused why refused' one now is f e₁ e₂ e₃ e₄ = (
     Refuses why,
     rw is refl,
     ap (λ x. seen_by begun x told') f ∙ ap (seen_by begun (is_bad_users why || refused)) (e₁ ∙ ap (λ x. told ++ x ∷ []) e₂),
-    e₄ ∙ ap (λ k. answer_text k (codes "-") (steps.Refused why)) e₃,
+    e₄ ∙ ap (λ k. answer_text k (codes "-") (events.Refused why)) e₃,
     refl,
   )
 
-module _ {A : Type 0} (R : A → steps.Event → steps.Reply → A → Type 0) where
+module _ {A : Type 0} (R : A → events.Event → events.Reply → A → Type 0) where
   pub gives-part : (r : Reading) (event : Event) (now next : A) → r ≡ reading.Asks event
-      → ((next ≡ now) ⊎ ((reply : steps.Reply) × R now (event_of event) reply next)) → StopsAt (IsRowOf r) R now next
+      → ((next ≡ now) ⊎ ((reply : events.Reply) × R now (event_of event) reply next)) → StopsAt (IsRowOf r) R now next
   gives-part r event now next is d = elim d [
     | inl e ↦ inl e
     | inr w ↦ inr (Asks (event_of event) w.0, rw is (w.0, refl), w.1)

@@ -8,7 +8,7 @@ use Rattle.model.specs.Verbs.{kinds_of, IsRequestOf}
 use Rattle.model.specs.Forms.{Form, Wish}
 use Rattle.model.specs.Forms as form
 use Rattle.model.specs.Talk.{Row, Silent, Names, Refuses, Asks, Gets}
-use Rattle.model.specs.Steps as steps
+use Rattle.model.specs.Events as events
 use Rattle.schedule.specs.declared.events.Event.{Event}
 use Rattle.schedule.specs.declared.events.Request.{Request}
 use Rattle.schedule.specs.Standing.{event_of, request_of}
@@ -37,14 +37,14 @@ abbrev pub IsRowOf : Reading → Row → Type 0
 IsRowOf reading.Silent row = row ≡ Silent
 IsRowOf (reading.Names users) row = row ≡ Names users.items
 IsRowOf (reading.Refuses why) row = row ≡ Refuses why
-IsRowOf (reading.Asks event) row = (reply : steps.Reply) × (row ≡ Asks (event_of event) reply)
+IsRowOf (reading.Asks event) row = (reply : events.Reply) × (row ≡ Asks (event_of event) reply)
 
 -- a line of that form comes to this
 abbrev pub Becomes : Form → Reading → Type 0
 Becomes form reading.Silent = Gets form Silent
 Becomes form (reading.Names users) = Gets form (Names users.items)
 Becomes form (reading.Refuses why) = Gets form (Refuses why)
-Becomes form (reading.Asks event) = (reply : steps.Reply) → Gets form (Asks (event_of event) reply)
+Becomes form (reading.Asks event) = (reply : events.Reply) → Gets form (Asks (event_of event) reply)
 
 -- a line of any wish that makes this event, or none for this, comes to this
 abbrev pub BecomesOfWish : Result Event Refusal → Reading → Type 0

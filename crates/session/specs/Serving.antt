@@ -4,7 +4,7 @@ use mathlib.Core.List.{IsPrefix}
 use Rattle.std.specs.Io.KnownBytes.{Appends, Consumes, IsAtEnd}
 use Rattle.model.specs.declared.refusal.Refusal.{Refusal}
 use Rattle.model.specs.declared.refusal.Refusal.TheVariants.{OutputFault, Memory, BadUsers}
-use Rattle.model.specs.Steps.{Event, Reply}
+use Rattle.model.specs.Events.{Event, Reply}
 use Rattle.model.specs.Lines.{lines_of}
 use Rattle.model.specs.Forms.{longest_line}
 use Rattle.model.specs.Talk.{Row, Silent, Names, Refuses, Asks, Seen, fresh, after, after_all, Talks, row_text, text_from}

@@ -1,7 +1,7 @@
 //! Whom a session asks, reads from and writes to.
 
 ghost use Rattle.std.specs.Prelude.{◌≡◌, ℕ};
-ghost use Rattle.model.specs.Steps as steps;
+ghost use Rattle.model.specs.Events as events;
 ghost use Rattle.schedule.specs.Standing.{event_of, reply_of};
 
 use model::Refusal;
@@ -11,7 +11,7 @@ use std::alloc::Global;
 /// What answers the events of a session.
 pub trait Answer {
     /// Relates the answer before an event, the event, its reply, and the answer after it.
-    ghost answers: { Self → steps.Event → steps.Reply → Self → Type 0 };
+    ghost answers: { Self → events.Event → events.Reply → Self → Type 0 };
 
     /// Takes an event and gives its reply.
     fn call(&mut self, alloc: Global, event: Event) -> Reply
@@ -34,10 +34,10 @@ pub struct NoUsers;
 
 impl Answer for NoUsers {
     ghost use Rattle.std.specs.Prelude.{◌≡◌};
-    ghost use Rattle.model.specs.Steps as steps;
+    ghost use Rattle.model.specs.Events as events;
     ghost use Rattle.model.specs.declared.refusal.Refusal.TheVariants.{UnknownUser};
 
-    ghost answers = { λ _ _ reply _. reply ≡ steps.Refused UnknownUser };
+    ghost answers = { λ _ _ reply _. reply ≡ events.Refused UnknownUser };
 
     fn call(&mut self, _alloc: Global, _event: Event) -> Reply {
         Reply::Refused(Refusal::UnknownUser)

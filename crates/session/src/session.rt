@@ -3,7 +3,7 @@
 ghost use Rattle.std.specs.Prelude.{◌≡◌, ◌⊎◌, IfOk, IfErr, OnErr};
 ghost use Rattle.model.specs.declared.refusal.Refusal.TheVariants.{Memory};
 ghost use Rattle.model.specs.Talk.{fresh, form_of, Gets, answer_text, told_in, is_bad_users};
-ghost use Rattle.model.specs.Steps as steps;
+ghost use Rattle.model.specs.Events as events;
 ghost use Rattle.schedule.specs.Standing.{event_of, reply_of};
 ghost use Rattle.session.specs.Reading.{Becomes, IsRowOf};
 ghost use Rattle.session.specs.Serving.{Gives, StopsAt};
@@ -143,12 +143,12 @@ fn ask<A: Answer>(
     event: Event,
     answer: &mut A,
 ) -> Result<(Told, Vec<u8>), Refusal>
-    ensures ok { IfOk result (λ r. (reply : steps.Reply) × (r.0 ≡ told_in reply)
+    ensures ok { IfOk result (λ r. (reply : events.Reply) × (r.0 ≡ told_in reply)
         × (r.1.items ≡ answer_text number event.actor reply)
         × A.answers answer.old (event_of event) reply answer.new) }
     ensures memory { IfErr result (λ why. why ≡ Memory) }
     ensures err { OnErr result ((answer.new ≡ answer.old)
-        ⊎ ((reply : steps.Reply) × A.answers answer.old (event_of event) reply answer.new)) }
+        ⊎ ((reply : events.Reply) × A.answers answer.old (event_of event) reply answer.new)) }
 {
     let actor = event.actor.clone()?;
     let reply = answer.call(alloc, event);

@@ -3,7 +3,10 @@ use Rattle.std.specs.Prelude.{bytes_eq, is_some, nat_le, ◌&&◌}
 use Rattle.std.specs.List.{list_any}
 use Rattle.std.proofs.lemmas.Bool.Decides.{nat_tests}
 use Rattle.model.specs.Archives.{nar}
-use Rattle.model.specs.Steps.{outcome, becomes, Path}
+use Rattle.model.specs.Events.{Path}
+use Rattle.model.specs.Outcomes.{becomes}
+use Rattle.model.specs.Steps.{outcome}
+use Rattle.model.specs.Limits.{most_sources}
 use Rattle.model.specs.Worlds.{Source, tree_at}
 use Rattle.schedule.specs.Stored.{put_once}
 use Rattle.schedule.specs.Sound.{desk_of, Extends}
@@ -13,9 +16,9 @@ use Rattle.schedule.proofs.add.add_source.Goals as goal
 
 pub returns-then-holds-clause-serves : goal.returns-then-holds-clause-serves
 unfolding outcome
-returns-then-holds-clause-serves c users reach =
-    add_known _ (desk_of c.args.table.now.sources c.args.desk.now) c.args.name.now c.args.tree c.in_ok-path.path c.in_ok-path.ensures.value
-    (sym (held_found c.args.table.now.sources c.args.desk.now.known.sources c.in_ok-path.path) ∙ sym c.if-holds.ensures)
+returns-then-holds-clause-serves c users sight same =
+    rw same (add_known _ (desk_of c.args.table.now.sources c.args.desk.now) c.args.name.now c.args.tree c.in_ok-path.path c.in_ok-path.ensures.value
+    (sym (held_found c.args.table.now.sources c.args.desk.now.known.sources c.in_ok-path.path) ∙ sym c.if-holds.ensures))
 
 pub returns-then-holds-clause-stored : goal.returns-then-holds-clause-stored
 returns-then-holds-clause-stored c =
@@ -25,14 +28,14 @@ returns-then-holds-clause-stored c =
 
 pub returns-then-not-has_room-clause-serves : goal.returns-then-not-has_room-clause-serves
 unfolding outcome
-returns-then-not-has_room-clause-serves c users reach _ =
+returns-then-not-has_room-clause-serves c users sight same _ =
     let s : Source = record { path = c.in_ok-path.path; tree = c.args.tree } in
     let absent : list_any (λ p. bytes_eq p c.in_ok-path.path) c.args.desk.now.known.sources ≡ false = sym c.if-holds.ensures in
-    let over : (nat_le (length c.args.desk.now.known.sources + 1) 1024 && nat_le (c.args.desk.now.charge + length (nar c.args.tree)) c.args.limits.charge) ≡ false =
+    let over : (nat_le (length c.args.desk.now.known.sources + 1) most_sources && nat_le (c.args.desk.now.charge + length (nar c.args.tree)) c.args.limits.charge) ≡ false =
     grind (arith, nat_tests, c.if-not-has_room.ensures, c.nar_len-archive.ensures.len) in
-    add_refused _ (desk_of c.args.table.now.sources c.args.desk.now) c.args.name.now c.args.tree c.in_ok-path.path c.in_ok-path.ensures.value
+    rw same (add_refused _ (desk_of c.args.table.now.sources c.args.desk.now) c.args.name.now c.args.tree c.in_ok-path.path c.in_ok-path.ensures.value
     (sym (held_found c.args.table.now.sources c.args.desk.now.known.sources c.in_ok-path.path) ∙ absent)
-    (is_within-more users c.args.table.now.sources c.args.limits.charge c.args.desk.now s c.requires absent ∙ over)
+    (is_within-more users c.args.table.now.sources c.args.limits.charge c.args.desk.now s c.requires absent ∙ over))
 
 -- the source that was added
 abbrev added : goal.After-store → Source
@@ -44,12 +47,13 @@ absent c = sym c.if-holds.ensures
 key : (c : goal.After-store) → c.in_ok-key.key ≡ c.in_ok-path.path
 key c = search rules
 
-changed : (c : goal.After-store) → c.add_source.new.self ≡ record { known = record c.args.desk.now.known { sources = c.args.desk.now.known.sources ++ c.in_ok-path.path ∷ [] }; charge = c.args.desk.now.charge + length (nar c.args.tree) }
+changed : (c : goal.After-store) → c.add_source.new.self ≡ record c.args.desk.now { known = record c.args.desk.now.known { sources = c.args.desk.now.known.sources ++ c.in_ok-path.path ∷ [] }; charge = c.args.desk.now.charge + length (nar c.args.tree) }
 changed c = search (arith, rules)
 
 more : (c : goal.After-store) → HoldsMore c.store.new.table.sources c.args.desk.now c.add_source.new.self (added c)
 more c = record {
   there = ap (λ p. tree_at p c.store.new.table.sources) (sym (key c)) ∙ c.store.ensures.there;
+  trusted = ap (λ d. d.trusted) (changed c);
   known = ap (λ d. d.known) (changed c);
   charge = ap (λ d. d.charge) (changed c);
 }
@@ -68,17 +72,17 @@ returns-clause-stored c = rw (← c.in_ok-path.ensures.value) (stored c)
 
 pub returns-clause-serves : goal.returns-clause-serves
 unfolding outcome
-returns-clause-serves c users reach =
+returns-clause-serves c users sight same =
     let old : List Source = c.args.table.now.sources in
-    let within : (nat_le (length c.args.desk.now.known.sources + 1) 1024 && nat_le (c.args.desk.now.charge + length (nar c.args.tree)) c.args.limits.charge) ≡ true =
+    let within : (nat_le (length c.args.desk.now.known.sources + 1) most_sources && nat_le (c.args.desk.now.charge + length (nar c.args.tree)) c.args.limits.charge) ≡ true =
     grind (arith, nat_tests, c.if-not-has_room.ensures, c.nar_len-archive.ensures.len) in
-    add_new _ (desk_of old c.args.desk.now) c.args.name.now c.args.tree c.in_ok-path.path c.in_ok-path.ensures.value
+    rw same (add_new _ (desk_of old c.args.desk.now) c.args.name.now c.args.tree c.in_ok-path.path c.in_ok-path.ensures.value
     (sym (held_found old c.args.desk.now.known.sources c.in_ok-path.path) ∙ absent c)
     (is_within-more users old c.args.limits.charge c.args.desk.now (added c) c.requires (absent c) ∙ within)
-    ∙ ap (λ d. becomes d (Path c.in_ok-path.path)) (sym (desk_of-more old c.store.new.table.sources c.args.limits.charge c.args.desk.now c.add_source.new.self (added c) (later c) c.requires (more c)))
+    ∙ ap (λ d. becomes d (Path c.in_ok-path.path)) (sym (desk_of-more old c.store.new.table.sources c.args.limits.charge c.args.desk.now c.add_source.new.self (added c) (later c) c.requires (more c))))
 
 pub returns-clause-sound : goal.returns-clause-sound
 returns-clause-sound c =
-    let few : length c.args.desk.now.known.sources + 1 ≤ 1024 = grind (arith, nat_tests, c.if-not-has_room.ensures, c.nar_len-archive.ensures.len) in
+    let few : length c.args.desk.now.known.sources + 1 ≤ most_sources = grind (arith, nat_tests, c.if-not-has_room.ensures, c.nar_len-archive.ensures.len) in
     let fits : c.args.desk.now.charge + length (nar c.args.tree) ≤ c.args.limits.charge = grind (arith, nat_tests, c.if-not-has_room.ensures, c.nar_len-archive.ensures.len) in
     sound-more c.args.table.now.sources c.store.new.table.sources c.args.limits.charge c.args.desk.now c.add_source.new.self (added c) (later c) c.requires (more c) (absent c) few fits

@@ -5,12 +5,15 @@ use Rattle.std.proofs.lemmas.Result.{err_from_is_err_and}
 use Rattle.model.specs.declared.refusal.Refusal.{Refusal}
 use Rattle.model.specs.declared.refusal.Refusal.TheVariants.{Memory}
 use Rattle.model.specs.Derivations.{Derivation}
-use Rattle.model.specs.Steps.{becomes, told_of}
+use Rattle.model.specs.Outcomes.{becomes}
+use Rattle.model.specs.DerivationRequests.{told_of}
 use Rattle.model.specs.Classes.{Known, known_at, derivation_path, admit}
 use Rattle.schedule.specs.Sound.{desk_of}
-use Rattle.schedule.specs.Standing.{reply_of, is_clash_refusal}
+use Rattle.schedule.specs.Standing.{reply_of}
 use Rattle.schedule.proofs.DeskLemmas.{holds_derivation, sound-derivation}
-use Rattle.schedule.proofs.RefusalLemmas.{admission_refusal}
+use Rattle.model.specs.Limits.{most_derivations}
+use Rattle.model.specs.Replies.{is_clash_refusal}
+use Rattle.model.proofs.DerivationRequestLemmas.{admit_refusals}
 use Rattle.schedule.proofs.DerivationLemmas.{admitted_path, refused_fits, over_fits, added_fits}
 use Rattle.schedule.proofs.derivations.add_parsed.Goals as goal
 
@@ -25,7 +28,7 @@ returns-in_err-admitted-clause-fits c users table limit sound =
 -- no refusal of an admission is a clash
 admission_no_clash : (known : Known) (d : Derivation) (e : Refusal) → (e ≡ Memory) ⊎ (admit known d ≡ Err e) → is_clash_refusal e ≡ false
 admission_no_clash known d e (inl h) = rw h refl
-admission_no_clash known d e (inr h) = admission_refusal is_clash_refusal known d e (record { quota = refl; unread = refl; missing = refl; high = refl }) h
+admission_no_clash known d e (inr h) = admit_refusals (λ why. is_clash_refusal why ≡ false) refl refl known d e h
 
 pub returns-in_err-admitted-clause-no_clash : goal.returns-in_err-admitted-clause-no_clash
 returns-in_err-admitted-clause-no_clash c =
@@ -39,7 +42,7 @@ returns-then-derivation_count-ge-MOST_DERIVATIONS-clause-fits c users table limi
     let none : known_at known (derivation_path c.args.derivation.now) ≡ None = search rules in
     let ok : admit known c.args.derivation.now ≡ Ok c.in_ok-admitted.admitted = search rules in
     let count : c.derivation_count.result ≡ length known.derivations = search rules in
-    let over : nat_le (length known.derivations + 1) 1024 ≡ false = grind (arith, nat_tests, count, c.if-derivation_count-ge-MOST_DERIVATIONS.true) in
+    let over : nat_le (length known.derivations + 1) most_derivations ≡ false = grind (arith, nat_tests, count, c.if-derivation_count-ge-MOST_DERIVATIONS.true) in
     over_fits users table limit c.args.desk.now c.args.derivation.now c.in_ok-admitted.admitted sound none ok over
 
 pub add_derivation-requires : goal.add_derivation-requires
@@ -58,7 +61,7 @@ returns-clause-fits c users table limit sound =
     let none : known_at known (derivation_path c.args.derivation.now) ≡ None = search rules in
     let ok : admit known c.args.derivation.now ≡ Ok c.in_ok-admitted.admitted = search rules in
     let count : c.derivation_count.result ≡ length known.derivations = search rules in
-    let within : nat_le (length known.derivations + 1) 1024 ≡ true = grind (arith, nat_tests, count, c.if-derivation_count-ge-MOST_DERIVATIONS.false) in
+    let within : nat_le (length known.derivations + 1) most_derivations ≡ true = grind (arith, nat_tests, count, c.if-derivation_count-ge-MOST_DERIVATIONS.false) in
     let told : reply_of c.in_ok-reply.reply ≡ told_of c.in_ok-admitted.admitted = search rules in
     added_fits users table limit c.args.desk.now c.args.derivation.now c.in_ok-admitted.admitted sound none ok within
     ∙ ap (λ d. becomes (desk_of table d) (told_of c.in_ok-admitted.admitted)) (sym (changed c)) ∙ ap (becomes (desk_of table c.add_derivation.new.self)) (sym told)

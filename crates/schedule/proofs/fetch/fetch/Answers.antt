@@ -12,10 +12,10 @@ returns-in_err-clone-in-Some-clause-not_held c none =
 
 pub returns-in_ok-clone-in-Some-clause-serves : goal.returns-in_ok-clone-in-Some-clause-serves
 unfolding outcome
-returns-in_ok-clone-in-Some-clause-serves c setup reach =
+returns-in_ok-clone-in-Some-clause-serves c setup sight same =
     let found : held_at c.args.path.now (desk_of c.args.table.now.sources c.args.desk.now) ≡ Some c.in-Some.tree.now =
     sym (c.in-Some.ensures ∙ held_is c.args.table.now.sources c.args.desk.now.known.sources c.args.path.now c.requires) in
-    rw (found, c.in_ok-clone-in-Some.ensures.cases) refl
+    rw (same, found, c.in_ok-clone-in-Some.ensures.cases) refl
 
 pub returns-in_ok-clone-in-Some-clause-not_held : goal.returns-in_ok-clone-in-Some-clause-not_held
 returns-in_ok-clone-in-Some-clause-not_held c none =
@@ -24,7 +24,7 @@ returns-in_ok-clone-in-Some-clause-not_held c none =
 
 pub returns-in-None-clause-serves : goal.returns-in-None-clause-serves
 unfolding outcome
-returns-in-None-clause-serves c setup reach _ =
+returns-in-None-clause-serves c setup sight same _ =
     let none : held_at c.args.path.now (desk_of c.args.table.now.sources c.args.desk.now) ≡ None =
     sym (c.in-None.ensures ∙ held_is c.args.table.now.sources c.args.desk.now.known.sources c.args.path.now c.requires) in
-    rw none refl
+    rw (same, none) refl

@@ -19,7 +19,7 @@ pub returns-in-Err-clause-step : goal.returns-in-Err-clause-step
 returns-in-Err-clause-step c =
     let why = c.in-Err.refusal in
     let given = c.in-Err.ensures in
-    refused_core_step c.paths_differ.ensures c.args.self.now c.serve.new.self (event_of c.args.event) why given.refused given.at_once (λ clash. given.taken (ap (λ w. Err w) clash)) given.kept
+    refused_core_step c.paths_differ.ensures c.never_fails.ensures c.args.self.now c.serve.new.self (event_of c.args.event) why given.refused given.at_once (λ clash. given.taken (ap (λ w. Err w) clash)) given.kept
 
 pub returns-in-Err-clause-holds : goal.returns-in-Err-clause-holds
 unfolding world_of stored_in

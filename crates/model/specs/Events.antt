@@ -1,0 +1,27 @@
+-- What users ask, and what they are answered.
+use Rattle.std.specs.Prelude.{ℕ, List}
+use Rattle.model.specs.declared.refusal.Refusal.{Refusal}
+use Rattle.model.specs.Archives.{Tree}
+
+-- what a user may ask
+pub data Request : Type 0 where
+  AddSource : (name : List ℕ) → (tree : Tree) → Request
+  AddDerivation : (text : List ℕ) → Request
+  Fetch : (path : List ℕ) → Request
+
+-- a request and the user who makes it
+pub record Event : Type 0 where
+  pub actor : List ℕ
+  pub request : Request
+
+pub data Reply : Type 0 where
+  Done : Reply
+  Path : (path : List ℕ) → Reply
+  Derivation : (path class : List ℕ) → Reply
+  Content : (tree : Tree) → Reply
+  Refused : (why : Refusal) → Reply
+
+-- a reply and the user who gets it
+pub record Answer : Type 0 where
+  pub actor : List ℕ
+  pub reply : Reply

@@ -1,0 +1,56 @@
+-- Tests of refusals and of replies.
+use Rattle.std.specs.Prelude.{Bool, true, false, ◌||◌}
+use Rattle.model.specs.declared.refusal.Refusal.{Refusal}
+use Rattle.model.specs.declared.refusal.Refusal.TheVariants.{UnknownUser, TooLarge, NotHeld, Memory, Clash, Stopped}
+use Rattle.model.specs.Events.{Reply, Refused}
+
+-- ---- refusals
+
+abbrev pub is_memory_refusal : Refusal → Bool
+is_memory_refusal Memory = true
+is_memory_refusal why = false
+
+abbrev pub is_clash_refusal : Refusal → Bool
+is_clash_refusal Clash = true
+is_clash_refusal why = false
+
+abbrev pub is_stopped_refusal : Refusal → Bool
+is_stopped_refusal Stopped = true
+is_stopped_refusal why = false
+
+-- whether it is none that private desks give: memory was refused, two texts have one digest, or the store is stopped
+abbrev pub is_failure_refusal : Refusal → Bool
+is_failure_refusal why = is_memory_refusal why || (is_clash_refusal why || is_stopped_refusal why)
+
+-- whether no memory is needed to find it: that of a stranger, of a path that is not held, of a text that is too long
+abbrev pub needs_no_memory : Refusal → Bool
+needs_no_memory UnknownUser = true
+needs_no_memory NotHeld = true
+needs_no_memory TooLarge = true
+needs_no_memory why = false
+
+-- ---- replies
+
+-- whether it is a refusal of a kind
+abbrev pub is_refusal : (Refusal → Bool) → Reply → Bool
+is_refusal kind (Refused why) = kind why
+is_refusal kind reply = false
+
+abbrev pub is_refused : Reply → Bool
+is_refused (Refused why) = true
+is_refused reply = false
+
+-- whether memory was refused
+abbrev pub is_memory : Reply → Bool
+is_memory = is_refusal is_memory_refusal
+
+-- whether another tree is at the path
+abbrev pub is_clash : Reply → Bool
+is_clash = is_refusal is_clash_refusal
+
+abbrev pub is_failure : Reply → Bool
+is_failure = is_refusal is_failure_refusal
+
+-- whether a history has no row of it: memory was refused, or an earlier want of memory stopped the store
+abbrev pub is_unrecorded : Reply → Bool
+is_unrecorded = is_refusal (λ why. is_memory_refusal why || is_stopped_refusal why)
