@@ -6,19 +6,19 @@ ghost use Rattle.model.specs.Occurrences.{among, fault, occurrences, crowded, Ar
 ghost use Rattle.model.specs.Settling.{own_offsets_of, references_of, stands_in, sought, settled, settling, given, AreApart, blanked_text};
 ghost use Rattle.model.specs.Paths.{Output, store_path};
 ghost use Rattle.sha2.specs.Sha256.{sha256};
-ghost use Rattle.rewrite.specs.Settled.{IsUnsettled};
+ghost use Rattle.rewrite.specs.Settled.{IsUnsettled, HasPartsOf};
 ghost use Rattle.model.specs.declared.refusal.Refusal.TheVariants.{Memory};
 
 use crate::images::Images;
 use crate::named::Named;
 use crate::substitution::substitute;
 use hashmod::{modulo_digest, sha256};
+use indexmap::IndexSet;
 use model::Refusal;
 use nar::Nar;
 use scan::{Keys, Places, occurrences};
-use storepath::HashPart;
 use std::alloc::{AllocError, Global};
-use storepath::{Kind, Name, StorePath, make_path};
+use storepath::{HashPart, Kind, Name, StorePath, make_path};
 
 /// The own hash part and those of the candidates.
 fn keys_for(alloc: Global, own: &HashPart, candidates: &[StorePath]) -> Result<Keys, AllocError>
@@ -61,6 +61,20 @@ fn stands(places: &[(usize, HashPart)], part: &HashPart) -> bool
     false
 }
 
+/// The hash parts that stand at a place, each once.
+fn parts_at(
+    alloc: Global,
+    places: &[(usize, HashPart)],
+) -> Result<IndexSet<HashPart>, AllocError>
+    ensures { IfOk result (λ parts. HasPartsOf places.now parts.keys) }
+{
+    let mut parts = IndexSet::new(alloc);
+    for place in places {
+        let _is_new = parts.insert(place.1)?;
+    }
+    Ok(parts)
+}
+
 /// The candidates whose hash parts stand at a place.
 fn references(
     alloc: Global,
@@ -69,9 +83,10 @@ fn references(
 ) -> Result<Vec<StorePath>, AllocError>
     ensures { IfOk result (λ paths. paths.items ≡ references_of candidates.now places.now) }
 {
+    let parts = parts_at(alloc, places)?;
     let mut paths = Vec::new(alloc);
     for path in candidates {
-        if stands(places, &path.hash_part()) {
+        if parts.contains(&path.hash_part()) {
             paths.push(path.clone()?)?;
         }
     }
@@ -88,10 +103,10 @@ fn images_for(
     ensures { IfOk result (λ images. images ≡ settling own.now candidates.now path.now) }
 {
     let mut images = Images::new(alloc);
-    images.add(own, &path.hash_part())?;
+    images.add(*own, path.hash_part())?;
     for candidate in candidates {
         let part = candidate.hash_part();
-        images.add(&part, &part)?;
+        images.add(part, part)?;
     }
     Ok(images)
 }

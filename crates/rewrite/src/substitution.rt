@@ -13,8 +13,8 @@ use crate::images::Images;
 use model::{Refusal, RewriteFault};
 use nar::Nar;
 use scan::{Keys, Places, places_of};
-use storepath::HashPart;
 use std::alloc::{AllocError, Global};
+use storepath::HashPart;
 
 /// Writes the image of each hash part over it.
 fn write_images(text: &mut [u8], places: &[(usize, HashPart)], images: &Images)

@@ -76,7 +76,7 @@ fn accident(rt: HostRuntime) -> Result<(), Fail> {
     keys.add(ones)?;
     let places = occurrences(alloc, &archive, &keys).ok().ok_or("refused")?;
     let mut images = Images::new(alloc);
-    images.add(&ones, &zeros)?;
+    images.add(ones, zeros)?;
     let fault = substitute(alloc, &archive, &places, &images)
         .err()
         .ok_or("put")?;
