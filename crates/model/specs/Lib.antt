@@ -4,6 +4,9 @@ pub mod TreeCode
 pub mod TreeTexts
 pub mod Characters
 pub mod Paths
+pub mod Occurrences
+pub mod Substitutions
+pub mod Settling
 pub mod Derivations
 pub mod DerivationTexts
 pub mod Reach

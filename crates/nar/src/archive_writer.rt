@@ -1,8 +1,9 @@
 //! Writing an archive.
 
 ghost use Rattle.std.specs.Prelude.{◌≡◌, ◌-◌, ◌%◌, ◌++◌, replicate, OnOk, IfOk, IfErr};
-ghost use Rattle.model.specs.Archives.{File, Link, Directory, executable_mark, archive_string, nar, node_text, directory_head, entry_head, entries_text, IsTree};
+ghost use Rattle.model.specs.Archives.{Tree as TreeValue, File, Link, Directory, executable_mark, archive_string, nar, node_text, directory_head, entry_head, entries_text, IsTree};
 ghost use Rattle.model.specs.declared.refusal.Refusal.TheVariants.{Memory};
+ghost use Rattle.nar.specs.ArchiveTexts.{IsArchive};
 ghost use Rattle.nar.specs.NodeTrees.{tree_of, entries_of};
 
 use crate::node::Node;
@@ -34,6 +35,16 @@ impl Model for Nar {
 }
 
 impl Nar {
+    /// The archive of a text that is a tree's archive. The text is neither copied nor read.
+    pub fn of_text(text: Vec<u8>) -> Nar
+        requires { IsArchive text.items }
+        ensures text { nar result ≡ text.items }
+        ensures tree { IsTree result }
+        ensures only { (tree : TreeValue) → IsTree tree → nar tree ≡ text.items → result ≡ tree }
+    {
+        Nar { text }
+    }
+
     /// The archive's bytes, at most 67,108,864.
     pub fn bytes(&self) -> &[u8]
         ensures text { result.now ≡ nar self.now }
