@@ -8,7 +8,7 @@
 //! - `million BYTE CALL ARGUMENT` runs it on the argument with a million times the byte behind it.
 
 use crate::fault::Fault;
-use crate::{derivations, desk, paths, refusals, trees};
+use crate::{derivations, desk, hash_parts, paths, refusals, trees};
 use classes::Known;
 use std::alloc::Global;
 
@@ -78,6 +78,10 @@ fn answer(alloc: Global, call: &str, argument: &[u8]) -> Result<String, Fault> {
         "parts" => derivations::parts(alloc, argument),
         "masked" => derivations::masked(alloc, argument),
         "with" => derivations::with_paths(alloc, argument),
+        "occurrences" => hash_parts::found(alloc, argument),
+        "substitute" => hash_parts::replaced(alloc, argument),
+        "settle" => hash_parts::settled(alloc, argument),
+        "given" => hash_parts::given(alloc, argument),
         _ => Err(Fault::NotUnderstood),
     };
     printed(alloc, answer)

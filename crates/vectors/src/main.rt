@@ -7,6 +7,7 @@
 mod derivations;
 mod desk;
 mod fault;
+mod hash_parts;
 mod lines;
 mod paths;
 mod refusals;

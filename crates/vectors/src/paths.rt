@@ -67,7 +67,7 @@ pub(crate) fn made(alloc: Global, words: &[u8]) -> Result<String, Fault> {
 }
 
 /// The paths of words.
-fn paths_of(alloc: Global, words: &str) -> Result<Vec<StorePath>, Fault> {
+pub(crate) fn paths_of(alloc: Global, words: &str) -> Result<Vec<StorePath>, Fault> {
     let mut paths = Vec::new(alloc);
     for word in words.split_whitespace() {
         paths.push(read_path(alloc, word.as_bytes())?)?;

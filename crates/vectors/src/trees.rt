@@ -7,7 +7,7 @@ use std::alloc::Global;
 use std::str;
 
 /// The text of a tree.
-fn text_of(alloc: Global, tree: &Tree) -> Result<String, Fault> {
+pub(crate) fn text_of(alloc: Global, tree: &Tree) -> Result<String, Fault> {
     Ok(String::from_utf8(tree_text(alloc, tree)?)?)
 }
 
