@@ -177,6 +177,13 @@ struct Outcome {
     writes: u64,
 }
 
+impl Outcome {
+    /// Whether it ended by this refusal, after a beginning of the output.
+    fn ended_by(&self, why: Refusal) -> bool {
+        self.ended == Err(why) && OUTPUT.starts_with(self.text.as_slice())
+    }
+}
+
 fn talk(rt: &HostRuntime, input: &[u8], reads: Calls, writes: Calls) -> Result<Outcome, Fail> {
     let alloc = rt.alloc();
     let mut source = source_of(alloc, input, reads)?;
@@ -226,22 +233,16 @@ fn pieces_do_not_matter(rt: HostRuntime) -> Result<(), Fail> {
     Ok(())
 }
 
-/// The first read that fails ends the session with 71, after a beginning of the output.
-fn read_fails(rt: &HostRuntime, reads: Calls) -> Result<(), Fail> {
-    let outcome = talk(rt, INPUT, reads, steady(4096))?;
-    assert_eq!(rt; outcome.ended, Err(Refusal::InputFault));
-    assert!(rt; OUTPUT.starts_with(outcome.text.as_slice()));
-    Ok(())
-}
-
 #[test]
 fn each_read_fails(rt: HostRuntime) -> Result<(), Fail> {
     for step in [7usize, 25, 4096] {
         let whole = talk(&rt, INPUT, steady(step), steady(4096))?;
         assert_eq!(rt; whole.reads, INPUT.len().div_ceil(step) as u64 + 1);
         for k in 1..=whole.reads {
-            read_fails(&rt, failing(step, k))?;
-            read_fails(&rt, failing_after_a_part(step, k))?;
+            for reads in [failing(step, k), failing_after_a_part(step, k)] {
+                let outcome = talk(&rt, INPUT, reads, steady(4096))?;
+                assert!(rt; outcome.ended_by(Refusal::InputFault), "read {k} of {step}");
+            }
         }
     }
     Ok(())
@@ -256,14 +257,6 @@ fn half_a_line_is_no_event(rt: HostRuntime) -> Result<(), Fail> {
     Ok(())
 }
 
-/// The first write that fails ends the session with 72, after a beginning of the output.
-fn write_fails(rt: &HostRuntime, writes: Calls) -> Result<(), Fail> {
-    let outcome = talk(rt, INPUT, steady(4096), writes)?;
-    assert_eq!(rt; outcome.ended, Err(Refusal::OutputFault));
-    assert!(rt; OUTPUT.starts_with(outcome.text.as_slice()));
-    Ok(())
-}
-
 #[test]
 fn each_write_fails(rt: HostRuntime) -> Result<(), Fail> {
     for step in [5usize, 4096] {
@@ -274,8 +267,13 @@ fn each_write_fails(rt: HostRuntime) -> Result<(), Fail> {
         }
         assert_eq!(rt; whole.writes, writes);
         for k in 1..=whole.writes {
-            write_fails(&rt, failing(step, k))?;
-            write_fails(&rt, failing_after_a_part(step, k))?;
+            for writes in [failing(step, k), failing_after_a_part(step, k)] {
+                let outcome = talk(&rt, INPUT, steady(4096), writes)?;
+                assert!(rt;
+                    outcome.ended_by(Refusal::OutputFault),
+                    "write {k} of {step}"
+                );
+            }
         }
     }
     Ok(())
