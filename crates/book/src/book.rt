@@ -103,6 +103,7 @@ fn want_in(reply: &Reply) -> Option<Refusal>
 /// Lets a core take an event, and gives its reply and the row. There is none where the core has
 /// taken the event, and memory is refused for the copy of the reply. The error is the core's own want
 /// of memory, at which the core is as it was.
+#[tactic(auto, using(crate::proofs::ReplyLemmas::wants_memory))]
 fn step(
     alloc: Global,
     core: &mut Core,
