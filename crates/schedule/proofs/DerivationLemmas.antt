@@ -12,10 +12,11 @@ use Rattle.model.specs.Limits.{most_derivation_bytes}
 use Rattle.model.specs.Outcomes.{Outcome, becomes}
 use Rattle.model.specs.DerivationRequests.{told_of, admitted, admit_new, add_derivation}
 use Rattle.aterm.specs.Refused.{IsNotRead}
-use Rattle.schedule.specs.Stored.{Holdings}
+use Rattle.schedule.specs.Stored.{Holdings, holds_derivation}
 use Rattle.schedule.specs.Sound.{desk_of, IsSound}
-use Rattle.schedule.specs.Standing.{Fits, is_fault}
-use Rattle.schedule.proofs.DeskLemmas.{known_of-desk_of, holds_derivation, is_within-derivation}
+use Rattle.model.specs.Replies.{is_clash_refusal}
+use Rattle.schedule.specs.Handling.{Fits, is_fault}
+use Rattle.schedule.proofs.DeskLemmas.{known_of-desk_of, is_within-derivation}
 
 -- ---- admission
 
@@ -69,3 +70,8 @@ pub unread_fits : (setup : Setup) (d new : Desk) (text : List ℕ) (e : Refusal)
 unread_fits setup d new text BadDerivation within none = λ own. no_derivation setup d text within none
 unread_fits setup d new text Memory within none = λ own. cc
 unread_fits setup d new text e within none = absurd none
+
+pub unread_no_clash : (text : List ℕ) (e : Refusal) → IsNotRead text e → is_clash_refusal e ≡ false
+unread_no_clash text BadDerivation none = refl
+unread_no_clash text Memory none = refl
+unread_no_clash text e none = absurd none

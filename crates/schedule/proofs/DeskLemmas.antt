@@ -16,7 +16,7 @@ use Rattle.model.specs.Outcomes.{becomes}
 use Rattle.model.specs.SourceRequests.{add_source}
 use Rattle.model.specs.declared.refusal.Refusal.TheVariants.{Quota}
 use Rattle.model.proofs.BoolLemmas.{either, same_bytes}
-use Rattle.schedule.specs.Stored.{Holdings}
+use Rattle.schedule.specs.Stored.{Holdings, holds_derivation}
 use Rattle.schedule.specs.Sound.{sources_at, desk_of, IsSound, Extends, IsEmpty}
 
 -- a path of the table
@@ -182,10 +182,6 @@ pub known_of-desk_of : (table : List Source) (d : Holdings) → known_of (desk_o
 known_of-desk_of table d =
     let K : List (List ℕ) → Known = λ paths. record { derivations = d.known.derivations; sources = paths } in
     ap K (paths_at table d.known.sources)
-
--- a desk with one derivation more
-abbrev pub holds_derivation : Admission → Holdings → Holdings
-holds_derivation a d = record d { known = record d.known { derivations = d.known.derivations ++ a ∷ [] } }
 
 pub sound-derivation : (table : List Source) (limit : ℕ) (d : Holdings) (a : Admission) → IsSound table limit d → length d.known.derivations + 1 ≤ most_derivations → IsSound table limit (holds_derivation a d)
 unfolding charge_of

@@ -4,4 +4,5 @@ pub mod DeskLemmas
 pub mod DerivationLemmas
 pub mod WorldLemmas
 pub mod StepLemmas
+pub mod HandlingLemmas
 pub mod RunLemmas

@@ -1,18 +1,18 @@
 -- A step of the store is a step of the world that it stands for.
-use Rattle.std.proofs.Common.{◌≡◌, ℕ, ◌<◌, Bool, true, false, inl, inr, List, [], ◌∷◌, length, refl, sym, ◌∙◌, ap, arith, rules, Option, Some, None, Result, Ok, Err}
+use Rattle.std.proofs.Common.{◌≡◌, ℕ, Bool, true, false, inl, inr, List, [], ◌∷◌, length, refl, sym, ◌∙◌, ap, rules, Some, None, Result, Ok, Err}
 use Rattle.std.specs.Prelude.{All, Contains, OnOk, OnErr, IfOk, IfErr, bytes_eq, slice_get, slice_set, nat_le, if◌then◌else◌}
 use Rattle.std.proofs.lemmas.Option.{slice_get_within}
 use Rattle.std.proofs.lemmas.List.Elements.{All-head, All-tail}
 use Rattle.sha2.specs.Sha256.{sha256}
-use Rattle.std.proofs.lemmas.Bool.Decides.{nat_tests}
 use Rattle.model.specs.Archives.{Tree, nar}
 use Rattle.model.specs.Paths.{Source as SourceKind, fingerprint, source_path, NoClash}
 use Rattle.model.specs.Worlds.{Source, Setup, Desk, World, is_user, held_at}
 use Rattle.model.specs.Limits.{most_derivation_bytes}
-use Rattle.model.specs.Events.{Request, AddSource, AddDerivation, Fetch, Event, Reply, Content, Refused}
-use Rattle.model.specs.Outcomes.{Sight, sight_of, Outcome, becomes, need, reply_of, desk_after, reaches}
+use Rattle.model.specs.Events.{Request, AddSource, AddDerivation, Fetch, Event, Reply, Refused}
+use Rattle.model.specs.Outcomes.{Sight, Outcome, becomes, reply_of, desk_after, reaches}
 use Rattle.model.specs.Steps.{outcome, outcome_of, reply_to, after}
-use Rattle.model.specs.Replies.{is_memory_refusal, is_clash_refusal, needs_no_memory, is_clash, is_refused, is_failure}
+use Rattle.model.specs.Replies.{is_memory_refusal, is_clash_refusal, is_clash, is_refused}
+use Rattle.model.specs.SourceRequests.{source_texts}
 use Rattle.model.specs.HashedTexts.{texts_of}
 use Rattle.model.specs.declared.refusal.Refusal.{Refusal}
 use Rattle.model.specs.declared.refusal.Refusal.TheVariants.{UnknownUser, TooLarge, NotHeld, Clash, Stopped}
@@ -20,9 +20,10 @@ use Rattle.model.proofs.BoolLemmas.{either}
 use Rattle.storepath.specs.Laws.{PathsDiffer}
 use Rattle.schedule.specs.declared.events.Reply as Rust
 use Rattle.schedule.specs.declared.state.Core.{Core}
-use Rattle.schedule.specs.Stored.{Stored, Holdings, IsTakenFor}
+use Rattle.schedule.specs.Stored.{Holdings, put_once, IsTakenFor}
 use Rattle.schedule.specs.Sound.{desk_of, IsSound, IsHashed, Extends}
-use Rattle.schedule.specs.Standing.{reply_of as told_of, world_of, setup_of, stored_in, stored_after, is_fault, IsKept, IsStep, IsUnchanged, HasHashed, Serves, RefusedAtOnce, ServesAtOnce, desk_among, stored_after_request}
+use Rattle.schedule.specs.Standing.{reply_of as told_of, parts_of, world_of, setup_of, stored_in, IsStep, HasHashed, desk_among}
+use Rattle.schedule.specs.Handling.{is_fault, RefusedAtOnce, Serves, ServesAtOnce, IsKept, IsHandled}
 use Rattle.schedule.specs.Stepping.{IsCoreStep}
 use Rattle.model.specs.Laws.{NeverFails}
 use Rattle.model.proofs.SourceRequestLemmas.{add_source_cases, fetch_cases}
@@ -39,11 +40,11 @@ pub on_ok_any : {X E : Type 0} (r : Result X E) (P : Type 0) → P → OnOk r P
 on_ok_any (Ok x) P p = p
 on_ok_any (Err e) P p = search rules
 
-pub kept_sound : (old new : Stored) (before after : Holdings) (limit : ℕ) → IsSound old.sources limit before → IsKept old new before after → IsSound new.sources limit after
-kept_sound old new before after limit sound kept = rw (kept.desk, kept.sources) sound
+pub kept_sound : (old new : List Source) (before now : Holdings) (limit : ℕ) → IsSound old limit before → IsKept old new before now → IsSound new limit now
+kept_sound old new before now limit sound kept = rw (kept.desk, kept.sources) sound
 
-pub kept_later : (old new : Stored) (before after : Holdings) → IsKept old new before after → Extends old.sources new.sources
-kept_later old new before after kept path h = rw kept.sources refl
+pub kept_later : (old new : List Source) (before now : Holdings) → IsKept old new before now → Extends old new
+kept_later old new before now kept path h = rw kept.sources refl
 
 -- ---- the model's step
 
@@ -123,8 +124,8 @@ refused_result setup old new desks e i before now (Ok r) place here serves = sea
 refused_result setup old new desks e i before now (Err why) place here serves = λ own. step_refused setup old desks e i before why place here (λ sight same. serves sight same own)
 
 -- a refusal that is the model's is its step
-refused_step : (setup : Setup) (old new : World) (e : Event) (why : Refusal) → outcome_of setup old e ≡ Err why → new ≡ old → IsStep setup old e (Refused why) new
-refused_step setup old new e why o kept = record {
+refused_is : (setup : Setup) (old new : World) (e : Event) (why : Refusal) → outcome_of setup old e ≡ Err why → new ≡ old → IsStep setup old e (Refused why) new
+refused_is setup old new e why o kept = record {
   told = sym (ap reply_of o);
   world = kept ∙ sym (after_refused setup old e why o);
 }
@@ -132,19 +133,17 @@ refused_step setup old new e why o kept = record {
 no_fault : (why : Refusal) → is_memory_refusal why ≡ false → is_clash_refusal why ≡ false → is_fault why ≡ false
 no_fault why m k = rw (m, k) refl
 
--- what is stored after an event was made by the texts of the event and of what was there
-stored_hashed : (texts : List (List ℕ)) (setup : Setup) (w : World) (u : List ℕ) (request : Request) (sources : List Source) → All (IsHashed texts) sources → All (Contains texts) (texts_of setup w u request) → All (IsHashed texts) (stored_after_request request sources)
-stored_hashed texts setup w u (AddSource name tree) sources hashed inside =
-    let s : Source = record { path = source_path tree name; tree = tree } in
+-- a source is stored whose texts were hashed
+pub source_hashed : (texts : List (List ℕ)) (name : List ℕ) (tree : Tree) (path : List ℕ) (sources : List Source) → path ≡ source_path tree name
+    → All (IsHashed texts) sources → All (Contains texts) (source_texts name tree) → All (IsHashed texts) (put_once (record { path = path; tree = tree }) sources)
+source_hashed texts name tree path sources is hashed inside =
     let rest : All (Contains texts) (fingerprint SourceKind (sha256 (nar tree)) name ∷ []) = All-tail (Contains texts) (nar tree) (fingerprint SourceKind (sha256 (nar tree)) name ∷ []) inside in
-    put_once-All (IsHashed texts) s sources hashed (record {
+    put_once-All (IsHashed texts) (record { path = path; tree = tree }) sources hashed (record {
       name = name;
-      is = refl;
+      is = is;
       inner = All-head (Contains texts) (nar tree) (fingerprint SourceKind (sha256 (nar tree)) name ∷ []) inside;
       outer = All-head (Contains texts) (fingerprint SourceKind (sha256 (nar tree)) name) [] rest;
     })
-stored_hashed texts setup w u (AddDerivation text) sources hashed inside = hashed
-stored_hashed texts setup w u (Fetch path) sources hashed inside = hashed
 
 -- ---- clashes
 
@@ -165,7 +164,7 @@ clash_is Clash h = refl
 clash_is why h = cc
 
 -- what is kept stands for the same desk
-pub kept_desk : (old new : Stored) (before now : Holdings) → IsKept old new before now → desk_of new.sources now ≡ desk_of old.sources before
+pub kept_desk : (old new : List Source) (before now : Holdings) → IsKept old new before now → desk_of new now ≡ desk_of old before
 kept_desk old new before now kept = rw (kept.sources, kept.desk) refl
 
 -- ---- refusals that need no memory
@@ -179,12 +178,12 @@ unfolding outcome
 source_at_once d name tree result setup sight same =
     rw same (add_source_cases (AtOnce result) setup d name tree (λ why quick o. cc) (λ why quick o. cc) (λ why quick o. cc))
 
-pub derivation_at_once : (d : Desk) (text : List ℕ) (result : Result Rust.Reply Refusal) → (most_derivation_bytes < length text → result ≡ Err TooLarge) → ServesAtOnce d (AddDerivation text) result
+pub derivation_at_once : (d : Desk) (text : List ℕ) (result : Result Rust.Reply Refusal) → (nat_le (length text) most_derivation_bytes ≡ false → result ≡ Err TooLarge) → ServesAtOnce d (AddDerivation text) result
 unfolding outcome
 derivation_at_once d text result long setup sight same =
     rw same (add_derivation_cases (AtOnce result) setup d text
     (record { had = λ a why quick o. cc; added = λ derivation a is why quick o. cc; over = λ why quick o. cc; unread = λ why quick o. cc; missing = λ why quick o. cc; high = λ why quick o. cc })
-    (λ large why quick o. let over : most_derivation_bytes < length text = grind (arith, nat_tests, large) in let given = long over in cc))
+    (λ large why quick o. let given = long large in cc))
 
 pub fetch_at_once : (d : Desk) (path : List ℕ) (result : Result Rust.Reply Refusal) → (held_at path d ≡ None → result ≡ Err NotHeld) → ServesAtOnce d (Fetch path) result
 unfolding outcome
@@ -205,47 +204,41 @@ no_clash_told (Refused why) h = cc
 no_clash_told reply h = refl
 
 -- an event that was not refused
-pub served_step : (old new : Core) (e : Event) (reply : Rust.Reply)
-    → is_refused (told_of reply) ≡ false → IsStep (setup_of old) (world_of old) e (told_of reply) (world_of new)
-    → RefusedAtOnce (outcome_of (setup_of old) (world_of old) e) (Ok reply) → setup_of new ≡ setup_of old → stored_in new ≡ stored_after e (stored_in old)
-    → IsCoreStep old e (told_of reply) new
-unfolding HasHashed stored_in
-served_step old new e reply done stepped at_once setup stored = record {
-  step = λ memory clash. stepped;
-  refused = λ refused. (let no : true ≡ false = sym refused ∙ done in cc);
-  setup = setup;
-  at_once = λ why quick o. (let no = at_once why quick o in cc);
-  taken = λ clash. (let no : true ≡ false = sym clash ∙ no_clash_told (told_of reply) done in cc);
-  no_clash = λ texts clean hashed inside. no_clash_told (told_of reply) done;
-  hashed = λ texts hashed inside.
-      let known : is_user (setup_of old) e.actor ≡ true = user_known (setup_of old) (world_of old) e (Ok reply) at_once (λ no. cc) in
-      rw stored (stored_hashed texts (setup_of old) (world_of old) e.actor e.request (stored_in old) hashed (rw known at inside));
-  going = λ running stopped. (let no : true ≡ false = rw stopped at done in cc);
+pub served_step : (old new : Core) (e : Event) (reply : Rust.Reply) → IsHandled (parts_of old) e (Ok reply) (parts_of new) → IsCoreStep old e (told_of reply) new
+unfolding HasHashed stored_in world_of setup_of
+served_step old new e reply handled = record {
+  step = λ memory clash. handled.told.1;
+  refused = λ refused. (let no : true ≡ false = sym refused ∙ handled.told.0 in cc);
+  setup = handled.setup;
+  at_once = λ why quick o. (let no = handled.at_once why quick o in cc);
+  taken = λ clash. (let no : true ≡ false = sym clash ∙ no_clash_told (told_of reply) handled.told.0 in cc);
+  no_clash = λ texts clean hashed inside. no_clash_told (told_of reply) handled.told.0;
+  hashed = λ texts hashed inside. handled.hashed texts hashed inside;
+  going = λ running stopped. (let no : true ≡ false = rw stopped at handled.told.0 in cc);
 }
 
 -- an event that was refused
-pub refused_core_step : PathsDiffer → NeverFails → (old new : Core) (e : Event) (why : Refusal)
-    → (is_fault why ≡ false → outcome_of (setup_of old) (world_of old) e ≡ Err why)
-    → RefusedAtOnce (outcome_of (setup_of old) (world_of old) e) (Err why) → (why ≡ Clash → IsTakenFor (stored_in old) e.request) → IsUnchanged old new
-    → IsCoreStep old e (Refused why) new
-unfolding HasHashed stored_in
-refused_core_step differ own_refusals old new e why own at_once taken kept = record {
-  step = λ memory clash. refused_step (setup_of old) (world_of old) (world_of new) e why (own (no_fault why memory clash)) kept.world;
-  refused = λ _. kept;
-  setup = kept.setup;
-  at_once = λ other quick o. (let is = at_once other quick o in cc);
-  taken = λ clash. taken (clash_is why clash);
-  no_clash = λ texts clean hashed inside. elim (either (is_clash_refusal why)) [
-    | inl t ↦
-        let is : why ≡ Clash = clash_is why t in
-        let known : is_user (setup_of old) e.actor ≡ true = user_known (setup_of old) (world_of old) e (Err why) at_once (λ unknown. cc) in
-        absurd (not_taken differ texts clean (stored_in old) hashed (setup_of old) (world_of old) e.actor e.request (rw known at inside) (taken is))
-    | inr f ↦ f
-  ];
-  hashed = λ texts hashed inside. rw kept.stored hashed;
-  going = λ running stopped.
-      let is : why ≡ Stopped = cc in
-      let told : reply_to (setup_of old) (world_of old) e ≡ Refused Stopped = ap reply_of (own (rw is refl)) ∙ stopped in
-      let no : true ≡ false = rw told at (own_refusals (setup_of old) (world_of old) e) in
-      cc;
-}
+pub refused_step : PathsDiffer → NeverFails → (old new : Core) (e : Event) (why : Refusal) → IsHandled (parts_of old) e (Err why) (parts_of new) → IsCoreStep old e (Refused why) new
+unfolding HasHashed stored_in world_of setup_of
+refused_step differ own_refusals old new e why handled =
+    let setup : Setup = setup_of old in
+    let w : World = world_of old in record {
+      step = λ memory clash. refused_is setup w (world_of new) e why (handled.refused (no_fault why memory clash)) handled.kept.world;
+      refused = λ _. record { setup = handled.setup; world = handled.kept.world; stored = handled.kept.table };
+      setup = handled.setup;
+      at_once = λ other quick o. (let is = handled.at_once other quick o in cc);
+      taken = λ clash. handled.taken (ap (λ w. Err w) (clash_is why clash));
+      no_clash = λ texts clean hashed inside. elim (either (is_clash_refusal why)) [
+        | inl t ↦
+            let is : why ≡ Clash = clash_is why t in
+            let known : is_user setup e.actor ≡ true = user_known setup w e (Err why) handled.at_once (λ unknown. cc) in
+            absurd (not_taken differ texts clean (stored_in old) hashed setup w e.actor e.request (rw known at inside) (handled.taken (ap (λ w. Err w) is)))
+        | inr f ↦ f
+      ];
+      hashed = λ texts hashed inside. rw handled.kept.table hashed;
+      going = λ running stopped.
+          let is : why ≡ Stopped = cc in
+          let told : reply_to setup w e ≡ Refused Stopped = ap reply_of (handled.refused (rw is refl)) ∙ stopped in
+          let no : true ≡ false = rw told at (own_refusals setup w e) in
+          cc;
+    }

@@ -1,5 +1,6 @@
 pub mod Stored
 pub mod Sound
 pub mod Standing
+pub mod Handling
 pub mod Stepping
 pub mod Running

@@ -1,10 +1,14 @@
 -- What a run gives where memory is refused to some of its events.
-use Rattle.std.specs.Prelude.{◌≡◌, ℕ, if◌then◌else◌, not, List, [], ◌∷◌, filter}
+use Rattle.std.specs.Prelude.{◌≡◌, ℕ, false, if◌then◌else◌, not, List, [], ◌∷◌, filter}
+use Rattle.std.specs.List.{list_any}
 use Rattle.model.specs.Worlds.{Setup, nothing}
 use Rattle.model.specs.Events.{Event, Answer}
 use Rattle.model.specs.Steps.{answers, replies_to, replies}
 use Rattle.model.specs.Striking.{strike}
 use Rattle.model.specs.Replies.{is_memory}
+use Rattle.schedule.specs.declared.user.User.{User}
+use Rattle.schedule.specs.declared.events.Reply.{Reply}
+use Rattle.schedule.specs.Standing.{reply_of}
 
 -- the events that were answered otherwise than with 90
 abbrev pub events_served : List Event → List Answer → List Event
@@ -15,6 +19,10 @@ events_served (e ∷ events) (a ∷ told) = if is_memory a.reply then events_ser
 -- the answers other than 90
 abbrev pub without_memory : List Answer → List Answer
 without_memory told = filter (λ a. not (is_memory a.reply)) told
+
+-- memory was refused to none of the events
+abbrev pub HadMemory : List (User × Reply) → Type 0
+HadMemory given = list_any (λ a. is_memory (reply_of a.1)) given ≡ false
 
 -- the answers to these events are those of private desks, and each user's are those to the events that can reach him
 pub record ArePrivate (setup : Setup) (events : List Event) (told : List Answer) : Type 0 where

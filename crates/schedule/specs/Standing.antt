@@ -1,14 +1,13 @@
 -- The world that the store stands for, and what its steps do to it.
-use Rattle.std.specs.Prelude.{◌≡◌, ℕ, Bool, true, false, if◌then◌else◌, List, [], ◌∷◌, is_some, bytes_eq, Result, Ok, Err, ◌||◌, All}
+use Rattle.std.specs.Prelude.{◌≡◌, ◌⊎◌, ℕ, Bool, true, false, if◌then◌else◌, List, [], ◌∷◌, is_some, bytes_eq, All}
 use Rattle.std.specs.Global.{Vec}
-use Rattle.model.specs.declared.refusal.Refusal.{Refusal}
 use Rattle.model.specs.Paths.{source_path}
-use Rattle.model.specs.Worlds.{Source, Setup, tree_at, held_at}
+use Rattle.model.specs.declared.refusal.Refusal.{Refusal}
+use Rattle.model.specs.declared.refusal.Refusal.TheVariants.{Memory, BadUsers}
+use Rattle.model.specs.Worlds.{Source, Setup, are_users, tree_at, held_at}
 use Rattle.model.specs.Worlds as worlds
 use Rattle.model.specs.Events as events
-use Rattle.model.specs.Replies.{is_memory_refusal, is_clash_refusal, needs_no_memory}
-use Rattle.model.specs.Outcomes.{Sight, Outcome, becomes}
-use Rattle.model.specs.Steps.{outcome, reply_to, after}
+use Rattle.model.specs.Steps.{reply_to, after}
 use Rattle.schedule.specs.declared.user.User.{User}
 use Rattle.schedule.specs.declared.limits.Limits.{Limits}
 use Rattle.schedule.specs.declared.state.Core.{Core}
@@ -17,7 +16,7 @@ use Rattle.schedule.specs.declared.events.Request.TheVariants.{AddSource, AddDer
 use Rattle.schedule.specs.declared.events.Event.{Event}
 use Rattle.schedule.specs.declared.events.Reply.{Reply}
 use Rattle.schedule.specs.declared.events.Reply.TheVariants.{Done, Path, Derivation, Content, Refused}
-use Rattle.schedule.specs.Stored.{Stored, Holdings, put_once}
+use Rattle.schedule.specs.Stored.{Holdings, put_once}
 use Rattle.schedule.specs.Sound.{desk_of, IsHashed}
 
 -- ---- events and replies in the terms of the model
@@ -41,29 +40,6 @@ reply_of (Refused why) = events.Refused why
 abbrev pub answer_of : User × Reply → events.Answer
 answer_of a = record { actor = a.0; reply = reply_of a.1 }
 
--- ---- refusals
-
--- whether a refusal is none of the model's
-abbrev pub is_fault : Refusal → Bool
-is_fault why = is_memory_refusal why || is_clash_refusal why
-
--- a result is that of an outcome which leaves this desk, or is none of the model's
-abbrev pub Fits : Outcome → worlds.Desk → Result Reply Refusal → Type 0
-Fits outcome desk (Ok reply) = outcome ≡ becomes desk (reply_of reply)
-Fits outcome desk (Err why) = is_fault why ≡ false → outcome ≡ Err why
-
--- where an outcome is a refusal that needs no memory, it is the result
-abbrev pub RefusedAtOnce : Outcome → Result Reply Refusal → Type 0
-RefusedAtOnce outcome result = (why : Refusal) → needs_no_memory why ≡ true → outcome ≡ Err why → result ≡ Err why
-
--- a request at a desk gives this result and leaves that desk, whoever its user is and whatever else he sees
-abbrev pub Serves : Setup → worlds.Desk → events.Request → worlds.Desk → Result Reply Refusal → Type 0
-Serves setup old request new result = (sight : Sight) → sight.desk ≡ old → Fits (outcome setup sight request) new result
-
--- a request at a desk is refused at once where that needs no memory
-abbrev pub ServesAtOnce : worlds.Desk → events.Request → Result Reply Refusal → Type 0
-ServesAtOnce desk request result = (setup : Setup) (sight : Sight) → sight.desk ≡ desk → RefusedAtOnce (outcome setup sight request) result
-
 -- ---- the store as a world
 
 -- the desk of a user among paired users and desks; whoever is not of them has nothing
@@ -71,6 +47,23 @@ abbrev pub desk_among : List Source → List (List ℕ) → List Holdings → Li
 desk_among table [] desks u = worlds.empty_desk
 desk_among table (name ∷ names) [] u = worlds.empty_desk
 desk_among table (name ∷ names) (d ∷ desks) u = if bytes_eq name u then desk_of table d else desk_among table names desks u
+
+-- what a run was given, the trees that are stored, and the desks in the order of the users
+pub record Parts : Type 0 where
+  pub setup : Setup
+  pub table : List Source
+  pub desks : List Holdings
+
+-- the world that they stand for
+abbrev pub world_in : Parts → worlds.World
+world_in parts = desk_among parts.table parts.setup.users parts.desks
+
+-- users under this limit, a table and desks
+abbrev pub parts : List (List ℕ) → ℕ → List Source → List Holdings → Parts
+parts users charge table desks = record { setup = record { users = users; charge = charge }; table = table; desks = desks }
+
+abbrev pub parts_of : Core → Parts
+parts_of core = parts core.users.items core.limits.charge core.table.sources core.desks.items
 
 -- the world that the store stands for
 unfoldable pub world_of : Core → worlds.World
@@ -84,6 +77,10 @@ setup_of core = record { users = core.users.items; charge = core.limits.charge }
 abbrev pub setup_for : Vec (List ℕ) → Limits → Setup
 setup_for users limits = record { users = users.items; charge = limits.charge }
 
+-- why a core of these users is not made: memory was refused, or they are no list of users
+abbrev pub IsRefusedFor : List (List ℕ) → Refusal → Type 0
+IsRefusedFor users why = (why ≡ Memory) ⊎ ((why ≡ BadUsers) × (are_users users ≡ false))
+
 -- whether memory was refused to it in the middle of a step, so that it takes no event any more; no event does that to it
 abbrev pub is_stopped : Core → Bool
 is_stopped core = false
@@ -91,11 +88,6 @@ is_stopped core = false
 -- all that it stores: each path once, with its tree
 unfoldable pub stored_in : Core → List Source
 stored_in core = core.table.sources
-
--- what the table and a desk hold is as it was
-pub record IsKept (table_old table_new : Stored) (desk_old desk_new : Holdings) : Type 0 where
-  pub sources : table_new.sources ≡ table_old.sources
-  pub desk : desk_new ≡ desk_old
 
 -- what is stored once an event was not refused
 abbrev pub stored_after_request : events.Request → List Source → List Source

@@ -1,10 +1,10 @@
 -- What contracts see of the table and of a desk.
-use Rattle.std.specs.Prelude.{◌≡◌, ◌≢◌, ℕ, List, [], ◌∷◌, ◌++◌, map, is_some, Some, if◌then◌else◌, refl}
+use Rattle.std.specs.Prelude.{◌≡◌, ◌≢◌, ℕ, List, [], ◌∷◌, ◌++◌, ◌+◌, map, is_some, Some, if◌then◌else◌, refl}
 use Rattle.std.specs.Coded.{Coded, code_by, coded×, coded_ℕ, coded_list}
 use Rattle.model.specs.Archives.{Tree, nar}
 use Rattle.model.specs.TreeCode.{tree_code}
 use Rattle.model.specs.Paths.{source_path}
-use Rattle.model.specs.Classes.{Known}
+use Rattle.model.specs.Classes.{Admission, Known}
 use Rattle.model.specs.Worlds.{Source, tree_at}
 use Rattle.model.specs.Events.{Request, AddSource, AddDerivation, Fetch}
 
@@ -19,6 +19,14 @@ pub record Holdings : Type 0 where
   pub known : Known
   pub charge : ℕ
 
+-- a desk with one source more, whose archive has so many bytes
+abbrev pub holds_source : List ℕ → ℕ → Holdings → Holdings
+holds_source path archive d = record d { known = record d.known { sources = d.known.sources ++ path ∷ [] }; charge = d.charge + archive }
+
+-- a desk with one derivation more
+abbrev pub holds_derivation : Admission → Holdings → Holdings
+holds_derivation a d = record d { known = record d.known { derivations = d.known.derivations ++ a ∷ [] } }
+
 -- the sources of a map's entries
 abbrev pub source_of : List ℕ × Tree → Source
 source_of e = record { path = e.0; tree = e.1 }
@@ -29,6 +37,10 @@ sources_of entries = map source_of entries
 -- sources with one more, unless its path is there
 abbrev pub put_once : Source → List Source → List Source
 put_once s sources = if is_some (tree_at s.path sources) then sources else sources ++ s ∷ []
+
+-- sources with this one more, unless its path was there
+abbrev pub IsAdded : List ℕ → Tree → List Source → List Source → Type 0
+IsAdded path tree old new = new ≡ put_once (record { path = path; tree = tree }) old
 
 -- another tree is at the path
 pub record IsTaken (sources : List Source) (path : List ℕ) (tree : Tree) : Type 0 where

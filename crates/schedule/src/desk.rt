@@ -1,8 +1,9 @@
 //! What one user has.
 
-ghost use Rattle.std.specs.Prelude.{◌≡◌, ◌+◌, ◌<◌, ◌^◌, ◌++◌, ◌∷◌, [], None, false, MatchResult};
+ghost use Rattle.std.specs.Prelude.{◌≡◌, ◌+◌, ◌<◌, ◌^◌, [], None, false, MatchResult};
 ghost use Rattle.std.specs.Option.{option_copied};
 ghost use Rattle.model.specs.Classes.{known_at, is_one_of};
+ghost use Rattle.schedule.specs.Stored.{holds_source, holds_derivation};
 ghost use Rattle.model.specs.declared.refusal.Refusal.TheVariants.{Memory};
 
 use crate::user::User;
@@ -12,8 +13,8 @@ use std::alloc::Global;
 use std::marker::Model;
 use storepath::StorePath;
 
-/// Whom a user trusts, what his desk knows of his derivations and sources, and the sum of the archive
-/// lengths of the sources, in bytes.
+/// Whom a user trusts, what his desk knows of his derivations and sources, and the sum of the
+/// archive lengths of the sources, in bytes.
 #[derive(Drop)]
 pub(crate) struct Desk {
     trusted: Vec<User>,
@@ -77,7 +78,7 @@ impl Desk {
         requires absent { is_one_of self.old.known.sources path ≡ false }
         requires fits { self.old.charge + archive < 2 ^ 64 }
         ensures { MatchResult result
-            (λ _. self.new ≡ record self.old { known = record self.old.known { sources = self.old.known.sources ++ path ∷ [] }; charge = self.old.charge + archive })
+            (λ _. self.new ≡ holds_source path archive self.old)
             (λ e. (e ≡ Memory) × (self.new ≡ self.old)) }
     {
         self.known.add_source(path)?;
@@ -89,7 +90,7 @@ impl Desk {
     pub(crate) fn add_derivation(&mut self, admitted: Admitted) -> Result<(), Refusal>
         requires absent { known_at self.old.known admitted.path ≡ None }
         ensures { MatchResult result
-            (λ _. self.new ≡ record self.old { known = record self.old.known { derivations = self.old.known.derivations ++ admitted ∷ [] } })
+            (λ _. self.new ≡ holds_derivation admitted self.old)
             (λ e. (e ≡ Memory) × (self.new ≡ self.old)) }
     {
         self.known.add_derivation(admitted)

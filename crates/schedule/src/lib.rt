@@ -4,14 +4,11 @@
 //! both promise is said in the terms of the crate `model`: the store is as good as private desks.
 #![tactic(auto)]
 
-mod add;
-mod derivations;
 mod desk;
 mod events;
-mod fetch;
 mod limits;
+mod requests;
 mod runs;
-mod serve;
 mod state;
 mod step;
 mod table;

@@ -1,4 +1,13 @@
-//! The limits that a run is given.
+//! The limits that do not change, and those that a run is given.
+
+/// The most sources of a user.
+pub(crate) const MOST_SOURCES: usize = 1024;
+
+/// The most derivations of a user.
+pub(crate) const MOST_DERIVATIONS: usize = 1024;
+
+/// The most bytes of a derivation's text: 1 MiB.
+pub(crate) const MOST_DERIVATION_BYTES: usize = 1_048_576;
 
 /// The largest limit on a user's charge: 1 GiB.
 pub const LARGEST_CHARGE: u64 = 1_073_741_824;

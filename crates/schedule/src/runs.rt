@@ -10,9 +10,9 @@ ghost use Rattle.model.specs.Replies.{is_memory};
 ghost use Rattle.model.specs.HashedTexts.{hashed};
 ghost use Rattle.model.specs.Striking.{strike};
 ghost use Rattle.model.specs.declared.refusal.Refusal.TheVariants.{Memory, BadUsers};
-ghost use Rattle.schedule.specs.Standing.{setup_for, event_of, reply_of, answer_of};
+ghost use Rattle.schedule.specs.Standing.{setup_for, IsRefusedFor, event_of, reply_of, answer_of};
 ghost use Rattle.schedule.specs.Stepping.{IsCoreStep};
-ghost use Rattle.schedule.specs.Running.{events_served, without_memory, ArePrivate};
+ghost use Rattle.schedule.specs.Running.{HadMemory, events_served, without_memory, ArePrivate};
 
 use crate::events::{Event, Reply};
 use crate::limits::Limits;
@@ -49,19 +49,22 @@ pub fn run(
     events: Vec<Event>,
 ) -> Result<Vec<(User, Reply)>, Refusal>
     requires { limits.charge ≤ most_charge }
-    ensures actors { IfOk result (λ given. map (λ a. a.0) given.items ≡ map (λ e. e.actor) events.items) }
+    ensures actors { IfOk result (λ given.
+        map (λ a. a.0) given.items ≡ map (λ e. e.actor) events.items) }
     ensures same { let setup = setup_for users limits in let all = map event_of events.items in
-        NoClash (hashed setup nothing all) → IfOk result (λ given. list_any (λ a. is_memory (reply_of a.1)) given.items ≡ false →
+        NoClash (hashed setup nothing all) → IfOk result (λ given. HadMemory given.items →
         map answer_of given.items ≡ answers setup nothing all) }
     ensures isolated { let setup = setup_for users limits in let all = map event_of events.items in
-        NoClash (hashed setup nothing all) → IfOk result (λ given. list_any (λ a. is_memory (reply_of a.1)) given.items ≡ false →
-        (u : List ℕ) → replies_to u (map answer_of given.items) ≡ replies setup u (strike setup u all)) }
-    ensures others { let setup = setup_for users limits in IfOk result (λ given. let told = map answer_of given.items in
+        NoClash (hashed setup nothing all) → IfOk result (λ given. HadMemory given.items →
+        (u : List ℕ) → replies_to u (map answer_of given.items)
+        ≡ replies setup u (strike setup u all)) }
+    ensures others { let setup = setup_for users limits in IfOk result (λ given.
+        let told = map answer_of given.items in
         let served = events_served (map event_of events.items) told in
         NoClash (hashed setup nothing served) → ArePrivate setup served (without_memory told)) }
     ensures users { IfOk result (λ given. are_users users.items ≡ true) }
     ensures bad_users { are_users users.items ≡ false → result ≡ Err BadUsers }
-    ensures refused { IfErr result (λ e. (e ≡ Memory) ⊎ ((e ≡ BadUsers) × (are_users users.items ≡ false))) }
+    ensures refused { IfErr result (λ e. IsRefusedFor users.items e) }
 {
     isolation();
     let mut core = Core::new(alloc, hashing, users, limits)?;

@@ -1,20 +1,19 @@
 //! The steps of a core.
 
-ghost use Rattle.std.specs.Prelude.{◌≡◌, ◌≤◌, true, false, IfOk, IfErr, OnOk, OnErr, Err, ◌⊎◌, [], vec_len, All, position, bytes_eq};
-ghost use Rattle.model.specs.Worlds.{are_users, nothing};
-ghost use Rattle.model.specs.Steps.{outcome_of};
+ghost use Rattle.std.specs.Prelude.{◌≡◌, ◌≤◌, true, false, IfOk, IfErr, OnOk, Err, ◌⊎◌, [], vec_len, All};
 ghost use Rattle.model.specs.Limits.{most_charge};
+ghost use Rattle.model.specs.Worlds.{are_users, nothing};
 ghost use Rattle.model.specs.Replies.{is_refused};
+ghost use Rattle.model.specs.declared.refusal.Refusal.TheVariants.{Memory, BadUsers};
 ghost use Rattle.schedule.specs.Sound.{IsEmpty};
-ghost use Rattle.model.specs.declared.refusal.Refusal.TheVariants.{Memory, BadUsers, Clash};
-ghost use Rattle.schedule.specs.Stored.{IsTakenFor};
-ghost use Rattle.schedule.specs.Standing.{world_of, setup_of, stored_in, stored_after, is_stopped, event_of, request_of, reply_of, is_fault, IsStep, IsUnchanged, RefusedAtOnce, HoldsStored};
+ghost use Rattle.schedule.specs.Standing.{world_of, setup_of, setup_for, IsRefusedFor, stored_in, stored_after, is_stopped, event_of, reply_of, parts_of, HoldsStored};
+ghost use Rattle.schedule.specs.Handling.{IsHandled};
 ghost use Rattle.schedule.specs.Stepping.{IsCoreStep};
 
 use crate::desk::Desk;
 use crate::events::{Event, Reply};
 use crate::limits::Limits;
-use crate::serve::serve_at;
+use crate::requests::handle;
 use crate::state::Core;
 use crate::table::Table;
 use crate::user::{User, are_users};
@@ -22,13 +21,6 @@ use model::{Refusal, never_fails};
 use std::alloc::Global;
 use std::hash::RandomState;
 use storepath::paths_differ;
-
-/// The place of a user in a list.
-fn place_of(users: &[User], name: &User) -> Option<usize>
-    ensures { result ≡ position (λ u. bytes_eq u name.now) users.now }
-{
-    users.iter().position(|user| *user == *name)
-}
 
 /// Empty desks, so many of them.
 fn empty_desks(alloc: Global, count: usize) -> Result<Vec<Desk>, Refusal>
@@ -55,12 +47,12 @@ impl Core {
         limits: Limits,
     ) -> Result<Core, Refusal>
         requires { limits.charge ≤ most_charge }
-        ensures setup { IfOk result (λ core. setup_of core ≡ record { users = users.items; charge = limits.charge }) }
+        ensures setup { IfOk result (λ core. setup_of core ≡ setup_for users limits) }
         ensures world { IfOk result (λ core. world_of core ≡ nothing) }
         ensures stored { IfOk result (λ core. stored_in core ≡ []) }
         ensures users { IfOk result (λ core. are_users users.items ≡ true) }
         ensures bad_users { are_users users.items ≡ false → result ≡ Err BadUsers }
-        ensures refused { IfErr result (λ e. (e ≡ Memory) ⊎ ((e ≡ BadUsers) × (are_users users.items ≡ false))) }
+        ensures refused { IfErr result (λ e. IsRefusedFor users.items e) }
     {
         if !are_users(users.as_slice()) {
             return Err(Refusal::BadUsers);
@@ -74,22 +66,21 @@ impl Core {
         })
     }
 
-    /// Serves one event at its actor's desk.
+    /// Handles one event by the parts of the core.
     fn serve(&mut self, alloc: Global, event: Event) -> Result<Reply, Refusal>
-        ensures told { IfOk result (λ r. (is_refused (reply_of r) ≡ false) × IsStep (setup_of self.old) (world_of self.old) (event_of event) (reply_of r) (world_of self.new)) }
-        ensures refused { IfErr result (λ why. is_fault why ≡ false → outcome_of (setup_of self.old) (world_of self.old) (event_of event) ≡ Err why) }
-        ensures at_once { RefusedAtOnce (outcome_of (setup_of self.old) (world_of self.old) (event_of event)) result }
-        ensures taken { result ≡ Err Clash → IsTakenFor (stored_in self.old) (request_of event.request) }
-        ensures kept { OnErr result (IsUnchanged self.old self.new) }
-        ensures setup { setup_of self.new ≡ setup_of self.old }
-        ensures stored { OnOk result (stored_in self.new ≡ stored_after (event_of event) (stored_in self.old)) }
+        ensures handled { let event = event_of event in
+            IsHandled (parts_of self.old) event result (parts_of self.new) }
+        ensures stored { OnOk result
+            (stored_in self.new ≡ stored_after (event_of event) (stored_in self.old)) }
     {
-        let Event { actor, request } = event;
-        let Some(place) = place_of(self.users.as_slice(), &actor) else {
-            return Err(Refusal::UnknownUser);
-        };
-        let desk = &mut self.desks[place];
-        serve_at(alloc, &mut self.table, desk, self.limits, request)
+        handle(
+            alloc,
+            self.users.as_slice(),
+            &mut self.table,
+            self.desks.as_mut_slice(),
+            self.limits,
+            event,
+        )
     }
 
     /// Takes one event, and gives its actor's reply. A refusal changes nothing.
@@ -99,7 +90,8 @@ impl Core {
     /// refusal that needs no memory to be found (11, 22 and 53) is never told as 90.
     pub fn step(&mut self, alloc: Global, event: Event) -> Reply
         ensures step { IsCoreStep self.old (event_of event) (reply_of result) self.new }
-        ensures stored { is_refused (reply_of result) ≡ false → stored_in self.new ≡ stored_after (event_of event) (stored_in self.old) }
+        ensures stored { is_refused (reply_of result) ≡ false
+            → stored_in self.new ≡ stored_after (event_of event) (stored_in self.old) }
         ensures holds { HoldsStored self.new }
     {
         paths_differ();

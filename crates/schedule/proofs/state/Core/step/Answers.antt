@@ -1,13 +1,10 @@
-use Rattle.std.proofs.Common.{ap, Err}
 use Rattle.schedule.specs.Standing.{world_of, stored_in, event_of}
 use Rattle.schedule.proofs.WorldLemmas.{among_stored}
-use Rattle.schedule.proofs.StepLemmas.{served_step, refused_core_step}
+use Rattle.schedule.proofs.StepLemmas.{served_step, refused_step}
 use Rattle.schedule.proofs.state.Core.step.Goals as goal
 
 pub returns-in-Ok-clause-step : goal.returns-in-Ok-clause-step
-returns-in-Ok-clause-step c =
-    let done = c.in-Ok.ensures in
-    served_step c.args.self.now c.serve.new.self (event_of c.args.event) c.in-Ok.reply done.told.0 done.told.1 done.at_once done.setup done.stored
+returns-in-Ok-clause-step c = served_step c.args.self.now c.serve.new.self (event_of c.args.event) c.in-Ok.reply c.in-Ok.ensures.handled
 
 pub returns-in-Ok-clause-holds : goal.returns-in-Ok-clause-holds
 unfolding world_of stored_in
@@ -17,9 +14,7 @@ returns-in-Ok-clause-holds c u path h =
 
 pub returns-in-Err-clause-step : goal.returns-in-Err-clause-step
 returns-in-Err-clause-step c =
-    let why = c.in-Err.refusal in
-    let given = c.in-Err.ensures in
-    refused_core_step c.paths_differ.ensures c.never_fails.ensures c.args.self.now c.serve.new.self (event_of c.args.event) why given.refused given.at_once (λ clash. given.taken (ap (λ w. Err w) clash)) given.kept
+    refused_step c.paths_differ.ensures c.never_fails.ensures c.args.self.now c.serve.new.self (event_of c.args.event) c.in-Err.refusal c.in-Err.ensures.handled
 
 pub returns-in-Err-clause-holds : goal.returns-in-Err-clause-holds
 unfolding world_of stored_in

@@ -10,15 +10,16 @@ use Rattle.model.specs.DerivationRequests.{told_of}
 use Rattle.model.specs.Classes.{Known, known_at, derivation_path, admit}
 use Rattle.schedule.specs.Sound.{desk_of}
 use Rattle.schedule.specs.Standing.{reply_of}
-use Rattle.schedule.proofs.DeskLemmas.{holds_derivation, sound-derivation}
+use Rattle.schedule.specs.Stored.{holds_derivation}
+use Rattle.schedule.proofs.DeskLemmas.{sound-derivation}
 use Rattle.model.specs.Limits.{most_derivations}
 use Rattle.model.specs.Replies.{is_clash_refusal}
 use Rattle.model.proofs.DerivationRequestLemmas.{admit_refusals}
 use Rattle.schedule.proofs.DerivationLemmas.{admitted_path, refused_fits, over_fits, added_fits}
-use Rattle.schedule.proofs.derivations.add_parsed.Goals as goal
+use Rattle.schedule.proofs.requests.derivations.add_parsed.Goals as goal
 
-pub returns-in_err-admitted-clause-fits : goal.returns-in_err-admitted-clause-fits
-returns-in_err-admitted-clause-fits c users table limit sound =
+pub returns-in_err-admitted-clause-adds : goal.returns-in_err-admitted-clause-adds
+returns-in_err-admitted-clause-adds c table limit sound users =
     let p = err_from_is_err_and c.from_residual-in_err-admitted.result c.from_residual-in_err-admitted.ensures.1 in
     let known = c.args.desk.now.known in
     let none : known_at known (derivation_path c.args.derivation.now) ≡ None = search rules in
@@ -35,9 +36,9 @@ returns-in_err-admitted-clause-no_clash c =
     let p = err_from_is_err_and c.from_residual-in_err-admitted.result c.from_residual-in_err-admitted.ensures.1 in
     rw (p.1, p.2) (admission_no_clash c.known.result.now c.args.derivation.now c.in_err-admitted.field-0.0 c.in_err-admitted.ensures)
 
-pub returns-then-derivation_count-ge-MOST_DERIVATIONS-clause-fits :
-    goal.returns-then-derivation_count-ge-MOST_DERIVATIONS-clause-fits
-returns-then-derivation_count-ge-MOST_DERIVATIONS-clause-fits c users table limit sound own =
+pub returns-then-derivation_count-ge-MOST_DERIVATIONS-clause-adds :
+    goal.returns-then-derivation_count-ge-MOST_DERIVATIONS-clause-adds
+returns-then-derivation_count-ge-MOST_DERIVATIONS-clause-adds c table limit sound users own =
     let known = c.args.desk.now.known in
     let none : known_at known (derivation_path c.args.derivation.now) ≡ None = search rules in
     let ok : admit known c.args.derivation.now ≡ Ok c.in_ok-admitted.admitted = search rules in
@@ -55,8 +56,8 @@ add_derivation-requires c =
 changed : (c : goal.In_ok-add_derivation) → c.add_derivation.new.self ≡ holds_derivation c.in_ok-admitted.admitted c.args.desk.now
 changed c = search rules
 
-pub returns-clause-fits : goal.returns-clause-fits
-returns-clause-fits c users table limit sound =
+pub returns-clause-adds : goal.returns-clause-adds
+returns-clause-adds c table limit sound users =
     let known = c.args.desk.now.known in
     let none : known_at known (derivation_path c.args.derivation.now) ≡ None = search rules in
     let ok : admit known c.args.derivation.now ≡ Ok c.in_ok-admitted.admitted = search rules in

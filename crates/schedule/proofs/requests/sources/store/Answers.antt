@@ -1,7 +1,7 @@
 use Rattle.std.proofs.Common.{rules, ◌≡◌, None}
 use Rattle.model.specs.Worlds.{tree_at}
 use Rattle.schedule.proofs.TableLemmas.{tree_at-pushed}
-use Rattle.schedule.proofs.add.store.Goals as goal
+use Rattle.schedule.proofs.requests.sources.store.Goals as goal
 
 pub returns-then-not-is_stored-clause-there : goal.returns-then-not-is_stored-clause-there
 returns-then-not-is_stored-clause-there c =

@@ -5,49 +5,46 @@ use Rattle.std.proofs.lemmas.Bool.Decides.{nat_tests}
 use Rattle.model.specs.Archives.{nar}
 use Rattle.model.specs.Events.{Path}
 use Rattle.model.specs.Outcomes.{becomes}
-use Rattle.model.specs.Steps.{outcome}
 use Rattle.model.specs.Limits.{most_sources}
 use Rattle.model.specs.Worlds.{Source, tree_at}
 use Rattle.schedule.specs.Stored.{put_once}
 use Rattle.schedule.specs.Sound.{desk_of, Extends}
 use Rattle.schedule.proofs.TableLemmas.{put_once-Extends}
 use Rattle.schedule.proofs.DeskLemmas.{held_found, held_known, add_known, add_refused, add_new, is_within-more, HoldsMore, desk_of-more, sound-more}
-use Rattle.schedule.proofs.add.add_source.Goals as goal
+use Rattle.schedule.proofs.requests.sources.add_at.Goals as goal
 
-pub returns-then-holds-clause-serves : goal.returns-then-holds-clause-serves
-unfolding outcome
-returns-then-holds-clause-serves c users sight same =
-    rw same (add_known _ (desk_of c.args.table.now.sources c.args.desk.now) c.args.name.now c.args.tree c.in_ok-path.path c.in_ok-path.ensures.value
-    (sym (held_found c.args.table.now.sources c.args.desk.now.known.sources c.in_ok-path.path) ∙ sym c.if-holds.ensures))
+pub returns-then-holds-clause-adds : goal.returns-then-holds-clause-adds
+returns-then-holds-clause-adds c users name is =
+    add_known _ (desk_of c.args.table.now.sources c.args.desk.now) name c.args.tree c.args.path is
+    (sym (held_found c.args.table.now.sources c.args.desk.now.known.sources c.args.path) ∙ sym c.if-holds.ensures)
 
 pub returns-then-holds-clause-stored : goal.returns-then-holds-clause-stored
 returns-then-holds-clause-stored c =
-    let there : is_some (tree_at c.in_ok-path.path c.args.table.now.sources) ≡ true =
-    held_known c.args.table.now.sources c.args.desk.now.known.sources c.in_ok-path.path c.requires.known (sym c.if-holds.ensures) in
-    rw (← c.in_ok-path.ensures.value, there) refl
+    let there : is_some (tree_at c.args.path c.args.table.now.sources) ≡ true =
+    held_known c.args.table.now.sources c.args.desk.now.known.sources c.args.path c.requires.known (sym c.if-holds.ensures) in
+    rw there refl
 
-pub returns-then-not-has_room-clause-serves : goal.returns-then-not-has_room-clause-serves
-unfolding outcome
-returns-then-not-has_room-clause-serves c users sight same _ =
-    let s : Source = record { path = c.in_ok-path.path; tree = c.args.tree } in
-    let absent : list_any (λ p. bytes_eq p c.in_ok-path.path) c.args.desk.now.known.sources ≡ false = sym c.if-holds.ensures in
+pub returns-then-not-has_room-clause-adds : goal.returns-then-not-has_room-clause-adds
+returns-then-not-has_room-clause-adds c users name is _ =
+    let s : Source = record { path = c.args.path; tree = c.args.tree } in
+    let absent : list_any (λ p. bytes_eq p c.args.path) c.args.desk.now.known.sources ≡ false = sym c.if-holds.ensures in
     let over : (nat_le (length c.args.desk.now.known.sources + 1) most_sources && nat_le (c.args.desk.now.charge + length (nar c.args.tree)) c.args.limits.charge) ≡ false =
     grind (arith, nat_tests, c.if-not-has_room.ensures, c.nar_len-archive.ensures.len) in
-    rw same (add_refused _ (desk_of c.args.table.now.sources c.args.desk.now) c.args.name.now c.args.tree c.in_ok-path.path c.in_ok-path.ensures.value
-    (sym (held_found c.args.table.now.sources c.args.desk.now.known.sources c.in_ok-path.path) ∙ absent)
-    (is_within-more users c.args.table.now.sources c.args.limits.charge c.args.desk.now s c.requires absent ∙ over))
+    add_refused _ (desk_of c.args.table.now.sources c.args.desk.now) name c.args.tree c.args.path is
+    (sym (held_found c.args.table.now.sources c.args.desk.now.known.sources c.args.path) ∙ absent)
+    (is_within-more users c.args.table.now.sources c.args.limits.charge c.args.desk.now s c.requires absent ∙ over)
 
 -- the source that was added
 abbrev added : goal.After-store → Source
-added c = record { path = c.in_ok-path.path; tree = c.args.tree }
+added c = record { path = c.args.path; tree = c.args.tree }
 
-absent : (c : goal.After-store) → list_any (λ p. bytes_eq p c.in_ok-path.path) c.args.desk.now.known.sources ≡ false
+absent : (c : goal.After-store) → list_any (λ p. bytes_eq p c.args.path) c.args.desk.now.known.sources ≡ false
 absent c = sym c.if-holds.ensures
 
-key : (c : goal.After-store) → c.in_ok-key.key ≡ c.in_ok-path.path
+key : (c : goal.After-store) → c.in_ok-key.key ≡ c.args.path
 key c = search rules
 
-changed : (c : goal.After-store) → c.add_source.new.self ≡ record c.args.desk.now { known = record c.args.desk.now.known { sources = c.args.desk.now.known.sources ++ c.in_ok-path.path ∷ [] }; charge = c.args.desk.now.charge + length (nar c.args.tree) }
+changed : (c : goal.After-store) → c.add_source.new.self ≡ record c.args.desk.now { known = record c.args.desk.now.known { sources = c.args.desk.now.known.sources ++ c.args.path ∷ [] }; charge = c.args.desk.now.charge + length (nar c.args.tree) }
 changed c = search (arith, rules)
 
 more : (c : goal.After-store) → HoldsMore c.store.new.table.sources c.args.desk.now c.add_source.new.self (added c)
@@ -68,18 +65,17 @@ later : (c : goal.After-store) → Extends c.args.table.now.sources c.store.new.
 later c = rw (stored c) (put_once-Extends (added c) c.args.table.now.sources)
 
 pub returns-clause-stored : goal.returns-clause-stored
-returns-clause-stored c = rw (← c.in_ok-path.ensures.value) (stored c)
+returns-clause-stored c = stored c
 
-pub returns-clause-serves : goal.returns-clause-serves
-unfolding outcome
-returns-clause-serves c users sight same =
+pub returns-clause-adds : goal.returns-clause-adds
+returns-clause-adds c users name is =
     let old : List Source = c.args.table.now.sources in
     let within : (nat_le (length c.args.desk.now.known.sources + 1) most_sources && nat_le (c.args.desk.now.charge + length (nar c.args.tree)) c.args.limits.charge) ≡ true =
     grind (arith, nat_tests, c.if-not-has_room.ensures, c.nar_len-archive.ensures.len) in
-    rw same (add_new _ (desk_of old c.args.desk.now) c.args.name.now c.args.tree c.in_ok-path.path c.in_ok-path.ensures.value
-    (sym (held_found old c.args.desk.now.known.sources c.in_ok-path.path) ∙ absent c)
+    add_new _ (desk_of old c.args.desk.now) name c.args.tree c.args.path is
+    (sym (held_found old c.args.desk.now.known.sources c.args.path) ∙ absent c)
     (is_within-more users old c.args.limits.charge c.args.desk.now (added c) c.requires (absent c) ∙ within)
-    ∙ ap (λ d. becomes d (Path c.in_ok-path.path)) (sym (desk_of-more old c.store.new.table.sources c.args.limits.charge c.args.desk.now c.add_source.new.self (added c) (later c) c.requires (more c))))
+    ∙ ap (λ d. becomes d (Path c.args.path)) (sym (desk_of-more old c.store.new.table.sources c.args.limits.charge c.args.desk.now c.add_source.new.self (added c) (later c) c.requires (more c)))
 
 pub returns-clause-sound : goal.returns-clause-sound
 returns-clause-sound c =

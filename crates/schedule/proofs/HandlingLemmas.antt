@@ -1,0 +1,163 @@
+-- What is said of one desk holds of the world.
+use Rattle.std.proofs.Common.{◌≡◌, ℕ, ◌<◌, get_or, true, false, List, length, length-set, refl, sym, ◌∙◌, ap, subst, rules, Some, None, Result, Ok, Err}
+use Rattle.std.specs.Prelude.{All, OnOk, OnErr, IfOk, IfErr, bytes_eq, slice_get, slice_set, position, nat_le}
+use Rattle.std.proofs.lemmas.Result.{on_err_weaker, on_ok_weaker}
+use Rattle.std.proofs.lemmas.Option.{slice_get_within, slice_get-get_or, get_or_from_slice_get}
+use Rattle.std.proofs.lemmas.List.Elements.{All-get_or, All-set, All-weaker}
+use Rattle.model.specs.declared.refusal.Refusal.{Refusal}
+use Rattle.model.specs.declared.refusal.Refusal.TheVariants.{UnknownUser, Memory, Clash}
+use Rattle.model.specs.Archives.{Tree}
+use Rattle.model.specs.Paths.{source_path}
+use Rattle.model.specs.Derivations.{Derivation}
+use Rattle.model.specs.DerivationTexts.{derivation_of_text}
+use Rattle.model.specs.Limits.{most_derivation_bytes}
+use Rattle.model.specs.Worlds.{Source, Setup, Desk, held_at}
+use Rattle.model.specs.Events.{Request, AddSource, AddDerivation, Fetch, Event, Content}
+use Rattle.model.specs.Outcomes.{becomes}
+use Rattle.model.specs.SourceRequests.{fetch}
+use Rattle.model.specs.Replies.{is_clash_refusal, is_refused}
+use Rattle.model.specs.Steps.{outcome}
+use Rattle.schedule.specs.declared.events.Reply as Rust
+use Rattle.schedule.specs.Stored.{Holdings, IsAdded, IsTaken}
+use Rattle.schedule.specs.Sound.{desk_of, IsSound}
+use Rattle.schedule.specs.Standing.{reply_of, parts, desk_among}
+use Rattle.schedule.specs.Handling.{Fits, Serves, ServesAtOnce, IsKept, IsHandledAtDesk, AddsSource, AddsDerivation, IsHandled}
+use Rattle.schedule.proofs.DeskLemmas.{sound_kept}
+use Rattle.schedule.proofs.DerivationLemmas.{derivation_read}
+use Rattle.schedule.proofs.TableLemmas.{put_once-Extends}
+use Rattle.schedule.proofs.WorldLemmas.{IsPlace, place_found, place_below, place_is_among, no_place, desk_found}
+use Rattle.schedule.proofs.StepLemmas.{either_way, kept_sound, kept_later, kept_desk, source_hashed, source_at_once, derivation_at_once, fetch_at_once, step_unknown, step_at_once, told_result, refused_result, world_kept}
+
+-- ---- all events
+
+-- a handler of one desk handles its event
+pub at_desk : (users : List (List ℕ)) (limit : ℕ) (old new : List Source) (desks : List Holdings) (e : Event) (i : ℕ) (before now : Holdings) (result : Result Rust.Reply Refusal)
+    → All (IsSound old limit) desks → position (λ n. bytes_eq n e.actor) users ≡ Some i → slice_get desks i ≡ Some before
+    → IsHandledAtDesk limit old before e.request result new now → IsHandled (parts users limit old desks) e result (parts users limit new (slice_set desks i now))
+at_desk users limit old new desks e i before now result sound found here handled =
+    let setup : Setup = record { users = users; charge = limit } in
+    let place : IsPlace users e.actor i = place_found users e.actor i found in
+    record {
+      told = told_result setup old new limit desks e i before now result handled.grows sound place here (handled.serves users) handled.answered;
+      refused = refused_result setup old new desks e i before now result place here (handled.serves users);
+      at_once = step_at_once setup old desks e i before result place here handled.at_once;
+      kept = on_err_weaker result (λ kept. record {
+        world = world_kept users old new limit desks e.actor i before now handled.grows sound place here (kept_desk old new before now kept);
+        table = kept.sources;
+      }) handled.kept;
+      setup = refl;
+      paired = length-set {A = Holdings} desks i now;
+      sound = All-set (IsSound new limit) desks i now handled.sound
+          (All-weaker (IsSound old limit) (IsSound new limit) (λ d s. sound_kept old new limit d handled.grows s) desks sound);
+      grows = handled.grows;
+      hashed = λ texts hashed inside.
+          handled.hashed texts setup (desk_among old users desks) e.actor (desk_found old users desks e.actor i before place here) hashed (rw (place_is_among users e.actor i place) at inside);
+      taken = handled.taken;
+    }
+
+-- the place of a user has a desk
+pub place_there : (users : List (List ℕ)) (desks : List Holdings) (u : List ℕ) (i : ℕ) (d : Holdings) → length desks ≡ length users → position (λ n. bytes_eq n u) users ≡ Some i → slice_get desks i ≡ Some (get_or desks i d)
+place_there users desks u i d paired found = slice_get-get_or desks i d (subst (λ n. i < n) (sym paired) (place_below users u i found))
+
+-- the desk at a place is within its limits
+pub sound_at : (table : List Source) (limit : ℕ) (desks : List Holdings) (i : ℕ) (d : Holdings) → All (IsSound table limit) desks → slice_get desks i ≡ Some d → IsSound table limit d
+sound_at table limit desks i d sound here =
+    subst (IsSound table limit) (get_or_from_slice_get desks i d d here) (All-get_or (IsSound table limit) desks i d (slice_get_within desks i d here) sound)
+
+-- a stranger is refused
+pub stranger : (users : List (List ℕ)) (limit : ℕ) (table : List Source) (desks : List Holdings) (e : Event) → All (IsSound table limit) desks
+    → position (λ n. bytes_eq n e.actor) users ≡ None → IsHandled (parts users limit table desks) e (Err UnknownUser) (parts users limit table desks)
+stranger users limit table desks e sound none =
+    let setup : Setup = record { users = users; charge = limit } in
+    let unknown = step_unknown setup (desk_among table users desks) e (no_place users e.actor none) in
+    record {
+      told = search rules;
+      refused = λ own. unknown;
+      at_once = λ why quick o. (let is = sym unknown ∙ o in cc);
+      kept = record { world = refl; table = refl };
+      setup = refl;
+      paired = refl;
+      sound = sound;
+      grows = λ path there. refl;
+      hashed = λ texts hashed inside. hashed;
+      taken = λ clash. cc;
+    }
+
+-- ---- events of one desk
+
+is_left : (table : List Source) (desk : Holdings) (result : Result Rust.Reply Refusal) → OnErr result (IsKept table table desk desk)
+is_left table desk (Ok r) = search rules
+is_left table desk (Err why) = record { sources = refl; desk = refl }
+
+-- what is left as it was, by a request that is refused at a desk
+pub left : (limit : ℕ) (table : List Source) (desk : Holdings) (request : Request) (result : Result Rust.Reply Refusal) → IsSound table limit desk
+    → ((users : List (List ℕ)) → Serves (record { users = users; charge = limit }) (desk_of table desk) request (desk_of table desk) result)
+    → ServesAtOnce (desk_of table desk) request result → IfOk result (λ r. is_refused (reply_of r) ≡ false) → IfErr result (λ why. is_clash_refusal why ≡ false)
+    → IsHandledAtDesk limit table desk request result table desk
+left limit table desk request result sound serves at_once answered no_clash = record {
+  serves = serves;
+  answered = answered;
+  at_once = at_once;
+  kept = is_left table desk result;
+  sound = sound;
+  grows = λ path there. refl;
+  hashed = λ texts setup w u here hashed inside. hashed;
+  taken = λ clash. (let no = rw clash at no_clash in cc);
+}
+
+-- a source is added
+pub source_handled : (limit : ℕ) (old new : List Source) (before now : Holdings) (name : List ℕ) (tree : Tree) (path : List ℕ) (result : Result Rust.Reply Refusal)
+    → IsSound old limit before → path ≡ source_path tree name → AddsSource limit old before path tree result new now → IfOk result (λ r. is_refused (reply_of r) ≡ false)
+    → OnOk result (IsAdded path tree old new) → OnOk result (IsSound new limit now) → OnErr result (IsKept old new before now) → (result ≡ Err Clash → IsTaken old path tree)
+    → IsHandledAtDesk limit old before (AddSource name tree) result new now
+unfolding outcome
+source_handled limit old new before now name tree path result sound is adds answered stored sound_now kept taken =
+    let s : Source = record { path = path; tree = tree } in
+    record {
+      serves = λ users sight same. rw same (adds users name is);
+      answered = answered;
+      at_once = source_at_once (desk_of old before) name tree result;
+      kept = kept;
+      sound = either_way result (IsSound new limit now) sound_now (on_err_weaker result (kept_sound old new before now limit sound) kept);
+      grows = either_way result _ (on_ok_weaker result (λ more. rw more (put_once-Extends s old)) stored) (on_err_weaker result (kept_later old new before now) kept);
+      hashed = λ texts setup w u here hashed inside.
+          either_way result _ (on_ok_weaker result (λ more. rw more (source_hashed texts name tree path old is hashed inside)) stored) (on_err_weaker result (λ k. rw k.sources hashed) kept);
+      taken = λ clash. rw (← is) (taken clash);
+    }
+
+fetch_fits : (setup : Setup) (d : Desk) (path : List ℕ) (tree : Tree) (result : Result Rust.Reply Refusal) → held_at path d ≡ Some tree → IfOk result (λ r. reply_of r ≡ Content tree) → IfErr result (λ e. e ≡ Memory) → Fits (fetch d path) d result
+fetch_fits setup d path tree (Ok r) there content memory = rw there (ap (becomes d) (sym content))
+fetch_fits setup d path tree (Err e) there content memory = λ own. let wrong = rw memory at own in cc
+
+fetch_answered : (tree : Tree) (result : Result Rust.Reply Refusal) → IfOk result (λ r. reply_of r ≡ Content tree) → IfOk result (λ r. is_refused (reply_of r) ≡ false)
+fetch_answered tree (Ok r) content = rw content refl
+fetch_answered tree (Err e) content = search rules
+
+no_clash_of_memory : (result : Result Rust.Reply Refusal) → IfErr result (λ e. e ≡ Memory) → IfErr result (λ why. is_clash_refusal why ≡ false)
+no_clash_of_memory (Ok r) memory = search rules
+no_clash_of_memory (Err e) memory = rw memory refl
+
+-- a tree that is held is told
+pub fetch_handled : (limit : ℕ) (table : List Source) (desk : Holdings) (path : List ℕ) (tree : Tree) (result : Result Rust.Reply Refusal) → IsSound table limit desk
+    → held_at path (desk_of table desk) ≡ Some tree → IfOk result (λ r. reply_of r ≡ Content tree) → IfErr result (λ e. e ≡ Memory) → IsHandledAtDesk limit table desk (Fetch path) result table desk
+unfolding outcome
+fetch_handled limit table desk path tree result sound there content memory =
+    left limit table desk (Fetch path) result sound (λ users sight same. rw same (fetch_fits (record { users = users; charge = limit }) (desk_of table desk) path tree result there content memory))
+    (fetch_at_once (desk_of table desk) path result (λ none. let no = sym there ∙ none in cc)) (fetch_answered tree result content) (no_clash_of_memory result memory)
+
+-- a text is read as a derivation, which is added
+pub derivation_handled : (limit : ℕ) (table : List Source) (before now : Holdings) (text : List ℕ) (derivation : Derivation) (result : Result Rust.Reply Refusal)
+    → nat_le (length text) most_derivation_bytes ≡ true → derivation_of_text text ≡ Some derivation → AddsDerivation limit table before derivation result now
+    → IfOk result (λ r. is_refused (reply_of r) ≡ false) → IsSound table limit now → OnErr result (now ≡ before) → IfErr result (λ why. is_clash_refusal why ≡ false)
+    → IsHandledAtDesk limit table before (AddDerivation text) result table now
+unfolding outcome
+derivation_handled limit table before now text derivation result within read adds answered sound kept no_clash = record {
+  serves = λ users sight same. rw (same, derivation_read users table limit before text derivation within read) (adds users);
+  answered = answered;
+  at_once = derivation_at_once (desk_of table before) text result (λ large. let no : true ≡ false = sym within ∙ large in cc);
+  kept = on_err_weaker result (λ same. record { sources = refl; desk = same }) kept;
+  sound = sound;
+  grows = λ path there. refl;
+  hashed = λ texts setup w u here hashed inside. hashed;
+  taken = λ clash. (let no = rw clash at no_clash in cc);
+}

@@ -1,0 +1,106 @@
+-- What a handler of an event promises.
+use Rattle.std.specs.Prelude.{◌≡◌, ℕ, Bool, true, false, ◌||◌, List, length, All, Contains, IfOk, IfErr, OnErr, Result, Ok, Err}
+use Rattle.model.specs.declared.refusal.Refusal.{Refusal}
+use Rattle.model.specs.declared.refusal.Refusal.TheVariants.{Clash}
+use Rattle.model.specs.Archives.{Tree}
+use Rattle.model.specs.Paths.{source_path}
+use Rattle.model.specs.Derivations.{Derivation}
+use Rattle.model.specs.Classes.{known_at, derivation_path}
+use Rattle.model.specs.Worlds.{Source, Setup, Desk, World}
+use Rattle.model.specs.Events.{Request, Event}
+use Rattle.model.specs.Replies.{is_memory_refusal, is_clash_refusal, is_refused, needs_no_memory}
+use Rattle.model.specs.Outcomes.{Sight, Outcome, becomes}
+use Rattle.model.specs.SourceRequests.{add_source}
+use Rattle.model.specs.DerivationRequests.{admit_new}
+use Rattle.model.specs.Steps.{outcome, outcome_of}
+use Rattle.model.specs.HashedTexts.{texts_of, texts_of_event}
+use Rattle.schedule.specs.declared.events.Reply.{Reply}
+use Rattle.schedule.specs.Stored.{Holdings, IsTakenFor}
+use Rattle.schedule.specs.Sound.{desk_of, IsSound, Extends, IsHashed}
+use Rattle.schedule.specs.Standing.{reply_of, Parts, world_in, IsStep}
+
+-- whether a refusal says nothing of the model: memory was refused, or another tree is at a path
+abbrev pub is_fault : Refusal → Bool
+is_fault why = is_memory_refusal why || is_clash_refusal why
+
+-- where an outcome is a refusal that needs no memory, it is the result
+abbrev pub RefusedAtOnce : Outcome → Result Reply Refusal → Type 0
+RefusedAtOnce outcome result = (why : Refusal) → needs_no_memory why ≡ true → outcome ≡ Err why → result ≡ Err why
+
+-- ---- events of one desk
+
+-- a result is that of an outcome which leaves this desk, or a fault
+abbrev pub Fits : Outcome → Desk → Result Reply Refusal → Type 0
+Fits outcome desk (Ok reply) = outcome ≡ becomes desk (reply_of reply)
+Fits outcome desk (Err why) = is_fault why ≡ false → outcome ≡ Err why
+
+-- a request at a desk gives this result and leaves that desk, whoever its user is and whatever else he sees
+abbrev pub Serves : Setup → Desk → Request → Desk → Result Reply Refusal → Type 0
+Serves setup old request new result = (sight : Sight) → sight.desk ≡ old → Fits (outcome setup sight request) new result
+
+-- a request at a desk is refused at once where that needs no memory
+abbrev pub ServesAtOnce : Desk → Request → Result Reply Refusal → Type 0
+ServesAtOnce desk request result = (setup : Setup) (sight : Sight) → sight.desk ≡ desk → RefusedAtOnce (outcome setup sight request) result
+
+-- a table and a desk are as they were
+pub record IsKept (old new : List Source) (before after : Holdings) : Type 0 where
+  pub sources : new ≡ old
+  pub desk : after ≡ before
+
+-- what a handler promises that reads and changes the desk of the user alone, and the table: who its user is, and what else
+-- he sees, makes no difference
+pub record IsHandledAtDesk (limit : ℕ) (old : List Source) (before : Holdings) (request : Request) (result : Result Reply Refusal) (new : List Source) (after : Holdings) : Type 0 where
+  -- the reply is the model's, and so is the desk after it
+  pub serves : (users : List (List ℕ)) → Serves (record { users = users; charge = limit }) (desk_of old before) request (desk_of new after) result
+  pub answered : IfOk result (λ r. is_refused (reply_of r) ≡ false)
+  -- a refusal that needs no memory is told whether there is memory or not
+  pub at_once : ServesAtOnce (desk_of old before) request result
+  -- a refusal leaves all as it was
+  pub kept : OnErr result (IsKept old new before after)
+  -- the desk is within its limits, and what it holds is stored
+  pub sound : IsSound new limit after
+  -- the table only grows, by what was hashed
+  pub grows : Extends old new
+  pub hashed : (texts : List (List ℕ)) (setup : Setup) (w : World) (u : List ℕ) → w u ≡ desk_of old before → All (IsHashed texts) old → All (Contains texts) (texts_of setup w u request) → All (IsHashed texts) new
+  -- 91 comes only where another tree is at the path of what is added
+  pub taken : result ≡ Err Clash → IsTakenFor old request
+
+-- the same under each limit that the desk was within
+abbrev pub IsHandledByDesk : List Source → Holdings → Request → Result Reply Refusal → Holdings → Type 0
+IsHandledByDesk table before request result after = (limit : ℕ) → IsSound table limit before → IsHandledAtDesk limit table before request result table after
+
+-- a tree that is added at a path, if it is the path that it has under some name: the reply is the model's, and so is the desk after it
+abbrev pub AddsSource : ℕ → List Source → Holdings → List ℕ → Tree → Result Reply Refusal → List Source → Holdings → Type 0
+AddsSource limit old before path tree result new after = (users : List (List ℕ)) (name : List ℕ) → path ≡ source_path tree name
+    → Fits (add_source (record { users = users; charge = limit }) (desk_of old before) name tree) (desk_of new after) result
+
+-- a derivation that is added: the reply is the model's, and so is the desk after it
+abbrev pub AddsDerivation : ℕ → List Source → Holdings → Derivation → Result Reply Refusal → Holdings → Type 0
+AddsDerivation limit table before derivation result after = (users : List (List ℕ))
+    → Fits (admit_new (record { users = users; charge = limit }) (desk_of table before) derivation (known_at before.known (derivation_path derivation))) (desk_of table after) result
+
+-- ---- all events
+
+-- what is stored and the world are as they were
+pub record AreKept (old new : Parts) : Type 0 where
+  pub world : world_in new ≡ world_in old
+  pub table : new.table ≡ old.table
+
+-- what every handler promises
+pub record IsHandled (old : Parts) (event : Event) (result : Result Reply Refusal) (new : Parts) : Type 0 where
+  -- the reply is the model's, and so is the world after it
+  pub told : IfOk result (λ r. (is_refused (reply_of r) ≡ false) × IsStep old.setup (world_in old) event (reply_of r) (world_in new))
+  pub refused : IfErr result (λ why. is_fault why ≡ false → outcome_of old.setup (world_in old) event ≡ Err why)
+  -- a refusal that needs no memory is told whether there is memory or not
+  pub at_once : RefusedAtOnce (outcome_of old.setup (world_in old) event) result
+  -- a refusal leaves all as it was
+  pub kept : OnErr result (AreKept old new)
+  -- what was given stays; each desk is within its limits, and what it holds is stored
+  pub setup : new.setup ≡ old.setup
+  pub paired : length new.desks ≡ length old.desks
+  pub sound : All (IsSound new.table old.setup.charge) new.desks
+  -- the table only grows, by what was hashed
+  pub grows : Extends old.table new.table
+  pub hashed : (texts : List (List ℕ)) → All (IsHashed texts) old.table → All (Contains texts) (texts_of_event old.setup (world_in old) event) → All (IsHashed texts) new.table
+  -- 91 comes only where another tree is at the path of what is added
+  pub taken : result ≡ Err Clash → IsTakenFor old.table event.request
