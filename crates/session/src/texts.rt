@@ -10,6 +10,16 @@ use nar::tree_text;
 use schedule::Reply;
 use std::alloc::Global;
 
+/// Adds a word and what stands behind it.
+fn add(text: &mut Vec<u8>, word: &[u8], value: &[u8]) -> Result<(), Refusal>
+    ensures text { OnOk result (text.new.items ≡ text.old.items ++ word.now ++ value.now) }
+    ensures memory { IfErr result (λ why. why ≡ Memory) }
+{
+    text.extend_from_slice(word)?;
+    text.extend_from_slice(value)?;
+    Ok(())
+}
+
 /// Adds the text of a reply.
 fn add_reply(alloc: Global, text: &mut Vec<u8>, reply: &Reply) -> Result<(), Refusal>
     ensures text { OnOk result
@@ -17,29 +27,21 @@ fn add_reply(alloc: Global, text: &mut Vec<u8>, reply: &Reply) -> Result<(), Ref
     ensures memory { IfErr result (λ why. why ≡ Memory) }
 {
     match reply {
-        Reply::Done => text.extend_from_slice(b"ok")?,
-        Reply::Path(path) => {
-            text.extend_from_slice(b"path ")?;
-            text.extend_from_slice(path.bytes())?;
-        }
+        Reply::Done => add(text, b"ok", b""),
+        Reply::Path(path) => add(text, b"path ", path.bytes()),
         Reply::Derivation { path, class } => {
-            text.extend_from_slice(b"drv ")?;
-            text.extend_from_slice(path.bytes())?;
-            text.extend_from_slice(b" class ")?;
-            text.extend_from_slice(class.bytes())?;
+            add(text, b"drv ", path.bytes())?;
+            add(text, b" class ", class.bytes())
         }
         Reply::Content(tree) => {
             let words = tree_text(alloc, tree)?;
-            text.extend_from_slice(b"tree ")?;
-            text.extend_from_slice(words.as_slice())?;
+            add(text, b"tree ", words.as_slice())
         }
         Reply::Refused(why) => {
             let words = why.to_string(alloc)?;
-            text.extend_from_slice(b"refused ")?;
-            text.extend_from_slice(words.as_bytes())?;
+            add(text, b"refused ", words.as_bytes())
         }
     }
-    Ok(())
 }
 
 /// What is printed for a line: its number, the actor and the reply.
