@@ -100,9 +100,14 @@ fn answer_lines<H: Wait, R: Read + Faults, W: Write + Faults>(
 /// Answers the lines that a reader gives, in a store for the users whom they name first and under the
 /// charge of the options, and writes the replies. What is written is flushed, whatever the end.
 ///
-/// The errors are those of [`serve`]: 14 `BadUsers` where the line of users is refused, 71 `InputFault`
-/// where the reader failed, 72 `OutputFault` where the writer failed, and 90 `Memory` where memory was
-/// refused and no event can be answered for it.
+/// # Errors
+///
+/// They are those of [`serve`].
+///
+/// - `BadUsers` where the line of users is refused.
+/// - `InputFault` where the reader failed.
+/// - `OutputFault` where the writer failed.
+/// - `Memory` where memory was refused and no event can be answered for it.
 pub(crate) fn replay<H: Wait, R: Read + Faults, W: Write + Faults>(
     rt: &H,
     alloc: Global,

@@ -49,9 +49,16 @@ impl Model for Derivation {
 }
 
 impl Derivation {
-    /// The derivation of these parts.
+    /// The derivation of these parts. It takes no memory.
     ///
-    /// [`Refusal::BadDerivation`] comes exactly where they are no derivation's: paths and keys stand in the order of bytes, each once, the inputs are derivation files, and strings, keys, `name` and `out` are as the format has them. It takes no memory.
+    /// # Errors
+    ///
+    /// - `BadDerivation` exactly where they are no derivation's. Of one, inputs, sources and keys
+    ///   ascend strictly by bytes; the inputs end in `.drv`; strings have bytes 32 to 126, tabs,
+    ///   newlines and carriage returns; the platform and the builder have at most 255 bytes, the
+    ///   builder at least one; a key has 1 to 64 ASCII letters, digits and `_`, no digit first, and
+    ///   is not `INPUTS`; there is a `name`, a name of at most 207 bytes, and an `out`, which is
+    ///   empty.
     pub fn new(parts: Parts) -> Result<Derivation, Refusal>
         ensures derivation { let d = derivation_of parts in MatchResult result
             (λ r. (r ≡ d) × IsDerivation d)

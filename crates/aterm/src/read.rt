@@ -282,7 +282,11 @@ fn read_parts(alloc: Global, strings: Strings) -> Result<Parts, ReadError>
 
 /// The derivation of a text. There is at most one.
 ///
-/// [`Refusal::BadDerivation`] comes exactly where no derivation has the text, and [`Refusal::Memory`] only where memory was refused.
+/// # Errors
+///
+/// - `BadDerivation` exactly where no derivation has the text, unless memory was refused before that
+///   was found.
+/// - `Memory` only where memory was refused.
 pub fn parse(alloc: Global, text: &[u8]) -> Result<Derivation, Refusal>
     ensures read { MatchResult result
         (λ d. IsDerivation d × (derivation_text d ≡ text.now))

@@ -147,7 +147,11 @@ fn put_rest(out: &mut Vec<u8>, parts: &Parts) -> Result<(), AllocError>
     out.extend_from_slice(b")")
 }
 
-/// The text of a derivation. The one error is [`Refusal::Memory`].
+/// The text of a derivation.
+///
+/// # Errors
+///
+/// - `Memory` only where memory was refused.
 pub fn print(alloc: Global, derivation: &Derivation) -> Result<Vec<u8>, Refusal>
     ensures { MatchResult result
         (λ text. text.items ≡ derivation_text derivation.now)
@@ -161,7 +165,11 @@ pub fn print(alloc: Global, derivation: &Derivation) -> Result<Vec<u8>, Refusal>
     Ok(out)
 }
 
-/// The text of a derivation with other strings in place of its inputs' paths. The one error is [`Refusal::Memory`].
+/// The text of a derivation with other strings in place of its inputs' paths.
+///
+/// # Errors
+///
+/// - `Memory` only where memory was refused.
 pub fn print_with_inputs(
     alloc: Global,
     derivation: &Derivation,

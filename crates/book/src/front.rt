@@ -53,7 +53,11 @@ impl<J: Naming> Front<J> {
     /// A front over a new core, and its passes, of the numbers 0 to n - 1.
     ///
     /// The core is as [`Core::new`] gave it, and the front is named for its users and limits. There
-    /// are 1 to 64 passes, and the blank has as many parts. The one error is 90 `Memory`.
+    /// are 1 to 64 passes, and the blank has as many parts.
+    ///
+    /// # Errors
+    ///
+    /// - `Memory` only where memory was refused.
     pub fn new(
         alloc: Global,
         blank: Blank,

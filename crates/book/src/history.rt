@@ -5,7 +5,7 @@ use schedule::{Event, Reply};
 /// One call that was answered otherwise than with 90 `Memory` or 92 `Stopped`.
 #[derive(Drop)]
 pub struct Row {
-    /// The number of the pass that made the call.
+    /// The number of the pass that made the call, from 0 on.
     pub pass: u64,
     /// What was asked.
     pub event: Event,

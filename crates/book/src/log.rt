@@ -174,7 +174,11 @@ pub struct Blank {
 }
 
 impl Blank {
-    /// A blank for so many passes. The error comes where memory is refused.
+    /// A blank for so many passes; [`Front::new`](crate::Front::new) takes one for 1 to 64.
+    ///
+    /// # Errors
+    ///
+    /// - `AllocError` only where memory was refused.
     pub fn new(alloc: Global, passes: u64) -> Result<Blank, AllocError>
         ensures { IfOk result (λ blank. blank.calls.parts ≡ passes) }
     {

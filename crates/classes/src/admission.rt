@@ -113,7 +113,13 @@ fn file_name(alloc: Global, derivation: &Derivation) -> Result<Name, Refusal>
     Ok(Name::new(alloc, &name)?)
 }
 
-/// The path of a derivation's file: of the kind `text`, over the digest of its text, with the paths that it refers to and a name that ends in `.drv` (Nix Reference Manual, "Complete Store Path Calculation"). The one error is [`Refusal::Memory`].
+/// The path of a derivation's file: of the kind `text`, over the digest of its text, with the paths
+/// that it refers to and a name that ends in `.drv` (Nix Reference Manual, "Complete Store Path
+/// Calculation").
+///
+/// # Errors
+///
+/// - `Memory` only where memory was refused.
 pub fn path_of(alloc: Global, derivation: &Derivation) -> Result<StorePath, Refusal>
     ensures { MatchResult result
         (λ path. path ≡ derivation_path derivation.now)
@@ -141,6 +147,10 @@ fn class_path(
 }
 
 /// What a desk will know of a derivation whose path is at hand, as [`admit`] tells it.
+///
+/// # Errors
+///
+/// - `MissingInput`, `RankTooHigh` and `Memory`, each where [`admit`] has it.
 pub fn admit_at(
     alloc: Global,
     derivation: &Derivation,
@@ -174,9 +184,16 @@ pub fn admit_at(
     })
 }
 
-/// What a desk will know of a derivation: the path of its file, its class, and the digest of its masked text, that is of its text with each input's path replaced by the digest of that input's masked text.
+/// What a desk will know of a derivation: the path of its file, its class, and the digest of its
+/// masked text, that is of its text with each input's path replaced by the digest of that input's
+/// masked text.
 ///
-/// [`Refusal::MissingInput`] comes exactly where an input or a source is not known, else [`Refusal::RankTooHigh`] where the rank would be over 64. [`Refusal::Memory`] may stand in place of each answer, only where memory was refused.
+/// # Errors
+///
+/// - `MissingInput` exactly where an input or a source is not known, unless memory was refused.
+/// - `RankTooHigh` exactly where all are known and the rank would be over 64, unless memory was
+///   refused.
+/// - `Memory` only where memory was refused; it may stand in place of each answer.
 pub fn admit(alloc: Global, derivation: &Derivation, known: &Known) -> Result<Admitted, Refusal>
     ensures { let answer = admit known.now derivation.now in MatchResult result
         (λ admitted. answer ≡ Ok admitted)

@@ -32,7 +32,7 @@ impl Class {
         &self.path
     }
 
-    /// One more than the greatest rank of the inputs, 1 with none.
+    /// One more than the greatest rank of the inputs, 1 with none: at most 64.
     pub fn rank(&self) -> u8
         ensures rank { result ≡ self.now.rank }
         ensures most { result ≤ 64 }

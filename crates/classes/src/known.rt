@@ -57,8 +57,11 @@ impl Known {
         self.sources.len()
     }
 
-    /// One derivation more, whose path is not known yet. The one error is [`Refusal::Memory`], and
-    /// changes nothing.
+    /// One derivation more, whose path is not known yet.
+    ///
+    /// # Errors
+    ///
+    /// - `Memory` only where memory was refused. Then nothing has changed.
     pub fn add_derivation(&mut self, admitted: Admitted) -> Result<(), Refusal>
         requires absent { known_at self.old admitted.path ≡ None }
         ensures { MatchResult result
@@ -70,8 +73,11 @@ impl Known {
         Ok(())
     }
 
-    /// One source more, whose path is not known yet. The one error is [`Refusal::Memory`], and
-    /// changes nothing.
+    /// One source more, whose path is not known yet.
+    ///
+    /// # Errors
+    ///
+    /// - `Memory` only where memory was refused. Then nothing has changed.
     pub fn add_source(&mut self, path: StorePath) -> Result<(), Refusal>
         requires absent { is_one_of self.old.sources path ≡ false }
         ensures { MatchResult result

@@ -46,7 +46,11 @@ fn hash_offsets(alloc: Global, hasher: &mut Sha256, offsets: &[u64]) -> Result<(
 
 /// The SHA-256 digest of a text with the 32 bytes at each offset blanked, followed by the offsets.
 ///
-/// The one error is `Memory`, 90. The text is not copied.
+/// The text is not copied.
+///
+/// # Errors
+///
+/// [`Refusal::Memory`], only where memory was refused.
 pub fn modulo_digest(alloc: Global, text: &[u8], offsets: &[u64]) -> Result<[u8; 32], Refusal>
     requires { AreApart 0 (length text.now) offsets.now }
     ensures digest { IfOk result (λ digest. digest ≡ sha256 (blanked_text offsets.now text.now)) }

@@ -54,7 +54,11 @@ impl Nar {
     }
 }
 
-/// The archive of a tree, for which memory is taken once. The one error is memory.
+/// The archive of a tree, for which memory is taken once.
+///
+/// # Errors
+///
+/// - `Memory` only where memory was refused.
 pub fn encode(alloc: Global, tree: &Tree) -> Result<Nar, Refusal>
     ensures archive { IfOk result (λ archive. archive ≡ tree.now) }
     ensures memory { IfErr result (λ why. why ≡ Memory) }

@@ -62,10 +62,7 @@ fn stands(places: &[(usize, HashPart)], part: &HashPart) -> bool
 }
 
 /// The hash parts that stand at a place, each once.
-fn parts_at(
-    alloc: Global,
-    places: &[(usize, HashPart)],
-) -> Result<IndexSet<HashPart>, AllocError>
+fn parts_at(alloc: Global, places: &[(usize, HashPart)]) -> Result<IndexSet<HashPart>, AllocError>
     ensures { IfOk result (λ parts. HasPartsOf places.now parts.keys) }
 {
     let mut parts = IndexSet::new(alloc);
@@ -169,10 +166,10 @@ fn settle_at(
 ///
 /// # Errors
 ///
-/// - `RewriteRefused(InName)` exactly where the own hash part or a candidate's stands in a name.
-/// - `RewriteRefused(Overlap)` exactly where none does, and two of them in one string share bytes.
-/// - `RewriteRefused(Accidental)` exactly where neither holds, and the new hash part is not put truly.
-/// - `Memory` only where memory was refused.
+/// - [`Refusal::RewriteRefused`] with `InName` exactly where the own hash part or a candidate's stands in a name.
+/// - [`Refusal::RewriteRefused`] with `Overlap` exactly where none does, and two of them in one string share bytes.
+/// - [`Refusal::RewriteRefused`] with `Accidental` exactly where neither holds, and the new hash part is not put truly.
+/// - [`Refusal::Memory`] only where memory was refused.
 pub fn settle(
     alloc: Global,
     archive: &Nar,
@@ -192,7 +189,11 @@ pub fn settle(
     }
 }
 
-/// A source with its path. The one error is `Memory`, 90.
+/// A source with its path.
+///
+/// # Errors
+///
+/// [`Refusal::Memory`], only where memory was refused.
 pub fn source(alloc: Global, archive: Nar, name: &Name) -> Result<Named, Refusal>
     ensures source { IfOk result (λ named. named ≡ given archive name.now) }
     ensures memory { IfErr result (λ why. why ≡ Memory) }

@@ -101,9 +101,9 @@ fn is_true(
 ///
 /// # Errors
 ///
-/// - `RewriteRefused(Accidental)` exactly where in the new tree a key or an image stands at a place where
+/// - [`Refusal::RewriteRefused`] with `Accidental` exactly where in the new tree a key or an image stands at a place where
 ///   none was put, or a replaced key is put as the image of another.
-/// - `Memory` only where memory was refused.
+/// - [`Refusal::Memory`] only where memory was refused.
 pub fn substitute(
     alloc: Global,
     archive: &Nar,

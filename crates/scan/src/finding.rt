@@ -49,8 +49,8 @@ impl Places {
 ///
 /// # Errors
 ///
-/// - `RewriteRefused(Overlap)` exactly where two places are less than 32 bytes apart.
-/// - `Memory` only where memory was refused.
+/// - [`Refusal::RewriteRefused`] with `Overlap` exactly where two places are less than 32 bytes apart.
+/// - [`Refusal::Memory`] only where memory was refused.
 pub fn places_of(alloc: Global, archive: &Nar, keys: &Keys) -> Result<Places, Refusal>
     ensures found { IfOk result (λ places. places ≡ places_in (among keys.now) 0 (nar archive.now)) }
     ensures occurrences { IfOk result (λ places. places ≡ occurrences (among keys.now) archive.now) }
@@ -68,9 +68,9 @@ pub fn places_of(alloc: Global, archive: &Nar, keys: &Keys) -> Result<Places, Re
 ///
 /// # Errors
 ///
-/// - `RewriteRefused(InName)` exactly where a key stands in a name.
-/// - `RewriteRefused(Overlap)` exactly where none does, and two keys in one string share bytes.
-/// - `Memory` only where memory was refused.
+/// - [`Refusal::RewriteRefused`] with `InName` exactly where a key stands in a name.
+/// - [`Refusal::RewriteRefused`] with `Overlap` exactly where none does, and two keys in one string share bytes.
+/// - [`Refusal::Memory`] only where memory was refused.
 pub fn occurrences(alloc: Global, archive: &Nar, keys: &Keys) -> Result<Places, Refusal>
     ensures found { IfOk result (λ places. places ≡ occurrences (among keys.now) archive.now) }
     ensures sound { IfOk result (λ places. fault (among keys.now) archive.now ≡ None) }

@@ -9,7 +9,7 @@ pub(crate) const MOST_DERIVATIONS: usize = 1024;
 /// The most bytes of a derivation's text: 1 MiB.
 pub(crate) const MOST_DERIVATION_BYTES: usize = 1_048_576;
 
-/// The largest limit on a user's charge: 1 GiB.
+/// The largest limit on a user's charge, in bytes of archives: 1 GiB.
 pub const LARGEST_CHARGE: u64 = 1_073_741_824;
 
 /// What a run's desks are limited to, beside the fixed limits.

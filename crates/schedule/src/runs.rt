@@ -40,7 +40,12 @@ fn answer(alloc: Global, core: &mut Core, event: Event) -> Result<(User, Reply),
 /// outside his trust closure were struck out (`isolated`): this is the store's main theorem. Where
 /// some are 90 `Memory`, the others are so for the list without the events of these (`others`).
 ///
-/// The errors are 14 `BadUsers`, exactly where the list of users is ill-formed, and 90 `Memory`.
+/// The limit of a charge is at most 1,073,741,824 bytes.
+///
+/// # Errors
+///
+/// - `BadUsers` exactly where the list of users is ill-formed.
+/// - `Memory` only where it is well-formed, and memory was refused.
 pub fn run(
     alloc: Global,
     hashing: RandomState,

@@ -37,9 +37,13 @@ fn empty_desks(alloc: Global, count: usize) -> Result<Vec<Desk>, Refusal>
 impl Core {
     /// A core for these users, with empty desks. `hashing` has the keys of its table's hasher.
     ///
-    /// The errors are 14 `BadUsers`, exactly where the list is ill-formed: there are no names or
-    /// more than 64, one is ill-formed (see [`User::is_well_formed`]), or one comes twice; and 90
-    /// `Memory`.
+    /// The limit of a charge is at most 1,073,741,824 bytes.
+    ///
+    /// # Errors
+    ///
+    /// - `BadUsers` exactly where the list is ill-formed: there are no names or more than 64, one is
+    ///   ill-formed (see [`User::is_well_formed`]), or one comes twice.
+    /// - `Memory` only where it is well-formed, and memory was refused.
     pub fn new(
         alloc: Global,
         hashing: RandomState,

@@ -10,30 +10,36 @@ ghost use Rattle.model.specs.declared.refusal.Refusal.TheVariants.{Memory};
 use model::Refusal;
 use std::alloc::{AllocError, Global};
 use std::marker::Model;
+use std::sync::ArcSlice;
 
 /// The name of a user, as it is handed in: whoever says it is not asked to prove it. Any bytes may
-/// be a name; those of a run's users are well-formed.
+/// be a name; those of a run's users are well-formed. A copy shares the bytes.
 #[derive(Debug, Drop)]
 pub struct User {
-    name: Vec<u8>,
+    name: ArcSlice<u8>,
 }
 
 impl Model for User {
     ghost use Rattle.std.specs.Prelude.{List, ℕ};
+    ghost use Rattle.std.specs.Arc.{arc_slice_items};
 
     ghost Value = { List ℕ };
 
-    ghost view = { λ u. u.name.items };
+    ghost view = { λ user. arc_slice_items user.name };
 }
 
 impl User {
-    /// A user of that name. The one error is [`Refusal::Memory`].
+    /// A user of that name.
+    ///
+    /// # Errors
+    ///
+    /// - `Memory` only where memory was refused.
     pub fn new(alloc: Global, name: &[u8]) -> Result<User, Refusal>
         ensures value { IfOk result (λ u. u ≡ name.now) }
         ensures memory { IfErr result (λ e. e ≡ Memory) }
     {
         Ok(User {
-            name: Vec::from_slice(alloc, name)?,
+            name: ArcSlice::from_slice(alloc, name)?,
         })
     }
 

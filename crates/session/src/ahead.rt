@@ -105,8 +105,12 @@ fn look_last(
 /// that is refused with 14, and finds the users. All bytes that are read are kept, so that
 /// [`Prefixed`](crate::Prefixed) can give them again.
 ///
-/// The one error is memory. Where the reader fails, `has_failed` says so, and no users are given; a
-/// reader that fails and does not count it is tried again.
+/// Where the reader fails, `has_failed` says so, and no users are given; a reader that fails and does
+/// not count it is tried again.
+///
+/// # Errors
+///
+/// - `Memory` only where memory was refused.
 pub fn read_ahead<R: Read + Faults>(
     alloc: Global,
     mode: Mode,

@@ -120,11 +120,17 @@ fn finish<W: Write + Faults, A: Answer>(
 
 /// Answers the lines of the reader to the input's end, and writes what is printed for them.
 ///
-/// A line of more than 268,435,456 bytes is skipped without being kept. A line of users that is
-/// refused with 14 `BadUsers` ends the call with `BadUsers` once its output is written. The other
-/// errors are 71 `InputFault` and 72 `OutputFault`, only where the reader or the writer failed
-/// during the call by its count, and 90 `Memory`. After each of them the events answered before
-/// stand. A reader or writer that fails and does not count it is tried again.
+/// A line of more than 268,435,456 bytes is skipped without being kept. A reader or writer that fails
+/// and does not count it is tried again.
+///
+/// # Errors
+///
+/// After each of them the events answered before stand.
+///
+/// - `BadUsers` where a line of users is refused with it, once its output is written.
+/// - `InputFault` only where the reader failed during the call by its count.
+/// - `OutputFault` only where the writer failed during the call by its count.
+/// - `Memory` only where memory was refused.
 pub fn serve<R: Read + Faults, W: Write + Faults, A: Answer>(
     alloc: Global,
     mode: Mode,
@@ -188,7 +194,9 @@ pub fn serve<R: Read + Faults, W: Write + Faults, A: Answer>(
 /// Answers the whole lines of some bytes of which more was to come, and writes what is printed for
 /// them. What stands behind the last newline is left alone, and the writer is left to be flushed.
 ///
-/// The errors are 14 `BadUsers`, 72 `OutputFault` and 90 `Memory`, when [`serve`] has them.
+/// # Errors
+///
+/// - `BadUsers`, `OutputFault` and `Memory`, each where [`serve`] has it.
 pub fn serve_whole_lines<W: Write + Faults, A: Answer>(
     alloc: Global,
     mode: Mode,

@@ -111,8 +111,10 @@ impl Session {
     /// Answers the next line, which is given without its newline, and gives what is printed for it:
     /// nothing for an empty line and for a comment.
     ///
-    /// The one error is memory. After it the line's event may have been answered, and nothing is
-    /// said of later lines.
+    /// # Errors
+    ///
+    /// - `Memory` only where memory was refused. After it the line's event may have been answered, and
+    ///   nothing is said of later lines.
     pub fn line<A: Answer>(
         &mut self,
         alloc: Global,

@@ -61,7 +61,11 @@ pub fn to_base32(bytes: &[u8; 20]) -> [u8; 32]
 
 /// The 20 bytes that a text of 32 digits stands for.
 ///
-/// The one error is `BadPath`, 24: the text is not that of any 20 bytes. It takes no memory.
+/// It takes no memory.
+///
+/// # Errors
+///
+/// - `BadPath` exactly where the text is not that of any 20 bytes.
 pub fn from_base32(text: &[u8]) -> Result<[u8; 20], Refusal>
     ensures read { IfOk result (λ bytes. IsFolded bytes × (base32 bytes ≡ text.now)) }
     ensures refused { IfErr result (λ why. (why ≡ Refusal.BadPath) × ((bytes : List ℕ) → IsFolded bytes → base32 bytes ≢ text.now)) }

@@ -43,7 +43,11 @@ impl HashPart {
 
     /// The hash part of a text.
     ///
-    /// The one error is `BadPath`, 24: the text is not 32 digits. It takes no memory.
+    /// It takes no memory.
+    ///
+    /// # Errors
+    ///
+    /// - `BadPath` exactly where the text is not 32 digits of base 32.
     pub fn read(text: &[u8]) -> Result<HashPart, Refusal>
         ensures read { IfOk result (λ part. (part ≡ text.now) × (is_hash_part text.now ≡ true)) }
         ensures refused { (result ≡ Err Refusal.BadPath) ↔ (is_hash_part text.now ≡ false) }

@@ -90,7 +90,9 @@ fn fingerprint(
 
 /// The path of a kind, of the SHA-256 digest of what it is made of, and of a name.
 ///
-/// The one error is `Memory`, 90.
+/// # Errors
+///
+/// - `Memory` only where memory was refused.
 pub fn make_path(
     alloc: Global,
     kind: &Kind<'_>,

@@ -51,7 +51,10 @@ impl Model for Name {
 impl Name {
     /// The name of a text.
     ///
-    /// The errors are `BadName`, 21, where the text is no name, and `Memory`, 90, where it is one and memory was refused.
+    /// # Errors
+    ///
+    /// - `BadName` exactly where the text is no name.
+    /// - `Memory` only where it is one, and memory was refused.
     pub fn new(alloc: Global, text: &[u8]) -> Result<Name, Refusal>
         ensures named { IfOk result (λ name. (name ≡ text.now) × (is_name text.now ≡ true)) }
         ensures refused { (result ≡ Err Refusal.BadName) ↔ (is_name text.now ≡ false) }

@@ -27,8 +27,8 @@ const DASH: usize = 43;
 /// Where the name begins, in bytes.
 const NAME: usize = 44;
 
-/// The text of a store path: `/nix/store/`, a hash part of 32 digits, `-` and a name. A copy shares
-/// the text.
+/// The text of a store path: `/nix/store/`, a hash part of 32 digits, `-` and a name, in all 45 to 255
+/// bytes. A copy shares the text.
 #[derive(Debug, Drop)]
 pub struct StorePath {
     text: ArcSlice<u8>,
@@ -112,7 +112,10 @@ fn is_path(text: &[u8]) -> bool
 
 /// The path of a text.
 ///
-/// The errors are `BadPath`, 24, where the text is no path's, and `Memory`, 90, where it is one and memory was refused.
+/// # Errors
+///
+/// - `BadPath` exactly where the text is no path's.
+/// - `Memory` only where it is one, and memory was refused.
 pub fn read_path(alloc: Global, text: &[u8]) -> Result<StorePath, Refusal>
     ensures read { IfOk result (λ path. (path ≡ text.now) × IsPath text.now) }
     ensures refused { (result ≡ Err Refusal.BadPath) ↔ (¬ (IsPath text.now)) }
