@@ -1,11 +1,11 @@
-//! Hash parts in trees: found, replaced, and settled.
+//! Hash parts in trees: where they stand, and trees that are settled.
 
 use crate::fault::Fault;
 use crate::lines::cut;
 use crate::paths::paths_of;
 use crate::trees::text_of;
 use nar::{Nar, decode, encode, read_tree_text};
-use rewrite::{Images, Named, settle, source, substitute};
+use rewrite::{Named, settle, source};
 use scan::{Keys, occurrences};
 use std::alloc::Global;
 use std::str;
@@ -31,25 +31,6 @@ pub(crate) fn found(alloc: Global, words: &[u8]) -> Result<String, Fault> {
         list.push_str(format!(in alloc; "{at} {part},")?.as_str())?;
     }
     Ok(list)
-}
-
-/// `TREE KEY=IMAGE..`: the text of a tree with each key replaced.
-pub(crate) fn replaced(alloc: Global, words: &[u8]) -> Result<String, Fault> {
-    let (tree, rest) = cut(str::from_utf8(words)?);
-    let archive = archive_of(alloc, tree)?;
-    let mut keys = Keys::new(alloc)?;
-    let mut images = Images::new(alloc);
-    for word in rest.split_whitespace() {
-        let Some((key, image)) = word.split_once('=') else {
-            return Err(Fault::NotUnderstood);
-        };
-        let key = HashPart::read(key.as_bytes())?;
-        keys.add(key)?;
-        images.add(key, HashPart::read(image.as_bytes())?)?;
-    }
-    let places = occurrences(alloc, &archive, &keys)?;
-    let new = substitute(alloc, &archive, &places, &images)?;
-    text_of(alloc, &decode(alloc, new.bytes())?)
 }
 
 /// `TREE PART NAME PATH..`: the path of a tree that was built under a hash part, the paths that it refers
