@@ -7,8 +7,6 @@ mod fault;
 mod one_pass;
 mod replay;
 mod settings;
-#[cfg(test)]
-mod tests;
 
 use crate::counted::Counted;
 use crate::fault::{COMMAND_LINE_FAULT, Fault, OUT_OF_MEMORY, report};

@@ -11,7 +11,11 @@ use Rattle.nar.proofs.node.Node.TheLaws.TheKnot.{both_send-Node, both_sync-Node}
 use Rattle.nar.specs.contracts.tree.Tree as Tree
 use Rattle.model.specs.contracts.refusal.Refusal as Refusal
 use Rattle.storepath.specs.contracts.path.StorePath as StorePath
+use Rattle.aterm.specs.contracts.derivation.Derivation as Derivation
 use Rattle.classes.specs.contracts.known.Known as Known
+use Rattle.realise.specs.contracts.label.Label as Label
+use Rattle.realise.specs.contracts.record.Record as Record
+use Rattle.store.specs.contracts.table.Table as Table
 use Rattle.schedule.specs.contracts.state.Core as Core
 use Rattle.schedule.specs.contracts.events.Event as Event
 use Rattle.schedule.specs.contracts.events.Reply as Reply
@@ -51,11 +55,29 @@ reply_send = search (sendable, crosses, tree_send, path_send, refusal_send) dept
 pub row_send : IsSend Row.the_row
 row_send = declared_send Row.the_type (search sendable, (event_send, (reply_send, tt)))
 
+pub derivation_send : IsSend Derivation.the_row
+derivation_send = search (sendable, crosses, path_send) depth 60 fits 5000
+
 pub known_send : IsSend Known.the_row
-known_send = search (sendable, crosses, path_send) depth 60 fits 5000
+known_send = search (sendable, crosses, path_send, derivation_send) depth 60 fits 5000
+
+label_send : IsSend Label.the_row
+label_send = search (sendable, crosses, path_send) depth 60 fits 5000
+
+path_sync : IsSync StorePath.the_row
+path_sync = search (sendable, crosses) depth 40
+
+label_sync : IsSync Label.the_row
+label_sync = search (sendable, crosses, path_sync) depth 60 fits 5000
+
+pub record_send : IsSend Record.the_row
+record_send = search (sendable, crosses, path_send, label_send, label_sync) depth 60 fits 5000
+
+pub table_send : IsSend Table.the_row
+table_send = search (sendable, crosses, tree_send, path_send) depth 60 fits 5000
 
 pub core_send : IsSend Core.the_row
-core_send = search (sendable, crosses, tree_send, known_send) depth 60 fits 5000
+core_send = search (sendable, crosses, known_send, record_send, table_send) depth 60 fits 5000
 
 history_send : IsSend (Vec.the_row Row.the_row Global.the_row ghosts)
 history_send = Vec-send Row.the_row row_send

@@ -36,19 +36,18 @@ is_admitted known d h k m =
     let within : nat_le (1 + greatest (map (rank_at known) d.inputs)) 64 ≡ true = grind (arith, nat_tests) in
     rw (h, k, within) refl
 
-abbrev admission : List ℕ → List ℕ → ℕ → List ℕ → Admission
-admission path class_path rank masked = record { path = path; class = record { path = class_path; rank = rank }; masked = masked }
+abbrev pub admission : Derivation → List ℕ → ℕ → List ℕ → Admission
+admission d class_path rank masked = record { derivation = d; path = derivation_path d; class = record { path = class_path; rank = rank }; masked = masked }
 
 -- the parts of an admission, each as it was made
-pub is_admission : (known : Known) (d : Derivation) (path class_path : List ℕ) (rank : ℕ) (masked : List ℕ)
-    → path ≡ derivation_path d → masked ≡ sha256 (masked_text known d) → class_path ≡ store_path OutputClass masked (name_of d) → rank ≡ 1 + greatest (map (rank_at known) d.inputs)
-    → admission_of known d ≡ admission path class_path rank masked
-is_admission known d path class_path rank masked p m c r =
+pub is_admission : (known : Known) (d : Derivation) (class_path : List ℕ) (rank : ℕ) (masked : List ℕ)
+    → masked ≡ sha256 (masked_text known d) → class_path ≡ store_path OutputClass masked (name_of d) → rank ≡ 1 + greatest (map (rank_at known) d.inputs)
+    → admission_of known d ≡ admission d class_path rank masked
+is_admission known d class_path rank masked m c r =
     let class : store_path OutputClass (sha256 (masked_text known d)) (name_of d) ≡ class_path = ap (λ x. store_path OutputClass x (name_of d)) (sym m) ∙ sym c in
-    ap (λ x. admission x (store_path OutputClass (sha256 (masked_text known d)) (name_of d)) (1 + greatest (map (rank_at known) d.inputs)) (sha256 (masked_text known d))) (sym p)
-    ∙ ap (λ x. admission path x (1 + greatest (map (rank_at known) d.inputs)) (sha256 (masked_text known d))) class
-    ∙ ap (λ x. admission path class_path x (sha256 (masked_text known d))) (sym r)
-    ∙ ap (λ x. admission path class_path rank x) (sym m)
+    ap (λ x. admission d x (1 + greatest (map (rank_at known) d.inputs)) (sha256 (masked_text known d))) class
+    ∙ ap (λ x. admission d class_path x (sha256 (masked_text known d))) (sym r)
+    ∙ ap (admission d class_path rank) (sym m)
 
 pub refused_masks : (known : Known) (d : Derivation) (e why : Refusal) → why ≡ e → (e ≡ Memory) ⊎ ((e ≡ MissingInput) × (has_inputs known d.inputs ≡ false)) → (why ≡ Memory) ⊎ (admit known d ≡ Err why)
 refused_masks known d e why same (inl h) = inl (same ∙ h)

@@ -1,7 +1,7 @@
 //! Admitting a derivation.
 
-ghost use Rattle.std.specs.Prelude.{◌≡◌, ◌≤◌, ◌⊎◌, ◌++◌, IfOk, MatchResult, is_some, map, filter, not, codes, true, false, bytes_eq, ℕ, List};
-ghost use Rattle.std.specs.List.{list_all, list_any};
+ghost use Rattle.std.specs.Prelude.{◌≡◌, ◌≤◌, ◌⊎◌, ◌++◌, MatchResult, is_some, map, filter, not, codes, true, false};
+ghost use Rattle.std.specs.List.{list_all};
 ghost use Rattle.model.specs.Paths.{OutputClass, store_path};
 ghost use Rattle.model.specs.Derivations.{name_of};
 ghost use Rattle.model.specs.Classes.{known_at, is_one_of, mask_of, rank_at, greatest, sorted, derivation_path, admit};
@@ -9,11 +9,11 @@ ghost use Rattle.model.specs.declared.refusal.Refusal.TheVariants.{MissingInput,
 
 use crate::class::{Admitted, Class};
 use crate::known::Known;
+use crate::paths::{copies, set_of};
 use aterm::{Derivation, Text, print, print_with_inputs};
 use hashmod::sha256;
-use indexmap::IndexSet;
 use model::Refusal;
-use std::alloc::{AllocError, Global};
+use std::alloc::Global;
 use storepath::{Kind, Name, StorePath, make_path};
 
 /// The greatest rank.
@@ -79,29 +79,6 @@ fn references(
     Ok(paths)
 }
 
-// The paths, to be looked up among them.
-fn set_of(alloc: Global, paths: &[StorePath]) -> Result<IndexSet<StorePath>, Refusal>
-    ensures { MatchResult result
-        (λ set. (path : List ℕ) → list_any (bytes_eq path) set.keys ≡ is_one_of paths.now path)
-        (λ e. e ≡ Memory) }
-{
-    let mut set = IndexSet::new(alloc);
-    for path in paths {
-        let _is_new = set.insert(path.clone()?)?;
-    }
-    Ok(set)
-}
-
-fn copies(alloc: Global, paths: &[StorePath]) -> Result<Vec<StorePath>, AllocError>
-    ensures { IfOk result (λ copies. copies.items ≡ paths.now) }
-{
-    let mut copies = Vec::new(alloc);
-    for path in paths {
-        copies.push(path.clone()?)?;
-    }
-    Ok(copies)
-}
-
 // The name of a derivation's file.
 fn file_name(alloc: Global, derivation: &Derivation) -> Result<Name, Refusal>
     ensures { MatchResult result
@@ -146,20 +123,19 @@ fn class_path(
     make_path(alloc, &Kind::OutputClass, masked, &name)
 }
 
-/// What a desk will know of a derivation whose path is at hand, as [`admit`] tells it.
-///
-/// # Errors
-///
-/// - `MissingInput`, `RankTooHigh` and `Memory`, each where [`admit`] has it.
-pub fn admit_at(
+// The class of a derivation, and the digest of its masked text.
+fn class_for(
     alloc: Global,
     derivation: &Derivation,
-    path: StorePath,
     known: &Known,
-) -> Result<Admitted, Refusal>
-    requires path { path ≡ derivation_path derivation.now }
+) -> Result<(Class, [u8; 32]), Refusal>
     ensures { let answer = admit known.now derivation.now in MatchResult result
-        (λ admitted. answer ≡ Ok admitted)
+        (λ found. answer ≡ Ok (record {
+          derivation = derivation.now;
+          path = derivation_path derivation.now;
+          class = found.0;
+          masked = found.1;
+        }))
         (λ e. (e ≡ Memory) ⊎ (answer ≡ Err e)) }
 {
     let parts = derivation.parts();
@@ -177,16 +153,37 @@ pub fn admit_at(
         path: class_path(alloc, derivation, &masked)?,
         rank: greatest + 1,
     };
+    Ok((class, masked))
+}
+
+/// What a desk will know of a derivation whose path is at hand, as [`admit`] tells it.
+///
+/// # Errors
+///
+/// - `MissingInput`, `RankTooHigh` and `Memory`, each where [`admit`] has it.
+pub fn admit_at(
+    alloc: Global,
+    derivation: Derivation,
+    path: StorePath,
+    known: &Known,
+) -> Result<Admitted, Refusal>
+    requires path { path ≡ derivation_path derivation }
+    ensures { let answer = admit known.now derivation in MatchResult result
+        (λ admitted. answer ≡ Ok admitted)
+        (λ e. (e ≡ Memory) ⊎ (answer ≡ Err e)) }
+{
+    let (class, masked) = class_for(alloc, &derivation, known)?;
     Ok(Admitted {
+        derivation,
         path,
         class,
         masked,
     })
 }
 
-/// What a desk will know of a derivation: the path of its file, its class, and the digest of its
-/// masked text, that is of its text with each input's path replaced by the digest of that input's
-/// masked text.
+/// What a desk will know of a derivation: itself, the path of its file, its class, and the digest of
+/// its masked text, that is of its text with each input's path replaced by the digest of that
+/// input's masked text.
 ///
 /// # Errors
 ///
@@ -194,11 +191,11 @@ pub fn admit_at(
 /// - `RankTooHigh` exactly where all are known and the rank would be over 64, unless memory was
 ///   refused.
 /// - `Memory` only where memory was refused; it may stand in place of each answer.
-pub fn admit(alloc: Global, derivation: &Derivation, known: &Known) -> Result<Admitted, Refusal>
-    ensures { let answer = admit known.now derivation.now in MatchResult result
+pub fn admit(alloc: Global, derivation: Derivation, known: &Known) -> Result<Admitted, Refusal>
+    ensures { let answer = admit known.now derivation in MatchResult result
         (λ admitted. answer ≡ Ok admitted)
         (λ e. (e ≡ Memory) ⊎ (answer ≡ Err e)) }
 {
-    let path = path_of(alloc, derivation)?;
+    let path = path_of(alloc, &derivation)?;
     admit_at(alloc, derivation, path, known)
 }

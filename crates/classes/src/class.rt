@@ -2,6 +2,7 @@
 
 ghost use Rattle.std.specs.Prelude.{◌≡◌, ◌≤◌};
 
+use aterm::Derivation;
 use std::alloc::AllocError;
 use std::marker::Model;
 use storepath::StorePath;
@@ -57,6 +58,7 @@ impl Clone for Class {
 /// What is known of a derivation that was admitted.
 #[derive(Drop)]
 pub struct Admitted {
+    pub(crate) derivation: Derivation,
     pub(crate) path: StorePath,
     pub(crate) class: Class,
     pub(crate) masked: [u8; 32],
@@ -67,10 +69,17 @@ impl Model for Admitted {
 
     ghost Value = { Admission };
 
-    ghost view = { λ a. record { path = a.path; class = a.class; masked = a.masked } };
+    ghost view = { λ a. record { derivation = a.derivation; path = a.path; class = a.class; masked = a.masked } };
 }
 
 impl Admitted {
+    /// The derivation.
+    pub fn derivation(&self) -> &Derivation
+        ensures { result.now ≡ self.now.derivation }
+    {
+        &self.derivation
+    }
+
     /// The path of the derivation's file.
     pub fn path(&self) -> &StorePath
         ensures { result.now ≡ self.now.path }
@@ -90,23 +99,5 @@ impl Admitted {
         ensures { result.now ≡ self.now.masked }
     {
         &self.masked
-    }
-}
-
-/// The copy is equal. It fails only where memory is refused.
-impl Clone for Admitted {
-    ghost use Rattle.std.specs.Prelude.{◌≡◌};
-
-    ghost is_clone = { λ admitted copy. copy ≡ admitted };
-
-    fn clone(&self) -> Result<Admitted, AllocError> {
-        let path = self.path.clone()?;
-        let class = self.class.clone()?;
-        let masked = self.masked;
-        Ok(Admitted {
-            path,
-            class,
-            masked,
-        })
     }
 }

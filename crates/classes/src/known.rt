@@ -95,6 +95,13 @@ impl Known {
         self.derivations.get(path)
     }
 
+    /// The paths of the sources, the oldest first.
+    pub fn sources(&self) -> &[StorePath]
+        ensures { result.now ≡ self.now.sources }
+    {
+        self.sources.as_slice()
+    }
+
     /// Whether the path is a source's.
     pub fn has_source(&self, path: &StorePath) -> bool
         ensures { result ≡ is_one_of self.now.sources path.now }

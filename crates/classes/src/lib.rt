@@ -4,7 +4,9 @@
 mod admission;
 mod class;
 mod known;
+mod paths;
 
 pub use admission::{admit, admit_at, path_of};
 pub use class::{Admitted, Class};
 pub use known::Known;
+pub use paths::set_of;

@@ -2,7 +2,7 @@
 use Rattle.std.proofs.Common.{◌≡◌, false, refl}
 use Rattle.model.specs.declared.refusal.Refusal.TheVariants.{UnknownUser}
 use Rattle.model.specs.Worlds.{Setup, is_user}
-use Rattle.model.specs.Events.{Request, AddSource, AddDerivation, Fetch}
+use Rattle.model.specs.Events.{Request, AddSource, AddDerivation, Offer, Fetch}
 use Rattle.model.specs.Replies.{is_failure}
 use Rattle.model.specs.Outcomes.{Sight, sight_of, Outcome, reply_of}
 use Rattle.model.specs.Steps.{outcome}
@@ -10,6 +10,7 @@ use Rattle.model.specs.Laws.{NeverFails}
 use Rattle.model.proofs.OutcomeLemmas.{checked}
 use Rattle.model.proofs.SourceRequestLemmas.{add_source_cases, fetch_cases}
 use Rattle.model.proofs.DerivationRequestLemmas.{add_derivation_cases}
+use Rattle.model.proofs.OfferRequestLemmas.{offer_cases}
 
 -- an outcome that is answered with no failure
 abbrev IsOwn : Outcome → Type 0
@@ -21,6 +22,8 @@ outcome_own setup s (AddSource name tree) = add_source_cases IsOwn setup s.desk 
 outcome_own setup s (AddDerivation text) =
     add_derivation_cases IsOwn setup s.desk text
     (record { had = λ a. refl; added = λ derivation a is. refl; over = refl; unread = refl; missing = refl; high = refl }) (λ large. refl)
+outcome_own setup s (Offer path tree) =
+    offer_cases IsOwn setup s.desk path tree (record { had = λ r. refl; added = λ r. refl; over = refl; refused = λ why. refl; unknown = λ absent. refl })
 outcome_own setup s (Fetch path) = fetch_cases IsOwn s.desk path (λ tree held. refl) (λ absent. refl)
 
 pub no_failure : NeverFails

@@ -7,8 +7,8 @@ use Rattle.model.specs.declared.refusal.Refusal.TheVariants.{UnknownUser}
 use Rattle.model.specs.Derivations.{Derivation}
 use Rattle.model.specs.DerivationTexts.{derivation_of_text}
 use Rattle.model.specs.Classes.{Admission, known_at, derivation_path, admit}
-use Rattle.model.specs.Worlds.{Source, Desk, World, nothing, Setup, is_user, with_source, known_of, with_derivation}
-use Rattle.model.specs.Events.{Request, AddSource, AddDerivation, Fetch, Event}
+use Rattle.model.specs.Worlds.{Source, Record, Desk, World, nothing, Setup, is_user, with_source, known_of, with_derivation, with_record}
+use Rattle.model.specs.Events.{Request, AddSource, AddDerivation, Offer, Fetch, Event}
 use Rattle.model.specs.Outcomes.{reaches, Sight, sight_of, News, Quiet, Outcome, heard, desk_after}
 use Rattle.model.specs.SourceRequests.{source_named}
 use Rattle.model.specs.Steps.{outcome, outcome_of, after, world_after}
@@ -16,6 +16,7 @@ use Rattle.model.specs.Laws.{desk_reached, adding, IsAdmitted, KnowledgeIsAdmitt
 use Rattle.model.proofs.BoolLemmas.{same_bytes}
 use Rattle.model.proofs.SourceRequestLemmas.{add_source_cases, fetch_cases}
 use Rattle.model.proofs.DerivationRequestLemmas.{IsAdmission, add_derivation_cases}
+use Rattle.model.proofs.OfferRequestLemmas.{offer_cases}
 
 -- ---- what a request does to what its user knows
 
@@ -61,6 +62,10 @@ outcome_fits setup s (AddDerivation text) =
     λ derivation a is. record { text = text; asked = refl; derivation = derivation; read = is.read; new = is.new; admission = a; admitted = is.admitted; derivations = refl; sources = refl } in
     add_derivation_cases (DeskFits (AddDerivation text) s.desk) setup s.desk text
     (record { had = λ a. inl (keeps_itself s.desk); added = λ derivation a is. inr (admits derivation a is); over = tt; unread = tt; missing = tt; high = tt }) (λ large. tt)
+outcome_fits setup s (Offer path tree) =
+    let keeps : (r : Record) → Keeps s.desk (with_record r s.desk) = λ r. record { derivations = refl; added = []; sources = sym (append-nil s.desk.sources) } in
+    offer_cases (DeskFits (Offer path tree) s.desk) setup s.desk path tree
+    (record { had = λ r. inl (keeps_itself s.desk); added = λ r. inl (keeps r); over = tt; refused = λ why. tt; unknown = λ absent. tt })
 outcome_fits setup s (Fetch path) = fetch_cases (DeskFits (Fetch path) s.desk) s.desk path (λ tree held. inl (keeps_itself s.desk)) (λ absent. tt)
 
 -- ---- one event

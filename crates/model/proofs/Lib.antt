@@ -4,6 +4,7 @@ pub mod AgreeLemmas
 pub mod OutcomeLemmas
 pub mod SourceRequestLemmas
 pub mod DerivationRequestLemmas
+pub mod OfferRequestLemmas
 pub mod FailureLemmas
 pub mod StrikeLemmas
 pub mod KnowledgeLemmas

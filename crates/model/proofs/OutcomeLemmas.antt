@@ -3,9 +3,9 @@ use Rattle.std.proofs.Common.{◌≡◌, Bool, true, false, refl, Option, Some, 
 use Rattle.std.specs.Prelude.{if◌then◌else◌}
 use Rattle.model.specs.declared.refusal.Refusal.{Refusal}
 use Rattle.model.specs.declared.refusal.Refusal.TheVariants.{Quota}
-use Rattle.model.specs.Worlds.{Setup, Desk, is_within}
-use Rattle.model.specs.Events.{Reply}
-use Rattle.model.specs.Outcomes.{Change, Outcome, becomes, check, need, then_do, room}
+use Rattle.model.specs.Worlds.{Setup, Desk, is_within, Entry, path_of_entry, has_entry, with_entry}
+use Rattle.model.specs.Events.{Reply, Path}
+use Rattle.model.specs.Outcomes.{Change, Outcome, becomes, check, need, then_do, room, add_entry}
 
 module _ (P : Outcome → Type 0) where
   pub one_of : (b : Bool) (o p : Outcome) → (b ≡ true → P o) → (b ≡ false → P p) → P (if b then o else p)
@@ -25,6 +25,12 @@ module _ (P : Outcome → Type 0) where
 
   pub roomed : (setup : Setup) (d : Desk) (reply : Reply) → P (becomes d reply) → P (Err Quota) → P (room setup d reply)
   roomed setup d reply fits over = checked Quota (is_within setup d) (becomes d reply) (λ within. fits) (λ outside. over)
+
+  -- an entry is there, is added, or is one too many
+  pub entry_added : (setup : Setup) (d : Desk) (e : Entry) → P (becomes d (Path (path_of_entry e))) → P (becomes (with_entry e d) (Path (path_of_entry e))) → P (Err Quota) → P (add_entry setup d e)
+  entry_added setup d e had added over =
+      one_of (has_entry e d) (becomes d (Path (path_of_entry e))) (room setup (with_entry e d) (Path (path_of_entry e))) (λ there. had)
+      (λ absent. roomed setup (with_entry e d) (Path (path_of_entry e)) added over)
 
 -- one thing holds of an outcome's change, and another of its refusal
 abbrev pub Holds : (Change → Type 0) → (Refusal → Type 0) → Outcome → Type 0

@@ -121,7 +121,7 @@ admit_parts known d a h = if_ok (has_all known d) (nat_le (class_of known d).ran
 abbrev admission_over : Derivation → List (List ℕ) → List ℕ → Admission
 admission_over d masks ranks =
     let masked : List ℕ = sha256 (derivation_text (record d { inputs = sorted masks })) in
-    record { path = derivation_path d; class = record { path = store_path OutputClass masked (name_of d); rank = 1 + greatest ranks }; masked = masked }
+    record { derivation = d; path = derivation_path d; class = record { path = store_path OutputClass masked (name_of d); rank = 1 + greatest ranks }; masked = masked }
 
 -- it depends on what is known of the inputs alone
 admission_agrees : (old new : Known) (d : Derivation) → ((path : List ℕ) → is_among path d.inputs ≡ true → known_at new path ≡ known_at old path) → admission_of new d ≡ admission_of old d

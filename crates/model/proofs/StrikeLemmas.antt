@@ -4,7 +4,7 @@ use Rattle.std.specs.Prelude.{◌&&◌, filter, bytes_eq, if◌then◌else◌}
 use Rattle.std.specs.List.{list_any}
 use Rattle.model.specs.Reach.{is_among}
 use Rattle.model.specs.Worlds.{Desk, World, nothing, Setup, is_user}
-use Rattle.model.specs.Events.{Request, AddSource, AddDerivation, Fetch, Event, Reply}
+use Rattle.model.specs.Events.{Request, AddSource, AddDerivation, Offer, Fetch, Event, Reply}
 use Rattle.model.specs.Outcomes.{reaches, Sight, sight_of, News, Quiet, Outcome, heard, reply_of, desk_after}
 use Rattle.model.specs.Steps.{outcome, outcome_of, after, answers, replies_to, replies}
 use Rattle.model.specs.Striking.{asks_to_trust, gives_trust, ever, strike}
@@ -13,6 +13,7 @@ use Rattle.model.proofs.ReachLemmas.{leads-IsLeast}
 use Rattle.model.proofs.AgreeLemmas.{Agree, leads_agree, outcome_agree}
 use Rattle.model.proofs.SourceRequestLemmas.{add_source_cases, fetch_cases}
 use Rattle.model.proofs.DerivationRequestLemmas.{add_derivation_cases}
+use Rattle.model.proofs.OfferRequestLemmas.{offer_cases}
 
 -- ---- what a request does to whom its user trusts
 
@@ -28,6 +29,9 @@ outcome_fits setup s (AddSource name tree) =
 outcome_fits setup s (AddDerivation text) =
     add_derivation_cases (TrustFits setup s.desk.trusted (AddDerivation text)) setup s.desk text
     (record { had = λ a y t. inl t; added = λ derivation a is y t. inl t; over = tt; unread = tt; missing = tt; high = tt }) (λ large. tt)
+outcome_fits setup s (Offer path tree) =
+    offer_cases (TrustFits setup s.desk.trusted (Offer path tree)) setup s.desk path tree
+    (record { had = λ r y t. inl t; added = λ r y t. inl t; over = tt; refused = λ why. tt; unknown = λ absent. tt })
 outcome_fits setup s (Fetch path) = fetch_cases (TrustFits setup s.desk.trusted (Fetch path)) s.desk path (λ tree held y t. inl t) (λ absent. tt)
 
 -- ---- one desk after an outcome

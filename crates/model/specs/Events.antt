@@ -7,6 +7,7 @@ use Rattle.model.specs.Archives.{Tree}
 pub data Request : Type 0 where
   AddSource : (name : List ℕ) → (tree : Tree) → Request
   AddDerivation : (text : List ℕ) → Request
+  Offer : (derivation : List ℕ) → (tree : Tree) → Request
   Fetch : (path : List ℕ) → Request
 
 -- a request and the user who makes it

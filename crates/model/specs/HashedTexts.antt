@@ -1,15 +1,17 @@
 -- The texts whose SHA-256 is taken when events are run.
 use Rattle.std.specs.Prelude.{ℕ, if◌then◌else◌, List, [], ◌∷◌, ◌++◌}
 use Rattle.model.specs.Worlds.{Setup, is_user, World}
-use Rattle.model.specs.Events.{Request, AddSource, AddDerivation, Fetch, Event}
+use Rattle.model.specs.Events.{Request, AddSource, AddDerivation, Offer, Fetch, Event}
 use Rattle.model.specs.SourceRequests.{source_texts}
 use Rattle.model.specs.DerivationRequests.{derivation_texts}
+use Rattle.model.specs.OfferRequests.{offer_texts}
 use Rattle.model.specs.Steps.{after}
 
 -- those of a request that a user makes in a world
 abbrev pub texts_of : Setup → World → List ℕ → Request → List (List ℕ)
 texts_of setup w u (AddSource name tree) = source_texts name tree
 texts_of setup w u (AddDerivation text) = derivation_texts (w u) text
+texts_of setup w u (Offer derivation tree) = offer_texts (w u) derivation tree
 texts_of setup w u (Fetch path) = []
 
 -- those of one event; of a stranger's nothing is hashed

@@ -57,7 +57,7 @@ KnowledgeIsAdmitted = (setup : Setup) (events : List Event) (u : List ℕ) (i : 
 
 -- what is to be known of the derivation in the file at a path, by recursion over those in the files at the paths of its inputs, to a depth
 unfoldable pub admission_by : (List ℕ → Derivation) → ℕ → List ℕ → Admission
-admission_by file zero path = record { path = path; class = record { path = []; rank = 0 }; masked = [] }
+admission_by file zero path = record { derivation = file path; path = path; class = record { path = []; rank = 0 }; masked = [] }
 admission_by file (suc depth) path =
     admission_of (record { derivations = map (admission_by file depth) (file path).inputs; sources = (file path).sources }) (file path)
 

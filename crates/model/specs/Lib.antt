@@ -13,11 +13,13 @@ pub mod Reach
 pub mod Classes
 pub mod Limits
 pub mod Worlds
+pub mod References
 pub mod Events
 pub mod Replies
 pub mod Outcomes
 pub mod SourceRequests
 pub mod DerivationRequests
+pub mod OfferRequests
 pub mod Steps
 pub mod Striking
 pub mod HashedTexts

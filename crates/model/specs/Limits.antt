@@ -9,6 +9,10 @@ most_sources = 1024
 abbrev pub most_derivations : ℕ
 most_derivations = 1024
 
+-- the most records of a user
+abbrev pub most_records : ℕ
+most_records = 4096
+
 -- the most bytes of a derivation's text
 abbrev pub most_derivation_bytes : ℕ
 most_derivation_bytes = 1048576

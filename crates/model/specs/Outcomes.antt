@@ -3,8 +3,8 @@ use Rattle.std.specs.Prelude.{ℕ, Bool, if◌then◌else◌, List, bytes_eq, Op
 use Rattle.model.specs.declared.refusal.Refusal.{Refusal}
 use Rattle.model.specs.declared.refusal.Refusal.TheVariants.{Quota}
 use Rattle.model.specs.Reach.{leads}
-use Rattle.model.specs.Worlds.{Setup, Desk, World, is_within}
-use Rattle.model.specs.Events.{Reply, Refused}
+use Rattle.model.specs.Worlds.{Setup, Desk, World, is_within, Entry, path_of_entry, has_entry, with_entry}
+use Rattle.model.specs.Events.{Reply, Path, Refused}
 
 -- ---- what a user sees of a world
 
@@ -61,6 +61,10 @@ then_do (Ok x) next = next x
 -- a new desk, if it is within the limits
 abbrev pub room : Setup → Desk → Reply → Outcome
 room setup d r = check Quota (is_within setup d) (becomes d r)
+
+-- an entry more, whose path is told; one that the desk has already is only told
+abbrev pub add_entry : Setup → Desk → Entry → Outcome
+add_entry setup d e = if has_entry e d then becomes d (Path (path_of_entry e)) else room setup (with_entry e d) (Path (path_of_entry e))
 
 -- ---- what comes of an outcome
 

@@ -1,7 +1,7 @@
 -- Tests of refusals and of replies.
 use Rattle.std.specs.Prelude.{Bool, true, false, ◌||◌}
 use Rattle.model.specs.declared.refusal.Refusal.{Refusal}
-use Rattle.model.specs.declared.refusal.Refusal.TheVariants.{UnknownUser, TooLarge, NotHeld, Memory, Clash, Stopped}
+use Rattle.model.specs.declared.refusal.Refusal.TheVariants.{UnknownUser, TooLarge, UnknownDerivation, NotHeld, Memory, Clash, Stopped}
 use Rattle.model.specs.Events.{Reply, Refused}
 
 -- ---- refusals
@@ -22,11 +22,12 @@ is_stopped_refusal why = false
 abbrev pub is_failure_refusal : Refusal → Bool
 is_failure_refusal why = is_memory_refusal why || (is_clash_refusal why || is_stopped_refusal why)
 
--- whether no memory is needed to find it: that of a stranger, of a path that is not held, of a text that is too long
+-- whether no memory is needed to find it: that of a stranger, of a path that is not held, of a text that is too long, of a derivation that is not there
 abbrev pub needs_no_memory : Refusal → Bool
 needs_no_memory UnknownUser = true
 needs_no_memory NotHeld = true
 needs_no_memory TooLarge = true
+needs_no_memory UnknownDerivation = true
 needs_no_memory why = false
 
 -- ---- replies

@@ -1,16 +1,16 @@
 -- How a tree gets its path: hashed with its own hash part blanked, which is then replaced by the path's.
 -- Dolstra 2006, section 6.3.1 (hashing modulo self-references).
-use Rattle.std.specs.Prelude.{◌≡◌, ℕ, ◌+◌, ◌≤◌, Bool, ◌&&◌, ◌||◌, not, true, false, if◌then◌else◌, List, [], ◌∷◌, ◌++◌, length, take, drop, map, filter, replicate, codes, bytes_eq, decimal, Option, Some, None, Result, Ok, Err}
+use Rattle.std.specs.Prelude.{◌≡◌, ℕ, ◌+◌, ◌≤◌, Bool, if◌then◌else◌, List, [], ◌∷◌, ◌++◌, take, drop, map, filter, replicate, codes, bytes_eq, decimal, All, Contains, Option, Some, None, Result, Ok, Err}
 use Rattle.std.specs.List.{list_any}
 use Rattle.sha2.specs.Sha256.{sha256}
 use Rattle.model.specs.declared.refusal.RewriteFault.{RewriteFault}
-use Rattle.model.specs.declared.refusal.RewriteFault.TheVariants.{InName, Overlap, Accidental}
+use Rattle.model.specs.declared.refusal.RewriteFault.TheVariants.{Accidental}
 use Rattle.std.specs.Prelude.{refl}
 use Rattle.std.specs.Coded.{Coded, code_by, coded×, coded_ℕ, coded_list}
 use Rattle.model.specs.TreeCode.{tree_code}
 use Rattle.model.specs.Archives.{Tree, IsTree, nar}
-use Rattle.model.specs.Paths.{Output, store_path, source_path}
-use Rattle.model.specs.Occurrences.{Place, among, occurrences, fault}
+use Rattle.model.specs.Paths.{Source, Output, with_fingerprint, store_path, source_path, IsPath}
+use Rattle.model.specs.Occurrences.{IsHashPart, Place, among, occurrences, fault}
 use Rattle.model.specs.Substitutions.{Images, written, put, is_true_put}
 
 -- ---- the blanked text
@@ -95,6 +95,25 @@ settled tree own candidates name =
     let keys = among (sought own candidates) in
     unless (fault keys tree) (settled_at tree own candidates name (occurrences keys tree))
 
+-- ---- what is hashed
+
+-- the texts that the path of a tree is made of, where the hash parts sought have these places
+abbrev pub path_texts : Tree → List ℕ → List (List ℕ) → List ℕ → List Place → List (List ℕ)
+path_texts tree own candidates name places =
+    with_fingerprint (Output (references_of candidates places) (stands_in places own)) (blanked_text (own_offsets_of own places) (nar tree)) name
+
+abbrev pub unless_refused : Option RewriteFault → List (List ℕ) → List (List ℕ)
+unless_refused None texts = texts
+unless_refused (Some why) texts = []
+
+-- those that are hashed when a tree is settled: none where its hash parts cannot be put anew
+unfoldable pub settling_texts : Tree → List ℕ → List (List ℕ) → List ℕ → List (List ℕ)
+settling_texts tree own candidates name =
+    let keys = among (sought own candidates) in
+    unless_refused (fault keys tree) (path_texts tree own candidates name (occurrences keys tree))
+
+-- ---- trees with their paths
+
 -- by which the prover tells settled trees apart
 abbrev pub settled_code : Coded Settled
 settled_code =
@@ -105,3 +124,9 @@ settled_code =
 pub data IsNamed (value : Settled) : Type 0 where
   Built : (tree : Tree) → (own : List ℕ) → (candidates : List (List ℕ)) → (name : List ℕ) → IsTree tree → settled tree own candidates name ≡ Ok value → IsNamed value
   Given : (tree : Tree) → (name : List ℕ) → IsTree tree → value ≡ given tree name → IsNamed value
+
+-- a tree with its path, which was made by texts that are all among these
+pub data IsMade (texts : List (List ℕ)) (value : Settled) : Type 0 where
+  MadeOutput : (tree : Tree) → (own : List ℕ) → (candidates : List (List ℕ)) → (name : List ℕ) → IsTree tree → IsHashPart own → All IsPath candidates
+      → settled tree own candidates name ≡ Ok value → All (Contains texts) (settling_texts tree own candidates name) → IsMade texts value
+  MadeSource : (tree : Tree) → (name : List ℕ) → IsTree tree → value ≡ given tree name → All (Contains texts) (with_fingerprint Source (nar tree) name) → IsMade texts value

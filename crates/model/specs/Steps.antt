@@ -2,10 +2,11 @@
 use Rattle.std.specs.Prelude.{ℕ, if◌then◌else◌, List, [], ◌∷◌, bytes_eq}
 use Rattle.model.specs.declared.refusal.Refusal.TheVariants.{UnknownUser}
 use Rattle.model.specs.Worlds.{Setup, is_user, World, nothing}
-use Rattle.model.specs.Events.{Request, AddSource, AddDerivation, Fetch, Event, Reply, Answer}
+use Rattle.model.specs.Events.{Request, AddSource, AddDerivation, Offer, Fetch, Event, Reply, Answer}
 use Rattle.model.specs.Outcomes.{reaches, Sight, sight_of, Outcome, check, reply_of, desk_after}
 use Rattle.model.specs.SourceRequests.{add_source, fetch}
 use Rattle.model.specs.DerivationRequests.{add_derivation}
+use Rattle.model.specs.OfferRequests.{offer}
 
 -- ---- one event
 
@@ -13,6 +14,7 @@ use Rattle.model.specs.DerivationRequests.{add_derivation}
 unfoldable pub outcome : Setup → Sight → Request → Outcome
 outcome setup s (AddSource name tree) = add_source setup s.desk name tree
 outcome setup s (AddDerivation text) = add_derivation setup s.desk text
+outcome setup s (Offer derivation tree) = offer setup s.desk derivation tree
 outcome setup s (Fetch path) = fetch s.desk path
 
 -- the outcome of an event

@@ -1,7 +1,7 @@
 -- The verbs of lines. Each has a row in each of these tables: its word in a line, the kinds of the words behind it, and the request that they make.
 use Rattle.std.specs.Prelude.{◌≡◌, ℕ, if◌then◌else◌, List, [], ◌∷◌, bytes_eq, codes, Option, None, Some}
 use Rattle.model.specs.declared.verb.Verb.{Verb}
-use Rattle.model.specs.declared.verb.Verb.TheVariants.{Source, Derivation, Fetch}
+use Rattle.model.specs.declared.verb.Verb.TheVariants.{Source, Derivation, Offer, Fetch}
 use Rattle.model.specs.declared.verb.WordKind.{WordKind}
 use Rattle.model.specs.declared.verb.WordKind.TheVariants as kind
 use Rattle.model.specs.Archives.{Tree}
@@ -14,6 +14,7 @@ abbrev pub verb_of : List ℕ → Option Verb
 verb_of word =
     if bytes_eq word (codes "source") then Some Source
     else if bytes_eq word (codes "derivation") then Some Derivation
+    else if bytes_eq word (codes "offer") then Some Offer
     else if bytes_eq word (codes "fetch") then Some Fetch
     else None
 
@@ -21,11 +22,13 @@ verb_of word =
 abbrev pub kinds_of : Verb → List WordKind
 kinds_of Source = kind.Name ∷ kind.Tree ∷ []
 kinds_of Derivation = kind.Text ∷ []
+kinds_of Offer = kind.Path ∷ kind.Tree ∷ []
 kinds_of Fetch = kind.Path ∷ []
 
 -- the request that it makes of its words
 abbrev pub IsRequestOf : Verb → List (List ℕ) → Request → Type 0
 IsRequestOf Source (name ∷ word ∷ []) request = (tree : Tree) × IsTreeText word tree × (request ≡ events.AddSource name tree)
 IsRequestOf Derivation (text ∷ []) request = request ≡ events.AddDerivation text
+IsRequestOf Offer (path ∷ word ∷ []) request = (tree : Tree) × IsTreeText word tree × (request ≡ events.Offer path tree)
 IsRequestOf Fetch (path ∷ []) request = request ≡ events.Fetch path
 IsRequestOf verb words request = ⊥

@@ -1,12 +1,13 @@
 -- The store as private desks: each user has his own, and nothing is shared.
 -- Dolstra 2006, section 6.2, has the table of realisations of one user; the limits are this project's.
-use Rattle.std.specs.Prelude.{ℕ, nat_lt, nat_le, Bool, ◌&&◌, ◌||◌, false, true, not, List, [], ◌∷◌, ◌++◌, length, filter, find, map, sum_by, bytes_eq, option_map, Option}
+use Rattle.std.specs.Prelude.{ℕ, nat_lt, nat_le, Bool, ◌&&◌, ◌||◌, false, true, not, if◌then◌else◌, List, [], ◌∷◌, ◌++◌, length, find, map, sum_by, bytes_eq, option_map, Option, None, Some}
 use Rattle.std.specs.List.{list_any, list_all}
+use Rattle.std.specs.Cmp.Lexicographic.{pointwise}
 use Rattle.model.specs.Archives.{Tree, nar}
 use Rattle.model.specs.Characters.{is_lower_case, is_digit}
 use Rattle.model.specs.Reach.{is_among}
-use Rattle.model.specs.Classes.{Admission, Known}
-use Rattle.model.specs.Limits.{most_sources, most_derivations}
+use Rattle.model.specs.Classes.{Class, Admission, Known}
+use Rattle.model.specs.Limits.{most_sources, most_derivations, most_records}
 
 -- ---- users
 
@@ -42,18 +43,31 @@ pub record Source : Type 0 where
   pub path : List ℕ
   pub tree : Tree
 
--- all that one user has: whom he trusts, his sources, and what is known of his derivations, the oldest first
+-- a path that a tree refers to: an output of a class, or, with none, a source
+pub record Label : Type 0 where
+  pub path : List ℕ
+  pub class : Option Class
+
+-- what was built for a class: its path, its tree, and a label for each other path that the tree refers to, in the order of paths
+pub record Record : Type 0 where
+  pub class : Class
+  pub path : List ℕ
+  pub tree : Tree
+  pub labels : List Label
+
+-- all that one user has: whom he trusts, his sources, what is known of his derivations, and what was built for them, the oldest first
 pub record Desk : Type 0 where
   pub trusted : List ℕ → Bool
   pub sources : List Source
   pub derivations : List Admission
+  pub records : List Record
 
 -- for each user, by his name, a desk
 abbrev pub World : Type 0
 World = List ℕ → Desk
 
 abbrev pub empty_desk : Desk
-empty_desk = record { trusted = λ _. false; sources = []; derivations = [] }
+empty_desk = record { trusted = λ _. false; sources = []; derivations = []; records = [] }
 
 -- all desks are empty
 abbrev pub nothing : World
@@ -61,22 +75,26 @@ nothing user = empty_desk
 
 -- ---- holding and charge
 
--- what a user holds
-abbrev pub held : Desk → List Source
-held d = d.sources
+-- the tree of a record, with its path
+abbrev pub tree_of_record : Record → Source
+tree_of_record r = record { path = r.path; tree = r.tree }
 
--- the first at each path
-unfoldable pub first_of_each : List Source → List Source
-first_of_each [] = []
-first_of_each (s ∷ ss) = s ∷ filter (λ t. not (bytes_eq t.path s.path)) (first_of_each ss)
+-- what a user holds: his sources, and the trees of his records
+abbrev pub held : Desk → List Source
+held d = d.sources ++ map tree_of_record d.records
+
+-- one for each path
+unfoldable pub one_of_each : List Source → List Source
+one_of_each [] = []
+one_of_each (s ∷ ss) = if list_any (λ t. bytes_eq t.path s.path) ss then one_of_each ss else s ∷ one_of_each ss
 
 -- the sum of the archive lengths of the distinct paths that a user holds, in bytes
 unfoldable pub charge_of : Desk → ℕ
-charge_of d = sum_by (λ s. length (nar s.tree)) (first_of_each (held d))
+charge_of d = sum_by (λ s. length (nar s.tree)) (one_of_each (held d))
 
 -- whether a desk is within every limit
 unfoldable pub is_within : Setup → Desk → Bool
-is_within setup d = nat_le (length d.sources) most_sources && (nat_le (length d.derivations) most_derivations && nat_le (charge_of d) setup.charge)
+is_within setup d = nat_le (length d.sources) most_sources && (nat_le (length d.derivations) most_derivations && (nat_le (length d.records) most_records && nat_le (charge_of d) setup.charge))
 
 -- the tree at a path among sources
 abbrev pub tree_at : List ℕ → List Source → Option Tree
@@ -86,12 +104,50 @@ tree_at path sources = option_map (λ s. s.tree) (find (λ s. bytes_eq s.path pa
 abbrev pub held_at : List ℕ → Desk → Option Tree
 held_at path d = tree_at path (held d)
 
+-- ---- entries
+
+abbrev pub same_class : Option Class → Option Class → Bool
+same_class None None = true
+same_class None (Some c) = false
+same_class (Some b) None = false
+same_class (Some b) (Some c) = bytes_eq b.path c.path
+
+abbrev pub same_label : Label → Label → Bool
+same_label k l = bytes_eq k.path l.path && same_class k.class l.class
+
+-- records of one class at one path, with the same labels: where no texts clash, one path has one tree
+abbrev pub same_record : Record → Record → Bool
+same_record q r = bytes_eq q.class.path r.class.path && (bytes_eq q.path r.path && pointwise same_label q.labels r.labels)
+
 abbrev pub has_source : List ℕ → Desk → Bool
 has_source path d = list_any (λ s. bytes_eq s.path path) d.sources
 
--- a desk with one source more
+abbrev pub has_record : Record → Desk → Bool
+has_record r d = list_any (λ q. same_record q r) d.records
+
+-- a desk with one source more, and with one record more
 abbrev pub with_source : Source → Desk → Desk
 with_source s d = record d { sources = d.sources ++ s ∷ [] }
+
+abbrev pub with_record : Record → Desk → Desk
+with_record r d = record d { records = d.records ++ r ∷ [] }
+
+-- what is put on a desk at a path: a source, or what was built for a class
+pub data Entry : Type 0 where
+  OfSource : Source → Entry
+  OfRecord : Record → Entry
+
+abbrev pub path_of_entry : Entry → List ℕ
+path_of_entry (OfSource s) = s.path
+path_of_entry (OfRecord r) = r.path
+
+abbrev pub has_entry : Entry → Desk → Bool
+has_entry (OfSource s) d = has_source s.path d
+has_entry (OfRecord r) d = has_record r d
+
+abbrev pub with_entry : Entry → Desk → Desk
+with_entry (OfSource s) d = with_source s d
+with_entry (OfRecord r) d = with_record r d
 
 -- ---- derivations
 

@@ -25,6 +25,8 @@ pub enum Verb {
     Source,
     /// `derivation`: to add the derivation of a text.
     Derivation,
+    /// `offer`: to add a tree as the output of the derivation in the file at a path.
+    Offer,
     /// `fetch`: the tree at a path.
     Fetch,
 }
@@ -38,6 +40,8 @@ impl Verb {
             Some(Verb::Source)
         } else if word == b"derivation".as_slice() {
             Some(Verb::Derivation)
+        } else if word == b"offer".as_slice() {
+            Some(Verb::Offer)
         } else if word == b"fetch".as_slice() {
             Some(Verb::Fetch)
         } else {
@@ -52,6 +56,7 @@ impl Verb {
         match self {
             Verb::Source => &[WordKind::Name, WordKind::Tree],
             Verb::Derivation => &[WordKind::Text],
+            Verb::Offer => &[WordKind::Path, WordKind::Tree],
             Verb::Fetch => &[WordKind::Path],
         }
     }

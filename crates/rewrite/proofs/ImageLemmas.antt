@@ -18,7 +18,8 @@ use Rattle.rewrite.specs.Settled.{HasPartsOf}
 use Rattle.rewrite.specs.Tables.{first_image, with_first, IsTable}
 
 bytes_eq_sym : (a b : List ℕ) → bytes_eq a b ≡ bytes_eq b a
-bytes_eq_sym a b = same_from_decides (bytes_eq a b) (bytes_eq b a) (bytes_eq-Decides a b) (λ t. sym ((bytes_eq-Decides b a).0 t), λ e. (bytes_eq-Decides b a).1 (sym e))
+bytes_eq_sym a b = same_from_decides (bytes_eq a b) (bytes_eq b a) (bytes_eq-Decides a b)
+    (λ t. sym ((bytes_eq-Decides b a).0 t), λ e. (bytes_eq-Decides b a).1 (sym e))
 
 AreImages-more : (images : Images) (key image : List ℕ) → AreImages images → IsHashPart key → IsHashPart image → AreImages (images ++ (key, image) ∷ [])
 AreImages-more [] key image are is is_too = (is, is_too, tt)
@@ -32,12 +33,14 @@ or_last (Some image) same last = Some image
 or_last None true last = Some last
 or_last None false last = None
 
-first_image-push : (images : Images) (key image sought : List ℕ) → first_image (images ++ (key, image) ∷ []) sought ≡ or_last (first_image images sought) (bytes_eq key sought) image
+first_image-push : (images : Images) (key image sought : List ℕ) → first_image (images ++ (key, image) ∷ []) sought ≡ or_last (first_image images sought)
+    (bytes_eq key sought) image
 first_image-push [] key image sought = elim (cases_Bool (bytes_eq key sought)) [ inl t ↦ rw t refl | inr f ↦ rw f refl ]
 first_image-push (e ∷ es) key image sought =
     elim (cases_Bool (bytes_eq e.0 sought)) [ inl t ↦ rw t refl | inr f ↦ rw f (first_image-push es key image sought) ]
 
-lookup-push : (entries : List (List ℕ × List ℕ)) (key image sought : List ℕ) → lookup (bytes_eq sought) (entries ++ (key, image) ∷ []) ≡ or_last (lookup (bytes_eq sought) entries) (bytes_eq key sought) image
+lookup-push : (entries : List (List ℕ × List ℕ)) (key image sought : List ℕ) → lookup (bytes_eq sought) (entries ++ (key, image) ∷ []) ≡ or_last
+    (lookup (bytes_eq sought) entries) (bytes_eq key sought) image
 lookup-push [] key image sought =
     let back = bytes_eq_sym sought key in
     elim (cases_Bool (bytes_eq key sought)) [ inl t ↦ rw (back, t) refl | inr f ↦ rw (back, f) refl ]
@@ -55,7 +58,8 @@ table_kept : (images : Images) (entries : List (List ℕ × List ℕ)) (key imag
 table_kept images entries key image is key_is image_is known = record {
   are = AreImages-more images key image is.are key_is image_is;
   same = λ sought.
-      let there : bytes_eq key sought ≡ true → is_some (lookup (bytes_eq sought) entries) ≡ true = λ t. (let e = (bytes_eq-Decides key sought).0 t in rw (← e) known) in
+      let there : bytes_eq key sought ≡ true → is_some (lookup (bytes_eq sought) entries) ≡ true =
+      λ t. (let e = (bytes_eq-Decides key sought).0 t in rw (← e) known) in
       known_stays (lookup (bytes_eq sought) entries) (bytes_eq key sought) image there ∙ ap (λ o. or_last o (bytes_eq key sought) image) (is.same sought)
       ∙ sym (first_image-push images key image sought);
 }
@@ -65,7 +69,8 @@ table_more : (images : Images) (entries : List (List ℕ × List ℕ)) (key imag
     → IsTable (images ++ (key, image) ∷ []) (entries ++ (key, image) ∷ [])
 table_more images entries key image is key_is image_is = record {
   are = AreImages-more images key image is.are key_is image_is;
-  same = λ sought. lookup-push entries key image sought ∙ ap (λ o. or_last o (bytes_eq key sought) image) (is.same sought) ∙ sym (first_image-push images key image sought);
+  same = λ sought. lookup-push entries key image sought ∙ ap (λ o. or_last o (bytes_eq key sought) image) (is.same sought)
+      ∙ sym (first_image-push images key image sought);
 }
 
 pub table_added : (images : Images) (entries : List (List ℕ × List ℕ)) (key image : List ℕ) → IsTable images entries → IsHashPart key → IsHashPart image
@@ -86,7 +91,8 @@ keys_of-first : (images : Images) (key : List ℕ) → among (keys_of images) ke
 keys_of-first [] key = refl
 keys_of-first (e ∷ es) key = elim (cases_Bool (bytes_eq e.0 key)) [ inl t ↦ rw t refl | inr f ↦ rw f (keys_of-first es key) ]
 
-pub image_found : (images : Images) (entries : List (List ℕ × List ℕ)) (key : List ℕ) (o : Option (List ℕ)) → IsTable images entries → o ≡ lookup (bytes_eq key) entries → unwrap_or o key ≡ image_of images key
+pub image_found : (images : Images) (entries : List (List ℕ × List ℕ)) (key : List ℕ) (o : Option (List ℕ)) → IsTable images entries
+    → o ≡ lookup (bytes_eq key) entries → unwrap_or o key ≡ image_of images key
 image_found images entries key o is found = ap (λ x. unwrap_or x key) (found ∙ is.same key) ∙ sym (image_of-first images key)
 
 abbrev differs : Option (List ℕ) → List ℕ → Bool
@@ -100,10 +106,12 @@ replaced_first (Some image) images key e =
     let b = image_of-first images key ∙ ap (λ x. unwrap_or x key) e in
     rw (a, b) refl
 
-pub is_replaced_none : (images : Images) (entries : List (List ℕ × List ℕ)) (key : List ℕ) → IsTable images entries → None ≡ lookup (bytes_eq key) entries → false ≡ is_replaced images key
+pub is_replaced_none : (images : Images) (entries : List (List ℕ × List ℕ)) (key : List ℕ) → IsTable images entries → None ≡ lookup (bytes_eq key) entries
+    → false ≡ is_replaced images key
 is_replaced_none images entries key is found = sym (replaced_first None images key (sym (found ∙ is.same key)))
 
-pub is_replaced_some : (images : Images) (entries : List (List ℕ × List ℕ)) (key image : List ℕ) → IsTable images entries → Some image ≡ lookup (bytes_eq key) entries → not (bytes_eq image key) ≡ is_replaced images key
+pub is_replaced_some : (images : Images) (entries : List (List ℕ × List ℕ)) (key image : List ℕ) → IsTable images entries
+    → Some image ≡ lookup (bytes_eq key) entries → not (bytes_eq image key) ≡ is_replaced images key
 is_replaced_some images entries key image is found = sym (replaced_first (Some image) images key (sym (found ∙ is.same key)))
 
 said_already : (a b : Bool) → (b ≡ true → a ≡ true) → a ≡ (a || (b || false))
@@ -113,31 +121,40 @@ said_already false false h = refl
 
 -- ---- the hash parts at places, and the candidates among them
 
-pub parts_more : (parts : List (List ℕ)) (places : List Place) (i : ℕ) (p : Place) → i < length places → p ≡ get_or places i p → HasPartsOf (take i places) parts
+pub parts_more : (parts : List (List ℕ)) (places : List Place) (i : ℕ) (p : Place) → i < length places → p ≡ get_or places i p
+    → HasPartsOf (take i places) parts
     → HasPartsOf (take (i + 1) places) (insert_key bytes_eq parts p.1)
 parts_more parts places i p inside here has part =
     let more : stands_in (take (i + 1) places) part ≡ (stands_in (take i places) part || (bytes_eq part p.1 || false)) =
     ap (λ ps. stands_in ps part) (take_more places i p inside) ∙ list_any-append (λ q. bytes_eq part q.1) (take i places) (get_or places i p ∷ [])
     ∙ ap (λ q. stands_in (take i places) part || (bytes_eq part q.1 || false)) (sym here) in
     elim (cases_Bool (list_any (bytes_eq p.1) parts)) [
-      | inl there ↦ rw there (has part ∙ said_already (stands_in (take i places) part) (bytes_eq part p.1) (λ t. (let e = (bytes_eq-Decides part p.1).0 t in sym (has part) ∙ ap (λ x. list_any (bytes_eq x) parts) e ∙ there)) ∙ sym more)
+      | inl there ↦ rw there (has part ∙ said_already (stands_in (take i places) part) (bytes_eq part p.1)
+          (λ t. (let e = (bytes_eq-Decides part p.1).0 t in sym (has part) ∙ ap (λ x. list_any (bytes_eq x) parts) e ∙ there)) ∙ sym more)
       | inr new ↦ rw new (list_any-append (bytes_eq part) parts (p.1 ∷ []) ∙ ap (λ b. b || (bytes_eq part p.1 || false)) (has part) ∙ sym more)
     ]
 
-references_more : (candidates : List (List ℕ)) (places : List Place) (i : ℕ) (path : List ℕ) (b : Bool) → i < length candidates → path ≡ get_or candidates i path → stands_in places (hash_part_in path) ≡ b
+references_more : (candidates : List (List ℕ)) (places : List Place) (i : ℕ) (path : List ℕ) (b : Bool) → i < length candidates
+    → path ≡ get_or candidates i path → stands_in places (hash_part_in path) ≡ b
     → references_of (take (i + 1) candidates) places ≡ references_of (take i candidates) places ++ (if b then path ∷ [] else [])
 references_more candidates places i path b inside here is =
     let test : List ℕ → Bool = λ c. stands_in places (hash_part_in c) in
-    let last : filter test (get_or candidates i path ∷ []) ≡ (if b then path ∷ [] else []) = ap (λ c. filter test (c ∷ [])) (sym here) ∙ ap (λ t. if t then path ∷ [] else []) is in
-    ap (filter test) (take_more candidates i path inside) ∙ filter-append test (take i candidates) (get_or candidates i path ∷ []) ∙ ap (λ rest. references_of (take i candidates) places ++ rest) last
+    let last : filter test (get_or candidates i path ∷ []) ≡ (if b then path ∷ [] else []) = ap (λ c. filter test (c ∷ [])) (sym here)
+    ∙ ap (λ t. if t then path ∷ [] else []) is in
+    ap (filter test) (take_more candidates i path inside) ∙ filter-append test (take i candidates) (get_or candidates i path ∷ [])
+    ∙ ap (λ rest. references_of (take i candidates) places ++ rest) last
 
-pub reference_taken : (candidates : List (List ℕ)) (places : List Place) (i : ℕ) (path : List ℕ) (paths : List (List ℕ)) → i < length candidates → path ≡ get_or candidates i path → stands_in places (hash_part_in path) ≡ true
+pub reference_taken : (candidates : List (List ℕ)) (places : List Place) (i : ℕ) (path : List ℕ) (paths : List (List ℕ)) → i < length candidates
+    → path ≡ get_or candidates i path → stands_in places (hash_part_in path) ≡ true
     → paths ≡ references_of (take i candidates) places → paths ++ path ∷ [] ≡ references_of (take (i + 1) candidates) places
-reference_taken candidates places i path paths inside here is before = ap (λ ps. ps ++ path ∷ []) before ∙ sym (references_more candidates places i path true inside here is)
+reference_taken candidates places i path paths inside here is before = ap (λ ps. ps ++ path ∷ []) before
+    ∙ sym (references_more candidates places i path true inside here is)
 
-pub reference_passed : (candidates : List (List ℕ)) (places : List Place) (i : ℕ) (path : List ℕ) (paths : List (List ℕ)) → i < length candidates → path ≡ get_or candidates i path → stands_in places (hash_part_in path) ≡ false
+pub reference_passed : (candidates : List (List ℕ)) (places : List Place) (i : ℕ) (path : List ℕ) (paths : List (List ℕ)) → i < length candidates
+    → path ≡ get_or candidates i path → stands_in places (hash_part_in path) ≡ false
     → paths ≡ references_of (take i candidates) places → paths ≡ references_of (take (i + 1) candidates) places
-reference_passed candidates places i path paths inside here is before = before ∙ sym (append-nil (references_of (take i candidates) places)) ∙ sym (references_more candidates places i path false inside here is)
+reference_passed candidates places i path paths inside here is before = before ∙ sym (append-nil (references_of (take i candidates) places))
+    ∙ sym (references_more candidates places i path false inside here is)
 
 pub none_there : (o : Option (List ℕ)) → is_some o ≡ false → o ≡ None
 none_there None h = refl

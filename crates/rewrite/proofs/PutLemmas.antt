@@ -61,18 +61,22 @@ pub Found-pieces : (keys : Keys) (n : ℕ) (ps : List Piece) → Found keys (pla
 Found-pieces keys n [] = tt
 Found-pieces keys n (Mark tag ∷ ps) = Found-pieces keys (n + length (archive_string tag)) ps
 Found-pieces keys n (Text role s ∷ ps) =
-    Found-append keys (places_in keys (n + 24) s) (places_of_pieces keys (n + length (piece_text (Text role s))) ps) (Found-places_in keys (n + 24) s) (Found-pieces keys (n + length (piece_text (Text role s))) ps)
+    Found-append keys (places_in keys (n + 24) s) (places_of_pieces keys (n + length (piece_text (Text role s))) ps) (Found-places_in keys (n + 24) s)
+    (Found-pieces keys (n + length (piece_text (Text role s))) ps)
 
-Inside-imaged : (images : Images) → AreImages images → (lo hi : ℕ) (ps : List Place) → Within lo hi ps → Found (among (keys_of images)) ps → Inside lo hi (imaged images ps)
+Inside-imaged : (images : Images) → AreImages images → (lo hi : ℕ) (ps : List Place) → Within lo hi ps → Found (among (keys_of images)) ps
+    → Inside lo hi (imaged images ps)
 Inside-imaged images are lo hi [] h k = tt
 Inside-imaged images are lo hi (p ∷ ps) h k =
     let long = (image_is_part images are p.1 k.0).length in
     (h.0, omega (arith, h.1, long), Inside-imaged images are lo hi ps h.2 k.1)
 
-pub Inside-pieces : (images : Images) → AreImages images → (n : ℕ) (ps : List Piece) → Inside n (n + length (joined ps)) (imaged images (places_of_pieces (among (keys_of images)) n ps))
+pub Inside-pieces : (images : Images) → AreImages images → (n : ℕ) (ps : List Piece)
+    → Inside n (n + length (joined ps)) (imaged images (places_of_pieces (among (keys_of images)) n ps))
 Inside-pieces images are n ps =
     let keys = among (keys_of images) in
-    Inside-imaged images are n (n + length (joined ps)) (places_of_pieces keys n ps) (Within-pieces keys (key_is_part images are) n ps) (Found-pieces keys n ps)
+    Inside-imaged images are n (n + length (joined ps)) (places_of_pieces keys n ps) (Within-pieces keys (key_is_part images are) n ps)
+    (Found-pieces keys n ps)
 
 Inside-places : (images : Images) → AreImages images → (n : ℕ) (s : List ℕ) → Inside n (n + length s) (imaged images (places_in (among (keys_of images)) n s))
 Inside-places images are n s =
@@ -107,7 +111,8 @@ regroup a l s z f = simp append_assoc
 
 text_parts : (role : Role) (s : List ℕ) → piece_text (Text role s) ≡ head_text role (length s) ++ (s ++ tail_text role (length s))
 unfolding archive_string
-text_parts role s = regroup (archive_string (mark_before role)) (to_le_bytes w64 (length s)) s (replicate ((8 - length s % 8) % 8) 0) (archive_string (mark_after role))
+text_parts role s = regroup (archive_string (mark_before role)) (to_le_bytes w64 (length s)) s (replicate ((8 - length s % 8) % 8) 0)
+    (archive_string (mark_after role))
 
 length-head_text : (role : Role) (n : ℕ) → length (head_text role n) ≡ 24
 length-head_text role n = omega (arith, length-append (archive_string (mark_before role)) (to_le_bytes w64 n), length-mark_before role)
@@ -124,9 +129,11 @@ written-piece images are n role s =
     let back : n + length head ≡ n + 24 = omega (arith, length-head_text role (length s)) in
     let inside = Inside-places images are (n + 24) s in
     let same : length s ≡ length (put_text images s) = sym (length-put_text images are s) in
-    ap (written n writes) (text_parts role s) ∙ written-right n (n + 24 + length s) writes head (s ++ tail) (Inside-wider (n + 24) (n + 24 + length s) (n + length head) (n + 24 + length s) writes (omega (arith, e)) (omega arith) inside)
+    ap (written n writes) (text_parts role s) ∙ written-right n (n + 24 + length s) writes head (s ++ tail)
+    (Inside-wider (n + 24) (n + 24 + length s) (n + length head) (n + 24 + length s) writes (omega (arith, e)) (omega arith) inside)
     ∙ ap (λ k. head ++ written k writes (s ++ tail)) back ∙ ap (λ t. head ++ t) (written-left (n + 24) writes s tail inside)
-    ∙ ap (λ t. head ++ (t ++ tail)) (written-text images (n + 24) s) ∙ ap (λ k. head_text role k ++ (put_text images s ++ tail_text role k)) same ∙ sym (text_parts role (put_text images s))
+    ∙ ap (λ t. head ++ (t ++ tail)) (written-text images (n + 24) s) ∙ ap (λ k. head_text role k ++ (put_text images s ++ tail_text role k)) same
+    ∙ sym (text_parts role (put_text images s))
 
 -- ---- pieces
 
@@ -137,12 +144,14 @@ put_piece images (Text FileBytes s) = Text FileBytes (put_text images s)
 put_piece images (Text LinkTarget s) = Text LinkTarget (put_text images s)
 
 -- what is written in a piece and what is written behind it
-one_piece : (n hi : ℕ) (here later : List Place) (piece new rest others : List ℕ) → Inside n (n + length piece) here → written n here piece ≡ new → length new ≡ length piece
+one_piece : (n hi : ℕ) (here later : List Place) (piece new rest others : List ℕ) → Inside n (n + length piece) here → written n here piece ≡ new
+    → length new ≡ length piece
     → Inside (n + length piece) hi later → written (n + length piece) later rest ≡ others → written n (here ++ later) (piece ++ rest) ≡ new ++ others
 one_piece n hi here later piece new rest others inside put long behind put_later =
     let e : n + length new ≡ n + length piece = omega (arith, long) in
     written-append n here later (piece ++ rest) ∙ ap (written n later) (written-left n here piece rest inside ∙ ap (λ t. t ++ rest) put)
-    ∙ written-right n hi later new rest (subst (λ k. Inside k hi later) (sym e) behind) ∙ ap (λ k. new ++ written k later rest) e ∙ ap (λ t. new ++ t) put_later
+    ∙ written-right n hi later new rest (subst (λ k. Inside k hi later) (sym e) behind) ∙ ap (λ k. new ++ written k later rest) e
+    ∙ ap (λ t. new ++ t) put_later
 
 no_places : (ps : List Place) → has_places ps ≡ false → ps ≡ []
 no_places [] none = refl
@@ -154,8 +163,10 @@ none_at keys n s none =
     ap (λ k. places_in keys k s) e ∙ places_in-moved keys n 0 s ∙ ap (moved n) (no_places (places_in keys 0 s) none)
 
 written_string : (images : Images) → AreImages images → (n : ℕ) (role : Role) (s : List ℕ) (ps : List Piece)
-    → written (n + length (piece_text (Text role s))) (imaged images (places_of_pieces (among (keys_of images)) (n + length (piece_text (Text role s))) ps)) (joined ps) ≡ joined (map (put_piece images) ps)
-    → written n (imaged images (places_in (among (keys_of images)) (n + 24) s ++ places_of_pieces (among (keys_of images)) (n + length (piece_text (Text role s))) ps)) (piece_text (Text role s) ++ joined ps)
+    → written (n + length (piece_text (Text role s))) (imaged images (places_of_pieces (among (keys_of images)) (n + length (piece_text (Text role s))) ps))
+    (joined ps) ≡ joined (map (put_piece images) ps)
+    → written n (imaged images (places_in (among (keys_of images)) (n + 24) s ++ places_of_pieces (among (keys_of images))
+    (n + length (piece_text (Text role s))) ps)) (piece_text (Text role s) ++ joined ps)
     ≡ piece_text (Text role (put_text images s)) ++ joined (map (put_piece images) ps)
 written_string images are n role s ps later =
     let keys = among (keys_of images) in
@@ -168,7 +179,8 @@ written_string images are n role s ps later =
     let long : length new ≡ length whole = omega (arith, length-text role s, length-text role (put_text images s), same) in
     ap (λ w. written n w (whole ++ joined ps)) (map-append (λ p. (p.0, image_of images p.1)) (places_in keys (n + 24) s) (places_of_pieces keys m ps))
     ∙ one_piece n (m + length (joined ps)) here behind whole new (joined ps) (joined (map (put_piece images) ps))
-    (Inside-wider (n + 24) (n + 24 + length s) n (n + length whole) here (omega arith) (omega (arith, length-text role s)) (Inside-places images are (n + 24) s))
+    (Inside-wider (n + 24) (n + 24 + length s) n (n + length whole) here (omega arith) (omega (arith, length-text role s))
+    (Inside-places images are (n + 24) s))
     (written-piece images are n role s) long (Inside-pieces images are m ps) later
 
 written-joined : (images : Images) → AreImages images → (n : ℕ) (ps : List Piece) → list_any (name_holds (among (keys_of images))) ps ≡ false
@@ -176,7 +188,8 @@ written-joined : (images : Images) → AreImages images → (n : ℕ) (ps : List
 written-joined images are n [] none = refl
 written-joined images are n (Mark tag ∷ ps) none =
     let m = n + length (archive_string tag) in
-    one_piece n (m + length (joined ps)) [] (imaged images (places_of_pieces (among (keys_of images)) m ps)) (archive_string tag) (archive_string tag) (joined ps) (joined (map (put_piece images) ps)) tt refl refl
+    one_piece n (m + length (joined ps)) [] (imaged images (places_of_pieces (among (keys_of images)) m ps)) (archive_string tag) (archive_string tag)
+    (joined ps) (joined (map (put_piece images) ps)) tt refl refl
     (Inside-pieces images are m ps) (written-joined images are m ps none)
 written-joined images are n (Text EntryName s ∷ ps) none =
     let keys = among (keys_of images) in
@@ -184,10 +197,13 @@ written-joined images are n (Text EntryName s ∷ ps) none =
     let m = n + length whole in
     let parts = or_parts (has_places (places_in keys 0 s)) (list_any (name_holds keys) ps) none in
     ap (λ here. written n (imaged images (here ++ places_of_pieces keys m ps)) (whole ++ joined ps)) (none_at keys (n + 24) s parts.0)
-    ∙ one_piece n (m + length (joined ps)) [] (imaged images (places_of_pieces keys m ps)) whole whole (joined ps) (joined (map (put_piece images) ps)) tt refl refl
+    ∙ one_piece n (m + length (joined ps)) [] (imaged images (places_of_pieces keys m ps)) whole whole (joined ps) (joined (map (put_piece images) ps)) tt
+    refl refl
     (Inside-pieces images are m ps) (written-joined images are m ps parts.1)
-written-joined images are n (Text FileBytes s ∷ ps) none = written_string images are n FileBytes s ps (written-joined images are (n + length (piece_text (Text FileBytes s))) ps none)
-written-joined images are n (Text LinkTarget s ∷ ps) none = written_string images are n LinkTarget s ps (written-joined images are (n + length (piece_text (Text LinkTarget s))) ps none)
+written-joined images are n (Text FileBytes s ∷ ps) none =
+    written_string images are n FileBytes s ps (written-joined images are (n + length (piece_text (Text FileBytes s))) ps none)
+written-joined images are n (Text LinkTarget s ∷ ps) none =
+    written_string images are n LinkTarget s ps (written-joined images are (n + length (piece_text (Text LinkTarget s))) ps none)
 
 -- ---- trees
 
@@ -198,14 +214,18 @@ mutual
   node_pieces-put images (Link target) = refl
   node_pieces-put images (Directory entries) =
       ap (λ t. Mark (codes "(") ∷ Mark (codes "type") ∷ Mark (codes "directory") ∷ (t ++ Mark (codes ")") ∷ [])) (entry_pieces-put images entries)
-      ∙ ap (λ t. Mark (codes "(") ∷ Mark (codes "type") ∷ Mark (codes "directory") ∷ t) (sym (map-append (put_piece images) (entry_pieces entries) (Mark (codes ")") ∷ [])))
+      ∙ ap (λ t. Mark (codes "(") ∷ Mark (codes "type") ∷ Mark (codes "directory") ∷ t)
+      (sym (map-append (put_piece images) (entry_pieces entries) (Mark (codes ")") ∷ [])))
 
   entry_pieces-put : (images : Images) (entries : Entries) → entry_pieces (put_entries images entries) ≡ map (put_piece images) (entry_pieces entries)
   entry_pieces-put images NoEntries = refl
   entry_pieces-put images (Entry name tree others) =
-      ap (λ t. Mark (codes "entry") ∷ Mark (codes "(") ∷ Text EntryName name ∷ (t ++ Mark (codes ")") ∷ entry_pieces (put_entries images others))) (node_pieces-put images tree)
-      ∙ ap (λ t. Mark (codes "entry") ∷ Mark (codes "(") ∷ Text EntryName name ∷ (map (put_piece images) (node_pieces tree) ++ Mark (codes ")") ∷ t)) (entry_pieces-put images others)
-      ∙ ap (λ t. Mark (codes "entry") ∷ Mark (codes "(") ∷ Text EntryName name ∷ t) (sym (map-append (put_piece images) (node_pieces tree) (Mark (codes ")") ∷ entry_pieces others)))
+      ap (λ t. Mark (codes "entry") ∷ Mark (codes "(") ∷ Text EntryName name ∷ (t ++ Mark (codes ")") ∷ entry_pieces (put_entries images others)))
+      (node_pieces-put images tree)
+      ∙ ap (λ t. Mark (codes "entry") ∷ Mark (codes "(") ∷ Text EntryName name ∷ (map (put_piece images) (node_pieces tree) ++ Mark (codes ")") ∷ t))
+      (entry_pieces-put images others)
+      ∙ ap (λ t. Mark (codes "entry") ∷ Mark (codes "(") ∷ Text EntryName name ∷ t)
+      (sym (map-append (put_piece images) (node_pieces tree) (Mark (codes ")") ∷ entry_pieces others)))
 
 no_name : (keys : Keys) (tree : Tree) (b : Bool) → b ≡ list_any (name_holds keys) (pieces tree) → fault keys tree ≡ None → b ≡ false
 no_name keys tree false e none = refl

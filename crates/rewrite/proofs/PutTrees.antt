@@ -52,12 +52,14 @@ bytes_drop zero xs h = h
 bytes_drop (suc n) [] h = h
 bytes_drop (suc n) (x ∷ xs) h = bytes_drop n xs (λ j. h (suc j))
 
-pub bytes_written : (images : Images) → AreImages images → (n : ℕ) (ps : List Place) (text : List ℕ) → Found (among (keys_of images)) ps → AreBytes text → AreBytes (written n (imaged images ps) text)
+pub bytes_written : (images : Images) → AreImages images → (n : ℕ) (ps : List Place) (text : List ℕ) → Found (among (keys_of images)) ps → AreBytes text
+    → AreBytes (written n (imaged images ps) text)
 bytes_written images are n [] text found h = h
 bytes_written images are n (p ∷ ps) text found h =
     let image = image_of images p.1 in
     let part = image_is_part images are p.1 found.0 in
-    let here : AreBytes (written_at (p.0 - n) image text) = bytes_append (take (p.0 - n) text) (image ++ drop (p.0 - n + length image) text) (bytes_take (p.0 - n) text h)
+    let here : AreBytes (written_at (p.0 - n) image text) = bytes_append (take (p.0 - n) text) (image ++ drop (p.0 - n + length image) text)
+    (bytes_take (p.0 - n) text h)
     (bytes_append image (drop (p.0 - n + length image) text) (digits_are_bytes image part.digits) (bytes_drop (p.0 - n + length image) text h)) in
     bytes_written images are n ps (written_at (p.0 - n) image text) found.1 here
 
@@ -81,20 +83,25 @@ mutual
 
   deepest-put : (images : Images) (entries : Entries) → deepest (put_entries images entries) ≡ deepest entries
   deepest-put images NoEntries = refl
-  deepest-put images (Entry name tree others) = ap (λ d. max d (deepest (put_entries images others))) (depth-put images tree) ∙ ap (λ d. max (depth_of tree) d) (deepest-put images others)
+  deepest-put images (Entry name tree others) = ap (λ d. max d (deepest (put_entries images others))) (depth-put images tree)
+      ∙ ap (λ d. max (depth_of tree) d) (deepest-put images others)
 
-Inside-occurrences : (images : Images) → AreImages images → (tree : Tree) → Inside 0 (0 + length (nar tree)) (imaged images (occurrences (among (keys_of images)) tree))
+pub Inside-occurrences : (images : Images) → AreImages images → (tree : Tree)
+    → Inside 0 (0 + length (nar tree)) (imaged images (occurrences (among (keys_of images)) tree))
 Inside-occurrences images are tree =
-    subst (λ t. Inside 0 (0 + length t) (imaged images (occurrences (among (keys_of images)) tree))) (joined-pieces tree) (Inside-pieces images are 0 (pieces tree))
+    subst (λ t. Inside 0 (0 + length t) (imaged images (occurrences (among (keys_of images)) tree))) (joined-pieces tree)
+    (Inside-pieces images are 0 (pieces tree))
 
 -- a tree with images put in is a tree, with an archive of the same length
-pub IsTree-put : (images : Images) → AreImages images → (tree : Tree) → IsTree tree → fault (among (keys_of images)) tree ≡ None → AreBytes (nar tree) → IsTree (put images tree)
+pub IsTree-put : (images : Images) → AreImages images → (tree : Tree) → IsTree tree → fault (among (keys_of images)) tree ≡ None → AreBytes (nar tree)
+    → IsTree (put images tree)
 IsTree-put images are tree is none bytes =
     let places = occurrences (among (keys_of images)) tree in
     let text = written 0 (imaged images places) (nar tree) in
     let same : text ≡ nar (put images tree) = sym (nar-put images are tree is none) in
     let long : length text ≡ length (nar tree) = length-written 0 (imaged images places) (nar tree) (Inside-occurrences images are tree) in
-    is_tree_of_archive (put images tree) text (bytes_written images are 0 places (nar tree) (Found-pieces (among (keys_of images)) 0 (pieces tree)) bytes) same
+    is_tree_of_archive (put images tree) text (bytes_written images are 0 places (nar tree) (Found-pieces (among (keys_of images)) 0 (pieces tree)) bytes)
+    same
     (sound-put images tree is.sound) (omega (arith, depth-put images tree, is.depth)) (omega (arith, long, is.length))
 
 -- each place ends inside
@@ -103,21 +110,24 @@ place_fits lo hi [] h k d less = absurd (omega (arith, less))
 place_fits lo hi (p ∷ ps) h zero d less = h.1
 place_fits lo hi (p ∷ ps) h (suc k) d less = place_fits lo hi ps h.2 k d (omega (arith, less))
 
-pub occurrence_fits : (keys : Keys) → AreKeys keys → (tree : Tree) (k : ℕ) (d : Place) → k < length (occurrences keys tree) → (get_or (occurrences keys tree) k d).0 + 32 ≤ length (nar tree)
+pub occurrence_fits : (keys : Keys) → AreKeys keys → (tree : Tree) (k : ℕ) (d : Place) → k < length (occurrences keys tree)
+    → (get_or (occurrences keys tree) k d).0 + 32 ≤ length (nar tree)
 occurrence_fits keys ok tree k d less =
     let fits = place_fits 0 (0 + length (joined (pieces tree))) (occurrences keys tree) (Within-pieces keys ok 0 (pieces tree)) k d less in
     omega (arith, fits, ap length (joined-pieces tree))
 
 -- ---- places that share bytes are not the old ones
 
-crowded_after-same : (images : Images) (n m : ℕ) (ps qs : List Place) → n ≡ m → pointwise same_place ps (imaged images qs) ≡ true → crowded_after n ps ≡ crowded_after m qs
+crowded_after-same : (images : Images) (n m : ℕ) (ps qs : List Place) → n ≡ m → pointwise same_place ps (imaged images qs) ≡ true
+    → crowded_after n ps ≡ crowded_after m qs
 crowded_after-same images n m [] [] e same = refl
 crowded_after-same images n m [] (q ∷ qs) e same = absurd (false≢true same)
 crowded_after-same images n m (p ∷ ps) [] e same = absurd (false≢true same)
 crowded_after-same images n m (p ∷ ps) (q ∷ qs) e same =
     let parts = and_parts (same_place p (q.0, image_of images q.1)) (pointwise same_place ps (imaged images qs)) same in
     let at = eqb-true p.0 q.0 (and_parts (p.0 == q.0) (bytes_eq p.1 (image_of images q.1)) parts.0).0 in
-    ap (λ k. nat_lt p.0 (k + 32) || crowded_after p.0 ps) e ∙ ap (λ k. nat_lt k (m + 32) || crowded_after p.0 ps) at ∙ ap (λ b. nat_lt q.0 (m + 32) || b) (crowded_after-same images p.0 q.0 ps qs at parts.1)
+    ap (λ k. nat_lt p.0 (k + 32) || crowded_after p.0 ps) e ∙ ap (λ k. nat_lt k (m + 32) || crowded_after p.0 ps) at
+    ∙ ap (λ b. nat_lt q.0 (m + 32) || b) (crowded_after-same images p.0 q.0 ps qs at parts.1)
 
 crowded-same : (images : Images) (ps qs : List Place) → pointwise same_place ps (imaged images qs) ≡ true → crowded ps ≡ crowded qs
 crowded-same images [] [] same = refl
@@ -141,9 +151,12 @@ refused_crowd P Overlap found = found
 refused_crowd P Accidental found = absurd found
 
 -- what was written over an archive's keys
-pub written_archive : (images : Images) → AreImages images → (tree : Tree) → IsTree tree → fault (among (keys_of images)) tree ≡ None → (places : List Place) (old new : List ℕ)
-    → places ≡ occurrences (among (keys_of images)) tree → old ≡ nar tree → AreBytes old → new ≡ written 0 (imaged images places) old → IsArchive new × (nar (put images tree) ≡ new) × IsTree (put images tree)
+pub written_archive : (images : Images) → AreImages images → (tree : Tree) → IsTree tree → fault (among (keys_of images)) tree ≡ None
+    → (places : List Place) (old new : List ℕ)
+    → places ≡ occurrences (among (keys_of images)) tree → old ≡ nar tree → AreBytes old → new ≡ written 0 (imaged images places) old → IsArchive new
+    × (nar (put images tree) ≡ new) × IsTree (put images tree)
 written_archive images are tree is none places old new here whole bytes done =
-    let put_text : nar (put images tree) ≡ new = nar-put images are tree is none ∙ sym (done ∙ ap (λ ps. written 0 (imaged images ps) old) here ∙ ap (written 0 (imaged images (occurrences (among (keys_of images)) tree))) whole) in
+    let put_text : nar (put images tree) ≡ new = nar-put images are tree is none
+    ∙ sym (done ∙ ap (λ ps. written 0 (imaged images ps) old) here ∙ ap (written 0 (imaged images (occurrences (among (keys_of images)) tree))) whole) in
     let tree_is = IsTree-put images are tree is none (subst AreBytes whole bytes) in
     (record { tree = put images tree; is = tree_is; same = put_text }, put_text, tree_is)

@@ -17,7 +17,7 @@ use Rattle.scan.proofs.CrowdLemmas.{Within, Within-pieces}
 use Rattle.scan.proofs.PieceLemmas.{joined-pieces}
 use Rattle.scan.specs.Refusing.{IsFault}
 use Rattle.rewrite.specs.Refusing.{IsAccident}
-use Rattle.rewrite.specs.Settled.{IsUnsettled}
+use Rattle.rewrite.specs.Settled.{IsUnsettled, IsPathWith, settled_of}
 
 -- ---- the offsets of the own hash part are apart
 
@@ -25,7 +25,8 @@ lower : (a b end : ℕ) (ns : List ℕ) → a ≤ b → AreApart b end ns → Ar
 lower a b end [] h apart = omega (arith, h, apart)
 lower a b end (n ∷ ns) h apart = (omega (arith, h, apart.0), apart.1)
 
-apart_after : (own : List ℕ) (n lo hi : ℕ) (ps : List Place) → crowded_after n ps ≡ false → n + 32 ≤ hi → Within lo hi ps → AreApart (n + 32) hi (own_offsets_of own ps)
+apart_after : (own : List ℕ) (n lo hi : ℕ) (ps : List Place) → crowded_after n ps ≡ false → n + 32 ≤ hi → Within lo hi ps
+    → AreApart (n + 32) hi (own_offsets_of own ps)
 apart_after own n lo hi [] far fits inside = fits
 apart_after own n lo hi (p ∷ ps) far fits inside =
     let parts = or_parts (nat_lt p.0 (n + 32)) (crowded_after p.0 ps) far in
@@ -45,9 +46,11 @@ apart_offsets own lo hi (p ∷ ps) far inside =
       | inr other ↦ rw other (lower 0 (p.0 + 32) hi (own_offsets_of own ps) (omega arith) later)
     ]
 
-pub own_apart : (keys : Keys) → AreKeys keys → (own : List ℕ) (tree : Tree) (places : List Place) → places ≡ occurrences keys tree → crowded places ≡ false → AreApart 0 (length (nar tree)) (own_offsets_of own places)
+pub own_apart : (keys : Keys) → AreKeys keys → (own : List ℕ) (tree : Tree) (places : List Place) → places ≡ occurrences keys tree → crowded places ≡ false
+    → AreApart 0 (length (nar tree)) (own_offsets_of own places)
 own_apart keys ok own tree places here far =
-    let inside : Within 0 (0 + length (joined (pieces tree))) places = subst (Within 0 (0 + length (joined (pieces tree)))) (sym here) (Within-pieces keys ok 0 (pieces tree)) in
+    let inside : Within 0 (0 + length (joined (pieces tree))) places = subst (Within 0 (0 + length (joined (pieces tree)))) (sym here)
+    (Within-pieces keys ok 0 (pieces tree)) in
     let long : 0 + length (joined (pieces tree)) ≡ length (nar tree) = omega (arith, ap length (joined-pieces tree)) in
     apart_offsets own 0 (length (nar tree)) places far (subst (λ n. Within 0 n places) long inside)
 
@@ -62,7 +65,8 @@ keys-settling own candidates path = ap (λ t. own ∷ t) (kept_keys candidates)
 
 -- ---- outcomes
 
-pub settled-at : (tree : Tree) (own : List ℕ) (candidates : List (List ℕ)) (name : List ℕ) (places : List Place) → places ≡ occurrences (among (sought own candidates)) tree → fault (among (sought own candidates)) tree ≡ None
+pub settled-at : (tree : Tree) (own : List ℕ) (candidates : List (List ℕ)) (name : List ℕ) (places : List Place)
+    → places ≡ occurrences (among (sought own candidates)) tree → fault (among (sought own candidates)) tree ≡ None
     → settled tree own candidates name ≡ settled_at tree own candidates name places
 unfolding settled
 settled-at tree own candidates name places here none =
@@ -70,90 +74,117 @@ settled-at tree own candidates name places here none =
     ap (λ f. unless f (settled_at tree own candidates name (occurrences keys tree))) none ∙ ap (settled_at tree own candidates name) (sym here)
 
 path_is : (tree : Tree) (own : List ℕ) (candidates : List (List ℕ)) (name : List ℕ) (places : List Place) (path : List ℕ)
-    → path ≡ store_path (Output (references_of candidates places) (stands_in places own)) (sha256 (blanked_text (own_offsets_of own places) (nar tree))) name → settled_path tree own candidates name places ≡ path
+    → IsPathWith tree (references_of candidates places) (stands_in places own) (own_offsets_of own places) name path
+    → settled_path tree own candidates name places ≡ path
 unfolding settled_path
 path_is tree own candidates name places path e = sym e
 
 abbrev outcome : Tree → List ℕ → List (List ℕ) → List Place → List ℕ → Bool → Result Settled RewriteFault
-outcome tree own candidates places path true = Ok (record { path = path; tree = put (settling own candidates path) tree; references = references_of candidates places; own_offsets = own_offsets_of own places })
+outcome tree own candidates places path true = Ok (settled_of path (put (settling own candidates path) tree) (references_of candidates places)
+    (own_offsets_of own places))
 outcome tree own candidates places path false = Err Accidental
 
-outcome_of : (tree : Tree) (own : List ℕ) (candidates : List (List ℕ)) (places : List Place) (path : List ℕ) (b : Bool) → is_true_put (settling own candidates path) tree ≡ b
+outcome_of : (tree : Tree) (own : List ℕ) (candidates : List (List ℕ)) (places : List Place) (path : List ℕ) (b : Bool)
+    → is_true_put (settling own candidates path) tree ≡ b
     → cond (is_true_put (settling own candidates path) tree)
-    (Ok (record { path = path; tree = put (settling own candidates path) tree; references = references_of candidates places; own_offsets = own_offsets_of own places })) (Err Accidental)
+    (Ok (settled_of path (put (settling own candidates path) tree) (references_of candidates places) (own_offsets_of own places))) (Err Accidental)
     ≡ outcome tree own candidates places path b
 outcome_of tree own candidates places path true is = rw is refl
 outcome_of tree own candidates places path false is = rw is refl
 
-outcome-at : (tree : Tree) (own : List ℕ) (candidates : List (List ℕ)) (name : List ℕ) (places : List Place) (path : List ℕ) → settled_path tree own candidates name places ≡ path → (b : Bool) → is_true_put (settling own candidates path) tree ≡ b
+outcome-at : (tree : Tree) (own : List ℕ) (candidates : List (List ℕ)) (name : List ℕ) (places : List Place) (path : List ℕ)
+    → settled_path tree own candidates name places ≡ path → (b : Bool) → is_true_put (settling own candidates path) tree ≡ b
     → settled_at tree own candidates name places ≡ outcome tree own candidates places path b
 outcome-at tree own candidates name places path e b is =
     let At : List ℕ → Result Settled RewriteFault = λ p. cond (is_true_put (settling own candidates p) tree)
-    (Ok (record { path = p; tree = put (settling own candidates p) tree; references = references_of candidates places; own_offsets = own_offsets_of own places })) (Err Accidental) in
+    (Ok (settled_of p (put (settling own candidates p) tree) (references_of candidates places) (own_offsets_of own places))) (Err Accidental) in
     ap At e ∙ outcome_of tree own candidates places path b is
 
-pub settled_ok : (tree : Tree) (own : List ℕ) (candidates : List (List ℕ)) (name : List ℕ) (places : List Place) (path : List ℕ) → places ≡ occurrences (among (sought own candidates)) tree → fault (among (sought own candidates)) tree ≡ None
-    → path ≡ store_path (Output (references_of candidates places) (stands_in places own)) (sha256 (blanked_text (own_offsets_of own places) (nar tree))) name → is_true_put (settling own candidates path) tree ≡ true
-    → settled tree own candidates name ≡ Ok (record { path = path; tree = put (settling own candidates path) tree; references = references_of candidates places; own_offsets = own_offsets_of own places })
+pub settled_ok : (tree : Tree) (own : List ℕ) (candidates : List (List ℕ)) (name : List ℕ) (places : List Place) (path : List ℕ)
+    → places ≡ occurrences (among (sought own candidates)) tree → fault (among (sought own candidates)) tree ≡ None
+    → IsPathWith tree (references_of candidates places) (stands_in places own) (own_offsets_of own places) name path
+    → is_true_put (settling own candidates path) tree ≡ true
+    → settled tree own candidates name ≡ Ok (settled_of path (put (settling own candidates path) tree) (references_of candidates places)
+    (own_offsets_of own places))
 settled_ok tree own candidates name places path here none e is =
-    settled-at tree own candidates name places here none ∙ outcome-at tree own candidates name places path (path_is tree own candidates name places path e) true is
+    settled-at tree own candidates name places here none ∙ outcome-at tree own candidates name places path (path_is tree own candidates name places path e)
+    true is
 
-pub settled_accident : (tree : Tree) (own : List ℕ) (candidates : List (List ℕ)) (name : List ℕ) (places : List Place) (path : List ℕ) → places ≡ occurrences (among (sought own candidates)) tree → fault (among (sought own candidates)) tree ≡ None
-    → path ≡ store_path (Output (references_of candidates places) (stands_in places own)) (sha256 (blanked_text (own_offsets_of own places) (nar tree))) name
-    → (why : Refusal) → IsAccident (is_true_put (settling own candidates path) tree ≡ false) why → IsUnsettled (settled tree own candidates name) why
+pub settled_accident : (tree : Tree) (own : List ℕ) (candidates : List (List ℕ)) (name : List ℕ) (places : List Place) (path : List ℕ)
+    → places ≡ occurrences (among (sought own candidates)) tree → fault (among (sought own candidates)) tree ≡ None
+    → IsPathWith tree (references_of candidates places) (stands_in places own) (own_offsets_of own places) name path
+    → (why : Refusal) → IsAccident (is_true_put (settling own candidates path) tree ≡ false) why → IsUnsettled tree own candidates name why
 settled_accident tree own candidates name places path here none e (RewriteRefused Accidental) is =
-    settled-at tree own candidates name places here none ∙ outcome-at tree own candidates name places path (path_is tree own candidates name places path e) false is
+    settled-at tree own candidates name places here none ∙ outcome-at tree own candidates name places path (path_is tree own candidates name places path e)
+    false is
 settled_accident tree own candidates name places path here none e (RewriteRefused InName) is = absurd is
 settled_accident tree own candidates name places path here none e (RewriteRefused Overlap) is = absurd is
 settled_accident tree own candidates name places path here none e Memory is = tt
 settled_accident tree own candidates name places path here none e why is = absurd is
 
-pub settled_fault : (tree : Tree) (own : List ℕ) (candidates : List (List ℕ)) (name : List ℕ) (why : Refusal) → IsFault (fault (among (sought own candidates)) tree) why → IsUnsettled (settled tree own candidates name) why
+pub settled_fault : (tree : Tree) (own : List ℕ) (candidates : List (List ℕ)) (name : List ℕ) (why : Refusal)
+    → IsFault (fault (among (sought own candidates)) tree) why → IsUnsettled tree own candidates name why
 unfolding settled
-settled_fault tree own candidates name (RewriteRefused why) is = ap (λ f. unless f (settled_at tree own candidates name (occurrences (among (sought own candidates)) tree))) is
+settled_fault tree own candidates name (RewriteRefused why) is =
+    ap (λ f. unless f (settled_at tree own candidates name (occurrences (among (sought own candidates)) tree))) is
 settled_fault tree own candidates name Memory is = tt
 settled_fault tree own candidates name why is = absurd is
 
 -- ---- what was done, step by step
 
 abbrev result_of : List ℕ → Tree → List (List ℕ) → List ℕ → Result Settled RewriteFault
-result_of path tree references own_offsets = Ok (record { path = path; tree = tree; references = references; own_offsets = own_offsets })
+result_of path tree references own_offsets = Ok (settled_of path tree references own_offsets)
 
-made_path : (tree : Tree) (own : List ℕ) (candidates : List (List ℕ)) (name : List ℕ) (places known : List Place) (path : List ℕ) (refs : List (List ℕ)) (offsets : List ℕ) (itself : Bool) → known ≡ places
-    → refs ≡ references_of candidates known → offsets ≡ own_offsets_of own known → itself ≡ stands_in known own → path ≡ store_path (Output refs itself) (sha256 (blanked_text offsets (nar tree))) name
-    → path ≡ store_path (Output (references_of candidates places) (stands_in places own)) (sha256 (blanked_text (own_offsets_of own places) (nar tree))) name
+made_path : (tree : Tree) (own : List ℕ) (candidates : List (List ℕ)) (name : List ℕ) (places known : List Place) (path : List ℕ) (refs : List (List ℕ))
+    (offsets : List ℕ) (itself : Bool) → known ≡ places
+    → refs ≡ references_of candidates known → offsets ≡ own_offsets_of own known → itself ≡ stands_in known own
+    → IsPathWith tree refs itself offsets name path
+    → IsPathWith tree (references_of candidates places) (stands_in places own) (own_offsets_of own places) name path
 made_path tree own candidates name places known path refs offsets itself same refs_is offsets_is itself_is path_made =
     path_made ∙ ap (λ r. store_path (Output r itself) (sha256 (blanked_text offsets (nar tree))) name) (refs_is ∙ ap (references_of candidates) same)
-    ∙ ap (λ i. store_path (Output (references_of candidates places) i) (sha256 (blanked_text offsets (nar tree))) name) (itself_is ∙ ap (λ ps. stands_in ps own) same)
-    ∙ ap (λ o. store_path (Output (references_of candidates places) (stands_in places own)) (sha256 (blanked_text o (nar tree))) name) (offsets_is ∙ ap (own_offsets_of own) same)
+    ∙ ap (λ i. store_path (Output (references_of candidates places) i) (sha256 (blanked_text offsets (nar tree))) name)
+    (itself_is ∙ ap (λ ps. stands_in ps own) same)
+    ∙ ap (λ o. store_path (Output (references_of candidates places) (stands_in places own)) (sha256 (blanked_text o (nar tree))) name)
+    (offsets_is ∙ ap (own_offsets_of own) same)
 
-pub settle_done : (tree : Tree) (own : List ℕ) (candidates : List (List ℕ)) (name : List ℕ) (places known : List Place) (path : List ℕ) (refs : List (List ℕ)) (offsets : List ℕ) (itself : Bool) (images : Images) (new : Tree)
-    → known ≡ places → refs ≡ references_of candidates known → offsets ≡ own_offsets_of own known → itself ≡ stands_in known own → path ≡ store_path (Output refs itself) (sha256 (blanked_text offsets (nar tree))) name
-    → images ≡ settling own candidates path → places ≡ occurrences (among (sought own candidates)) tree → fault (among (sought own candidates)) tree ≡ None → new ≡ put images tree → is_true_put images tree ≡ true
+pub settle_done : (tree : Tree) (own : List ℕ) (candidates : List (List ℕ)) (name : List ℕ) (places known : List Place) (path : List ℕ)
+    (refs : List (List ℕ)) (offsets : List ℕ) (itself : Bool) (images : Images) (new : Tree)
+    → known ≡ places → refs ≡ references_of candidates known → offsets ≡ own_offsets_of own known → itself ≡ stands_in known own
+    → IsPathWith tree refs itself offsets name path
+    → images ≡ settling own candidates path → places ≡ occurrences (among (sought own candidates)) tree → fault (among (sought own candidates)) tree ≡ None
+    → new ≡ put images tree → is_true_put images tree ≡ true
     → settled tree own candidates name ≡ result_of path new refs offsets
-settle_done tree own candidates name places known path refs offsets itself images new same refs_is offsets_is itself_is path_made images_are here none new_is is =
-    settled_ok tree own candidates name places path here none (made_path tree own candidates name places known path refs offsets itself same refs_is offsets_is itself_is path_made) (ap (λ i. is_true_put i tree) (sym images_are) ∙ is)
+settle_done tree own candidates name places known path refs offsets itself images new same refs_is offsets_is itself_is path_made images_are here none new_is
+    is =
+    settled_ok tree own candidates name places path here none (made_path tree own candidates name places known path refs offsets itself same refs_is
+    offsets_is itself_is path_made) (ap (λ i. is_true_put i tree) (sym images_are) ∙ is)
     ∙ ap (λ t. result_of path t (references_of candidates places) (own_offsets_of own places)) (ap (λ i. put i tree) (sym images_are) ∙ sym new_is)
-    ∙ ap (λ r. result_of path new r (own_offsets_of own places)) (sym (refs_is ∙ ap (references_of candidates) same)) ∙ ap (λ o. result_of path new refs o) (sym (offsets_is ∙ ap (own_offsets_of own) same))
+    ∙ ap (λ r. result_of path new r (own_offsets_of own places)) (sym (refs_is ∙ ap (references_of candidates) same))
+    ∙ ap (λ o. result_of path new refs o) (sym (offsets_is ∙ ap (own_offsets_of own) same))
 
-pub settle_refused : (tree : Tree) (own : List ℕ) (candidates : List (List ℕ)) (name : List ℕ) (places known : List Place) (path : List ℕ) (refs : List (List ℕ)) (offsets : List ℕ) (itself : Bool) (images : Images) (why : Refusal)
-    → known ≡ places → refs ≡ references_of candidates known → offsets ≡ own_offsets_of own known → itself ≡ stands_in known own → path ≡ store_path (Output refs itself) (sha256 (blanked_text offsets (nar tree))) name
-    → images ≡ settling own candidates path → places ≡ occurrences (among (sought own candidates)) tree → fault (among (sought own candidates)) tree ≡ None → IsAccident (is_true_put images tree ≡ false) why
-    → IsUnsettled (settled tree own candidates name) why
+pub settle_refused : (tree : Tree) (own : List ℕ) (candidates : List (List ℕ)) (name : List ℕ) (places known : List Place) (path : List ℕ)
+    (refs : List (List ℕ)) (offsets : List ℕ) (itself : Bool) (images : Images) (why : Refusal)
+    → known ≡ places → refs ≡ references_of candidates known → offsets ≡ own_offsets_of own known → itself ≡ stands_in known own
+    → IsPathWith tree refs itself offsets name path
+    → images ≡ settling own candidates path → places ≡ occurrences (among (sought own candidates)) tree → fault (among (sought own candidates)) tree ≡ None
+    → IsAccident (is_true_put images tree ≡ false) why
+    → IsUnsettled tree own candidates name why
 settle_refused tree own candidates name places known path refs offsets itself images why same refs_is offsets_is itself_is path_made images_are here none is =
-    settled_accident tree own candidates name places path here none (made_path tree own candidates name places known path refs offsets itself same refs_is offsets_is itself_is path_made) why
+    settled_accident tree own candidates name places path here none (made_path tree own candidates name places known path refs offsets itself same refs_is
+    offsets_is itself_is path_made) why
     (subst (λ i. IsAccident (is_true_put i tree ≡ false) why) images_are is)
 
-pub path_of_items : (tree : Tree) (name path : List ℕ) (r refs : List (List ℕ)) (o offsets : List ℕ) (itself : Bool) → path ≡ store_path (Output r itself) (sha256 (blanked_text o (nar tree))) name → r ≡ refs → o ≡ offsets
-    → path ≡ store_path (Output refs itself) (sha256 (blanked_text offsets (nar tree))) name
+pub path_of_items : (tree : Tree) (name path : List ℕ) (r refs : List (List ℕ)) (o offsets : List ℕ) (itself : Bool) → IsPathWith tree r itself o name path
+    → r ≡ refs → o ≡ offsets
+    → IsPathWith tree refs itself offsets name path
 path_of_items tree name path r refs o offsets itself made refs_are offsets_are =
-    made ∙ ap (λ x. store_path (Output x itself) (sha256 (blanked_text o (nar tree))) name) refs_are ∙ ap (λ x. store_path (Output refs itself) (sha256 (blanked_text x (nar tree))) name) offsets_are
+    made ∙ ap (λ x. store_path (Output x itself) (sha256 (blanked_text o (nar tree))) name) refs_are
+    ∙ ap (λ x. store_path (Output refs itself) (sha256 (blanked_text x (nar tree))) name) offsets_are
 
-abbrev pub record_of : List ℕ → Tree → List (List ℕ) → List ℕ → Settled
-record_of path tree references own_offsets = record { path = path; tree = tree; references = references; own_offsets = own_offsets }
-
-pub given_is : (tree : Tree) (name path digest text : List ℕ) (refs : List (List ℕ)) (offsets : List ℕ) → path ≡ store_path Source digest name → digest ≡ sha256 text → text ≡ nar tree → refs ≡ [] → offsets ≡ []
-    → record_of path tree refs offsets ≡ given tree name
+pub given_is : (tree : Tree) (name path digest text : List ℕ) (refs : List (List ℕ)) (offsets : List ℕ) → path ≡ store_path Source digest name
+    → digest ≡ sha256 text → text ≡ nar tree → refs ≡ [] → offsets ≡ []
+    → settled_of path tree refs offsets ≡ given tree name
 given_is tree name path digest text refs offsets made hashed whole none none_too =
-    ap (λ p. record_of p tree refs offsets) (made ∙ ap (λ d. store_path Source d name) (hashed ∙ ap sha256 whole)) ∙ ap (λ r. record_of (store_path Source (sha256 (nar tree)) name) tree r offsets) none
-    ∙ ap (λ o. record_of (store_path Source (sha256 (nar tree)) name) tree [] o) none_too
+    ap (λ p. settled_of p tree refs offsets) (made ∙ ap (λ d. store_path Source d name) (hashed ∙ ap sha256 whole))
+    ∙ ap (λ r. settled_of (store_path Source (sha256 (nar tree)) name) tree r offsets) none
+    ∙ ap (λ o. settled_of (store_path Source (sha256 (nar tree)) name) tree [] o) none_too

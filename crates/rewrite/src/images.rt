@@ -91,6 +91,23 @@ impl Images {
         }
     }
 
+    /// The keys.
+    ///
+    /// # Errors
+    ///
+    /// Only where memory was refused.
+    pub fn keys(&self, alloc: Global) -> Result<Keys, AllocError>
+        ensures keys { IfOk result (λ keys. keys ≡ keys_of self.now) }
+        ensures images { AreImages self.now }
+    {
+        let images = self.images.as_slice();
+        let mut keys = Keys::new(alloc)?;
+        for entry in images {
+            keys.add(entry.0)?;
+        }
+        Ok(keys)
+    }
+
     /// All keys and images.
     ///
     /// # Errors
@@ -100,12 +117,8 @@ impl Images {
         ensures parts { IfOk result (λ keys. keys ≡ parts_of self.now) }
         ensures images { AreImages self.now }
     {
-        let images = self.images.as_slice();
-        let mut parts = Keys::new(alloc)?;
-        for entry in images {
-            parts.add(entry.0)?;
-        }
-        for entry in images {
+        let mut parts = self.keys(alloc)?;
+        for entry in self.images.as_slice() {
             parts.add(entry.1)?;
         }
         Ok(parts)

@@ -6,7 +6,8 @@ ghost use Rattle.model.specs.Occurrences.{among, fault, occurrences, crowded, Ar
 ghost use Rattle.model.specs.Settling.{own_offsets_of, references_of, stands_in, sought, settled, settling, given, AreApart, blanked_text};
 ghost use Rattle.model.specs.Paths.{Output, store_path};
 ghost use Rattle.sha2.specs.Sha256.{sha256};
-ghost use Rattle.rewrite.specs.Settled.{IsUnsettled, HasPartsOf};
+ghost use Rattle.rewrite.specs.Settled.{IsSettled, IsUnsettled, IsPathWith, HasPartsOf};
+ghost use Rattle.scan.specs.Searching.{tree_places};
 ghost use Rattle.model.specs.declared.refusal.Refusal.TheVariants.{Memory};
 
 use crate::images::Images;
@@ -118,7 +119,7 @@ fn path_for(
     name: &Name,
 ) -> Result<StorePath, Refusal>
     requires { AreApart 0 (length (nar archive.now)) offsets.now }
-    ensures path { IfOk result (λ path. path ≡ store_path (Output references.now itself) (sha256 (blanked_text offsets.now (nar archive.now))) name.now) }
+    ensures path { IfOk result (IsPathWith archive.now references.now itself offsets.now name.now) }
     ensures memory { IfErr result (λ why. why ≡ Memory) }
 {
     let digest = modulo_digest(alloc, archive.bytes(), offsets)?;
@@ -135,12 +136,12 @@ fn settle_at(
     name: &Name,
     places: &Places,
 ) -> Result<Named, Refusal>
-    requires places { places.now ≡ occurrences (among (sought own.now candidates.now)) archive.now }
+    requires places { places.now ≡ tree_places (sought own.now candidates.now) archive.now }
     requires sound { fault (among (sought own.now candidates.now)) archive.now ≡ None }
     requires tree { IsTree archive.now }
     requires keys { AreKeys (among (sought own.now candidates.now)) }
-    ensures settled { IfOk result (λ named. settled archive.now own.now candidates.now name.now ≡ Ok named) }
-    ensures refused { IfErr result (IsUnsettled (settled archive.now own.now candidates.now name.now)) }
+    ensures settled { IfOk result (IsSettled archive.now own.now candidates.now name.now) }
+    ensures refused { IfErr result (IsUnsettled archive.now own.now candidates.now name.now) }
 {
     let known = places.as_slice();
     let self_places = offsets_of(alloc, known, own)?;
@@ -159,16 +160,20 @@ fn settle_at(
     }
 }
 
-/// A tree that was built under a hash part, with the path that it gets: that of its archive with the own
-/// hash part blanked, and of the candidates that it refers to. The own hash part becomes the path's.
+/// A tree that was built under a hash part, with the path that it gets: that of its archive with
+/// the own hash part blanked, and of the candidates that it refers to. The own hash part becomes
+/// the path's.
 ///
 /// The candidates are handed in ascending, each once.
 ///
 /// # Errors
 ///
-/// - [`Refusal::RewriteRefused`] with `InName` exactly where the own hash part or a candidate's stands in a name.
-/// - [`Refusal::RewriteRefused`] with `Overlap` exactly where none does, and two of them in one string share bytes.
-/// - [`Refusal::RewriteRefused`] with `Accidental` exactly where neither holds, and the new hash part is not put truly.
+/// - [`Refusal::RewriteRefused`] with `InName` exactly where the own hash part or a candidate's
+///   stands in a name.
+/// - [`Refusal::RewriteRefused`] with `Overlap` exactly where none does, and two of them in one
+///   string share bytes.
+/// - [`Refusal::RewriteRefused`] with `Accidental` exactly where neither holds, and the new hash
+///   part is not put truly.
 /// - [`Refusal::Memory`] only where memory was refused.
 pub fn settle(
     alloc: Global,
@@ -177,8 +182,8 @@ pub fn settle(
     candidates: &[StorePath],
     name: &Name,
 ) -> Result<Named, Refusal>
-    ensures settled { IfOk result (λ named. settled archive.now own.now candidates.now name.now ≡ Ok named) }
-    ensures refused { IfErr result (IsUnsettled (settled archive.now own.now candidates.now name.now)) }
+    ensures settled { IfOk result (IsSettled archive.now own.now candidates.now name.now) }
+    ensures refused { IfErr result (IsUnsettled archive.now own.now candidates.now name.now) }
 {
     let _bytes = archive.bytes();
     let keys = keys_for(alloc, own, candidates)?;

@@ -6,7 +6,9 @@ ghost use Rattle.model.specs.Substitutions.{image_of, imaged, is_true_put, keys_
 ghost use Rattle.std.specs.Cmp.Lexicographic.{pointwise};
 ghost use Rattle.std.specs.List.{list_any};
 ghost use Rattle.model.specs.Archives.{AreBytes};
-ghost use Rattle.rewrite.specs.Refusing.{IsAccident};
+ghost use Rattle.rewrite.specs.Laws.{key_places, text_with};
+ghost use Rattle.rewrite.specs.Refusing.{IsAccident, IsTest};
+ghost use Rattle.scan.specs.Searching.{tree_places};
 ghost use Rattle.model.specs.declared.refusal.Refusal.TheVariants.{Memory};
 
 use crate::images::Images;
@@ -19,7 +21,7 @@ use storepath::HashPart;
 /// Writes the image of each hash part over it.
 fn write_images(text: &mut [u8], places: &[(usize, HashPart)], images: &Images)
     requires { All (λ p. p.0 + 32 ≤ length text.old) places.now }
-    ensures { text.new ≡ written 0 (imaged images.now places.now) text.old }
+    ensures { text.new ≡ text_with images.now places.now text.old }
 {
     for place in places {
         let at = place.0;
@@ -36,7 +38,7 @@ fn with_images(
     images: &Images,
 ) -> Result<Vec<u8>, AllocError>
     requires inside { All (λ p. p.0 + 32 ≤ length text.now) places.now }
-    ensures written { IfOk result (λ new. new.items ≡ written 0 (imaged images.now places.now) text.now) }
+    ensures written { IfOk result (λ new. new.items ≡ text_with images.now places.now text.now) }
     ensures bytes { AreBytes text.now }
 {
     let mut new = Vec::from_slice(alloc, text)?;
@@ -74,8 +76,8 @@ fn one_is_replaced(places: &[(usize, HashPart)], images: &Images) -> bool
     false
 }
 
-/// Whether in a new archive the keys and images stand just at the old places, each with its image, and no
-/// replaced key among them. The one error is memory.
+/// Whether in a new archive the keys and images stand just at the old places, each with its image,
+/// and no replaced key among them. The one error is memory.
 fn is_true(
     alloc: Global,
     new: &Nar,
@@ -83,7 +85,7 @@ fn is_true(
     old: &Places,
     images: &Images,
 ) -> Result<bool, Refusal>
-    ensures test { IfOk result (λ is. is ≡ are_true images.now old.now (occurrences (among parts.now) new.now)) }
+    ensures test { IfOk result (IsTest images.now old.now (tree_places parts.now new.now)) }
     ensures memory { IfErr result (λ why. why ≡ Memory) }
 {
     let known = old.as_slice();
@@ -101,8 +103,8 @@ fn is_true(
 ///
 /// # Errors
 ///
-/// - [`Refusal::RewriteRefused`] with `Accidental` exactly where in the new tree a key or an image stands at a place where
-///   none was put, or a replaced key is put as the image of another.
+/// - [`Refusal::RewriteRefused`] with `Accidental` exactly where in the new tree a key or an image
+///   stands at a place where none was put, or a replaced key is put as the image of another.
 /// - [`Refusal::Memory`] only where memory was refused.
 pub fn substitute(
     alloc: Global,
@@ -110,7 +112,7 @@ pub fn substitute(
     places: &Places,
     images: &Images,
 ) -> Result<Nar, Refusal>
-    requires places { places.now ≡ occurrences (among (keys_of images.now)) archive.now }
+    requires places { places.now ≡ key_places images.now archive.now }
     requires sound { fault (among (keys_of images.now)) archive.now ≡ None }
     ensures put { IfOk result (λ new. new ≡ put images.now archive.now) }
     ensures true_put { IfOk result (λ _. is_true_put images.now archive.now ≡ true) }

@@ -33,7 +33,8 @@ string_front-at : (s k : List ℕ) → length s < 2 ^ 56 → string_front (archi
 unfolding string_front archive_string
 string_front-at s k h =
     let zeros = replicate ((8 - length s % 8) % 8) 0 in
-    let grouped : (to_le_bytes w64 (length s) ++ s ++ zeros) ++ k ≡ to_le_bytes w64 (length s) ++ (s ++ (zeros ++ k)) = append_assoc (to_le_bytes w64 (length s) ++ s) zeros k ∙ append_assoc (to_le_bytes w64 (length s)) s (zeros ++ k) in
+    let grouped : (to_le_bytes w64 (length s) ++ s ++ zeros) ++ k ≡ to_le_bytes w64 (length s) ++ (s ++ (zeros ++ k)) =
+    append_assoc (to_le_bytes w64 (length s) ++ s) zeros k ∙ append_assoc (to_le_bytes w64 (length s)) s (zeros ++ k) in
     let padded : (8 - length s % 8) % 8 ≡ length zeros = sym (length-replicate {A = ℕ} ((8 - length s % 8) % 8) 0) in
     ap (λ b. string_split (length_at b)) grouped ∙ ap string_split (length_front (length s) (s ++ (zeros ++ k)) h)
     ∙ ap (λ o. o >>= λ t. split_at ((8 - length s % 8) % 8) t.1 >>= λ z. Some (t.0, z.1)) (split_at-front s (zeros ++ k) (length s) refl)
@@ -71,7 +72,8 @@ piece_front-at (Mark tag) k is =
 piece_front-at (Text role s) k is =
     let before = archive_string (mark_before role) in
     let after = archive_string (mark_after role) in
-    let grouped : (before ++ (archive_string s ++ after)) ++ k ≡ before ++ (archive_string s ++ (after ++ k)) = append_assoc before (archive_string s ++ after) k ∙ ap (λ t. before ++ t) (append_assoc (archive_string s) after k) in
+    let grouped : (before ++ (archive_string s ++ after)) ++ k ≡ before ++ (archive_string s ++ (after ++ k)) =
+    append_assoc before (archive_string s ++ after) k ∙ ap (λ t. before ++ t) (append_assoc (archive_string s) after k) in
     ap (λ t. string_front t >>= λ tag. piece_behind tag.0 tag.1) grouped
     ∙ ap (λ o. o >>= λ tag. piece_behind tag.0 tag.1) (string_front-at (mark_before role) (archive_string s ++ (after ++ k)) (short_mark_before role))
     ∙ behind-at role (archive_string s ++ (after ++ k)) s k (text_front-at role s k is)
@@ -97,13 +99,15 @@ unfolding piece_front string_front length_at
 front-nil = refl
 
 -- where no piece is read, none is left
-pub none_left : (keys : Keys) (qs : List Piece) (text : List ℕ) → ArePieces qs → text ≡ joined qs → piece_front text ≡ None → list_any (name_holds keys) qs ≡ false
+pub none_left : (keys : Keys) (qs : List Piece) (text : List ℕ) → ArePieces qs → text ≡ joined qs → piece_front text ≡ None
+    → list_any (name_holds keys) qs ≡ false
 none_left keys [] text are e none = refl
 none_left keys (p ∷ qs) text are e none =
     let some = sym none ∙ ap piece_front e ∙ piece_front-at p (joined qs) are.0 in cc
 
 abbrev Fronts : Keys → List Piece → Option (List ℕ) → List ℕ → Type 0
-Fronts keys qs name behind = (behind ≡ joined (drop 1 qs)) × (list_any (name_holds keys) qs ≡ (holds_name keys name || list_any (name_holds keys) (drop 1 qs)))
+Fronts keys qs name behind = (behind ≡ joined (drop 1 qs))
+    × (list_any (name_holds keys) qs ≡ (holds_name keys name || list_any (name_holds keys) (drop 1 qs)))
 
 abbrev Read : Type 0
 Read = Option (List ℕ) × List ℕ
@@ -112,7 +116,8 @@ read_once : (o : Option Read) (x y : Read) → o ≡ Some x → o ≡ Some y →
 read_once o x y e h = let Or : Option Read → Read = λ r. unwrap_or r x in ap Or (sym e ∙ h)
 
 -- a piece that is read is the first one
-pub first_read : (keys : Keys) (qs : List Piece) (text : List ℕ) (name : Option (List ℕ)) (behind : List ℕ) → ArePieces qs → text ≡ joined qs → piece_front text ≡ Some (name, behind) → Fronts keys qs name behind
+pub first_read : (keys : Keys) (qs : List Piece) (text : List ℕ) (name : Option (List ℕ)) (behind : List ℕ) → ArePieces qs → text ≡ joined qs
+    → piece_front text ≡ Some (name, behind) → Fronts keys qs name behind
 first_read keys [] text name behind are e some = let none = sym some ∙ ap piece_front e ∙ front-nil in cc
 first_read keys (p ∷ qs) text name behind are e some =
     let same = read_once (piece_front text) (name, behind) (name_in p, joined qs) some (ap piece_front e ∙ piece_front-at p (joined qs) are.0) in

@@ -24,7 +24,8 @@ abbrev pub IsPiece : Piece → Type 0
 IsPiece (Mark tag) = IsMark tag
 IsPiece (Text role bytes) = length bytes < 2 ^ 56
 
--- ---- reading an archive piece by piece, as functions on lists: what is read and the bytes after it, or none
+-- ---- reading an archive piece by piece, as functions on lists: what is read and the bytes after
+-- ---- it, or none
 
 -- a string, with no look at the zeros behind it
 unfoldable pub string_front : List ℕ → Option (List ℕ × List ℕ)
@@ -44,8 +45,10 @@ text_front text = do
 -- what stands behind the first string of a piece: the piece's string, if that is a name
 unfoldable pub piece_behind : List ℕ → List ℕ → Option (Option (List ℕ) × List ℕ)
 piece_behind tag text =
-    if bytes_eq tag (codes "name") then (text_front text >>= λ string. Some (Some string.0, string.1))
-    else if bytes_eq tag (codes "contents") || bytes_eq tag (codes "target") then (text_front text >>= λ string. Some (None, string.1))
+    if bytes_eq tag (codes "name")
+    then (text_front text >>= λ string. Some (Some string.0, string.1))
+    else if bytes_eq tag (codes "contents") || bytes_eq tag (codes "target")
+    then (text_front text >>= λ string. Some (None, string.1))
     else Some (None, text)
 
 -- a piece: its string, if that is a name

@@ -5,7 +5,7 @@ ghost use Rattle.model.specs.Occurrences.{among, occurrences, fault, crowded};
 ghost use Rattle.model.specs.Archives.{nar};
 ghost use Rattle.model.specs.Occurrences.{places_in};
 ghost use Rattle.scan.specs.Refusing.{IsFault};
-ghost use Rattle.scan.specs.Searching.{Finds};
+ghost use Rattle.scan.specs.Searching.{Finds, text_places, tree_places};
 
 use crate::keys::Keys;
 use crate::names::a_name_holds;
@@ -16,8 +16,8 @@ use std::alloc::Global;
 use std::marker::Model;
 use storepath::HashPart;
 
-/// Places in an archive, ascending and at least 32 bytes apart: where each begins, in bytes from the
-/// archive's beginning, and the hash part that stands there.
+/// Places in an archive, ascending and at least 32 bytes apart: where each begins, in bytes from
+/// its beginning, and the hash part that stands there.
 #[derive(Drop)]
 pub struct Places {
     places: Vec<(usize, HashPart)>,
@@ -44,18 +44,19 @@ impl Places {
     }
 }
 
-/// Where keys stand in an archive, whatever they stand in. The time is in proportion to the archive's
-/// length, however many keys there are.
+/// Where keys stand in an archive, whatever they stand in. The time is in proportion to its length,
+/// however many keys there are.
 ///
 /// # Errors
 ///
-/// - [`Refusal::RewriteRefused`] with `Overlap` exactly where two places are less than 32 bytes apart.
+/// - [`Refusal::RewriteRefused`] with `Overlap` exactly where two places are less than 32 bytes
+///   apart.
 /// - [`Refusal::Memory`] only where memory was refused.
 pub fn places_of(alloc: Global, archive: &Nar, keys: &Keys) -> Result<Places, Refusal>
-    ensures found { IfOk result (λ places. places ≡ places_in (among keys.now) 0 (nar archive.now)) }
-    ensures occurrences { IfOk result (λ places. places ≡ occurrences (among keys.now) archive.now) }
+    ensures found { IfOk result (λ places. places ≡ text_places keys.now (nar archive.now)) }
+    ensures occurrences { IfOk result (λ places. places ≡ tree_places keys.now archive.now) }
     ensures apart { IfOk result (λ places. crowded places ≡ false) }
-    ensures refused { IfErr result (Finds (crowded (occurrences (among keys.now) archive.now) ≡ true)) }
+    ensures refused { IfErr result (Finds (crowded (tree_places keys.now archive.now) ≡ true)) }
 {
     let _parts = keys.parts();
     match search(alloc, archive.bytes(), keys) {
@@ -64,15 +65,17 @@ pub fn places_of(alloc: Global, archive: &Nar, keys: &Keys) -> Result<Places, Re
     }
 }
 
-/// The occurrences of keys in a tree's names, file bytes and link targets, by their places in its archive.
+/// The occurrences of keys in a tree's names, file bytes and link targets, by their places in its
+/// archive.
 ///
 /// # Errors
 ///
 /// - [`Refusal::RewriteRefused`] with `InName` exactly where a key stands in a name.
-/// - [`Refusal::RewriteRefused`] with `Overlap` exactly where none does, and two keys in one string share bytes.
+/// - [`Refusal::RewriteRefused`] with `Overlap` exactly where none does, and two keys in one string
+///   share bytes.
 /// - [`Refusal::Memory`] only where memory was refused.
 pub fn occurrences(alloc: Global, archive: &Nar, keys: &Keys) -> Result<Places, Refusal>
-    ensures found { IfOk result (λ places. places ≡ occurrences (among keys.now) archive.now) }
+    ensures found { IfOk result (λ places. places ≡ tree_places keys.now archive.now) }
     ensures sound { IfOk result (λ places. fault (among keys.now) archive.now ≡ None) }
     ensures refused { IfErr result (IsFault (fault (among keys.now) archive.now)) }
 {

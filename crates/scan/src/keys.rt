@@ -1,10 +1,11 @@
 //! Sets of hash parts that are sought.
 
-ghost use Rattle.std.specs.Prelude.{◌≡◌, ◌<◌, ◌∷◌, ◌++◌, [], length, OnOk, OnErr, IfOk};
-ghost use Rattle.model.specs.Occurrences.{among, AreKeys};
+ghost use Rattle.std.specs.Prelude.{◌≡◌, ◌+◌, ◌<◌, ◌≤◌, ◌∷◌, ◌++◌, [], take, drop, OnOk, OnErr, IfOk};
+ghost use Rattle.std.specs.Int.{w64, from_le_bytes};
+ghost use Rattle.model.specs.Occurrences.{among, AreKeys, IsHashPart};
 ghost use Rattle.scan.specs.Searching.{found, slot_of};
 
-use indexmap::IndexSet;
+use indexmap::IndexMap;
 use std::alloc::{AllocError, Global};
 use std::marker::Model;
 use storepath::HashPart;
@@ -17,12 +18,12 @@ const FACTOR: u64 = 11_400_714_819_323_198_485;
 
 /// Hash parts that are sought. One that is there twice counts once.
 ///
-/// Whether a text is one of them is told by a table of 65,536 slots first, so that a text with none
-/// of their beginnings costs as much as if one were sought, however many there are.
+/// Whether 32 digits are one of them is told by a table of 65,536 slots first, so that digits which
+/// begin and end as none of them does cost as much as if one were sought, however many there are.
 #[derive(Drop)]
 pub struct Keys {
     parts: Vec<HashPart>,
-    set: IndexSet<HashPart>,
+    table: IndexMap<[u8; 32], HashPart>,
     slots: Vec<bool>,
 }
 
@@ -34,18 +35,42 @@ impl Model for Keys {
 
     ghost view = { λ keys. keys.parts.items };
 
-    ghost invariant = { λ keys. IsSet keys.parts.items keys.set.keys keys.slots.items };
+    ghost invariant = { λ keys. IsSet keys.parts.items keys.table.entries keys.slots.items };
 }
 
-/// The slot of a window of 32 bytes.
+/// Eight bytes of a window as a number.
+fn word_at(window: &[u8; 32], at: usize) -> u64
+    requires { at + 8 ≤ 32 }
+    ensures { result ≡ from_le_bytes w64 (take 8 (drop at window.now)) }
+{
+    match window[at..].first_chunk::<8>() {
+        Some(bytes) => u64::from_le_bytes(*bytes),
+        None => unreachable!(),
+    }
+}
+
+/// The slot of a window.
 #[tactic(auto, unfolding(crate::specs::Searching::slot_of))]
-fn slot_of(window: &[u8]) -> usize
-    requires { length window.now ≡ 32 }
+fn slot_of(window: &[u8; 32]) -> usize
     ensures slot { result ≡ slot_of window.now }
     ensures below { result < 65536 }
 {
-    match window.first_chunk::<8>() {
-        Some(first) => (u64::from_le_bytes(*first).wrapping_mul(FACTOR) >> 48) as usize,
+    let first = word_at(window, 0);
+    let last = word_at(window, 24);
+    let mixed = first
+        .wrapping_mul(FACTOR)
+        .wrapping_add(last)
+        .wrapping_mul(FACTOR);
+    (mixed >> 48) as usize
+}
+
+/// The digits of a hash part.
+fn digits_of(part: &HashPart) -> &[u8; 32]
+    ensures value { result.now ≡ part.now }
+    ensures digits { IsHashPart part.now }
+{
+    match part.bytes().first_chunk::<32>() {
+        Some(digits) => digits,
         None => unreachable!(),
     }
 }
@@ -61,7 +86,7 @@ impl Keys {
     {
         Ok(Keys {
             parts: Vec::new(alloc),
-            set: IndexSet::new(alloc),
+            table: IndexMap::new(alloc),
             slots: vec![in alloc; false; SLOTS]?,
         })
     }
@@ -76,10 +101,11 @@ impl Keys {
         ensures unchanged { OnErr result (self.new ≡ self.old) }
     {
         self.parts.reserve(1)?;
-        self.set.reserve(1)?;
-        let slot = slot_of(part.bytes());
+        self.table.reserve(1)?;
+        let digits = digits_of(&part);
+        let slot = slot_of(digits);
         self.slots[slot] = true;
-        let _is_new = self.set.insert(part).unwrap();
+        let _before = self.table.insert(*digits, part).unwrap();
         self.parts.push_reserved(part);
         Ok(())
     }
@@ -93,21 +119,16 @@ impl Keys {
     }
 
     /// The hash part that a window of 32 bytes is, if it is one of these.
-    pub(crate) fn find(&self, window: &[u8]) -> Option<HashPart>
-        requires { length window.now ≡ 32 }
+    pub(crate) fn find(&self, window: &[u8; 32]) -> Option<HashPart>
         ensures found { result ≡ found self.now window.now }
         ensures keys { AreKeys (among self.now) }
     {
         if !self.slots[slot_of(window)] {
             return None;
         }
-        let Ok(part) = HashPart::read(window) else {
-            return None;
-        };
-        if self.set.contains(&part) {
-            Some(part)
-        } else {
-            None
+        match self.table.get(window) {
+            Some(part) => Some(*part),
+            None => None,
         }
     }
 }

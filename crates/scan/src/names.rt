@@ -32,7 +32,8 @@ fn split_text(text: &[u8]) -> Option<(&[u8], &[u8])>
     Some((string, rest))
 }
 
-/// The piece at the front of an archive's text: its string, if that is the name of an entry, and what follows it.
+/// The piece at the front of an archive's text: its string, if that is the name of an entry, and
+/// what follows it.
 #[tactic(auto, unfolding(crate::specs::Pieces::piece_front, crate::specs::Pieces::piece_behind))]
 fn split_piece(text: &[u8]) -> Option<(Option<&[u8]>, &[u8])>
     ensures { option_map (λ r. (option_copied r.0, r.1.now)) result ≡ piece_front text.now }

@@ -1,32 +1,30 @@
--- What a desk holds in the table, and what one source more adds to it.
-use Rattle.std.proofs.Common.{◌≡◌, ℕ, suc, ◌+◌, ◌≤◌, Bool, true, false, inl, inr, List, [], ◌∷◌, ◌++◌, length, refl, sym, ◌∙◌, ap, subst, arith, Option, Some, None, Err}
-use Rattle.std.specs.Prelude.{is_some, All, filter, map, not, unwrap_or, bytes_eq, nat_le, ◌&&◌, if◌then◌else◌}
+-- What a desk holds in the table.
+use Rattle.std.proofs.Common.{◌≡◌, ℕ, suc, ◌+◌, ◌≤◌, Bool, true, false, inl, inr, List, [], ◌∷◌, ◌++◌, length, refl, sym, ◌∙◌, ap, subst, arith, Option, Some, None}
+use Rattle.std.specs.Prelude.{is_some, All, map, unwrap_or, bytes_eq, nat_le, ◌&&◌, if◌then◌else◌}
 use Rattle.std.specs.List.{list_any}
-use Rattle.std.proofs.lemmas.List.Elements.{All-nil, All-head, All-tail, All-weaker, All-push}
-use Rattle.std.proofs.lemmas.List.Sums.{sum_by_push}
+use Rattle.std.proofs.lemmas.List.Elements.{All-nil, All-cons, All-head, All-tail, All-weaker}
 use Rattle.std.proofs.lemmas.List.{length-append}
 use Rattle.std.proofs.lemmas.Bool.Decides.{nat_tests}
-use Rattle.model.specs.Archives.{Tree, Link, nar}
+use Rattle.model.specs.Archives.{Tree, Link}
 use Rattle.model.specs.Classes.{Known, Admission}
 use Rattle.model.specs.Reach.{is_among}
-use Rattle.model.specs.Limits.{most_sources, most_derivations}
-use Rattle.model.specs.Worlds.{Source, Desk, Setup, tree_at, first_of_each, charge_of, is_within, has_source, with_source, known_of, with_derivation}
-use Rattle.model.specs.Events.{Path}
-use Rattle.model.specs.Outcomes.{becomes}
-use Rattle.model.specs.SourceRequests.{add_source}
-use Rattle.model.specs.declared.refusal.Refusal.TheVariants.{Quota}
+use Rattle.model.specs.Limits.{most_sources, most_derivations, most_records}
+use Rattle.model.specs.Worlds.{Source, tree_at, tree_of_record, held, held_at, one_of_each, charge_of, is_within, known_of, with_derivation}
 use Rattle.model.proofs.BoolLemmas.{either, same_bytes}
-use Rattle.schedule.specs.Stored.{Holdings, holds_derivation}
-use Rattle.schedule.specs.Sound.{sources_at, desk_of, IsSound, Extends, IsEmpty}
+use Rattle.realise.specs.Recorded.{Recorded, without_tree}
+use Rattle.store.specs.Stored.{Extends}
+use Rattle.schedule.specs.Stored.{Holdings, paths_of, holds_derivation}
+use Rattle.schedule.specs.Sound.{source_at, sources_at, records_at, desk_of, IsSound, IsEmpty}
 
 -- a path of the table
-abbrev IsKnown : List Source → List ℕ → Type 0
+abbrev pub IsKnown : List Source → List ℕ → Type 0
 IsKnown table path = is_some (tree_at path table) ≡ true
 
 -- ---- a later table
 
 -- the same sources stand in it
-pub same_sources : (old new : List Source) → Extends old new → (paths : List (List ℕ)) → All (IsKnown old) paths → sources_at new paths ≡ sources_at old paths
+pub same_sources : (old new : List Source) → Extends old new → (paths : List (List ℕ)) → All (IsKnown old) paths
+    → sources_at new paths ≡ sources_at old paths
 same_sources old new later [] known = refl
 same_sources old new later (p ∷ paths) known =
     rw (later p (All-head (IsKnown old) p paths known), same_sources old new later paths (All-tail (IsKnown old) p paths known)) refl
@@ -34,10 +32,34 @@ same_sources old new later (p ∷ paths) known =
 pub known_kept : (old new : List Source) → Extends old new → (paths : List (List ℕ)) → All (IsKnown old) paths → All (IsKnown new) paths
 known_kept old new later paths known = All-weaker (IsKnown old) (IsKnown new) (λ p h. rw (later p h) h) paths known
 
+-- the same records stand in it
+pub same_records : (old new : List Source) → Extends old new → (records : List Recorded) → All (IsKnown old) (map (λ r. r.path) records)
+    → records_at new records ≡ records_at old records
+same_records old new later [] known = refl
+same_records old new later (r ∷ records) known =
+    let paths : List (List ℕ) = map (λ q. q.path) records in
+    rw (later r.path (All-head (IsKnown old) r.path paths known), same_records old new later records (All-tail (IsKnown old) r.path paths known)) refl
+
+-- what is known in front, and behind
+known_front : (table : List Source) (xs ys : List (List ℕ)) → All (IsKnown table) (xs ++ ys) → All (IsKnown table) xs
+known_front table [] ys known = All-nil (IsKnown table)
+known_front table (x ∷ xs) ys known = All-cons (IsKnown table) x xs (All-head (IsKnown table) x (xs ++ ys) known) (known_front table xs ys (All-tail (IsKnown table) x (xs ++ ys) known))
+
+known_back : (table : List Source) (xs ys : List (List ℕ)) → All (IsKnown table) (xs ++ ys) → All (IsKnown table) ys
+known_back table [] ys known = known
+known_back table (x ∷ xs) ys known = known_back table xs ys (All-tail (IsKnown table) x (xs ++ ys) known)
+
+pub sources_known : (table : List Source) (limit : ℕ) (d : Holdings) → IsSound table limit d → All (IsKnown table) d.known.sources
+sources_known table limit d sound = known_front table d.known.sources (map (λ r. r.path) d.records) sound.known
+
+pub records_known : (table : List Source) (limit : ℕ) (d : Holdings) → IsSound table limit d → All (IsKnown table) (map (λ r. r.path) d.records)
+records_known table limit d sound = known_back table d.known.sources (map (λ r. r.path) d.records) sound.known
+
 pub desk_kept : (old new : List Source) (limit : ℕ) (d : Holdings) → Extends old new → IsSound old limit d → desk_of new d ≡ desk_of old d
 desk_kept old new limit d later sound =
-    let P : List Source → Desk = λ sources. record { trusted = λ name. is_among name d.trusted; sources = sources; derivations = d.known.derivations } in
-    ap P (same_sources old new later d.known.sources sound.known)
+    let sources : sources_at new d.known.sources ≡ sources_at old d.known.sources = same_sources old new later d.known.sources (sources_known old limit d sound) in
+    let records : records_at new d.records ≡ records_at old d.records = same_records old new later d.records (records_known old limit d sound) in
+    λ i. record { trusted = λ name. is_among name d.trusted; sources = sources i; derivations = d.known.derivations; records = records i }
 
 pub sound_kept : (old new : List Source) (limit : ℕ) (d : Holdings) → Extends old new → IsSound old limit d → IsSound new limit d
 sound_kept old new limit d later sound = record {
@@ -45,17 +67,20 @@ sound_kept old new limit d later sound = record {
   within = sound.within;
   few_sources = sound.few_sources;
   few_derivations = sound.few_derivations;
-  known = known_kept old new later d.known.sources sound.known;
+  few_records = sound.few_records;
+  known = known_kept old new later (paths_of d) sound.known;
 }
 
 -- ---- what is held
 
 -- what a desk holds is among its sources
-pub held_found : (table : List Source) (paths : List (List ℕ)) (path : List ℕ) → list_any (λ p. bytes_eq p path) paths ≡ list_any (λ s. bytes_eq s.path path) (sources_at table paths)
+pub held_found : (table : List Source) (paths : List (List ℕ)) (path : List ℕ)
+    → list_any (λ p. bytes_eq p path) paths ≡ list_any (λ s. bytes_eq s.path path) (sources_at table paths)
 held_found table [] path = refl
 held_found table (p ∷ paths) path = rw (held_found table paths path) refl
 
-pub not_held : (table : List Source) (paths : List (List ℕ)) (path : List ℕ) → list_any (λ p. bytes_eq p path) paths ≡ false → tree_at path (sources_at table paths) ≡ None
+pub not_held : (table : List Source) (paths : List (List ℕ)) (path : List ℕ) → list_any (λ p. bytes_eq p path) paths ≡ false
+    → tree_at path (sources_at table paths) ≡ None
 not_held table [] path h = refl
 not_held table (p ∷ paths) path h = elim (either (bytes_eq p path)) [
   | inl t ↦ let there = rw t at h in cc
@@ -67,7 +92,8 @@ some_of None d h = cc
 some_of (Some t) d h = refl
 
 -- what is held is found as the table has it
-pub held_same : (table : List Source) (paths : List (List ℕ)) (path : List ℕ) → All (IsKnown table) paths → list_any (λ p. bytes_eq p path) paths ≡ true → tree_at path (sources_at table paths) ≡ tree_at path table
+pub held_same : (table : List Source) (paths : List (List ℕ)) (path : List ℕ) → All (IsKnown table) paths
+    → list_any (λ p. bytes_eq p path) paths ≡ true → tree_at path (sources_at table paths) ≡ tree_at path table
 held_same table [] path known h = cc
 held_same table (p ∷ paths) path known h = elim (either (bytes_eq p path)) [
   | inl t ↦
@@ -77,95 +103,56 @@ held_same table (p ∷ paths) path known h = elim (either (bytes_eq p path)) [
 ]
 
 -- what a user holds at a path is what the table has there, if the path is his
-pub held_is : (table : List Source) (paths : List (List ℕ)) (path : List ℕ) → All (IsKnown table) paths → (if list_any (λ p. bytes_eq p path) paths then tree_at path table else None) ≡ tree_at path (sources_at table paths)
+pub held_is : (table : List Source) (paths : List (List ℕ)) (path : List ℕ) → All (IsKnown table) paths
+    → (if list_any (λ p. bytes_eq p path) paths then tree_at path table else None) ≡ tree_at path (sources_at table paths)
 held_is table paths path known = elim (either (list_any (λ p. bytes_eq p path) paths)) [
   | inl t ↦ rw t (sym (held_same table paths path known t))
   | inr f ↦ rw f (sym (not_held table paths path f))
 ]
 
-pub held_known : (table : List Source) (paths : List (List ℕ)) (path : List ℕ) → All (IsKnown table) paths → list_any (λ p. bytes_eq p path) paths ≡ true → is_some (tree_at path table) ≡ true
+pub held_known : (table : List Source) (paths : List (List ℕ)) (path : List ℕ) → All (IsKnown table) paths
+    → list_any (λ p. bytes_eq p path) paths ≡ true → is_some (tree_at path table) ≡ true
 held_known table [] path known h = cc
 held_known table (p ∷ paths) path known h = elim (either (bytes_eq p path)) [
   | inl t ↦ subst (IsKnown table) (same_bytes p path t) (All-head (IsKnown table) p paths known)
   | inr f ↦ held_known table paths path (All-tail (IsKnown table) p paths known) (rw f at h)
 ]
 
--- ---- one source more
+-- the trees of records are those at their paths
+pub trees_at : (table : List Source) (records : List Recorded)
+    → map tree_of_record (records_at table records) ≡ sources_at table (map (λ r. r.path) records)
+trees_at table [] = refl
+trees_at table (r ∷ records) = ap (λ rest. source_at table r.path ∷ rest) (trees_at table records)
 
-sources_at-push : (table : List Source) (paths : List (List ℕ)) (path : List ℕ) (tree : Tree) → tree_at path table ≡ Some tree → sources_at table (paths ++ path ∷ []) ≡ sources_at table paths ++ record { path = path; tree = tree } ∷ []
-sources_at-push table [] path tree e = rw e refl
-sources_at-push table (p ∷ paths) path tree e = rw (sources_at-push table paths path tree e) refl
+sources_at-append : (table : List Source) (xs ys : List (List ℕ)) → sources_at table (xs ++ ys) ≡ sources_at table xs ++ sources_at table ys
+sources_at-append table [] ys = refl
+sources_at-append table (x ∷ xs) ys = ap (λ rest. source_at table x ∷ rest) (sources_at-append table xs ys)
 
-filter-push : (q : Source → Bool) (xs : List Source) (s : Source) → q s ≡ true → filter q (xs ++ s ∷ []) ≡ filter q xs ++ s ∷ []
-filter-push q [] s h = rw h refl
-filter-push q (x ∷ xs) s h = elim (either (q x)) [
-  | inl t ↦ rw t (ap (λ rest. x ∷ rest) (filter-push q xs s h))
-  | inr f ↦ rw f (filter-push q xs s h)
-]
+-- what a desk holds, by its paths
+pub held_paths : (table : List Source) (d : Holdings) → held (desk_of table d) ≡ sources_at table (paths_of d)
+held_paths table d =
+    let paths : List (List ℕ) = map (λ r. r.path) d.records in
+    ap (λ rest. sources_at table d.known.sources ++ rest) (trees_at table d.records) ∙ sym (sources_at-append table d.known.sources paths)
 
-first_of_each-push : (xs : List Source) (s : Source) → list_any (λ x. bytes_eq x.path s.path) xs ≡ false → first_of_each (xs ++ s ∷ []) ≡ first_of_each xs ++ s ∷ []
-unfolding first_of_each
-first_of_each-push [] s h = refl
-first_of_each-push (x ∷ xs) s h = elim (either (bytes_eq x.path s.path)) [
-  | inl t ↦ let there = rw t at h in cc
-  | inr f ↦
-      let other : not (bytes_eq s.path x.path) ≡ true = rw (Rattle.schedule.proofs.EntryLemmas.bytes_eq_sym s.path x.path, f) refl in
-      let rest : first_of_each (xs ++ s ∷ []) ≡ first_of_each xs ++ s ∷ [] = first_of_each-push xs s (rw f at h) in
-      ap (λ ys. x ∷ filter (λ t. not (bytes_eq t.path x.path)) ys) rest ∙ ap (λ ys. x ∷ ys) (filter-push (λ t. not (bytes_eq t.path x.path)) (first_of_each xs) s other)
-]
+-- what a user holds at a path is what the table has there, if the path is his
+pub held_in_table : (table : List Source) (limit : ℕ) (d : Holdings) (path : List ℕ) → IsSound table limit d
+    → (if list_any (λ p. bytes_eq p path) (paths_of d) then tree_at path table else None) ≡ held_at path (desk_of table d)
+held_in_table table limit d path sound = held_is table (paths_of d) path sound.known ∙ ap (tree_at path) (sym (held_paths table d))
 
-pub charge_of-with_source : (d : Desk) (s : Source) → has_source s.path d ≡ false → charge_of (with_source s d) ≡ charge_of d + length (nar s.tree)
-unfolding charge_of
-charge_of-with_source d s h = rw (first_of_each-push d.sources s h) (sum_by_push (λ t. length (nar t.tree)) (first_of_each d.sources) s)
+-- records without their trees
+pub records_without : (table : List Source) (records : List Recorded) → map without_tree (records_at table records) ≡ records
+records_without table [] = refl
+records_without table (r ∷ records) = ap (λ rest. r ∷ rest) (records_without table records)
 
--- a desk that holds one path more
-pub record HoldsMore (table : List Source) (before after : Holdings) (s : Source) : Type 0 where
-  pub there : tree_at s.path table ≡ Some s.tree
-  pub trusted : after.trusted ≡ before.trusted
-  pub known : after.known ≡ record before.known { sources = before.known.sources ++ s.path ∷ [] }
-  pub charge : after.charge ≡ before.charge + length (nar s.tree)
+-- ---- how many there are
 
-pub desk_of-more : (old new : List Source) (limit : ℕ) (before after : Holdings) (s : Source) → Extends old new → IsSound old limit before → HoldsMore new before after s → desk_of new after ≡ with_source s (desk_of old before)
-desk_of-more old new limit before after s later sound more =
-    let D : List (List ℕ) → Known → Desk = λ trusted known. record { trusted = λ name. is_among name trusted; sources = sources_at new known.sources; derivations = known.derivations } in
-    let P : List Source → Desk = λ sources. record { trusted = λ name. is_among name before.trusted; sources = sources; derivations = before.known.derivations } in
-    let paths : List (List ℕ) = before.known.sources in
-    (λ i. D (more.trusted i) (more.known i)) ∙ ap P (sources_at-push new paths s.path s.tree more.there ∙ ap (λ xs. xs ++ s ∷ []) (same_sources old new later paths sound.known))
-
-pub sound-more : (old new : List Source) (limit : ℕ) (before after : Holdings) (s : Source) → Extends old new → IsSound old limit before → HoldsMore new before after s → list_any (λ p. bytes_eq p s.path) before.known.sources ≡ false
-    → length before.known.sources + 1 ≤ most_sources → before.charge + length (nar s.tree) ≤ limit → IsSound new limit after
-sound-more old new limit before after s later sound more absent few within = record {
-  charged =
-      rw (desk_of-more old new limit before after s later sound more, charge_of-with_source (desk_of old before) s (sym (held_found old before.known.sources s.path) ∙ absent), ← sound.charged) more.charge;
-  within = rw more.charge within;
-  few_sources = omega (arith, few, length-append before.known.sources (s.path ∷ []), ap (λ k. length k.sources) more.known);
-  few_derivations = rw more.known sound.few_derivations;
-  known = rw more.known (All-push (IsKnown new) before.known.sources s.path (known_kept old new later before.known.sources sound.known) (rw more.there refl));
-}
-
--- ---- what the model says of it
-
-pub add_known : (setup : Setup) (d : Desk) (name : List ℕ) (tree : Tree) (path : List ℕ) → path ≡ Rattle.model.specs.Paths.source_path tree name → has_source path d ≡ true → add_source setup d name tree ≡ becomes d (Path path)
-add_known setup d name tree path e h = rw (← e, h) refl
-
-pub add_refused : (setup : Setup) (d : Desk) (name : List ℕ) (tree : Tree) (path : List ℕ) → path ≡ Rattle.model.specs.Paths.source_path tree name → has_source path d ≡ false → is_within setup (with_source (record { path = path; tree = tree }) d) ≡ false → add_source setup d name tree ≡ Err Quota
-add_refused setup d name tree path e h over = rw (← e, h, over) refl
-
-pub add_new : (setup : Setup) (d : Desk) (name : List ℕ) (tree : Tree) (path : List ℕ) → path ≡ Rattle.model.specs.Paths.source_path tree name → has_source path d ≡ false → is_within setup (with_source (record { path = path; tree = tree }) d) ≡ true → add_source setup d name tree ≡ becomes (with_source (record { path = path; tree = tree }) d) (Path path)
-add_new setup d name tree path e h within = rw (← e, h, within) refl
-
-length-sources_at : (table : List Source) (paths : List (List ℕ)) → length (sources_at table paths) ≡ length paths
+pub length-sources_at : (table : List Source) (paths : List (List ℕ)) → length (sources_at table paths) ≡ length paths
 length-sources_at table [] = refl
 length-sources_at table (p ∷ paths) = ap (λ n. suc n) (length-sources_at table paths)
 
--- whether a desk with one source more is within its limits
-pub is_within-more : (users : List (List ℕ)) (table : List Source) (limit : ℕ) (d : Holdings) (s : Source) → IsSound table limit d → list_any (λ p. bytes_eq p s.path) d.known.sources ≡ false
-    → is_within (record { users = users; charge = limit }) (with_source s (desk_of table d)) ≡ (nat_le (length d.known.sources + 1) most_sources && nat_le (d.charge + length (nar s.tree)) limit)
-unfolding is_within
-is_within-more users table limit d s sound absent =
-    let count : length (sources_at table d.known.sources ++ s ∷ []) ≡ length d.known.sources + 1 = rw (length-append (sources_at table d.known.sources) (s ∷ []), length-sources_at table d.known.sources) refl in
-    let few : nat_le (length d.known.derivations) most_derivations ≡ true = grind (arith, nat_tests, sound.few_derivations) in
-    rw (count, few, charge_of-with_source (desk_of table d) s (sym (held_found table d.known.sources s.path) ∙ absent), ← sound.charged) refl
+pub length-records_at : (table : List Source) (records : List Recorded) → length (records_at table records) ≡ length records
+length-records_at table [] = refl
+length-records_at table (r ∷ records) = ap (λ n. suc n) (length-records_at table records)
 
 -- ---- derivations
 
@@ -183,13 +170,15 @@ known_of-desk_of table d =
     let K : List (List ℕ) → Known = λ paths. record { derivations = d.known.derivations; sources = paths } in
     ap K (paths_at table d.known.sources)
 
-pub sound-derivation : (table : List Source) (limit : ℕ) (d : Holdings) (a : Admission) → IsSound table limit d → length d.known.derivations + 1 ≤ most_derivations → IsSound table limit (holds_derivation a d)
+pub sound-derivation : (table : List Source) (limit : ℕ) (d : Holdings) (a : Admission) → IsSound table limit d
+    → length d.known.derivations + 1 ≤ most_derivations → IsSound table limit (holds_derivation a d)
 unfolding charge_of
 sound-derivation table limit d a sound few = record {
   charged = sound.charged;
   within = sound.within;
   few_sources = sound.few_sources;
   few_derivations = omega (arith, few, length-append d.known.derivations (a ∷ []));
+  few_records = sound.few_records;
   known = sound.known;
 }
 
@@ -200,17 +189,19 @@ unfolding is_within charge_of
 is_within-derivation users table limit d a sound =
     let count : length (d.known.derivations ++ a ∷ []) ≡ length d.known.derivations + 1 = length-append d.known.derivations (a ∷ []) in
     let few : nat_le (length (sources_at table d.known.sources)) most_sources ≡ true = grind (arith, nat_tests, sound.few_sources, length-sources_at table d.known.sources) in
+    let recorded : nat_le (length (records_at table d.records)) most_records ≡ true = grind (arith, nat_tests, sound.few_records, length-records_at table d.records) in
     let charge : nat_le (charge_of (desk_of table d)) limit ≡ true = grind (arith, nat_tests, sound.within, sound.charged) in
-    rw (few, count, charge) (and_true (nat_le (length d.known.derivations + 1) most_derivations))
+    rw (few, count, recorded, charge) (and_true (nat_le (length d.known.derivations + 1) most_derivations))
 
 -- ---- empty desks
 
 pub empty_sound : (table : List Source) (limit : ℕ) (d : Holdings) → IsEmpty d → IsSound table limit d
-unfolding charge_of first_of_each
+unfolding charge_of one_of_each
 empty_sound table limit d e = record {
-  charged = rw (e.known, e.charge) refl;
+  charged = rw (e.known, e.records, e.charge) refl;
   within = rw e.charge (omega arith);
   few_sources = rw e.known (omega arith);
   few_derivations = rw e.known (omega arith);
-  known = rw e.known (All-nil (IsKnown table));
+  few_records = rw e.records (omega arith);
+  known = rw (e.known, e.records) (All-nil (IsKnown table));
 }

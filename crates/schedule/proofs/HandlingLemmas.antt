@@ -1,39 +1,44 @@
 -- What is said of one desk holds of the world.
 use Rattle.std.proofs.Common.{◌≡◌, ℕ, ◌<◌, get_or, true, false, List, length, length-set, refl, sym, ◌∙◌, ap, subst, rules, Some, None, Result, Ok, Err}
-use Rattle.std.specs.Prelude.{All, OnOk, OnErr, IfOk, IfErr, bytes_eq, slice_get, slice_set, position, nat_le}
+use Rattle.std.specs.Prelude.{All, Contains, OnOk, OnErr, IfOk, IfErr, bytes_eq, slice_get, slice_set, position, nat_le}
 use Rattle.std.proofs.lemmas.Result.{on_err_weaker, on_ok_weaker}
 use Rattle.std.proofs.lemmas.Option.{slice_get_within, slice_get-get_or, get_or_from_slice_get}
 use Rattle.std.proofs.lemmas.List.Elements.{All-get_or, All-set, All-weaker}
 use Rattle.model.specs.declared.refusal.Refusal.{Refusal}
 use Rattle.model.specs.declared.refusal.Refusal.TheVariants.{UnknownUser, Memory, Clash}
-use Rattle.model.specs.Archives.{Tree}
+use Rattle.model.specs.Archives.{Tree, IsTree}
 use Rattle.model.specs.Paths.{source_path}
 use Rattle.model.specs.Derivations.{Derivation}
 use Rattle.model.specs.DerivationTexts.{derivation_of_text}
 use Rattle.model.specs.Limits.{most_derivation_bytes}
-use Rattle.model.specs.Worlds.{Source, Setup, Desk, held_at}
+use Rattle.model.specs.Worlds.{Source, Setup, Desk, World, held_at}
 use Rattle.model.specs.Events.{Request, AddSource, AddDerivation, Fetch, Event, Content}
-use Rattle.model.specs.Outcomes.{becomes}
+use Rattle.model.specs.Outcomes.{Sight, becomes, add_entry}
+use Rattle.model.specs.HashedTexts.{texts_of}
 use Rattle.model.specs.SourceRequests.{fetch}
 use Rattle.model.specs.Replies.{is_clash_refusal, is_refused}
 use Rattle.model.specs.Steps.{outcome}
 use Rattle.schedule.specs.declared.events.Reply as Rust
-use Rattle.schedule.specs.Stored.{Holdings, IsAdded, IsTaken}
-use Rattle.schedule.specs.Sound.{desk_of, IsSound}
+use Rattle.schedule.specs.declared.entry.Entry.{Entry}
+use Rattle.schedule.specs.declared.entry.Entry.TheVariants as entry
+use Rattle.store.specs.Stored.{IsAdded, IsTaken}
+use Rattle.schedule.specs.Stored.{Holdings, entry_path, entry_with, stored_by, put_any}
+use Rattle.schedule.specs.Sound.{desk_of, IsSound, IsHashed}
 use Rattle.schedule.specs.Standing.{reply_of, parts, desk_among}
-use Rattle.schedule.specs.Handling.{Fits, Serves, ServesAtOnce, IsKept, IsHandledAtDesk, AddsSource, AddsDerivation, IsHandled}
+use Rattle.schedule.specs.Handling.{Fits, Serves, ServesAtOnce, IsKept, IsHandledAtDesk, AddsEntry, AddsDerivation, IsHandled}
 use Rattle.schedule.proofs.DeskLemmas.{sound_kept}
 use Rattle.schedule.proofs.DerivationLemmas.{derivation_read}
-use Rattle.schedule.proofs.TableLemmas.{put_once-Extends}
+use Rattle.store.proofs.TableLemmas.{put_once-Extends, put_once-All}
 use Rattle.schedule.proofs.WorldLemmas.{IsPlace, place_found, place_below, place_is_among, no_place, desk_found}
-use Rattle.schedule.proofs.StepLemmas.{either_way, kept_sound, kept_later, kept_desk, source_hashed, source_at_once, derivation_at_once, fetch_at_once, step_unknown, step_at_once, told_result, refused_result, world_kept}
+use Rattle.schedule.proofs.StepLemmas.{either_way, on_ok_any, kept_sound, kept_later, kept_desk, source_hashed, source_at_once, derivation_at_once, fetch_at_once, step_unknown, step_at_once, told_result, refused_result, world_kept}
 
 -- ---- all events
 
 -- a handler of one desk handles its event
 pub at_desk : (users : List (List ℕ)) (limit : ℕ) (old new : List Source) (desks : List Holdings) (e : Event) (i : ℕ) (before now : Holdings) (result : Result Rust.Reply Refusal)
     → All (IsSound old limit) desks → position (λ n. bytes_eq n e.actor) users ≡ Some i → slice_get desks i ≡ Some before
-    → IsHandledAtDesk limit old before e.request result new now → IsHandled (parts users limit old desks) e result (parts users limit new (slice_set desks i now))
+    → IsHandledAtDesk limit old before e.request result new now
+    → IsHandled (parts users limit old desks) e result (parts users limit new (slice_set desks i now))
 at_desk users limit old new desks e i before now result sound found here handled =
     let setup : Setup = record { users = users; charge = limit } in
     let place : IsPlace users e.actor i = place_found users e.actor i found in
@@ -52,15 +57,20 @@ at_desk users limit old new desks e i before now result sound found here handled
       grows = handled.grows;
       hashed = λ texts hashed inside.
           handled.hashed texts setup (desk_among old users desks) e.actor (desk_found old users desks e.actor i before place here) hashed (rw (place_is_among users e.actor i place) at inside);
-      taken = handled.taken;
+      taken = λ clash. rw (desk_found old users desks e.actor i before place here) (handled.taken clash);
+      clashes = λ clash texts inside.
+          handled.clashes clash texts setup (desk_among old users desks) e.actor (desk_found old users desks e.actor i before place here) (rw (place_is_among users e.actor i place) at inside);
+      stored = rw (desk_found old users desks e.actor i before place here) handled.stored;
     }
 
 -- the place of a user has a desk
-pub place_there : (users : List (List ℕ)) (desks : List Holdings) (u : List ℕ) (i : ℕ) (d : Holdings) → length desks ≡ length users → position (λ n. bytes_eq n u) users ≡ Some i → slice_get desks i ≡ Some (get_or desks i d)
+pub place_there : (users : List (List ℕ)) (desks : List Holdings) (u : List ℕ) (i : ℕ) (d : Holdings) → length desks ≡ length users
+    → position (λ n. bytes_eq n u) users ≡ Some i → slice_get desks i ≡ Some (get_or desks i d)
 place_there users desks u i d paired found = slice_get-get_or desks i d (subst (λ n. i < n) (sym paired) (place_below users u i found))
 
 -- the desk at a place is within its limits
-pub sound_at : (table : List Source) (limit : ℕ) (desks : List Holdings) (i : ℕ) (d : Holdings) → All (IsSound table limit) desks → slice_get desks i ≡ Some d → IsSound table limit d
+pub sound_at : (table : List Source) (limit : ℕ) (desks : List Holdings) (i : ℕ) (d : Holdings) → All (IsSound table limit) desks
+    → slice_get desks i ≡ Some d → IsSound table limit d
 sound_at table limit desks i d sound here =
     subst (IsSound table limit) (get_or_from_slice_get desks i d d here) (All-get_or (IsSound table limit) desks i d (slice_get_within desks i d here) sound)
 
@@ -81,6 +91,8 @@ stranger users limit table desks e sound none =
       grows = λ path there. refl;
       hashed = λ texts hashed inside. hashed;
       taken = λ clash. cc;
+      clashes = λ clash. cc;
+      stored = search rules;
     }
 
 -- ---- events of one desk
@@ -92,9 +104,11 @@ is_left table desk (Err why) = record { sources = refl; desk = refl }
 -- what is left as it was, by a request that is refused at a desk
 pub left : (limit : ℕ) (table : List Source) (desk : Holdings) (request : Request) (result : Result Rust.Reply Refusal) → IsSound table limit desk
     → ((users : List (List ℕ)) → Serves (record { users = users; charge = limit }) (desk_of table desk) request (desk_of table desk) result)
-    → ServesAtOnce (desk_of table desk) request result → IfOk result (λ r. is_refused (reply_of r) ≡ false) → IfErr result (λ why. is_clash_refusal why ≡ false)
+    → ServesAtOnce (desk_of table desk) request result → IfOk result (λ r. is_refused (reply_of r) ≡ false)
+    → IfErr result (λ why. is_clash_refusal why ≡ false)
+    → OnOk result (table ≡ put_any (stored_by (desk_of table desk) request) table)
     → IsHandledAtDesk limit table desk request result table desk
-left limit table desk request result sound serves at_once answered no_clash = record {
+left limit table desk request result sound serves at_once answered no_clash stored = record {
   serves = serves;
   answered = answered;
   at_once = at_once;
@@ -103,33 +117,59 @@ left limit table desk request result sound serves at_once answered no_clash = re
   grows = λ path there. refl;
   hashed = λ texts setup w u here hashed inside. hashed;
   taken = λ clash. (let no = rw clash at no_clash in cc);
+  clashes = λ clash. (let no = rw clash at no_clash in cc);
+  stored = stored;
 }
 
--- a source is added
-pub source_handled : (limit : ℕ) (old new : List Source) (before now : Holdings) (name : List ℕ) (tree : Tree) (path : List ℕ) (result : Result Rust.Reply Refusal)
-    → IsSound old limit before → path ≡ source_path tree name → AddsSource limit old before path tree result new now → IfOk result (λ r. is_refused (reply_of r) ≡ false)
-    → OnOk result (IsAdded path tree old new) → OnOk result (IsSound new limit now) → OnErr result (IsKept old new before now) → (result ≡ Err Clash → IsTaken old path tree)
-    → IsHandledAtDesk limit old before (AddSource name tree) result new now
-unfolding outcome
-source_handled limit old new before now name tree path result sound is adds answered stored sound_now kept taken =
-    let s : Source = record { path = path; tree = tree } in
+-- an entry is added with its tree
+pub entry_handled : (limit : ℕ) (old new : List Source) (before now : Holdings) (request : Request) (entry : Entry) (tree : Tree) (result : Result Rust.Reply Refusal)
+    → let s : Source = record { path = entry_path entry; tree = tree } in
+    IsSound old limit before
+    → ((setup : Setup) (sight : Sight) → sight.desk ≡ desk_of old before → outcome setup sight request ≡ add_entry setup (desk_of old before) (entry_with tree entry))
+    → ServesAtOnce (desk_of old before) request result
+    → stored_by (desk_of old before) request ≡ Some s
+    → ((texts : List (List ℕ)) (setup : Setup) (w : World) (u : List ℕ) → w u ≡ desk_of old before → All (Contains texts) (texts_of setup w u request) → IsHashed texts s)
+    → AddsEntry limit old before entry tree result new now → IfOk result (λ r. is_refused (reply_of r) ≡ false)
+    → OnOk result (IsAdded (entry_path entry) tree old new) → OnOk result (IsSound new limit now) → OnErr result (IsKept old new before now)
+    → (result ≡ Err Clash → IsTaken old (entry_path entry) tree)
+    → IsHandledAtDesk limit old before request result new now
+entry_handled limit old new before now request entry tree result sound asks at_once stores hashes adds answered stored sound_now kept taken =
+    let s : Source = record { path = entry_path entry; tree = tree } in
     record {
-      serves = λ users sight same. rw same (adds users name is);
+      serves = λ users sight same. rw (asks (record { users = users; charge = limit }) sight same) (adds users);
       answered = answered;
-      at_once = source_at_once (desk_of old before) name tree result;
+      at_once = at_once;
       kept = kept;
       sound = either_way result (IsSound new limit now) sound_now (on_err_weaker result (kept_sound old new before now limit sound) kept);
       grows = either_way result _ (on_ok_weaker result (λ more. rw more (put_once-Extends s old)) stored) (on_err_weaker result (kept_later old new before now) kept);
       hashed = λ texts setup w u here hashed inside.
-          either_way result _ (on_ok_weaker result (λ more. rw more (source_hashed texts name tree path old is hashed inside)) stored) (on_err_weaker result (λ k. rw k.sources hashed) kept);
-      taken = λ clash. rw (← is) (taken clash);
+          either_way result _ (on_ok_weaker result (λ more. rw more (put_once-All (IsHashed texts) s old hashed (hashes texts setup w u here inside))) stored)
+          (on_err_weaker result (λ k. rw k.sources hashed) kept);
+      taken = λ clash. record { source = s; stores = stores; taken = taken clash };
+      clashes = λ clash texts setup w u here inside. record { source = s; hashed = hashes texts setup w u here inside; taken = taken clash };
+      stored = rw stores stored;
     }
 
-fetch_fits : (setup : Setup) (d : Desk) (path : List ℕ) (tree : Tree) (result : Result Rust.Reply Refusal) → held_at path d ≡ Some tree → IfOk result (λ r. reply_of r ≡ Content tree) → IfErr result (λ e. e ≡ Memory) → Fits (fetch d path) d result
+-- a source is added
+pub source_handled : (limit : ℕ) (old new : List Source) (before now : Holdings) (name : List ℕ) (tree : Tree) (path : List ℕ) (result : Result Rust.Reply Refusal)
+    → let entry : Entry = entry.Source path in
+    IsSound old limit before → path ≡ source_path tree name → IsTree tree → AddsEntry limit old before entry tree result new now → IfOk result (λ r. is_refused (reply_of r) ≡ false)
+    → OnOk result (IsAdded path tree old new) → OnOk result (IsSound new limit now) → OnErr result (IsKept old new before now)
+    → (result ≡ Err Clash → IsTaken old path tree)
+    → IsHandledAtDesk limit old before (AddSource name tree) result new now
+unfolding outcome
+source_handled limit old new before now name tree path result sound is whole =
+    entry_handled limit old new before now (AddSource name tree) (entry.Source path) tree result sound
+    (λ setup sight same. rw (same, is) refl) (source_at_once (desk_of old before) name tree result) (rw is refl)
+    (λ texts setup w u here inside. rw is (source_hashed texts name tree whole inside))
+
+fetch_fits : (setup : Setup) (d : Desk) (path : List ℕ) (tree : Tree) (result : Result Rust.Reply Refusal) → held_at path d ≡ Some tree
+    → IfOk result (λ r. reply_of r ≡ Content tree) → IfErr result (λ e. e ≡ Memory) → Fits (fetch d path) d result
 fetch_fits setup d path tree (Ok r) there content memory = rw there (ap (becomes d) (sym content))
 fetch_fits setup d path tree (Err e) there content memory = λ own. let wrong = rw memory at own in cc
 
-fetch_answered : (tree : Tree) (result : Result Rust.Reply Refusal) → IfOk result (λ r. reply_of r ≡ Content tree) → IfOk result (λ r. is_refused (reply_of r) ≡ false)
+fetch_answered : (tree : Tree) (result : Result Rust.Reply Refusal) → IfOk result (λ r. reply_of r ≡ Content tree)
+    → IfOk result (λ r. is_refused (reply_of r) ≡ false)
 fetch_answered tree (Ok r) content = rw content refl
 fetch_answered tree (Err e) content = search rules
 
@@ -138,17 +178,21 @@ no_clash_of_memory (Ok r) memory = search rules
 no_clash_of_memory (Err e) memory = rw memory refl
 
 -- a tree that is held is told
-pub fetch_handled : (limit : ℕ) (table : List Source) (desk : Holdings) (path : List ℕ) (tree : Tree) (result : Result Rust.Reply Refusal) → IsSound table limit desk
-    → held_at path (desk_of table desk) ≡ Some tree → IfOk result (λ r. reply_of r ≡ Content tree) → IfErr result (λ e. e ≡ Memory) → IsHandledAtDesk limit table desk (Fetch path) result table desk
+pub fetch_handled : (limit : ℕ) (table : List Source) (desk : Holdings) (path : List ℕ) (tree : Tree) (result : Result Rust.Reply Refusal)
+    → IsSound table limit desk
+    → held_at path (desk_of table desk) ≡ Some tree → IfOk result (λ r. reply_of r ≡ Content tree) → IfErr result (λ e. e ≡ Memory)
+    → IsHandledAtDesk limit table desk (Fetch path) result table desk
 unfolding outcome
 fetch_handled limit table desk path tree result sound there content memory =
     left limit table desk (Fetch path) result sound (λ users sight same. rw same (fetch_fits (record { users = users; charge = limit }) (desk_of table desk) path tree result there content memory))
-    (fetch_at_once (desk_of table desk) path result (λ none. let no = sym there ∙ none in cc)) (fetch_answered tree result content) (no_clash_of_memory result memory)
+    (fetch_at_once (desk_of table desk) path result (λ none. let no = sym there ∙ none in cc)) (fetch_answered tree result content) (no_clash_of_memory result memory) (on_ok_any result (table ≡ table) refl)
 
 -- a text is read as a derivation, which is added
 pub derivation_handled : (limit : ℕ) (table : List Source) (before now : Holdings) (text : List ℕ) (derivation : Derivation) (result : Result Rust.Reply Refusal)
-    → nat_le (length text) most_derivation_bytes ≡ true → derivation_of_text text ≡ Some derivation → AddsDerivation limit table before derivation result now
-    → IfOk result (λ r. is_refused (reply_of r) ≡ false) → IsSound table limit now → OnErr result (now ≡ before) → IfErr result (λ why. is_clash_refusal why ≡ false)
+    → nat_le (length text) most_derivation_bytes ≡ true → derivation_of_text text ≡ Some derivation
+    → AddsDerivation limit table before derivation result now
+    → IfOk result (λ r. is_refused (reply_of r) ≡ false) → IsSound table limit now → OnErr result (now ≡ before)
+    → IfErr result (λ why. is_clash_refusal why ≡ false)
     → IsHandledAtDesk limit table before (AddDerivation text) result table now
 unfolding outcome
 derivation_handled limit table before now text derivation result within read adds answered sound kept no_clash = record {
@@ -160,4 +204,6 @@ derivation_handled limit table before now text derivation result within read add
   grows = λ path there. refl;
   hashed = λ texts setup w u here hashed inside. hashed;
   taken = λ clash. (let no = rw clash at no_clash in cc);
+  clashes = λ clash. (let no = rw clash at no_clash in cc);
+  stored = on_ok_any result (table ≡ table) refl;
 }

@@ -1,8 +1,9 @@
-pub mod EntryLemmas
-pub mod TableLemmas
+pub mod ChargeLemmas
 pub mod DeskLemmas
+pub mod AddingLemmas
 pub mod DerivationLemmas
 pub mod WorldLemmas
 pub mod StepLemmas
 pub mod HandlingLemmas
+pub mod OfferLemmas
 pub mod RunLemmas

@@ -31,7 +31,8 @@ all_back P [] ys h = h
 all_back P (x ∷ xs) ys h = all_back P xs ys (All-tail P x (xs ++ ys) h)
 
 -- what holds of all texts of a run holds of those of its beginning
-hashed_front : (P : List ℕ → Type 0) (setup : Setup) (w : World) (xs ys : List ModelEvent) → All P (hashed setup w (xs ++ ys)) → All P (hashed setup w xs)
+hashed_front : (P : List ℕ → Type 0) (setup : Setup) (w : World) (xs ys : List ModelEvent) → All P (hashed setup w (xs ++ ys))
+    → All P (hashed setup w xs)
 unfolding hashed
 hashed_front P setup w [] ys h = All-nil P
 hashed_front P setup w (x ∷ xs) ys h =
@@ -45,15 +46,18 @@ hashed_front P setup w (x ∷ xs) ys h =
 pub record Reached (setup : Setup) (texts : List (List ℕ)) (core : Core) (served : List ModelEvent) (told : List Answer) : Type 0 where
   pub told_so : (later : List ModelEvent) → told ++ answers setup (world_of core) later ≡ answers setup nothing (served ++ later)
   pub stored : HasHashed texts core
-  pub left : (later : List ModelEvent) → All (Contains texts) (hashed setup nothing (served ++ later)) → All (Contains texts) (hashed setup (world_of core) later)
+  pub left : (later : List ModelEvent) → All (Contains texts) (hashed setup nothing (served ++ later))
+      → All (Contains texts) (hashed setup (world_of core) later)
 
 -- a run on its way, with the events so far that were answered otherwise than with 90
 pub record Going (setup : Setup) (all : List Event) (core : Core) (given : List (User × Reply)) (rest : List Event) : Type 0 where
   pub setup_is : setup_of core ≡ setup
   pub actors : map (λ a. a.0) given ++ map (λ e. e.actor) rest ≡ map (λ e. e.actor) all
   pub served : List ModelEvent
-  pub served_are : (tail : List Answer) → events_served (map event_of all) (map answer_of given ++ tail) ≡ served ++ events_served (map event_of rest) tail
-  pub reached : (texts : List (List ℕ)) → NoClash texts → All (Contains texts) (hashed setup nothing served) → Reached setup texts core served (without_memory (map answer_of given))
+  pub served_are : (tail : List Answer)
+      → events_served (map event_of all) (map answer_of given ++ tail) ≡ served ++ events_served (map event_of rest) tail
+  pub reached : (texts : List (List ℕ)) → NoClash texts → All (Contains texts) (hashed setup nothing served)
+      → Reached setup texts core served (without_memory (map answer_of given))
 
 map-push : {X Y : Type 0} (f : X → Y) (xs : List X) (x : X) (tail : List Y) → map f (xs ++ x ∷ []) ++ tail ≡ map f xs ++ (f x ∷ tail)
 map-push f [] x tail = refl
@@ -63,7 +67,8 @@ pub none_hashed : (texts : List (List ℕ)) (core : Core) → stored_in core ≡
 unfolding stored_in HasHashed
 none_hashed texts core none = rw none (All-nil (IsHashed texts))
 
-pub starts : (setup : Setup) (core : Core) (given : List (User × Reply)) (events : List Event) → setup_of core ≡ setup → world_of core ≡ nothing → stored_in core ≡ [] → given ≡ [] → Going setup events core given events
+pub starts : (setup : Setup) (core : Core) (given : List (User × Reply)) (events : List Event) → setup_of core ≡ setup → world_of core ≡ nothing
+    → stored_in core ≡ [] → given ≡ [] → Going setup events core given events
 starts setup core given events set empty none no_answers = record {
   setup_is = set;
   actors = rw no_answers refl;
@@ -86,11 +91,13 @@ hashed_kept : (texts : List (List ℕ)) (old new : Core) → stored_in new ≡ s
 unfolding HasHashed stored_in
 hashed_kept texts old new same hashed = rw same hashed
 
-more_given : (given : List (User × Reply)) (a : User × Reply) → without_memory (map answer_of (given ++ a ∷ [])) ≡ without_memory (map answer_of given) ++ without_memory (answer_of a ∷ [])
+more_given : (given : List (User × Reply)) (a : User × Reply)
+    → without_memory (map answer_of (given ++ a ∷ [])) ≡ without_memory (map answer_of given) ++ without_memory (answer_of a ∷ [])
 more_given given a = ap without_memory (map_push answer_of given a) ∙ filter-append (λ (x : Answer). not (is_memory x.reply)) (map answer_of given) (answer_of a ∷ [])
 
 -- memory was refused to it: the core is as it was
-reached_kept : (setup : Setup) (texts : List (List ℕ)) (core next : Core) (served : List ModelEvent) (told : List Answer) → IsUnchanged core next → Reached setup texts core served told → Reached setup texts next served told
+reached_kept : (setup : Setup) (texts : List (List ℕ)) (core next : Core) (served : List ModelEvent) (told : List Answer) → IsUnchanged core next
+    → Reached setup texts core served told → Reached setup texts next served told
 reached_kept setup texts core next served told kept before = record {
   told_so = rw kept.world before.told_so;
   stored = hashed_kept texts core next kept.stored before.stored;
@@ -99,7 +106,8 @@ reached_kept setup texts core next served told kept before = record {
 
 -- it was served: so are all texts that it hashes
 reached_more : (setup : Setup) (texts : List (List ℕ)) (core next : Core) (served : List ModelEvent) (told : List Answer) (e : ModelEvent) (reply : ModelReply)
-    → setup_of core ≡ setup → IsCoreStep core e reply next → is_memory reply ≡ false → NoClash texts → All (Contains texts) (hashed setup nothing (served ++ e ∷ []))
+    → setup_of core ≡ setup → IsCoreStep core e reply next → is_memory reply ≡ false → NoClash texts
+    → All (Contains texts) (hashed setup nothing (served ++ e ∷ []))
     → Reached setup texts core served told → Reached setup texts next (served ++ e ∷ []) (told ++ record { actor = e.actor; reply = reply } ∷ [])
 unfolding hashed answers
 reached_more setup texts core next served told e reply given step other clean inside before =
@@ -117,7 +125,8 @@ reached_more setup texts core next served told e reply given step other clean in
     }
 
 goes_on_with : (setup : Setup) (all : List Event) (core : Core) (given : List (User × Reply)) (e : Event) (rest : List Event) (next : Core) (a : User × Reply)
-    → Going setup all core given (e ∷ rest) → a.0 ≡ e.actor → IsCoreStep core (event_of e) (reply_of a.1) next → Going setup all next (given ++ a ∷ []) rest
+    → Going setup all core given (e ∷ rest) → a.0 ≡ e.actor → IsCoreStep core (event_of e) (reply_of a.1) next
+    → Going setup all next (given ++ a ∷ []) rest
 goes_on_with setup all core given e rest next a going actor step =
     let actors : map (λ (x : User × Reply). x.0) (given ++ a ∷ []) ++ map (λ (x : Event). x.actor) rest ≡ map (λ (x : Event). x.actor) all =
     map-push (λ (x : User × Reply). x.0) given a (map (λ (x : Event). x.actor) rest) ∙ rw actor going.actors in
@@ -148,7 +157,8 @@ goes_on_with setup all core given e rest next a going actor step =
     ]
 
 pub goes_on : (setup : Setup) (all : List Event) (core : Core) (given : List (User × Reply)) (e : Event) (rest : List Event) (next : Core) (a : User × Reply) (more : List (User × Reply))
-    → Going setup all core given (e ∷ rest) → a.0 ≡ e.actor → IsCoreStep core (event_of e) (reply_of a.1) next → more ≡ given ++ a ∷ [] → Going setup all next more rest
+    → Going setup all core given (e ∷ rest) → a.0 ≡ e.actor → IsCoreStep core (event_of e) (reply_of a.1) next → more ≡ given ++ a ∷ []
+    → Going setup all next more rest
 goes_on setup all core given e rest next a more going actor step is = rw is (goes_on_with setup all core given e rest next a going actor step)
 
 -- ---- the end
@@ -158,11 +168,13 @@ none_left [] h = refl
 none_left (e ∷ events) h = cc
 
 -- a run that has come to its end, with what it gives
-pub ends : (setup : Setup) (all : List Event) (core : Core) (given : List (User × Reply)) (rest : List Event) (told : List (User × Reply)) → Going setup all core given rest → length rest ≡ 0 → told ≡ given → Going setup all core told []
+pub ends : (setup : Setup) (all : List Event) (core : Core) (given : List (User × Reply)) (rest : List Event) (told : List (User × Reply))
+    → Going setup all core given rest → length rest ≡ 0 → told ≡ given → Going setup all core told []
 ends setup all core given rest told going none is = rw (is, ← none_left rest none) going
 
 -- each answer has the actor of its event
-pub all_actors : (setup : Setup) (all : List Event) (core : Core) (given : List (User × Reply)) → Going setup all core given [] → map (λ a. a.0) given ≡ map (λ e. e.actor) all
+pub all_actors : (setup : Setup) (all : List Event) (core : Core) (given : List (User × Reply)) → Going setup all core given []
+    → map (λ a. a.0) given ≡ map (λ e. e.actor) all
 all_actors setup all core given going = sym (append-nil (map (λ (a : User × Reply). a.0) given)) ∙ going.actors
 
 -- the answers other than 90 are the model's
@@ -194,7 +206,8 @@ all_given : (given : List (User × Reply)) → list_any lacks_memory given ≡ f
 all_given [] h = refl
 all_given (a ∷ given) h = rw (or_front (lacks_memory a) (list_any lacks_memory given) h) (ap (λ (rest : List Answer). answer_of a ∷ rest) (all_given given (or_rest (lacks_memory a) (list_any lacks_memory given) h)))
 
-all_served : (events : List Event) (given : List (User × Reply)) → map (λ a. a.0) given ≡ map (λ e. e.actor) events → list_any lacks_memory given ≡ false → events_served (map event_of events) (map answer_of given) ≡ map event_of events
+all_served : (events : List Event) (given : List (User × Reply)) → map (λ a. a.0) given ≡ map (λ e. e.actor) events
+    → list_any lacks_memory given ≡ false → events_served (map event_of events) (map answer_of given) ≡ map event_of events
 all_served [] given same h = refl
 all_served (e ∷ events) [] same h = cc
 all_served (e ∷ events) (a ∷ given) same h =
@@ -203,13 +216,15 @@ all_served (e ∷ events) (a ∷ given) same h =
 
 -- where memory was refused nowhere, they are all answers
 pub all_same : (setup : Setup) (all : List Event) (core : Core) (given : List (User × Reply)) → Going setup all core given []
-    → NoClash (hashed setup nothing (map event_of all)) → list_any lacks_memory given ≡ false → map answer_of given ≡ answers setup nothing (map event_of all)
+    → NoClash (hashed setup nothing (map event_of all)) → list_any lacks_memory given ≡ false
+    → map answer_of given ≡ answers setup nothing (map event_of all)
 all_same setup all core given going clean memory =
     let served : events_served (map event_of all) (map answer_of given) ≡ map event_of all = all_served all given (all_actors setup all core given going) memory in
     sym (all_given given memory) ∙ rw served at (others_same setup all core given going (rw served clean))
 
 pub all_isolated : IsIsolated → (setup : Setup) (all : List Event) (core : Core) (given : List (User × Reply)) → Going setup all core given []
-    → NoClash (hashed setup nothing (map event_of all)) → list_any lacks_memory given ≡ false → (u : List ℕ) → replies_to u (map answer_of given) ≡ replies setup u (strike setup u (map event_of all))
+    → NoClash (hashed setup nothing (map event_of all)) → list_any lacks_memory given ≡ false → (u : List ℕ)
+    → replies_to u (map answer_of given) ≡ replies setup u (strike setup u (map event_of all))
 all_isolated isolated setup all core given going clean memory u = ap (replies_to u) (all_same setup all core given going clean memory) ∙ isolated setup (map event_of all) u
 
 -- the answers other than 90 are those of private desks

@@ -1,34 +1,35 @@
 -- A step of the store is a step of the world that it stands for.
-use Rattle.std.proofs.Common.{◌≡◌, ℕ, Bool, true, false, inl, inr, List, [], ◌∷◌, length, refl, sym, ◌∙◌, ap, rules, Some, None, Result, Ok, Err}
+use Rattle.std.proofs.Common.{◌≡◌, ℕ, Bool, true, false, inl, inr, List, length, refl, sym, ◌∙◌, ap, rules, Some, None, Result, Ok, Err}
 use Rattle.std.specs.Prelude.{All, Contains, OnOk, OnErr, IfOk, IfErr, bytes_eq, slice_get, slice_set, nat_le, if◌then◌else◌}
 use Rattle.std.proofs.lemmas.Option.{slice_get_within}
-use Rattle.std.proofs.lemmas.List.Elements.{All-head, All-tail}
-use Rattle.sha2.specs.Sha256.{sha256}
-use Rattle.model.specs.Archives.{Tree, nar}
-use Rattle.model.specs.Paths.{Source as SourceKind, fingerprint, source_path, NoClash}
-use Rattle.model.specs.Worlds.{Source, Setup, Desk, World, is_user, held_at}
+use Rattle.model.specs.Archives.{Tree, IsTree, nar}
+use Rattle.model.specs.Paths.{NoClash}
+use Rattle.model.specs.Classes.{known_at}
+use Rattle.model.specs.Settling.{given, MadeSource}
+use Rattle.model.specs.Worlds.{Source, Setup, Desk, World, is_user, held_at, known_of}
 use Rattle.model.specs.Limits.{most_derivation_bytes}
-use Rattle.model.specs.Events.{Request, AddSource, AddDerivation, Fetch, Event, Reply, Refused}
+use Rattle.model.specs.Events.{AddSource, AddDerivation, Offer, Fetch, Event, Reply, Refused}
 use Rattle.model.specs.Outcomes.{Sight, Outcome, becomes, reply_of, desk_after, reaches}
 use Rattle.model.specs.Steps.{outcome, outcome_of, reply_to, after}
 use Rattle.model.specs.Replies.{is_memory_refusal, is_clash_refusal, is_clash, is_refused}
-use Rattle.model.specs.SourceRequests.{source_texts}
-use Rattle.model.specs.HashedTexts.{texts_of}
+use Rattle.model.specs.SourceRequests.{source_named, source_texts}
 use Rattle.model.specs.declared.refusal.Refusal.{Refusal}
-use Rattle.model.specs.declared.refusal.Refusal.TheVariants.{UnknownUser, TooLarge, NotHeld, Clash, Stopped}
+use Rattle.model.specs.declared.refusal.Refusal.TheVariants.{UnknownUser, TooLarge, UnknownDerivation, NotHeld, Clash, Stopped}
 use Rattle.model.proofs.BoolLemmas.{either}
-use Rattle.storepath.specs.Laws.{PathsDiffer}
+use Rattle.rewrite.specs.Laws.{OneTreeAtAPath}
 use Rattle.schedule.specs.declared.events.Reply as Rust
 use Rattle.schedule.specs.declared.state.Core.{Core}
-use Rattle.schedule.specs.Stored.{Holdings, put_once, IsTakenFor}
-use Rattle.schedule.specs.Sound.{desk_of, IsSound, IsHashed, Extends}
+use Rattle.store.specs.Stored.{Extends}
+use Rattle.schedule.specs.Stored.{Holdings}
+use Rattle.schedule.specs.Sound.{desk_of, IsSound, IsHashed, Clashes}
 use Rattle.schedule.specs.Standing.{reply_of as told_of, parts_of, world_of, setup_of, stored_in, IsStep, HasHashed, desk_among}
 use Rattle.schedule.specs.Handling.{is_fault, RefusedAtOnce, Serves, ServesAtOnce, IsKept, IsHandled}
 use Rattle.schedule.specs.Stepping.{IsCoreStep}
 use Rattle.model.specs.Laws.{NeverFails}
 use Rattle.model.proofs.SourceRequestLemmas.{add_source_cases, fetch_cases}
 use Rattle.model.proofs.DerivationRequestLemmas.{add_derivation_cases}
-use Rattle.schedule.proofs.TableLemmas.{found_holds, put_once-All}
+use Rattle.model.proofs.OfferRequestLemmas.{offer_cases}
+use Rattle.store.proofs.TableLemmas.{found_holds}
 use Rattle.schedule.proofs.WorldLemmas.{IsPlace, place_is_among, desk_found, among_changed, same_world}
 
 -- what holds after either result holds
@@ -40,7 +41,8 @@ pub on_ok_any : {X E : Type 0} (r : Result X E) (P : Type 0) → P → OnOk r P
 on_ok_any (Ok x) P p = p
 on_ok_any (Err e) P p = search rules
 
-pub kept_sound : (old new : List Source) (before now : Holdings) (limit : ℕ) → IsSound old limit before → IsKept old new before now → IsSound new limit now
+pub kept_sound : (old new : List Source) (before now : Holdings) (limit : ℕ) → IsSound old limit before → IsKept old new before now
+    → IsSound new limit now
 kept_sound old new before now limit sound kept = rw (kept.desk, kept.sources) sound
 
 pub kept_later : (old new : List Source) (before now : Holdings) → IsKept old new before now → Extends old new
@@ -53,7 +55,8 @@ outcome_is : (setup : Setup) (w : World) (e : Event) (d : Desk) → is_user setu
 outcome_is setup w e d known here = rw known (ap (λ x. outcome setup (record { user = e.actor; desk = x; reach = reaches setup w e.actor }) e.request) here)
 
 -- a desk after a change that all hear nothing of
-after_becomes : (setup : Setup) (actor : List ℕ) (o : Outcome) (d : Desk) (r : Reply) (x : List ℕ) (reached : Bool) (old : Desk) → o ≡ becomes d r → desk_after setup actor o x reached old ≡ (if bytes_eq x actor then d else old)
+after_becomes : (setup : Setup) (actor : List ℕ) (o : Outcome) (d : Desk) (r : Reply) (x : List ℕ) (reached : Bool) (old : Desk) → o ≡ becomes d r
+    → desk_after setup actor o x reached old ≡ (if bytes_eq x actor then d else old)
 after_becomes setup actor o d r x reached old e = ap (λ p. desk_after setup actor p x reached old) e
 
 pub step_done : (setup : Setup) (old new : List Source) (limit : ℕ) (desks : List Holdings) (e : Event) (i : ℕ) (before now : Holdings) (reply : Reply)
@@ -124,7 +127,8 @@ refused_result setup old new desks e i before now (Ok r) place here serves = sea
 refused_result setup old new desks e i before now (Err why) place here serves = λ own. step_refused setup old desks e i before why place here (λ sight same. serves sight same own)
 
 -- a refusal that is the model's is its step
-refused_is : (setup : Setup) (old new : World) (e : Event) (why : Refusal) → outcome_of setup old e ≡ Err why → new ≡ old → IsStep setup old e (Refused why) new
+refused_is : (setup : Setup) (old new : World) (e : Event) (why : Refusal) → outcome_of setup old e ≡ Err why → new ≡ old
+    → IsStep setup old e (Refused why) new
 refused_is setup old new e why o kept = record {
   told = sym (ap reply_of o);
   world = kept ∙ sym (after_refused setup old e why o);
@@ -133,31 +137,26 @@ refused_is setup old new e why o kept = record {
 no_fault : (why : Refusal) → is_memory_refusal why ≡ false → is_clash_refusal why ≡ false → is_fault why ≡ false
 no_fault why m k = rw (m, k) refl
 
--- a source is stored whose texts were hashed
-pub source_hashed : (texts : List (List ℕ)) (name : List ℕ) (tree : Tree) (path : List ℕ) (sources : List Source) → path ≡ source_path tree name
-    → All (IsHashed texts) sources → All (Contains texts) (source_texts name tree) → All (IsHashed texts) (put_once (record { path = path; tree = tree }) sources)
-source_hashed texts name tree path sources is hashed inside =
-    let rest : All (Contains texts) (fingerprint SourceKind (sha256 (nar tree)) name ∷ []) = All-tail (Contains texts) (nar tree) (fingerprint SourceKind (sha256 (nar tree)) name ∷ []) inside in
-    put_once-All (IsHashed texts) (record { path = path; tree = tree }) sources hashed (record {
-      name = name;
-      is = is;
-      inner = All-head (Contains texts) (nar tree) (fingerprint SourceKind (sha256 (nar tree)) name ∷ []) inside;
-      outer = All-head (Contains texts) (fingerprint SourceKind (sha256 (nar tree)) name) [] rest;
-    })
+-- ---- what is hashed
 
--- ---- clashes
+-- a source has its path by texts that were hashed
+pub source_hashed : (texts : List (List ℕ)) (name : List ℕ) (tree : Tree) → IsTree tree → All (Contains texts) (source_texts name tree)
+    → IsHashed texts (source_named name tree)
+source_hashed texts name tree sound inside = record {
+  named = given tree name;
+  path = refl;
+  tree = refl;
+  made = MadeSource tree name sound refl inside;
+}
 
--- where no two texts clash, no other tree is at the path
-not_taken : PathsDiffer → (texts : List (List ℕ)) → NoClash texts → (sources : List Source) → All (IsHashed texts) sources → (setup : Setup) (w : World) (u : List ℕ) (request : Request) → All (Contains texts) (texts_of setup w u request) → IsTakenFor sources request → ⊥
-not_taken differ texts clean sources hashed setup w u (AddSource name tree) inside taken =
-    let path : List ℕ = source_path tree name in
-    let had = found_holds (IsHashed texts) sources path taken.had hashed taken.there in
-    let inner : Contains texts (nar tree) = All-head (Contains texts) (nar tree) (fingerprint SourceKind (sha256 (nar tree)) name ∷ []) inside in
-    let outer : Contains texts (fingerprint SourceKind (sha256 (nar tree)) name) =
-    All-head (Contains texts) (fingerprint SourceKind (sha256 (nar tree)) name) [] (All-tail (Contains texts) (nar tree) (fingerprint SourceKind (sha256 (nar tree)) name ∷ []) inside) in
-    taken.other (differ texts clean (nar taken.had) (nar tree) had.name name had.inner inner had.outer outer (sym had.is)).0
-not_taken differ texts clean sources hashed setup w u (AddDerivation text) inside taken = taken
-not_taken differ texts clean sources hashed setup w u (Fetch path) inside taken = taken
+-- where no two texts clash, no other tree is at the path of one that has it by them
+no_clashes : OneTreeAtAPath → (texts : List (List ℕ)) → NoClash texts → (sources : List Source) → All (IsHashed texts) sources
+    → Clashes texts sources → ⊥
+no_clashes one texts clean sources hashed clashes =
+    let s : Source = clashes.source in
+    let had = found_holds (IsHashed texts) sources s.path clashes.taken.had hashed clashes.taken.there in
+    let same : nar had.named.tree ≡ nar clashes.hashed.named.tree = one texts clean had.named clashes.hashed.named had.made clashes.hashed.made (had.path ∙ sym clashes.hashed.path) in
+    clashes.taken.other (ap nar (sym had.tree) ∙ same ∙ ap nar clashes.hashed.tree)
 
 clash_is : (why : Refusal) → is_clash_refusal why ≡ true → why ≡ Clash
 clash_is Clash h = refl
@@ -178,33 +177,36 @@ unfolding outcome
 source_at_once d name tree result setup sight same =
     rw same (add_source_cases (AtOnce result) setup d name tree (λ why quick o. cc) (λ why quick o. cc) (λ why quick o. cc))
 
-pub derivation_at_once : (d : Desk) (text : List ℕ) (result : Result Rust.Reply Refusal) → (nat_le (length text) most_derivation_bytes ≡ false → result ≡ Err TooLarge) → ServesAtOnce d (AddDerivation text) result
+pub derivation_at_once : (d : Desk) (text : List ℕ) (result : Result Rust.Reply Refusal)
+    → (nat_le (length text) most_derivation_bytes ≡ false → result ≡ Err TooLarge) → ServesAtOnce d (AddDerivation text) result
 unfolding outcome
 derivation_at_once d text result long setup sight same =
     rw same (add_derivation_cases (AtOnce result) setup d text
     (record { had = λ a why quick o. cc; added = λ derivation a is why quick o. cc; over = λ why quick o. cc; unread = λ why quick o. cc; missing = λ why quick o. cc; high = λ why quick o. cc })
     (λ large why quick o. let given = long large in cc))
 
-pub fetch_at_once : (d : Desk) (path : List ℕ) (result : Result Rust.Reply Refusal) → (held_at path d ≡ None → result ≡ Err NotHeld) → ServesAtOnce d (Fetch path) result
+pub offer_at_once : (d : Desk) (path : List ℕ) (tree : Tree) (result : Result Rust.Reply Refusal)
+    → (known_at (known_of d) path ≡ None → result ≡ Err UnknownDerivation) → ServesAtOnce d (Offer path tree) result
+unfolding outcome
+offer_at_once d path tree result none setup sight same =
+    rw same (offer_cases (AtOnce result) setup d path tree
+    (record { had = λ r why quick o. cc; added = λ r why quick o. cc; over = λ why quick o. cc; refused = λ fault why quick o. cc; unknown = λ absent why quick o. (let given = none absent in cc) }))
+
+pub fetch_at_once : (d : Desk) (path : List ℕ) (result : Result Rust.Reply Refusal) → (held_at path d ≡ None → result ≡ Err NotHeld)
+    → ServesAtOnce d (Fetch path) result
 unfolding outcome
 fetch_at_once d path result none setup sight same =
     rw same (fetch_cases (AtOnce result) d path (λ tree held why quick o. cc) (λ absent why quick o. let given = none absent in cc))
 
 -- ---- what a core promises
 
--- an event that is not refused as a stranger's is a user's
-user_known : (setup : Setup) (w : World) (e : Event) (result : Result Rust.Reply Refusal) → RefusedAtOnce (outcome_of setup w e) result → (result ≡ Err UnknownUser → ⊥) → is_user setup e.actor ≡ true
-user_known setup w e result at_once other = elim (either (is_user setup e.actor)) [
-  | inl t ↦ t
-  | inr f ↦ absurd (other (at_once UnknownUser refl (step_unknown setup w e f)))
-]
-
 no_clash_told : (reply : Reply) → is_refused reply ≡ false → is_clash reply ≡ false
 no_clash_told (Refused why) h = cc
 no_clash_told reply h = refl
 
 -- an event that was not refused
-pub served_step : (old new : Core) (e : Event) (reply : Rust.Reply) → IsHandled (parts_of old) e (Ok reply) (parts_of new) → IsCoreStep old e (told_of reply) new
+pub served_step : (old new : Core) (e : Event) (reply : Rust.Reply) → IsHandled (parts_of old) e (Ok reply) (parts_of new)
+    → IsCoreStep old e (told_of reply) new
 unfolding HasHashed stored_in world_of setup_of
 served_step old new e reply handled = record {
   step = λ memory clash. handled.told.1;
@@ -218,9 +220,10 @@ served_step old new e reply handled = record {
 }
 
 -- an event that was refused
-pub refused_step : PathsDiffer → NeverFails → (old new : Core) (e : Event) (why : Refusal) → IsHandled (parts_of old) e (Err why) (parts_of new) → IsCoreStep old e (Refused why) new
+pub refused_step : OneTreeAtAPath → NeverFails → (old new : Core) (e : Event) (why : Refusal) → IsHandled (parts_of old) e (Err why) (parts_of new)
+    → IsCoreStep old e (Refused why) new
 unfolding HasHashed stored_in world_of setup_of
-refused_step differ own_refusals old new e why handled =
+refused_step one own_refusals old new e why handled =
     let setup : Setup = setup_of old in
     let w : World = world_of old in record {
       step = λ memory clash. refused_is setup w (world_of new) e why (handled.refused (no_fault why memory clash)) handled.kept.world;
@@ -231,8 +234,7 @@ refused_step differ own_refusals old new e why handled =
       no_clash = λ texts clean hashed inside. elim (either (is_clash_refusal why)) [
         | inl t ↦
             let is : why ≡ Clash = clash_is why t in
-            let known : is_user setup e.actor ≡ true = user_known setup w e (Err why) handled.at_once (λ unknown. cc) in
-            absurd (not_taken differ texts clean (stored_in old) hashed setup w e.actor e.request (rw known at inside) (handled.taken (ap (λ w. Err w) is)))
+            absurd (no_clashes one texts clean (stored_in old) hashed (handled.clashes (ap (λ w. Err w) is) texts inside))
         | inr f ↦ f
       ];
       hashed = λ texts hashed inside. rw handled.kept.table hashed;

@@ -7,13 +7,15 @@ use Rattle.std.proofs.lemmas.List.Quantifiers.{position-Some}
 use Rattle.std.proofs.lemmas.Bool.Decides.{nat_tests}
 use Rattle.model.specs.Reach.{is_among}
 use Rattle.model.specs.Classes.{Known}
-use Rattle.model.specs.Worlds.{Source, Desk, World, empty_desk, tree_at}
+use Rattle.model.specs.Worlds.{Source, Desk, World, empty_desk, tree_at, held_at}
 use Rattle.model.proofs.BoolLemmas.{either, same_bytes}
-use Rattle.schedule.specs.Stored.{Holdings}
-use Rattle.schedule.specs.Sound.{sources_at, desk_of, IsSound, IsEmpty, Extends}
+use Rattle.realise.specs.Recorded.{Recorded}
+use Rattle.store.specs.Stored.{Extends}
+use Rattle.schedule.specs.Stored.{Holdings, paths_of}
+use Rattle.schedule.specs.Sound.{sources_at, records_at, desk_of, IsSound, IsEmpty}
 use Rattle.schedule.specs.Standing.{desk_among}
-use Rattle.schedule.proofs.EntryLemmas.{bytes_eq_sym}
-use Rattle.schedule.proofs.DeskLemmas.{desk_kept, held_same, not_held}
+use Rattle.store.proofs.EntryLemmas.{bytes_eq_sym}
+use Rattle.schedule.proofs.DeskLemmas.{desk_kept, held_in_table}
 
 -- the place of a user: the first with his name
 abbrev pub IsPlace : List (List ℕ) → List ℕ → ℕ → Type 0
@@ -21,7 +23,8 @@ IsPlace [] u i = ⊥
 IsPlace (name ∷ names) u zero = bytes_eq name u ≡ true
 IsPlace (name ∷ names) u (suc i) = (bytes_eq name u ≡ false) × IsPlace names u i
 
-first_place : (names : List (List ℕ)) (u : List ℕ) (i : ℕ) → i < length names → bytes_eq (get_or names i []) u ≡ true → ((k : ℕ) → k < i → bytes_eq (get_or names k []) u ≡ false) → IsPlace names u i
+first_place : (names : List (List ℕ)) (u : List ℕ) (i : ℕ) → i < length names → bytes_eq (get_or names i []) u ≡ true
+    → ((k : ℕ) → k < i → bytes_eq (get_or names k []) u ≡ false) → IsPlace names u i
 first_place [] u i h t f = absurd (omega arith)
 first_place (name ∷ names) u zero h t f = t
 first_place (name ∷ names) u (suc i) h t f = (f zero (omega arith), first_place names u i (omega arith) t (λ k l. f (suc k) (omega arith)))
@@ -64,14 +67,16 @@ pub no_place : (names : List (List ℕ)) (u : List ℕ) → position (λ n. byte
 no_place names u e = sym (position_any names u) ∙ ap is_some e
 
 -- the desk at a user's place is his
-pub desk_found : (table : List Source) (names : List (List ℕ)) (desks : List Holdings) (u : List ℕ) (i : ℕ) (d : Holdings) → IsPlace names u i → slice_get desks i ≡ Some d → desk_among table names desks u ≡ desk_of table d
+pub desk_found : (table : List Source) (names : List (List ℕ)) (desks : List Holdings) (u : List ℕ) (i : ℕ) (d : Holdings) → IsPlace names u i
+    → slice_get desks i ≡ Some d → desk_among table names desks u ≡ desk_of table d
 desk_found table [] desks u i d p h = absurd p
 desk_found table (name ∷ names) [] u i d p h = cc
 desk_found table (name ∷ names) (x ∷ desks) u zero d p h = let is : x ≡ d = cc in rw p (ap (desk_of table) is)
 desk_found table (name ∷ names) (x ∷ desks) u (suc i) d p h = rw p.0 (desk_found table names desks u i d p.1 h)
 
 -- a later table leaves the desks
-pub among_kept : (old new : List Source) (limit : ℕ) (names : List (List ℕ)) (desks : List Holdings) (v : List ℕ) → Extends old new → All (IsSound old limit) desks → desk_among new names desks v ≡ desk_among old names desks v
+pub among_kept : (old new : List Source) (limit : ℕ) (names : List (List ℕ)) (desks : List Holdings) (v : List ℕ) → Extends old new
+    → All (IsSound old limit) desks → desk_among new names desks v ≡ desk_among old names desks v
 among_kept old new limit [] desks v later sound = refl
 among_kept old new limit (name ∷ names) [] v later sound = refl
 among_kept old new limit (name ∷ names) (d ∷ desks) v later sound = elim (either (bytes_eq name v)) [
@@ -80,7 +85,8 @@ among_kept old new limit (name ∷ names) (d ∷ desks) v later sound = elim (ei
 ]
 
 -- and a new desk at a user's place is his alone
-pub among_changed : (old new : List Source) (limit : ℕ) (names : List (List ℕ)) (desks : List Holdings) (u : List ℕ) (i : ℕ) (after : Holdings) → Extends old new → All (IsSound old limit) desks → IsPlace names u i → i < length desks
+pub among_changed : (old new : List Source) (limit : ℕ) (names : List (List ℕ)) (desks : List Holdings) (u : List ℕ) (i : ℕ) (after : Holdings)
+    → Extends old new → All (IsSound old limit) desks → IsPlace names u i → i < length desks
     → (v : List ℕ) → desk_among new names (slice_set desks i after) v ≡ (if bytes_eq v u then desk_of new after else desk_among old names desks v)
 among_changed old new limit [] desks u i after later sound p below v = absurd p
 among_changed old new limit (name ∷ names) [] u i after later sound p below v = absurd (omega arith)
@@ -104,25 +110,33 @@ pub same_world : {w v : World} → ((u : List ℕ) → w u ≡ v u) → w ≡ v
 same_world h = λ i u. h u i
 
 -- empty desks are the desks of nothing
-pub empty_world : (table : List Source) (names : List (List ℕ)) (desks : List Holdings) → All IsEmpty desks → (u : List ℕ) → desk_among table names desks u ≡ empty_desk
+pub empty_world : (table : List Source) (names : List (List ℕ)) (desks : List Holdings) → All IsEmpty desks → (u : List ℕ)
+    → desk_among table names desks u ≡ empty_desk
 empty_world table [] desks all u = refl
 empty_world table (name ∷ names) [] all u = refl
 empty_world table (name ∷ names) (d ∷ desks) all u = elim (either (bytes_eq name u)) [
   | inl t ↦
-      let D : List (List ℕ) → Known → Desk = λ trusted known. record { trusted = λ name. is_among name trusted; sources = sources_at table known.sources; derivations = known.derivations } in
+      let D : List (List ℕ) → Known → List Recorded → Desk = λ trusted known records.
+      record { trusted = λ name. is_among name trusted; sources = sources_at table known.sources; derivations = known.derivations; records = records_at table records } in
       let empty = All-head IsEmpty d desks all in
-      rw t (λ i. D (empty.trusted i) (empty.known i))
+      rw t (λ i. D (empty.trusted i) (empty.known i) (empty.records i))
   | inr f ↦ rw f (empty_world table names desks (All-tail IsEmpty d desks all) u)
 ]
 
 -- what a desk holds is stored, with the tree that the desk has
-pub among_stored : (table : List Source) (limit : ℕ) (names : List (List ℕ)) (desks : List Holdings) (u path : List ℕ) → All (IsSound table limit) desks → is_some (tree_at path (desk_among table names desks u).sources) ≡ true → tree_at path table ≡ tree_at path (desk_among table names desks u).sources
+stored_there : (table : List Source) (limit : ℕ) (d : Holdings) (path : List ℕ) → IsSound table limit d
+    → is_some (held_at path (desk_of table d)) ≡ true → tree_at path table ≡ held_at path (desk_of table d)
+stored_there table limit d path sound h = elim (either (list_any (λ p. bytes_eq p path) (paths_of d))) [
+  | inl t ↦ rw t at (held_in_table table limit d path sound)
+  | inr f ↦ let none : None ≡ held_at path (desk_of table d) = rw f at (held_in_table table limit d path sound) in (let found = rw (← none) at h in cc)
+]
+
+pub among_stored : (table : List Source) (limit : ℕ) (names : List (List ℕ)) (desks : List Holdings) (u path : List ℕ)
+    → All (IsSound table limit) desks → is_some (held_at path (desk_among table names desks u)) ≡ true
+    → tree_at path table ≡ held_at path (desk_among table names desks u)
 among_stored table limit [] desks u path sound h = cc
 among_stored table limit (name ∷ names) [] u path sound h = cc
 among_stored table limit (name ∷ names) (d ∷ desks) u path sound h = elim (either (bytes_eq name u)) [
-  | inl t ↦ rw t (elim (either (list_any (λ p. bytes_eq p path) d.known.sources)) [
-    | inl there ↦ sym (held_same table d.known.sources path (All-head (IsSound table limit) d desks sound).known there)
-    | inr none ↦ let found = rw (t, not_held table d.known.sources path none) at h in cc
-  ])
+  | inl t ↦ rw t (stored_there table limit d path (All-head (IsSound table limit) d desks sound) (rw t at h))
   | inr f ↦ rw f (among_stored table limit names desks u path (All-tail (IsSound table limit) d desks sound) (rw f at h))
 ]

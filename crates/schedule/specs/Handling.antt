@@ -1,23 +1,23 @@
 -- What a handler of an event promises.
-use Rattle.std.specs.Prelude.{◌≡◌, ℕ, Bool, true, false, ◌||◌, List, length, All, Contains, IfOk, IfErr, OnErr, Result, Ok, Err}
+use Rattle.std.specs.Prelude.{◌≡◌, ℕ, Bool, true, false, ◌||◌, List, length, All, Contains, IfOk, IfErr, OnOk, OnErr, Result, Ok, Err}
 use Rattle.model.specs.declared.refusal.Refusal.{Refusal}
 use Rattle.model.specs.declared.refusal.Refusal.TheVariants.{Clash}
 use Rattle.model.specs.Archives.{Tree}
-use Rattle.model.specs.Paths.{source_path}
 use Rattle.model.specs.Derivations.{Derivation}
 use Rattle.model.specs.Classes.{known_at, derivation_path}
 use Rattle.model.specs.Worlds.{Source, Setup, Desk, World}
 use Rattle.model.specs.Events.{Request, Event}
 use Rattle.model.specs.Replies.{is_memory_refusal, is_clash_refusal, is_refused, needs_no_memory}
-use Rattle.model.specs.Outcomes.{Sight, Outcome, becomes}
-use Rattle.model.specs.SourceRequests.{add_source}
+use Rattle.model.specs.Outcomes.{Sight, Outcome, becomes, add_entry}
 use Rattle.model.specs.DerivationRequests.{admit_new}
 use Rattle.model.specs.Steps.{outcome, outcome_of}
 use Rattle.model.specs.HashedTexts.{texts_of, texts_of_event}
 use Rattle.schedule.specs.declared.events.Reply.{Reply}
-use Rattle.schedule.specs.Stored.{Holdings, IsTakenFor}
-use Rattle.schedule.specs.Sound.{desk_of, IsSound, Extends, IsHashed}
-use Rattle.schedule.specs.Standing.{reply_of, Parts, world_in, IsStep}
+use Rattle.schedule.specs.declared.entry.Entry.{Entry}
+use Rattle.store.specs.Stored.{Extends}
+use Rattle.schedule.specs.Stored.{Holdings, entry_with, stored_by, put_any, IsTakenFor}
+use Rattle.schedule.specs.Sound.{desk_of, IsSound, IsHashed, Clashes}
+use Rattle.schedule.specs.Standing.{reply_of, Parts, world_in, stored_after, IsStep}
 
 -- whether a refusal says nothing of the model: memory was refused, or another tree is at a path
 abbrev pub is_fault : Refusal → Bool
@@ -63,16 +63,18 @@ pub record IsHandledAtDesk (limit : ℕ) (old : List Source) (before : Holdings)
   pub grows : Extends old new
   pub hashed : (texts : List (List ℕ)) (setup : Setup) (w : World) (u : List ℕ) → w u ≡ desk_of old before → All (IsHashed texts) old → All (Contains texts) (texts_of setup w u request) → All (IsHashed texts) new
   -- 91 comes only where another tree is at the path of what is added
-  pub taken : result ≡ Err Clash → IsTakenFor old request
+  pub taken : result ≡ Err Clash → IsTakenFor old (desk_of old before) request
+  pub clashes : result ≡ Err Clash → (texts : List (List ℕ)) (setup : Setup) (w : World) (u : List ℕ) → w u ≡ desk_of old before → All (Contains texts) (texts_of setup w u request) → Clashes texts old
+  pub stored : OnOk result (new ≡ put_any (stored_by (desk_of old before) request) old)
 
 -- the same under each limit that the desk was within
 abbrev pub IsHandledByDesk : List Source → Holdings → Request → Result Reply Refusal → Holdings → Type 0
 IsHandledByDesk table before request result after = (limit : ℕ) → IsSound table limit before → IsHandledAtDesk limit table before request result table after
 
--- a tree that is added at a path, if it is the path that it has under some name: the reply is the model's, and so is the desk after it
-abbrev pub AddsSource : ℕ → List Source → Holdings → List ℕ → Tree → Result Reply Refusal → List Source → Holdings → Type 0
-AddsSource limit old before path tree result new after = (users : List (List ℕ)) (name : List ℕ) → path ≡ source_path tree name
-    → Fits (add_source (record { users = users; charge = limit }) (desk_of old before) name tree) (desk_of new after) result
+-- an entry that is added with its tree: the reply is the model's, and so is the desk after it
+abbrev pub AddsEntry : ℕ → List Source → Holdings → Entry → Tree → Result Reply Refusal → List Source → Holdings → Type 0
+AddsEntry limit old before entry tree result new after = (users : List (List ℕ))
+    → Fits (add_entry (record { users = users; charge = limit }) (desk_of old before) (entry_with tree entry)) (desk_of new after) result
 
 -- a derivation that is added: the reply is the model's, and so is the desk after it
 abbrev pub AddsDerivation : ℕ → List Source → Holdings → Derivation → Result Reply Refusal → Holdings → Type 0
@@ -103,4 +105,6 @@ pub record IsHandled (old : Parts) (event : Event) (result : Result Reply Refusa
   pub grows : Extends old.table new.table
   pub hashed : (texts : List (List ℕ)) → All (IsHashed texts) old.table → All (Contains texts) (texts_of_event old.setup (world_in old) event) → All (IsHashed texts) new.table
   -- 91 comes only where another tree is at the path of what is added
-  pub taken : result ≡ Err Clash → IsTakenFor old.table event.request
+  pub taken : result ≡ Err Clash → IsTakenFor old.table (world_in old event.actor) event.request
+  pub clashes : result ≡ Err Clash → (texts : List (List ℕ)) → All (Contains texts) (texts_of_event old.setup (world_in old) event) → Clashes texts old.table
+  pub stored : OnOk result (new.table ≡ stored_after (world_in old) event old.table)

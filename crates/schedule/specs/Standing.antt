@@ -1,7 +1,6 @@
 -- The world that the store stands for, and what its steps do to it.
 use Rattle.std.specs.Prelude.{◌≡◌, ◌⊎◌, ℕ, Bool, true, false, if◌then◌else◌, List, [], ◌∷◌, is_some, bytes_eq, All}
 use Rattle.std.specs.Global.{Vec}
-use Rattle.model.specs.Paths.{source_path}
 use Rattle.model.specs.declared.refusal.Refusal.{Refusal}
 use Rattle.model.specs.declared.refusal.Refusal.TheVariants.{Memory, BadUsers}
 use Rattle.model.specs.Worlds.{Source, Setup, are_users, tree_at, held_at}
@@ -12,11 +11,11 @@ use Rattle.schedule.specs.declared.user.User.{User}
 use Rattle.schedule.specs.declared.limits.Limits.{Limits}
 use Rattle.schedule.specs.declared.state.Core.{Core}
 use Rattle.schedule.specs.declared.events.Request.{Request}
-use Rattle.schedule.specs.declared.events.Request.TheVariants.{AddSource, AddDerivation, Fetch}
+use Rattle.schedule.specs.declared.events.Request.TheVariants.{AddSource, AddDerivation, Offer, Fetch}
 use Rattle.schedule.specs.declared.events.Event.{Event}
 use Rattle.schedule.specs.declared.events.Reply.{Reply}
 use Rattle.schedule.specs.declared.events.Reply.TheVariants.{Done, Path, Derivation, Content, Refused}
-use Rattle.schedule.specs.Stored.{Holdings, put_once}
+use Rattle.schedule.specs.Stored.{Holdings, stored_by, put_any}
 use Rattle.schedule.specs.Sound.{desk_of, IsHashed}
 
 -- ---- events and replies in the terms of the model
@@ -24,6 +23,7 @@ use Rattle.schedule.specs.Sound.{desk_of, IsHashed}
 abbrev pub request_of : Request → events.Request
 request_of (AddSource name tree) = events.AddSource name tree
 request_of (AddDerivation text) = events.AddDerivation text
+request_of (Offer derivation tree) = events.Offer derivation tree
 request_of (Fetch path) = events.Fetch path
 
 abbrev pub event_of : Event → events.Event
@@ -89,14 +89,9 @@ is_stopped core = false
 unfoldable pub stored_in : Core → List Source
 stored_in core = core.table.sources
 
--- what is stored once an event was not refused
-abbrev pub stored_after_request : events.Request → List Source → List Source
-stored_after_request (events.AddSource name tree) sources = put_once (record { path = source_path tree name; tree = tree }) sources
-stored_after_request (events.AddDerivation text) sources = sources
-stored_after_request (events.Fetch path) sources = sources
-
-abbrev pub stored_after : events.Event → List Source → List Source
-stored_after event sources = stored_after_request event.request sources
+-- what is stored once an event in a world was not refused
+abbrev pub stored_after : worlds.World → events.Event → List Source → List Source
+stored_after w event sources = put_any (stored_by (w event.actor) event.request) sources
 
 -- nothing of it changed
 pub record IsUnchanged (old new : Core) : Type 0 where

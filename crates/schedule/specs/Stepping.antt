@@ -26,7 +26,7 @@ pub record IsCoreStep (old : Core) (event : Event) (reply : Reply) (new : Core) 
   -- a refusal that needs no memory is told whether there is memory or not
   pub at_once : (why : Refusal) → needs_no_memory why ≡ true → outcome_of (setup_of old) (world_of old) event ≡ Err why → reply ≡ Refused why
   -- 91 comes only where another tree is at the path of what is added
-  pub taken : is_clash reply ≡ true → IsTakenFor (stored_in old) event.request
+  pub taken : is_clash reply ≡ true → IsTakenFor (stored_in old) (world_of old event.actor) event.request
   -- and nowhere if no two texts that were hashed have one folded digest
   pub no_clash : (texts : List (List ℕ)) → NoClash texts → HasHashed texts old → HashesWithin texts old event → is_clash reply ≡ false
   -- what is stored afterwards was made by texts that were hashed

@@ -13,6 +13,9 @@ pub enum Request {
     AddSource(Name, Tree),
     /// To have the derivation of a text on his desk. The reply is its path and its class.
     AddDerivation(Text),
+    /// To have a tree on his desk as the output of the derivation in the file at a path. The reply is
+    /// the path of its content.
+    Offer(StorePath, Tree),
     /// The tree at a path that he holds.
     Fetch(StorePath),
 }

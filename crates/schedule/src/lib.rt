@@ -5,15 +5,13 @@
 #![tactic(auto)]
 
 mod desk;
+mod entry;
 mod events;
 mod limits;
 mod requests;
 mod runs;
 mod state;
 mod step;
-mod table;
-#[cfg(test)]
-mod tests;
 mod user;
 
 pub use events::{Event, Reply, Request};

@@ -1,22 +1,25 @@
 //! Handling events: a line each.
 
-ghost use Rattle.std.specs.Prelude.{◌≡◌, OnOk, length, position, bytes_eq, All};
+ghost use Rattle.std.specs.Prelude.{◌≡◌, length, position, bytes_eq, All};
 ghost use Rattle.schedule.specs.Sound.{IsSound};
-ghost use Rattle.schedule.specs.Standing.{event_of, parts, stored_after};
+ghost use Rattle.schedule.specs.Standing.{event_of, parts};
 ghost use Rattle.schedule.specs.Handling.{IsHandled};
 
 mod derivations;
+mod entries;
+mod offers;
 mod sources;
 
 use crate::desk::Desk;
 use crate::events::{Event, Reply, Request};
 use crate::limits::Limits;
-use crate::table::Table;
 use crate::user::User;
 use derivations::add_derivation;
 use model::Refusal;
+use offers::offer;
 use sources::{add_source, fetch};
 use std::alloc::Global;
+use store::Table;
 
 /// The place of a user in a list.
 fn place_of(users: &[User], name: &User) -> Option<usize>
@@ -37,10 +40,8 @@ pub(crate) fn handle(
 ) -> Result<Reply, Refusal>
     requires paired { length desks.old ≡ length users.now }
     requires sound { All (IsSound table.old.sources limits.charge) desks.old }
-    ensures handled { IsHandled (parts users.now limits.charge table.old.sources desks.old)
+    ensures { IsHandled (parts users.now limits.charge table.old.sources desks.old)
         (event_of event) result (parts users.now limits.charge table.new.sources desks.new) }
-    ensures stored { OnOk result
-        (table.new.sources ≡ stored_after (event_of event) table.old.sources) }
 {
     let Event { actor, request } = event;
     let Some(place) = place_of(users, &actor) else {
@@ -50,6 +51,7 @@ pub(crate) fn handle(
     match request {
         Request::AddSource(name, tree) => add_source(alloc, table, desk, limits, &name, tree),
         Request::AddDerivation(text) => add_derivation(alloc, desk, text.bytes()),
+        Request::Offer(path, tree) => offer(alloc, table, desk, limits, &path, &tree),
         Request::Fetch(path) => fetch(table, desk, &path),
     }
 }

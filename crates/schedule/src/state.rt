@@ -6,8 +6,8 @@ ghost use Rattle.schedule.specs.Sound.{IsSound};
 
 use crate::desk::Desk;
 use crate::limits::Limits;
-use crate::table::Table;
 use crate::user::User;
+use store::Table;
 
 /// The store of one run. Whoever holds it may call [`Core::step`] for any user.
 #[derive(Drop)]

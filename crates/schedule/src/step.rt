@@ -15,12 +15,12 @@ use crate::events::{Event, Reply};
 use crate::limits::Limits;
 use crate::requests::handle;
 use crate::state::Core;
-use crate::table::Table;
 use crate::user::{User, are_users};
 use model::{Refusal, never_fails};
+use rewrite::one_tree_at_a_path;
 use std::alloc::Global;
 use std::hash::RandomState;
-use storepath::paths_differ;
+use store::Table;
 
 /// Empty desks, so many of them.
 fn empty_desks(alloc: Global, count: usize) -> Result<Vec<Desk>, Refusal>
@@ -72,10 +72,8 @@ impl Core {
 
     /// Handles one event by the parts of the core.
     fn serve(&mut self, alloc: Global, event: Event) -> Result<Reply, Refusal>
-        ensures handled { let event = event_of event in
+        ensures { let event = event_of event in
             IsHandled (parts_of self.old) event result (parts_of self.new) }
-        ensures stored { OnOk result
-            (stored_in self.new ≡ stored_after (event_of event) (stored_in self.old)) }
     {
         handle(
             alloc,
@@ -91,14 +89,14 @@ impl Core {
     ///
     /// With 90 `Memory` a growth was refused; 91 `Clash` comes only where another tree is at the
     /// path of what is added. Every other reply, and the world after it, is the model's. A
-    /// refusal that needs no memory to be found (11, 22 and 53) is never told as 90.
+    /// refusal that needs no memory to be found (11, 22, 41 and 53) is never told as 90.
     pub fn step(&mut self, alloc: Global, event: Event) -> Reply
         ensures step { IsCoreStep self.old (event_of event) (reply_of result) self.new }
-        ensures stored { is_refused (reply_of result) ≡ false
-            → stored_in self.new ≡ stored_after (event_of event) (stored_in self.old) }
+        ensures stored { is_refused (reply_of result) ≡ false → stored_in self.new
+            ≡ stored_after (world_of self.old) (event_of event) (stored_in self.old) }
         ensures holds { HoldsStored self.new }
     {
-        paths_differ();
+        one_tree_at_a_path();
         never_fails();
         match self.serve(alloc, event) {
             Ok(reply) => reply,

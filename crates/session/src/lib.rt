@@ -21,8 +21,6 @@ mod reading;
 mod serving;
 mod session;
 mod streams;
-#[cfg(test)]
-mod tests;
 mod texts;
 mod told;
 mod wishes;

@@ -87,6 +87,10 @@ fn request_of(alloc: Global, wish: &Wish<'_>) -> Result<Request, Refusal>
             read_tree(alloc, tree.bytes())?,
         )),
         (Verb::Derivation, [text]) => Ok(Request::AddDerivation(read_text(alloc, text.bytes())?)),
+        (Verb::Offer, [path, tree]) => Ok(Request::Offer(
+            read_path(alloc, path.bytes())?,
+            read_tree(alloc, tree.bytes())?,
+        )),
         (Verb::Fetch, [path]) => Ok(Request::Fetch(read_path(alloc, path.bytes())?)),
         _ => Err(Refusal::BadLine),
     }

@@ -1,23 +1,23 @@
 -- What a store path tells of what it is made of.
-use Rattle.std.proofs.Common.{◌≡◌, ℕ, zero, suc, ◌*◌, ◌/◌, ◌%◌, ◌^◌, ◌<◌, Bool, true, List, [], ◌∷◌, ◌++◌, length, refl, sym, ◌∙◌, ap, arith, append_assoc, Ok, lit<, inl, inr, ◌⊎◌}
+use Rattle.std.proofs.Common.{◌≡◌, ℕ, zero, suc, ◌*◌, ◌/◌, ◌%◌, ◌^◌, ◌<◌, Bool, true, List, [], ◌∷◌, ◌++◌, length, refl, sym, ◌∙◌, ap, arith, append_assoc, length-append, Ok, lit<, inl, inr, ◌⊎◌}
 use Rattle.std.specs.Prelude.{codes, slice_index, ◌&&◌, ◌==◌}
 use Rattle.std.specs.List.{position_or_len}
 use Rattle.std.proofs.Math.Nat.{pow-suc}
 use Rattle.std.proofs.lemmas.Bool.{and_parts}
 use Rattle.std.proofs.lemmas.Bool.Decides.{Decides-eqb}
-use Rattle.std.proofs.lemmas.List.{append_cancel_left, same_from_push}
+use Rattle.std.proofs.lemmas.List.{append_cancel_left, append_cancel_right, same_from_push}
 use Rattle.hex.specs.Hex.{encode_lower, lower_digits, decode_of}
 use Rattle.hex.proofs.HexLemmas.{length-encode_with, decode_of-encode_lower}
 use Rattle.sha2.specs.Sha256.{sha256}
 use Rattle.sha2.proofs.Facts256.{length-sha256}
 use Rattle.model.specs.Archives.{AreBytes}
-use Rattle.model.specs.Paths.{Kind, Source, kind_text, fingerprint, path_text, short_digest, folded, base32, digits_32, digits_of, number_of, IsFolded}
+use Rattle.model.specs.Paths.{Kind, kind_text, fingerprint, path_text, short_digest, folded, base32, digits_32, digits_of, number_of, IsFolded}
 use Rattle.hashmod.proofs.FoldLemmas.{AreBytes-sha256, IsFolded-short_digest}
 use Rattle.storepath.proofs.PathLemmas.{length-base32, parts_of-path_text}
 use Rattle.storepath.specs.Laws.{PathsDiffer}
 
 -- two joined texts whose first parts have one length have the same parts
-same_parts : (xs ys us vs : List ℕ) → length xs ≡ length us → xs ++ ys ≡ us ++ vs → (xs ≡ us) × (ys ≡ vs)
+pub same_parts : (xs ys us vs : List ℕ) → length xs ≡ length us → xs ++ ys ≡ us ++ vs → (xs ≡ us) × (ys ≡ vs)
 same_parts [] ys [] vs l e = (refl, e)
 same_parts [] ys (u ∷ us) vs l e = cc
 same_parts (x ∷ xs) ys [] vs l e = cc
@@ -103,7 +103,8 @@ same_from_base32 a b first second e =
 -- paths are the same only where hash part and name are
 pub same_from_path_text : (a b m n : List ℕ) → IsFolded a → IsFolded b → path_text a m ≡ path_text b n → (a ≡ b) × (m ≡ n)
 same_from_path_text a b m n first second e =
-    let texts : codes "/nix/store/" ++ (base32 a ++ (codes "-" ++ m)) ≡ codes "/nix/store/" ++ (base32 b ++ (codes "-" ++ n)) = sym (parts_of-path_text a m) ∙ e ∙ parts_of-path_text b n in
+    let texts : codes "/nix/store/" ++ (base32 a ++ (codes "-" ++ m)) ≡ codes "/nix/store/" ++ (base32 b ++ (codes "-" ++ n)) =
+    sym (parts_of-path_text a m) ∙ e ∙ parts_of-path_text b n in
     let rest = append_cancel_left (codes "/nix/store/") (base32 a ++ (codes "-" ++ m)) (base32 b ++ (codes "-" ++ n)) texts in
     let parts = same_parts (base32 a) (codes "-" ++ m) (base32 b) (codes "-" ++ n) (length-base32 a ∙ sym (length-base32 b)) rest in
     (same_from_base32 a b first second parts.0, append_cancel_left (codes "-") m n parts.1)
@@ -112,24 +113,31 @@ same_from_hex : (a b : List ℕ) → AreBytes a → AreBytes b → encode_lower 
 same_from_hex a b h k e =
     let both : Ok a ≡ Ok b = sym (decode_of-encode_lower a h) ∙ ap decode_of e ∙ decode_of-encode_lower b k in cc
 
--- fingerprints of one kind are the same only where the digests are
-pub same_from_fingerprint : (kind : Kind) (s t m n : List ℕ) → fingerprint kind (sha256 s) m ≡ fingerprint kind (sha256 t) n → sha256 s ≡ sha256 t
+regroup : (kind one digits two name : List ℕ) → kind ++ one ++ digits ++ two ++ name ≡ ((kind ++ one) ++ digits) ++ (two ++ name)
+regroup kind one digits two name = simp append_assoc
+
+-- fingerprints with one name are the same only where the digests are
+pub same_from_fingerprint : (k l : Kind) (s t m : List ℕ) → fingerprint k (sha256 s) m ≡ fingerprint l (sha256 t) m → sha256 s ≡ sha256 t
 unfolding fingerprint
-same_from_fingerprint kind s t m n e =
-    let front : List ℕ = kind_text kind in
+same_from_fingerprint k l s t m e =
     let a : List ℕ = encode_lower (sha256 s) in
     let b : List ℕ = encode_lower (sha256 t) in
     let one : List ℕ = codes ":sha256:" in
     let two : List ℕ = codes ":/nix/store:" in
-    let texts : front ++ (one ++ (a ++ (two ++ m))) ≡ front ++ (one ++ (b ++ (two ++ n))) = simp append_assoc at e in
-    let rest = append_cancel_left one (a ++ (two ++ m)) (b ++ (two ++ n)) (append_cancel_left front (one ++ (a ++ (two ++ m))) (one ++ (b ++ (two ++ n))) texts) in
-    let lengths : length a ≡ length b = omega (arith, length-encode_with lower_digits (sha256 s), length-encode_with lower_digits (sha256 t), length-sha256 s, length-sha256 t) in
-    same_from_hex (sha256 s) (sha256 t) (AreBytes-sha256 s) (AreBytes-sha256 t) (same_parts a (two ++ m) b (two ++ n) lengths rest).0
+    let first : List ℕ = kind_text k ++ one in
+    let second : List ℕ = kind_text l ++ one in
+    let texts : (first ++ a) ++ (two ++ m) ≡ (second ++ b) ++ (two ++ m) = sym (regroup (kind_text k) one a two m) ∙ e ∙ regroup (kind_text l) one b two m in
+    let fronts : first ++ a ≡ second ++ b = append_cancel_right (first ++ a) (second ++ b) (two ++ m) texts in
+    let digits : length a ≡ length b =
+    omega (arith, length-encode_with lower_digits (sha256 s), length-encode_with lower_digits (sha256 t), length-sha256 s, length-sha256 t) in
+    let lengths : length first ≡ length second = omega (arith, ap length fronts, length-append first a, length-append second b, digits) in
+    same_from_hex (sha256 s) (sha256 t) (AreBytes-sha256 s) (AreBytes-sha256 t) (same_parts first a second b lengths fronts).1
 
-pub different_sources : PathsDiffer
-different_sources texts apart s t m n in_s in_t in_first in_second e =
-    let first : List ℕ = fingerprint Source (sha256 s) m in
-    let second : List ℕ = fingerprint Source (sha256 t) n in
+pub one_text_at_a_path : PathsDiffer
+one_text_at_a_path texts apart k l s t m n in_s in_t in_first in_second e =
+    let first : List ℕ = fingerprint k (sha256 s) m in
+    let second : List ℕ = fingerprint l (sha256 t) n in
     let parts = same_from_path_text (short_digest first) (short_digest second) m n (IsFolded-short_digest first) (IsFolded-short_digest second) e in
-    let digests = same_from_fingerprint Source s t m n (apart first second in_first in_second parts.0) in
+    let same : first ≡ second = apart first second in_first in_second parts.0 in
+    let digests = same_from_fingerprint k l s t m (same ∙ ap (fingerprint l (sha256 t)) (sym parts.1)) in
     (apart s t in_s in_t (ap folded digests), parts.1)

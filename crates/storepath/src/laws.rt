@@ -2,7 +2,7 @@
 
 ghost use Rattle.storepath.specs.Laws.{PathsDiffer, PathsPass};
 
-/// Sources of one path are the same and have one name, where no two of the texts that are hashed have one folded digest.
+/// One path is of one text and one name, whatever it is the path of, where no two of the texts that are hashed have one folded digest.
 pub fn paths_differ()
     ensures { PathsDiffer }
 {}

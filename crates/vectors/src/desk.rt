@@ -2,9 +2,9 @@
 
 use crate::fault::Fault;
 use aterm::parse;
-use classes::{Known, admit as admission};
+use classes::{Admitted, Known, admit as admission};
 use std::alloc::Global;
-use storepath::read_path;
+use storepath::{StorePath, read_path};
 
 /// A desk that knows nothing.
 pub(crate) fn begin(alloc: Global, known: &mut Known) -> Result<String, Fault> {
@@ -25,17 +25,35 @@ pub(crate) fn add_source(alloc: Global, known: &mut Known, path: &str) -> Result
 /// Admits a derivation that the desk does not know yet and adds it: the path of its file, its class, its
 /// rank and the digest of its masked text.
 pub(crate) fn admit(alloc: Global, known: &mut Known, text: &str) -> Result<String, Fault> {
-    let admitted = admission(alloc, &parse(alloc, text.as_bytes())?, known)?;
+    let admitted = admission(alloc, parse(alloc, text.as_bytes())?, known)?;
     let path = admitted.path().clone()?;
-    if known.derivation(&path).is_some() {
+    let masked = *admitted.masked();
+    add_derivation(known, admitted)?;
+    told(alloc, known, &path, &masked)
+}
+
+/// Adds a derivation that the desk does not know yet.
+fn add_derivation(known: &mut Known, admitted: Admitted) -> Result<(), Fault> {
+    if known.derivation(admitted.path()).is_some() {
         return Err(Fault::NotUnderstood);
     }
-    known.add_derivation(admitted.clone()?)?;
-    let Some(found) = known.derivation(&path) else {
+    known.add_derivation(admitted)?;
+    Ok(())
+}
+
+/// The path of a derivation's file, the class and the rank that the desk knows of it, and the digest of
+/// its masked text.
+fn told(
+    alloc: Global,
+    known: &Known,
+    path: &StorePath,
+    masked: &[u8; 32],
+) -> Result<String, Fault> {
+    let Some(found) = known.derivation(path) else {
         return Err(Fault::NotUnderstood);
     };
+    let masked = hex::encode(alloc, masked.as_slice())?;
     let class = found.class().path();
     let rank = found.class().rank();
-    let masked = hex::encode(alloc, admitted.masked().as_slice())?;
     Ok(format!(in alloc; "{path} {class} {rank} {masked}")?)
 }

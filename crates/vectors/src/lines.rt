@@ -79,6 +79,7 @@ fn answer(alloc: Global, call: &str, argument: &[u8]) -> Result<String, Fault> {
         "masked" => derivations::masked(alloc, argument),
         "with" => derivations::with_paths(alloc, argument),
         "occurrences" => hash_parts::found(alloc, argument),
+        "substitute" => hash_parts::replaced(alloc, argument),
         "settle" => hash_parts::settled(alloc, argument),
         "given" => hash_parts::given(alloc, argument),
         _ => Err(Fault::NotUnderstood),

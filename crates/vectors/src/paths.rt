@@ -60,10 +60,21 @@ pub(crate) fn made(alloc: Global, words: &[u8]) -> Result<String, Fault> {
     let (name, rest) = cut(rest);
     let digest = <[u8; 32] as FromHex>::from_hex(digest)?;
     let name = Name::new(alloc, name.as_bytes())?;
-    let references = paths_of(alloc, rest)?;
-    let kind = kind_of(kind, &references)?;
-    let path = make_path(alloc, &kind, &digest, &name)?;
+    let path = made_with(alloc, kind, &digest, &name, rest)?;
     Ok(path.to_string(alloc)?)
+}
+
+/// The path of a kind that a word gives, with the references of further words.
+fn made_with(
+    alloc: Global,
+    kind: &str,
+    digest: &[u8; 32],
+    name: &Name,
+    words: &str,
+) -> Result<StorePath, Fault> {
+    let references = paths_of(alloc, words)?;
+    let kind = kind_of(kind, &references)?;
+    Ok(make_path(alloc, &kind, digest, name)?)
 }
 
 /// The paths of words.
@@ -73,6 +84,15 @@ pub(crate) fn paths_of(alloc: Global, words: &str) -> Result<Vec<StorePath>, Fau
         paths.push(read_path(alloc, word.as_bytes())?)?;
     }
     Ok(paths)
+}
+
+/// Paths, each with a comma behind it.
+pub(crate) fn listed(alloc: Global, paths: &[StorePath]) -> Result<String, Fault> {
+    let mut list = String::new(alloc);
+    for path in paths {
+        list.push_str(format!(in alloc; "{path},")?.as_str())?;
+    }
+    Ok(list)
 }
 
 /// The kind of a word, with these references.

@@ -2,7 +2,7 @@
 
 use crate::fault::Fault;
 use hashmod::sha256;
-use nar::{Tree, decode, encode, read_tree_text, tree_text};
+use nar::{Nar, Tree, decode, encode, read_tree_text, tree_text};
 use std::alloc::Global;
 use std::str;
 
@@ -21,12 +21,24 @@ fn word_of(are_same: bool) -> &'static str {
 pub(crate) fn tree(alloc: Global, text: &[u8]) -> Result<String, Fault> {
     let tree = read_tree_text(alloc, text)?;
     let archive = encode(alloc, &tree)?;
+    let bytes = told_bytes(alloc, &archive)?;
+    let again = told_again(alloc, &archive, &tree)?;
+    Ok(format!(in alloc; "{bytes} {again}")?)
+}
+
+/// The length and the digest of an archive.
+fn told_bytes(alloc: Global, archive: &Nar) -> Result<String, Fault> {
     let length = archive.bytes().len();
     let digest = hex::encode(alloc, sha256(archive.bytes()).as_slice())?;
+    Ok(format!(in alloc; "{length} {digest}")?)
+}
+
+/// Whether what an archive is decoded as is this tree, and the text of that.
+fn told_again(alloc: Global, archive: &Nar, tree: &Tree) -> Result<String, Fault> {
     let again = decode(alloc, archive.bytes())?.clone()?;
-    let same = word_of(again.same(&tree));
+    let same = word_of(again.same(tree));
     let text = text_of(alloc, &again)?;
-    Ok(format!(in alloc; "{length} {digest} {same} {text}")?)
+    Ok(format!(in alloc; "{same} {text}")?)
 }
 
 /// `TREE TREE`: whether two texts are of the same tree.

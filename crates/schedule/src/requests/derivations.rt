@@ -31,16 +31,16 @@ fn reply_with(admitted: &Admitted) -> Result<Reply, Refusal>
 }
 
 /// Adds a derivation that was parsed, unless the desk has it.
-fn add_parsed(alloc: Global, desk: &mut Desk, derivation: &Derivation) -> Result<Reply, Refusal>
+fn add_parsed(alloc: Global, desk: &mut Desk, derivation: Derivation) -> Result<Reply, Refusal>
     ensures adds { (table : List Source) (limit : ℕ) → IsSound table limit desk.old
-        → AddsDerivation limit table desk.old derivation.now result desk.new }
+        → AddsDerivation limit table desk.old derivation result desk.new }
     ensures answered { IfOk result (λ r. is_refused (reply_of r) ≡ false) }
     ensures sound { (table : List Source) (limit : ℕ) → IsSound table limit desk.old
         → IsSound table limit desk.new }
     ensures kept { OnErr result (desk.new ≡ desk.old) }
     ensures no_clash { IfErr result (λ why. is_clash_refusal why ≡ false) }
 {
-    let path = path_of(alloc, derivation)?;
+    let path = path_of(alloc, &derivation)?;
     if let Some(had) = desk.derivation(&path) {
         return reply_with(had);
     }
@@ -62,5 +62,5 @@ pub(crate) fn add_derivation(alloc: Global, desk: &mut Desk, text: &[u8]) -> Res
         return Err(Refusal::TooLarge);
     }
     let derivation = parse(alloc, text)?;
-    add_parsed(alloc, desk, &derivation)
+    add_parsed(alloc, desk, derivation)
 }

@@ -9,7 +9,8 @@ use Rattle.rewrite.proofs.settling.references.Goals.{then-contains+in_ok-clone+i
 -- what the test of the set says of the places
 stands : (c : goal.Joined-contains) → c.contains.result ≡ stands_in c.args.places.now (hash_part_in c.path-item.result)
 stands c =
-    c.contains.ensures ∙ ap (λ part. list_any (bytes_eq part) c.in_ok-parts.parts.keys) c.hash_part.ensures.value ∙ c.in_ok-parts.ensures (hash_part_in c.path-item.result)
+    c.contains.ensures ∙ ap (λ part. list_any (bytes_eq part) c.in_ok-parts.parts.keys) c.hash_part.ensures.value
+    ∙ c.in_ok-parts.ensures (hash_part_in c.path-item.result)
 
 pub loop-path-preserved : goal.loop-path-preserved
 loop-path-preserved c =
@@ -20,11 +21,13 @@ loop-path-preserved c =
       | then-contains+in_ok-clone+in_ok-push w ↦ (
           let there = sym (stands c) ∙ w.if-contains.true in
           let same : w.in_ok-clone.field-0 ≡ path = search rules in
-          let taken = reference_taken candidates places c.loop-path.path-index path c.loop-path.paths.items (omega arith) c.path-item.is there c.loop-path.invariant in
+          let taken = reference_taken candidates places c.loop-path.path-index path c.loop-path.paths.items (omega arith) c.path-item.is there
+          c.loop-path.invariant in
           rw w.paths-is (w.in_ok-push.ensures.items ∙ ap (λ p. c.loop-path.paths.items ++ p ∷ []) same ∙ taken)
           )
       | else-contains w ↦ (
           let absent = sym (stands c) ∙ w.if-contains.false in
-          rw w.paths-is (reference_passed candidates places c.loop-path.path-index path c.loop-path.paths.items (omega arith) c.path-item.is absent c.loop-path.invariant)
+          rw w.paths-is (reference_passed candidates places c.loop-path.path-index path c.loop-path.paths.items (omega arith) c.path-item.is absent
+          c.loop-path.invariant)
           )
     ]

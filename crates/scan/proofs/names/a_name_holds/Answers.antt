@@ -26,8 +26,10 @@ returns-then-holds c =
     let i : ℕ = c.loop.counter in
     let ps : List Piece = pieces c.args.archive.now in
     let are = ArePieces-drop i ps (tree_are_pieces c.args.archive.now c.bytes-rest.ensures.tree) in
-    let read = first_read keys (drop i ps) c.loop.rest.now (option_copied c.in-Some.name) c.in-Some.behind.now are c.loop.invariant.rest (sym c.in-Some.ensures) in
-    let holds : holds_name keys (option_copied c.in-Some.name) ≡ true = ap (λ o. holds_name keys (option_copied o)) c.in-Some-name.is ∙ sym c.if-holds.ensures in
+    let read = first_read keys (drop i ps) c.loop.rest.now (option_copied c.in-Some.name) c.in-Some.behind.now are c.loop.invariant.rest
+    (sym c.in-Some.ensures) in
+    let holds : holds_name keys (option_copied c.in-Some.name) ≡ true = ap (λ o. holds_name keys (option_copied o)) c.in-Some-name.is
+    ∙ sym c.if-holds.ensures in
     sym (sym c.loop.invariant.names ∙ read.1 ∙ ap (λ b. b || list_any (name_holds keys) (drop 1 (drop i ps))) holds)
 
 pub loop-preserved : goal.loop-preserved
@@ -36,7 +38,8 @@ loop-preserved c =
     let i : ℕ = c.loop.counter in
     let ps : List Piece = pieces c.args.archive.now in
     let are = ArePieces-drop i ps (tree_are_pieces c.args.archive.now c.bytes-rest.ensures.tree) in
-    let read = first_read keys (drop i ps) c.loop.rest.now (option_copied c.in-Some.name) c.in-Some.behind.now are c.loop.invariant.rest (sym c.in-Some.ensures) in
+    let read = first_read keys (drop i ps) c.loop.rest.now (option_copied c.in-Some.name) c.in-Some.behind.now are c.loop.invariant.rest
+    (sym c.in-Some.ensures) in
     let none : holds_name keys (option_copied c.in-Some.name) ≡ false =
     elim c.match-name.branch [
       | in-Some-name+else-holds w ↦ ap (λ o. holds_name keys (option_copied o)) w.in-Some-name.is ∙ sym w.if-holds.ensures
@@ -44,7 +47,8 @@ loop-preserved c =
     ] in
     record {
       rest = read.0 ∙ ap joined (drop-next i ps);
-      names = sym (read.1 ∙ ap (λ b. b || list_any (name_holds keys) (drop 1 (drop i ps))) none ∙ ap (list_any (name_holds keys)) (drop-next i ps)) ∙ c.loop.invariant.names;
+      names = sym (read.1 ∙ ap (λ b. b || list_any (name_holds keys) (drop 1 (drop i ps))) none ∙ ap (list_any (name_holds keys)) (drop-next i ps))
+          ∙ c.loop.invariant.names;
     }
 
 pub returns : goal.returns

@@ -7,6 +7,6 @@ pub loop-desk-preserved : goal.loop-desk-preserved
 loop-desk-preserved c =
     let pushed : c.push.new.self.items ≡ c.loop-desk.desks.items ++ c.new.result ∷ [] = search rules in
     record {
-      empty = rw pushed (All-push IsEmpty c.loop-desk.desks.items c.new.result c.loop-desk.invariant.empty (record { trusted = c.new.ensures.trusted; known = c.new.ensures.known; charge = c.new.ensures.charge }));
+      empty = rw pushed (All-push IsEmpty c.loop-desk.desks.items c.new.result c.loop-desk.invariant.empty (record { trusted = c.new.ensures.trusted; known = c.new.ensures.known; records = c.new.ensures.records; charge = c.new.ensures.charge }));
       count = search rules;
     }

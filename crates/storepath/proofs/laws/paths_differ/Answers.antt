@@ -1,5 +1,5 @@
-use Rattle.storepath.proofs.DistinctLemmas.{different_sources}
+use Rattle.storepath.proofs.DistinctLemmas.{one_text_at_a_path}
 use Rattle.storepath.proofs.laws.paths_differ.Goals as goal
 
 pub returns : goal.returns
-returns c = different_sources
+returns c = one_text_at_a_path

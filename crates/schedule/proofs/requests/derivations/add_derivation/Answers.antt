@@ -19,7 +19,7 @@ returns-then-text-gt-MOST_DERIVATION_BYTES c table limit sound =
     let over : nat_le (length c.args.text.now) most_derivation_bytes ≡ false = grind (arith, nat_tests, c.if-text-gt-MOST_DERIVATION_BYTES.true) in
     left limit table c.args.desk.now (AddDerivation c.args.text.now) (Err TooLarge) sound
     (λ users sight same own. rw same (too_large (record { users = users; charge = limit }) (desk_of table c.args.desk.now) c.args.text.now over))
-    (derivation_at_once (desk_of table c.args.desk.now) c.args.text.now (Err TooLarge) (λ large. refl)) (search rules) refl
+    (derivation_at_once (desk_of table c.args.desk.now) c.args.text.now (Err TooLarge) (λ large. refl)) (search rules) refl (search rules)
 
 pub returns-in_err-derivation : goal.returns-in_err-derivation
 unfolding outcome
@@ -30,7 +30,7 @@ returns-in_err-derivation c table limit sound =
     rw p.1 (left limit table c.args.desk.now (AddDerivation c.args.text.now) (Err p.0) sound
     (λ users sight same. rw same (unread_fits (record { users = users; charge = limit }) (desk_of table c.args.desk.now) (desk_of table c.args.desk.now) c.args.text.now p.0 within unread))
     (derivation_at_once (desk_of table c.args.desk.now) c.args.text.now (Err p.0) (λ large. let no : true ≡ false = sym within ∙ large in cc))
-    (search rules) (unread_no_clash c.args.text.now p.0 unread))
+    (search rules) (unread_no_clash c.args.text.now p.0 unread) (search rules))
 
 pub returns : goal.returns
 returns c table limit sound =

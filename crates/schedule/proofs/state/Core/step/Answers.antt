@@ -4,7 +4,11 @@ use Rattle.schedule.proofs.StepLemmas.{served_step, refused_step}
 use Rattle.schedule.proofs.state.Core.step.Goals as goal
 
 pub returns-in-Ok-clause-step : goal.returns-in-Ok-clause-step
-returns-in-Ok-clause-step c = served_step c.args.self.now c.serve.new.self (event_of c.args.event) c.in-Ok.reply c.in-Ok.ensures.handled
+returns-in-Ok-clause-step c = served_step c.args.self.now c.serve.new.self (event_of c.args.event) c.in-Ok.reply c.in-Ok.ensures
+
+pub returns-in-Ok-clause-stored : goal.returns-in-Ok-clause-stored
+unfolding world_of stored_in
+returns-in-Ok-clause-stored c answered = c.in-Ok.ensures.stored
 
 pub returns-in-Ok-clause-holds : goal.returns-in-Ok-clause-holds
 unfolding world_of stored_in
@@ -14,7 +18,7 @@ returns-in-Ok-clause-holds c u path h =
 
 pub returns-in-Err-clause-step : goal.returns-in-Err-clause-step
 returns-in-Err-clause-step c =
-    refused_step c.paths_differ.ensures c.never_fails.ensures c.args.self.now c.serve.new.self (event_of c.args.event) c.in-Err.refusal c.in-Err.ensures.handled
+    refused_step c.one_tree_at_a_path.ensures c.never_fails.ensures c.args.self.now c.serve.new.self (event_of c.args.event) c.in-Err.refusal c.in-Err.ensures
 
 pub returns-in-Err-clause-holds : goal.returns-in-Err-clause-holds
 unfolding world_of stored_in

@@ -1,0 +1,5 @@
+pub mod OrderLemmas
+pub mod ZipLemmas
+pub mod StepLemmas
+pub mod Filtering
+pub mod LoopLemmas

@@ -1,0 +1,17 @@
+-- Records as a desk keeps them: without their trees, which the path table has.
+use Rattle.std.specs.Prelude.{◌≡◌, ℕ, Bool, List}
+use Rattle.model.specs.Classes.{Class}
+use Rattle.model.specs.Worlds.{Label, Record, same_record}
+
+-- a record without its tree
+pub record Recorded : Type 0 where
+  pub class : Class
+  pub path : List ℕ
+  pub labels : List Label
+
+abbrev pub without_tree : Record → Recorded
+without_tree r = record { class = r.class; path = r.path; labels = r.labels }
+
+-- whether two records are the same, whatever their trees
+abbrev pub IsSame : Recorded → Recorded → Bool → Type 0
+IsSame q r same = (one other : Record) → without_tree one ≡ q → without_tree other ≡ r → same ≡ same_record one other

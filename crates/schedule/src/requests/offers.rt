@@ -1,0 +1,130 @@
+//! Offering an output.
+
+ghost use Rattle.std.specs.Prelude.{◌≡◌, IfOk, IfErr, Ok, All};
+ghost use Rattle.model.specs.Archives.{IsTree};
+ghost use Rattle.model.specs.Paths.{IsPath};
+ghost use Rattle.model.specs.Derivations.{name_of};
+ghost use Rattle.model.specs.Occurrences.{IsHashPart};
+ghost use Rattle.model.specs.Settling.{hash_part_in};
+ghost use Rattle.model.specs.References.{paths_of_labels};
+ghost use Rattle.model.specs.Events.{Offer as OfferRequest};
+ghost use Rattle.model.specs.OfferRequests.{output_settled};
+ghost use Rattle.model.specs.declared.refusal.Refusal.TheVariants.{Memory};
+ghost use Rattle.schedule.specs.Sound.{IsSound};
+ghost use Rattle.schedule.specs.Handling.{IsHandledAtDesk};
+ghost use Rattle.schedule.specs.Offering.{IsRecordOf, IsOutput, IsNotSettled, IsNoOutput};
+
+use super::entries::add_entry;
+use crate::desk::Desk;
+use crate::entry::Entry;
+use crate::events::Reply;
+use crate::limits::Limits;
+use aterm::Derivation;
+use classes::Admitted;
+use model::Refusal;
+use nar::{Tree, encode};
+use realise::{Label, Record, candidates, labels_of};
+use rewrite::{Named, settle};
+use std::alloc::{AllocError, Global};
+use store::Table;
+use storepath::{Name, StorePath};
+
+/// The paths of labels.
+fn paths_of(alloc: Global, labels: &[Label]) -> Result<Vec<StorePath>, AllocError>
+    ensures paths { IfOk result (λ paths. paths.items ≡ paths_of_labels labels.now) }
+    ensures sound { IfOk result (λ paths. All IsPath paths.items) }
+{
+    let mut paths = Vec::with_capacity(alloc, labels.len())?;
+    for label in labels {
+        let path = label.path().clone()?;
+        let _part = path.hash_part();
+        paths.push(path)?;
+    }
+    Ok(paths)
+}
+
+/// The name of a derivation's output.
+fn name_for(alloc: Global, derivation: &Derivation) -> Result<Name, Refusal>
+    ensures name { IfOk result (λ name. name ≡ name_of derivation.now) }
+    ensures memory { IfErr result (λ why. why ≡ Memory) }
+{
+    Name::new(alloc, derivation.name())
+}
+
+/// An output of a derivation that may refer to these, with its path.
+fn output_of(
+    alloc: Global,
+    admitted: &Admitted,
+    labels: &[Label],
+    tree: &Tree,
+) -> Result<Named, Refusal>
+    ensures tree { IsTree tree.now }
+    ensures paths { IfOk result (λ _. All IsPath (paths_of_labels labels.now)) }
+    ensures own { IsHashPart (hash_part_in admitted.now.class.path) }
+    ensures settled { IfOk result (λ named. output_settled labels.now admitted.now tree.now ≡ Ok named) }
+    ensures refused { IfErr result (IsNotSettled labels.now admitted.now tree.now) }
+{
+    let _len = tree.nar_len();
+    let own = admitted.class().path().hash_part();
+    let _digits = own.bytes();
+    let paths = paths_of(alloc, labels)?;
+    let name = name_for(alloc, admitted.derivation())?;
+    let archive = encode(alloc, tree)?;
+    match settle(alloc, &archive, &own, &paths, &name) {
+        Ok(named) => Ok(named),
+        Err(why) => Err(why),
+    }
+}
+
+/// The record of an output for the class of a derivation.
+fn record_of(
+    alloc: Global,
+    admitted: &Admitted,
+    labels: &[Label],
+    named: &Named,
+) -> Result<Record, Refusal>
+    ensures record { IfOk result (λ r. IsRecordOf labels.now admitted.now named.now r) }
+    ensures memory { IfErr result (λ why. why ≡ Memory) }
+{
+    let labels = labels_of(alloc, named.refs(), labels)?;
+    let class = admitted.class().clone()?;
+    let path = named.path().clone()?;
+    Record::new(class, path, labels)
+}
+
+/// The record of an output, and its tree.
+fn output_for(
+    alloc: Global,
+    desk: &Desk,
+    admitted: &Admitted,
+    tree: &Tree,
+) -> Result<(Record, Tree), Refusal>
+    ensures output { IfOk result (λ o. IsOutput desk.now admitted.now tree.now o.0 o.1) }
+    ensures refused { IfErr result (IsNoOutput desk.now admitted.now tree.now) }
+{
+    let labels = candidates(alloc, desk.known(), admitted.derivation(), desk.records())?;
+    let named = output_of(alloc, admitted, &labels, tree)?;
+    let record = record_of(alloc, admitted, &labels, &named)?;
+    Ok((record, named.tree(alloc)?))
+}
+
+/// Adds an output of a derivation to a desk: its tree with the path of its content, and a record for
+/// the class of the derivation.
+pub(crate) fn offer(
+    alloc: Global,
+    table: &mut Table,
+    desk: &mut Desk,
+    limits: Limits,
+    path: &StorePath,
+    tree: &Tree,
+) -> Result<Reply, Refusal>
+    requires { IsSound table.old.sources limits.charge desk.old }
+    ensures { IsHandledAtDesk limits.charge table.old.sources desk.old
+        (OfferRequest path.now tree.now) result table.new.sources desk.new }
+{
+    let Some(admitted) = desk.derivation(path) else {
+        return Err(Refusal::UnknownDerivation);
+    };
+    let (record, settled) = output_for(alloc, desk, admitted, tree)?;
+    add_entry(table, desk, limits, Entry::Record(record), settled)
+}

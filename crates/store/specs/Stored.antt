@@ -1,0 +1,42 @@
+-- What contracts see of the table.
+use Rattle.std.specs.Prelude.{◌≡◌, ◌≢◌, ℕ, List, [], ◌∷◌, ◌++◌, map, true, is_some, Some, if◌then◌else◌, refl}
+use Rattle.std.specs.Coded.{Coded, code_by, coded×, coded_ℕ, coded_list}
+use Rattle.model.specs.Archives.{Tree, nar}
+use Rattle.model.specs.TreeCode.{tree_code}
+use Rattle.model.specs.Worlds.{Source, tree_at}
+
+-- the trees of the table with their paths, in order, and for how many more there is room
+pub record Stored : Type 0 where
+  pub sources : List Source
+  pub room : ℕ
+
+-- the sources of a map's entries
+abbrev pub source_of : List ℕ × Tree → Source
+source_of e = record { path = e.0; tree = e.1 }
+
+abbrev pub sources_of : List (List ℕ × Tree) → List Source
+sources_of entries = map source_of entries
+
+-- sources with one more, unless its path is there
+abbrev pub put_once : Source → List Source → List Source
+put_once s sources = if is_some (tree_at s.path sources) then sources else sources ++ s ∷ []
+
+-- sources with this one more, unless its path was there
+abbrev pub IsAdded : List ℕ → Tree → List Source → List Source → Type 0
+IsAdded path tree old new = new ≡ put_once (record { path = path; tree = tree }) old
+
+-- another tree is at the path
+pub record IsTaken (sources : List Source) (path : List ℕ) (tree : Tree) : Type 0 where
+  pub had : Tree
+  pub there : tree_at path sources ≡ Some had
+  pub other : nar had ≢ nar tree
+
+-- every path of a table has the same tree in a later one
+abbrev pub Extends : List Source → List Source → Type 0
+Extends old new = (p : List ℕ) → is_some (tree_at p old) ≡ true → tree_at p new ≡ tree_at p old
+
+abbrev source_code : Coded Source
+source_code = code_by (List ℕ × Tree) (coded× (coded_list coded_ℕ) tree_code) (λ s. (s.path, s.tree)) (λ p. record { path = p.0; tree = p.1 }) (λ _. refl)
+
+abbrev pub stored_code : Coded Stored
+stored_code = code_by (List Source × ℕ) (coded× (coded_list source_code) coded_ℕ) (λ s. (s.sources, s.room)) (λ p. record { sources = p.0; room = p.1 }) (λ _. refl)

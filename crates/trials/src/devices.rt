@@ -1,0 +1,139 @@
+//! A reader and a writer whose calls are counted, and of which one call may fail.
+
+use crate::fault::Fault;
+use crate::lines::number;
+use session::Faults;
+use std::alloc::Global;
+use std::io;
+use std::io::{ErrorKind, Read, Write};
+
+/// What the calls of a reader or a writer do: each moves at most `step` bytes, the `part`th at most
+/// one, and the `fails`th fails. There is no call of number 0.
+#[derive(Clone, Copy)]
+pub(crate) struct Calls {
+    step: usize,
+    part: usize,
+    fails: usize,
+}
+
+/// `STEP PART FAILS`, and what follows the blank behind them.
+pub(crate) fn calls_of(text: &str) -> Result<(Calls, &str), Fault> {
+    let (step, rest) = number(text)?;
+    let (part, rest) = number(rest)?;
+    let (fails, rest) = number(rest)?;
+    Ok((Calls { step, part, fails }, rest))
+}
+
+/// The calls so far.
+#[derive(Drop)]
+pub(crate) struct Count {
+    calls: Calls,
+    pub(crate) made: usize,
+    failed: u64,
+}
+
+impl Count {
+    fn new(calls: Calls) -> Count {
+        Count {
+            calls,
+            made: 0,
+            failed: 0,
+        }
+    }
+
+    /// Counts a call. Gives how many bytes it moves at most.
+    fn call(&mut self) -> io::Result<usize> {
+        self.made = self.made.saturating_add(1);
+        if self.made == self.calls.fails {
+            self.failed = self.failed.saturating_add(1);
+            Err(io::Error::from(ErrorKind::Other))
+        } else if self.made == self.calls.part {
+            Ok(1)
+        } else {
+            Ok(self.calls.step)
+        }
+    }
+}
+
+/// Gives its bytes.
+#[derive(Drop)]
+pub(crate) struct Source {
+    bytes: Vec<u8>,
+    at: usize,
+    pub(crate) count: Count,
+}
+
+impl Source {
+    pub(crate) fn new(bytes: Vec<u8>, calls: Calls) -> Source {
+        Source {
+            bytes,
+            at: 0,
+            count: Count::new(calls),
+        }
+    }
+}
+
+impl Faults for Source {
+    ghost failed = { λ s. s.count.failed };
+
+    fn failures(&self) -> u64 {
+        self.count.failed
+    }
+}
+
+impl Read for Source {
+    fn read(&mut self, buf: &mut [u8]) -> io::Result<usize> {
+        let most = self.count.call()?;
+        let rest = self.bytes.as_slice().get(self.at..).unwrap_or(&[]);
+        let n = rest.len().min(most).min(buf.len());
+        buf[..n].copy_from_slice(&rest[..n]);
+        self.at = self.at.saturating_add(n);
+        Ok(n)
+    }
+}
+
+/// Takes bytes, and shows them once it is flushed.
+#[derive(Drop)]
+pub(crate) struct Sink {
+    pub(crate) bytes: Vec<u8>,
+    pub(crate) shown: usize,
+    pub(crate) flushes: u64,
+    pub(crate) count: Count,
+}
+
+impl Sink {
+    pub(crate) fn new(alloc: Global, calls: Calls) -> Sink {
+        Sink {
+            bytes: Vec::new(alloc),
+            shown: 0,
+            flushes: 0,
+            count: Count::new(calls),
+        }
+    }
+}
+
+impl Faults for Sink {
+    ghost failed = { λ s. s.count.failed };
+
+    fn failures(&self) -> u64 {
+        self.count.failed
+    }
+}
+
+impl Write for Sink {
+    fn write(&mut self, buf: &[u8]) -> io::Result<usize> {
+        let most = self.count.call()?;
+        let n = buf.len().min(most);
+        match self.bytes.extend_from_slice(&buf[..n]) {
+            Ok(()) => Ok(n),
+            Err(_) => Err(io::Error::from(ErrorKind::OutOfMemory)),
+        }
+    }
+
+    fn flush(&mut self) -> io::Result<()> {
+        self.count.call()?;
+        self.shown = self.bytes.len();
+        self.flushes = self.flushes.saturating_add(1);
+        Ok(())
+    }
+}
