@@ -4,7 +4,7 @@ ghost use Rattle.std.specs.Prelude.{◌≤◌, IfOk};
 ghost use Rattle.model.specs.Limits.{most_charge};
 ghost use Rattle.app.specs.CommandLine.{AreOptionsOf, NamesCharge};
 
-use crate::settings::Options;
+use crate::settings::{Action, Options};
 use clap::error::ErrorKind;
 use clap::{Arg, ArgAction, ArgMatches, Command, Error, value_parser};
 use schedule::LARGEST_CHARGE;
@@ -30,6 +30,16 @@ fn file_argument<'a>(alloc: Global) -> Arg<'a> {
         .help("A file of lines, each an event of one user")
 }
 
+/// The option `--user`.
+fn user_argument<'a>(alloc: Global) -> Arg<'a> {
+    Arg::new(alloc, "user")
+        .long("user")
+        .value_name("U")
+        .action(ArgAction::Set)
+        .required(true)
+        .help("The user whose replies are printed")
+}
+
 /// The subcommand `replay`.
 fn replay_command<'a>(alloc: Global) -> Result<Command<'a>, AllocError> {
     Command::new(alloc, "replay")
@@ -38,15 +48,26 @@ fn replay_command<'a>(alloc: Global) -> Result<Command<'a>, AllocError> {
         .arg(file_argument(alloc))
 }
 
-/// The command `intstore`, with its one subcommand.
+/// The subcommand `strike`.
+fn strike_command<'a>(alloc: Global) -> Result<Command<'a>, AllocError> {
+    Command::new(alloc, "strike")
+        .about("Runs the events of FILE that can reach a user, and prints their replies to him")
+        .arg(user_argument(alloc))?
+        .arg(charge_argument(alloc))?
+        .arg(file_argument(alloc))
+}
+
+/// The command `intstore`, with its two subcommands.
 fn command<'a>(alloc: Global) -> Result<Command<'a>, AllocError> {
     let replay = replay_command(alloc)?;
+    let strike = strike_command(alloc)?;
     Command::new(alloc, "intstore")
         .bin_name("intstore")?
         .version("0.1.0")
         .about("A store for users of one machine who do not trust one another")
         .subcommand_required(true)
-        .subcommand(replay)
+        .subcommand(replay)?
+        .subcommand(strike)
 }
 
 /// The limit on the charge: as given, or the largest. The parser has refused every other number.
@@ -60,14 +81,34 @@ fn charge_of(matches: &ArgMatches<'_>) -> u64
     }
 }
 
-/// The options that the matches of `replay` hold, or none where they have no file.
-fn options_of(alloc: Global, matches: &ArgMatches<'_>) -> Result<Option<Options>, AllocError>
+/// What the matches of a subcommand ask for, or nothing where a user is to be named and is not.
+fn action_of(
+    alloc: Global,
+    subcommand: &str,
+    matches: &ArgMatches<'_>,
+) -> Result<Option<Action>, AllocError> {
+    if subcommand != "strike" {
+        return Ok(Some(Action::Replay));
+    }
+    match matches.get_str("user") {
+        Some(user) => Ok(Some(Action::Strike(String::from_str(alloc, user)?))),
+        None => Ok(None),
+    }
+}
+
+/// The options that the matches of a subcommand hold, or none where they have no file.
+fn options_of(
+    alloc: Global,
+    action: Action,
+    matches: &ArgMatches<'_>,
+) -> Result<Option<Options>, AllocError>
     ensures { IfOk result (AreOptionsOf matches.now) }
 {
     let Some(file) = matches.get_str("file") else {
         return Ok(None);
     };
     Ok(Some(Options {
+        action,
         charge: charge_of(matches),
         file: String::from_str(alloc, file)?,
     }))
@@ -76,7 +117,10 @@ fn options_of(alloc: Global, matches: &ArgMatches<'_>) -> Result<Option<Options>
 /// The options that the matches of a whole line hold, or none where they have no subcommand or no file.
 fn options_in(alloc: Global, matches: &ArgMatches<'_>) -> Result<Option<Options>, AllocError> {
     match matches.subcommand() {
-        Some((_, found)) => options_of(alloc, found),
+        Some((subcommand, found)) => match action_of(alloc, subcommand, found)? {
+            Some(action) => options_of(alloc, action, found),
+            None => Ok(None),
+        },
         None => Ok(None),
     }
 }

@@ -9,7 +9,8 @@ use thiserror::Error;
 
 /// The exit status where every line was answered.
 pub(crate) const ANSWERED: u8 = 0;
-/// The exit status of a fault in the command line, and where help or the version is asked for.
+/// The exit status of a fault in the command line, of a user whom nothing names, and where help or the
+/// version is asked for.
 pub(crate) const COMMAND_LINE_FAULT: u8 = 2;
 /// The exit status where the file cannot be read, or standard output not written.
 pub(crate) const CANNOT_READ_OR_WRITE: u8 = 3;
@@ -27,6 +28,9 @@ pub(crate) enum Fault<'a> {
     /// Standard output did not take all that was written.
     #[error("intstore: cannot write")]
     CannotWrite,
+    /// No answered line of users names the user.
+    #[error("intstore: unknown user")]
+    UnknownUser,
     /// Memory was refused where no event could be answered for it.
     #[error("intstore: out of memory")]
     OutOfMemory,
@@ -39,6 +43,7 @@ pub(crate) fn status_of(ended: &Result<(), Refusal>) -> u8
     match ended {
         Ok(()) => ANSWERED,
         Err(Refusal::BadUsers) => BAD_USERS,
+        Err(Refusal::UnknownUser) => COMMAND_LINE_FAULT,
         Err(Refusal::InputFault | Refusal::OutputFault) => CANNOT_READ_OR_WRITE,
         Err(_) => OUT_OF_MEMORY,
     }
@@ -51,6 +56,7 @@ pub(crate) fn fault_of<'a>(ended: &Result<(), Refusal>, file: &'a str) -> Option
 {
     match ended {
         Ok(()) | Err(Refusal::BadUsers) => None,
+        Err(Refusal::UnknownUser) => Some(Fault::UnknownUser),
         Err(Refusal::InputFault) => Some(Fault::CannotRead(file)),
         Err(Refusal::OutputFault) => Some(Fault::CannotWrite),
         Err(_) => Some(Fault::OutOfMemory),

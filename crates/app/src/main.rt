@@ -7,10 +7,11 @@ mod fault;
 mod one_pass;
 mod replay;
 mod settings;
+mod strike;
 
 use crate::counted::Counted;
 use crate::fault::{COMMAND_LINE_FAULT, Fault, OUT_OF_MEMORY, report};
-use crate::settings::Options;
+use crate::settings::{Action, Options};
 use model::Refusal;
 use std::hash::RandomState;
 use std::io::{BufWriter, ErrorKind};
@@ -30,7 +31,16 @@ fn run_file(rt: &HostRuntime, wait: &impl Wait, options: &Options) -> io::Result
     let mut reader = Counted::new(file);
     let mut writer = Counted::new(BufWriter::new(rt.alloc(), io::writer(rt))?);
     let hashing = RandomState::new(rt)?;
-    let ended = replay::replay(wait, rt.alloc(), hashing, options, &mut reader, &mut writer);
+    let alloc = rt.alloc();
+    let ended = match &options.action {
+        Action::Replay => {
+            replay::replay(wait, alloc, hashing, options, &mut reader, &mut writer)
+        }
+        Action::Strike(user) => {
+            let user = user.as_bytes();
+            strike::strike(alloc, hashing, options, user, &mut reader, &mut writer)
+        }
+    };
     Ok(report(rt, &ended, name))
 }
 

@@ -3,9 +3,20 @@
 ghost use Rattle.std.specs.Prelude.{◌≤◌};
 ghost use Rattle.model.specs.Limits.{most_charge};
 
+/// What is done with a file.
+#[derive(Debug, Drop)]
+pub(crate) enum Action {
+    /// All its lines are run, and their replies are printed.
+    Replay,
+    /// Those of its events that can reach the user of that name are run, and his replies are printed.
+    Strike(String),
+}
+
 /// What the program is to do.
 #[derive(Debug, Drop)]
 pub(crate) struct Options {
+    /// What is done with the file.
+    pub(crate) action: Action,
     /// The limit on each user's charge, in bytes: 1 to 1,073,741,824.
     pub(crate) charge: u64,
     /// The file whose lines are run.

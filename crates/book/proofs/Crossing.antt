@@ -15,7 +15,13 @@ use Rattle.aterm.specs.contracts.derivation.Derivation as Derivation
 use Rattle.classes.specs.contracts.known.Known as Known
 use Rattle.realise.specs.contracts.label.Label as Label
 use Rattle.realise.specs.contracts.record.Record as Record
+use Rattle.realise.specs.contracts.pins.Pins as Pins
+use Rattle.realise.specs.contracts.desk.Desk as Desk
 use Rattle.store.specs.contracts.table.Table as Table
+use Rattle.choose.specs.contracts.realisation.Realisation as Realisation
+use Rattle.choose.specs.contracts.realisation.Source as Source
+use Rattle.choose.specs.contracts.entry.Entry as Entry
+use Rattle.choose.specs.contracts.entry.Closure as Closure
 use Rattle.schedule.specs.contracts.state.Core as Core
 use Rattle.schedule.specs.contracts.events.Event as Event
 use Rattle.schedule.specs.contracts.events.Reply as Reply
@@ -47,13 +53,7 @@ pub refusal_send : IsSend Refusal.the_row
 refusal_send = search (sendable, crosses) depth 60 fits 5000
 
 pub event_send : IsSend Event.the_row
-event_send = search (sendable, crosses, tree_send) depth 60
-
-pub reply_send : IsSend Reply.the_row
-reply_send = search (sendable, crosses, tree_send, path_send, refusal_send) depth 60 fits 5000
-
-pub row_send : IsSend Row.the_row
-row_send = declared_send Row.the_type (search sendable, (event_send, (reply_send, tt)))
+event_send = search (sendable, crosses, tree_send, path_send) depth 60 fits 5000
 
 pub derivation_send : IsSend Derivation.the_row
 derivation_send = search (sendable, crosses, path_send) depth 60 fits 5000
@@ -73,11 +73,50 @@ label_sync = search (sendable, crosses, path_sync) depth 60 fits 5000
 pub record_send : IsSend Record.the_row
 record_send = search (sendable, crosses, path_send, label_send, label_sync) depth 60 fits 5000
 
+tree_sync : IsSync Tree.the_row
+tree_sync = search (sendable, crosses, both_send-Node, both_sync-Node) depth 60
+
+record_sync : IsSync Record.the_row
+record_sync = search (sendable, crosses, path_sync, label_send, label_sync) depth 60 fits 5000
+
+realisation_send : IsSend Realisation.the_row
+realisation_send = search (sendable, crosses, record_send, tree_send) depth 60 fits 5000
+
+realisation_sync : IsSync Realisation.the_row
+realisation_sync = search (sendable, crosses, record_sync, tree_sync) depth 60 fits 5000
+
+source_send : IsSend Source.the_row
+source_send = search (sendable, crosses, path_send, tree_send) depth 60 fits 5000
+
+source_sync : IsSync Source.the_row
+source_sync = search (sendable, crosses, path_sync, tree_sync) depth 60 fits 5000
+
+entry_send : IsSend Entry.the_row
+entry_send = search (sendable, crosses, realisation_send, source_send) depth 60 fits 5000
+
+entry_sync : IsSync Entry.the_row
+entry_sync = search (sendable, crosses, realisation_sync, source_sync) depth 60 fits 5000
+
+closure_send : IsSend Closure.the_row
+closure_send = search (sendable, crosses, entry_send, entry_sync) depth 60 fits 5000
+
+pub reply_send : IsSend Reply.the_row
+reply_send = search (sendable, crosses, tree_send, path_send, closure_send, refusal_send) depth 60 fits 5000
+
+pub row_send : IsSend Row.the_row
+row_send = declared_send Row.the_type (search sendable, (event_send, (reply_send, tt)))
+
 pub table_send : IsSend Table.the_row
 table_send = search (sendable, crosses, tree_send, path_send) depth 60 fits 5000
 
+pub pins_send : IsSend Pins.the_row
+pins_send = search (sendable, crosses, path_send) depth 60 fits 5000
+
+pub desk_send : IsSend Desk.the_row
+desk_send = search (sendable, crosses, path_send, known_send, record_send, pins_send) depth 60 fits 5000
+
 pub core_send : IsSend Core.the_row
-core_send = search (sendable, crosses, known_send, record_send, table_send) depth 60 fits 5000
+core_send = search (sendable, crosses, desk_send, table_send) depth 60 fits 5000
 
 history_send : IsSend (Vec.the_row Row.the_row Global.the_row ghosts)
 history_send = Vec-send Row.the_row row_send

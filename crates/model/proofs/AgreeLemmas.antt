@@ -1,12 +1,13 @@
 -- Worlds that agree on a set of users that is closed under trust: what its members see of them is the same.
-use Rattle.std.proofs.Common.{◌≡◌, ℕ, Bool, true, false, refl, ap, List, [], ◌∷◌}
-use Rattle.std.specs.Prelude.{◌||◌, ◌&&◌, bytes_eq}
+use Rattle.std.proofs.Common.{◌≡◌, ℕ, Bool, true, false, inl, inr, refl, ap, List, [], ◌∷◌}
+use Rattle.std.specs.Prelude.{◌||◌, ◌&&◌, bytes_eq, map, filter}
 use Rattle.model.specs.declared.refusal.Refusal.TheVariants.{UnknownUser}
 use Rattle.model.specs.Reach.{leads}
 use Rattle.model.specs.Worlds.{Desk, World, Setup, is_user}
 use Rattle.model.specs.Events.{Event}
-use Rattle.model.specs.Outcomes.{trusts, reaches, Sight, sight_of, Outcome, check}
+use Rattle.model.specs.Outcomes.{trusts, reaches, view_of, Sight, sight_of, Outcome, check}
 use Rattle.model.specs.Steps.{outcome_of, outcome}
+use Rattle.model.proofs.BoolLemmas.{either}
 use Rattle.model.proofs.ReachLemmas.{leads_least}
 
 -- two worlds have the same desks for the users of a set, and that set is closed under trust
@@ -26,10 +27,23 @@ leads_agree set w v agree (k ∷ ks) x y h =
     rw (← leads_agree set w v agree ks x y h)
     (ap (λ b. leads (trusts w) ks x y || b) (and_agree _ _ _ _ (leads_agree set w v agree ks x k h) (λ t. leads_agree set w v agree ks k y (leads_least (trusts w) set agree.closed ks x k h t))))
 
+-- and their desks are the same
+view_agree : (set : List ℕ → Bool) (w v : World) → Agree set w v → (setup : Setup) (u : List ℕ) → set u ≡ true → (xs : List (List ℕ)) → map w (filter (reaches setup w u) xs) ≡ map v (filter (reaches setup v u) xs)
+view_agree set w v agree setup u h [] = refl
+view_agree set w v agree setup u h (x ∷ xs) =
+    let same : reaches setup w u x ≡ reaches setup v u x = leads_agree set w v agree setup.users u x h in
+    let rest = view_agree set w v agree setup u h xs in
+    elim (either (reaches setup w u x)) [
+      | inl t ↦
+          let there : set x ≡ true = leads_least (trusts w) set agree.closed setup.users u x h t in
+          rw (← same, t) (λ i. (agree.desks x there) i ∷ rest i)
+      | inr f ↦ rw (← same, f) rest
+    ]
+
 pub sight_agree : (setup : Setup) (set : List ℕ → Bool) (w v : World) → Agree set w v → (u : List ℕ) → set u ≡ true → sight_of setup w u ≡ sight_of setup v u
 sight_agree setup set w v agree u h =
-    let same : (x : List ℕ) → reaches setup w u x ≡ reaches setup v u x = λ x. leads_agree set w v agree setup.users u x h in
-    λ i. record { user = u; desk = (agree.desks u h) i; reach = λ x. (same x) i }
+    let seen : view_of setup w u ≡ view_of setup v u = view_agree set w v agree setup u h setup.users in
+    λ i. record { user = u; desk = (agree.desks u h) i; view = seen i }
 
 -- the outcome of an event, by the sight of its actor
 abbrev outcome_of_sight : Setup → Event → Sight → Outcome

@@ -7,8 +7,8 @@ use Rattle.model.specs.declared.refusal.Refusal.TheVariants.{UnknownUser}
 use Rattle.model.specs.Derivations.{Derivation}
 use Rattle.model.specs.DerivationTexts.{derivation_of_text}
 use Rattle.model.specs.Classes.{Admission, known_at, derivation_path, admit}
-use Rattle.model.specs.Worlds.{Source, Record, Desk, World, nothing, Setup, is_user, with_source, known_of, with_derivation, with_record}
-use Rattle.model.specs.Events.{Request, AddSource, AddDerivation, Offer, Fetch, Event}
+use Rattle.model.specs.Worlds.{Source, Record, Desk, World, nothing, Setup, is_user, with_source, known_of, with_derivation, with_record, with_trust, without_trust, with_pin, without_pin}
+use Rattle.model.specs.Events.{Request, AddSource, AddDerivation, Offer, Fetch, Trust, Distrust, Pin, Unpin, Closure, Event}
 use Rattle.model.specs.Outcomes.{reaches, Sight, sight_of, News, Quiet, Outcome, heard, desk_after}
 use Rattle.model.specs.SourceRequests.{source_named}
 use Rattle.model.specs.Steps.{outcome, outcome_of, after, world_after}
@@ -17,6 +17,9 @@ use Rattle.model.proofs.BoolLemmas.{same_bytes}
 use Rattle.model.proofs.SourceRequestLemmas.{add_source_cases, fetch_cases}
 use Rattle.model.proofs.DerivationRequestLemmas.{IsAdmission, add_derivation_cases}
 use Rattle.model.proofs.OfferRequestLemmas.{offer_cases}
+use Rattle.model.proofs.TrustRequestLemmas.{trust_cases, distrust_cases}
+use Rattle.model.proofs.PinRequestLemmas.{pin_cases}
+use Rattle.model.proofs.ClosureRequestLemmas.{closure_cases}
 
 -- ---- what a request does to what its user knows
 
@@ -47,8 +50,11 @@ abbrev DeskFits : Request → Desk → Outcome → Type 0
 DeskFits r old (Err why) = Unit {0}
 DeskFits r old (Ok c) = Grows r old c.desk
 
+keeps_knowledge : (d later : Desk) → later.derivations ≡ d.derivations → later.sources ≡ d.sources → Keeps d later
+keeps_knowledge d later derivations sources = record { derivations = derivations; added = []; sources = sources ∙ sym (append-nil d.sources) }
+
 keeps_itself : (d : Desk) → Keeps d d
-keeps_itself d = record { derivations = refl; added = []; sources = sym (append-nil d.sources) }
+keeps_itself d = keeps_knowledge d d refl refl
 
 -- the case of each request
 outcome_fits : (setup : Setup) (s : Sight) (r : Request) → DeskFits r s.desk (outcome setup s r)
@@ -63,10 +69,19 @@ outcome_fits setup s (AddDerivation text) =
     add_derivation_cases (DeskFits (AddDerivation text) s.desk) setup s.desk text
     (record { had = λ a. inl (keeps_itself s.desk); added = λ derivation a is. inr (admits derivation a is); over = tt; unread = tt; missing = tt; high = tt }) (λ large. tt)
 outcome_fits setup s (Offer path tree) =
-    let keeps : (r : Record) → Keeps s.desk (with_record r s.desk) = λ r. record { derivations = refl; added = []; sources = sym (append-nil s.desk.sources) } in
+    let keeps : (r : Record) → Keeps s.desk (with_record r s.desk) = λ r. keeps_knowledge s.desk (with_record r s.desk) refl refl in
     offer_cases (DeskFits (Offer path tree) s.desk) setup s.desk path tree
     (record { had = λ r. inl (keeps_itself s.desk); added = λ r. inl (keeps r); over = tt; refused = λ why. tt; unknown = λ absent. tt })
 outcome_fits setup s (Fetch path) = fetch_cases (DeskFits (Fetch path) s.desk) s.desk path (λ tree held. inl (keeps_itself s.desk)) (λ absent. tt)
+outcome_fits setup s (Trust other) =
+    trust_cases (DeskFits (Trust other) s.desk) setup s other
+    (λ known. cond_both (bytes_eq other s.user) s.desk (with_trust other s.desk) (Grows (Trust other) s.desk) (λ own. inl (keeps_itself s.desk)) (λ another. inl (keeps_knowledge s.desk (with_trust other s.desk) refl refl))) tt
+outcome_fits setup s (Distrust other) =
+    distrust_cases (DeskFits (Distrust other) s.desk) setup s other (inl (keeps_knowledge s.desk (without_trust other s.desk) refl refl)) tt
+outcome_fits setup s (Pin class path) =
+    pin_cases (DeskFits (Pin class path) s.desk) setup s.desk class path (inl (keeps_knowledge s.desk (with_pin class path s.desk) refl refl)) tt
+outcome_fits setup s (Unpin class) = inl (keeps_knowledge s.desk (without_pin class s.desk) refl refl)
+outcome_fits setup s (Closure class) = closure_cases (DeskFits (Closure class) s.desk) s class (λ entries. inl (keeps_itself s.desk)) tt tt tt
 
 -- ---- one event
 

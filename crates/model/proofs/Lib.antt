@@ -5,8 +5,13 @@ pub mod OutcomeLemmas
 pub mod SourceRequestLemmas
 pub mod DerivationRequestLemmas
 pub mod OfferRequestLemmas
+pub mod TrustRequestLemmas
+pub mod PinRequestLemmas
+pub mod ClosureRequestLemmas
 pub mod FailureLemmas
 pub mod StrikeLemmas
 pub mod KnowledgeLemmas
 pub mod RecursionLemmas
 pub mod TalkLemmas
+pub mod MemberLemmas
+pub mod ClosureLemmas

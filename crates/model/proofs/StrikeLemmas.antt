@@ -1,10 +1,11 @@
 -- A user's replies are those of the run without the events of those whom he never reaches.
 use Rattle.std.proofs.Common.{◌≡◌, ℕ, Bool, true, false, ◌⊎◌, inl, inr, refl, sym, ◌∙◌, ap, subst, List, [], ◌∷◌, Ok, Err}
-use Rattle.std.specs.Prelude.{◌&&◌, filter, bytes_eq, if◌then◌else◌}
+use Rattle.std.specs.Prelude.{◌&&◌, not, filter, bytes_eq, if◌then◌else◌}
+use Rattle.std.proofs.lemmas.Bool.{cond_both}
 use Rattle.std.specs.List.{list_any}
 use Rattle.model.specs.Reach.{is_among}
-use Rattle.model.specs.Worlds.{Desk, World, nothing, Setup, is_user}
-use Rattle.model.specs.Events.{Request, AddSource, AddDerivation, Offer, Fetch, Event, Reply}
+use Rattle.model.specs.Worlds.{Desk, World, nothing, Setup, is_user, with_trust}
+use Rattle.model.specs.Events.{Request, AddSource, AddDerivation, Offer, Fetch, Trust, Distrust, Pin, Unpin, Closure, Event, Reply}
 use Rattle.model.specs.Outcomes.{reaches, Sight, sight_of, News, Quiet, Outcome, heard, reply_of, desk_after}
 use Rattle.model.specs.Steps.{outcome, outcome_of, after, answers, replies_to, replies}
 use Rattle.model.specs.Striking.{asks_to_trust, gives_trust, ever, strike}
@@ -14,13 +15,28 @@ use Rattle.model.proofs.AgreeLemmas.{Agree, leads_agree, outcome_agree}
 use Rattle.model.proofs.SourceRequestLemmas.{add_source_cases, fetch_cases}
 use Rattle.model.proofs.DerivationRequestLemmas.{add_derivation_cases}
 use Rattle.model.proofs.OfferRequestLemmas.{offer_cases}
+use Rattle.model.proofs.TrustRequestLemmas.{trust_cases, distrust_cases}
+use Rattle.model.proofs.PinRequestLemmas.{pin_cases}
+use Rattle.model.proofs.ClosureRequestLemmas.{closure_cases}
 
 -- ---- what a request does to whom its user trusts
 
 -- whom the new desk trusts the old one did, or the request asks to, and is a user
+abbrev Fits : Setup → (List ℕ → Bool) → Request → Desk → Type 0
+Fits setup old r d = (y : List ℕ) → d.trusted y ≡ true → (old y ≡ true) ⊎ ((asks_to_trust y r && is_user setup y) ≡ true)
+
 abbrev TrustFits : Setup → (List ℕ → Bool) → Request → Outcome → Type 0
 TrustFits setup old r (Err why) = Unit {0}
-TrustFits setup old r (Ok c) = (y : List ℕ) → c.desk.trusted y ≡ true → (old y ≡ true) ⊎ ((asks_to_trust y r && is_user setup y) ≡ true)
+TrustFits setup old r (Ok c) = Fits setup old r c.desk
+
+-- with one user more, who is asked for
+trusts_more : (setup : Setup) (d : Desk) (other : List ℕ) → is_user setup other ≡ true → Fits setup d.trusted (Trust other) (with_trust other d)
+trusts_more setup d other known y t = elim (or_cases (bytes_eq y other) (d.trusted y) t) [
+  | inl is ↦
+      let same : y ≡ other = same_bytes y other is in
+      inr (rw same (both (bytes_eq other other) (is_user setup other) (bytes_same other) known))
+  | inr old ↦ inl old
+]
 
 outcome_fits : (setup : Setup) (s : Sight) (r : Request) → TrustFits setup s.desk.trusted r (outcome setup s r)
 unfolding outcome
@@ -33,6 +49,14 @@ outcome_fits setup s (Offer path tree) =
     offer_cases (TrustFits setup s.desk.trusted (Offer path tree)) setup s.desk path tree
     (record { had = λ r y t. inl t; added = λ r y t. inl t; over = tt; refused = λ why. tt; unknown = λ absent. tt })
 outcome_fits setup s (Fetch path) = fetch_cases (TrustFits setup s.desk.trusted (Fetch path)) s.desk path (λ tree held y t. inl t) (λ absent. tt)
+outcome_fits setup s (Trust other) =
+    trust_cases (TrustFits setup s.desk.trusted (Trust other)) setup s other
+    (λ known. cond_both (bytes_eq other s.user) s.desk (with_trust other s.desk) (Fits setup s.desk.trusted (Trust other)) (λ own y t. inl t) (λ another. trusts_more setup s.desk other known)) tt
+outcome_fits setup s (Distrust other) =
+    distrust_cases (TrustFits setup s.desk.trusted (Distrust other)) setup s other (λ y t. inl (both_parts (not (bytes_eq y other)) (s.desk.trusted y) t).1) tt
+outcome_fits setup s (Pin class path) = pin_cases (TrustFits setup s.desk.trusted (Pin class path)) setup s.desk class path (λ y t. inl t) tt
+outcome_fits setup s (Unpin class) = λ y t. inl t
+outcome_fits setup s (Closure class) = closure_cases (TrustFits setup s.desk.trusted (Closure class)) s class (λ entries y t. inl t) tt tt tt
 
 -- ---- one desk after an outcome
 

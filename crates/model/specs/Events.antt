@@ -2,6 +2,7 @@
 use Rattle.std.specs.Prelude.{ℕ, List}
 use Rattle.model.specs.declared.refusal.Refusal.{Refusal}
 use Rattle.model.specs.Archives.{Tree}
+use Rattle.model.specs.Worlds.{Entry}
 
 -- what a user may ask
 pub data Request : Type 0 where
@@ -9,6 +10,11 @@ pub data Request : Type 0 where
   AddDerivation : (text : List ℕ) → Request
   Offer : (derivation : List ℕ) → (tree : Tree) → Request
   Fetch : (path : List ℕ) → Request
+  Trust : (user : List ℕ) → Request
+  Distrust : (user : List ℕ) → Request
+  Pin : (class path : List ℕ) → Request
+  Unpin : (class : List ℕ) → Request
+  Closure : (class : List ℕ) → Request
 
 -- a request and the user who makes it
 pub record Event : Type 0 where
@@ -20,6 +26,7 @@ pub data Reply : Type 0 where
   Path : (path : List ℕ) → Reply
   Derivation : (path class : List ℕ) → Reply
   Content : (tree : Tree) → Reply
+  Entries : (entries : List Entry) → Reply
   Refused : (why : Refusal) → Reply
 
 -- a reply and the user who gets it

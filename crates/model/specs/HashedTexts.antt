@@ -1,7 +1,7 @@
 -- The texts whose SHA-256 is taken when events are run.
 use Rattle.std.specs.Prelude.{ℕ, if◌then◌else◌, List, [], ◌∷◌, ◌++◌}
 use Rattle.model.specs.Worlds.{Setup, is_user, World}
-use Rattle.model.specs.Events.{Request, AddSource, AddDerivation, Offer, Fetch, Event}
+use Rattle.model.specs.Events.{Request, AddSource, AddDerivation, Offer, Fetch, Trust, Distrust, Pin, Unpin, Closure, Event}
 use Rattle.model.specs.SourceRequests.{source_texts}
 use Rattle.model.specs.DerivationRequests.{derivation_texts}
 use Rattle.model.specs.OfferRequests.{offer_texts}
@@ -13,6 +13,11 @@ texts_of setup w u (AddSource name tree) = source_texts name tree
 texts_of setup w u (AddDerivation text) = derivation_texts (w u) text
 texts_of setup w u (Offer derivation tree) = offer_texts (w u) derivation tree
 texts_of setup w u (Fetch path) = []
+texts_of setup w u (Trust user) = []
+texts_of setup w u (Distrust user) = []
+texts_of setup w u (Pin class path) = []
+texts_of setup w u (Unpin class) = []
+texts_of setup w u (Closure class) = []
 
 -- those of one event; of a stranger's nothing is hashed
 abbrev pub texts_of_event : Setup → World → Event → List (List ℕ)

@@ -13,6 +13,14 @@ most_derivations = 1024
 abbrev pub most_records : ℕ
 most_records = 4096
 
+-- the most pins of a user
+abbrev pub most_pins : ℕ
+most_pins = 4096
+
+-- the most entries of a closure
+abbrev pub most_entries : ℕ
+most_entries = 1024
+
 -- the most bytes of a derivation's text
 abbrev pub most_derivation_bytes : ℕ
 most_derivation_bytes = 1048576

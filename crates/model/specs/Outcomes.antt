@@ -1,5 +1,5 @@
 -- What a request is made of: what its user sees, what it changes, and what the others hear of it.
-use Rattle.std.specs.Prelude.{ℕ, Bool, if◌then◌else◌, List, bytes_eq, Option, Some, None, Result, Ok, Err}
+use Rattle.std.specs.Prelude.{ℕ, Bool, if◌then◌else◌, List, map, filter, bytes_eq, Option, Some, None, Result, Ok, Err}
 use Rattle.model.specs.declared.refusal.Refusal.{Refusal}
 use Rattle.model.specs.declared.refusal.Refusal.TheVariants.{Quota}
 use Rattle.model.specs.Reach.{leads}
@@ -15,14 +15,18 @@ trusts w u v = (w u).trusted v
 abbrev pub reaches : Setup → World → List ℕ → List ℕ → Bool
 reaches setup w u v = leads (trusts w) setup.users u v
 
--- all of a world that a user's requests depend on: who he is, his own desk, and whom he reaches
+-- the desks of those whom a user reaches, in the order of the run's users
+abbrev pub view_of : Setup → World → List ℕ → List Desk
+view_of setup w u = map w (filter (reaches setup w u) setup.users)
+
+-- all of a world that a user's requests depend on: who he is, his own desk, and the desks of those whom he reaches
 pub record Sight : Type 0 where
   pub user : List ℕ
   pub desk : Desk
-  pub reach : List ℕ → Bool
+  pub view : List Desk
 
 abbrev pub sight_of : Setup → World → List ℕ → Sight
-sight_of setup w u = record { user = u; desk = w u; reach = reaches setup w u }
+sight_of setup w u = record { user = u; desk = w u; view = view_of setup w u }
 
 -- ---- what a request does
 

@@ -2,11 +2,14 @@
 use Rattle.std.specs.Prelude.{ℕ, if◌then◌else◌, List, [], ◌∷◌, bytes_eq}
 use Rattle.model.specs.declared.refusal.Refusal.TheVariants.{UnknownUser}
 use Rattle.model.specs.Worlds.{Setup, is_user, World, nothing}
-use Rattle.model.specs.Events.{Request, AddSource, AddDerivation, Offer, Fetch, Event, Reply, Answer}
+use Rattle.model.specs.Events.{Request, AddSource, AddDerivation, Offer, Fetch, Trust, Distrust, Pin, Unpin, Closure, Event, Reply, Answer}
 use Rattle.model.specs.Outcomes.{reaches, Sight, sight_of, Outcome, check, reply_of, desk_after}
 use Rattle.model.specs.SourceRequests.{add_source, fetch}
 use Rattle.model.specs.DerivationRequests.{add_derivation}
 use Rattle.model.specs.OfferRequests.{offer}
+use Rattle.model.specs.TrustRequests.{trust, distrust}
+use Rattle.model.specs.PinRequests.{pin, unpin}
+use Rattle.model.specs.ClosureRequests.{closure}
 
 -- ---- one event
 
@@ -16,6 +19,11 @@ outcome setup s (AddSource name tree) = add_source setup s.desk name tree
 outcome setup s (AddDerivation text) = add_derivation setup s.desk text
 outcome setup s (Offer derivation tree) = offer setup s.desk derivation tree
 outcome setup s (Fetch path) = fetch s.desk path
+outcome setup s (Trust user) = trust setup s user
+outcome setup s (Distrust user) = distrust setup s user
+outcome setup s (Pin class path) = pin setup s.desk class path
+outcome setup s (Unpin class) = unpin s.desk class
+outcome setup s (Closure class) = closure s class
 
 -- the outcome of an event
 abbrev pub outcome_of : Setup → World → Event → Outcome

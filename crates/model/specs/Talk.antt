@@ -1,10 +1,14 @@
 -- The talk of a session: for each line of its input a row, from which follow the events, the replies and the text.
-use Rattle.std.specs.Prelude.{◌≡◌, ℕ, ◌+◌, Bool, true, false, ◌||◌, List, [], ◌∷◌, ◌++◌, Option, None, Some, codes, decimal}
+use Rattle.std.specs.Prelude.{◌≡◌, ℕ, ◌+◌, Bool, true, false, ◌||◌, List, [], ◌∷◌, ◌++◌, length, flat_map, Option, None, Some, codes, decimal}
 use Rattle.model.specs.declared.refusal.Refusal.{Refusal}
 use Rattle.model.specs.declared.refusal.Refusal.TheVariants.{BadUsers}
 use Rattle.model.specs.Refusals.{text_of_refusal}
 use Rattle.model.specs.TreeTexts.{tree_text_of}
-use Rattle.model.specs.Events.{Event, Reply, Done, Path, Derivation, Content, Refused}
+use Rattle.model.specs.Archives.{nar}
+use Rattle.model.specs.Classes.{Class}
+use Rattle.model.specs.Worlds.{Label, Entry, path_of_entry}
+use Rattle.model.specs.Closures.{class_of_entry, labels_of_entry, tree_of_entry}
+use Rattle.model.specs.Events.{Event, Reply, Done, Path, Derivation, Content, Entries, Refused}
 use Rattle.model.specs.Lines.{Told, nothing_told}
 use Rattle.model.specs.declared.verb.WordKind.TheVariants as kind
 use Rattle.model.specs.Words.{AreWell, FirstIll}
@@ -75,11 +79,29 @@ Talks seen (line ∷ lines) (row ∷ rows) = (seen.refused ≡ false) × Gets (f
 
 -- ---- the text
 
+-- what a path is there for: an output of a class, or a source
+abbrev pub class_text : Option Class → List ℕ
+class_text None = codes "source"
+class_text (Some class) = class.path
+
+abbrev pub label_text : Label → List ℕ
+label_text l = l.path ++ 64 ∷ class_text l.class
+
+-- labels, with a comma before each but the first
+abbrev pub labels_text : List Label → List ℕ
+labels_text [] = []
+labels_text (l ∷ ls) = label_text l ++ flat_map (λ k. 44 ∷ label_text k) ls
+
+-- an entry of a closure: its path, its class, its labels, and the length of its archive in bytes
+abbrev pub entry_text : Entry → List ℕ
+entry_text e = path_of_entry e ++ 40 ∷ class_text (class_of_entry e) ++ 59 ∷ labels_text (labels_of_entry e) ++ 59 ∷ decimal (length (nar (tree_of_entry e))) ++ 41 ∷ []
+
 abbrev pub reply_text : Reply → List ℕ
 reply_text Done = codes "ok"
 reply_text (Path path) = codes "path " ++ path
 reply_text (Derivation path class) = codes "drv " ++ path ++ codes " class " ++ class
 reply_text (Content tree) = codes "tree " ++ tree_text_of tree
+reply_text (Entries entries) = codes "closure " ++ decimal (length entries) ++ flat_map (λ e. 32 ∷ entry_text e) entries
 reply_text (Refused why) = codes "refused " ++ text_of_refusal why
 
 -- the number of the line, the actor, and the reply

@@ -1,7 +1,7 @@
 -- The verbs of lines. Each has a row in each of these tables: its word in a line, the kinds of the words behind it, and the request that they make.
 use Rattle.std.specs.Prelude.{◌≡◌, ℕ, if◌then◌else◌, List, [], ◌∷◌, bytes_eq, codes, Option, None, Some}
 use Rattle.model.specs.declared.verb.Verb.{Verb}
-use Rattle.model.specs.declared.verb.Verb.TheVariants.{Source, Derivation, Offer, Fetch}
+use Rattle.model.specs.declared.verb.Verb.TheVariants.{Source, Derivation, Offer, Fetch, Trust, Distrust, Pin, Unpin, Closure}
 use Rattle.model.specs.declared.verb.WordKind.{WordKind}
 use Rattle.model.specs.declared.verb.WordKind.TheVariants as kind
 use Rattle.model.specs.Archives.{Tree}
@@ -16,6 +16,11 @@ verb_of word =
     else if bytes_eq word (codes "derivation") then Some Derivation
     else if bytes_eq word (codes "offer") then Some Offer
     else if bytes_eq word (codes "fetch") then Some Fetch
+    else if bytes_eq word (codes "trust") then Some Trust
+    else if bytes_eq word (codes "distrust") then Some Distrust
+    else if bytes_eq word (codes "pin") then Some Pin
+    else if bytes_eq word (codes "unpin") then Some Unpin
+    else if bytes_eq word (codes "closure") then Some Closure
     else None
 
 -- the kinds of the words behind it
@@ -24,6 +29,11 @@ kinds_of Source = kind.Name ∷ kind.Tree ∷ []
 kinds_of Derivation = kind.Text ∷ []
 kinds_of Offer = kind.Path ∷ kind.Tree ∷ []
 kinds_of Fetch = kind.Path ∷ []
+kinds_of Trust = kind.User ∷ []
+kinds_of Distrust = kind.User ∷ []
+kinds_of Pin = kind.Path ∷ kind.Path ∷ []
+kinds_of Unpin = kind.Path ∷ []
+kinds_of Closure = kind.Path ∷ []
 
 -- the request that it makes of its words
 abbrev pub IsRequestOf : Verb → List (List ℕ) → Request → Type 0
@@ -31,4 +41,9 @@ IsRequestOf Source (name ∷ word ∷ []) request = (tree : Tree) × IsTreeText 
 IsRequestOf Derivation (text ∷ []) request = request ≡ events.AddDerivation text
 IsRequestOf Offer (path ∷ word ∷ []) request = (tree : Tree) × IsTreeText word tree × (request ≡ events.Offer path tree)
 IsRequestOf Fetch (path ∷ []) request = request ≡ events.Fetch path
+IsRequestOf Trust (user ∷ []) request = request ≡ events.Trust user
+IsRequestOf Distrust (user ∷ []) request = request ≡ events.Distrust user
+IsRequestOf Pin (class ∷ path ∷ []) request = request ≡ events.Pin class path
+IsRequestOf Unpin (class ∷ []) request = request ≡ events.Unpin class
+IsRequestOf Closure (class ∷ []) request = request ≡ events.Closure class
 IsRequestOf verb words request = ⊥

@@ -1,13 +1,13 @@
 -- The store as private desks: each user has his own, and nothing is shared.
 -- Dolstra 2006, section 6.2, has the table of realisations of one user; the limits are this project's.
-use Rattle.std.specs.Prelude.{ℕ, nat_lt, nat_le, Bool, ◌&&◌, ◌||◌, false, true, not, if◌then◌else◌, List, [], ◌∷◌, ◌++◌, length, find, map, sum_by, bytes_eq, option_map, Option, None, Some}
+use Rattle.std.specs.Prelude.{ℕ, nat_lt, nat_le, Bool, ◌&&◌, ◌||◌, false, true, not, if◌then◌else◌, List, [], ◌∷◌, ◌++◌, length, find, filter, map, sum_by, bytes_eq, option_map, Option, None, Some}
 use Rattle.std.specs.List.{list_any, list_all}
 use Rattle.std.specs.Cmp.Lexicographic.{pointwise}
 use Rattle.model.specs.Archives.{Tree, nar}
 use Rattle.model.specs.Characters.{is_lower_case, is_digit}
 use Rattle.model.specs.Reach.{is_among}
 use Rattle.model.specs.Classes.{Class, Admission, Known}
-use Rattle.model.specs.Limits.{most_sources, most_derivations, most_records}
+use Rattle.model.specs.Limits.{most_sources, most_derivations, most_records, most_pins}
 
 -- ---- users
 
@@ -55,19 +55,26 @@ pub record Record : Type 0 where
   pub tree : Tree
   pub labels : List Label
 
--- all that one user has: whom he trusts, his sources, what is known of his derivations, and what was built for them, the oldest first
+-- the path that a user wants for a class
+pub record Pin : Type 0 where
+  pub class : List ℕ
+  pub path : List ℕ
+
+-- all that one user has: whom he trusts, his sources, what is known of his derivations, and what was built for them, the oldest
+-- first; and his pins, one for a class
 pub record Desk : Type 0 where
   pub trusted : List ℕ → Bool
   pub sources : List Source
   pub derivations : List Admission
   pub records : List Record
+  pub pins : List Pin
 
 -- for each user, by his name, a desk
 abbrev pub World : Type 0
 World = List ℕ → Desk
 
 abbrev pub empty_desk : Desk
-empty_desk = record { trusted = λ _. false; sources = []; derivations = []; records = [] }
+empty_desk = record { trusted = λ _. false; sources = []; derivations = []; records = []; pins = [] }
 
 -- all desks are empty
 abbrev pub nothing : World
@@ -94,7 +101,10 @@ charge_of d = sum_by (λ s. length (nar s.tree)) (one_of_each (held d))
 
 -- whether a desk is within every limit
 unfoldable pub is_within : Setup → Desk → Bool
-is_within setup d = nat_le (length d.sources) most_sources && (nat_le (length d.derivations) most_derivations && (nat_le (length d.records) most_records && nat_le (charge_of d) setup.charge))
+is_within setup d =
+    nat_le (length d.sources) most_sources
+    && (nat_le (length d.derivations) most_derivations
+    && (nat_le (length d.records) most_records && (nat_le (length d.pins) most_pins && nat_le (charge_of d) setup.charge)))
 
 -- the tree at a path among sources
 abbrev pub tree_at : List ℕ → List Source → Option Tree
@@ -158,3 +168,33 @@ known_of d = record { derivations = d.derivations; sources = map (λ s. s.path) 
 -- a desk with one derivation more
 abbrev pub with_derivation : Admission → Desk → Desk
 with_derivation a d = record d { derivations = d.derivations ++ a ∷ [] }
+
+-- ---- pins
+
+-- the path that is pinned for a class
+abbrev pub pin_of : List Pin → List ℕ → Option (List ℕ)
+pin_of pins class = option_map (λ p. p.path) (find (λ p. bytes_eq p.class class) pins)
+
+-- pins with one for a class, in the place of the older one, or at the end
+unfoldable pub pinned : List ℕ → List ℕ → List Pin → List Pin
+pinned class path [] = record { class = class; path = path } ∷ []
+pinned class path (p ∷ ps) = if bytes_eq p.class class then record { class = class; path = path } ∷ ps else p ∷ pinned class path ps
+
+-- pins without that of a class
+abbrev pub unpinned : List ℕ → List Pin → List Pin
+unpinned class pins = filter (λ p. not (bytes_eq p.class class)) pins
+
+abbrev pub with_pin : List ℕ → List ℕ → Desk → Desk
+with_pin class path d = record d { pins = pinned class path d.pins }
+
+abbrev pub without_pin : List ℕ → Desk → Desk
+without_pin class d = record d { pins = unpinned class d.pins }
+
+-- ---- trust
+
+-- a desk whose user trusts one user more, and one whose user does not trust him
+abbrev pub with_trust : List ℕ → Desk → Desk
+with_trust name d = record d { trusted = λ n. bytes_eq n name || d.trusted n }
+
+abbrev pub without_trust : List ℕ → Desk → Desk
+without_trust name d = record d { trusted = λ n. not (bytes_eq n name) && d.trusted n }

@@ -1,5 +1,6 @@
 //! Laws over every list of events.
 
+ghost use Rattle.model.specs.Closures.{ClosuresAreWhole};
 ghost use Rattle.model.specs.Laws.{ReachIsLeast, IsIsolated, NeverFails, KnowledgeIsAdmitted, KnowledgeIsRecursive};
 
 /// What is reached along a relation among users is the least set that holds the first of them and
@@ -29,4 +30,10 @@ pub fn knowledge_is_admitted()
 /// masked text and each rank is that of a derivation over those of its inputs, and so on.
 pub fn knowledge_is_recursive()
     ensures { KnowledgeIsRecursive }
+{}
+
+/// A closure serves no class by two paths, and has for each label of an entry the entry that it
+/// names.
+pub fn closures_are_whole()
+    ensures { ClosuresAreWhole }
 {}

@@ -8,7 +8,8 @@ mod refusal;
 mod verb;
 
 pub use laws::{
-    isolation, knowledge_is_admitted, knowledge_is_recursive, never_fails, reach_is_least,
+    closures_are_whole, isolation, knowledge_is_admitted, knowledge_is_recursive, never_fails,
+    reach_is_least,
 };
 pub use refusal::{Refusal, RewriteFault};
 pub use verb::{Verb, WordKind};

@@ -29,6 +29,16 @@ pub enum Verb {
     Offer,
     /// `fetch`: the tree at a path.
     Fetch,
+    /// `trust`: to trust another user.
+    Trust,
+    /// `distrust`: no longer to trust another user.
+    Distrust,
+    /// `pin`: to want a path for a class.
+    Pin,
+    /// `unpin`: to want no path for a class.
+    Unpin,
+    /// `closure`: what is chosen for a class, with all that it refers to.
+    Closure,
 }
 
 impl Verb {
@@ -44,6 +54,16 @@ impl Verb {
             Some(Verb::Offer)
         } else if word == b"fetch".as_slice() {
             Some(Verb::Fetch)
+        } else if word == b"trust".as_slice() {
+            Some(Verb::Trust)
+        } else if word == b"distrust".as_slice() {
+            Some(Verb::Distrust)
+        } else if word == b"pin".as_slice() {
+            Some(Verb::Pin)
+        } else if word == b"unpin".as_slice() {
+            Some(Verb::Unpin)
+        } else if word == b"closure".as_slice() {
+            Some(Verb::Closure)
         } else {
             None
         }
@@ -57,7 +77,9 @@ impl Verb {
             Verb::Source => &[WordKind::Name, WordKind::Tree],
             Verb::Derivation => &[WordKind::Text],
             Verb::Offer => &[WordKind::Path, WordKind::Tree],
-            Verb::Fetch => &[WordKind::Path],
+            Verb::Fetch | Verb::Unpin | Verb::Closure => &[WordKind::Path],
+            Verb::Trust | Verb::Distrust => &[WordKind::User],
+            Verb::Pin => &[WordKind::Path, WordKind::Path],
         }
     }
 }

@@ -3,3 +3,5 @@ pub mod ZipLemmas
 pub mod StepLemmas
 pub mod Filtering
 pub mod LoopLemmas
+pub mod PinLemmas
+pub mod DeskLemmas

@@ -3,3 +3,6 @@ pub mod LabelLaws
 pub mod Below
 pub mod Reaching
 pub mod Ordered
+pub mod Holdings
+pub mod Indexed
+pub mod Kept

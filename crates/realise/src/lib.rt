@@ -1,14 +1,24 @@
-//! What was built for the classes of a desk, and what an output may refer to (Dolstra 2006, section 6.2).
+//! What one user has: his desk, what was built for its classes, and what an output may refer to
+//! (Dolstra 2006, section 6.2).
 #![tactic(auto)]
 
 mod below;
 mod candidate;
+mod desk;
+mod entry;
+mod groups;
 mod label;
+mod limits;
 mod order;
+mod pins;
 mod record;
 
 pub use below::records_below;
 pub use candidate::candidates;
+pub use desk::Desk;
+pub use entry::Entry;
 pub use label::Label;
-pub use order::{labels_in_order, labels_of};
+pub use limits::{MOST_DERIVATIONS, MOST_PINS, MOST_RECORDS, MOST_SOURCES};
+pub use order::{is_class_before, labels_in_order, labels_of};
+pub use pins::Pins;
 pub use record::Record;

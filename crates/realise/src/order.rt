@@ -12,8 +12,8 @@ use std::alloc::Global;
 use std::collections::BTreeMap;
 use storepath::StorePath;
 
-// Whether the class of a label goes before that of another: by its path, and before a source.
-fn is_class_before(one: Option<&Class>, other: Option<&Class>) -> bool
+/// Whether the class of a label goes before that of another: by its path, and before a source.
+pub fn is_class_before(one: Option<&Class>, other: Option<&Class>) -> bool
     ensures { result ≡ class_before (option_copied one.entry) (option_copied other.entry) }
 {
     match (one, other) {

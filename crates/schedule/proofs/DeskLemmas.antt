@@ -7,14 +7,14 @@ use Rattle.std.proofs.lemmas.List.{length-append}
 use Rattle.std.proofs.lemmas.Bool.Decides.{nat_tests}
 use Rattle.model.specs.Archives.{Tree, Link}
 use Rattle.model.specs.Classes.{Known, Admission}
-use Rattle.model.specs.Reach.{is_among}
-use Rattle.model.specs.Limits.{most_sources, most_derivations, most_records}
+use Rattle.model.specs.Limits.{most_sources, most_derivations, most_records, most_pins}
 use Rattle.model.specs.Worlds.{Source, tree_at, tree_of_record, held, held_at, one_of_each, charge_of, is_within, known_of, with_derivation}
 use Rattle.model.proofs.BoolLemmas.{either, same_bytes}
 use Rattle.realise.specs.Recorded.{Recorded, without_tree}
 use Rattle.store.specs.Stored.{Extends}
-use Rattle.schedule.specs.Stored.{Holdings, paths_of, holds_derivation}
-use Rattle.schedule.specs.Sound.{source_at, sources_at, records_at, desk_of, IsSound, IsEmpty}
+use Rattle.realise.specs.Holdings.{Holdings, paths_of, holds_derivation}
+use Rattle.choose.specs.Visible.{source_at}
+use Rattle.schedule.specs.Sound.{sources_at, records_at, desk_of, IsSound, IsEmpty}
 
 -- a path of the table
 abbrev pub IsKnown : List Source → List ℕ → Type 0
@@ -55,19 +55,21 @@ sources_known table limit d sound = known_front table d.known.sources (map (λ r
 pub records_known : (table : List Source) (limit : ℕ) (d : Holdings) → IsSound table limit d → All (IsKnown table) (map (λ r. r.path) d.records)
 records_known table limit d sound = known_back table d.known.sources (map (λ r. r.path) d.records) sound.known
 
-pub desk_kept : (old new : List Source) (limit : ℕ) (d : Holdings) → Extends old new → IsSound old limit d → desk_of new d ≡ desk_of old d
-desk_kept old new limit d later sound =
+pub desk_kept : (trusted : List ℕ → Bool) (old new : List Source) (limit : ℕ) (d : Holdings) → Extends old new → IsSound old limit d
+    → desk_of trusted new d ≡ desk_of trusted old d
+desk_kept trusted old new limit d later sound =
     let sources : sources_at new d.known.sources ≡ sources_at old d.known.sources = same_sources old new later d.known.sources (sources_known old limit d sound) in
     let records : records_at new d.records ≡ records_at old d.records = same_records old new later d.records (records_known old limit d sound) in
-    λ i. record { trusted = λ name. is_among name d.trusted; sources = sources i; derivations = d.known.derivations; records = records i }
+    λ i. record { trusted = trusted; sources = sources i; derivations = d.known.derivations; records = records i; pins = d.pins }
 
 pub sound_kept : (old new : List Source) (limit : ℕ) (d : Holdings) → Extends old new → IsSound old limit d → IsSound new limit d
 sound_kept old new limit d later sound = record {
-  charged = rw (desk_kept old new limit d later sound) sound.charged;
+  charged = λ trusted. rw (desk_kept trusted old new limit d later sound) (sound.charged trusted);
   within = sound.within;
   few_sources = sound.few_sources;
   few_derivations = sound.few_derivations;
   few_records = sound.few_records;
+  few_pins = sound.few_pins;
   known = known_kept old new later (paths_of d) sound.known;
 }
 
@@ -129,15 +131,15 @@ sources_at-append table [] ys = refl
 sources_at-append table (x ∷ xs) ys = ap (λ rest. source_at table x ∷ rest) (sources_at-append table xs ys)
 
 -- what a desk holds, by its paths
-pub held_paths : (table : List Source) (d : Holdings) → held (desk_of table d) ≡ sources_at table (paths_of d)
-held_paths table d =
+pub held_paths : (trusted : List ℕ → Bool) (table : List Source) (d : Holdings) → held (desk_of trusted table d) ≡ sources_at table (paths_of d)
+held_paths trusted table d =
     let paths : List (List ℕ) = map (λ r. r.path) d.records in
     ap (λ rest. sources_at table d.known.sources ++ rest) (trees_at table d.records) ∙ sym (sources_at-append table d.known.sources paths)
 
 -- what a user holds at a path is what the table has there, if the path is his
-pub held_in_table : (table : List Source) (limit : ℕ) (d : Holdings) (path : List ℕ) → IsSound table limit d
-    → (if list_any (λ p. bytes_eq p path) (paths_of d) then tree_at path table else None) ≡ held_at path (desk_of table d)
-held_in_table table limit d path sound = held_is table (paths_of d) path sound.known ∙ ap (tree_at path) (sym (held_paths table d))
+pub held_in_table : (trusted : List ℕ → Bool) (table : List Source) (limit : ℕ) (d : Holdings) (path : List ℕ) → IsSound table limit d
+    → (if list_any (λ p. bytes_eq p path) (paths_of d) then tree_at path table else None) ≡ held_at path (desk_of trusted table d)
+held_in_table trusted table limit d path sound = held_is table (paths_of d) path sound.known ∙ ap (tree_at path) (sym (held_paths trusted table d))
 
 -- records without their trees
 pub records_without : (table : List Source) (records : List Recorded) → map without_tree (records_at table records) ≡ records
@@ -165,8 +167,8 @@ paths_at table [] = refl
 paths_at table (p ∷ paths) = ap (λ rest. p ∷ rest) (paths_at table paths)
 
 -- what the model's desk knows is what the desk knows
-pub known_of-desk_of : (table : List Source) (d : Holdings) → known_of (desk_of table d) ≡ d.known
-known_of-desk_of table d =
+pub known_of-desk_of : (trusted : List ℕ → Bool) (table : List Source) (d : Holdings) → known_of (desk_of trusted table d) ≡ d.known
+known_of-desk_of trusted table d =
     let K : List (List ℕ) → Known = λ paths. record { derivations = d.known.derivations; sources = paths } in
     ap K (paths_at table d.known.sources)
 
@@ -179,29 +181,32 @@ sound-derivation table limit d a sound few = record {
   few_sources = sound.few_sources;
   few_derivations = omega (arith, few, length-append d.known.derivations (a ∷ []));
   few_records = sound.few_records;
+  few_pins = sound.few_pins;
   known = sound.known;
 }
 
 -- whether a desk with one derivation more is within its limits
-pub is_within-derivation : (users : List (List ℕ)) (table : List Source) (limit : ℕ) (d : Holdings) (a : Admission) → IsSound table limit d
-    → is_within (record { users = users; charge = limit }) (with_derivation a (desk_of table d)) ≡ nat_le (length d.known.derivations + 1) most_derivations
+pub is_within-derivation : (users : List (List ℕ)) (trusted : List ℕ → Bool) (table : List Source) (limit : ℕ) (d : Holdings) (a : Admission) → IsSound table limit d
+    → is_within (record { users = users; charge = limit }) (with_derivation a (desk_of trusted table d)) ≡ nat_le (length d.known.derivations + 1) most_derivations
 unfolding is_within charge_of
-is_within-derivation users table limit d a sound =
+is_within-derivation users trusted table limit d a sound =
     let count : length (d.known.derivations ++ a ∷ []) ≡ length d.known.derivations + 1 = length-append d.known.derivations (a ∷ []) in
     let few : nat_le (length (sources_at table d.known.sources)) most_sources ≡ true = grind (arith, nat_tests, sound.few_sources, length-sources_at table d.known.sources) in
     let recorded : nat_le (length (records_at table d.records)) most_records ≡ true = grind (arith, nat_tests, sound.few_records, length-records_at table d.records) in
-    let charge : nat_le (charge_of (desk_of table d)) limit ≡ true = grind (arith, nat_tests, sound.within, sound.charged) in
-    rw (few, count, recorded, charge) (and_true (nat_le (length d.known.derivations + 1) most_derivations))
+    let pinned : nat_le (length d.pins) most_pins ≡ true = grind (arith, nat_tests, sound.few_pins) in
+    let charge : nat_le (charge_of (desk_of trusted table d)) limit ≡ true = grind (arith, nat_tests, sound.within, sound.charged trusted) in
+    rw (few, count, recorded, pinned, charge) (and_true (nat_le (length d.known.derivations + 1) most_derivations))
 
 -- ---- empty desks
 
 pub empty_sound : (table : List Source) (limit : ℕ) (d : Holdings) → IsEmpty d → IsSound table limit d
 unfolding charge_of one_of_each
 empty_sound table limit d e = record {
-  charged = rw (e.known, e.records, e.charge) refl;
+  charged = λ trusted. rw (e.known, e.records, e.charge) refl;
   within = rw e.charge (omega arith);
   few_sources = rw e.known (omega arith);
   few_derivations = rw e.known (omega arith);
   few_records = rw e.records (omega arith);
+  few_pins = rw e.pins (omega arith);
   known = rw (e.known, e.records) (All-nil (IsKnown table));
 }

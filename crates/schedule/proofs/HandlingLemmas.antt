@@ -1,5 +1,5 @@
 -- What is said of one desk holds of the world.
-use Rattle.std.proofs.Common.{◌≡◌, ℕ, ◌<◌, get_or, true, false, List, length, length-set, refl, sym, ◌∙◌, ap, subst, rules, Some, None, Result, Ok, Err}
+use Rattle.std.proofs.Common.{◌≡◌, ℕ, ◌<◌, get_or, Bool, true, false, List, length, length-set, refl, sym, ◌∙◌, ap, subst, rules, Some, None, Result, Ok, Err}
 use Rattle.std.specs.Prelude.{All, Contains, OnOk, OnErr, IfOk, IfErr, bytes_eq, slice_get, slice_set, position, nat_le}
 use Rattle.std.proofs.lemmas.Result.{on_err_weaker, on_ok_weaker}
 use Rattle.std.proofs.lemmas.Option.{slice_get_within, slice_get-get_or, get_or_from_slice_get}
@@ -17,15 +17,17 @@ use Rattle.model.specs.Outcomes.{Sight, becomes, add_entry}
 use Rattle.model.specs.HashedTexts.{texts_of}
 use Rattle.model.specs.SourceRequests.{fetch}
 use Rattle.model.specs.Replies.{is_clash_refusal, is_refused}
-use Rattle.model.specs.Steps.{outcome}
+use Rattle.model.specs.Steps.{outcome, outcome_of}
 use Rattle.schedule.specs.declared.events.Reply as Rust
-use Rattle.schedule.specs.declared.entry.Entry.{Entry}
-use Rattle.schedule.specs.declared.entry.Entry.TheVariants as entry
+use Rattle.realise.specs.declared.entry.Entry.{Entry}
+use Rattle.realise.specs.declared.entry.Entry.TheVariants as entry
+use Rattle.trust.specs.Naming.{trusted_at, IsWithin}
 use Rattle.store.specs.Stored.{IsAdded, IsTaken}
-use Rattle.schedule.specs.Stored.{Holdings, entry_path, entry_with, stored_by, put_any}
+use Rattle.realise.specs.Holdings.{Holdings, entry_path, entry_with}
+use Rattle.schedule.specs.Stored.{stored_by, put_any}
 use Rattle.schedule.specs.Sound.{desk_of, IsSound, IsHashed}
-use Rattle.schedule.specs.Standing.{reply_of, parts, desk_among}
-use Rattle.schedule.specs.Handling.{Fits, Serves, ServesAtOnce, IsKept, IsHandledAtDesk, AddsEntry, AddsDerivation, IsHandled}
+use Rattle.schedule.specs.Standing.{reply_of, Parts, parts, world_in, desk_among}
+use Rattle.schedule.specs.Handling.{Fits, Serves, ServesAtOnce, IsKept, IsHandledTrusting, IsHandledAtDesk, AddsEntry, AddsDerivation, IsHandled}
 use Rattle.schedule.proofs.DeskLemmas.{sound_kept}
 use Rattle.schedule.proofs.DerivationLemmas.{derivation_read}
 use Rattle.store.proofs.TableLemmas.{put_once-Extends, put_once-All}
@@ -35,32 +37,38 @@ use Rattle.schedule.proofs.StepLemmas.{either_way, on_ok_any, kept_sound, kept_l
 -- ---- all events
 
 -- a handler of one desk handles its event
-pub at_desk : (users : List (List ℕ)) (limit : ℕ) (old new : List Source) (desks : List Holdings) (e : Event) (i : ℕ) (before now : Holdings) (result : Result Rust.Reply Refusal)
-    → All (IsSound old limit) desks → position (λ n. bytes_eq n e.actor) users ≡ Some i → slice_get desks i ≡ Some before
+pub at_desk : (users : List (List ℕ)) (limit : ℕ) (trust : ℕ → ℕ → Bool) (old new : List Source) (desks : List Holdings) (e : Event) (i : ℕ)
+    (before now : Holdings) (result : Result Rust.Reply Refusal)
+    → All (IsSound old limit) desks → IsWithin (length users) trust → position (λ n. bytes_eq n e.actor) users ≡ Some i → slice_get desks i ≡ Some before
     → IsHandledAtDesk limit old before e.request result new now
-    → IsHandled (parts users limit old desks) e result (parts users limit new (slice_set desks i now))
-at_desk users limit old new desks e i before now result sound found here handled =
+    → IsHandled (parts users limit trust old desks) e result (parts users limit trust new (slice_set desks i now))
+at_desk users limit trust old new desks e i before now result sound within found here by_desk =
     let setup : Setup = record { users = users; charge = limit } in
     let place : IsPlace users e.actor i = place_found users e.actor i found in
+    let trusted : ℕ → List ℕ → Bool = trusted_at users trust in
+    let handled : IsHandledTrusting (trusted i) limit old before e.request result new now = by_desk (trusted i) in
+    let his : desk_among trusted old users desks e.actor ≡ desk_of (trusted i) old before = desk_found trusted old users desks e.actor i before place here in
     record {
-      told = told_result setup old new limit desks e i before now result handled.grows sound place here (handled.serves users) handled.answered;
-      refused = refused_result setup old new desks e i before now result place here (handled.serves users);
-      at_once = step_at_once setup old desks e i before result place here handled.at_once;
+      told = told_result trusted setup old new limit desks e i before now result handled.grows sound place here (handled.serves users) handled.answered;
+      refused = refused_result trusted setup old desks e i before (desk_of (trusted i) new now) result place here (handled.serves users);
+      at_once = step_at_once trusted setup old desks e i before result place here handled.at_once;
       kept = on_err_weaker result (λ kept. record {
-        world = world_kept users old new limit desks e.actor i before now handled.grows sound place here (kept_desk old new before now kept);
+        world = world_kept trusted users old new limit desks e.actor i before now handled.grows sound place here
+            (kept_desk (trusted i) old new before now kept);
         table = kept.sources;
       }) handled.kept;
       setup = refl;
+      trust = within;
       paired = length-set {A = Holdings} desks i now;
       sound = All-set (IsSound new limit) desks i now handled.sound
           (All-weaker (IsSound old limit) (IsSound new limit) (λ d s. sound_kept old new limit d handled.grows s) desks sound);
       grows = handled.grows;
       hashed = λ texts hashed inside.
-          handled.hashed texts setup (desk_among old users desks) e.actor (desk_found old users desks e.actor i before place here) hashed (rw (place_is_among users e.actor i place) at inside);
-      taken = λ clash. rw (desk_found old users desks e.actor i before place here) (handled.taken clash);
+          handled.hashed texts setup (desk_among trusted old users desks) e.actor his hashed (rw (place_is_among users e.actor i place) at inside);
+      taken = λ clash. rw his (handled.taken clash);
       clashes = λ clash texts inside.
-          handled.clashes clash texts setup (desk_among old users desks) e.actor (desk_found old users desks e.actor i before place here) (rw (place_is_among users e.actor i place) at inside);
-      stored = rw (desk_found old users desks e.actor i before place here) handled.stored;
+          handled.clashes clash texts setup (desk_among trusted old users desks) e.actor his (rw (place_is_among users e.actor i place) at inside);
+      stored = rw his handled.stored;
     }
 
 -- the place of a user has a desk
@@ -74,26 +82,33 @@ pub sound_at : (table : List Source) (limit : ℕ) (desks : List Holdings) (i : 
 sound_at table limit desks i d sound here =
     subst (IsSound table limit) (get_or_from_slice_get desks i d d here) (All-get_or (IsSound table limit) desks i d (slice_get_within desks i d here) sound)
 
+-- what is refused as the model has it, and leaves everything
+pub all_left : (old : Parts) (e : Event) (why : Refusal) → All (IsSound old.table old.setup.charge) old.desks → IsWithin (length old.setup.users) old.trust
+    → outcome_of old.setup (world_in old) e ≡ Err why → is_clash_refusal why ≡ false → IsHandled old e (Err why) old
+all_left old e why sound within is no_clash = record {
+  told = search rules;
+  refused = λ own. is;
+  at_once = λ other quick o. (let same = sym is ∙ o in cc);
+  kept = record { world = refl; table = refl };
+  setup = refl;
+  trust = within;
+  paired = refl;
+  sound = sound;
+  grows = λ path there. refl;
+  hashed = λ texts hashed inside. hashed;
+  taken = λ clash. (let same : why ≡ Clash = cc in let no = rw same at no_clash in cc);
+  clashes = λ clash. (let same : why ≡ Clash = cc in let no = rw same at no_clash in cc);
+  stored = search rules;
+}
+
 -- a stranger is refused
-pub stranger : (users : List (List ℕ)) (limit : ℕ) (table : List Source) (desks : List Holdings) (e : Event) → All (IsSound table limit) desks
-    → position (λ n. bytes_eq n e.actor) users ≡ None → IsHandled (parts users limit table desks) e (Err UnknownUser) (parts users limit table desks)
-stranger users limit table desks e sound none =
-    let setup : Setup = record { users = users; charge = limit } in
-    let unknown = step_unknown setup (desk_among table users desks) e (no_place users e.actor none) in
-    record {
-      told = search rules;
-      refused = λ own. unknown;
-      at_once = λ why quick o. (let is = sym unknown ∙ o in cc);
-      kept = record { world = refl; table = refl };
-      setup = refl;
-      paired = refl;
-      sound = sound;
-      grows = λ path there. refl;
-      hashed = λ texts hashed inside. hashed;
-      taken = λ clash. cc;
-      clashes = λ clash. cc;
-      stored = search rules;
-    }
+pub stranger : (users : List (List ℕ)) (limit : ℕ) (trust : ℕ → ℕ → Bool) (table : List Source) (desks : List Holdings) (e : Event)
+    → All (IsSound table limit) desks
+    → IsWithin (length users) trust → position (λ n. bytes_eq n e.actor) users ≡ None
+    → IsHandled (parts users limit trust table desks) e (Err UnknownUser) (parts users limit trust table desks)
+stranger users limit trust table desks e sound within none =
+    all_left (parts users limit trust table desks) e UnknownUser sound within
+    (step_unknown (record { users = users; charge = limit }) (desk_among (trusted_at users trust) table users desks) e (no_place users e.actor none)) refl
 
 -- ---- events of one desk
 
@@ -102,13 +117,14 @@ is_left table desk (Ok r) = search rules
 is_left table desk (Err why) = record { sources = refl; desk = refl }
 
 -- what is left as it was, by a request that is refused at a desk
-pub left : (limit : ℕ) (table : List Source) (desk : Holdings) (request : Request) (result : Result Rust.Reply Refusal) → IsSound table limit desk
-    → ((users : List (List ℕ)) → Serves (record { users = users; charge = limit }) (desk_of table desk) request (desk_of table desk) result)
-    → ServesAtOnce (desk_of table desk) request result → IfOk result (λ r. is_refused (reply_of r) ≡ false)
+pub left : (trusted : List ℕ → Bool) (limit : ℕ) (table : List Source) (desk : Holdings) (request : Request) (result : Result Rust.Reply Refusal)
+    → IsSound table limit desk
+    → ((users : List (List ℕ)) → Serves (record { users = users; charge = limit }) (desk_of trusted table desk) request (desk_of trusted table desk) result)
+    → ServesAtOnce (desk_of trusted table desk) request result → IfOk result (λ r. is_refused (reply_of r) ≡ false)
     → IfErr result (λ why. is_clash_refusal why ≡ false)
-    → OnOk result (table ≡ put_any (stored_by (desk_of table desk) request) table)
-    → IsHandledAtDesk limit table desk request result table desk
-left limit table desk request result sound serves at_once answered no_clash stored = record {
+    → OnOk result (table ≡ put_any (stored_by (desk_of trusted table desk) request) table)
+    → IsHandledTrusting trusted limit table desk request result table desk
+left trusted limit table desk request result sound serves at_once answered no_clash stored = record {
   serves = serves;
   answered = answered;
   at_once = at_once;
@@ -122,26 +138,28 @@ left limit table desk request result sound serves at_once answered no_clash stor
 }
 
 -- an entry is added with its tree
-pub entry_handled : (limit : ℕ) (old new : List Source) (before now : Holdings) (request : Request) (entry : Entry) (tree : Tree) (result : Result Rust.Reply Refusal)
+pub entry_handled : (trusted : List ℕ → Bool) (limit : ℕ) (old new : List Source) (before now : Holdings) (request : Request) (entry : Entry) (tree : Tree)
+    (result : Result Rust.Reply Refusal)
     → let s : Source = record { path = entry_path entry; tree = tree } in
     IsSound old limit before
-    → ((setup : Setup) (sight : Sight) → sight.desk ≡ desk_of old before → outcome setup sight request ≡ add_entry setup (desk_of old before) (entry_with tree entry))
-    → ServesAtOnce (desk_of old before) request result
-    → stored_by (desk_of old before) request ≡ Some s
-    → ((texts : List (List ℕ)) (setup : Setup) (w : World) (u : List ℕ) → w u ≡ desk_of old before → All (Contains texts) (texts_of setup w u request) → IsHashed texts s)
+    → ((setup : Setup) (sight : Sight) → sight.desk ≡ desk_of trusted old before → outcome setup sight request ≡ add_entry setup (desk_of trusted old before) (entry_with tree entry))
+    → ServesAtOnce (desk_of trusted old before) request result
+    → stored_by (desk_of trusted old before) request ≡ Some s
+    → ((texts : List (List ℕ)) (setup : Setup) (w : World) (u : List ℕ) → w u ≡ desk_of trusted old before → All (Contains texts) (texts_of setup w u request) → IsHashed texts s)
     → AddsEntry limit old before entry tree result new now → IfOk result (λ r. is_refused (reply_of r) ≡ false)
     → OnOk result (IsAdded (entry_path entry) tree old new) → OnOk result (IsSound new limit now) → OnErr result (IsKept old new before now)
     → (result ≡ Err Clash → IsTaken old (entry_path entry) tree)
-    → IsHandledAtDesk limit old before request result new now
-entry_handled limit old new before now request entry tree result sound asks at_once stores hashes adds answered stored sound_now kept taken =
+    → IsHandledTrusting trusted limit old before request result new now
+entry_handled trusted limit old new before now request entry tree result sound asks at_once stores hashes adds answered stored sound_now kept taken =
     let s : Source = record { path = entry_path entry; tree = tree } in
     record {
-      serves = λ users sight same. rw (asks (record { users = users; charge = limit }) sight same) (adds users);
+      serves = λ users sight same. rw (asks (record { users = users; charge = limit }) sight same) (adds users trusted);
       answered = answered;
       at_once = at_once;
       kept = kept;
       sound = either_way result (IsSound new limit now) sound_now (on_err_weaker result (kept_sound old new before now limit sound) kept);
-      grows = either_way result _ (on_ok_weaker result (λ more. rw more (put_once-Extends s old)) stored) (on_err_weaker result (kept_later old new before now) kept);
+      grows = either_way result _ (on_ok_weaker result (λ more. rw more (put_once-Extends s old)) stored)
+          (on_err_weaker result (kept_later old new before now) kept);
       hashed = λ texts setup w u here hashed inside.
           either_way result _ (on_ok_weaker result (λ more. rw more (put_once-All (IsHashed texts) s old hashed (hashes texts setup w u here inside))) stored)
           (on_err_weaker result (λ k. rw k.sources hashed) kept);
@@ -151,16 +169,18 @@ entry_handled limit old new before now request entry tree result sound asks at_o
     }
 
 -- a source is added
-pub source_handled : (limit : ℕ) (old new : List Source) (before now : Holdings) (name : List ℕ) (tree : Tree) (path : List ℕ) (result : Result Rust.Reply Refusal)
+pub source_handled : (trusted : List ℕ → Bool) (limit : ℕ) (old new : List Source) (before now : Holdings) (name : List ℕ) (tree : Tree) (path : List ℕ)
+    (result : Result Rust.Reply Refusal)
     → let entry : Entry = entry.Source path in
-    IsSound old limit before → path ≡ source_path tree name → IsTree tree → AddsEntry limit old before entry tree result new now → IfOk result (λ r. is_refused (reply_of r) ≡ false)
+    IsSound old limit before → path ≡ source_path tree name → IsTree tree → AddsEntry limit old before entry tree result new now
+    → IfOk result (λ r. is_refused (reply_of r) ≡ false)
     → OnOk result (IsAdded path tree old new) → OnOk result (IsSound new limit now) → OnErr result (IsKept old new before now)
     → (result ≡ Err Clash → IsTaken old path tree)
-    → IsHandledAtDesk limit old before (AddSource name tree) result new now
+    → IsHandledTrusting trusted limit old before (AddSource name tree) result new now
 unfolding outcome
-source_handled limit old new before now name tree path result sound is whole =
-    entry_handled limit old new before now (AddSource name tree) (entry.Source path) tree result sound
-    (λ setup sight same. rw (same, is) refl) (source_at_once (desk_of old before) name tree result) (rw is refl)
+source_handled trusted limit old new before now name tree path result sound is whole =
+    entry_handled trusted limit old new before now (AddSource name tree) (entry.Source path) tree result sound
+    (λ setup sight same. rw (same, is) refl) (source_at_once (desk_of trusted old before) name tree result) (rw is refl)
     (λ texts setup w u here inside. rw is (source_hashed texts name tree whole inside))
 
 fetch_fits : (setup : Setup) (d : Desk) (path : List ℕ) (tree : Tree) (result : Result Rust.Reply Refusal) → held_at path d ≡ Some tree
@@ -178,27 +198,31 @@ no_clash_of_memory (Ok r) memory = search rules
 no_clash_of_memory (Err e) memory = rw memory refl
 
 -- a tree that is held is told
-pub fetch_handled : (limit : ℕ) (table : List Source) (desk : Holdings) (path : List ℕ) (tree : Tree) (result : Result Rust.Reply Refusal)
+pub fetch_handled : (trusted : List ℕ → Bool) (limit : ℕ) (table : List Source) (desk : Holdings) (path : List ℕ) (tree : Tree)
+    (result : Result Rust.Reply Refusal)
     → IsSound table limit desk
-    → held_at path (desk_of table desk) ≡ Some tree → IfOk result (λ r. reply_of r ≡ Content tree) → IfErr result (λ e. e ≡ Memory)
-    → IsHandledAtDesk limit table desk (Fetch path) result table desk
+    → held_at path (desk_of trusted table desk) ≡ Some tree → IfOk result (λ r. reply_of r ≡ Content tree) → IfErr result (λ e. e ≡ Memory)
+    → IsHandledTrusting trusted limit table desk (Fetch path) result table desk
 unfolding outcome
-fetch_handled limit table desk path tree result sound there content memory =
-    left limit table desk (Fetch path) result sound (λ users sight same. rw same (fetch_fits (record { users = users; charge = limit }) (desk_of table desk) path tree result there content memory))
-    (fetch_at_once (desk_of table desk) path result (λ none. let no = sym there ∙ none in cc)) (fetch_answered tree result content) (no_clash_of_memory result memory) (on_ok_any result (table ≡ table) refl)
+fetch_handled trusted limit table desk path tree result sound there content memory =
+    left trusted limit table desk (Fetch path) result sound
+    (λ users sight same. rw same (fetch_fits (record { users = users; charge = limit }) (desk_of trusted table desk) path tree result there content memory))
+    (fetch_at_once (desk_of trusted table desk) path result (λ none. let no = sym there ∙ none in cc)) (fetch_answered tree result content)
+    (no_clash_of_memory result memory) (on_ok_any result (table ≡ table) refl)
 
 -- a text is read as a derivation, which is added
-pub derivation_handled : (limit : ℕ) (table : List Source) (before now : Holdings) (text : List ℕ) (derivation : Derivation) (result : Result Rust.Reply Refusal)
+pub derivation_handled : (trusted : List ℕ → Bool) (limit : ℕ) (table : List Source) (before now : Holdings) (text : List ℕ) (derivation : Derivation)
+    (result : Result Rust.Reply Refusal)
     → nat_le (length text) most_derivation_bytes ≡ true → derivation_of_text text ≡ Some derivation
     → AddsDerivation limit table before derivation result now
     → IfOk result (λ r. is_refused (reply_of r) ≡ false) → IsSound table limit now → OnErr result (now ≡ before)
     → IfErr result (λ why. is_clash_refusal why ≡ false)
-    → IsHandledAtDesk limit table before (AddDerivation text) result table now
+    → IsHandledTrusting trusted limit table before (AddDerivation text) result table now
 unfolding outcome
-derivation_handled limit table before now text derivation result within read adds answered sound kept no_clash = record {
-  serves = λ users sight same. rw (same, derivation_read users table limit before text derivation within read) (adds users);
+derivation_handled trusted limit table before now text derivation result within read adds answered sound kept no_clash = record {
+  serves = λ users sight same. rw (same, derivation_read users trusted table limit before text derivation within read) (adds users trusted);
   answered = answered;
-  at_once = derivation_at_once (desk_of table before) text result (λ large. let no : true ≡ false = sym within ∙ large in cc);
+  at_once = derivation_at_once (desk_of trusted table before) text result (λ large. let no : true ≡ false = sym within ∙ large in cc);
   kept = on_err_weaker result (λ same. record { sources = refl; desk = same }) kept;
   sound = sound;
   grows = λ path there. refl;

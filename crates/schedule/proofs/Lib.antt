@@ -5,5 +5,11 @@ pub mod DerivationLemmas
 pub mod WorldLemmas
 pub mod StepLemmas
 pub mod HandlingLemmas
+pub mod TrustLemmas
+pub mod ViewLemmas
+pub mod ClosureLemmas
+pub mod ClosedLemmas
+pub mod PinLemmas
 pub mod OfferLemmas
 pub mod RunLemmas
+pub mod EverLemmas

@@ -1,5 +1,5 @@
 -- A step of the store is a step of the world that it stands for.
-use Rattle.std.proofs.Common.{◌≡◌, ℕ, Bool, true, false, inl, inr, List, length, refl, sym, ◌∙◌, ap, rules, Some, None, Result, Ok, Err}
+use Rattle.std.proofs.Common.{◌≡◌, ◌≢◌, ℕ, Bool, true, false, inl, inr, List, length, refl, sym, ◌∙◌, ap, rules, Some, None, Result, Ok, Err}
 use Rattle.std.specs.Prelude.{All, Contains, OnOk, OnErr, IfOk, IfErr, bytes_eq, slice_get, slice_set, nat_le, if◌then◌else◌}
 use Rattle.std.proofs.lemmas.Option.{slice_get_within}
 use Rattle.model.specs.Archives.{Tree, IsTree, nar}
@@ -9,7 +9,7 @@ use Rattle.model.specs.Settling.{given, MadeSource}
 use Rattle.model.specs.Worlds.{Source, Setup, Desk, World, is_user, held_at, known_of}
 use Rattle.model.specs.Limits.{most_derivation_bytes}
 use Rattle.model.specs.Events.{AddSource, AddDerivation, Offer, Fetch, Event, Reply, Refused}
-use Rattle.model.specs.Outcomes.{Sight, Outcome, becomes, reply_of, desk_after, reaches}
+use Rattle.model.specs.Outcomes.{Sight, Outcome, becomes, reply_of, desk_after, reaches, view_of}
 use Rattle.model.specs.Steps.{outcome, outcome_of, reply_to, after}
 use Rattle.model.specs.Replies.{is_memory_refusal, is_clash_refusal, is_clash, is_refused}
 use Rattle.model.specs.SourceRequests.{source_named, source_texts}
@@ -20,7 +20,7 @@ use Rattle.rewrite.specs.Laws.{OneTreeAtAPath}
 use Rattle.schedule.specs.declared.events.Reply as Rust
 use Rattle.schedule.specs.declared.state.Core.{Core}
 use Rattle.store.specs.Stored.{Extends}
-use Rattle.schedule.specs.Stored.{Holdings}
+use Rattle.realise.specs.Holdings.{Holdings}
 use Rattle.schedule.specs.Sound.{desk_of, IsSound, IsHashed, Clashes}
 use Rattle.schedule.specs.Standing.{reply_of as told_of, parts_of, world_of, setup_of, stored_in, IsStep, HasHashed, desk_among}
 use Rattle.schedule.specs.Handling.{is_fault, RefusedAtOnce, Serves, ServesAtOnce, IsKept, IsHandled}
@@ -51,43 +51,49 @@ kept_later old new before now kept path h = rw kept.sources refl
 -- ---- the model's step
 
 -- the outcome of a user of the run, by his desk
-outcome_is : (setup : Setup) (w : World) (e : Event) (d : Desk) → is_user setup e.actor ≡ true → w e.actor ≡ d → outcome_of setup w e ≡ outcome setup (record { user = e.actor; desk = d; reach = reaches setup w e.actor }) e.request
-outcome_is setup w e d known here = rw known (ap (λ x. outcome setup (record { user = e.actor; desk = x; reach = reaches setup w e.actor }) e.request) here)
+outcome_is : (setup : Setup) (w : World) (e : Event) (d : Desk) → is_user setup e.actor ≡ true → w e.actor ≡ d
+    → outcome_of setup w e ≡ outcome setup (record { user = e.actor; desk = d; view = view_of setup w e.actor }) e.request
+outcome_is setup w e d known here = rw known (ap (λ x. outcome setup (record { user = e.actor; desk = x; view = view_of setup w e.actor }) e.request) here)
 
 -- a desk after a change that all hear nothing of
 after_becomes : (setup : Setup) (actor : List ℕ) (o : Outcome) (d : Desk) (r : Reply) (x : List ℕ) (reached : Bool) (old : Desk) → o ≡ becomes d r
     → desk_after setup actor o x reached old ≡ (if bytes_eq x actor then d else old)
 after_becomes setup actor o d r x reached old e = ap (λ p. desk_after setup actor p x reached old) e
 
-pub step_done : (setup : Setup) (old new : List Source) (limit : ℕ) (desks : List Holdings) (e : Event) (i : ℕ) (before now : Holdings) (reply : Reply)
-    → Extends old new → All (IsSound old limit) desks → IsPlace setup.users e.actor i → slice_get desks i ≡ Some before
-    → ((sight : Sight) → sight.desk ≡ desk_of old before → outcome setup sight e.request ≡ becomes (desk_of new now) reply)
-    → IsStep setup (desk_among old setup.users desks) e reply (desk_among new setup.users (slice_set desks i now))
-step_done setup old new limit desks e i before now reply later sound place here does =
-    let w : World = desk_among old setup.users desks in
-    let o : outcome_of setup w e ≡ becomes (desk_of new now) reply =
-    outcome_is setup w e (desk_of old before) (place_is_among setup.users e.actor i place) (desk_found old setup.users desks e.actor i before place here) ∙ does (record { user = e.actor; desk = desk_of old before; reach = reaches setup w e.actor }) refl in
+-- the outcome for the user of a desk
+desk_outcome : (trusted : ℕ → List ℕ → Bool) (setup : Setup) (table : List Source) (desks : List Holdings) (e : Event) (i : ℕ) (d : Holdings) (o : Outcome)
+    → IsPlace setup.users e.actor i → slice_get desks i ≡ Some d
+    → ((sight : Sight) → sight.desk ≡ desk_of (trusted i) table d → outcome setup sight e.request ≡ o)
+    → outcome_of setup (desk_among trusted table setup.users desks) e ≡ o
+desk_outcome trusted setup table desks e i d o place here does =
+    let w : World = desk_among trusted table setup.users desks in
+    outcome_is setup w e (desk_of (trusted i) table d) (place_is_among setup.users e.actor i place)
+    (desk_found trusted table setup.users desks e.actor i d place here)
+    ∙ does (record { user = e.actor; desk = desk_of (trusted i) table d; view = view_of setup w e.actor }) refl
+
+-- where the desk changes, or whom its user trusts
+pub step_done : (given now : ℕ → List ℕ → Bool) (setup : Setup) (old new : List Source) (limit : ℕ) (desks : List Holdings) (e : Event) (i : ℕ)
+    (before after : Holdings) (reply : Reply)
+    → ((k : ℕ) → k ≢ i → now k ≡ given k) → Extends old new → All (IsSound old limit) desks → IsPlace setup.users e.actor i → slice_get desks i ≡ Some before
+    → outcome_of setup (desk_among given old setup.users desks) e ≡ becomes (desk_of (now i) new after) reply
+    → IsStep setup (desk_among given old setup.users desks) e reply (desk_among now new setup.users (slice_set desks i after))
+step_done given now setup old new limit desks e i before after reply others later sound place here o =
+    let w : World = desk_among given old setup.users desks in
     record {
       told = sym (ap reply_of o);
-      world = same_world (λ v. among_changed old new limit setup.users desks e.actor i now later sound place (slice_get_within desks i before here) v
-          ∙ sym (after_becomes setup e.actor (outcome_of setup w e) (desk_of new now) reply v (reaches setup w v e.actor) (w v) o));
+      world = same_world
+          (λ v. among_changed given now old new limit setup.users desks e.actor i after others later sound place (slice_get_within desks i before here) v
+          ∙ sym (after_becomes setup e.actor (outcome_of setup w e) (desk_of (now i) new after) reply v (reaches setup w v e.actor) (w v) o));
     }
 
-pub step_refused : (setup : Setup) (old : List Source) (desks : List Holdings) (e : Event) (i : ℕ) (before : Holdings) (why : Refusal)
+pub step_at_once : (trusted : ℕ → List ℕ → Bool) (setup : Setup) (old : List Source) (desks : List Holdings) (e : Event) (i : ℕ) (before : Holdings)
+    (result : Result Rust.Reply Refusal)
     → IsPlace setup.users e.actor i → slice_get desks i ≡ Some before
-    → ((sight : Sight) → sight.desk ≡ desk_of old before → outcome setup sight e.request ≡ Err why)
-    → outcome_of setup (desk_among old setup.users desks) e ≡ Err why
-step_refused setup old desks e i before why place here does =
-    let w : World = desk_among old setup.users desks in
-    outcome_is setup w e (desk_of old before) (place_is_among setup.users e.actor i place) (desk_found old setup.users desks e.actor i before place here) ∙ does (record { user = e.actor; desk = desk_of old before; reach = reaches setup w e.actor }) refl
-
-pub step_at_once : (setup : Setup) (old : List Source) (desks : List Holdings) (e : Event) (i : ℕ) (before : Holdings) (result : Result Rust.Reply Refusal)
-    → IsPlace setup.users e.actor i → slice_get desks i ≡ Some before
-    → ServesAtOnce (desk_of old before) e.request result → RefusedAtOnce (outcome_of setup (desk_among old setup.users desks) e) result
-step_at_once setup old desks e i before result place here at_once why quick o =
-    let w : World = desk_among old setup.users desks in
-    at_once setup (record { user = e.actor; desk = desk_of old before; reach = reaches setup w e.actor }) refl why quick
-    (sym (outcome_is setup w e (desk_of old before) (place_is_among setup.users e.actor i place) (desk_found old setup.users desks e.actor i before place here)) ∙ o)
+    → ServesAtOnce (desk_of (trusted i) old before) e.request result → RefusedAtOnce (outcome_of setup (desk_among trusted old setup.users desks) e) result
+step_at_once trusted setup old desks e i before result place here at_once why quick o =
+    let w : World = desk_among trusted old setup.users desks in
+    at_once setup (record { user = e.actor; desk = desk_of (trusted i) old before; view = view_of setup w e.actor }) refl why quick
+    (sym (outcome_is setup w e (desk_of (trusted i) old before) (place_is_among setup.users e.actor i place) (desk_found trusted old setup.users desks e.actor i before place here)) ∙ o)
 
 pub step_unknown : (setup : Setup) (w : World) (e : Event) → is_user setup e.actor ≡ false → outcome_of setup w e ≡ Err UnknownUser
 step_unknown setup w e f = rw f refl
@@ -97,34 +103,43 @@ pub after_refused : (setup : Setup) (w : World) (e : Event) (why : Refusal) → 
 after_refused setup w e why o = same_world (λ v. ap (λ p. desk_after setup e.actor p v (reaches setup w v e.actor) (w v)) o)
 
 -- a desk that stands for the same leaves the world too
-pub world_kept : (names : List (List ℕ)) (old new : List Source) (limit : ℕ) (desks : List Holdings) (u : List ℕ) (i : ℕ) (before now : Holdings)
-    → Extends old new → All (IsSound old limit) desks → IsPlace names u i → slice_get desks i ≡ Some before → desk_of new now ≡ desk_of old before
-    → desk_among new names (slice_set desks i now) ≡ desk_among old names desks
-world_kept names old new limit desks u i before now later sound place here same = same_world (λ v.
-    among_changed old new limit names desks u i now later sound place (slice_get_within desks i before here) v
+pub world_kept : (trusted : ℕ → List ℕ → Bool) (names : List (List ℕ)) (old new : List Source) (limit : ℕ) (desks : List Holdings) (u : List ℕ) (i : ℕ)
+    (before now : Holdings)
+    → Extends old new → All (IsSound old limit) desks → IsPlace names u i → slice_get desks i ≡ Some before
+    → desk_of (trusted i) new now ≡ desk_of (trusted i) old before
+    → desk_among trusted new names (slice_set desks i now) ≡ desk_among trusted old names desks
+world_kept trusted names old new limit desks u i before now later sound place here same = same_world (λ v.
+    among_changed trusted trusted old new limit names desks u i now (λ k other. refl) later sound place (slice_get_within desks i before here) v
     ∙ elim (either (bytes_eq v u)) [
       | inl t ↦
           let is : v ≡ u = Rattle.model.proofs.BoolLemmas.same_bytes v u t in
-          rw t (same ∙ sym (desk_found old names desks u i before place here) ∙ ap (desk_among old names desks) (sym is))
+          rw t (same ∙ sym (desk_found trusted old names desks u i before place here) ∙ ap (desk_among trusted old names desks) (sym is))
       | inr f ↦ rw f refl
     ])
 
 -- ---- a step by the result of serving it
 
-pub told_result : (setup : Setup) (old new : List Source) (limit : ℕ) (desks : List Holdings) (e : Event) (i : ℕ) (before now : Holdings) (result : Result Rust.Reply Refusal)
+pub told_result : (trusted : ℕ → List ℕ → Bool) (setup : Setup) (old new : List Source) (limit : ℕ) (desks : List Holdings) (e : Event) (i : ℕ)
+    (before now : Holdings) (result : Result Rust.Reply Refusal)
     → Extends old new → All (IsSound old limit) desks → IsPlace setup.users e.actor i → slice_get desks i ≡ Some before
-    → Serves setup (desk_of old before) e.request (desk_of new now) result → IfOk result (λ r. is_refused (told_of r) ≡ false)
-    → IfOk result (λ r. (is_refused (told_of r) ≡ false) × IsStep setup (desk_among old setup.users desks) e (told_of r) (desk_among new setup.users (slice_set desks i now)))
-told_result setup old new limit desks e i before now (Ok r) later sound place here serves answered =
-    (answered, step_done setup old new limit desks e i before now (told_of r) later sound place here serves)
-told_result setup old new limit desks e i before now (Err why) later sound place here serves answered = search rules
+    → Serves setup (desk_of (trusted i) old before) e.request (desk_of (trusted i) new now) result → IfOk result (λ r. is_refused (told_of r) ≡ false)
+    → IfOk result
+    (λ r. (is_refused (told_of r) ≡ false) × IsStep setup (desk_among trusted old setup.users desks) e (told_of r) (desk_among trusted new setup.users (slice_set desks i now)))
+told_result trusted setup old new limit desks e i before now (Ok r) later sound place here serves answered = (
+  answered,
+  step_done trusted trusted setup old new limit desks e i before now (told_of r) (λ k other. refl) later sound place here
+      (desk_outcome trusted setup old desks e i before (becomes (desk_of (trusted i) new now) (told_of r)) place here serves),
+)
+told_result trusted setup old new limit desks e i before now (Err why) later sound place here serves answered = search rules
 
-pub refused_result : (setup : Setup) (old new : List Source) (desks : List Holdings) (e : Event) (i : ℕ) (before now : Holdings) (result : Result Rust.Reply Refusal)
+pub refused_result : (trusted : ℕ → List ℕ → Bool) (setup : Setup) (old : List Source) (desks : List Holdings) (e : Event) (i : ℕ) (before : Holdings)
+    (after : Desk) (result : Result Rust.Reply Refusal)
     → IsPlace setup.users e.actor i → slice_get desks i ≡ Some before
-    → Serves setup (desk_of old before) e.request (desk_of new now) result
-    → IfErr result (λ why. is_fault why ≡ false → outcome_of setup (desk_among old setup.users desks) e ≡ Err why)
-refused_result setup old new desks e i before now (Ok r) place here serves = search rules
-refused_result setup old new desks e i before now (Err why) place here serves = λ own. step_refused setup old desks e i before why place here (λ sight same. serves sight same own)
+    → Serves setup (desk_of (trusted i) old before) e.request after result
+    → IfErr result (λ why. is_fault why ≡ false → outcome_of setup (desk_among trusted old setup.users desks) e ≡ Err why)
+refused_result trusted setup old desks e i before after (Ok r) place here serves = search rules
+refused_result trusted setup old desks e i before after (Err why) place here serves = λ own. desk_outcome trusted setup old desks e i before
+    (Err why) place here (λ sight same. serves sight same own)
 
 -- a refusal that is the model's is its step
 refused_is : (setup : Setup) (old new : World) (e : Event) (why : Refusal) → outcome_of setup old e ≡ Err why → new ≡ old
@@ -155,7 +170,8 @@ no_clashes : OneTreeAtAPath → (texts : List (List ℕ)) → NoClash texts → 
 no_clashes one texts clean sources hashed clashes =
     let s : Source = clashes.source in
     let had = found_holds (IsHashed texts) sources s.path clashes.taken.had hashed clashes.taken.there in
-    let same : nar had.named.tree ≡ nar clashes.hashed.named.tree = one texts clean had.named clashes.hashed.named had.made clashes.hashed.made (had.path ∙ sym clashes.hashed.path) in
+    let same : nar had.named.tree ≡ nar clashes.hashed.named.tree =
+    one texts clean had.named clashes.hashed.named had.made clashes.hashed.made (had.path ∙ sym clashes.hashed.path) in
     clashes.taken.other (ap nar (sym had.tree) ∙ same ∙ ap nar clashes.hashed.tree)
 
 clash_is : (why : Refusal) → is_clash_refusal why ≡ true → why ≡ Clash
@@ -163,8 +179,9 @@ clash_is Clash h = refl
 clash_is why h = cc
 
 -- what is kept stands for the same desk
-pub kept_desk : (old new : List Source) (before now : Holdings) → IsKept old new before now → desk_of new now ≡ desk_of old before
-kept_desk old new before now kept = rw (kept.sources, kept.desk) refl
+pub kept_desk : (trusted : List ℕ → Bool) (old new : List Source) (before now : Holdings) → IsKept old new before now
+    → desk_of trusted new now ≡ desk_of trusted old before
+kept_desk trusted old new before now kept = rw (kept.sources, kept.desk) refl
 
 -- ---- refusals that need no memory
 

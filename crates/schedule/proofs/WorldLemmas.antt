@@ -1,5 +1,5 @@
 -- The world that paired users and desks stand for, before and after one desk changes.
-use Rattle.std.proofs.Common.{◌≡◌, ℕ, zero, suc, ◌+◌, ◌<◌, Bool, true, false, inl, inr, List, [], ◌∷◌, length, refl, sym, ◌∙◌, ap, arith, get_or, Some, None}
+use Rattle.std.proofs.Common.{◌≡◌, ℕ, zero, suc, ◌+◌, ◌<◌, ◌≢◌, Bool, true, false, inl, inr, List, [], ◌∷◌, length, refl, sym, ◌∙◌, ap, arith, get_or, Some, None}
 use Rattle.std.specs.Prelude.{All, bytes_eq, slice_get, slice_set, position, if◌then◌else◌, is_some, nat_lt}
 use Rattle.std.specs.List.{position_or_len, list_any}
 use Rattle.std.proofs.lemmas.List.Elements.{All-head, All-tail}
@@ -7,11 +7,11 @@ use Rattle.std.proofs.lemmas.List.Quantifiers.{position-Some}
 use Rattle.std.proofs.lemmas.Bool.Decides.{nat_tests}
 use Rattle.model.specs.Reach.{is_among}
 use Rattle.model.specs.Classes.{Known}
-use Rattle.model.specs.Worlds.{Source, Desk, World, empty_desk, tree_at, held_at}
+use Rattle.model.specs.Worlds.{Source, Pin, Desk, World, empty_desk, tree_at, held_at}
 use Rattle.model.proofs.BoolLemmas.{either, same_bytes}
 use Rattle.realise.specs.Recorded.{Recorded}
 use Rattle.store.specs.Stored.{Extends}
-use Rattle.schedule.specs.Stored.{Holdings, paths_of}
+use Rattle.realise.specs.Holdings.{Holdings, paths_of}
 use Rattle.schedule.specs.Sound.{sources_at, records_at, desk_of, IsSound, IsEmpty}
 use Rattle.schedule.specs.Standing.{desk_among}
 use Rattle.store.proofs.EntryLemmas.{bytes_eq_sym}
@@ -61,82 +61,98 @@ some_if true n = refl
 some_if false n = refl
 
 position_any : (names : List (List ℕ)) (u : List ℕ) → is_some (position (λ n. bytes_eq n u) names) ≡ is_among u names
-position_any names u = some_if (nat_lt (position_or_len (λ n. bytes_eq n u) names) (length names)) (position_or_len (λ n. bytes_eq n u) names) ∙ found_any names u
+position_any names u = some_if (nat_lt (position_or_len (λ n. bytes_eq n u) names) (length names)) (position_or_len (λ n. bytes_eq n u) names)
+    ∙ found_any names u
 
 pub no_place : (names : List (List ℕ)) (u : List ℕ) → position (λ n. bytes_eq n u) names ≡ None → is_among u names ≡ false
 no_place names u e = sym (position_any names u) ∙ ap is_some e
 
 -- the desk at a user's place is his
-pub desk_found : (table : List Source) (names : List (List ℕ)) (desks : List Holdings) (u : List ℕ) (i : ℕ) (d : Holdings) → IsPlace names u i
-    → slice_get desks i ≡ Some d → desk_among table names desks u ≡ desk_of table d
-desk_found table [] desks u i d p h = absurd p
-desk_found table (name ∷ names) [] u i d p h = cc
-desk_found table (name ∷ names) (x ∷ desks) u zero d p h = let is : x ≡ d = cc in rw p (ap (desk_of table) is)
-desk_found table (name ∷ names) (x ∷ desks) u (suc i) d p h = rw p.0 (desk_found table names desks u i d p.1 h)
+pub desk_found : (trusted : ℕ → List ℕ → Bool) (table : List Source) (names : List (List ℕ)) (desks : List Holdings) (u : List ℕ) (i : ℕ) (d : Holdings)
+    → IsPlace names u i
+    → slice_get desks i ≡ Some d → desk_among trusted table names desks u ≡ desk_of (trusted i) table d
+desk_found trusted table [] desks u i d p h = absurd p
+desk_found trusted table (name ∷ names) [] u i d p h = cc
+desk_found trusted table (name ∷ names) (x ∷ desks) u zero d p h = let is : x ≡ d = cc in rw p (ap (desk_of (trusted 0) table) is)
+desk_found trusted table (name ∷ names) (x ∷ desks) u (suc i) d p h = rw p.0 (desk_found (λ k. trusted (suc k)) table names desks u i d p.1 h)
 
--- a later table leaves the desks
-pub among_kept : (old new : List Source) (limit : ℕ) (names : List (List ℕ)) (desks : List Holdings) (v : List ℕ) → Extends old new
-    → All (IsSound old limit) desks → desk_among new names desks v ≡ desk_among old names desks v
-among_kept old new limit [] desks v later sound = refl
-among_kept old new limit (name ∷ names) [] v later sound = refl
-among_kept old new limit (name ∷ names) (d ∷ desks) v later sound = elim (either (bytes_eq name v)) [
-  | inl t ↦ rw t (desk_kept old new limit d later (All-head (IsSound old limit) d desks sound))
-  | inr f ↦ rw f (among_kept old new limit names desks v later (All-tail (IsSound old limit) d desks sound))
+-- a later table leaves the desks of those who trust the same
+pub among_kept : (given now : ℕ → List ℕ → Bool) (old new : List Source) (limit : ℕ) (names : List (List ℕ)) (desks : List Holdings) (v : List ℕ)
+    → ((k : ℕ) → now k ≡ given k)
+    → Extends old new → All (IsSound old limit) desks → desk_among now new names desks v ≡ desk_among given old names desks v
+among_kept given now old new limit [] desks v same later sound = refl
+among_kept given now old new limit (name ∷ names) [] v same later sound = refl
+among_kept given now old new limit (name ∷ names) (d ∷ desks) v same later sound = elim (either (bytes_eq name v)) [
+  | inl t ↦ rw (t, same 0) (desk_kept (given 0) old new limit d later (All-head (IsSound old limit) d desks sound))
+  | inr f ↦ rw f
+      (among_kept (λ k. given (suc k)) (λ k. now (suc k)) old new limit names desks v (λ k. same (suc k)) later (All-tail (IsSound old limit) d desks sound))
 ]
 
--- and a new desk at a user's place is his alone
-pub among_changed : (old new : List Source) (limit : ℕ) (names : List (List ℕ)) (desks : List Holdings) (u : List ℕ) (i : ℕ) (after : Holdings)
-    → Extends old new → All (IsSound old limit) desks → IsPlace names u i → i < length desks
-    → (v : List ℕ) → desk_among new names (slice_set desks i after) v ≡ (if bytes_eq v u then desk_of new after else desk_among old names desks v)
-among_changed old new limit [] desks u i after later sound p below v = absurd p
-among_changed old new limit (name ∷ names) [] u i after later sound p below v = absurd (omega arith)
-among_changed old new limit (name ∷ names) (d ∷ desks) u zero after later sound p below v =
+-- and what changes at a user's place is his alone
+pub among_changed : (given now : ℕ → List ℕ → Bool) (old new : List Source) (limit : ℕ) (names : List (List ℕ)) (desks : List Holdings) (u : List ℕ) (i : ℕ)
+    (after : Holdings)
+    → ((k : ℕ) → k ≢ i → now k ≡ given k) → Extends old new → All (IsSound old limit) desks → IsPlace names u i → i < length desks
+    → (v : List ℕ)
+    → desk_among now new names (slice_set desks i after) v ≡ (if bytes_eq v u then desk_of (now i) new after else desk_among given old names desks v)
+among_changed given now old new limit [] desks u i after others later sound p below v = absurd p
+among_changed given now old new limit (name ∷ names) [] u i after others later sound p below v = absurd (omega arith)
+among_changed given now old new limit (name ∷ names) (d ∷ desks) u zero after others later sound p below v =
     let is : name ≡ u = same_bytes name u p in
     let test : bytes_eq v u ≡ bytes_eq name v = bytes_eq_sym v u ∙ ap (λ n. bytes_eq n v) (sym is) in
     elim (either (bytes_eq name v)) [
       | inl t ↦ rw (test, t) refl
-      | inr f ↦ rw (test, f) (among_kept old new limit names desks v later (All-tail (IsSound old limit) d desks sound))
+      | inr f ↦
+          rw (test, f) (among_kept (λ k. given (suc k)) (λ k. now (suc k)) old new limit names desks v (λ k. others (suc k) (omega arith)) later
+          (All-tail (IsSound old limit) d desks sound))
     ]
-among_changed old new limit (name ∷ names) (d ∷ desks) u (suc i) after later sound p below v = elim (either (bytes_eq name v)) [
+among_changed given now old new limit (name ∷ names) (d ∷ desks) u (suc i) after others later sound p below v = elim (either (bytes_eq name v)) [
   | inl t ↦
       let is : name ≡ v = same_bytes name v t in
       let test : bytes_eq v u ≡ false = ap (λ n. bytes_eq n u) (sym is) ∙ p.0 in
-      rw (t, test) (desk_kept old new limit d later (All-head (IsSound old limit) d desks sound))
-  | inr f ↦ rw f (among_changed old new limit names desks u i after later (All-tail (IsSound old limit) d desks sound) p.1 (omega arith) v)
+      let same : now 0 ≡ given 0 = others 0 (omega arith) in
+      rw (t, test, same) (desk_kept (given 0) old new limit d later (All-head (IsSound old limit) d desks sound))
+  | inr f ↦
+      rw f (among_changed (λ k. given (suc k)) (λ k. now (suc k)) old new limit names desks u i after (λ k other. others (suc k) (omega arith)) later
+      (All-tail (IsSound old limit) d desks sound) p.1 (omega arith) v)
 ]
 
 -- functions that agree everywhere are the same
 pub same_world : {w v : World} → ((u : List ℕ) → w u ≡ v u) → w ≡ v
 same_world h = λ i u. h u i
 
--- empty desks are the desks of nothing
-pub empty_world : (table : List Source) (names : List (List ℕ)) (desks : List Holdings) → All IsEmpty desks → (u : List ℕ)
-    → desk_among table names desks u ≡ empty_desk
-empty_world table [] desks all u = refl
-empty_world table (name ∷ names) [] all u = refl
-empty_world table (name ∷ names) (d ∷ desks) all u = elim (either (bytes_eq name u)) [
+-- empty desks of users who trust nobody are the desks of nothing
+pub empty_world : (trusted : ℕ → List ℕ → Bool) (table : List Source) (names : List (List ℕ)) (desks : List Holdings) → ((k : ℕ) → trusted k ≡ λ name. false)
+    → All IsEmpty desks
+    → (u : List ℕ) → desk_among trusted table names desks u ≡ empty_desk
+empty_world trusted table [] desks nobody all u = refl
+empty_world trusted table (name ∷ names) [] nobody all u = refl
+empty_world trusted table (name ∷ names) (d ∷ desks) nobody all u = elim (either (bytes_eq name u)) [
   | inl t ↦
-      let D : List (List ℕ) → Known → List Recorded → Desk = λ trusted known records.
-      record { trusted = λ name. is_among name trusted; sources = sources_at table known.sources; derivations = known.derivations; records = records_at table records } in
+      let D : (List ℕ → Bool) → Known → List Recorded → List Pin → Desk = λ trusted known records pins.
+      record { trusted = trusted; sources = sources_at table known.sources; derivations = known.derivations; records = records_at table records; pins = pins }
+      in
       let empty = All-head IsEmpty d desks all in
-      rw t (λ i. D (empty.trusted i) (empty.known i) (empty.records i))
-  | inr f ↦ rw f (empty_world table names desks (All-tail IsEmpty d desks all) u)
+      let none : trusted 0 ≡ λ name. false = nobody 0 in
+      rw t (λ i. D (none i) (empty.known i) (empty.records i) (empty.pins i))
+  | inr f ↦ rw f (empty_world (λ k. trusted (suc k)) table names desks (λ k. nobody (suc k)) (All-tail IsEmpty d desks all) u)
 ]
 
 -- what a desk holds is stored, with the tree that the desk has
-stored_there : (table : List Source) (limit : ℕ) (d : Holdings) (path : List ℕ) → IsSound table limit d
-    → is_some (held_at path (desk_of table d)) ≡ true → tree_at path table ≡ held_at path (desk_of table d)
-stored_there table limit d path sound h = elim (either (list_any (λ p. bytes_eq p path) (paths_of d))) [
-  | inl t ↦ rw t at (held_in_table table limit d path sound)
-  | inr f ↦ let none : None ≡ held_at path (desk_of table d) = rw f at (held_in_table table limit d path sound) in (let found = rw (← none) at h in cc)
+stored_there : (trusted : List ℕ → Bool) (table : List Source) (limit : ℕ) (d : Holdings) (path : List ℕ) → IsSound table limit d
+    → is_some (held_at path (desk_of trusted table d)) ≡ true → tree_at path table ≡ held_at path (desk_of trusted table d)
+stored_there trusted table limit d path sound h = elim (either (list_any (λ p. bytes_eq p path) (paths_of d))) [
+  | inl t ↦ rw t at (held_in_table trusted table limit d path sound)
+  | inr f ↦
+      let none : None ≡ held_at path (desk_of trusted table d) = rw f at (held_in_table trusted table limit d path sound) in
+      (let found = rw (← none) at h in cc)
 ]
 
-pub among_stored : (table : List Source) (limit : ℕ) (names : List (List ℕ)) (desks : List Holdings) (u path : List ℕ)
-    → All (IsSound table limit) desks → is_some (held_at path (desk_among table names desks u)) ≡ true
-    → tree_at path table ≡ held_at path (desk_among table names desks u)
-among_stored table limit [] desks u path sound h = cc
-among_stored table limit (name ∷ names) [] u path sound h = cc
-among_stored table limit (name ∷ names) (d ∷ desks) u path sound h = elim (either (bytes_eq name u)) [
-  | inl t ↦ rw t (stored_there table limit d path (All-head (IsSound table limit) d desks sound) (rw t at h))
-  | inr f ↦ rw f (among_stored table limit names desks u path (All-tail (IsSound table limit) d desks sound) (rw f at h))
+pub among_stored : (trusted : ℕ → List ℕ → Bool) (table : List Source) (limit : ℕ) (names : List (List ℕ)) (desks : List Holdings) (u path : List ℕ)
+    → All (IsSound table limit) desks → is_some (held_at path (desk_among trusted table names desks u)) ≡ true
+    → tree_at path table ≡ held_at path (desk_among trusted table names desks u)
+among_stored trusted table limit [] desks u path sound h = cc
+among_stored trusted table limit (name ∷ names) [] u path sound h = cc
+among_stored trusted table limit (name ∷ names) (d ∷ desks) u path sound h = elim (either (bytes_eq name u)) [
+  | inl t ↦ rw t (stored_there (trusted 0) table limit d path (All-head (IsSound table limit) d desks sound) (rw t at h))
+  | inr f ↦ rw f (among_stored (λ k. trusted (suc k)) table limit names desks u path (All-tail (IsSound table limit) d desks sound) (rw f at h))
 ]

@@ -1,11 +1,11 @@
 -- What a handler of an event promises.
-use Rattle.std.specs.Prelude.{◌≡◌, ℕ, Bool, true, false, ◌||◌, List, length, All, Contains, IfOk, IfErr, OnOk, OnErr, Result, Ok, Err}
+use Rattle.std.specs.Prelude.{◌≡◌, ℕ, Bool, true, false, ◌||◌, List, length, All, Contains, IfOk, IfErr, OnOk, OnErr, Some, Result, Ok, Err}
 use Rattle.model.specs.declared.refusal.Refusal.{Refusal}
 use Rattle.model.specs.declared.refusal.Refusal.TheVariants.{Clash}
 use Rattle.model.specs.Archives.{Tree}
 use Rattle.model.specs.Derivations.{Derivation}
 use Rattle.model.specs.Classes.{known_at, derivation_path}
-use Rattle.model.specs.Worlds.{Source, Setup, Desk, World}
+use Rattle.model.specs.Worlds.{Source, Setup, Desk, World, are_users}
 use Rattle.model.specs.Events.{Request, Event}
 use Rattle.model.specs.Replies.{is_memory_refusal, is_clash_refusal, is_refused, needs_no_memory}
 use Rattle.model.specs.Outcomes.{Sight, Outcome, becomes, add_entry}
@@ -13,11 +13,13 @@ use Rattle.model.specs.DerivationRequests.{admit_new}
 use Rattle.model.specs.Steps.{outcome, outcome_of}
 use Rattle.model.specs.HashedTexts.{texts_of, texts_of_event}
 use Rattle.schedule.specs.declared.events.Reply.{Reply}
-use Rattle.schedule.specs.declared.entry.Entry.{Entry}
+use Rattle.trust.specs.Naming.{place_of, IsWithin}
+use Rattle.realise.specs.declared.entry.Entry.{Entry}
 use Rattle.store.specs.Stored.{Extends}
-use Rattle.schedule.specs.Stored.{Holdings, entry_with, stored_by, put_any, IsTakenFor}
+use Rattle.realise.specs.Holdings.{Holdings, entry_with}
+use Rattle.schedule.specs.Stored.{stored_by, put_any, IsTakenFor}
 use Rattle.schedule.specs.Sound.{desk_of, IsSound, IsHashed, Clashes}
-use Rattle.schedule.specs.Standing.{reply_of, Parts, world_in, stored_after, IsStep}
+use Rattle.schedule.specs.Standing.{reply_of, Parts, parts, world_in, stored_after, IsStep}
 
 -- whether a refusal says nothing of the model: memory was refused, or another tree is at a path
 abbrev pub is_fault : Refusal → Bool
@@ -47,25 +49,33 @@ pub record IsKept (old new : List Source) (before after : Holdings) : Type 0 whe
   pub sources : new ≡ old
   pub desk : after ≡ before
 
--- what a handler promises that reads and changes the desk of the user alone, and the table: who its user is, and what else
--- he sees, makes no difference
-pub record IsHandledAtDesk (limit : ℕ) (old : List Source) (before : Holdings) (request : Request) (result : Result Reply Refusal) (new : List Source) (after : Holdings) : Type 0 where
+-- what a handler promises that reads and changes the desk of the user alone, and the table, where the user trusts these: who
+-- he is, and what else he sees, makes no difference
+pub record IsHandledTrusting (trusted : List ℕ → Bool) (limit : ℕ) (old : List Source) (before : Holdings) (request : Request) (result : Result Reply Refusal)
+    (new : List Source) (after : Holdings) : Type 0 where
   -- the reply is the model's, and so is the desk after it
-  pub serves : (users : List (List ℕ)) → Serves (record { users = users; charge = limit }) (desk_of old before) request (desk_of new after) result
+  pub serves : (users : List (List ℕ))
+      → Serves (record { users = users; charge = limit }) (desk_of trusted old before) request (desk_of trusted new after) result
   pub answered : IfOk result (λ r. is_refused (reply_of r) ≡ false)
   -- a refusal that needs no memory is told whether there is memory or not
-  pub at_once : ServesAtOnce (desk_of old before) request result
+  pub at_once : ServesAtOnce (desk_of trusted old before) request result
   -- a refusal leaves all as it was
   pub kept : OnErr result (IsKept old new before after)
   -- the desk is within its limits, and what it holds is stored
   pub sound : IsSound new limit after
   -- the table only grows, by what was hashed
   pub grows : Extends old new
-  pub hashed : (texts : List (List ℕ)) (setup : Setup) (w : World) (u : List ℕ) → w u ≡ desk_of old before → All (IsHashed texts) old → All (Contains texts) (texts_of setup w u request) → All (IsHashed texts) new
+  pub hashed : (texts : List (List ℕ)) (setup : Setup) (w : World) (u : List ℕ) → w u ≡ desk_of trusted old before → All (IsHashed texts) old
+      → All (Contains texts) (texts_of setup w u request) → All (IsHashed texts) new
   -- 91 comes only where another tree is at the path of what is added
-  pub taken : result ≡ Err Clash → IsTakenFor old (desk_of old before) request
-  pub clashes : result ≡ Err Clash → (texts : List (List ℕ)) (setup : Setup) (w : World) (u : List ℕ) → w u ≡ desk_of old before → All (Contains texts) (texts_of setup w u request) → Clashes texts old
-  pub stored : OnOk result (new ≡ put_any (stored_by (desk_of old before) request) old)
+  pub taken : result ≡ Err Clash → IsTakenFor old (desk_of trusted old before) request
+  pub clashes : result ≡ Err Clash → (texts : List (List ℕ)) (setup : Setup) (w : World) (u : List ℕ) → w u ≡ desk_of trusted old before
+      → All (Contains texts) (texts_of setup w u request) → Clashes texts old
+  pub stored : OnOk result (new ≡ put_any (stored_by (desk_of trusted old before) request) old)
+
+-- the same whomever the user trusts, and he trusts the same afterwards
+abbrev pub IsHandledAtDesk : ℕ → List Source → Holdings → Request → Result Reply Refusal → List Source → Holdings → Type 0
+IsHandledAtDesk limit old before request result new after = (trusted : List ℕ → Bool) → IsHandledTrusting trusted limit old before request result new after
 
 -- the same under each limit that the desk was within
 abbrev pub IsHandledByDesk : List Source → Holdings → Request → Result Reply Refusal → Holdings → Type 0
@@ -73,13 +83,14 @@ IsHandledByDesk table before request result after = (limit : ℕ) → IsSound ta
 
 -- an entry that is added with its tree: the reply is the model's, and so is the desk after it
 abbrev pub AddsEntry : ℕ → List Source → Holdings → Entry → Tree → Result Reply Refusal → List Source → Holdings → Type 0
-AddsEntry limit old before entry tree result new after = (users : List (List ℕ))
-    → Fits (add_entry (record { users = users; charge = limit }) (desk_of old before) (entry_with tree entry)) (desk_of new after) result
+AddsEntry limit old before entry tree result new after = (users : List (List ℕ)) (trusted : List ℕ → Bool)
+    → Fits (add_entry (record { users = users; charge = limit }) (desk_of trusted old before) (entry_with tree entry)) (desk_of trusted new after) result
 
 -- a derivation that is added: the reply is the model's, and so is the desk after it
 abbrev pub AddsDerivation : ℕ → List Source → Holdings → Derivation → Result Reply Refusal → Holdings → Type 0
-AddsDerivation limit table before derivation result after = (users : List (List ℕ))
-    → Fits (admit_new (record { users = users; charge = limit }) (desk_of table before) derivation (known_at before.known (derivation_path derivation))) (desk_of table after) result
+AddsDerivation limit table before derivation result after = (users : List (List ℕ)) (trusted : List ℕ → Bool)
+    → Fits (admit_new (record { users = users; charge = limit }) (desk_of trusted table before) derivation (known_at before.known (derivation_path derivation)))
+    (desk_of trusted table after) result
 
 -- ---- all events
 
@@ -97,14 +108,28 @@ pub record IsHandled (old : Parts) (event : Event) (result : Result Reply Refusa
   pub at_once : RefusedAtOnce (outcome_of old.setup (world_in old) event) result
   -- a refusal leaves all as it was
   pub kept : OnErr result (AreKept old new)
-  -- what was given stays; each desk is within its limits, and what it holds is stored
+  -- what was given stays; users trust users of the run alone; each desk is within its limits, and what it holds is stored
   pub setup : new.setup ≡ old.setup
+  pub trust : IsWithin (length old.setup.users) new.trust
   pub paired : length new.desks ≡ length old.desks
   pub sound : All (IsSound new.table old.setup.charge) new.desks
   -- the table only grows, by what was hashed
   pub grows : Extends old.table new.table
-  pub hashed : (texts : List (List ℕ)) → All (IsHashed texts) old.table → All (Contains texts) (texts_of_event old.setup (world_in old) event) → All (IsHashed texts) new.table
+  pub hashed : (texts : List (List ℕ)) → All (IsHashed texts) old.table → All (Contains texts) (texts_of_event old.setup (world_in old) event)
+      → All (IsHashed texts) new.table
   -- 91 comes only where another tree is at the path of what is added
   pub taken : result ≡ Err Clash → IsTakenFor old.table (world_in old event.actor) event.request
   pub clashes : result ≡ Err Clash → (texts : List (List ℕ)) → All (Contains texts) (texts_of_event old.setup (world_in old) event) → Clashes texts old.table
   pub stored : OnOk result (new.table ≡ stored_after (world_in old) event old.table)
+
+-- the same of what reads the users alone, and changes whom the one at a place trusts: whatever is stored, and on the desks
+abbrev pub IsHandledByTrust : List (List ℕ) → ℕ → (ℕ → ℕ → Bool) → Request → Result Reply Refusal → (ℕ → ℕ → Bool) → Type 0
+IsHandledByTrust users place old request result new = (limit : ℕ) (table : List Source) (desks : List Holdings) (actor : List ℕ)
+    → place_of users actor ≡ Some place → length desks ≡ length users → All (IsSound table limit) desks → IsWithin (length users) old
+    → IsHandled (parts users limit old table desks) (record { actor = actor; request = request }) result (parts users limit new table desks)
+
+-- the same of what reads what the user at a place sees, and changes nothing
+abbrev pub IsHandledBySight : (ℕ → ℕ → Bool) → List Source → List Holdings → ℕ → Request → Result Reply Refusal → Type 0
+IsHandledBySight trust table desks place request result = (users : List (List ℕ)) (limit : ℕ) (actor : List ℕ) → are_users users ≡ true
+    → place_of users actor ≡ Some place → length desks ≡ length users → All (IsSound table limit) desks → IsWithin (length users) trust
+    → IsHandled (parts users limit trust table desks) (record { actor = actor; request = request }) result (parts users limit trust table desks)

@@ -1,7 +1,9 @@
 pub mod Stored
 pub mod Sound
 pub mod Standing
+pub mod Viewing
 pub mod Offering
 pub mod Handling
 pub mod Stepping
 pub mod Running
+pub mod Ever

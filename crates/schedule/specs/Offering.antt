@@ -1,5 +1,5 @@
 -- What is made of an output that is offered.
-use Rattle.std.specs.Prelude.{◌≡◌, ◌⊎◌, List, All, Ok, Err}
+use Rattle.std.specs.Prelude.{◌≡◌, ◌⊎◌, ℕ, Bool, List, All, Ok, Err}
 use Rattle.model.specs.declared.refusal.Refusal.{Refusal}
 use Rattle.model.specs.declared.refusal.Refusal.TheVariants.{Memory}
 use Rattle.model.specs.Archives.{Tree, IsTree}
@@ -12,12 +12,12 @@ use Rattle.model.specs.Worlds.{Source, Label}
 use Rattle.model.specs.References.{candidates, paths_of_labels}
 use Rattle.model.specs.OfferRequests.{output_settled, record_for, unless_rewrite_refused}
 use Rattle.realise.specs.Recorded.{Recorded}
-use Rattle.schedule.specs.Stored.{Holdings, with_tree}
+use Rattle.realise.specs.Holdings.{Holdings, with_tree}
 use Rattle.schedule.specs.Sound.{desk_of}
 
 -- the labels are what an output of a derivation may refer to on a desk
 abbrev pub AreLabels : Holdings → Derivation → List Label → Type 0
-AreLabels d x labels = (table : List Source) → labels ≡ candidates (desk_of table d) x
+AreLabels d x labels = (trusted : List ℕ → Bool) (table : List Source) → labels ≡ candidates (desk_of trusted table d) x
 
 -- a record is that of a tree with its path
 abbrev pub IsRecordOf : List Label → Admission → Settled → Recorded → Type 0
@@ -41,4 +41,5 @@ IsNotSettled labels a tree why = (why ≡ Memory) ⊎ (unless_rewrite_refused (o
 
 -- the same with what it may refer to on a desk
 abbrev pub IsNoOutput : Holdings → Admission → Tree → Refusal → Type 0
-IsNoOutput d a tree why = (why ≡ Memory) ⊎ ((labels : List Label) × AreLabels d a.derivation labels × (unless_rewrite_refused (output_settled labels a tree) ≡ Err why))
+IsNoOutput d a tree why =
+    (why ≡ Memory) ⊎ ((labels : List Label) × AreLabels d a.derivation labels × (unless_rewrite_refused (output_settled labels a tree) ≡ Err why))

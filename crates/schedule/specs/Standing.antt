@@ -1,5 +1,5 @@
 -- The world that the store stands for, and what its steps do to it.
-use Rattle.std.specs.Prelude.{◌≡◌, ◌⊎◌, ℕ, Bool, true, false, if◌then◌else◌, List, [], ◌∷◌, is_some, bytes_eq, All}
+use Rattle.std.specs.Prelude.{◌≡◌, ◌⊎◌, ℕ, suc, Bool, true, false, if◌then◌else◌, List, [], ◌∷◌, is_some, bytes_eq, All}
 use Rattle.std.specs.Global.{Vec}
 use Rattle.model.specs.declared.refusal.Refusal.{Refusal}
 use Rattle.model.specs.declared.refusal.Refusal.TheVariants.{Memory, BadUsers}
@@ -11,11 +11,14 @@ use Rattle.schedule.specs.declared.user.User.{User}
 use Rattle.schedule.specs.declared.limits.Limits.{Limits}
 use Rattle.schedule.specs.declared.state.Core.{Core}
 use Rattle.schedule.specs.declared.events.Request.{Request}
-use Rattle.schedule.specs.declared.events.Request.TheVariants.{AddSource, AddDerivation, Offer, Fetch}
+use Rattle.schedule.specs.declared.events.Request.TheVariants.{AddSource, AddDerivation, Offer, Fetch, Trust, Distrust, Pin, Unpin, Closure}
 use Rattle.schedule.specs.declared.events.Event.{Event}
 use Rattle.schedule.specs.declared.events.Reply.{Reply}
-use Rattle.schedule.specs.declared.events.Reply.TheVariants.{Done, Path, Derivation, Content, Refused}
-use Rattle.schedule.specs.Stored.{Holdings, stored_by, put_any}
+use Rattle.schedule.specs.declared.events.Reply.TheVariants.{Done, Path, Derivation, Content, Entries, Refused}
+use Rattle.trust.specs.Trusting.{trusts}
+use Rattle.trust.specs.Naming.{trusted_at}
+use Rattle.realise.specs.Holdings.{Holdings}
+use Rattle.schedule.specs.Stored.{stored_by, put_any}
 use Rattle.schedule.specs.Sound.{desk_of, IsHashed}
 
 -- ---- events and replies in the terms of the model
@@ -25,6 +28,11 @@ request_of (AddSource name tree) = events.AddSource name tree
 request_of (AddDerivation text) = events.AddDerivation text
 request_of (Offer derivation tree) = events.Offer derivation tree
 request_of (Fetch path) = events.Fetch path
+request_of (Trust user) = events.Trust user
+request_of (Distrust user) = events.Distrust user
+request_of (Pin class path) = events.Pin class path
+request_of (Unpin class) = events.Unpin class
+request_of (Closure class) = events.Closure class
 
 abbrev pub event_of : Event → events.Event
 event_of e = record { actor = e.actor; request = request_of e.request }
@@ -34,6 +42,7 @@ reply_of Done = events.Done
 reply_of (Path path) = events.Path path
 reply_of (Derivation path class) = events.Derivation path class
 reply_of (Content tree) = events.Content tree
+reply_of (Entries entries) = events.Entries entries
 reply_of (Refused why) = events.Refused why
 
 -- a user with his reply
@@ -42,32 +51,34 @@ answer_of a = record { actor = a.0; reply = reply_of a.1 }
 
 -- ---- the store as a world
 
--- the desk of a user among paired users and desks; whoever is not of them has nothing
-abbrev pub desk_among : List Source → List (List ℕ) → List Holdings → List ℕ → worlds.Desk
-desk_among table [] desks u = worlds.empty_desk
-desk_among table (name ∷ names) [] u = worlds.empty_desk
-desk_among table (name ∷ names) (d ∷ desks) u = if bytes_eq name u then desk_of table d else desk_among table names desks u
+-- the desk of a user among paired users and desks, by whom those at each place trust; whoever is not of them has nothing
+abbrev pub desk_among : (ℕ → List ℕ → Bool) → List Source → List (List ℕ) → List Holdings → List ℕ → worlds.Desk
+desk_among trusted table [] desks u = worlds.empty_desk
+desk_among trusted table (name ∷ names) [] u = worlds.empty_desk
+desk_among trusted table (name ∷ names) (d ∷ desks) u =
+    if bytes_eq name u then desk_of (trusted 0) table d else desk_among (λ place. trusted (suc place)) table names desks u
 
--- what a run was given, the trees that are stored, and the desks in the order of the users
+-- what a run was given, who trusts whom, by their places, the trees that are stored, and the desks in the order of the users
 pub record Parts : Type 0 where
   pub setup : Setup
+  pub trust : ℕ → ℕ → Bool
   pub table : List Source
   pub desks : List Holdings
 
 -- the world that they stand for
 abbrev pub world_in : Parts → worlds.World
-world_in parts = desk_among parts.table parts.setup.users parts.desks
+world_in parts = desk_among (trusted_at parts.setup.users parts.trust) parts.table parts.setup.users parts.desks
 
--- users under this limit, a table and desks
-abbrev pub parts : List (List ℕ) → ℕ → List Source → List Holdings → Parts
-parts users charge table desks = record { setup = record { users = users; charge = charge }; table = table; desks = desks }
+-- users under this limit, who of them trusts whom, a table and desks
+abbrev pub parts : List (List ℕ) → ℕ → (ℕ → ℕ → Bool) → List Source → List Holdings → Parts
+parts users charge trust table desks = record { setup = record { users = users; charge = charge }; trust = trust; table = table; desks = desks }
 
 abbrev pub parts_of : Core → Parts
-parts_of core = parts core.users.items core.limits.charge core.table.sources core.desks.items
+parts_of core = parts core.users.items core.limits.charge (trusts core.trust) core.table.sources core.desks.items
 
 -- the world that the store stands for
 unfoldable pub world_of : Core → worlds.World
-world_of core = desk_among core.table.sources core.users.items core.desks.items
+world_of core = desk_among (trusted_at core.users.items (trusts core.trust)) core.table.sources core.users.items core.desks.items
 
 -- what its run was given
 unfoldable pub setup_of : Core → Setup

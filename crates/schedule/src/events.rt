@@ -2,6 +2,7 @@
 
 use crate::user::User;
 use aterm::Text;
+use choose::Closure;
 use model::Refusal;
 use nar::Tree;
 use storepath::{Name, StorePath};
@@ -18,6 +19,17 @@ pub enum Request {
     Offer(StorePath, Tree),
     /// The tree at a path that he holds.
     Fetch(StorePath),
+    /// To trust another user of the run from now on.
+    Trust(User),
+    /// To trust another user no longer.
+    Distrust(User),
+    /// To want a path for the class of a path, so that it is chosen where he sees it. The class stands
+    /// first.
+    Pin(StorePath, StorePath),
+    /// To want no path for a class.
+    Unpin(StorePath),
+    /// What is chosen for a class among all that he sees, with all that it refers to.
+    Closure(StorePath),
 }
 
 /// A request, and the user who makes it.
@@ -45,6 +57,8 @@ pub enum Reply {
     },
     /// The tree that was asked for.
     Content(Tree),
+    /// The entries of a closure, by path, then by the path of the class, with a class before a source.
+    Entries(Closure),
     /// Why nothing was done.
     Refused(Refusal),
 }

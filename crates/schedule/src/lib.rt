@@ -4,18 +4,19 @@
 //! both promise is said in the terms of the crate `model`: the store is as good as private desks.
 #![tactic(auto)]
 
-mod desk;
-mod entry;
 mod events;
 mod limits;
 mod requests;
 mod runs;
 mod state;
 mod step;
+mod striking;
 mod user;
+mod view;
 
 pub use events::{Event, Reply, Request};
 pub use limits::{LARGEST_CHARGE, Limits};
 pub use runs::run;
 pub use state::Core;
+pub use striking::strike;
 pub use user::{User, are_users};

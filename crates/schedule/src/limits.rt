@@ -1,14 +1,5 @@
 //! The limits that do not change, and those that a run is given.
 
-/// The most sources of a user.
-pub(crate) const MOST_SOURCES: usize = 1024;
-
-/// The most derivations of a user.
-pub(crate) const MOST_DERIVATIONS: usize = 1024;
-
-/// The most records of a user.
-pub(crate) const MOST_RECORDS: usize = 4096;
-
 /// The most bytes of a derivation's text: 1 MiB.
 pub(crate) const MOST_DERIVATION_BYTES: usize = 1_048_576;
 

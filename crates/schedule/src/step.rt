@@ -10,32 +10,33 @@ ghost use Rattle.schedule.specs.Standing.{world_of, setup_of, setup_for, IsRefus
 ghost use Rattle.schedule.specs.Handling.{IsHandled};
 ghost use Rattle.schedule.specs.Stepping.{IsCoreStep};
 
-use crate::desk::Desk;
 use crate::events::{Event, Reply};
 use crate::limits::Limits;
 use crate::requests::handle;
 use crate::state::Core;
 use crate::user::{User, are_users};
 use model::{Refusal, never_fails};
+use realise::Desk;
 use rewrite::one_tree_at_a_path;
 use std::alloc::Global;
 use std::hash::RandomState;
 use store::Table;
+use trust::Trust;
 
 /// Empty desks, so many of them.
-fn empty_desks(alloc: Global, count: usize) -> Result<Vec<Desk>, Refusal>
+fn empty_desks(alloc: Global, hashing: RandomState, count: usize) -> Result<Vec<Desk>, Refusal>
     ensures value { IfOk result (λ desks. (All IsEmpty desks.items) × (vec_len desks ≡ count)) }
     ensures memory { IfErr result (λ e. e ≡ Memory) }
 {
     let mut desks = Vec::with_capacity(alloc, count)?;
     for _desk in 0..count {
-        desks.push(Desk::new(alloc))?;
+        desks.push(Desk::new(alloc, hashing))?;
     }
     Ok(desks)
 }
 
 impl Core {
-    /// A core for these users, with empty desks. `hashing` has the keys of its table's hasher.
+    /// A core for these users, with empty desks. `hashing` has the keys of its hashers.
     ///
     /// The limit of a charge is at most 1,073,741,824 bytes.
     ///
@@ -61,9 +62,10 @@ impl Core {
         if !are_users(users.as_slice()) {
             return Err(Refusal::BadUsers);
         }
-        let desks = empty_desks(alloc, users.len())?;
+        let desks = empty_desks(alloc, hashing, users.len())?;
         Ok(Core {
             users,
+            trust: Trust::new(),
             desks,
             table: Table::new(alloc, hashing),
             limits,
@@ -78,6 +80,7 @@ impl Core {
         handle(
             alloc,
             self.users.as_slice(),
+            &mut self.trust,
             &mut self.table,
             self.desks.as_mut_slice(),
             self.limits,

@@ -14,6 +14,7 @@
 mod ahead;
 mod answer;
 mod cut;
+mod entries;
 mod expand;
 mod forms;
 mod prefixed;
@@ -31,3 +32,4 @@ pub use answer::{Answer, Faults, NoUsers};
 pub use prefixed::Prefixed;
 pub use serving::{serve, serve_whole_lines};
 pub use session::{Mode, Session};
+pub use texts::answer_text;

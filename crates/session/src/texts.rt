@@ -5,6 +5,7 @@ ghost use Rattle.model.specs.declared.refusal.Refusal.TheVariants.{Memory};
 ghost use Rattle.model.specs.Talk.{reply_text, answer_text};
 ghost use Rattle.schedule.specs.Standing.{reply_of};
 
+use crate::entries::add_entries;
 use model::Refusal;
 use nar::tree_text;
 use schedule::Reply;
@@ -37,6 +38,11 @@ fn add_reply(alloc: Global, text: &mut Vec<u8>, reply: &Reply) -> Result<(), Ref
             let words = tree_text(alloc, tree)?;
             add(text, b"tree ", words.as_slice())
         }
+        Reply::Entries(closure) => {
+            let count = closure.entries().len().to_string(alloc)?;
+            add(text, b"closure ", count.as_bytes())?;
+            add_entries(alloc, text, closure.entries())
+        }
         Reply::Refused(why) => {
             let words = why.to_string(alloc)?;
             add(text, b"refused ", words.as_bytes())
@@ -45,7 +51,11 @@ fn add_reply(alloc: Global, text: &mut Vec<u8>, reply: &Reply) -> Result<(), Ref
 }
 
 /// What is printed for a line: its number, the actor and the reply.
-pub(crate) fn answer_text(
+///
+/// # Errors
+///
+/// - `Memory` only where memory was refused.
+pub fn answer_text(
     alloc: Global,
     number: usize,
     actor: &[u8],

@@ -49,6 +49,6 @@ pub(crate) fn told_in(reply: Reply) -> Told
             path: Some(path),
             class: Some(class),
         },
-        Reply::Done | Reply::Content(_) | Reply::Refused(_) => Told::nothing(),
+        Reply::Done | Reply::Content(_) | Reply::Entries(_) | Reply::Refused(_) => Told::nothing(),
     }
 }

@@ -92,6 +92,14 @@ fn request_of(alloc: Global, wish: &Wish<'_>) -> Result<Request, Refusal>
             read_tree(alloc, tree.bytes())?,
         )),
         (Verb::Fetch, [path]) => Ok(Request::Fetch(read_path(alloc, path.bytes())?)),
+        (Verb::Trust, [user]) => Ok(Request::Trust(read_user(alloc, user.bytes())?)),
+        (Verb::Distrust, [user]) => Ok(Request::Distrust(read_user(alloc, user.bytes())?)),
+        (Verb::Pin, [class, path]) => Ok(Request::Pin(
+            read_path(alloc, class.bytes())?,
+            read_path(alloc, path.bytes())?,
+        )),
+        (Verb::Closure, [class]) => Ok(Request::Closure(read_path(alloc, class.bytes())?)),
+        (Verb::Unpin, [class]) => Ok(Request::Unpin(read_path(alloc, class.bytes())?)),
         _ => Err(Refusal::BadLine),
     }
 }

@@ -10,12 +10,12 @@ ghost use Rattle.schedule.specs.Sound.{IsSound};
 ghost use Rattle.schedule.specs.Standing.{reply_of};
 ghost use Rattle.schedule.specs.Handling.{IsHandledByDesk, AddsDerivation};
 
-use crate::desk::Desk;
 use crate::events::Reply;
-use crate::limits::{MOST_DERIVATION_BYTES, MOST_DERIVATIONS};
+use crate::limits::MOST_DERIVATION_BYTES;
 use aterm::{Derivation, parse};
 use classes::{Admitted, admit_at, path_of};
 use model::Refusal;
+use realise::{Desk, MOST_DERIVATIONS};
 use std::alloc::Global;
 
 /// What is told of a derivation.

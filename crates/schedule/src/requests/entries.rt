@@ -5,17 +5,17 @@ ghost use Rattle.model.specs.Worlds.{tree_at};
 ghost use Rattle.model.specs.Replies.{is_refused};
 ghost use Rattle.model.specs.declared.refusal.Refusal.TheVariants.{Clash};
 ghost use Rattle.store.specs.Stored.{IsTaken, IsAdded};
-ghost use Rattle.schedule.specs.Stored.{entry_path, is_roomy};
+ghost use Rattle.realise.specs.Holdings.{entry_path, is_roomy, IsClosedWithEntry};
 ghost use Rattle.schedule.specs.Sound.{IsSound};
 ghost use Rattle.schedule.specs.Standing.{reply_of};
 ghost use Rattle.schedule.specs.Handling.{IsKept, AddsEntry};
 
-use crate::desk::Desk;
-use crate::entry::Entry;
 use crate::events::Reply;
 use crate::limits::Limits;
 use model::Refusal;
 use nar::Tree;
+use realise::{Desk, Entry};
+use std::alloc::Global;
 use store::Table;
 use storepath::StorePath;
 
@@ -40,15 +40,18 @@ fn has_room(desk: &Desk, limits: Limits, entry: &Entry, more: u64) -> bool
 }
 
 /// Adds an entry with its tree to a desk, unless it is there, and the tree to the table where its
-/// path is new there. All that needs memory comes before the first change.
+/// path is new there. What its labels name is on the desk. All that needs memory comes before the
+/// first change.
 pub(super) fn add_entry(
+    alloc: Global,
     table: &mut Table,
     desk: &mut Desk,
     limits: Limits,
     entry: Entry,
     tree: Tree,
 ) -> Result<Reply, Refusal>
-    requires { IsSound table.old.sources limits.charge desk.old }
+    requires sound { IsSound table.old.sources limits.charge desk.old }
+    requires closed { IsClosedWithEntry desk.old entry }
     ensures adds { AddsEntry limits.charge table.old.sources desk.old
         entry tree result table.new.sources desk.new }
     ensures answered { IfOk result (λ r. is_refused (reply_of r) ≡ false) }
@@ -69,7 +72,7 @@ pub(super) fn add_entry(
     }
     let key = path.clone()?;
     table.reserve()?;
-    desk.add(entry, more)?;
+    desk.add(alloc, entry, more)?;
     put_new(table, is_stored, key, tree);
     Ok(Reply::Path(path))
 }

@@ -15,15 +15,13 @@ ghost use Rattle.schedule.specs.Handling.{IsHandledAtDesk};
 ghost use Rattle.schedule.specs.Offering.{IsRecordOf, IsOutput, IsNotSettled, IsNoOutput};
 
 use super::entries::add_entry;
-use crate::desk::Desk;
-use crate::entry::Entry;
 use crate::events::Reply;
 use crate::limits::Limits;
 use aterm::Derivation;
 use classes::Admitted;
 use model::Refusal;
 use nar::{Tree, encode};
-use realise::{Label, Record, candidates, labels_of};
+use realise::{Desk, Entry, Label, Record, candidates, labels_of};
 use rewrite::{Named, settle};
 use std::alloc::{AllocError, Global};
 use store::Table;
@@ -126,5 +124,5 @@ pub(crate) fn offer(
         return Err(Refusal::UnknownDerivation);
     };
     let (record, settled) = output_for(alloc, desk, admitted, tree)?;
-    add_entry(table, desk, limits, Entry::Record(record), settled)
+    add_entry(alloc, table, desk, limits, Entry::Record(record), settled)
 }

@@ -8,18 +8,17 @@ ghost use Rattle.model.specs.Classes.{is_one_of};
 ghost use Rattle.model.specs.Worlds.{tree_at};
 ghost use Rattle.model.specs.Events.{AddSource as AddSourceRequest, Fetch as FetchRequest, Content};
 ghost use Rattle.model.specs.declared.refusal.Refusal.TheVariants.{Memory};
-ghost use Rattle.schedule.specs.Stored.{paths_of};
+ghost use Rattle.realise.specs.Holdings.{paths_of};
 ghost use Rattle.schedule.specs.Sound.{IsSound};
 ghost use Rattle.schedule.specs.Standing.{reply_of};
 ghost use Rattle.schedule.specs.Handling.{IsHandledAtDesk, IsHandledByDesk};
 
 use super::entries::add_entry;
-use crate::desk::Desk;
-use crate::entry::Entry;
 use crate::events::Reply;
 use crate::limits::Limits;
 use model::Refusal;
 use nar::{Tree, encode};
+use realise::{Desk, Entry};
 use std::alloc::Global;
 use store::Table;
 use storepath::{Kind, Name, StorePath, make_path};
@@ -50,7 +49,7 @@ pub(crate) fn add_source(
         (AddSourceRequest name.now tree) result table.new.sources desk.new }
 {
     let path = path_of_source(alloc, name, &tree)?;
-    add_entry(table, desk, limits, Entry::Source(path), tree)
+    add_entry(alloc, table, desk, limits, Entry::Source(path), tree)
 }
 
 /// The tree at a path, if the desk holds the path. Whoever else holds it makes no difference.

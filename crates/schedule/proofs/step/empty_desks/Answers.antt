@@ -1,4 +1,4 @@
-use Rattle.std.proofs.Common.{rules, ◌≡◌, [], ◌∷◌, ◌++◌}
+use Rattle.std.proofs.Common.{rules, refl, ◌≡◌, [], ◌∷◌, ◌++◌}
 use Rattle.std.proofs.lemmas.List.Elements.{All-push}
 use Rattle.schedule.specs.Sound.{IsEmpty}
 use Rattle.schedule.proofs.step.empty_desks.Goals as goal
@@ -7,6 +7,6 @@ pub loop-desk-preserved : goal.loop-desk-preserved
 loop-desk-preserved c =
     let pushed : c.push.new.self.items ≡ c.loop-desk.desks.items ++ c.new.result ∷ [] = search rules in
     record {
-      empty = rw pushed (All-push IsEmpty c.loop-desk.desks.items c.new.result c.loop-desk.invariant.empty (record { trusted = c.new.ensures.trusted; known = c.new.ensures.known; records = c.new.ensures.records; charge = c.new.ensures.charge }));
+      empty = rw pushed (All-push IsEmpty c.loop-desk.desks.items c.new.result c.loop-desk.invariant.empty (rw c.new.ensures (record { known = refl; records = refl; pins = refl; charge = refl })));
       count = search rules;
     }

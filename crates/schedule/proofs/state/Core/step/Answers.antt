@@ -1,3 +1,5 @@
+use Rattle.trust.specs.Trusting.{trusts}
+use Rattle.trust.specs.Naming.{trusted_at}
 use Rattle.schedule.specs.Standing.{world_of, stored_in, event_of}
 use Rattle.schedule.proofs.WorldLemmas.{among_stored}
 use Rattle.schedule.proofs.StepLemmas.{served_step, refused_step}
@@ -14,7 +16,7 @@ pub returns-in-Ok-clause-holds : goal.returns-in-Ok-clause-holds
 unfolding world_of stored_in
 returns-in-Ok-clause-holds c u path h =
     let core = c.serve.new.self in
-    among_stored core.table.sources core.limits.charge core.users.items core.desks.items u path core.sound h
+    among_stored (trusted_at core.users.items (trusts core.trust)) core.table.sources core.limits.charge core.users.items core.desks.items u path core.sound h
 
 pub returns-in-Err-clause-step : goal.returns-in-Err-clause-step
 returns-in-Err-clause-step c =
@@ -24,4 +26,4 @@ pub returns-in-Err-clause-holds : goal.returns-in-Err-clause-holds
 unfolding world_of stored_in
 returns-in-Err-clause-holds c u path h =
     let core = c.serve.new.self in
-    among_stored core.table.sources core.limits.charge core.users.items core.desks.items u path core.sound h
+    among_stored (trusted_at core.users.items (trusts core.trust)) core.table.sources core.limits.charge core.users.items core.desks.items u path core.sound h

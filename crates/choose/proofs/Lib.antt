@@ -1,0 +1,10 @@
+pub mod SetLemmas
+pub mod OrderLemmas
+pub mod ReachedLemmas
+pub mod ChoosingLemmas
+pub mod SourceLemmas
+pub mod KeyLemmas
+pub mod GatherLemmas
+pub mod PlanLemmas
+pub mod ServingLemmas
+pub mod DeskLemmas

@@ -1,0 +1,9 @@
+use Rattle.std.proofs.Common.{◌≡◌, drop}
+use Rattle.std.specs.Prelude.{option_copied}
+use Rattle.model.specs.Orders.{least_from}
+use Rattle.choose.specs.Visible.{recorded_before}
+use Rattle.choose.proofs.choice.least_from.Given as goal
+
+abbrev pub invariant-loop-candidate : goal.invariant-loop-candidate
+invariant-loop-candidate l = least_from recorded_before (option_copied l.best) (drop l.candidate-index l.records) ≡ least_from recorded_before
+    (option_copied l.initial.best) l.records

@@ -1,0 +1,26 @@
+use Rattle.std.proofs.Common.{◌+◌, ◌∙◌, sym, ap, drop}
+use Rattle.std.specs.Prelude.{option_copied, filter}
+use Rattle.model.specs.Orders.{least_from}
+use Rattle.choose.specs.Visible.{recorded_before, desks_of, records_on, is_recorded_at}
+use Rattle.choose.proofs.ChoosingLemmas.{drop_step, drop_end, least_end, least_desk_at}
+use Rattle.choose.proofs.choice.least_of_path.Goals as goal
+
+pub loop-desk-preserved : goal.loop-desk-preserved
+loop-desk-preserved c =
+    let desks = c.args.desks.now in
+    let k = c.loop-desk.desk-index in
+    let class = c.args.class.now in
+    let p = is_recorded_at c.args.path.now in
+    let best = option_copied c.loop-desk.best in
+    let step = drop_step desks k c.desk-item.result c.loop-desk-test.true c.desk-item.is in
+    let after = filter p (records_on class (desks_of (drop (k + 1) desks))) in
+    ap (λ b. least_from recorded_before b after) (c.least_at-best.ensures ∙ ap (λ rs. least_from recorded_before best (filter p rs)) c.records_of.ensures)
+    ∙ least_desk_at best class c.args.path.now c.desk-item.result (drop (k + 1) desks) (drop k desks) step ∙ c.loop-desk.invariant
+
+pub returns : goal.returns
+returns c =
+    let desks = c.args.desks.now in
+    let k = c.loop-desk.desk-index in
+    let p = is_recorded_at c.args.path.now in
+    sym (least_end recorded_before (option_copied c.loop-desk.best) (filter p (records_on c.args.class.now (desks_of (drop k desks))))
+    (ap (λ ds. filter p (records_on c.args.class.now (desks_of ds))) (drop_end desks k c.loop-desk-test.false))) ∙ c.loop-desk.invariant

@@ -1,0 +1,4 @@
+pub mod Codes
+pub mod Visible
+pub mod Gathering
+pub mod Serving

@@ -1,0 +1,105 @@
+-- What is visible on desks, with the trees of the one table.
+use Rattle.std.specs.Prelude.{◌≡◌, ℕ, Bool, true, false, List, [], map, filter, flat_map, bytes_eq, is_some, unwrap_or, All, Option, Some, None, Result}
+use Rattle.std.specs.Borrow.{Bor}
+use Rattle.std.specs.Option.{option_or}
+use Rattle.model.specs.declared.refusal.Refusal.{Refusal}
+use Rattle.model.specs.Archives.{Tree, Link, bytes_before}
+use Rattle.model.specs.Classes.{is_one_of}
+use Rattle.model.specs.Worlds.{Source, Record, Desk, Pin, tree_at}
+use Rattle.model.specs.Orders.{first_by, list_before, least}
+use Rattle.model.specs.Choices.{visible_records, visible_sources, label_before, choose_among, source_among, Plan, plan_by}
+use Rattle.realise.specs.Recorded.{Recorded}
+use Rattle.realise.specs.Holdings.{Holdings, paths_of, with_tree, records_of}
+
+-- ---- trees of the table
+
+-- the tree that a table has at a path
+abbrev pub tree_in : List Source → List ℕ → Tree
+tree_in table path = unwrap_or (tree_at path table) (Link [])
+
+-- a path with that tree
+abbrev pub source_at : List Source → List ℕ → Source
+source_at table path = record { path = path; tree = tree_in table path }
+
+-- a record with that tree
+abbrev pub record_at : List Source → Recorded → Record
+record_at table r = with_tree (tree_in table r.path) r
+
+-- ---- what is visible
+
+-- all that choices look at
+pub record Visible : Type 0 where
+  pub records : List Record
+  pub sources : List Source
+
+-- what is visible to one who sees these desks
+abbrev pub visible_on : List Desk → Visible
+visible_on view = record { records = visible_records view; sources = visible_sources view }
+
+-- what is visible on desks whose trees a table has
+abbrev pub seen : List Source → List Holdings → Visible
+seen table desks = record {
+  records = flat_map (λ d. map (record_at table) d.records) desks;
+  sources = flat_map (λ d. map (source_at table) d.known.sources) desks;
+}
+
+abbrev pub desks_of : List (Bor Holdings) → List Holdings
+desks_of desks = map (λ d. d.now) desks
+
+-- a table has a tree at a path
+abbrev pub IsStored : List Source → List ℕ → Type 0
+IsStored table path = is_some (tree_at path table) ≡ true
+
+-- at all paths of a desk
+abbrev pub IsDeskStored : List Source → Holdings → Type 0
+IsDeskStored table d = All (IsStored table) (paths_of d)
+
+-- at all paths of desks
+abbrev pub AreStored : List Source → List Holdings → Type 0
+AreStored table desks = All (IsDeskStored table) desks
+
+-- ---- choices among what is visible
+
+abbrev pub choose_in : Visible → List Pin → List ℕ → Option Record
+choose_in view pins class = choose_among view.records pins class
+
+abbrev pub source_in : Visible → List ℕ → Option Source
+source_in view path = source_among view.sources path
+
+abbrev pub plan_in : Visible → List Pin → List (List ℕ) → List (List ℕ) → Result Plan Refusal
+plan_in view pins classes sources = plan_by view.sources (choose_in view pins) classes sources
+
+-- a path is that of a source on a desk
+abbrev pub is_source_on : List ℕ → Holdings → Bool
+is_source_on path d = is_one_of d.known.sources path
+
+-- ---- records, whose trees are not looked at
+
+-- by path, then by labels
+abbrev pub recorded_before : Recorded → Recorded → Bool
+recorded_before = first_by (λ q r. bytes_before q.path r.path) (λ q r. list_before label_before q.labels r.labels)
+
+abbrev pub is_recorded_at : List ℕ → Recorded → Bool
+is_recorded_at path r = bytes_eq r.path path
+
+-- the records of a class on desks
+abbrev pub records_on : List ℕ → List Holdings → List Recorded
+records_on class desks = flat_map (records_of class) desks
+
+abbrev pub is_recorded_pinned : Option (List ℕ) → Recorded → Bool
+is_recorded_pinned None r = false
+is_recorded_pinned (Some path) r = is_recorded_at path r
+
+-- those at a path, those with the pinned path, and those of a class on desks
+abbrev pub at_path : List ℕ → List Recorded → List Recorded
+at_path path rs = filter (is_recorded_at path) rs
+
+abbrev pub pinned_at : Option (List ℕ) → List Recorded → List Recorded
+pinned_at pin rs = filter (is_recorded_pinned pin) rs
+
+abbrev pub of_class : List ℕ → List (Bor Holdings) → List Recorded
+of_class class desks = records_on class (desks_of desks)
+
+-- the least with the pinned path or, where none has it, the least of all
+abbrev pub choose_recorded : Option (List ℕ) → List Recorded → Option Recorded
+choose_recorded pin rs = option_or (least recorded_before (pinned_at pin rs)) (least recorded_before rs)

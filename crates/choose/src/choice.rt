@@ -1,0 +1,118 @@
+//! Which record of a class is chosen.
+
+ghost use Rattle.std.specs.Prelude.{◌≡◌, option_copied, MatchResult};
+ghost use Rattle.model.specs.Worlds.{pin_of};
+ghost use Rattle.model.specs.Orders.{lesser, least_from, least};
+ghost use Rattle.model.specs.declared.refusal.Refusal.TheVariants.{Memory};
+ghost use Rattle.choose.specs.Visible.{recorded_before, at_path, pinned_at, of_class, choose_recorded, choose_in};
+
+use crate::order::is_record_before;
+use crate::realisation::Realisation;
+use crate::view::View;
+use model::Refusal;
+use realise::{Desk, Pins, Record};
+use storepath::StorePath;
+
+// The best so far, or a record where that stands before it.
+fn lesser<'a>(best: Option<&'a Record>, one: &'a Record) -> &'a Record
+    ensures { result.now ≡ lesser recorded_before (option_copied best.entry) one.now }
+{
+    match best {
+        Some(other) if !is_record_before(one, other) => other,
+        _ => one,
+    }
+}
+
+// The best so far, or the first of these records that stand before it and before all others.
+fn least_from<'a>(best: Option<&'a Record>, records: &'a [Record]) -> Option<&'a Record>
+    ensures { option_copied result
+        ≡ least_from recorded_before (option_copied best.entry) records.now }
+{
+    let mut best = best;
+    for candidate in records {
+        best = Some(lesser(best, candidate));
+    }
+    best
+}
+
+// The same of those with a path alone.
+fn least_at<'a>(
+    best: Option<&'a Record>,
+    records: &'a [Record],
+    path: &StorePath,
+) -> Option<&'a Record>
+    ensures { option_copied result
+        ≡ least_from recorded_before (option_copied best.entry) (at_path path.now records.now) }
+{
+    let mut best = best;
+    for candidate in records {
+        if candidate.path() == path {
+            best = Some(lesser(best, candidate));
+        }
+    }
+    best
+}
+
+// The least record of a class.
+fn least_of<'a>(desks: &[&'a Desk], class: &StorePath) -> Option<&'a Record>
+    ensures { option_copied result ≡ least recorded_before (of_class class.now desks.now) }
+{
+    let mut best = None;
+    for desk in desks {
+        best = least_from(best, desk.records_of(class));
+    }
+    best
+}
+
+// The least record of a class with a path.
+fn least_of_path<'a>(desks: &[&'a Desk], class: &StorePath, path: &StorePath) -> Option<&'a Record>
+    ensures { option_copied result
+        ≡ least recorded_before (at_path path.now (of_class class.now desks.now)) }
+{
+    let mut best = None;
+    for desk in desks {
+        best = least_at(best, desk.records_of(class), path);
+    }
+    best
+}
+
+// The least record of a class with the pinned path, if a path is pinned.
+fn pinned_choice<'a>(desks: &[&'a Desk], pins: &Pins, class: &StorePath) -> Option<&'a Record>
+    ensures { option_copied result ≡ least recorded_before
+        (pinned_at (pin_of pins.now class.now) (of_class class.now desks.now)) }
+{
+    match pins.get(class) {
+        Some(path) => least_of_path(desks, class, path),
+        None => None,
+    }
+}
+
+// The record that is chosen for a class: of those with the pinned path, if there are any.
+fn choice<'a>(desks: &[&'a Desk], pins: &Pins, class: &StorePath) -> Option<&'a Record>
+    ensures { option_copied result
+        ≡ choose_recorded (pin_of pins.now class.now) (of_class class.now desks.now) }
+{
+    match pinned_choice(desks, pins, class) {
+        Some(pinned) => Some(pinned),
+        None => least_of(desks, class),
+    }
+}
+
+/// The record that is chosen for a class, with its tree. The one error is memory.
+pub(crate) fn chosen(
+    view: &View,
+    pins: &Pins,
+    class: &StorePath,
+) -> Result<Option<Realisation>, Refusal>
+    ensures { MatchResult result
+        (λ r. r ≡ choose_in view.now pins.now class.now)
+        (λ e. e ≡ Memory) }
+{
+    let Some(kept) = choice(&view.desks, pins, class) else {
+        return Ok(None);
+    };
+    let Some(tree) = view.table.get(kept.path()) else {
+        unreachable!()
+    };
+    Ok(Some(Realisation::new(kept.clone()?, tree.clone()?)))
+}

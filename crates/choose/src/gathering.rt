@@ -1,0 +1,200 @@
+//! Gathering what a closure needs.
+
+ghost use Rattle.std.specs.Prelude.{◌≡◌, [], ◌+◌, nat_lt, length, ◌<◌, MatchResult, slice_index_or};
+ghost use Rattle.model.specs.Limits.{most_entries};
+ghost use Rattle.model.specs.declared.refusal.Refusal.TheVariants.{Memory};
+ghost use Rattle.choose.specs.Visible.{choose_in};
+ghost use Rattle.choose.specs.Gathering.{has_class, with_class, with_source, with_label, with_labels};
+
+use crate::choice::chosen;
+use crate::realisation::{Realisation, Source};
+use crate::view::View;
+use indexmap::IndexSet;
+use model::Refusal;
+use realise::{Label, Pins};
+use std::alloc::Global;
+use std::marker::Model;
+use storepath::StorePath;
+
+/// The most entries of a closure.
+const MOST_ENTRIES: usize = 1024;
+
+/// The records and the sources that have been found, each once, the first first. The two tables
+/// beside them tell what is there: the paths of classes and of sources. Their hashers have a fixed
+/// seed: one who finds paths that collide gains little, since gathering ends soon after 1,024.
+#[derive(Drop)]
+pub(crate) struct Gathering {
+    classes: IndexSet<StorePath>,
+    paths: IndexSet<StorePath>,
+    records: Vec<Realisation>,
+    sources: Vec<Source>,
+}
+
+impl Model for Gathering {
+    ghost use Rattle.choose.specs.Codes.{plan_code};
+    ghost use Rattle.choose.specs.Gathering.{AreKeys};
+    ghost use Rattle.model.specs.Choices.{Plan as PlanValue};
+
+    ghost Value = { PlanValue };
+
+    ghost coded = { plan_code };
+
+    ghost view = { λ g. record { records = g.records.items; sources = g.sources.items } };
+
+    ghost invariant = { λ g. AreKeys g.classes.keys g.paths.keys g.records.items g.sources.items };
+}
+
+impl Gathering {
+    /// Nothing has been found.
+    pub(crate) fn new(alloc: Global) -> Gathering
+        ensures { result ≡ record { records = []; sources = [] } }
+    {
+        Gathering {
+            classes: IndexSet::new(alloc),
+            paths: IndexSet::new(alloc),
+            records: Vec::new(alloc),
+            sources: Vec::new(alloc),
+        }
+    }
+
+    /// How many records there are.
+    pub(crate) fn len(&self) -> usize
+        ensures { result ≡ length self.now.records }
+    {
+        self.records.len()
+    }
+
+    /// Whether there is more than a closure may have.
+    pub(crate) fn is_too_large(&self) -> bool
+        ensures { result ≡ nat_lt most_entries (length self.now.records + length self.now.sources) }
+    {
+        self.records.len().saturating_add(self.sources.len()) > MOST_ENTRIES
+    }
+
+    /// Whether a record of the class is there.
+    pub(crate) fn has_class(&self, class: &StorePath) -> bool
+        ensures { result ≡ has_class class.now self.now }
+    {
+        self.classes.contains(class)
+    }
+
+    /// The record at a place. The one error is memory.
+    pub(crate) fn realisation(&self, index: usize) -> Result<Realisation, Refusal>
+        requires { index < length self.now.records }
+        ensures { MatchResult result
+            (λ r. r ≡ slice_index_or self.now.records index r)
+            (λ e. e ≡ Memory) }
+    {
+        Ok(self.records[index].clone()?)
+    }
+
+    /// With what is chosen for a class, unless it is there. The one error is memory.
+    pub(crate) fn add_class(
+        self,
+        view: &View,
+        pins: &Pins,
+        class: &StorePath,
+    ) -> Result<Gathering, Refusal>
+        ensures { MatchResult result
+            (λ g. g ≡ with_class (choose_in view.now pins.now) class.now self)
+            (λ e. e ≡ Memory) }
+    {
+        if self.classes.contains(class) {
+            return Ok(self);
+        }
+        let Some(realisation) = chosen(view, pins, class)? else {
+            return Ok(self);
+        };
+        let Gathering {
+            mut classes,
+            paths,
+            mut records,
+            sources,
+        } = self;
+        let _is_new = classes.insert(class.clone()?)?;
+        records.push(realisation)?;
+        Ok(Gathering {
+            classes,
+            paths,
+            records,
+            sources,
+        })
+    }
+
+    /// With the source at a path, unless it is there. The one error is memory.
+    pub(crate) fn add_source(self, view: &View, path: &StorePath) -> Result<Gathering, Refusal>
+        ensures { MatchResult result
+            (λ g. g ≡ with_source view.now path.now self)
+            (λ e. e ≡ Memory) }
+    {
+        if self.paths.contains(path) {
+            return Ok(self);
+        }
+        let Some(source) = view.source(path)? else {
+            return Ok(self);
+        };
+        let Gathering {
+            classes,
+            mut paths,
+            records,
+            mut sources,
+        } = self;
+        let _is_new = paths.insert(path.clone()?)?;
+        sources.push(source)?;
+        Ok(Gathering {
+            classes,
+            paths,
+            records,
+            sources,
+        })
+    }
+
+    /// With what a label names. The one error is memory.
+    pub(crate) fn add_label(
+        self,
+        view: &View,
+        pins: &Pins,
+        label: &Label,
+    ) -> Result<Gathering, Refusal>
+        ensures { MatchResult result
+            (λ g. g ≡ with_label view.now (choose_in view.now pins.now) label.now self)
+            (λ e. e ≡ Memory) }
+    {
+        match label.class() {
+            Some(class) => self.add_class(view, pins, class.path()),
+            None => self.add_source(view, label.path()),
+        }
+    }
+
+    /// With what labels name. The one error is memory.
+    pub(crate) fn add_labels(
+        self,
+        view: &View,
+        pins: &Pins,
+        labels: &[Label],
+    ) -> Result<Gathering, Refusal>
+        ensures { MatchResult result
+            (λ g. g ≡ with_labels view.now (choose_in view.now pins.now) labels.now self)
+            (λ e. e ≡ Memory) }
+    {
+        let mut gathering = self;
+        for label in labels {
+            gathering = gathering.add_label(view, pins, label)?;
+        }
+        Ok(gathering)
+    }
+
+    /// What was found.
+    pub(crate) fn into_parts(self) -> (Vec<Realisation>, Vec<Source>)
+        ensures records { result.0.items ≡ self.records }
+        ensures sources { result.1.items ≡ self.sources }
+    {
+        let Gathering {
+            classes: _,
+            paths: _,
+            records,
+            sources,
+        } = self;
+        (records, sources)
+    }
+}

@@ -1,0 +1,87 @@
+//! The orders by which records are chosen, and in which plans and closures are.
+
+ghost use Rattle.std.specs.Prelude.{◌≡◌};
+ghost use Rattle.std.specs.Ordering.{is_lt};
+ghost use Rattle.model.specs.Orders.{list_before};
+ghost use Rattle.model.specs.Choices.{label_before, rank_before, source_before};
+ghost use Rattle.model.specs.Closures.{entry_before};
+ghost use Rattle.choose.specs.Visible.{recorded_before};
+
+use crate::entry::Entry;
+use crate::realisation::{Realisation, Source};
+use realise::{Label, Record, is_class_before};
+use std::cmp::Ordering;
+
+// Whether one label goes before another: by path, and then by class.
+fn is_label_before(one: &Label, other: &Label) -> bool
+    ensures { result ≡ label_before one.now other.now }
+{
+    one.path() < other.path()
+        || (!(other.path() < one.path()) && is_class_before(one.class(), other.class()))
+}
+
+// Whether labels go before others, one after another.
+fn are_labels_before(one: &[Label], other: &[Label]) -> bool
+    ensures { result ≡ list_before label_before one.now other.now }
+{
+    let mut index = 0;
+    while index < one.len() && index < other.len() {
+        let first = &one[index];
+        let second = &other[index];
+        if is_label_before(first, second) {
+            return true;
+        }
+        if is_label_before(second, first) {
+            return false;
+        }
+        index += 1;
+    }
+    one.len() < other.len()
+}
+
+/// Whether a record goes before another of its class: by path, and then by labels.
+pub(crate) fn is_record_before(one: &Record, other: &Record) -> bool
+    ensures { result ≡ recorded_before one.now other.now }
+{
+    one.path() < other.path()
+        || (!(other.path() < one.path()) && are_labels_before(one.labels(), other.labels()))
+}
+
+/// The order of records of several classes: by rank, and then by class path.
+pub(crate) fn compare_records(a: &Realisation, b: &Realisation) -> Ordering
+    ensures { is_lt result ≡ rank_before a.now b.now }
+{
+    let first = a.class().rank();
+    let second = b.class().rank();
+    if first < second {
+        Ordering::Less
+    } else if second < first {
+        Ordering::Greater
+    } else {
+        a.class().path().cmp(b.class().path())
+    }
+}
+
+/// The order of sources: by path.
+pub(crate) fn compare_sources(a: &Source, b: &Source) -> Ordering
+    ensures { is_lt result ≡ source_before a.now b.now }
+{
+    a.path().cmp(b.path())
+}
+
+/// The order of entries: by path, and then by class, a class before a source.
+pub(crate) fn compare_entries(a: &Entry, b: &Entry) -> Ordering
+    ensures { is_lt result ≡ entry_before a.now b.now }
+{
+    if a.path() < b.path() {
+        return Ordering::Less;
+    }
+    if b.path() < a.path() {
+        return Ordering::Greater;
+    }
+    match (a.class(), b.class()) {
+        (None, _) => Ordering::Greater,
+        (Some(_), None) => Ordering::Less,
+        (Some(first), Some(second)) => first.path().cmp(second.path()),
+    }
+}

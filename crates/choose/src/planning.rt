@@ -1,0 +1,140 @@
+//! Planning a closure.
+
+ghost use Rattle.std.specs.Prelude.{◌≡◌, ◌⊎◌, ◌+◌, ℕ, List, [], nat_lt, length, Option, is_none, true, false, MatchResult, Ok, Err};
+ghost use Rattle.std.specs.List.{list_any};
+ghost use Rattle.std.specs.List.Sorted.{IsPermutation, IsSortedBy};
+ghost use Rattle.model.specs.Limits.{most_entries};
+ghost use Rattle.model.specs.Worlds.{Record as RecordValue, Desk as DeskValue};
+ghost use Rattle.model.specs.Choices.{rank_before, source_before, plan};
+ghost use Rattle.model.specs.declared.refusal.Refusal.TheVariants.{Memory, NotRealised, ClosureTooLarge};
+ghost use Rattle.model.proofs.ClosureLemmas.{IsOfClass};
+ghost use Rattle.choose.specs.Visible.{visible_on, choose_in};
+ghost use Rattle.choose.specs.Gathering.{IsGathered, HasClasses, IsTooMuch};
+
+use crate::gathering::Gathering;
+use crate::order::{compare_records, compare_sources};
+use crate::planned::Plan;
+use crate::realisation::{Realisation, Source};
+use crate::view::View;
+use model::Refusal;
+use realise::Pins;
+use std::alloc::Global;
+use storepath::StorePath;
+
+// What is chosen for the classes asked for.
+fn gather_classes(
+    alloc: Global,
+    view: &View,
+    pins: &Pins,
+    classes: &[StorePath],
+) -> Result<Gathering, Refusal>
+    ensures { let choice = choose_in view.now pins.now in
+        let missing = list_any (λ c. is_none (choice c)) classes.now in
+        MatchResult result
+        (λ g. (missing ≡ false) × HasClasses view.now choice classes.now g)
+        (λ e. (e ≡ Memory) ⊎ ((e ≡ NotRealised) × (missing ≡ true))) }
+{
+    let mut gathering = Gathering::new(alloc);
+    for class in classes {
+        gathering = gathering.add_class(view, pins, class)?;
+        if !gathering.has_class(class) {
+            return Err(Refusal::NotRealised);
+        }
+    }
+    Ok(gathering)
+}
+
+// With the sources asked for.
+fn gather_sources(
+    view: &View,
+    sources: &[StorePath],
+    gathering: Gathering,
+) -> Result<Gathering, Refusal>
+    ensures { (choice : List ℕ → Option RecordValue) (classes A : List (List ℕ)) → IsOfClass choice
+        → IsGathered view.now choice classes sources.now A [] [] gathering
+        → MatchResult result
+        (λ g. IsGathered view.now choice classes sources.now A sources.now [] g)
+        (λ e. e ≡ Memory) }
+{
+    let mut gathering = gathering;
+    for path in sources {
+        gathering = gathering.add_source(view, path)?;
+    }
+    Ok(gathering)
+}
+
+// With what is below each record, until there is no more, or more than a closure may have.
+fn gather_below(view: &View, pins: &Pins, gathering: Gathering) -> Result<Gathering, Refusal>
+    ensures { let choice = choose_in view.now pins.now in
+        (classes sources A P : List (List ℕ))
+        → IsGathered view.now choice classes sources A P [] gathering → MatchResult result
+        (λ g. IsGathered view.now choice classes sources A P g.records g
+        × (nat_lt most_entries (length g.records + length g.sources) ≡ false))
+        (λ e. (e ≡ Memory) ⊎ ((e ≡ ClosureTooLarge) × IsTooMuch view.now choice classes sources)) }
+{
+    let mut gathering = gathering;
+    let mut next = 0;
+    while next < gathering.len() {
+        if gathering.is_too_large() {
+            return Err(Refusal::ClosureTooLarge);
+        }
+        let realisation = gathering.realisation(next)?;
+        gathering = gathering.add_labels(view, pins, realisation.labels())?;
+        next += 1;
+    }
+    if gathering.is_too_large() {
+        return Err(Refusal::ClosureTooLarge);
+    }
+    Ok(gathering)
+}
+
+// Records by rank and then class path.
+fn sort_records(mut records: Vec<Realisation>) -> Result<Vec<Realisation>, Refusal>
+    ensures { MatchResult result
+        (λ sorted. IsPermutation records.items sorted.items × IsSortedBy rank_before sorted.items)
+        (λ e. e ≡ Memory) }
+{
+    records.sort_by(|a, b| compare_records(a, b))?;
+    Ok(records)
+}
+
+// Sources by path.
+fn sort_sources(mut sources: Vec<Source>) -> Result<Vec<Source>, Refusal>
+    ensures { MatchResult result
+        (λ sorted. IsPermutation sources.items sorted.items × IsSortedBy source_before sorted.items)
+        (λ e. e ≡ Memory) }
+{
+    sources.sort_by(|a, b| compare_sources(a, b))?;
+    Ok(sources)
+}
+
+/// What the closure of classes and sources needs: of every class reached the chosen record, once,
+/// and every source.
+///
+/// # Errors
+///
+/// - `NotRealised` exactly where no visible record is for one of the classes.
+/// - `ClosureTooLarge` exactly where each class has one, and the closure would have over 1,024
+///   entries.
+/// - `Memory` only where memory was refused; it may stand in the place of each answer.
+pub fn plan(
+    alloc: Global,
+    view: &View,
+    pins: &Pins,
+    classes: &[StorePath],
+    sources: &[StorePath],
+) -> Result<Plan, Refusal>
+    ensures { (desks : List DeskValue) → visible_on desks ≡ view.now
+        → let answer = plan desks pins.now classes.now sources.now in
+        MatchResult result
+        (λ p. answer ≡ Ok p)
+        (λ e. (e ≡ Memory) ⊎ (answer ≡ Err e)) }
+{
+    let gathering = gather_classes(alloc, view, pins, classes)?;
+    let gathering = gather_sources(view, sources, gathering)?;
+    let gathering = gather_below(view, pins, gathering)?;
+    let (found_records, found_sources) = gathering.into_parts();
+    let records = sort_records(found_records)?;
+    let sources = sort_sources(found_sources)?;
+    Ok(Plan { records, sources })
+}

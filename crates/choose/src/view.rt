@@ -1,0 +1,70 @@
+//! What a user sees: the desks of all whom he reaches.
+
+ghost use Rattle.std.specs.Prelude.{◌≡◌, MatchResult};
+ghost use Rattle.std.specs.List.{list_any};
+ghost use Rattle.model.specs.declared.refusal.Refusal.TheVariants.{Memory};
+ghost use Rattle.choose.specs.Visible.{seen, desks_of, AreStored, is_source_on, source_in};
+
+use crate::realisation::Source;
+use model::Refusal;
+use realise::Desk;
+use std::marker::Model;
+use store::Table;
+use storepath::StorePath;
+
+/// The desks that a user sees, in the order of the users, with the table that has their trees.
+#[derive(Drop)]
+pub struct View<'a> {
+    pub(crate) table: &'a Table,
+    pub(crate) desks: Vec<&'a Desk>,
+}
+
+impl<'a> Model for View<'a> {
+    ghost use Rattle.choose.specs.Codes.{visible_code};
+    ghost use Rattle.choose.specs.Visible.{Visible, seen, desks_of, AreStored};
+
+    ghost Value = { Visible };
+
+    ghost coded = { visible_code };
+
+    ghost view = { λ v. seen v.table.now.sources (desks_of v.desks.items) };
+
+    ghost invariant = { λ v. AreStored v.table.now.sources (desks_of v.desks.items) };
+}
+
+impl<'a> View<'a> {
+    /// What is seen on desks whose paths are all in a table.
+    pub fn new(table: &'a Table, desks: Vec<&'a Desk>) -> View<'a>
+        requires stored { AreStored table.now.sources (desks_of desks.items) }
+        ensures { result ≡ seen table.now.sources (desks_of desks.entry.items) }
+    {
+        View { table, desks }
+    }
+
+    /// The source at a path, if it is on one of the desks. The one error is memory.
+    pub(crate) fn source(&self, path: &StorePath) -> Result<Option<Source>, Refusal>
+        ensures { MatchResult result
+            (λ s. s ≡ source_in self.now path.now)
+            (λ e. e ≡ Memory) }
+    {
+        if !is_source(&self.desks, path) {
+            return Ok(None);
+        }
+        let Some(tree) = self.table.get(path) else {
+            unreachable!()
+        };
+        Ok(Some(Source::new(path.clone()?, tree.clone()?)))
+    }
+}
+
+// Whether a path is that of a source on one of the desks.
+fn is_source(desks: &[&Desk], path: &StorePath) -> bool
+    ensures { result ≡ list_any (is_source_on path.now) (desks_of desks.now) }
+{
+    for desk in desks {
+        if desk.known().has_source(path) {
+            return true;
+        }
+    }
+    false
+}

@@ -1,0 +1,5 @@
+use Rattle.model.proofs.ClosureLemmas.{closures_whole}
+use Rattle.model.proofs.laws.closures_are_whole.Goals as goal
+
+pub returns : goal.returns
+returns c = closures_whole

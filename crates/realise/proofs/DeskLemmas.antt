@@ -1,0 +1,27 @@
+-- Looking a record up in the group of its class.
+use Rattle.std.proofs.Common.{◌≡◌, Bool, true, inl, inr, List, [], ◌∷◌, refl}
+use Rattle.std.specs.Prelude.{filter, bytes_eq, ◌&&◌}
+use Rattle.std.specs.List.{list_any}
+use Rattle.std.specs.Cmp.Lexicographic.{pointwise}
+use Rattle.model.specs.Worlds.{same_label}
+use Rattle.model.proofs.BoolLemmas.{either, both_parts}
+use Rattle.realise.specs.Recorded.{Recorded}
+use Rattle.realise.specs.Holdings.{same_recorded, is_record_of}
+
+-- what passes one test only where it passes another is sought among those that pass the other
+found_among : (test group : Recorded → Bool) (records : List Recorded) → ((q : Recorded) → test q ≡ true → group q ≡ true)
+    → list_any test (filter group records) ≡ list_any test records
+found_among test group [] within = refl
+found_among test group (q ∷ records) within = elim (either (group q)) [
+  | inl t ↦ rw (t, found_among test group records within) refl
+  | inr f ↦ elim (either (test q)) [
+    | inl t ↦ let in_group = within q t in cc
+    | inr g ↦ rw (f, g) (found_among test group records within)
+  ]
+]
+
+pub found_in_group : (r : Recorded) (records : List Recorded)
+    → list_any (λ q. same_recorded q r) (filter (is_record_of r.class.path) records) ≡ list_any (λ q. same_recorded q r) records
+found_in_group r records =
+    found_among (λ q. same_recorded q r) (is_record_of r.class.path) records
+    (λ q same. (both_parts (bytes_eq q.class.path r.class.path) (bytes_eq q.path r.path && pointwise same_label q.labels r.labels) same).0)

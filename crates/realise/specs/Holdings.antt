@@ -1,0 +1,107 @@
+-- What contracts see of a desk, and of what is put on it.
+use Rattle.std.specs.Prelude.{◌≡◌, ℕ, Bool, true, ◌&&◌, List, [], ◌∷◌, ◌++◌, ◌+◌, nat_lt, nat_le, length, map, filter, bytes_eq, All, Option, Some, None, if◌then◌else◌}
+use Rattle.std.specs.List.{list_any}
+use Rattle.std.specs.Cmp.Lexicographic.{pointwise}
+use Rattle.model.specs.Archives.{Tree}
+use Rattle.model.specs.Classes.{Class, Admission, Known, is_one_of}
+use Rattle.model.specs.Worlds.{Label, Pin, same_label}
+use Rattle.model.specs.Worlds as worlds
+use Rattle.model.specs.Limits.{most_sources, most_records}
+use Rattle.realise.specs.Recorded.{Recorded}
+use Rattle.realise.specs.declared.entry.Entry.{Entry}
+use Rattle.realise.specs.declared.entry.Entry.TheVariants as entry
+
+-- ---- desks
+
+-- what a desk knows, its records, its pins, and the charge of what it holds in bytes
+pub record Holdings : Type 0 where
+  pub known : Known
+  pub records : List Recorded
+  pub pins : List Pin
+  pub charge : ℕ
+
+-- the paths that a desk holds, those of its sources and of its records
+abbrev pub paths_of : Holdings → List (List ℕ)
+paths_of d = d.known.sources ++ map (λ r. r.path) d.records
+
+-- a record with its tree
+abbrev pub with_tree : Tree → Recorded → worlds.Record
+with_tree tree r = record { class = r.class; path = r.path; tree = tree; labels = r.labels }
+
+-- records of one class at one path, with the same labels
+abbrev pub same_recorded : Recorded → Recorded → Bool
+same_recorded q r = bytes_eq q.class.path r.class.path && (bytes_eq q.path r.path && pointwise same_label q.labels r.labels)
+
+-- whether a record is of a class
+abbrev pub is_record_of : List ℕ → Recorded → Bool
+is_record_of class r = bytes_eq r.class.path class
+
+-- the records of a class
+abbrev pub records_of : List ℕ → Holdings → List Recorded
+records_of class d = filter (is_record_of class) d.records
+
+-- a desk with one derivation more
+abbrev pub holds_derivation : Admission → Holdings → Holdings
+holds_derivation a d = record d { known = record d.known { derivations = d.known.derivations ++ a ∷ [] } }
+
+-- a desk with other pins
+abbrev pub with_pins : List Pin → Holdings → Holdings
+with_pins pins d = record d { pins = pins }
+
+-- ---- entries
+
+abbrev pub entry_path : Entry → List ℕ
+entry_path (entry.Source path) = path
+entry_path (entry.Record r) = r.path
+
+-- an entry with its tree
+abbrev pub entry_with : Tree → Entry → worlds.Entry
+entry_with tree (entry.Source path) = worlds.OfSource (record { path = path; tree = tree })
+entry_with tree (entry.Record r) = worlds.OfRecord (with_tree tree r)
+
+-- whether an entry is on a desk
+abbrev pub is_on : Entry → Holdings → Bool
+is_on (entry.Source path) d = is_one_of d.known.sources path
+is_on (entry.Record r) d = list_any (λ q. same_recorded q r) d.records
+
+-- a desk with one entry more, which is charged so many bytes
+abbrev pub holds_entry : Entry → ℕ → Holdings → Holdings
+holds_entry (entry.Source path) more d = record d { known = record d.known { sources = d.known.sources ++ path ∷ [] }; charge = d.charge + more }
+holds_entry (entry.Record r) more d = record d { records = d.records ++ r ∷ []; charge = d.charge + more }
+
+-- whether a desk may have one such entry more
+abbrev pub has_place : Entry → Holdings → Bool
+has_place (entry.Source path) d = nat_lt (length d.known.sources) most_sources
+has_place (entry.Record r) d = nat_lt (length d.records) most_records
+
+-- what a desk is charged more for a path whose archive has so many bytes
+abbrev pub charged_more : List ℕ → ℕ → Holdings → ℕ
+charged_more path archive d = if is_one_of (paths_of d) path then 0 else archive
+
+-- whether a desk may have one such entry more, and be charged so many bytes more
+abbrev pub is_roomy : Entry → ℕ → ℕ → Holdings → Bool
+is_roomy e more limit d = has_place e d && nat_le (d.charge + more) limit
+
+-- ---- closed desks
+
+-- whether a record is of a class and at a path
+abbrev pub is_at : List ℕ → Class → Recorded → Bool
+is_at path class r = bytes_eq r.path path && bytes_eq r.class.path class.path
+
+-- whether a desk has what a path is labelled with: a record of the class at the path or, with none, the source
+abbrev pub has_labelled : Holdings → List ℕ → Option Class → Bool
+has_labelled d path None = is_one_of d.known.sources path
+has_labelled d path (Some class) = list_any (is_at path class) d.records
+
+-- all that the labels of a record name is on a desk
+abbrev pub IsClosedWith : Holdings → Recorded → Type 0
+IsClosedWith d r = All (λ l. has_labelled d l.path l.class ≡ true) r.labels
+
+-- and what the labels of an entry name; a source has none
+abbrev pub IsClosedWithEntry : Holdings → Entry → Type 0
+IsClosedWithEntry d (entry.Source path) = Unit {0}
+IsClosedWithEntry d (entry.Record r) = IsClosedWith d r
+
+-- a desk has all that the labels of its records name
+abbrev pub IsClosed : Holdings → Type 0
+IsClosed d = All (IsClosedWith d) d.records

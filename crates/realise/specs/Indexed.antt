@@ -1,0 +1,34 @@
+-- The table by which a desk finds the records of a class.
+use Rattle.std.specs.Prelude.{◌≡◌, ℕ, List, [], ◌∷◌, ◌++◌, filter, map, bytes_eq, Option, Some, None, if◌then◌else◌}
+use Rattle.std.specs.Map.{lookup}
+use Rattle.std.specs.Global.{Vec}
+use Rattle.model.specs.Worlds.{Pin}
+use Rattle.realise.specs.Recorded.{Recorded}
+use Rattle.realise.specs.Holdings.{is_record_of}
+
+-- the pins of a map's entries
+abbrev pub pin_at : List ℕ × List ℕ → Pin
+pin_at e = record { class = e.0; path = e.1 }
+
+abbrev pub pins_at : List (List ℕ × List ℕ) → List Pin
+pins_at entries = map pin_at entries
+
+-- the records of a group, if there is one
+abbrev pub items_of : Option (Vec Recorded) → List Recorded
+items_of None = []
+items_of (Some group) = group.items
+
+abbrev pub group_at : List ℕ → List (List ℕ × Vec Recorded) → List Recorded
+group_at class groups = items_of (lookup (bytes_eq class) groups)
+
+-- each class has its records there, the oldest first
+abbrev pub IsIndexed : List (List ℕ × Vec Recorded) → List Recorded → Type 0
+IsIndexed groups records = (class : List ℕ) → group_at class groups ≡ filter (is_record_of class) records
+
+-- one record more is in the group of its class, and no other group has changed
+abbrev pub IsGrouped : List (List ℕ × Vec Recorded) → Recorded → List (List ℕ × Vec Recorded) → Type 0
+IsGrouped old r new =
+    (class : List ℕ) → group_at class new ≡ (if is_record_of class r then group_at class old ++ r ∷ [] else group_at class old)
+
+abbrev pub HasSameGroups : List (List ℕ × Vec Recorded) → List (List ℕ × Vec Recorded) → Type 0
+HasSameGroups old new = (class : List ℕ) → group_at class new ≡ group_at class old

@@ -1,0 +1,54 @@
+//! Records by their classes.
+
+ghost use Rattle.std.specs.Prelude.{◌≡◌, ◌++◌, ◌∷◌, [], MatchResult};
+ghost use Rattle.realise.specs.Indexed.{IsGrouped, HasSameGroups};
+ghost use Rattle.model.specs.declared.refusal.Refusal.TheVariants.{Memory};
+
+use crate::record::Record;
+use indexmap::IndexMap;
+use model::Refusal;
+use std::alloc::Global;
+use std::hash::RandomState;
+use storepath::StorePath;
+
+/// Puts a record into a group that is there.
+fn push_record(group: &mut Vec<Record>, one: Record) -> Result<(), Refusal>
+    ensures { MatchResult result
+        (λ _. group.new.items ≡ group.old.items ++ one ∷ [])
+        (λ e. (e ≡ Memory) × (group.new.items ≡ group.old.items)) }
+{
+    group.push(one)?;
+    Ok(())
+}
+
+/// A group of one record.
+fn group_of(alloc: Global, one: Record) -> Result<Vec<Record>, Refusal>
+    ensures { MatchResult result
+        (λ group. group.items ≡ one ∷ [])
+        (λ e. e ≡ Memory) }
+{
+    let mut group = Vec::new(alloc);
+    group.push(one)?;
+    Ok(group)
+}
+
+/// Puts a record into the group of its class, the newest last. The one error is memory, and changes
+/// no group.
+pub(crate) fn put_in_group(
+    alloc: Global,
+    groups: &mut IndexMap<StorePath, Vec<Record>, RandomState>,
+    one: Record,
+) -> Result<(), Refusal>
+    ensures { MatchResult result
+        (λ _. IsGrouped groups.old.entries one groups.new.entries)
+        (λ e. (e ≡ Memory) × HasSameGroups groups.old.entries groups.new.entries) }
+{
+    let key = one.class().path().clone()?;
+    if let Some(group) = groups.get_mut(&key) {
+        push_record(group, one)?;
+        return Ok(());
+    }
+    let group = group_of(alloc, one)?;
+    let _none = groups.insert(key, group)?;
+    Ok(())
+}

@@ -1,0 +1,33 @@
+-- What a user sees: the desks of all whom he reaches.
+use Rattle.std.specs.Prelude.{◌≡◌, ℕ, ◌<◌, Bool, true, List, [], length, map, filter, get_or, All}
+use Rattle.std.specs.List.{range_with_len}
+use Rattle.std.specs.Borrow.{Bor}
+use Rattle.model.specs.Worlds.{Source, are_users}
+use Rattle.model.specs.Outcomes.{view_of}
+use Rattle.trust.specs.Naming.{name_at, trusted_at, IsWithin}
+use Rattle.realise.specs.Holdings.{Holdings}
+use Rattle.schedule.specs.Sound.{desk_of}
+use Rattle.schedule.specs.Standing.{parts, world_in}
+
+-- the places of a set below a number, in order
+abbrev pub places_of : (ℕ → Bool) → ℕ → List ℕ
+places_of set count = filter set (range_with_len 0 count)
+
+-- the desk at a place
+abbrev pub bare : Holdings
+bare = record { known = record { derivations = []; sources = [] }; records = []; pins = []; charge = 0 }
+
+abbrev pub desk_at : List Holdings → ℕ → Holdings
+desk_at desks place = get_or desks place bare
+
+abbrev pub desks_of : List (Bor Holdings) → List Holdings
+desks_of desks = map (λ d. d.now) desks
+
+-- these of the desks are what the user at a place sees, in the order of the users, whoever they are
+pub record IsView (trust : ℕ → ℕ → Bool) (place : ℕ) (desks view : List Holdings) : Type 0 where
+  pub places : List ℕ
+  pub inside : All (λ p. p < length desks) places
+  pub held : view ≡ map (desk_at desks) places
+  pub seen : (users : List (List ℕ)) (limit : ℕ) (table : List Source) → are_users users ≡ true → length desks ≡ length users → IsWithin (length users) trust
+      → let old = parts users limit trust table desks in
+      view_of old.setup (world_in old) (name_at users place) ≡ map (λ p. desk_of (trusted_at users trust p) table (desk_at desks p)) places

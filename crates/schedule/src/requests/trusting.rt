@@ -1,0 +1,53 @@
+//! Trusting another user, and no longer trusting him.
+
+ghost use Rattle.std.specs.Prelude.{◌≡◌, ◌<◌, true, length};
+ghost use Rattle.model.specs.Worlds.{are_users};
+ghost use Rattle.model.specs.Events.{Trust as TrustRequest, Distrust as DistrustRequest};
+ghost use Rattle.trust.specs.Trusting.{trusts};
+ghost use Rattle.schedule.specs.Handling.{IsHandledByTrust};
+
+use super::place_of;
+use crate::events::Reply;
+use crate::user::User;
+use model::Refusal;
+use trust::Trust;
+
+/// From now on the user at a place trusts another. That he trusts himself says nothing new.
+pub(super) fn add_trust(
+    users: &[User],
+    trust: &mut Trust,
+    place: usize,
+    other: &User,
+) -> Result<Reply, Refusal>
+    requires listed { are_users users.now ≡ true }
+    requires of_run { place < length users.now }
+    ensures { IsHandledByTrust users.now place (trusts trust.old)
+        (TrustRequest other.now) result (trusts trust.new) }
+{
+    let Some(other) = place_of(users, other) else {
+        return Err(Refusal::UnknownUser);
+    };
+    if other != place {
+        trust.add(place, other);
+    }
+    Ok(Reply::Done)
+}
+
+/// From now on the user at a place does not trust another.
+pub(super) fn remove_trust(
+    users: &[User],
+    trust: &mut Trust,
+    place: usize,
+    other: &User,
+) -> Result<Reply, Refusal>
+    requires listed { are_users users.now ≡ true }
+    requires of_run { place < length users.now }
+    ensures { IsHandledByTrust users.now place (trusts trust.old)
+        (DistrustRequest other.now) result (trusts trust.new) }
+{
+    let Some(other) = place_of(users, other) else {
+        return Err(Refusal::UnknownUser);
+    };
+    trust.remove(place, other);
+    Ok(Reply::Done)
+}
