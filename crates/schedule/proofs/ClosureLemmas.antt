@@ -32,8 +32,8 @@ closure_at_once : (s : Sight) (class : List ℕ) (result : Result Rust.Reply Ref
 closure_at_once s class result = closure_cases (λ o. RefusedAtOnce o result) s class (λ entries why quick o. cc) (λ why quick o. cc) (λ why quick o. cc) (λ why quick o. cc)
 
 module _ (users : List (List ℕ)) (limit : ℕ) (trust : ℕ → ℕ → Bool) (table : List Source) (desks : List Holdings) (actor : List ℕ) (place : ℕ) (class : List ℕ)
-  (listed : are_users users ≡ true) (found : place_of users actor ≡ Some place) (paired : length desks ≡ length users)
-  (sound : All (IsSound table limit) desks) (within : IsWithin (length users) trust) where
+    (listed : are_users users ≡ true) (found : place_of users actor ≡ Some place) (paired : length desks ≡ length users)
+    (sound : All (IsSound table limit) desks) (within : IsWithin (length users) trust) where
   abbrev setup : Setup
   setup = record { users = users; charge = limit }
 

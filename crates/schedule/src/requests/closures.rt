@@ -21,12 +21,7 @@ use storepath::StorePath;
 use trust::Trust;
 
 /// The closure of a class for one who has this view and these pins.
-fn closure_in(
-    alloc: Global,
-    view: &View,
-    pins: &Pins,
-    class: &StorePath,
-) -> Result<Reply, Refusal>
+fn closure_in(alloc: Global, view: &View, pins: &Pins, class: &StorePath) -> Result<Reply, Refusal>
     ensures fits { (s : Sight) → visible_on s.view ≡ view.now → s.desk.pins ≡ pins.now
         → Fits (closure s class.now) s.desk result }
     ensures answered { IfOk result (λ r. is_refused (reply_of r) ≡ false) }

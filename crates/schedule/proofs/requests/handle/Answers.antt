@@ -132,7 +132,7 @@ returns c =
     let found : position (λ n. bytes_eq n c.args.event.actor) c.args.users.now ≡ Some c.in-Some.place = sym c.in-Some.ensures in
     let kept = kept_desks c.args.desks.now c.in-Some.place c.index-desks-place.result in
     let by_sight = subst (λ (ds : List Holdings). IsHandledBySight (trusts c.args.trust.now) c.args.table.now.sources ds c.in-Some.place
-        (ClosureRequest c.in-Closure.class) c.closure.result) kept c.closure.ensures in
+    (ClosureRequest c.in-Closure.class) c.closure.result) kept c.closure.ensures in
     subst (λ (ds : List Holdings).
     IsHandled (parts c.args.users.now c.args.limits.charge (trusts c.args.trust.now) c.args.table.now.sources c.args.desks.now) (event_of c.args.event)
     c.closure.result (parts c.args.users.now c.args.limits.charge (trusts c.args.trust.now) c.args.table.now.sources ds))
