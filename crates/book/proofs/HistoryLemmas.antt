@@ -7,6 +7,7 @@ use Rattle.model.specs.Worlds.{Setup, World}
 use Rattle.model.specs.Events.{Event, Answer}
 use Rattle.model.specs.Steps.{world_after, answers, after, reply_to, replies_to}
 use Rattle.model.specs.HashedTexts.{hashed, texts_of_event}
+use Rattle.model.specs.GivenClosures.{GiveGoodClosures}
 use Rattle.book.specs.declared.history.Row.{Row}
 use Rattle.book.specs.Histories.{event_in, answer_in, events_of, answers_of, gave_up, IsLegal}
 
@@ -49,5 +50,5 @@ rows_push rows r = map_push answer_in rows r
 -- ---- no row
 
 pub legal_none : (setup : Setup) → IsLegal setup []
-unfolding answers replies_to
-legal_none setup = record { answered = All-nil (λ (r : Row). gave_up r.reply ≡ false); same = λ _. refl; isolated = λ _ u. refl }
+unfolding answers replies_to GiveGoodClosures
+legal_none setup = record { answered = All-nil (λ (r : Row). gave_up r.reply ≡ false); same = λ _. refl; isolated = λ _ u. refl; good = λ _. tt }

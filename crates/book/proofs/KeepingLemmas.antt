@@ -9,11 +9,13 @@ use Rattle.model.specs.Steps.{world_after, answers, after, reply_to, replies_to}
 use Rattle.model.specs.Laws.{IsIsolated}
 use Rattle.model.specs.Replies.{is_memory, is_memory_refusal, is_stopped_refusal}
 use Rattle.model.specs.HashedTexts.{hashed, texts_of_event}
+use Rattle.model.specs.GivenClosures.{GivesGoodClosure, GiveGoodClosures}
 use Rattle.schedule.specs.declared.events.Reply.{Reply}
 use Rattle.schedule.specs.declared.events.Reply.TheVariants.{Refused}
 use Rattle.schedule.specs.declared.state.Core.{Core}
 use Rattle.schedule.specs.Sound.{IsHashed}
 use Rattle.schedule.specs.Standing.{world_of, setup_of, stored_in, HasHashed, reply_of, IsUnchanged}
+use Rattle.schedule.proofs.RunLemmas.{good_push}
 use Rattle.book.specs.declared.history.Row.{Row}
 use Rattle.book.specs.Histories.{event_in, events_of, answers_of, gave_up, IsLegal}
 use Rattle.book.specs.Keeping.{Kept, HasReached, Steps, IsModelReply}
@@ -33,11 +35,12 @@ some_memory reply h = refl
 -- ---- a new book
 
 pub starts : (setup : Setup) (core : Core) → setup_of core ≡ setup → world_of core ≡ nothing → stored_in core ≡ [] → Kept setup core false []
-unfolding world_after answers stored_in HasHashed
+unfolding world_after answers stored_in HasHashed GiveGoodClosures
 starts setup core given empty none = record {
   given = given;
   answered = All-nil (λ (r : Row). gave_up r.reply ≡ false);
   told = λ texts clean inside. refl;
+  good = λ texts clean inside. tt;
   reached = λ going texts clean inside. record { world = empty; hashes = rw none (All-nil (IsHashed texts)) };
 }
 
@@ -52,6 +55,7 @@ stays setup old new stopped rows kept same = record {
   given = same.setup ∙ kept.given;
   answered = kept.answered;
   told = kept.told;
+  good = kept.good;
   reached = λ going texts clean inside. record {
     world = same.world ∙ (kept.reached going texts clean inside).world;
     hashes = same_hashes texts old new same.stored (kept.reached going texts clean inside).hashes;
@@ -65,6 +69,7 @@ stops setup old new stopped rows kept same = record {
   given = same ∙ kept.given;
   answered = kept.answered;
   told = kept.told;
+  good = kept.good;
   reached = λ going texts clean inside. cc;
 }
 
@@ -75,6 +80,7 @@ record Went (setup : Setup) (rows : List Row) (r : Row) (new : Core) (texts : Li
   reply : reply_of r.reply ≡ reply_to setup (world_after setup nothing (events_of rows)) (event_in r)
   world : world_of new ≡ after setup (world_after setup nothing (events_of rows)) (event_in r)
   hashes : HasHashed texts new
+  good : GivesGoodClosure setup (world_after setup nothing (events_of rows)) (event_in r)
 
 went : (setup : Setup) (old new : Core) (rows : List Row) (r : Row) → Kept setup old false rows → gave_up r.reply ≡ false → Steps old r.event r.reply new
     → (texts : List (List ℕ)) → NoClash texts → All (Contains texts) (hashed setup nothing (events_of (rows ++ r ∷ []))) → Went setup rows r new texts
@@ -90,6 +96,8 @@ went setup old new rows r kept some steps texts clean inside =
       reply = stepped.told ∙ ap (λ (s : Setup). reply_to s (world_of old) (event_in r)) kept.given ∙ ap (λ (w : World). reply_to setup w (event_in r)) before.world;
       world = stepped.world ∙ ap (λ (s : Setup). after s (world_of old) (event_in r)) kept.given ∙ ap (λ (w : World). after setup w (event_in r)) before.world;
       hashes = steps.hashed texts before.hashes here;
+      good = subst (λ (s : Setup). GivesGoodClosure s (world_after setup nothing events) (event_in r)) kept.given
+          (subst (λ (w : World). GivesGoodClosure (setup_of old) w (event_in r)) before.world (steps.good texts clean before.hashes here (some_memory r.reply some)));
     }
 
 pub goes_on : (setup : Setup) (old new : Core) (rows : List Row) (r : Row) → Kept setup old false rows → gave_up r.reply ≡ false → Steps old r.event r.reply new → Kept setup new false (rows ++ r ∷ [])
@@ -104,6 +112,13 @@ goes_on setup old new rows r kept some steps = record {
       let now = went setup old new rows r kept some steps texts clean inside in
       rw (rows_push rows r, events_push rows r, answers_push setup nothing events (event_in r), now.reply)
       (ap (λ xs. xs ++ record { actor = r.event.actor; reply = reply_to setup (world_after setup nothing events) (event_in r) } ∷ []) (kept.told texts clean (all_front (Contains texts) (hashed setup nothing events) own all)));
+  good = λ texts clean inside.
+      let events : List Event = events_of rows in
+      let own : List (List ℕ) = texts_of_event setup (world_after setup nothing events) (event_in r) in
+      let all : All (Contains texts) (hashed setup nothing events ++ own) =
+      subst (All (Contains texts)) (ap (hashed setup nothing) (events_push rows r) ∙ hashed_push setup nothing events (event_in r)) inside in
+      rw (events_push rows r) (good_push setup nothing events (event_in r) (kept.good texts clean (all_front (Contains texts) (hashed setup nothing events) own all))
+      (went setup old new rows r kept some steps texts clean inside).good);
   reached = λ going texts clean inside.
       let now = went setup old new rows r kept some steps texts clean inside in
       record {
@@ -126,4 +141,9 @@ pub is_legal : (setup : Setup) (core : Core) (stopped : Bool) (rows : List Row) 
 is_legal setup core stopped rows kept isolated =
     let same : NoClash (hashed setup nothing (events_of rows)) → answers_of rows ≡ answers setup nothing (events_of rows) =
     λ clean. kept.told (hashed setup nothing (events_of rows)) clean (All-contains_itself (hashed setup nothing (events_of rows))) in
-    record { answered = kept.answered; same = same; isolated = λ clean u. ap (replies_to u) (same clean) ∙ isolated setup (events_of rows) u }
+    record {
+      answered = kept.answered;
+      same = same;
+      isolated = λ clean u. ap (replies_to u) (same clean) ∙ isolated setup (events_of rows) u;
+      good = λ clean. kept.good (hashed setup nothing (events_of rows)) clean (All-contains_itself (hashed setup nothing (events_of rows)));
+    }

@@ -8,6 +8,7 @@ use Rattle.model.specs.Steps.{answers, replies_to, replies}
 use Rattle.model.specs.Replies.{is_unrecorded}
 use Rattle.model.specs.HashedTexts.{hashed}
 use Rattle.model.specs.Striking.{strike}
+use Rattle.model.specs.GivenClosures.{GiveGoodClosures}
 use Rattle.schedule.specs.declared.events.Event.{Event}
 use Rattle.schedule.specs.declared.events.Reply.{Reply}
 use Rattle.schedule.specs.Standing.{event_of, reply_of}
@@ -40,11 +41,13 @@ gave_up reply = is_unrecorded (reply_of reply)
 -- ---- what a history says
 
 -- a history that one caller could have made of private desks: where no two texts that its events hash have one folded
--- digest, the replies are the model's, and each user's are those to the events that can reach him
+-- digest, the replies are the model's, each user's are those to the events that can reach him, and the closures that are
+-- given are good
 pub record IsLegal (setup : Setup) (rows : List Row) : Type 0 where
   pub answered : All (λ r. gave_up r.reply ≡ false) rows
   pub same : NoClash (hashed setup nothing (events_of rows)) → answers_of rows ≡ answers setup nothing (events_of rows)
   pub isolated : NoClash (hashed setup nothing (events_of rows)) → (u : List ℕ) → replies_to u (answers_of rows) ≡ replies setup u (strike setup u (events_of rows))
+  pub good : NoClash (hashed setup nothing (events_of rows)) → GiveGoodClosures setup nothing (events_of rows)
 
 -- a call was answered: its row comes after rows that begin with the sure rows of the pass, and with it they are a legal
 -- history, of which the pass is sure now

@@ -5,6 +5,7 @@ use Rattle.model.specs.Worlds.{Setup, nothing}
 use Rattle.model.specs.Steps.{world_after, answers, reply_to}
 use Rattle.model.specs.Replies.{is_refused}
 use Rattle.model.specs.HashedTexts.{hashed}
+use Rattle.model.specs.GivenClosures.{GiveGoodClosures}
 use Rattle.schedule.specs.declared.state.Core.{Core}
 use Rattle.schedule.specs.declared.events.Event.{Event}
 use Rattle.schedule.specs.declared.events.Reply.{Reply}
@@ -38,12 +39,13 @@ pub record TookEvent (old : Core) (event : Event) (new : Core) : Type 0 where
   pub taken : is_refused (reply_of reply) ≡ false
   pub step : Steps old event reply new
 
--- the replies of the rows are the model's, wherever texts have no clash and all that the events hash is among them;
--- and unless the book is stopped, the core is that of the world reached
+-- the replies of the rows are the model's and the closures that are given are good, wherever texts have no clash and all
+-- that the events hash is among them; and unless the book is stopped, the core is that of the world reached
 pub record Kept (setup : Setup) (core : Core) (stopped : Bool) (rows : List Row) : Type 0 where
   pub given : setup_of core ≡ setup
   pub answered : All (λ r. gave_up r.reply ≡ false) rows
   pub told : (texts : List (List ℕ)) → NoClash texts → All (Contains texts) (hashed setup nothing (events_of rows)) → answers_of rows ≡ answers setup nothing (events_of rows)
+  pub good : (texts : List (List ℕ)) → NoClash texts → All (Contains texts) (hashed setup nothing (events_of rows)) → GiveGoodClosures setup nothing (events_of rows)
   pub reached : stopped ≡ false → (texts : List (List ℕ)) → NoClash texts → All (Contains texts) (hashed setup nothing (events_of rows)) → HasReached setup core texts rows
 
 -- ---- what a call changes

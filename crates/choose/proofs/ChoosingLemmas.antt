@@ -5,7 +5,7 @@ use Rattle.std.specs.Option.{option_or}
 use Rattle.std.specs.Borrow.{Bor}
 use Rattle.std.proofs.lemmas.List.Elements.{All-head, All-tail}
 use Rattle.model.specs.Archives.{Tree}
-use Rattle.model.specs.Worlds.{Source, Pin, pin_of, tree_at}
+use Rattle.model.specs.Worlds.{Source, Record, Pin, pin_of, tree_at}
 use Rattle.model.specs.Orders.{lesser, least_from, least}
 use Rattle.model.specs.Choices.{record_before, is_of, is_pinned, choose_of, choose_among}
 use Rattle.model.proofs.BoolLemmas.{either}
@@ -165,6 +165,18 @@ chosen_stored table desks pin c r stored e =
     all_in (IsStored table) (paths_of w.0) r.path (all_in (IsDeskStored table) desks w.0 stored w.1)
     (in_right r.path w.0.known.sources (map (λ (q : Recorded). q.path) w.0.records)
     (in_map (λ (q : Recorded). q.path) r w.0.records (from_filter (is_record_of c) r w.0.records w.2).0))
+
+-- what is chosen is visible
+pub chosen_visible : (records : List Record) (pins : List Pin) (c : List ℕ) (r : Record) → choose_among records pins c ≡ Some r → In r records
+unfolding choose_among
+chosen_visible records pins c r e =
+    let rs = filter (is_of c) records in
+    let pin = pin_of pins c in
+    let there : In r rs = elim (from_other (least record_before (filter (is_pinned pin) rs)) (least record_before rs) r e) [
+      | inl a ↦ (from_filter (is_pinned pin) r rs (least_in record_before r (filter (is_pinned pin) rs) a)).0
+      | inr b ↦ least_in record_before r rs b
+    ] in
+    (from_filter (is_of c) r records there).0
 
 -- ---- pins
 

@@ -6,5 +6,6 @@ pub mod SourceLemmas
 pub mod KeyLemmas
 pub mod GatherLemmas
 pub mod PlanLemmas
-pub mod ServingLemmas
+pub mod LabelLemmas
 pub mod DeskLemmas
+pub mod LabelledLemmas

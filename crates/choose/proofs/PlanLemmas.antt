@@ -40,7 +40,7 @@ any_push p (y ∷ xs) x h k = elim (either (p y)) [
   | inr f ↦ rw f (any_push p xs x (rw f at h) k)
 ]
 
-any_true : {X : Type 0} (p : X → Bool) (xs : List X) (x : X) → In x xs → p x ≡ true → list_any p xs ≡ true
+pub any_true : {X : Type 0} (p : X → Bool) (xs : List X) (x : X) → In x xs → p x ≡ true → list_any p xs ≡ true
 any_true p [] x h t = absurd h
 any_true p (y ∷ xs) x h t = elim h [
   | inl e ↦ (let u : p y ≡ true = ap p e ∙ t in rw u refl)

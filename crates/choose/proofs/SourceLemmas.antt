@@ -39,7 +39,7 @@ off_desk table path (p ∷ paths) h = elim (either (bytes_eq p path)) [
   | inr f ↦ rw f (off_desk table path paths (rw f at h))
 ]
 
-some_desk : (table : List Source) (path : List ℕ) (desks : List Holdings) → list_any (is_source_on path) desks ≡ true
+pub some_desk : (table : List Source) (path : List ℕ) (desks : List Holdings) → list_any (is_source_on path) desks ≡ true
     → find (at path) (seen table desks).sources ≡ Some (source_at table path)
 some_desk table path [] h = absurd (cc)
 some_desk table path (d ∷ desks) h = elim (either (is_source_on path d)) [

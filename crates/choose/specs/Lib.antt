@@ -1,4 +1,4 @@
 pub mod Codes
 pub mod Visible
 pub mod Gathering
-pub mod Serving
+pub mod Entries

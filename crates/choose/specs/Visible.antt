@@ -1,15 +1,15 @@
 -- What is visible on desks, with the trees of the one table.
-use Rattle.std.specs.Prelude.{◌≡◌, ℕ, Bool, true, false, List, [], map, filter, flat_map, bytes_eq, is_some, unwrap_or, All, Option, Some, None, Result}
+use Rattle.std.specs.Prelude.{◌≡◌, ℕ, Bool, true, false, List, [], ◌++◌, map, filter, flat_map, bytes_eq, is_some, unwrap_or, All, Contains, Option, Some, None, Result}
 use Rattle.std.specs.Borrow.{Bor}
 use Rattle.std.specs.Option.{option_or}
 use Rattle.model.specs.declared.refusal.Refusal.{Refusal}
 use Rattle.model.specs.Archives.{Tree, Link, bytes_before}
 use Rattle.model.specs.Classes.{is_one_of}
-use Rattle.model.specs.Worlds.{Source, Record, Desk, Pin, tree_at}
+use Rattle.model.specs.Worlds.{Source, Label, Record, Desk, Pin, tree_at}
 use Rattle.model.specs.Orders.{first_by, list_before, least}
-use Rattle.model.specs.Choices.{visible_records, visible_sources, label_before, choose_among, source_among, Plan, plan_by}
+use Rattle.model.specs.Choices.{visible_records, visible_sources, label_before, choose_among, source_among, sources_below, Plan, plan_by}
 use Rattle.realise.specs.Recorded.{Recorded}
-use Rattle.realise.specs.Holdings.{Holdings, paths_of, with_tree, records_of}
+use Rattle.realise.specs.Holdings.{Holdings, IsClosed, paths_of, with_tree, records_of}
 
 -- ---- trees of the table
 
@@ -58,6 +58,11 @@ IsDeskStored table d = All (IsStored table) (paths_of d)
 abbrev pub AreStored : List Source → List Holdings → Type 0
 AreStored table desks = All (IsDeskStored table) desks
 
+-- nothing is missing: the table has a tree at all paths of desks, and each desk has all that the labels of its records name
+pub record IsComplete (table : List Source) (desks : List Holdings) : Type 0 where
+  pub stored : AreStored table desks
+  pub closed : All IsClosed desks
+
 -- ---- choices among what is visible
 
 abbrev pub choose_in : Visible → List Pin → List ℕ → Option Record
@@ -68,6 +73,22 @@ source_in view path = source_among view.sources path
 
 abbrev pub plan_in : Visible → List Pin → List (List ℕ) → List (List ℕ) → Result Plan Refusal
 plan_in view pins classes sources = plan_by view.sources (choose_in view pins) classes sources
+
+-- each path that one of these records labels as that of a source is that of a visible source
+abbrev pub SeesSourcesOf : Visible → List Record → Type 0
+SeesSourcesOf view records = (r : Record) (path : List ℕ) → Contains records r → Contains (sources_below r) path → is_some (source_in view path) ≡ true
+
+-- each that a visible record labels so
+abbrev pub SeesSourcesIn : Visible → Type 0
+SeesSourcesIn view = SeesSourcesOf view view.records
+
+-- the paths of visible records and of visible sources
+abbrev pub paths_in : Visible → List (List ℕ)
+paths_in view = map (λ r. r.path) view.records ++ map (λ s. s.path) view.sources
+
+-- each path that a visible record labels is among them
+abbrev pub LabelsAreVisible : Visible → Type 0
+LabelsAreVisible view = (r : Record) (l : Label) → Contains view.records r → Contains r.labels l → Contains (paths_in view) l.path
 
 -- a path is that of a source on a desk
 abbrev pub is_source_on : List ℕ → Holdings → Bool

@@ -1,9 +1,10 @@
 //! The entries of closures.
 
-ghost use Rattle.std.specs.Prelude.{◌≡◌, option_copied, MatchResult};
+ghost use Rattle.std.specs.Prelude.{◌≡◌, option_copied, IfOk, MatchResult};
 ghost use Rattle.model.specs.declared.refusal.Refusal.TheVariants.{Memory};
 ghost use Rattle.model.specs.Worlds.{OfSource, OfRecord, path_of_entry};
 ghost use Rattle.model.specs.Closures.{class_of_entry, labels_of_entry, tree_of_entry};
+ghost use Rattle.realise.specs.Holdings.{entry_with};
 
 use crate::realisation::{Realisation, Source};
 use classes::Class;
@@ -36,7 +37,7 @@ impl Model for Entry {
 
     ghost coded = { entry_code };
 
-    ghost use Rattle.choose.specs.Serving.{entry_of};
+    ghost use Rattle.choose.specs.Entries.{entry_of};
 
     ghost view = { λ e. entry_of e.item };
 }
@@ -88,6 +89,17 @@ impl Entry {
         match &self.item {
             Item::Record(record) => record.labels(),
             Item::Source(_) => &[],
+        }
+    }
+
+    /// The entry without its tree, as it is put on a desk. The copy shares the labels. The one error
+    /// is memory.
+    pub fn without_tree(&self) -> Result<realise::Entry, AllocError>
+        ensures { IfOk result (λ entry. entry_with (tree_of_entry self.now) entry ≡ self.now) }
+    {
+        match &self.item {
+            Item::Record(record) => Ok(realise::Entry::Record(record.record().clone()?)),
+            Item::Source(source) => Ok(realise::Entry::Source(source.path().clone()?)),
         }
     }
 

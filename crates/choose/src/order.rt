@@ -1,13 +1,11 @@
-//! The orders by which records are chosen, and in which plans and closures are.
+//! The orders by which records are chosen, and in which plans are.
 
 ghost use Rattle.std.specs.Prelude.{◌≡◌};
 ghost use Rattle.std.specs.Ordering.{is_lt};
 ghost use Rattle.model.specs.Orders.{list_before};
 ghost use Rattle.model.specs.Choices.{label_before, rank_before, source_before};
-ghost use Rattle.model.specs.Closures.{entry_before};
 ghost use Rattle.choose.specs.Visible.{recorded_before};
 
-use crate::entry::Entry;
 use crate::realisation::{Realisation, Source};
 use realise::{Label, Record, is_class_before};
 use std::cmp::Ordering;
@@ -67,21 +65,4 @@ pub(crate) fn compare_sources(a: &Source, b: &Source) -> Ordering
     ensures { is_lt result ≡ source_before a.now b.now }
 {
     a.path().cmp(b.path())
-}
-
-/// The order of entries: by path, and then by class, a class before a source.
-pub(crate) fn compare_entries(a: &Entry, b: &Entry) -> Ordering
-    ensures { is_lt result ≡ entry_before a.now b.now }
-{
-    if a.path() < b.path() {
-        return Ordering::Less;
-    }
-    if b.path() < a.path() {
-        return Ordering::Greater;
-    }
-    match (a.class(), b.class()) {
-        (None, _) => Ordering::Greater,
-        (Some(_), None) => Ordering::Less,
-        (Some(first), Some(second)) => first.path().cmp(second.path()),
-    }
 }

@@ -1,6 +1,6 @@
 //! Planning a closure.
 
-ghost use Rattle.std.specs.Prelude.{◌≡◌, ◌⊎◌, ◌+◌, ℕ, List, [], nat_lt, length, Option, is_none, true, false, MatchResult, Ok, Err};
+ghost use Rattle.std.specs.Prelude.{◌≡◌, ◌⊎◌, ◌+◌, ℕ, List, [], nat_lt, length, Option, is_none, true, false, IfOk, MatchResult, Ok, Err};
 ghost use Rattle.std.specs.List.{list_any};
 ghost use Rattle.std.specs.List.Sorted.{IsPermutation, IsSortedBy};
 ghost use Rattle.model.specs.Limits.{most_entries};
@@ -8,7 +8,7 @@ ghost use Rattle.model.specs.Worlds.{Record as RecordValue, Desk as DeskValue};
 ghost use Rattle.model.specs.Choices.{rank_before, source_before, plan};
 ghost use Rattle.model.specs.declared.refusal.Refusal.TheVariants.{Memory, NotRealised, ClosureTooLarge};
 ghost use Rattle.model.proofs.ClosureLemmas.{IsOfClass};
-ghost use Rattle.choose.specs.Visible.{visible_on, choose_in};
+ghost use Rattle.choose.specs.Visible.{visible_on, choose_in, SeesSourcesOf, SeesSourcesIn, LabelsAreVisible};
 ghost use Rattle.choose.specs.Gathering.{IsGathered, HasClasses, IsTooMuch};
 
 use crate::gathering::Gathering;
@@ -109,7 +109,8 @@ fn sort_sources(mut sources: Vec<Source>) -> Result<Vec<Source>, Refusal>
 }
 
 /// What the closure of classes and sources needs: of every class reached the chosen record, once,
-/// and every source.
+/// and every source. All that the labels of visible records name is visible, so no source is
+/// missing.
 ///
 /// # Errors
 ///
@@ -124,12 +125,17 @@ pub fn plan(
     classes: &[StorePath],
     sources: &[StorePath],
 ) -> Result<Plan, Refusal>
-    ensures { (desks : List DeskValue) → visible_on desks ≡ view.now
+    ensures planned { (desks : List DeskValue) → visible_on desks ≡ view.now
         → let answer = plan desks pins.now classes.now sources.now in
         MatchResult result
         (λ p. answer ≡ Ok p)
         (λ e. (e ≡ Memory) ⊎ (answer ≡ Err e)) }
+    ensures seen { IfOk result (λ p. SeesSourcesOf view.now p.records) }
+    ensures closed { IfOk result (λ _. SeesSourcesIn view.now) }
+    ensures labelled { IfOk result (λ _. LabelsAreVisible view.now) }
 {
+    // What a view keeps of its desks holds of all that is planned.
+    let _desks = &view.desks;
     let gathering = gather_classes(alloc, view, pins, classes)?;
     let gathering = gather_sources(view, sources, gathering)?;
     let gathering = gather_below(view, pins, gathering)?;

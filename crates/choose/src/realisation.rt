@@ -2,6 +2,7 @@
 
 ghost use Rattle.std.specs.Prelude.{◌≡◌};
 ghost use Rattle.realise.specs.Holdings.{with_tree};
+ghost use Rattle.realise.specs.Recorded.{AreInPathOrder, without_tree};
 
 use classes::Class;
 use nar::Tree;
@@ -60,9 +61,17 @@ impl Realisation {
 
     /// A label for each other path that the tree refers to, in the order of paths.
     pub fn labels(&self) -> &[Label]
-        ensures { result.now ≡ self.now.labels }
+        ensures labels { result.now ≡ self.now.labels }
+        ensures in_order { AreInPathOrder self.now.labels }
     {
         self.kept.labels()
+    }
+
+    /// The record as a desk keeps it, without the tree.
+    pub fn record(&self) -> &Record
+        ensures { result.now ≡ without_tree self.now }
+    {
+        &self.kept
     }
 }
 

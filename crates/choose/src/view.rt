@@ -1,8 +1,9 @@
 //! What a user sees: the desks of all whom he reaches.
 
-ghost use Rattle.std.specs.Prelude.{◌≡◌, MatchResult};
+ghost use Rattle.std.specs.Prelude.{◌≡◌, All, MatchResult};
 ghost use Rattle.std.specs.List.{list_any};
 ghost use Rattle.model.specs.declared.refusal.Refusal.TheVariants.{Memory};
+ghost use Rattle.realise.specs.Holdings.{IsClosed};
 ghost use Rattle.choose.specs.Visible.{seen, desks_of, AreStored, is_source_on, source_in};
 
 use crate::realisation::Source;
@@ -12,7 +13,8 @@ use std::marker::Model;
 use store::Table;
 use storepath::StorePath;
 
-/// The desks that a user sees, in the order of the users, with the table that has their trees.
+/// The desks that a user sees, in the order of the users, with the table that has their trees. What
+/// the labels of a desk's records name is on the desk.
 #[derive(Drop)]
 pub struct View<'a> {
     pub(crate) table: &'a Table,
@@ -21,7 +23,7 @@ pub struct View<'a> {
 
 impl<'a> Model for View<'a> {
     ghost use Rattle.choose.specs.Codes.{visible_code};
-    ghost use Rattle.choose.specs.Visible.{Visible, seen, desks_of, AreStored};
+    ghost use Rattle.choose.specs.Visible.{Visible, seen, desks_of, IsComplete};
 
     ghost Value = { Visible };
 
@@ -29,13 +31,14 @@ impl<'a> Model for View<'a> {
 
     ghost view = { λ v. seen v.table.now.sources (desks_of v.desks.items) };
 
-    ghost invariant = { λ v. AreStored v.table.now.sources (desks_of v.desks.items) };
+    ghost invariant = { λ v. IsComplete v.table.now.sources (desks_of v.desks.items) };
 }
 
 impl<'a> View<'a> {
-    /// What is seen on desks whose paths are all in a table.
+    /// What is seen on desks that have what their labels name, and whose paths are all in a table.
     pub fn new(table: &'a Table, desks: Vec<&'a Desk>) -> View<'a>
         requires stored { AreStored table.now.sources (desks_of desks.items) }
+        requires closed { All IsClosed (desks_of desks.items) }
         ensures { result ≡ seen table.now.sources (desks_of desks.entry.items) }
     {
         View { table, desks }

@@ -1,6 +1,8 @@
 //! What a desk knows.
 
-ghost use Rattle.std.specs.Prelude.{◌≡◌, None, false, [], ◌∷◌, ◌++◌, MatchResult, option_copied, length};
+ghost use Rattle.std.specs.Prelude.{◌≡◌, ◌≤◌, None, false, [], ◌∷◌, ◌++◌, MatchResult, option_copied, length};
+ghost use Rattle.indexmap.specs.IndexSet.{spare};
+ghost use Rattle.classes.specs.Entries.{AreNew};
 ghost use Rattle.model.specs.Classes.{known_at, is_one_of};
 ghost use Rattle.model.specs.declared.refusal.Refusal.TheVariants.{Memory};
 
@@ -30,6 +32,17 @@ impl Model for Known {
     ghost view = { λ a. record { derivations = admissions_of a.derivations.entries; sources = a.sources.keys } };
 
     ghost invariant = { λ a. AreKeyed a.derivations.entries };
+}
+
+/// Puts paths that are not there yet into a set that has room for them.
+fn put_reserved(set: &mut IndexSet<StorePath>, paths: Vec<StorePath>)
+    requires absent { AreNew set.old.keys paths.items }
+    requires room { length paths.items ≤ spare set.old }
+    ensures { set.new.keys ≡ set.old.keys ++ paths.items }
+{
+    for path in paths {
+        let _is_new = set.insert(path).unwrap();
+    }
 }
 
 impl Known {
@@ -85,6 +98,22 @@ impl Known {
             (λ e. (e ≡ Memory) × (self.new ≡ self.old)) }
     {
         let _is_new = self.sources.insert(path)?;
+        Ok(())
+    }
+
+    /// These sources more, all of them or none: no path is known yet, and none comes twice.
+    ///
+    /// # Errors
+    ///
+    /// - `Memory` only where memory was refused. Then nothing has changed.
+    pub fn add_sources(&mut self, paths: Vec<StorePath>) -> Result<(), Refusal>
+        requires absent { AreNew self.old.sources paths.items }
+        ensures { MatchResult result
+            (λ _. self.new ≡ record self.old { sources = self.old.sources ++ paths.items })
+            (λ e. (e ≡ Memory) × (self.new ≡ self.old)) }
+    {
+        self.sources.reserve(paths.len())?;
+        put_reserved(&mut self.sources, paths);
         Ok(())
     }
 

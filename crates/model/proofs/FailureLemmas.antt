@@ -2,7 +2,7 @@
 use Rattle.std.proofs.Common.{◌≡◌, false, refl}
 use Rattle.model.specs.declared.refusal.Refusal.TheVariants.{UnknownUser}
 use Rattle.model.specs.Worlds.{Setup, is_user}
-use Rattle.model.specs.Events.{Request, AddSource, AddDerivation, Offer, Fetch, Trust, Distrust, Pin, Unpin, Closure}
+use Rattle.model.specs.Events.{Request, AddSource, AddDerivation, Offer, Fetch, Trust, Distrust, Pin, Unpin, Closure, Take}
 use Rattle.model.specs.Replies.{is_failure}
 use Rattle.model.specs.Outcomes.{Sight, sight_of, Outcome, reply_of}
 use Rattle.model.specs.Steps.{outcome}
@@ -13,7 +13,7 @@ use Rattle.model.proofs.DerivationRequestLemmas.{add_derivation_cases}
 use Rattle.model.proofs.OfferRequestLemmas.{offer_cases}
 use Rattle.model.proofs.TrustRequestLemmas.{trust_cases, distrust_cases}
 use Rattle.model.proofs.PinRequestLemmas.{pin_cases}
-use Rattle.model.proofs.ClosureRequestLemmas.{closure_cases}
+use Rattle.model.proofs.ClosureRequestLemmas.{closure_cases, take_cases}
 
 -- an outcome that is answered with no failure
 abbrev IsOwn : Outcome → Type 0
@@ -32,7 +32,8 @@ outcome_own setup s (Trust other) = trust_cases IsOwn setup s other (λ known. r
 outcome_own setup s (Distrust other) = distrust_cases IsOwn setup s other refl refl
 outcome_own setup s (Pin class path) = pin_cases IsOwn setup s.desk class path refl refl
 outcome_own setup s (Unpin class) = refl
-outcome_own setup s (Closure class) = closure_cases IsOwn s class (λ entries. refl) refl refl refl
+outcome_own setup s (Closure class) = closure_cases IsOwn s class (λ entries. refl) refl refl (λ why. refl)
+outcome_own setup s (Take class) = take_cases IsOwn s class setup (λ entries path given there. refl) refl refl (λ why. refl) refl
 
 pub no_failure : NeverFails
 no_failure setup w e =

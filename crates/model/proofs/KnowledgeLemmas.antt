@@ -7,8 +7,8 @@ use Rattle.model.specs.declared.refusal.Refusal.TheVariants.{UnknownUser}
 use Rattle.model.specs.Derivations.{Derivation}
 use Rattle.model.specs.DerivationTexts.{derivation_of_text}
 use Rattle.model.specs.Classes.{Admission, known_at, derivation_path, admit}
-use Rattle.model.specs.Worlds.{Source, Record, Desk, World, nothing, Setup, is_user, with_source, known_of, with_derivation, with_record, with_trust, without_trust, with_pin, without_pin}
-use Rattle.model.specs.Events.{Request, AddSource, AddDerivation, Offer, Fetch, Trust, Distrust, Pin, Unpin, Closure, Event}
+use Rattle.model.specs.Worlds.{Source, Record, Desk, World, nothing, Setup, is_user, with_source, known_of, with_derivation, with_record, with_trust, without_trust, with_pin, without_pin, Entry, with_entries}
+use Rattle.model.specs.Events.{Request, AddSource, AddDerivation, Offer, Fetch, Trust, Distrust, Pin, Unpin, Closure, Take, Event}
 use Rattle.model.specs.Outcomes.{reaches, Sight, sight_of, News, Quiet, Outcome, heard, desk_after}
 use Rattle.model.specs.SourceRequests.{source_named}
 use Rattle.model.specs.Steps.{outcome, outcome_of, after, world_after}
@@ -19,7 +19,8 @@ use Rattle.model.proofs.DerivationRequestLemmas.{IsAdmission, add_derivation_cas
 use Rattle.model.proofs.OfferRequestLemmas.{offer_cases}
 use Rattle.model.proofs.TrustRequestLemmas.{trust_cases, distrust_cases}
 use Rattle.model.proofs.PinRequestLemmas.{pin_cases}
-use Rattle.model.proofs.ClosureRequestLemmas.{closure_cases}
+use Rattle.model.proofs.EntriesLemmas.{entries_added}
+use Rattle.model.proofs.ClosureRequestLemmas.{closure_cases, take_cases}
 
 -- ---- what a request does to what its user knows
 
@@ -81,7 +82,11 @@ outcome_fits setup s (Distrust other) =
 outcome_fits setup s (Pin class path) =
     pin_cases (DeskFits (Pin class path) s.desk) setup s.desk class path (inl (keeps_knowledge s.desk (with_pin class path s.desk) refl refl)) tt
 outcome_fits setup s (Unpin class) = inl (keeps_knowledge s.desk (without_pin class s.desk) refl refl)
-outcome_fits setup s (Closure class) = closure_cases (DeskFits (Closure class) s.desk) s class (λ entries. inl (keeps_itself s.desk)) tt tt tt
+outcome_fits setup s (Closure class) = closure_cases (DeskFits (Closure class) s.desk) s class (λ entries. inl (keeps_itself s.desk)) tt tt (λ why. tt)
+outcome_fits setup s (Take class) =
+    let keeps : (entries : List Entry) → Keeps s.desk (with_entries entries s.desk) = λ entries.
+    let more = entries_added entries s.desk in record { derivations = more.derivations; added = more.added; sources = more.sources } in
+    take_cases (DeskFits (Take class) s.desk) s class setup (λ entries path given there. inl (keeps entries)) tt tt (λ why. tt) tt
 
 -- ---- one event
 

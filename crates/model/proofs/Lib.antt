@@ -7,6 +7,7 @@ pub mod DerivationRequestLemmas
 pub mod OfferRequestLemmas
 pub mod TrustRequestLemmas
 pub mod PinRequestLemmas
+pub mod EntriesLemmas
 pub mod ClosureRequestLemmas
 pub mod FailureLemmas
 pub mod StrikeLemmas
@@ -14,4 +15,8 @@ pub mod KnowledgeLemmas
 pub mod RecursionLemmas
 pub mod TalkLemmas
 pub mod MemberLemmas
+pub mod ServedLemmas
+pub mod OrderLemmas
+pub mod LabelLemmas
 pub mod ClosureLemmas
+pub mod WholeLemmas

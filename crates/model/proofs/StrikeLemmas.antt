@@ -5,7 +5,7 @@ use Rattle.std.proofs.lemmas.Bool.{cond_both}
 use Rattle.std.specs.List.{list_any}
 use Rattle.model.specs.Reach.{is_among}
 use Rattle.model.specs.Worlds.{Desk, World, nothing, Setup, is_user, with_trust}
-use Rattle.model.specs.Events.{Request, AddSource, AddDerivation, Offer, Fetch, Trust, Distrust, Pin, Unpin, Closure, Event, Reply}
+use Rattle.model.specs.Events.{Request, AddSource, AddDerivation, Offer, Fetch, Trust, Distrust, Pin, Unpin, Closure, Take, Event, Reply}
 use Rattle.model.specs.Outcomes.{reaches, Sight, sight_of, News, Quiet, Outcome, heard, reply_of, desk_after}
 use Rattle.model.specs.Steps.{outcome, outcome_of, after, answers, replies_to, replies}
 use Rattle.model.specs.Striking.{asks_to_trust, gives_trust, ever, strike}
@@ -17,7 +17,8 @@ use Rattle.model.proofs.DerivationRequestLemmas.{add_derivation_cases}
 use Rattle.model.proofs.OfferRequestLemmas.{offer_cases}
 use Rattle.model.proofs.TrustRequestLemmas.{trust_cases, distrust_cases}
 use Rattle.model.proofs.PinRequestLemmas.{pin_cases}
-use Rattle.model.proofs.ClosureRequestLemmas.{closure_cases}
+use Rattle.model.proofs.EntriesLemmas.{entries_added}
+use Rattle.model.proofs.ClosureRequestLemmas.{closure_cases, take_cases}
 
 -- ---- what a request does to whom its user trusts
 
@@ -56,7 +57,10 @@ outcome_fits setup s (Distrust other) =
     distrust_cases (TrustFits setup s.desk.trusted (Distrust other)) setup s other (λ y t. inl (both_parts (not (bytes_eq y other)) (s.desk.trusted y) t).1) tt
 outcome_fits setup s (Pin class path) = pin_cases (TrustFits setup s.desk.trusted (Pin class path)) setup s.desk class path (λ y t. inl t) tt
 outcome_fits setup s (Unpin class) = λ y t. inl t
-outcome_fits setup s (Closure class) = closure_cases (TrustFits setup s.desk.trusted (Closure class)) s class (λ entries y t. inl t) tt tt tt
+outcome_fits setup s (Closure class) = closure_cases (TrustFits setup s.desk.trusted (Closure class)) s class (λ entries y t. inl t) tt tt (λ why. tt)
+outcome_fits setup s (Take class) =
+    take_cases (TrustFits setup s.desk.trusted (Take class)) s class setup
+    (λ entries path given there y t. inl (subst (λ (trusts : List ℕ → Bool). trusts y ≡ true) (entries_added entries s.desk).trusted t)) tt tt (λ why. tt) tt
 
 -- ---- one desk after an outcome
 

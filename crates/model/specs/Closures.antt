@@ -1,16 +1,16 @@
--- Closures: the chosen records of classes, and all that the labels of these name.
+-- Closures: what serves classes, and all that the labels of it name.
 -- Dolstra 2006, section 6.3.
-use Rattle.std.specs.Prelude.{◌≡◌, ℕ, Bool, ◌&&◌, if◌then◌else◌, List, [], ◌++◌, map, bytes_eq, Contains, Any, option_map, Option, Some, None, Result, Ok, Err}
-use Rattle.std.specs.List.{list_any, list_all}
-use Rattle.model.specs.declared.refusal.RewriteFault.TheVariants.{Accidental}
+use Rattle.std.specs.Prelude.{◌≡◌, ℕ, Bool, true, false, is_some, List, [], ◌++◌, map, bytes_eq, Contains, Any, option_map, Option, Some, None, Result, Ok, Err}
 use Rattle.model.specs.declared.refusal.Refusal.{Refusal}
-use Rattle.model.specs.declared.refusal.Refusal.TheVariants.{RewriteRefused}
+use Rattle.model.specs.Results.{then_do}
 use Rattle.model.specs.Archives.{Tree, bytes_before}
 use Rattle.model.specs.Classes.{Class}
-use Rattle.model.specs.Worlds.{Label, Record, Desk, Pin, Entry, OfSource, OfRecord, path_of_entry, same_class}
+use Rattle.model.specs.Settling.{IsGone}
+use Rattle.model.specs.Worlds.{Source, Label, Record, Desk, Pin, Entry, OfSource, OfRecord, path_of_entry}
 use Rattle.model.specs.References.{class_before}
 use Rattle.model.specs.Orders.{first_by, set_of}
-use Rattle.model.specs.Choices.{Plan, plan}
+use Rattle.model.specs.Choices.{visible_records, visible_sources, sources_below, source_among, Plan, plan}
+use Rattle.model.specs.Repairs.{serve_all, serving_texts}
 
 -- ---- entries
 
@@ -31,31 +31,32 @@ tree_of_entry (OfRecord r) = r.tree
 abbrev pub entry_before : Entry → Entry → Bool
 entry_before = first_by (λ a b. bytes_before (path_of_entry a) (path_of_entry b)) (λ a b. class_before (class_of_entry a) (class_of_entry b))
 
--- the entries of a plan
-abbrev pub entries_of : Plan → List Entry
-entries_of p = set_of entry_before (map OfRecord p.records ++ map OfSource p.sources)
+-- records and sources as entries
+abbrev pub entries_with : List Source → List Record → List Entry
+entries_with sources records = set_of entry_before (map OfRecord records ++ map OfSource sources)
 
 -- ---- closures
 
--- whether an entry is what a label names
-abbrev pub is_named_by : Label → Entry → Bool
-is_named_by l e = bytes_eq (path_of_entry e) l.path && same_class (class_of_entry e) l.class
+abbrev pub served_entries : List Source → List Record → Result (List Entry) Refusal
+served_entries sources records = Ok (entries_with sources records)
 
--- whether there is an entry for each label of each
-abbrev pub are_whole : List Entry → Bool
-are_whole entries = list_all (λ a. list_all (λ l. list_any (is_named_by l) entries) (labels_of_entry a)) entries
-
--- the entries of a plan, unless the class of a label has another path there: labels are not moved to other paths yet
-unfoldable pub served : Plan → Result (List Entry) Refusal
-served p = if are_whole (entries_of p) then Ok (entries_of p) else Err (RewriteRefused Accidental)
-
-abbrev pub served_if : Result Plan Refusal → Result (List Entry) Refusal
-served_if (Err why) = Err why
-served_if (Ok p) = served p
+-- the entries of a plan: what serves the class of each of its records, and its sources
+unfoldable pub served_plan : Plan → Result (List Entry) Refusal
+served_plan p = then_do (serve_all p.records) (served_entries p.sources)
 
 -- the closure of classes and sources for one who sees these desks and has these pins
 abbrev pub closure : List Desk → List Pin → List (List ℕ) → List (List ℕ) → Result (List Entry) Refusal
-closure view pins classes sources = served_if (plan view pins classes sources)
+closure view pins classes sources = then_do (plan view pins classes sources) served_plan
+
+-- ---- what is hashed
+
+abbrev pub texts_of_plan : Result Plan Refusal → List (List ℕ)
+texts_of_plan (Err why) = []
+texts_of_plan (Ok p) = serving_texts p.records
+
+-- those that are hashed for a closure: what the paths of repaired trees are made of
+abbrev pub closure_texts : List Desk → List Pin → List (List ℕ) → List (List ℕ) → List (List ℕ)
+closure_texts view pins classes sources = texts_of_plan (plan view pins classes sources)
 
 -- ---- what holds of every closure
 
@@ -68,6 +69,20 @@ pub record IsWhole (entries : List Entry) : Type 0 where
   pub labelled : (a : Entry) (l : Label) → Contains entries a → Contains (labels_of_entry a) l
       → Any (λ e. (path_of_entry e ≡ l.path) × (path_of_class (class_of_entry e) ≡ path_of_class l.class)) entries
 
+-- each source that a visible record labels is visible: it is on the desk of the record
+abbrev pub SeesSources : List Desk → Type 0
+SeesSources view = (r : Record) (path : List ℕ) → Contains (visible_records view) r → Contains (sources_below r) path
+    → is_some (source_among (visible_sources view) path) ≡ true
+
 abbrev pub ClosuresAreWhole : Type 0
 ClosuresAreWhole = (view : List Desk) (pins : List Pin) (classes sources : List (List ℕ)) (entries : List Entry)
-    → closure view pins classes sources ≡ Ok entries → IsWhole entries
+    → SeesSources view → closure view pins classes sources ≡ Ok entries → IsWhole entries
+
+-- a path that a record of the plan labels, for a class that another path serves, is not kept in the tree by which the record is served:
+-- its hash part stands there only where it shares bytes with the hash part of the tree's own path
+abbrev pub KeepsNoReplaced : Plan → List Entry → Type 0
+KeepsNoReplaced p entries = (chosen by lower : Record) (l : Label) (class : Class)
+    → Contains p.records chosen → Contains entries (OfRecord by) → by.class.path ≡ chosen.class.path
+    → Contains chosen.labels l → l.class ≡ Some class
+    → Contains entries (OfRecord lower) → lower.class.path ≡ class.path → bytes_eq lower.path l.path ≡ false
+    → IsGone l.path by.path by.tree

@@ -15,6 +15,7 @@ pub data Request : Type 0 where
   Pin : (class path : List ℕ) → Request
   Unpin : (class : List ℕ) → Request
   Closure : (class : List ℕ) → Request
+  Take : (class : List ℕ) → Request
 
 -- a request and the user who makes it
 pub record Event : Type 0 where

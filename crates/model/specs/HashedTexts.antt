@@ -1,10 +1,12 @@
 -- The texts whose SHA-256 is taken when events are run.
 use Rattle.std.specs.Prelude.{ℕ, if◌then◌else◌, List, [], ◌∷◌, ◌++◌}
 use Rattle.model.specs.Worlds.{Setup, is_user, World}
-use Rattle.model.specs.Events.{Request, AddSource, AddDerivation, Offer, Fetch, Trust, Distrust, Pin, Unpin, Closure, Event}
+use Rattle.model.specs.Events.{Request, AddSource, AddDerivation, Offer, Fetch, Trust, Distrust, Pin, Unpin, Closure, Take, Event}
 use Rattle.model.specs.SourceRequests.{source_texts}
 use Rattle.model.specs.DerivationRequests.{derivation_texts}
 use Rattle.model.specs.OfferRequests.{offer_texts}
+use Rattle.model.specs.ClosureRequests.{texts_for}
+use Rattle.model.specs.Outcomes.{sight_of}
 use Rattle.model.specs.Steps.{after}
 
 -- those of a request that a user makes in a world
@@ -17,7 +19,8 @@ texts_of setup w u (Trust user) = []
 texts_of setup w u (Distrust user) = []
 texts_of setup w u (Pin class path) = []
 texts_of setup w u (Unpin class) = []
-texts_of setup w u (Closure class) = []
+texts_of setup w u (Closure class) = texts_for (sight_of setup w u) class
+texts_of setup w u (Take class) = texts_for (sight_of setup w u) class
 
 -- those of one event; of a stranger's nothing is hashed
 abbrev pub texts_of_event : Setup → World → Event → List (List ℕ)

@@ -1,4 +1,5 @@
 pub mod Refusals
+pub mod Results
 pub mod Archives
 pub mod TreeCode
 pub mod TreeTexts
@@ -16,6 +17,7 @@ pub mod Worlds
 pub mod References
 pub mod Orders
 pub mod Choices
+pub mod Repairs
 pub mod Closures
 pub mod Events
 pub mod Replies
@@ -29,6 +31,7 @@ pub mod ClosureRequests
 pub mod Steps
 pub mod Striking
 pub mod HashedTexts
+pub mod GivenClosures
 pub mod Lines
 pub mod Words
 pub mod Verbs

@@ -1,22 +1,17 @@
 -- Offering an output: it gets the path of its content, and is recorded for its class.
-use Rattle.std.specs.Prelude.{ℕ, List, [], Option, Some, None, Result, Ok, Err}
-use Rattle.model.specs.declared.refusal.Refusal.{Refusal}
+use Rattle.std.specs.Prelude.{ℕ, List, [], Option, Some, None, Result}
 use Rattle.model.specs.declared.refusal.RewriteFault.{RewriteFault}
-use Rattle.model.specs.declared.refusal.Refusal.TheVariants.{UnknownDerivation, RewriteRefused}
+use Rattle.model.specs.declared.refusal.Refusal.TheVariants.{UnknownDerivation}
+use Rattle.model.specs.Results.{then_do, unless_rewrite_refused}
 use Rattle.model.specs.Archives.{Tree}
 use Rattle.model.specs.Derivations.{name_of}
 use Rattle.model.specs.Classes.{Admission, known_at}
 use Rattle.model.specs.Settling.{Settled, hash_part_in, settled, settling_texts}
 use Rattle.model.specs.Worlds.{Label, Record, OfRecord, Setup, Desk, known_of}
 use Rattle.model.specs.References.{candidates, paths_of_labels, labels_of}
-use Rattle.model.specs.Outcomes.{Outcome, need, then_do, add_entry}
+use Rattle.model.specs.Outcomes.{Outcome, need, add_entry}
 
 -- ---- what comes of it
-
--- a refusal to put hash parts anew is one of the request
-abbrev pub unless_rewrite_refused : Result Settled RewriteFault → Result Settled Refusal
-unless_rewrite_refused (Ok s) = Ok s
-unless_rewrite_refused (Err why) = Err (RewriteRefused why)
 
 -- an output of a derivation, built under the hash part of its class, where it may refer to these
 abbrev pub output_settled : List Label → Admission → Tree → Result Settled RewriteFault

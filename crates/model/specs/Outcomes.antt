@@ -57,11 +57,6 @@ abbrev pub need : {X : Type 0} → Refusal → Option X → (X → Outcome) → 
 need why None next = Err why
 need why (Some x) next = next x
 
--- goes on with what is given
-abbrev pub then_do : {X : Type 0} → Result X Refusal → (X → Outcome) → Outcome
-then_do (Err why) next = Err why
-then_do (Ok x) next = next x
-
 -- a new desk, if it is within the limits
 abbrev pub room : Setup → Desk → Reply → Outcome
 room setup d r = check Quota (is_within setup d) (becomes d r)

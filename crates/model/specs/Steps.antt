@@ -2,14 +2,14 @@
 use Rattle.std.specs.Prelude.{ℕ, if◌then◌else◌, List, [], ◌∷◌, bytes_eq}
 use Rattle.model.specs.declared.refusal.Refusal.TheVariants.{UnknownUser}
 use Rattle.model.specs.Worlds.{Setup, is_user, World, nothing}
-use Rattle.model.specs.Events.{Request, AddSource, AddDerivation, Offer, Fetch, Trust, Distrust, Pin, Unpin, Closure, Event, Reply, Answer}
+use Rattle.model.specs.Events.{Request, AddSource, AddDerivation, Offer, Fetch, Trust, Distrust, Pin, Unpin, Closure, Take, Event, Reply, Answer}
 use Rattle.model.specs.Outcomes.{reaches, Sight, sight_of, Outcome, check, reply_of, desk_after}
 use Rattle.model.specs.SourceRequests.{add_source, fetch}
 use Rattle.model.specs.DerivationRequests.{add_derivation}
 use Rattle.model.specs.OfferRequests.{offer}
 use Rattle.model.specs.TrustRequests.{trust, distrust}
 use Rattle.model.specs.PinRequests.{pin, unpin}
-use Rattle.model.specs.ClosureRequests.{closure}
+use Rattle.model.specs.ClosureRequests.{closure, take}
 
 -- ---- one event
 
@@ -24,6 +24,7 @@ outcome setup s (Distrust user) = distrust setup s user
 outcome setup s (Pin class path) = pin setup s.desk class path
 outcome setup s (Unpin class) = unpin s.desk class
 outcome setup s (Closure class) = closure s class
+outcome setup s (Take class) = take setup s class
 
 -- the outcome of an event
 abbrev pub outcome_of : Setup → World → Event → Outcome

@@ -1,7 +1,7 @@
 -- The verbs of lines. Each has a row in each of these tables: its word in a line, the kinds of the words behind it, and the request that they make.
 use Rattle.std.specs.Prelude.{◌≡◌, ℕ, if◌then◌else◌, List, [], ◌∷◌, bytes_eq, codes, Option, None, Some}
 use Rattle.model.specs.declared.verb.Verb.{Verb}
-use Rattle.model.specs.declared.verb.Verb.TheVariants.{Source, Derivation, Offer, Fetch, Trust, Distrust, Pin, Unpin, Closure}
+use Rattle.model.specs.declared.verb.Verb.TheVariants.{Source, Derivation, Offer, Fetch, Trust, Distrust, Pin, Unpin, Closure, Take}
 use Rattle.model.specs.declared.verb.WordKind.{WordKind}
 use Rattle.model.specs.declared.verb.WordKind.TheVariants as kind
 use Rattle.model.specs.Archives.{Tree}
@@ -21,6 +21,7 @@ verb_of word =
     else if bytes_eq word (codes "pin") then Some Pin
     else if bytes_eq word (codes "unpin") then Some Unpin
     else if bytes_eq word (codes "closure") then Some Closure
+    else if bytes_eq word (codes "take") then Some Take
     else None
 
 -- the kinds of the words behind it
@@ -34,6 +35,7 @@ kinds_of Distrust = kind.User ∷ []
 kinds_of Pin = kind.Path ∷ kind.Path ∷ []
 kinds_of Unpin = kind.Path ∷ []
 kinds_of Closure = kind.Path ∷ []
+kinds_of Take = kind.Path ∷ []
 
 -- the request that it makes of its words
 abbrev pub IsRequestOf : Verb → List (List ℕ) → Request → Type 0
@@ -46,4 +48,5 @@ IsRequestOf Distrust (user ∷ []) request = request ≡ events.Distrust user
 IsRequestOf Pin (class ∷ path ∷ []) request = request ≡ events.Pin class path
 IsRequestOf Unpin (class ∷ []) request = request ≡ events.Unpin class
 IsRequestOf Closure (class ∷ []) request = request ≡ events.Closure class
+IsRequestOf Take (class ∷ []) request = request ≡ events.Take class
 IsRequestOf verb words request = ⊥

@@ -159,6 +159,19 @@ abbrev pub with_entry : Entry → Desk → Desk
 with_entry (OfSource s) d = with_source s d
 with_entry (OfRecord r) d = with_record r d
 
+-- a desk with these entries more
+unfoldable pub with_all : List Entry → Desk → Desk
+with_all [] d = d
+with_all (e ∷ es) d = with_all es (with_entry e d)
+
+-- those of the entries that a desk does not have
+abbrev pub missing : List Entry → Desk → List Entry
+missing entries d = filter (λ e. not (has_entry e d)) entries
+
+-- a desk with those of the entries that it does not have yet
+abbrev pub with_entries : List Entry → Desk → Desk
+with_entries entries d = with_all (missing entries d) d
+
 -- ---- derivations
 
 -- what a desk knows: its derivations, and the paths of its sources

@@ -33,7 +33,7 @@ pub fn knowledge_is_recursive()
 {}
 
 /// A closure serves no class by two paths, and has for each label of an entry the entry that it
-/// names.
+/// names, wherever each source that a visible record labels is visible.
 pub fn closures_are_whole()
     ensures { ClosuresAreWhole }
 {}

@@ -39,6 +39,8 @@ pub enum Verb {
     Unpin,
     /// `closure`: what is chosen for a class, with all that it refers to.
     Closure,
+    /// `take`: to copy what is chosen for a class, with all that it refers to.
+    Take,
 }
 
 impl Verb {
@@ -64,6 +66,8 @@ impl Verb {
             Some(Verb::Unpin)
         } else if word == b"closure".as_slice() {
             Some(Verb::Closure)
+        } else if word == b"take".as_slice() {
+            Some(Verb::Take)
         } else {
             None
         }
@@ -77,7 +81,7 @@ impl Verb {
             Verb::Source => &[WordKind::Name, WordKind::Tree],
             Verb::Derivation => &[WordKind::Text],
             Verb::Offer => &[WordKind::Path, WordKind::Tree],
-            Verb::Fetch | Verb::Unpin | Verb::Closure => &[WordKind::Path],
+            Verb::Fetch | Verb::Unpin | Verb::Closure | Verb::Take => &[WordKind::Path],
             Verb::Trust | Verb::Distrust => &[WordKind::User],
             Verb::Pin => &[WordKind::Path, WordKind::Path],
         }

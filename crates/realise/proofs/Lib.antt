@@ -1,7 +1,10 @@
 pub mod OrderLemmas
+pub mod PathOrderLemmas
 pub mod ZipLemmas
 pub mod StepLemmas
 pub mod Filtering
 pub mod LoopLemmas
 pub mod PinLemmas
 pub mod DeskLemmas
+pub mod ChargingLemmas
+pub mod SeveralLemmas

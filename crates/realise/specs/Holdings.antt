@@ -1,10 +1,10 @@
 -- What contracts see of a desk, and of what is put on it.
-use Rattle.std.specs.Prelude.{◌≡◌, ℕ, Bool, true, ◌&&◌, List, [], ◌∷◌, ◌++◌, ◌+◌, nat_lt, nat_le, length, map, filter, bytes_eq, All, Option, Some, None, if◌then◌else◌}
+use Rattle.std.specs.Prelude.{◌≡◌, ℕ, ◌<◌, ◌^◌, Bool, true, false, ◌&&◌, List, [], ◌∷◌, ◌++◌, ◌+◌, nat_lt, nat_le, length, map, filter, sum_by, bytes_eq, All, Option, Some, None, if◌then◌else◌}
 use Rattle.std.specs.List.{list_any}
 use Rattle.std.specs.Cmp.Lexicographic.{pointwise}
 use Rattle.model.specs.Archives.{Tree}
 use Rattle.model.specs.Classes.{Class, Admission, Known, is_one_of}
-use Rattle.model.specs.Worlds.{Label, Pin, same_label}
+use Rattle.model.specs.Worlds.{Label, Pin, same_label, are_distinct}
 use Rattle.model.specs.Worlds as worlds
 use Rattle.model.specs.Limits.{most_sources, most_records}
 use Rattle.realise.specs.Recorded.{Recorded}
@@ -81,6 +81,49 @@ charged_more path archive d = if is_one_of (paths_of d) path then 0 else archive
 -- whether a desk may have one such entry more, and be charged so many bytes more
 abbrev pub is_roomy : Entry → ℕ → ℕ → Holdings → Bool
 is_roomy e more limit d = has_place e d && nat_le (d.charge + more) limit
+
+-- ---- several entries
+
+-- a desk with these entries more, one after another, which are charged so many bytes together
+abbrev pub holds_all : List Entry → ℕ → Holdings → Holdings
+holds_all [] more d = record d { charge = d.charge + more }
+holds_all (e ∷ es) more d = holds_all es more (holds_entry e 0 d)
+
+-- what a desk is charged more for entries whose archives have so many bytes, one after another
+abbrev pub charged_all : List (Entry × ℕ) → Holdings → ℕ
+charged_all [] d = 0
+charged_all (e ∷ es) d =
+    let more = charged_more (entry_path e.0) e.1 d in
+    more + charged_all es (holds_entry e.0 more d)
+
+-- a desk with these entries more, one after another, each with what is charged for it
+abbrev pub holds_each : List (Entry × ℕ) → Holdings → Holdings
+holds_each [] d = d
+holds_each (e ∷ es) d = holds_each es (holds_entry e.0 (charged_more (entry_path e.0) e.1 d) d)
+
+-- the archives have fewer bytes together than can be counted
+abbrev pub AreCountable : List (Entry × ℕ) → Type 0
+AreCountable entries = sum_by (λ e. e.1) entries < 2 ^ 64
+
+-- the sources among entries, and the records
+abbrev pub sources_in : List Entry → List (List ℕ)
+sources_in [] = []
+sources_in (entry.Source path ∷ es) = path ∷ sources_in es
+sources_in (entry.Record r ∷ es) = sources_in es
+
+abbrev pub records_in : List Entry → List Recorded
+records_in [] = []
+records_in (entry.Source path ∷ es) = records_in es
+records_in (entry.Record r ∷ es) = r ∷ records_in es
+
+-- these paths are the sources among entries, and these records their records
+abbrev pub AreParts : List Entry → List (List ℕ) → List Recorded → Type 0
+AreParts entries paths records = (paths ≡ sources_in entries) × (records ≡ records_in entries)
+
+-- none of the entries is on a desk, and no source comes twice
+pub record AreAbsent (entries : List Entry) (d : Holdings) : Type 0 where
+  pub absent : All (λ e. is_on e d ≡ false) entries
+  pub distinct : are_distinct (sources_in entries) ≡ true
 
 -- ---- closed desks
 

@@ -32,3 +32,7 @@ IsGrouped old r new =
 
 abbrev pub HasSameGroups : List (List ℕ × Vec Recorded) → List (List ℕ × Vec Recorded) → Type 0
 HasSameGroups old new = (class : List ℕ) → group_at class new ≡ group_at class old
+
+-- records more are in the groups of their classes, behind those that were there
+abbrev pub AddsRecords : List (List ℕ × Vec Recorded) → List Recorded → List (List ℕ × Vec Recorded) → Type 0
+AddsRecords old records new = (class : List ℕ) → group_at class new ≡ group_at class old ++ filter (is_record_of class) records

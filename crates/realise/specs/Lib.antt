@@ -6,3 +6,4 @@ pub mod Ordered
 pub mod Holdings
 pub mod Indexed
 pub mod Kept
+pub mod Charging

@@ -1,5 +1,7 @@
 -- Records as a desk keeps them: without their trees, which the path table has.
-use Rattle.std.specs.Prelude.{◌≡◌, ℕ, Bool, List}
+use Rattle.std.specs.Prelude.{◌≡◌, ℕ, Bool, true, List}
+use Rattle.std.specs.List.{AllPairs}
+use Rattle.model.specs.Archives.{bytes_before}
 use Rattle.model.specs.Classes.{Class}
 use Rattle.model.specs.Worlds.{Label, Record, same_record}
 
@@ -15,3 +17,7 @@ without_tree r = record { class = r.class; path = r.path; labels = r.labels }
 -- whether two records are the same, whatever their trees
 abbrev pub IsSame : Recorded → Recorded → Bool → Type 0
 IsSame q r same = (one other : Record) → without_tree one ≡ q → without_tree other ≡ r → same ≡ same_record one other
+
+-- each label goes before all later ones by the bytes of its path, so there is one label for a path
+abbrev pub AreInPathOrder : List Label → Type 0
+AreInPathOrder labels = AllPairs (λ k l. bytes_before k.path l.path ≡ true) labels

@@ -1,9 +1,10 @@
 //! What an output may refer to.
 
-ghost use Rattle.std.specs.Prelude.{◌≡◌, ◌++◌, MatchResult, map, filter, zip};
+ghost use Rattle.std.specs.Prelude.{◌≡◌, ◌++◌, IfOk, MatchResult, map, filter, zip};
 ghost use Rattle.model.specs.declared.refusal.Refusal.TheVariants.{Memory};
 ghost use Rattle.realise.specs.Below.{AreCandidates};
 ghost use Rattle.realise.specs.Ordered.{source_label, marked_labels};
+ghost use Rattle.realise.specs.Recorded.{AreInPathOrder};
 
 use crate::below::records_below;
 use crate::label::Label;
@@ -44,7 +45,7 @@ fn push_marked(labels: &mut Vec<Label>, records: &[Record], marks: &[bool]) -> R
 }
 
 /// A label for each path that an output of a derivation may refer to, in the order of paths: the
-/// sources of the desk, and the records below the derivation.
+/// sources of the desk, and the records below the derivation. For each path there is one.
 ///
 /// # Errors
 ///
@@ -55,9 +56,10 @@ pub fn candidates(
     derivation: &Derivation,
     records: &[Record],
 ) -> Result<Vec<Label>, Refusal>
-    ensures { MatchResult result
+    ensures candidates { MatchResult result
         (λ labels. AreCandidates known.now derivation.now records.now labels.items)
         (λ e. e ≡ Memory) }
+    ensures in_order { IfOk result (λ labels. AreInPathOrder labels.items) }
 {
     let marks = records_below(alloc, known, derivation, records)?;
     let mut labels = source_labels(alloc, known.sources())?;

@@ -1,20 +1,22 @@
 //! What one user has.
 
-ghost use Rattle.std.specs.Prelude.{◌≡◌, ◌+◌, ◌<◌, ◌^◌, [], ◌∷◌, ◌++◌, None, false, map, vec_len, vec_capacity, MatchResult};
+ghost use Rattle.std.specs.Prelude.{◌≡◌, ◌+◌, ◌<◌, ◌≤◌, ◌^◌, [], ◌∷◌, ◌++◌, None, false, length, map, vec_len, vec_capacity, MatchResult};
 ghost use Rattle.std.specs.List.{list_any};
 ghost use Rattle.std.specs.Option.{option_copied};
 ghost use Rattle.model.specs.Classes.{known_at, is_one_of};
 ghost use Rattle.model.specs.Worlds.{pinned, unpinned};
-ghost use Rattle.realise.specs.Holdings.{same_recorded, records_of, paths_of, is_on, has_place, charged_more, holds_entry, holds_derivation, with_pins, IsClosed, IsClosedWith, IsClosedWithEntry};
+ghost use Rattle.realise.specs.Holdings.{same_recorded, records_of, paths_of, is_on, has_place, charged_more, holds_entry, holds_derivation, with_pins, IsClosed, IsClosedWith, IsClosedWithEntry, holds_all, charged_all, AreAbsent, AreCountable};
+ghost use Rattle.realise.specs.Charging.{IsSetOf};
 ghost use Rattle.model.specs.declared.refusal.Refusal.TheVariants.{Memory};
 
-use crate::entry::Entry;
-use crate::groups::put_in_group;
+use crate::charging::{charged_beyond, insert_paths, insert_record_paths};
+use crate::entry::{Entry, parted};
+use crate::groups::{grouped, put_in_group};
 use crate::limits::{MOST_RECORDS, MOST_SOURCES};
 use crate::pins::Pins;
 use crate::record::Record;
 use classes::{Admitted, Known};
-use indexmap::IndexMap;
+use indexmap::{IndexMap, IndexSet};
 use model::Refusal;
 use std::alloc::Global;
 use std::hash::RandomState;
@@ -86,6 +88,16 @@ fn push_reserved(records: &mut Vec<Record>, added: Record)
     ensures { records.new.items ≡ records.old.items ++ added ∷ [] }
 {
     records.push(added).unwrap();
+}
+
+/// Puts records for which there is room.
+fn push_all_reserved(records: &mut Vec<Record>, added: Vec<Record>)
+    requires room { vec_len records.old + length added.items ≤ vec_capacity records.old }
+    ensures { records.new.items ≡ records.old.items ++ added.items }
+{
+    for record in added {
+        records.push(record).unwrap();
+    }
 }
 
 impl Desk {
@@ -228,6 +240,59 @@ impl Desk {
             Entry::Source(path) => self.known.add_source(path)?,
             Entry::Record(record) => self.add_record(alloc, record)?,
         }
+        self.charge += more;
+        Ok(())
+    }
+
+    /// The paths that are held.
+    fn held(&self, alloc: Global) -> Result<IndexSet<StorePath, RandomState>, Refusal>
+        ensures { MatchResult result
+            (λ held. IsSetOf held.keys (paths_of self.now))
+            (λ e. e ≡ Memory) }
+    {
+        let mut held = IndexSet::with_hasher(alloc, *self.by_class.hasher());
+        insert_paths(&mut held, self.known.sources())?;
+        insert_record_paths(&mut held, self.records.as_slice())?;
+        Ok(held)
+    }
+
+    /// What is charged more for entries whose archives have so many bytes: each path once, and
+    /// nothing for one that is held.
+    ///
+    /// # Errors
+    ///
+    /// - `Memory` only where memory was refused.
+    pub fn charged_for_all(&self, alloc: Global, entries: &[(Entry, u64)]) -> Result<u64, Refusal>
+        requires { AreCountable entries.now }
+        ensures { MatchResult result
+            (λ more. more ≡ charged_all entries.now self.now)
+            (λ e. e ≡ Memory) }
+    {
+        let held = self.held(alloc)?;
+        charged_beyond(held, entries)
+    }
+
+    /// Adds entries that are not there yet, all or none, for which so many bytes are charged
+    /// together. What their labels name is on the desk or among them.
+    ///
+    /// # Errors
+    ///
+    /// - `Memory` only where memory was refused. Then nothing has changed.
+    pub fn add_all(&mut self, alloc: Global, entries: Vec<Entry>, more: u64) -> Result<(), Refusal>
+        requires absent { AreAbsent entries.items self.old }
+        requires fits { self.old.charge + more < 2 ^ 64 }
+        requires closed { IsClosed (holds_all entries.items more self.old) }
+        ensures { MatchResult result
+            (λ _. self.new ≡ holds_all entries.items more self.old)
+            (λ e. (e ≡ Memory) × (self.new ≡ self.old)) }
+    {
+        let (paths, records) = parted(alloc, entries)?;
+        let hashing = *self.by_class.hasher();
+        let groups = grouped(alloc, hashing, self.records.as_slice(), &records)?;
+        self.records.reserve(records.len())?;
+        self.known.add_sources(paths)?;
+        self.by_class = groups;
+        push_all_reserved(&mut self.records, records);
         self.charge += more;
         Ok(())
     }

@@ -1,7 +1,7 @@
 //! Records by their classes.
 
 ghost use Rattle.std.specs.Prelude.{◌≡◌, ◌++◌, ◌∷◌, [], MatchResult};
-ghost use Rattle.realise.specs.Indexed.{IsGrouped, HasSameGroups};
+ghost use Rattle.realise.specs.Indexed.{IsGrouped, HasSameGroups, IsIndexed, AddsRecords};
 ghost use Rattle.model.specs.declared.refusal.Refusal.TheVariants.{Memory};
 
 use crate::record::Record;
@@ -51,4 +51,38 @@ pub(crate) fn put_in_group(
     let group = group_of(alloc, one)?;
     let _none = groups.insert(key, group)?;
     Ok(())
+}
+
+/// Puts copies of records into the groups of their classes. The one error is memory.
+fn put_all_in_groups(
+    alloc: Global,
+    groups: &mut IndexMap<StorePath, Vec<Record>, RandomState>,
+    records: &[Record],
+) -> Result<(), Refusal>
+    ensures { MatchResult result
+        (λ _. AddsRecords groups.old.entries records.now groups.new.entries)
+        (λ e. e ≡ Memory) }
+{
+    for record in records {
+        put_in_group(alloc, groups, record.clone()?)?;
+    }
+    Ok(())
+}
+
+/// A table in which the records of each class are found, those from before first. The one error is
+/// memory.
+pub(crate) fn grouped(
+    alloc: Global,
+    hashing: RandomState,
+    before: &[Record],
+    added: &[Record],
+) -> Result<IndexMap<StorePath, Vec<Record>, RandomState>, Refusal>
+    ensures { MatchResult result
+        (λ groups. IsIndexed groups.entries (before.now ++ added.now))
+        (λ e. e ≡ Memory) }
+{
+    let mut groups = IndexMap::with_hasher(alloc, hashing);
+    put_all_in_groups(alloc, &mut groups, before)?;
+    put_all_in_groups(alloc, &mut groups, added)?;
+    Ok(groups)
 }

@@ -4,6 +4,7 @@
 
 mod below;
 mod candidate;
+mod charging;
 mod desk;
 mod entry;
 mod groups;

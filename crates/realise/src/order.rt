@@ -1,9 +1,10 @@
 //! Labels in the order of their paths.
 
-ghost use Rattle.std.specs.Prelude.{◌≡◌, MatchResult, option_copied};
+ghost use Rattle.std.specs.Prelude.{◌≡◌, IfOk, MatchResult, option_copied};
 ghost use Rattle.model.specs.References.{class_before, with_label, labels_in_order, labels_of};
 ghost use Rattle.model.specs.declared.refusal.Refusal.TheVariants.{Memory};
 ghost use Rattle.realise.specs.Ordered.{least_class, labels_at};
+ghost use Rattle.realise.specs.Recorded.{AreInPathOrder};
 
 use crate::label::Label;
 use classes::{Class, set_of};
@@ -75,9 +76,10 @@ fn labels_at(
 ///
 /// - `Memory` only where memory was refused.
 pub fn labels_in_order(alloc: Global, labels: Vec<Label>) -> Result<Vec<Label>, Refusal>
-    ensures { MatchResult result
+    ensures ordered { MatchResult result
         (λ ordered. ordered.items ≡ labels_in_order labels.items)
         (λ e. e ≡ Memory) }
+    ensures in_order { IfOk result (λ ordered. AreInPathOrder ordered.items) }
 {
     let mut labels = labels;
     let mut ordered = BTreeMap::new(alloc);
@@ -88,7 +90,7 @@ pub fn labels_in_order(alloc: Global, labels: Vec<Label>) -> Result<Vec<Label>, 
     labels_at(alloc, ordered)
 }
 
-/// The labels of these paths.
+/// The labels of these paths, in the order in which they were.
 ///
 /// # Errors
 ///
@@ -98,9 +100,10 @@ pub fn labels_of(
     paths: &[StorePath],
     labels: &[Label],
 ) -> Result<Vec<Label>, Refusal>
-    ensures { MatchResult result
+    ensures chosen { MatchResult result
         (λ chosen. chosen.items ≡ labels_of paths.now labels.now)
         (λ e. e ≡ Memory) }
+    ensures in_order { AreInPathOrder labels.now → IfOk result (λ chosen. AreInPathOrder chosen.items) }
 {
     let among = set_of(alloc, paths)?;
     let mut chosen = Vec::new(alloc);

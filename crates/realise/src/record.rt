@@ -1,7 +1,7 @@
 //! Records: what was built for a class.
 
 ghost use Rattle.std.specs.Prelude.{◌≡◌, MatchResult};
-ghost use Rattle.realise.specs.Recorded.{IsSame};
+ghost use Rattle.realise.specs.Recorded.{IsSame, AreInPathOrder};
 ghost use Rattle.model.specs.declared.refusal.Refusal.TheVariants.{Memory};
 
 use crate::label::Label;
@@ -23,20 +23,23 @@ pub struct Record {
 
 impl Model for Record {
     ghost use Rattle.std.specs.Arc.{arc_slice_items};
-    ghost use Rattle.realise.specs.Recorded.{Recorded};
+    ghost use Rattle.realise.specs.Recorded.{Recorded, AreInPathOrder};
 
     ghost Value = { Recorded };
 
     ghost view = { λ r. record { class = r.class; path = r.path; labels = arc_slice_items r.labels } };
+
+    ghost invariant = { λ r. AreInPathOrder (arc_slice_items r.labels) };
 }
 
 impl Record {
-    /// A record of its parts.
+    /// A record of its parts. The labels are in the order of paths, one for each.
     ///
     /// # Errors
     ///
     /// - `Memory` only where memory was refused.
     pub fn new(class: Class, path: StorePath, labels: Vec<Label>) -> Result<Record, Refusal>
+        requires in_order { AreInPathOrder labels.items }
         ensures { MatchResult result
             (λ made. made ≡ record { class = class; path = path; labels = labels.items })
             (λ e. e ≡ Memory) }
@@ -65,7 +68,8 @@ impl Record {
 
     /// A label for each other path that its tree refers to, in the order of paths.
     pub fn labels(&self) -> &[Label]
-        ensures { result.now ≡ self.now.labels }
+        ensures labels { result.now ≡ self.now.labels }
+        ensures in_order { AreInPathOrder self.now.labels }
     {
         self.labels.as_slice()
     }

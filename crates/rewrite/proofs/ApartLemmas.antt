@@ -9,17 +9,19 @@ use Rattle.std.proofs.lemmas.List.{ext_get_or, length-take, length-drop, get_or-
 use Rattle.std.proofs.lemmas.List.Folds.{list_any-append}
 use Rattle.std.proofs.lemmas.Slice.Eq.{bytes_eq-Decides}
 use Rattle.model.specs.Archives.{Tree, IsTree, nar, archive_string}
-use Rattle.model.specs.Paths.{path_text}
+use Rattle.sha2.specs.Sha256.{sha256}
+use Rattle.model.specs.Paths.{Output, path_text, is_name, fingerprint, short_digest, IsPath}
 use Rattle.model.specs.declared.refusal.RewriteFault.{RewriteFault}
 use Rattle.model.specs.declared.refusal.RewriteFault.TheVariants.{Accidental}
 use Rattle.model.specs.Occurrences.{Keys, AreKeys, IsHashPart, Place, among, places_in, Piece, Mark, Text, piece_text, pieces, places_of_pieces, occurrences, fault}
 use Rattle.model.specs.Substitutions.{Images, AreImages, image_of, keys_of, parts_of, is_replaced, imaged, put, same_place, is_true_put}
-use Rattle.model.specs.Settling.{Settled, hash_part_in, sought, settling, settled, settled_at, settled_path, unless}
+use Rattle.model.specs.Settling.{Settled, ShareNone, blanked_text, hash_part_in, sought, own_offsets_of, references_of, stands_in, settling, settled, settled_at, settled_path, unless}
 use Rattle.storepath.proofs.PathLemmas.{hash_part_of-path_text, length-base32}
 use Rattle.storepath.proofs.PathTests.{base32_passes}
+use Rattle.hashmod.proofs.FoldLemmas.{IsFolded-short_digest}
 use Rattle.hashmod.proofs.WriteLemmas.{length-written}
 use Rattle.scan.proofs.PlaceLemmas.{places_in-here, places_in-none_here, places_in-nil}
-use Rattle.rewrite.specs.Laws.{Uncovered, ShareNone, SettlingLeavesOthers}
+use Rattle.rewrite.specs.Laws.{Uncovered, SettlingLeavesOthers}
 use Rattle.rewrite.proofs.KeepLemmas.{others_stay}
 use Rattle.rewrite.proofs.PutLemmas.{nar-put}
 use Rattle.rewrite.proofs.PutTrees.{Inside-occurrences}
@@ -76,10 +78,10 @@ far_in_pieces some all within n m (Text role s ∷ ps) h =
 
 -- ---- the images of a settling
 
-among_one : (part w : List ℕ) → w ≡ part → among (part ∷ []) w ≡ true
+pub among_one : (part w : List ℕ) → w ≡ part → among (part ∷ []) w ≡ true
 among_one part w e = or_left (bytes_eq part w) false ((bytes_eq-Decides part w).1 (sym e))
 
-one_among : (part w : List ℕ) → among (part ∷ []) w ≡ true → bytes_eq part w ≡ true
+pub one_among : (part w : List ℕ) → among (part ∷ []) w ≡ true → bytes_eq part w ≡ true
 one_among part w is = elim (or_cases (bytes_eq part w) false is) [ inl same ↦ same | inr never ↦ absurd (false≢true never) ]
 
 kept_image : (candidates : List (List ℕ)) (w : List ℕ) → image_of (map (λ c. (hash_part_in c, hash_part_in c)) candidates) w ≡ w
@@ -111,7 +113,7 @@ are_kept (c ∷ cs) keys =
     let here = keys part (or_left (bytes_eq part part) (rest part) ((bytes_eq-Decides part part).1 refl)) in
     (here, here, are_kept cs (λ w there. keys w (or_right (bytes_eq part w) (rest w) there)))
 
-are_settling : (own : List ℕ) (candidates : List (List ℕ)) (path : List ℕ) → AreKeys (among (sought own candidates)) → IsHashPart (hash_part_in path)
+pub are_settling : (own : List ℕ) (candidates : List (List ℕ)) (path : List ℕ) → AreKeys (among (sought own candidates)) → IsHashPart (hash_part_in path)
     → AreImages (settling own candidates path)
 are_settling own candidates path keys is =
     let rest = among (map hash_part_in candidates) in
@@ -157,7 +159,7 @@ window_same xs ys n long same =
     let less : i < 32 = omega (arith, inside, length-take 32 (drop n xs)) in
     get_or-take 32 (drop n xs) i 0 less ∙ get_or-drop n xs i 0 ∙ same i less ∙ sym (get_or-drop n ys i 0) ∙ sym (get_or-take 32 (drop n ys) i 0 less))
 
-length-put : (images : Images) → AreImages images → (tree : Tree) → IsTree tree → fault (among (keys_of images)) tree ≡ None
+pub length-put : (images : Images) → AreImages images → (tree : Tree) → IsTree tree → fault (among (keys_of images)) tree ≡ None
     → length (nar (put images tree)) ≡ length (nar tree)
 length-put images are tree is none =
     let places = occurrences (among (keys_of images)) tree in
@@ -187,7 +189,7 @@ cond_ok : (b : Bool) (x s : Settled) → cond b (Ok x) (Err Accidental) ≡ Ok s
 cond_ok true x s e = (refl, cc)
 cond_ok false x s e = cc
 
-path_part : (folded name : List ℕ) → IsHashPart (hash_part_in (path_text folded name))
+pub path_part : (folded name : List ℕ) → IsHashPart (hash_part_in (path_text folded name))
 path_part folded name = subst IsHashPart (sym (hash_part_of-path_text folded name)) (record { length = length-base32 folded; digits = base32_passes folded })
 
 settled_part : (tree : Tree) (own : List ℕ) (candidates : List (List ℕ)) (name : List ℕ) (places : List Place)
@@ -195,7 +197,7 @@ settled_part : (tree : Tree) (own : List ℕ) (candidates : List (List ℕ)) (na
 unfolding settled_path
 settled_part tree own candidates name places = path_part _ name
 
-settled_parts : (tree : Tree) (own : List ℕ) (candidates : List (List ℕ)) (name : List ℕ) (s : Settled) → settled tree own candidates name ≡ Ok s
+pub settled_parts : (tree : Tree) (own : List ℕ) (candidates : List (List ℕ)) (name : List ℕ) (s : Settled) → settled tree own candidates name ≡ Ok s
     → (fault (among (sought own candidates)) tree ≡ None) × (is_true_put (settling own candidates s.path) tree ≡ true)
     × (put (settling own candidates s.path) tree ≡ s.tree) × IsHashPart (hash_part_in s.path)
 unfolding settled
@@ -211,6 +213,27 @@ settled_parts tree own candidates name s done =
       ap (λ p. put (settling own candidates p) tree) (sym same) ∙ ap (λ t. t.tree) made.1,
       subst (λ p. IsHashPart (hash_part_in p)) same (settled_part tree own candidates name places),
     )
+
+is_settled_path : (tree : Tree) (own : List ℕ) (candidates : List (List ℕ)) (name : List ℕ) (places : List Place) → is_name name ≡ true
+    → IsPath (settled_path tree own candidates name places)
+unfolding settled_path
+is_settled_path tree own candidates name places valid =
+    let digest = sha256 (blanked_text (own_offsets_of own places) (nar tree)) in
+    let text = fingerprint (Output (references_of candidates places) (stands_in places own)) digest name in
+    record { hash_part = short_digest text; name = name; folded = IsFolded-short_digest text; named = valid; is = refl }
+
+-- a settled tree has a path, where the name is valid
+pub path_of_settled : (tree : Tree) (own : List ℕ) (candidates : List (List ℕ)) (name : List ℕ) (s : Settled) → settled tree own candidates name ≡ Ok s
+    → is_name name ≡ true → IsPath s.path
+unfolding settled
+path_of_settled tree own candidates name s done valid =
+    let keys = among (sought own candidates) in
+    let places = occurrences keys tree in
+    let sound = unless_ok (fault keys tree) (settled_at tree own candidates name places) s done in
+    let path = settled_path tree own candidates name places in
+    let made = cond_ok (is_true_put (settling own candidates path) tree) _ s sound.1 in
+    let same : path ≡ s.path = ap (λ t. t.path) made.1 in
+    subst IsPath same (is_settled_path tree own candidates name places valid)
 
 pub settling_leaves_others : SettlingLeavesOthers
 settling_leaves_others tree own candidates name s is keys done n share =

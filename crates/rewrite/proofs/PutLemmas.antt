@@ -49,7 +49,7 @@ Found-append : (keys : Keys) (ps qs : List Place) → Found keys ps → Found ke
 Found-append keys [] qs h k = k
 Found-append keys (p ∷ ps) qs h k = (h.0, Found-append keys ps qs h.1 k)
 
-Found-places_in : (keys : Keys) (n : ℕ) (text : List ℕ) → Found keys (places_in keys n text)
+pub Found-places_in : (keys : Keys) (n : ℕ) (text : List ℕ) → Found keys (places_in keys n text)
 Found-places_in keys n [] = subst (Found keys) (sym (places_in-nil keys n)) tt
 Found-places_in keys n (b ∷ bs) =
     elim (cases_Bool (keys (take 32 (b ∷ bs)))) [

@@ -66,7 +66,7 @@ bytes_written images are n (p ∷ ps) text found h =
 -- ---- names and depths stay
 
 mutual
-  sound-put : (images : Images) (tree : Tree) → IsSound tree → IsSound (put images tree)
+  pub sound-put : (images : Images) (tree : Tree) → IsSound tree → IsSound (put images tree)
   sound-put images (File executable bytes) h = tt
   sound-put images (Link target) h = tt
   sound-put images (Directory entries) h = sound_entries-put images [] entries h
@@ -76,7 +76,7 @@ mutual
   sound_entries-put images last (Entry name tree others) h = (h.0, h.1, sound-put images tree h.2, sound_entries-put images name others h.3)
 
 mutual
-  depth-put : (images : Images) (tree : Tree) → depth_of (put images tree) ≡ depth_of tree
+  pub depth-put : (images : Images) (tree : Tree) → depth_of (put images tree) ≡ depth_of tree
   depth-put images (File executable bytes) = refl
   depth-put images (Link target) = refl
   depth-put images (Directory entries) = ap (λ d. 1 + d) (deepest-put images entries)

@@ -17,9 +17,10 @@ use Rattle.realise.specs.Recorded.{Recorded}
 use Rattle.realise.specs.declared.entry.Entry.{Entry}
 use Rattle.realise.specs.declared.entry.Entry.TheVariants as entry
 use Rattle.store.specs.Stored.{Extends}
-use Rattle.realise.specs.Holdings.{Holdings, with_tree, same_recorded, paths_of, entry_path, entry_with, is_on, holds_entry, has_place, charged_more, is_roomy}
+use Rattle.realise.specs.Holdings.{Holdings, with_tree, same_recorded, paths_of, entry_path, entry_with, is_on, holds_entry, has_place, charged_more, is_roomy, IsClosedWithEntry}
 use Rattle.schedule.specs.Sound.{sources_at, records_at, desk_of, IsSound}
 use Rattle.schedule.proofs.ChargeLemmas.{weight, AgreeAt, weight-between}
+use Rattle.schedule.proofs.ClosedLemmas.{stays_closed}
 use Rattle.schedule.proofs.DeskLemmas.{IsKnown, same_sources, same_records, sources_known, records_known, known_kept, held_found, held_known, held_paths, length-sources_at, length-records_at}
 
 -- ---- whether it is there
@@ -59,23 +60,23 @@ append_any (x ∷ xs) ys path h = elim (either (bytes_eq x path)) [
 ]
 
 -- what is charged with one entry more
-pub charge_of-entry : (trusted : List ℕ → Bool) (table : List Source) (limit : ℕ) (d : Holdings) (tree : Tree) (e : Entry) → IsSound table limit d
+pub charge_of-entry : (trusted : List ℕ → Bool) (table : List Source) (d : Holdings) (tree : Tree) (e : Entry) → d.charge ≡ charge_of (desk_of trusted table d)
     → IsThere table d (entry_path e) tree
     → charge_of (with_entry (entry_with tree e) (desk_of trusted table d)) ≡ d.charge + charged_more (entry_path e) (length (nar tree)) d
 unfolding charge_of
-charge_of-entry trusted table limit d tree (entry.Source path) sound there =
+charge_of-entry trusted table d tree (entry.Source path) charged there =
     let s : Source = record { path = path; tree = tree } in
     let front : List Source = sources_at table d.known.sources in
     let back : List Source = map tree_of_record (records_at table d.records) in
     let agree : AgreeAt s front = agree_at table d.known.sources path tree (λ h. there (append_any d.known.sources (map (λ r. r.path) d.records) path h)) in
     ap weight (append_assoc front (s ∷ []) back) ∙ weight-between front back s agree
-    ∙ rw (held_paths trusted table d, ← held_found table (paths_of d) path, ← held_paths trusted table d, ← sound.charged trusted) refl
-charge_of-entry trusted table limit d tree (entry.Record r) sound there =
+    ∙ rw (held_paths trusted table d, ← held_found table (paths_of d) path, ← held_paths trusted table d, ← charged) refl
+charge_of-entry trusted table d tree (entry.Record r) charged there =
     let s : Source = record { path = r.path; tree = tree } in
     let all : List Source = held (desk_of trusted table d) in
     let agree : AgreeAt s all = rw (held_paths trusted table d) (agree_at table (paths_of d) r.path tree there) in
     ap weight (records_more trusted table d r tree) ∙ weight-between all [] s agree
-    ∙ rw (append-nil all, ← sound.charged trusted) (rw (held_paths trusted table d, ← held_found table (paths_of d) r.path) refl)
+    ∙ rw (append-nil all, ← charged) (rw (held_paths trusted table d, ← held_found table (paths_of d) r.path) refl)
   where
     trees_more : (rs : List Record) (q : Record) → map tree_of_record (rs ++ q ∷ []) ≡ map tree_of_record rs ++ tree_of_record q ∷ []
     trees_more [] q = refl
@@ -107,7 +108,7 @@ is_within-entry users trusted table limit d tree (entry.Source path) sound there
     let count : length (sources_at table d.known.sources ++ s ∷ []) ≡ length d.known.sources + 1 = rw (length-append (sources_at table d.known.sources) (s ∷ []), length-sources_at table d.known.sources) refl in
     let derivations : nat_le (length d.known.derivations) most_derivations ≡ true = grind (arith, nat_tests, sound.few_derivations) in
     let records : nat_le (length (records_at table d.records)) most_records ≡ true = grind (arith, nat_tests, sound.few_records, length-records_at table d.records) in
-    let charge = charge_of-entry trusted table limit d tree (entry.Source path) sound there in
+    let charge = charge_of-entry trusted table d tree (entry.Source path) (sound.charged trusted) there in
     let pins : nat_le (length d.pins) most_pins ≡ true = grind (arith, nat_tests, sound.few_pins) in
     first_left (nat_le (length (sources_at table d.known.sources ++ s ∷ [])) most_sources) (nat_le (length d.known.derivations) most_derivations) (nat_le (length (records_at table d.records)) most_records) (nat_le (length d.pins) most_pins)
     (nat_le (charge_of (with_entry (entry_with tree (entry.Source path)) (desk_of trusted table d))) limit) derivations records pins
@@ -117,7 +118,7 @@ is_within-entry users trusted table limit d tree (entry.Record r) sound there =
     let count : length (records_at table d.records ++ q ∷ []) ≡ length d.records + 1 = rw (length-append (records_at table d.records) (q ∷ []), length-records_at table d.records) refl in
     let sources : nat_le (length (sources_at table d.known.sources)) most_sources ≡ true = grind (arith, nat_tests, sound.few_sources, length-sources_at table d.known.sources) in
     let derivations : nat_le (length d.known.derivations) most_derivations ≡ true = grind (arith, nat_tests, sound.few_derivations) in
-    let charge = charge_of-entry trusted table limit d tree (entry.Record r) sound there in
+    let charge = charge_of-entry trusted table d tree (entry.Record r) (sound.charged trusted) there in
     let pins : nat_le (length d.pins) most_pins ≡ true = grind (arith, nat_tests, sound.few_pins) in
     third_left (nat_le (length (sources_at table d.known.sources)) most_sources) (nat_le (length d.known.derivations) most_derivations) (nat_le (length (records_at table d.records ++ q ∷ [])) most_records) (nat_le (length d.pins) most_pins)
     (nat_le (charge_of (with_entry (entry_with tree (entry.Record r)) (desk_of trusted table d))) limit) sources derivations pins
@@ -125,17 +126,17 @@ is_within-entry users trusted table limit d tree (entry.Record r) sound there =
 
 -- ---- the desk with it
 
-sources_at-push : (table : List Source) (paths : List (List ℕ)) (path : List ℕ) (tree : Tree) → tree_at path table ≡ Some tree → sources_at table (paths ++ path ∷ []) ≡ sources_at table paths ++ record { path = path; tree = tree } ∷ []
+pub sources_at-push : (table : List Source) (paths : List (List ℕ)) (path : List ℕ) (tree : Tree) → tree_at path table ≡ Some tree → sources_at table (paths ++ path ∷ []) ≡ sources_at table paths ++ record { path = path; tree = tree } ∷ []
 sources_at-push table [] path tree e = rw e refl
 sources_at-push table (p ∷ paths) path tree e = rw (sources_at-push table paths path tree e) refl
 
-records_at-push : (table : List Source) (records : List Recorded) (r : Recorded) (tree : Tree) → tree_at r.path table ≡ Some tree
+pub records_at-push : (table : List Source) (records : List Recorded) (r : Recorded) (tree : Tree) → tree_at r.path table ≡ Some tree
     → records_at table (records ++ r ∷ []) ≡ records_at table records ++ with_tree tree r ∷ []
 records_at-push table [] r tree e = rw e refl
 records_at-push table (q ∷ records) r tree e = rw (records_at-push table records r tree e) refl
 
 -- a desk of these parts
-desk_with : (List ℕ → Bool) → Holdings → List Source → List Record → Desk
+pub desk_with : (List ℕ → Bool) → Holdings → List Source → List Record → Desk
 desk_with trusted d sources records = record { trusted = trusted; sources = sources; derivations = d.known.derivations; records = records; pins = d.pins }
 
 pub desk_of-entry : (trusted : List ℕ → Bool) (old new : List Source) (limit : ℕ) (d : Holdings) (tree : Tree) (e : Entry) (more : ℕ) → Extends old new → IsSound old limit d
@@ -161,7 +162,7 @@ known_between table [] ys path all one = All-cons (IsKnown table) path ys one al
 known_between table (x ∷ xs) ys path all one =
     All-cons (IsKnown table) x (xs ++ path ∷ ys) (All-head (IsKnown table) x (xs ++ ys) all) (known_between table xs ys path (All-tail (IsKnown table) x (xs ++ ys) all) one)
 
-known-entry : (table : List Source) (d : Holdings) (e : Entry) (more : ℕ) → All (IsKnown table) (paths_of d) → IsKnown table (entry_path e)
+pub known-entry : (table : List Source) (d : Holdings) (e : Entry) (more : ℕ) → All (IsKnown table) (paths_of d) → IsKnown table (entry_path e)
     → All (IsKnown table) (paths_of (holds_entry e more d))
 known-entry table d (entry.Source path) more all one =
     let back : List (List ℕ) = map (λ r. r.path) d.records in
@@ -187,26 +188,27 @@ pins_stay : (e : Entry) (more : ℕ) (d : Holdings) → (holds_entry e more d).p
 pins_stay (entry.Source path) more d = refl
 pins_stay (entry.Record r) more d = refl
 
-charge_is : (e : Entry) (more : ℕ) (d : Holdings) → (holds_entry e more d).charge ≡ d.charge + more
+pub charge_is : (e : Entry) (more : ℕ) (d : Holdings) → (holds_entry e more d).charge ≡ d.charge + more
 charge_is (entry.Source path) more d = refl
 charge_is (entry.Record r) more d = refl
 
 pub sound-entry : (old new : List Source) (limit : ℕ) (d : Holdings) (tree : Tree) (e : Entry) → Extends old new → IsSound old limit d
     → IsThere old d (entry_path e) tree → tree_at (entry_path e) new ≡ Some tree
-    → is_roomy e (charged_more (entry_path e) (length (nar tree)) d) limit d ≡ true
+    → is_roomy e (charged_more (entry_path e) (length (nar tree)) d) limit d ≡ true → IsClosedWithEntry d e
     → IsSound new limit (holds_entry e (charged_more (entry_path e) (length (nar tree)) d) d)
-sound-entry old new limit d tree e later sound there stored roomy =
+sound-entry old new limit d tree e later sound there stored roomy closed =
     let more : ℕ = charged_more (entry_path e) (length (nar tree)) d in
     let parts = both_parts (has_place e d) (nat_le (d.charge + more) limit) roomy in
     let few = place_left e more d sound.few_sources sound.few_records parts.0 in
     record {
-      charged = λ trusted. charge_is e more d ∙ sym (charge_of-entry trusted old limit d tree e sound there) ∙ ap charge_of (sym (desk_of-entry trusted old new limit d tree e more later sound stored));
+      charged = λ trusted. charge_is e more d ∙ sym (charge_of-entry trusted old d tree e (sound.charged trusted) there) ∙ ap charge_of (sym (desk_of-entry trusted old new limit d tree e more later sound stored));
       within = (let fits : d.charge + more ≤ limit = grind (arith, nat_tests, parts.1) in rw (charge_is e more d) fits);
       few_sources = few.0;
       few_derivations = rw (derivations_stay e more d) sound.few_derivations;
       few_records = few.1;
       few_pins = rw (pins_stay e more d) sound.few_pins;
       known = known-entry new d e more (known_kept old new later (paths_of d) sound.known) (rw stored refl);
+      closed = stays_closed d e more sound.closed closed;
     }
 
 -- ---- adding it

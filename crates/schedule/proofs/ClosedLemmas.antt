@@ -1,17 +1,20 @@
--- All that an output may refer to is on its desk.
-use Rattle.std.proofs.Common.{◌≡◌, ℕ, Bool, true, false, List, [], ◌∷◌, ◌++◌, ap}
+-- What the labels on a desk name is on it: also with an output that is offered, and with one entry more.
+use Rattle.std.proofs.Common.{◌≡◌, ℕ, Bool, true, false, List, [], ◌∷◌, ◌++◌, ◌∙◌, ap, Option, Some, None}
 use Rattle.std.specs.Prelude.{All, map, bytes_eq, if◌then◌else◌}
 use Rattle.std.specs.List.{list_any}
-use Rattle.std.proofs.lemmas.List.Elements.{All-nil, All-cons, All-head, All-tail, All-weaker, All-map, All-append, All-filter}
+use Rattle.std.proofs.lemmas.List.Elements.{All-nil, All-cons, All-head, All-tail, All-weaker, All-map, All-append, All-filter, All-push}
+use Rattle.std.proofs.lemmas.List.Folds.{list_any-append}
 use Rattle.model.specs.Archives.{bytes_before}
 use Rattle.model.specs.Derivations.{Derivation}
-use Rattle.model.specs.Classes.{Admission, is_one_of}
+use Rattle.model.specs.Classes.{Class, Admission, is_one_of}
 use Rattle.model.specs.Settling.{Settled}
 use Rattle.model.specs.Worlds.{Source, Label, Record, Desk}
 use Rattle.model.specs.References.{class_before, least_label, with_label, labels_in_order, labels_of, label_of_source, label_of_record, records_below, candidates}
 use Rattle.model.proofs.BoolLemmas.{or_left, or_right, both, bytes_same}
 use Rattle.realise.specs.Recorded.{Recorded}
-use Rattle.realise.specs.Holdings.{Holdings, is_at, has_labelled, IsClosedWith}
+use Rattle.realise.specs.declared.entry.Entry.{Entry}
+use Rattle.realise.specs.declared.entry.Entry.TheVariants as entry
+use Rattle.realise.specs.Holdings.{Holdings, is_at, has_labelled, holds_entry, IsClosedWith, IsClosedWithEntry, IsClosed}
 use Rattle.choose.specs.Visible.{source_at, record_at}
 use Rattle.schedule.specs.Sound.{desk_of}
 use Rattle.schedule.specs.Offering.{AreLabels, IsRecordOf}
@@ -79,3 +82,30 @@ pub output_closed : (d : Holdings) (a : Admission) (labels : List Label) (s : Se
 output_closed d a labels s r are is =
     let own : r.labels ≡ labels_of s.references labels = ap (λ (q : Record). q.labels) is in
     rw own (All-filter (λ l. is_one_of s.references l.path) (IsLabelled d) labels (labels_on d a.derivation labels are))
+
+-- ---- one entry more
+
+-- what is among a list is among a longer one
+among_more : {X : Type 0} (p : X → Bool) (xs ys : List X) → list_any p xs ≡ true → list_any p (xs ++ ys) ≡ true
+among_more p xs ys h = list_any-append p xs ys ∙ or_left (list_any p xs) (list_any p ys) h
+
+-- what a desk has it has with one entry more
+pub still_labelled : (d : Holdings) (e : Entry) (more : ℕ) (path : List ℕ) (class : Option Class) → has_labelled d path class ≡ true
+    → has_labelled (holds_entry e more d) path class ≡ true
+still_labelled d (entry.Source added) more path None h = among_more (λ p. bytes_eq p path) d.known.sources (added ∷ []) h
+still_labelled d (entry.Source added) more path (Some class) h = h
+still_labelled d (entry.Record r) more path None h = h
+still_labelled d (entry.Record r) more path (Some class) h = among_more (is_at path class) d.records (r ∷ []) h
+
+still_closed : (d : Holdings) (e : Entry) (more : ℕ) (r : Recorded) → IsClosedWith d r → IsClosedWith (holds_entry e more d) r
+still_closed d e more r closed =
+    All-weaker (IsLabelled d) (IsLabelled (holds_entry e more d)) (λ l h. still_labelled d e more l.path l.class h) r.labels closed
+
+-- a desk stays closed with one entry more, if what its labels name is there
+pub stays_closed : (d : Holdings) (e : Entry) (more : ℕ) → IsClosed d → IsClosedWithEntry d e → IsClosed (holds_entry e more d)
+stays_closed d (entry.Source path) more closed own =
+    All-weaker (IsClosedWith d) (IsClosedWith (holds_entry (entry.Source path) more d)) (λ r h. still_closed d (entry.Source path) more r h) d.records closed
+stays_closed d (entry.Record r) more closed own =
+    let now : Holdings = holds_entry (entry.Record r) more d in
+    All-push (IsClosedWith now) d.records r (All-weaker (IsClosedWith d) (IsClosedWith now) (λ q h. still_closed d (entry.Record r) more q h) d.records closed)
+    (still_closed d (entry.Record r) more r own)

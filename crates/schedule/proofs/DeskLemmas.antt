@@ -12,7 +12,7 @@ use Rattle.model.specs.Worlds.{Source, tree_at, tree_of_record, held, held_at, o
 use Rattle.model.proofs.BoolLemmas.{either, same_bytes}
 use Rattle.realise.specs.Recorded.{Recorded, without_tree}
 use Rattle.store.specs.Stored.{Extends}
-use Rattle.realise.specs.Holdings.{Holdings, paths_of, holds_derivation}
+use Rattle.realise.specs.Holdings.{Holdings, paths_of, holds_derivation, IsClosedWith}
 use Rattle.choose.specs.Visible.{source_at}
 use Rattle.schedule.specs.Sound.{sources_at, records_at, desk_of, IsSound, IsEmpty}
 
@@ -71,6 +71,7 @@ sound_kept old new limit d later sound = record {
   few_records = sound.few_records;
   few_pins = sound.few_pins;
   known = known_kept old new later (paths_of d) sound.known;
+  closed = sound.closed;
 }
 
 -- ---- what is held
@@ -89,7 +90,7 @@ not_held table (p ∷ paths) path h = elim (either (bytes_eq p path)) [
   | inr f ↦ rw f (not_held table paths path (rw f at h))
 ]
 
-some_of : (o : Option Tree) (d : Tree) → is_some o ≡ true → Some (unwrap_or o d) ≡ o
+pub some_of : (o : Option Tree) (d : Tree) → is_some o ≡ true → Some (unwrap_or o d) ≡ o
 some_of None d h = cc
 some_of (Some t) d h = refl
 
@@ -183,6 +184,7 @@ sound-derivation table limit d a sound few = record {
   few_records = sound.few_records;
   few_pins = sound.few_pins;
   known = sound.known;
+  closed = sound.closed;
 }
 
 -- whether a desk with one derivation more is within its limits
@@ -209,4 +211,5 @@ empty_sound table limit d e = record {
   few_records = rw e.records (omega arith);
   few_pins = rw e.pins (omega arith);
   known = rw (e.known, e.records) (All-nil (IsKnown table));
+  closed = subst (All (IsClosedWith d)) (sym e.records) (All-nil (IsClosedWith d));
 }

@@ -1,5 +1,5 @@
 -- What is said of one desk holds of the world.
-use Rattle.std.proofs.Common.{◌≡◌, ℕ, ◌<◌, get_or, Bool, true, false, List, length, length-set, refl, sym, ◌∙◌, ap, subst, rules, Some, None, Result, Ok, Err}
+use Rattle.std.proofs.Common.{◌≡◌, ℕ, ◌<◌, get_or, Bool, true, false, List, [], ◌∷◌, length, length-set, refl, sym, ◌∙◌, ap, subst, rules, Some, None, Result, Ok, Err}
 use Rattle.std.specs.Prelude.{All, Contains, OnOk, OnErr, IfOk, IfErr, bytes_eq, slice_get, slice_set, position, nat_le}
 use Rattle.std.proofs.lemmas.Result.{on_err_weaker, on_ok_weaker}
 use Rattle.std.proofs.lemmas.Option.{slice_get_within, slice_get-get_or, get_or_from_slice_get}
@@ -13,7 +13,7 @@ use Rattle.model.specs.DerivationTexts.{derivation_of_text}
 use Rattle.model.specs.Limits.{most_derivation_bytes}
 use Rattle.model.specs.Worlds.{Source, Setup, Desk, World, held_at}
 use Rattle.model.specs.Events.{Request, AddSource, AddDerivation, Fetch, Event, Content}
-use Rattle.model.specs.Outcomes.{Sight, becomes, add_entry}
+use Rattle.model.specs.Outcomes.{Sight, sight_of, becomes, add_entry}
 use Rattle.model.specs.HashedTexts.{texts_of}
 use Rattle.model.specs.SourceRequests.{fetch}
 use Rattle.model.specs.Replies.{is_clash_refusal, is_refused}
@@ -24,34 +24,35 @@ use Rattle.realise.specs.declared.entry.Entry.TheVariants as entry
 use Rattle.trust.specs.Naming.{trusted_at, IsWithin}
 use Rattle.store.specs.Stored.{IsAdded, IsTaken}
 use Rattle.realise.specs.Holdings.{Holdings, entry_path, entry_with}
-use Rattle.schedule.specs.Stored.{stored_by, put_any}
+use Rattle.schedule.specs.Stored.{stored_by}
 use Rattle.schedule.specs.Sound.{desk_of, IsSound, IsHashed}
 use Rattle.schedule.specs.Standing.{reply_of, Parts, parts, world_in, desk_among}
-use Rattle.schedule.specs.Handling.{Fits, Serves, ServesAtOnce, IsKept, IsHandledTrusting, IsHandledAtDesk, AddsEntry, AddsDerivation, IsHandled}
+use Rattle.schedule.specs.Given.{HasSoundPlan}
+use Rattle.schedule.specs.Handling.{Fits, Serves, ServesAtOnce, Stores, IsKept, IsHandledIn, IsHandledTrusting, IsHandledAtDesk, AddsEntry, AddsDerivation, IsHandled}
 use Rattle.schedule.proofs.DeskLemmas.{sound_kept}
 use Rattle.schedule.proofs.DerivationLemmas.{derivation_read}
-use Rattle.store.proofs.TableLemmas.{put_once-Extends, put_once-All}
+use Rattle.store.proofs.TableLemmas.{put_once-Extends, put_once-All, found_holds}
 use Rattle.schedule.proofs.WorldLemmas.{IsPlace, place_found, place_below, place_is_among, no_place, desk_found}
 use Rattle.schedule.proofs.StepLemmas.{either_way, on_ok_any, kept_sound, kept_later, kept_desk, source_hashed, source_at_once, derivation_at_once, fetch_at_once, step_unknown, step_at_once, told_result, refused_result, world_kept}
 
 -- ---- all events
 
--- a handler of one desk handles its event
-pub at_desk : (users : List (List ℕ)) (limit : ℕ) (trust : ℕ → ℕ → Bool) (old new : List Source) (desks : List Holdings) (e : Event) (i : ℕ)
+-- what is promised of a user in one world is promised of all parts
+pub in_world : (users : List (List ℕ)) (limit : ℕ) (trust : ℕ → ℕ → Bool) (old new : List Source) (desks : List Holdings) (e : Event) (i : ℕ)
     (before now : Holdings) (result : Result Rust.Reply Refusal)
     → All (IsSound old limit) desks → IsWithin (length users) trust → position (λ n. bytes_eq n e.actor) users ≡ Some i → slice_get desks i ≡ Some before
-    → IsHandledAtDesk limit old before e.request result new now
+    → IsHandledIn (record { users = users; charge = limit }) (desk_among (trusted_at users trust) old users desks) e.actor (trusted_at users trust i)
+    old before e.request result new now
     → IsHandled (parts users limit trust old desks) e result (parts users limit trust new (slice_set desks i now))
-at_desk users limit trust old new desks e i before now result sound within found here by_desk =
+in_world users limit trust old new desks e i before now result sound within found here handled =
     let setup : Setup = record { users = users; charge = limit } in
     let place : IsPlace users e.actor i = place_found users e.actor i found in
     let trusted : ℕ → List ℕ → Bool = trusted_at users trust in
-    let handled : IsHandledTrusting (trusted i) limit old before e.request result new now = by_desk (trusted i) in
-    let his : desk_among trusted old users desks e.actor ≡ desk_of (trusted i) old before = desk_found trusted old users desks e.actor i before place here in
+    let w : World = desk_among trusted old users desks in
     record {
-      told = told_result trusted setup old new limit desks e i before now result handled.grows sound place here (handled.serves users) handled.answered;
-      refused = refused_result trusted setup old desks e i before (desk_of (trusted i) new now) result place here (handled.serves users);
-      at_once = step_at_once trusted setup old desks e i before result place here handled.at_once;
+      told = told_result trusted setup old new limit desks e i before now result handled.grows sound place here handled.serves handled.answered;
+      refused = refused_result setup w e i (desk_of (trusted i) new now) result place handled.serves;
+      at_once = step_at_once setup w e i result place handled.at_once;
       kept = on_err_weaker result (λ kept. record {
         world = world_kept trusted users old new limit desks e.actor i before now handled.grows sound place here
             (kept_desk (trusted i) old new before now kept);
@@ -63,13 +64,24 @@ at_desk users limit trust old new desks e i before now result sound within found
       sound = All-set (IsSound new limit) desks i now handled.sound
           (All-weaker (IsSound old limit) (IsSound new limit) (λ d s. sound_kept old new limit d handled.grows s) desks sound);
       grows = handled.grows;
-      hashed = λ texts hashed inside.
-          handled.hashed texts setup (desk_among trusted old users desks) e.actor his hashed (rw (place_is_among users e.actor i place) at inside);
-      taken = λ clash. rw his (handled.taken clash);
-      clashes = λ clash texts inside.
-          handled.clashes clash texts setup (desk_among trusted old users desks) e.actor his (rw (place_is_among users e.actor i place) at inside);
-      stored = rw his handled.stored;
+      hashed = λ texts hashed inside. handled.hashed texts hashed (rw (place_is_among users e.actor i place) at inside);
+      taken = handled.taken;
+      clashes = λ clash texts hashed inside. handled.clashes clash texts hashed (rw (place_is_among users e.actor i place) at inside);
+      stored = handled.stored;
+      given = handled.given;
     }
+
+-- a handler of one desk handles its event
+pub at_desk : (users : List (List ℕ)) (limit : ℕ) (trust : ℕ → ℕ → Bool) (old new : List Source) (desks : List Holdings) (e : Event) (i : ℕ)
+    (before now : Holdings) (result : Result Rust.Reply Refusal)
+    → All (IsSound old limit) desks → IsWithin (length users) trust → position (λ n. bytes_eq n e.actor) users ≡ Some i → slice_get desks i ≡ Some before
+    → IsHandledAtDesk limit old before e.request result new now
+    → IsHandled (parts users limit trust old desks) e result (parts users limit trust new (slice_set desks i now))
+at_desk users limit trust old new desks e i before now result sound within found here by_desk =
+    let trusted : ℕ → List ℕ → Bool = trusted_at users trust in
+    let w : World = desk_among trusted old users desks in
+    in_world users limit trust old new desks e i before now result sound within found here
+    (by_desk (trusted i) users w e.actor (desk_found trusted old users desks e.actor i before (place_found users e.actor i found) here))
 
 -- the place of a user has a desk
 pub place_there : (users : List (List ℕ)) (desks : List Holdings) (u : List ℕ) (i : ℕ) (d : Holdings) → length desks ≡ length users
@@ -99,6 +111,7 @@ all_left old e why sound within is no_clash = record {
   taken = λ clash. (let same : why ≡ Clash = cc in let no = rw same at no_clash in cc);
   clashes = λ clash. (let same : why ≡ Clash = cc in let no = rw same at no_clash in cc);
   stored = search rules;
+  given = search rules;
 }
 
 -- a stranger is refused
@@ -112,29 +125,30 @@ stranger users limit trust table desks e sound within none =
 
 -- ---- events of one desk
 
-is_left : (table : List Source) (desk : Holdings) (result : Result Rust.Reply Refusal) → OnErr result (IsKept table table desk desk)
+pub is_left : (table : List Source) (desk : Holdings) (result : Result Rust.Reply Refusal) → OnErr result (IsKept table table desk desk)
 is_left table desk (Ok r) = search rules
 is_left table desk (Err why) = record { sources = refl; desk = refl }
 
 -- what is left as it was, by a request that is refused at a desk
 pub left : (trusted : List ℕ → Bool) (limit : ℕ) (table : List Source) (desk : Holdings) (request : Request) (result : Result Rust.Reply Refusal)
-    → IsSound table limit desk
+    → IsSound table limit desk → ((setup : Setup) (w : World) (u : List ℕ) → HasSoundPlan setup w u request)
     → ((users : List (List ℕ)) → Serves (record { users = users; charge = limit }) (desk_of trusted table desk) request (desk_of trusted table desk) result)
     → ServesAtOnce (desk_of trusted table desk) request result → IfOk result (λ r. is_refused (reply_of r) ≡ false)
     → IfErr result (λ why. is_clash_refusal why ≡ false)
-    → OnOk result (table ≡ put_any (stored_by (desk_of trusted table desk) request) table)
+    → OnOk result (Stores table (desk_of trusted table desk) request table)
     → IsHandledTrusting trusted limit table desk request result table desk
-left trusted limit table desk request result sound serves at_once answered no_clash stored = record {
-  serves = serves;
+left trusted limit table desk request result sound plans serves at_once answered no_clash stored users w u here = record {
+  serves = serves users (sight_of (record { users = users; charge = limit }) w u) here;
   answered = answered;
-  at_once = at_once;
+  at_once = at_once (record { users = users; charge = limit }) (sight_of (record { users = users; charge = limit }) w u) here;
   kept = is_left table desk result;
   sound = sound;
   grows = λ path there. refl;
-  hashed = λ texts setup w u here hashed inside. hashed;
+  hashed = λ texts hashed inside. hashed;
   taken = λ clash. (let no = rw clash at no_clash in cc);
   clashes = λ clash. (let no = rw clash at no_clash in cc);
-  stored = stored;
+  stored = on_ok_weaker result (λ stores. stores (record { users = users; charge = limit }) w u here) stored;
+  given = on_ok_any result _ (plans (record { users = users; charge = limit }) w u);
 }
 
 -- an entry is added with its tree
@@ -144,28 +158,39 @@ pub entry_handled : (trusted : List ℕ → Bool) (limit : ℕ) (old new : List 
     IsSound old limit before
     → ((setup : Setup) (sight : Sight) → sight.desk ≡ desk_of trusted old before → outcome setup sight request ≡ add_entry setup (desk_of trusted old before) (entry_with tree entry))
     → ServesAtOnce (desk_of trusted old before) request result
-    → stored_by (desk_of trusted old before) request ≡ Some s
+    → ((setup : Setup) (w : World) (u : List ℕ) → w u ≡ desk_of trusted old before → stored_by setup w u request ≡ s ∷ [])
+    → ((setup : Setup) (w : World) (u : List ℕ) → HasSoundPlan setup w u request)
     → ((texts : List (List ℕ)) (setup : Setup) (w : World) (u : List ℕ) → w u ≡ desk_of trusted old before → All (Contains texts) (texts_of setup w u request) → IsHashed texts s)
     → AddsEntry limit old before entry tree result new now → IfOk result (λ r. is_refused (reply_of r) ≡ false)
     → OnOk result (IsAdded (entry_path entry) tree old new) → OnOk result (IsSound new limit now) → OnErr result (IsKept old new before now)
     → (result ≡ Err Clash → IsTaken old (entry_path entry) tree)
     → IsHandledTrusting trusted limit old before request result new now
-entry_handled trusted limit old new before now request entry tree result sound asks at_once stores hashes adds answered stored sound_now kept taken =
+entry_handled trusted limit old new before now request entry tree result sound asks at_once stores plans hashes adds answered stored sound_now kept taken users w u here =
     let s : Source = record { path = entry_path entry; tree = tree } in
+    let setup : Setup = record { users = users; charge = limit } in
     record {
-      serves = λ users sight same. rw (asks (record { users = users; charge = limit }) sight same) (adds users trusted);
+      serves = rw (asks setup (sight_of setup w u) here) (adds users trusted);
       answered = answered;
-      at_once = at_once;
+      at_once = at_once setup (sight_of setup w u) here;
       kept = kept;
       sound = either_way result (IsSound new limit now) sound_now (on_err_weaker result (kept_sound old new before now limit sound) kept);
       grows = either_way result _ (on_ok_weaker result (λ more. rw more (put_once-Extends s old)) stored)
           (on_err_weaker result (kept_later old new before now) kept);
-      hashed = λ texts setup w u here hashed inside.
+      hashed = λ texts hashed inside.
           either_way result _ (on_ok_weaker result (λ more. rw more (put_once-All (IsHashed texts) s old hashed (hashes texts setup w u here inside))) stored)
           (on_err_weaker result (λ k. rw k.sources hashed) kept);
-      taken = λ clash. record { source = s; stores = stores; taken = taken clash };
-      clashes = λ clash texts setup w u here inside. record { source = s; hashed = hashes texts setup w u here inside; taken = taken clash };
-      stored = rw stores stored;
+      taken = λ clash. record { before = []; source = s; behind = []; parts = stores setup w u here; taken = taken clash };
+      clashes = λ clash texts hashed inside.
+          let had = taken clash in record {
+            one = record { path = s.path; tree = had.had };
+            other = s;
+            one_hashed = found_holds (IsHashed texts) old s.path had.had hashed had.there;
+            other_hashed = hashes texts setup w u here inside;
+            one_path = refl;
+            two_trees = had.other;
+          };
+      stored = on_ok_weaker result (λ more. rw (stores setup w u here) more) stored;
+      given = on_ok_any result _ (plans setup w u);
     }
 
 -- a source is added
@@ -180,7 +205,7 @@ pub source_handled : (trusted : List ℕ → Bool) (limit : ℕ) (old new : List
 unfolding outcome
 source_handled trusted limit old new before now name tree path result sound is whole =
     entry_handled trusted limit old new before now (AddSource name tree) (entry.Source path) tree result sound
-    (λ setup sight same. rw (same, is) refl) (source_at_once (desk_of trusted old before) name tree result) (rw is refl)
+    (λ setup sight same. rw (same, is) refl) (source_at_once (desk_of trusted old before) name tree result) (λ setup w u here. rw is refl) (λ setup w u. tt)
     (λ texts setup w u here inside. rw is (source_hashed texts name tree whole inside))
 
 fetch_fits : (setup : Setup) (d : Desk) (path : List ℕ) (tree : Tree) (result : Result Rust.Reply Refusal) → held_at path d ≡ Some tree
@@ -205,10 +230,10 @@ pub fetch_handled : (trusted : List ℕ → Bool) (limit : ℕ) (table : List So
     → IsHandledTrusting trusted limit table desk (Fetch path) result table desk
 unfolding outcome
 fetch_handled trusted limit table desk path tree result sound there content memory =
-    left trusted limit table desk (Fetch path) result sound
+    left trusted limit table desk (Fetch path) result sound (λ setup w u. tt)
     (λ users sight same. rw same (fetch_fits (record { users = users; charge = limit }) (desk_of trusted table desk) path tree result there content memory))
     (fetch_at_once (desk_of trusted table desk) path result (λ none. let no = sym there ∙ none in cc)) (fetch_answered tree result content)
-    (no_clash_of_memory result memory) (on_ok_any result (table ≡ table) refl)
+    (no_clash_of_memory result memory) (on_ok_any result (Stores table (desk_of trusted table desk) (Fetch path) table) (λ setup w u here. refl))
 
 -- a text is read as a derivation, which is added
 pub derivation_handled : (trusted : List ℕ → Bool) (limit : ℕ) (table : List Source) (before now : Holdings) (text : List ℕ) (derivation : Derivation)
@@ -219,15 +244,17 @@ pub derivation_handled : (trusted : List ℕ → Bool) (limit : ℕ) (table : Li
     → IfErr result (λ why. is_clash_refusal why ≡ false)
     → IsHandledTrusting trusted limit table before (AddDerivation text) result table now
 unfolding outcome
-derivation_handled trusted limit table before now text derivation result within read adds answered sound kept no_clash = record {
-  serves = λ users sight same. rw (same, derivation_read users trusted table limit before text derivation within read) (adds users trusted);
+derivation_handled trusted limit table before now text derivation result within read adds answered sound kept no_clash users w u here = record {
+  serves = rw (here, derivation_read users trusted table limit before text derivation within read) (adds users trusted);
   answered = answered;
-  at_once = derivation_at_once (desk_of trusted table before) text result (λ large. let no : true ≡ false = sym within ∙ large in cc);
+  at_once = derivation_at_once (desk_of trusted table before) text result (λ large. let no : true ≡ false = sym within ∙ large in cc)
+      (record { users = users; charge = limit }) (sight_of (record { users = users; charge = limit }) w u) here;
   kept = on_err_weaker result (λ same. record { sources = refl; desk = same }) kept;
   sound = sound;
   grows = λ path there. refl;
-  hashed = λ texts setup w u here hashed inside. hashed;
+  hashed = λ texts hashed inside. hashed;
   taken = λ clash. (let no = rw clash at no_clash in cc);
   clashes = λ clash. (let no = rw clash at no_clash in cc);
-  stored = on_ok_any result (table ≡ table) refl;
+  stored = on_ok_any result _ refl;
+  given = on_ok_any result _ tt;
 }

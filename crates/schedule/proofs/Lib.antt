@@ -3,11 +3,16 @@ pub mod DeskLemmas
 pub mod AddingLemmas
 pub mod DerivationLemmas
 pub mod WorldLemmas
+pub mod ApartLemmas
+pub mod GoodLemmas
 pub mod StepLemmas
 pub mod HandlingLemmas
 pub mod TrustLemmas
 pub mod ViewLemmas
 pub mod ClosureLemmas
+pub mod PuttingLemmas
+pub mod CopyLemmas
+pub mod TakeLemmas
 pub mod ClosedLemmas
 pub mod PinLemmas
 pub mod OfferLemmas

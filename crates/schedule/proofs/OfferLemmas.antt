@@ -12,8 +12,9 @@ use Rattle.model.specs.Settling.{Settled, MadeOutput, hash_part_in, settling_tex
 use Rattle.model.specs.Worlds.{Source, Label, Record, OfRecord, Setup, known_of}
 use Rattle.model.specs.References.{candidates, paths_of_labels}
 use Rattle.model.specs.Events.{Offer}
-use Rattle.model.specs.Outcomes.{then_do, add_entry}
-use Rattle.model.specs.OfferRequests.{unless_rewrite_refused, output_settled, record_for, offer_output, offer, offer_texts}
+use Rattle.model.specs.Outcomes.{add_entry}
+use Rattle.model.specs.Results.{then_do, unless_rewrite_refused}
+use Rattle.model.specs.OfferRequests.{output_settled, record_for, offer_output, offer, offer_texts}
 use Rattle.model.specs.Replies.{is_clash_refusal, is_refused}
 use Rattle.model.specs.Steps.{outcome}
 use Rattle.realise.specs.Recorded.{Recorded}
@@ -58,7 +59,7 @@ module _ (trusted : List ℕ → Bool) (limit : ℕ) (table : List Source) (d : 
       → IsHandledTrusting trusted limit table d (Offer path tree) (Err UnknownDerivation) table d
   unfolding outcome
   unknown_handled sound none =
-      left trusted limit table d (Offer path tree) (Err UnknownDerivation) sound (λ users sight same own. rw (same, known_there None none) refl)
+      left trusted limit table d (Offer path tree) (Err UnknownDerivation) sound (λ setup w u. tt) (λ users sight same own. rw (same, known_there None none) refl)
       (offer_at_once (desk_of trusted table d) path tree (Err UnknownDerivation) (λ absent. refl)) (search rules) refl (search rules)
 
   offer_is : (a : Admission) → known_at d.known path ≡ Some a → (setup : Setup)
@@ -90,7 +91,7 @@ module _ (trusted : List ℕ → Bool) (limit : ℕ) (table : List Source) (d : 
       → IsHandledTrusting trusted limit table d (Offer path tree) (Err why) table d
   unfolding outcome
   refused_handled a why sound known refused =
-      left trusted limit table d (Offer path tree) (Err why) sound (λ users sight same. rw same (refusal_fits a why known refused (record { users = users; charge = limit })))
+      left trusted limit table d (Offer path tree) (Err why) sound (λ setup w u. tt) (λ users sight same. rw same (refusal_fits a why known refused (record { users = users; charge = limit })))
       (offer_at_once (desk_of trusted table d) path tree (Err why) (λ absent. (let no = sym (known_there (Some a) known) ∙ absent in cc))) (search rules) (refusal_no_clash a why refused) (search rules)
 
   -- the output is added
@@ -106,7 +107,10 @@ module _ (trusted : List ℕ → Bool) (limit : ℕ) (table : List Source) (d : 
       entry_handled trusted limit table new d now (Offer path tree) (entry.Record r) settled result sound
       (λ setup sight same. rw same (offer_is a known setup ∙ output_outcome setup))
       (offer_at_once (desk_of trusted table d) path tree result (λ absent. (let no = sym (known_there (Some a) known) ∙ absent in cc)))
-      (ap (output_stored (desk_of trusted table d) tree) (known_there (Some a) known) ∙ ap (λ ls. settled_source (output_settled ls a tree)) (sym (output.candidates trusted table)) ∙ ap settled_source output.is ∙ ap Some same_source)
+      (λ setup w u here.
+      ap (λ e. output_stored e tree (known_at (known_of e) path)) here ∙ ap (output_stored (desk_of trusted table d) tree) (known_there (Some a) known)
+      ∙ ap (λ ls. settled_source (output_settled ls a tree)) (sym (output.candidates trusted table)) ∙ ap settled_source output.is ∙ ap (λ s. s ∷ []) same_source)
+      (λ setup w u. tt)
       (λ texts setup w u here inside. output_hashed texts trusted table d a tree settled r path output known (rw here at inside))
     where
       same_source : ◌≡◌ {A = Source} (record { path = output.settled.path; tree = output.settled.tree }) (record { path = r.path; tree = settled })

@@ -1,14 +1,14 @@
 -- What pins do to a desk.
-use Rattle.std.proofs.Common.{◌≡◌, ℕ, suc, ◌+◌, ◌≤◌, Bool, true, false, inl, inr, List, [], ◌∷◌, length, refl, arith, rules, None, Ok, Err, Result}
+use Rattle.std.proofs.Common.{◌≡◌, ℕ, suc, ◌+◌, ◌≤◌, Bool, true, false, inl, inr, List, [], ◌∷◌, length, refl, arith, rules, Ok, Err, Result}
 use Rattle.std.specs.Prelude.{is_some, bytes_eq, nat_lt, nat_le, ◌&&◌, ◌||◌, if◌then◌else◌}
 use Rattle.std.proofs.lemmas.Bool.Decides.{nat_tests}
 use Rattle.model.specs.declared.refusal.Refusal.{Refusal}
 use Rattle.model.specs.declared.refusal.Refusal.TheVariants.{Quota, Memory}
 use Rattle.model.specs.Limits.{most_sources, most_derivations, most_records, most_pins}
-use Rattle.model.specs.Worlds.{Source, Pin, Desk, Setup, is_within, charge_of, pin_of, pinned, unpinned}
+use Rattle.model.specs.Worlds.{Source, Pin, Desk, Setup, World, is_within, charge_of, pin_of, pinned, unpinned}
 use Rattle.model.specs.Events as events
 use Rattle.model.specs.Events.{Request}
-use Rattle.model.specs.Outcomes.{Sight, becomes}
+use Rattle.model.specs.Outcomes.{Sight, sight_of, becomes}
 use Rattle.model.specs.PinRequests.{pin}
 use Rattle.model.specs.Steps.{outcome}
 use Rattle.model.proofs.BoolLemmas.{either}
@@ -18,6 +18,7 @@ use Rattle.schedule.specs.declared.events.Reply as Rust
 use Rattle.schedule.specs.declared.events.Reply.TheVariants.{Done}
 use Rattle.schedule.specs.Stored.{stored_by}
 use Rattle.schedule.specs.Sound.{sources_at, records_at, desk_of, IsSound}
+use Rattle.schedule.specs.Given.{HasSoundPlan}
 use Rattle.schedule.specs.Handling.{RefusedAtOnce, ServesAtOnce, IsHandledTrusting}
 use Rattle.schedule.proofs.DeskLemmas.{length-sources_at, length-records_at}
 use Rattle.schedule.proofs.HandlingLemmas.{left}
@@ -83,6 +84,7 @@ sound-pins table limit d pins sound few = record {
   few_records = sound.few_records;
   few_pins = few;
   known = sound.known;
+  closed = sound.closed;
 }
 
 and_true : (b : Bool) → (b && true) ≡ b
@@ -130,21 +132,23 @@ module _ (trusted : List ℕ → Bool) (limit : ℕ) (table : List Source) (d : 
 
   -- other pins, in reply to a request that asks for them
   pins_handled : (request : Request) (pins : List Pin) → IsSound table limit d → length pins ≤ most_pins
+      → ((setup : Setup) (w : World) (u : List ℕ) → HasSoundPlan setup w u request)
       → ((users : List (List ℕ)) (sight : Sight) → sight.desk ≡ his
       → outcome (under users) sight request ≡ becomes (desk_of trusted table (with_pins pins d)) events.Done)
-      → ServesAtOnce his request (Ok Done) → stored_by his request ≡ None
+      → ServesAtOnce his request (Ok Done) → ((setup : Setup) (w : World) (u : List ℕ) → stored_by setup w u request ≡ [])
       → IsHandledTrusting trusted limit table d request (Ok Done) table (with_pins pins d)
-  pins_handled request pins sound few serves at_once stores = record {
-    serves = serves;
+  pins_handled request pins sound few plans serves at_once stores users w u here = record {
+    serves = serves users (sight_of (under users) w u) here;
     answered = refl;
-    at_once = at_once;
+    at_once = at_once (under users) (sight_of (under users) w u) here;
     kept = search rules;
     sound = sound-pins table limit d pins sound few;
     grows = λ path there. refl;
-    hashed = λ texts setup w u here hashed inside. hashed;
+    hashed = λ texts hashed inside. hashed;
     taken = λ clash. cc;
     clashes = λ clash. cc;
-    stored = rw stores refl;
+    stored = rw (stores (under users) w u) refl;
+    given = plans (under users) w u;
   }
 
   pub pin_handled : (class path : List ℕ) → IsSound table limit d → (is_some (pin_of d.pins class) || nat_lt (length d.pins) most_pins) ≡ true
@@ -153,20 +157,20 @@ module _ (trusted : List ℕ → Bool) (limit : ℕ) (table : List Source) (d : 
   pin_handled class path sound room =
       let few : length (pinned class path d.pins) ≤ most_pins = few_pinned class path d.pins sound.few_pins room in
       let within : nat_le (length (pinned class path d.pins)) most_pins ≡ true = grind (arith, nat_tests) in
-      pins_handled (events.Pin class path) (pinned class path d.pins) sound few
-      (λ users sight same. rw same (pin_fits users class path sound within)) (pin_at_once class path (Ok Done)) refl
+      pins_handled (events.Pin class path) (pinned class path d.pins) sound few (λ setup w u. tt)
+      (λ users sight same. rw same (pin_fits users class path sound within)) (pin_at_once class path (Ok Done)) (λ setup w u. refl)
 
   pub pin_refused : (class path : List ℕ) → IsSound table limit d → (is_some (pin_of d.pins class) || nat_lt (length d.pins) most_pins) ≡ false
       → IsHandledTrusting trusted limit table d (events.Pin class path) (Err Quota) table d
   unfolding outcome
   pin_refused class path sound none =
       let many = many_pinned class path d.pins none in
-      left trusted limit table d (events.Pin class path) (Err Quota) sound (λ users sight same own. rw same (pin_over users class path sound many.0 many.1))
+      left trusted limit table d (events.Pin class path) (Err Quota) sound (λ setup w u. tt) (λ users sight same own. rw same (pin_over users class path sound many.0 many.1))
       (pin_at_once class path (Err Quota)) (search rules) refl (search rules)
 
   pub pin_unserved : (class path : List ℕ) → IsSound table limit d → IsHandledTrusting trusted limit table d (events.Pin class path) (Err Memory) table d
   pin_unserved class path sound =
-      left trusted limit table d (events.Pin class path) (Err Memory) sound (λ users sight same own. cc)
+      left trusted limit table d (events.Pin class path) (Err Memory) sound (λ setup w u. tt) (λ users sight same own. cc)
       (pin_at_once class path (Err Memory)) (search rules) refl (search rules)
 
   pub unpin_handled : (class : List ℕ) → IsSound table limit d
@@ -174,4 +178,4 @@ module _ (trusted : List ℕ → Bool) (limit : ℕ) (table : List Source) (d : 
   unfolding outcome
   unpin_handled class sound =
       let few : length (unpinned class d.pins) ≤ most_pins = omega (arith, length-unpinned class d.pins, sound.few_pins) in
-      pins_handled (events.Unpin class) (unpinned class d.pins) sound few (λ users sight same. rw same refl) (λ setup sight same why quick o. let is = rw same at o in cc) refl
+      pins_handled (events.Unpin class) (unpinned class d.pins) sound few (λ setup w u. tt) (λ users sight same. rw same refl) (λ setup sight same why quick o. let is = rw same at o in cc) (λ setup w u. refl)

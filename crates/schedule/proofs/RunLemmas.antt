@@ -1,5 +1,5 @@
 -- A run of the store is a run of the model.
-use Rattle.std.proofs.Common.{◌≡◌, ℕ, Bool, true, false, inl, inr, List, [], ◌∷◌, ◌++◌, length, refl, sym, ◌∙◌, ap, append-nil, append_assoc}
+use Rattle.std.proofs.Common.{◌≡◌, ℕ, Bool, true, false, inl, inr, List, [], ◌∷◌, ◌++◌, length, refl, sym, ◌∙◌, ap, subst, append-nil, append_assoc}
 use Rattle.std.specs.Prelude.{All, Contains, map, not, ◌||◌}
 use Rattle.std.specs.List.{list_any}
 use Rattle.std.proofs.lemmas.List.{map_push}
@@ -7,11 +7,12 @@ use Rattle.std.proofs.lemmas.List.Elements.{All-head, All-tail, All-nil, All-con
 use Rattle.model.specs.Paths.{NoClash}
 use Rattle.model.specs.Worlds.{Setup, World, nothing}
 use Rattle.model.specs.Events.{Answer, Event as ModelEvent, Reply as ModelReply, Refused as ModelRefused}
-use Rattle.model.specs.Steps.{answers, after, replies_to, replies}
+use Rattle.model.specs.Steps.{answers, after, world_after, replies_to, replies}
 use Rattle.model.specs.Striking.{strike}
 use Rattle.model.specs.Laws.{IsIsolated}
 use Rattle.model.specs.Replies.{is_memory, is_refused}
 use Rattle.model.specs.HashedTexts.{hashed, texts_of_event}
+use Rattle.model.specs.GivenClosures.{GivesGoodClosure, GiveGoodClosures}
 use Rattle.model.proofs.BoolLemmas.{either}
 use Rattle.schedule.specs.declared.user.User.{User}
 use Rattle.schedule.specs.declared.events.Event.{Event}
@@ -40,6 +41,28 @@ hashed_front P setup w (x ∷ xs) ys h =
     let w' : World = after setup w x in
     All-append P own (hashed setup w' xs) (all_front P own (hashed setup w' (xs ++ ys)) h) (hashed_front P setup w' xs ys (all_back P own (hashed setup w' (xs ++ ys)) h))
 
+-- the closures that are given are good with one event more
+pub good_push : (setup : Setup) (w : World) (events : List ModelEvent) (e : ModelEvent) → GiveGoodClosures setup w events
+    → GivesGoodClosure setup (world_after setup w events) e → GiveGoodClosures setup w (events ++ e ∷ [])
+unfolding world_after GiveGoodClosures
+good_push setup w [] e all one = (one, tt)
+good_push setup w (x ∷ events) e all one = (all.0, good_push setup (after setup w x) events e all.1 one)
+
+world_after_push : (setup : Setup) (w : World) (events : List ModelEvent) (e : ModelEvent)
+    → world_after setup w (events ++ e ∷ []) ≡ after setup (world_after setup w events) e
+unfolding world_after
+world_after_push setup w [] e = refl
+world_after_push setup w (x ∷ events) e = world_after_push setup (after setup w x) events e
+
+-- before any event none is given
+none_good : (setup : Setup) (w : World) → GiveGoodClosures setup w []
+unfolding GiveGoodClosures
+none_good setup w = tt
+
+nothing_yet : (setup : Setup) (w : World) → world_after setup w [] ≡ w
+unfolding world_after
+nothing_yet setup w = refl
+
 -- ---- how far a run has come
 
 -- the core after some events is that of their world: their answers, with those to any later events, are the model's to all of these
@@ -48,6 +71,8 @@ pub record Reached (setup : Setup) (texts : List (List ℕ)) (core : Core) (serv
   pub stored : HasHashed texts core
   pub left : (later : List ModelEvent) → All (Contains texts) (hashed setup nothing (served ++ later))
       → All (Contains texts) (hashed setup (world_of core) later)
+  pub world : world_of core ≡ world_after setup nothing served
+  pub good : GiveGoodClosures setup nothing served
 
 -- a run on its way, with the events so far that were answered otherwise than with 90
 pub record Going (setup : Setup) (all : List Event) (core : Core) (given : List (User × Reply)) (rest : List Event) : Type 0 where
@@ -78,6 +103,8 @@ starts setup core given events set empty none no_answers = record {
     told_so = λ later. rw (no_answers, empty) refl;
     stored = none_hashed texts core none;
     left = λ later inside. rw empty inside;
+    world = empty ∙ sym (nothing_yet setup nothing);
+    good = none_good setup nothing;
   };
 }
 
@@ -102,6 +129,8 @@ reached_kept setup texts core next served told kept before = record {
   told_so = rw kept.world before.told_so;
   stored = hashed_kept texts core next kept.stored before.stored;
   left = rw kept.world before.left;
+  world = kept.world ∙ before.world;
+  good = before.good;
 }
 
 -- it was served: so are all texts that it hashes
@@ -122,6 +151,10 @@ reached_more setup texts core next served told e reply given step other clean in
       left = λ later rest.
           let own : List (List ℕ) = texts_of_event setup (world_of core) e in
           rw stepped.world (all_back (Contains texts) own (hashed setup (after setup (world_of core) e) later) (before.left (e ∷ later) (rw append_assoc at rest)));
+      world = stepped.world ∙ ap (λ w. after setup w e) before.world ∙ sym (world_after_push setup nothing served e);
+      good = good_push setup nothing served e before.good
+          (subst (λ w. GivesGoodClosure setup w e) before.world
+          (subst (λ s. GivesGoodClosure s (world_of core) e) given (step.good texts clean before.stored (rw given here) other)));
     }
 
 goes_on_with : (setup : Setup) (all : List Event) (core : Core) (given : List (User × Reply)) (e : Event) (rest : List Event) (next : Core) (a : User × Reply)
@@ -190,6 +223,15 @@ others_same setup all core given going =
     ∙ (going.reached (hashed setup nothing going.served) clean (All-contains_itself (hashed setup nothing going.served))).told_so []
     ∙ ap (answers setup nothing) (append-nil going.served))
 
+-- and the closures that are given are good
+others_good : (setup : Setup) (all : List Event) (core : Core) (given : List (User × Reply)) → Going setup all core given []
+    → NoClash (hashed setup nothing (events_served (map event_of all) (map answer_of given)))
+    → GiveGoodClosures setup nothing (events_served (map event_of all) (map answer_of given))
+others_good setup all core given going =
+    let told : List Answer = map answer_of given in
+    let served : events_served (map event_of all) told ≡ going.served = ap (events_served (map event_of all)) (sym (append-nil told)) ∙ going.served_are [] ∙ append-nil going.served in
+    rw served (λ clean. (going.reached (hashed setup nothing going.served) clean (All-contains_itself (hashed setup nothing going.served))).good)
+
 or_front : (a b : Bool) → (a || b) ≡ false → a ≡ false
 or_front true b h = cc
 or_front false b h = refl
@@ -222,6 +264,12 @@ all_same setup all core given going clean memory =
     let served : events_served (map event_of all) (map answer_of given) ≡ map event_of all = all_served all given (all_actors setup all core given going) memory in
     sym (all_given given memory) ∙ rw served at (others_same setup all core given going (rw served clean))
 
+pub all_whole : (setup : Setup) (all : List Event) (core : Core) (given : List (User × Reply)) → Going setup all core given []
+    → NoClash (hashed setup nothing (map event_of all)) → list_any lacks_memory given ≡ false → GiveGoodClosures setup nothing (map event_of all)
+all_whole setup all core given going clean memory =
+    let served : events_served (map event_of all) (map answer_of given) ≡ map event_of all = all_served all given (all_actors setup all core given going) memory in
+    rw served at (others_good setup all core given going (rw served clean))
+
 pub all_isolated : IsIsolated → (setup : Setup) (all : List Event) (core : Core) (given : List (User × Reply)) → Going setup all core given []
     → NoClash (hashed setup nothing (map event_of all)) → list_any lacks_memory given ≡ false → (u : List ℕ)
     → replies_to u (map answer_of given) ≡ replies setup u (strike setup u (map event_of all))
@@ -233,4 +281,8 @@ pub others_private : IsIsolated → (setup : Setup) (all : List Event) (core : C
     → ArePrivate setup (events_served (map event_of all) (map answer_of given)) (without_memory (map answer_of given))
 others_private isolated setup all core given going clean =
     let same : without_memory (map answer_of given) ≡ answers setup nothing (events_served (map event_of all) (map answer_of given)) = others_same setup all core given going clean in
-    record { same = same; isolated = λ u. ap (replies_to u) same ∙ isolated setup (events_served (map event_of all) (map answer_of given)) u }
+    record {
+      same = same;
+      isolated = λ u. ap (replies_to u) same ∙ isolated setup (events_served (map event_of all) (map answer_of given)) u;
+      good = others_good setup all core given going clean;
+    }

@@ -8,8 +8,8 @@ use Rattle.model.specs.Classes.{known_at}
 use Rattle.model.specs.Settling.{given, MadeSource}
 use Rattle.model.specs.Worlds.{Source, Setup, Desk, World, is_user, held_at, known_of}
 use Rattle.model.specs.Limits.{most_derivation_bytes}
-use Rattle.model.specs.Events.{AddSource, AddDerivation, Offer, Fetch, Event, Reply, Refused}
-use Rattle.model.specs.Outcomes.{Sight, Outcome, becomes, reply_of, desk_after, reaches, view_of}
+use Rattle.model.specs.Events.{AddSource, AddDerivation, Offer, Fetch, Event, Reply, Entries, Refused}
+use Rattle.model.specs.Outcomes.{sight_of, Outcome, becomes, reply_of, desk_after, reaches}
 use Rattle.model.specs.Steps.{outcome, outcome_of, reply_to, after}
 use Rattle.model.specs.Replies.{is_memory_refusal, is_clash_refusal, is_clash, is_refused}
 use Rattle.model.specs.SourceRequests.{source_named, source_texts}
@@ -23,13 +23,14 @@ use Rattle.store.specs.Stored.{Extends}
 use Rattle.realise.specs.Holdings.{Holdings}
 use Rattle.schedule.specs.Sound.{desk_of, IsSound, IsHashed, Clashes}
 use Rattle.schedule.specs.Standing.{reply_of as told_of, parts_of, world_of, setup_of, stored_in, IsStep, HasHashed, desk_among}
-use Rattle.schedule.specs.Handling.{is_fault, RefusedAtOnce, Serves, ServesAtOnce, IsKept, IsHandled}
+use Rattle.schedule.specs.Handling.{is_fault, Fits, RefusedAtOnce, ServesAtOnce, IsKept, IsHandled}
 use Rattle.schedule.specs.Stepping.{IsCoreStep}
+use Rattle.model.specs.GivenClosures.{GivesGoodClosure}
 use Rattle.model.specs.Laws.{NeverFails}
 use Rattle.model.proofs.SourceRequestLemmas.{add_source_cases, fetch_cases}
 use Rattle.model.proofs.DerivationRequestLemmas.{add_derivation_cases}
 use Rattle.model.proofs.OfferRequestLemmas.{offer_cases}
-use Rattle.store.proofs.TableLemmas.{found_holds}
+use Rattle.schedule.proofs.GoodLemmas.{gives_good}
 use Rattle.schedule.proofs.WorldLemmas.{IsPlace, place_is_among, desk_found, among_changed, same_world}
 
 -- what holds after either result holds
@@ -50,26 +51,15 @@ kept_later old new before now kept path h = rw kept.sources refl
 
 -- ---- the model's step
 
--- the outcome of a user of the run, by his desk
-outcome_is : (setup : Setup) (w : World) (e : Event) (d : Desk) → is_user setup e.actor ≡ true → w e.actor ≡ d
-    → outcome_of setup w e ≡ outcome setup (record { user = e.actor; desk = d; view = view_of setup w e.actor }) e.request
-outcome_is setup w e d known here = rw known (ap (λ x. outcome setup (record { user = e.actor; desk = x; view = view_of setup w e.actor }) e.request) here)
+-- the outcome of a user of the run
+outcome_is : (setup : Setup) (w : World) (e : Event) → is_user setup e.actor ≡ true
+    → outcome_of setup w e ≡ outcome setup (sight_of setup w e.actor) e.request
+outcome_is setup w e known = rw known refl
 
 -- a desk after a change that all hear nothing of
 after_becomes : (setup : Setup) (actor : List ℕ) (o : Outcome) (d : Desk) (r : Reply) (x : List ℕ) (reached : Bool) (old : Desk) → o ≡ becomes d r
     → desk_after setup actor o x reached old ≡ (if bytes_eq x actor then d else old)
 after_becomes setup actor o d r x reached old e = ap (λ p. desk_after setup actor p x reached old) e
-
--- the outcome for the user of a desk
-desk_outcome : (trusted : ℕ → List ℕ → Bool) (setup : Setup) (table : List Source) (desks : List Holdings) (e : Event) (i : ℕ) (d : Holdings) (o : Outcome)
-    → IsPlace setup.users e.actor i → slice_get desks i ≡ Some d
-    → ((sight : Sight) → sight.desk ≡ desk_of (trusted i) table d → outcome setup sight e.request ≡ o)
-    → outcome_of setup (desk_among trusted table setup.users desks) e ≡ o
-desk_outcome trusted setup table desks e i d o place here does =
-    let w : World = desk_among trusted table setup.users desks in
-    outcome_is setup w e (desk_of (trusted i) table d) (place_is_among setup.users e.actor i place)
-    (desk_found trusted table setup.users desks e.actor i d place here)
-    ∙ does (record { user = e.actor; desk = desk_of (trusted i) table d; view = view_of setup w e.actor }) refl
 
 -- where the desk changes, or whom its user trusts
 pub step_done : (given now : ℕ → List ℕ → Bool) (setup : Setup) (old new : List Source) (limit : ℕ) (desks : List Holdings) (e : Event) (i : ℕ)
@@ -86,14 +76,9 @@ step_done given now setup old new limit desks e i before after reply others late
           ∙ sym (after_becomes setup e.actor (outcome_of setup w e) (desk_of (now i) new after) reply v (reaches setup w v e.actor) (w v) o));
     }
 
-pub step_at_once : (trusted : ℕ → List ℕ → Bool) (setup : Setup) (old : List Source) (desks : List Holdings) (e : Event) (i : ℕ) (before : Holdings)
-    (result : Result Rust.Reply Refusal)
-    → IsPlace setup.users e.actor i → slice_get desks i ≡ Some before
-    → ServesAtOnce (desk_of (trusted i) old before) e.request result → RefusedAtOnce (outcome_of setup (desk_among trusted old setup.users desks) e) result
-step_at_once trusted setup old desks e i before result place here at_once why quick o =
-    let w : World = desk_among trusted old setup.users desks in
-    at_once setup (record { user = e.actor; desk = desk_of (trusted i) old before; view = view_of setup w e.actor }) refl why quick
-    (sym (outcome_is setup w e (desk_of (trusted i) old before) (place_is_among setup.users e.actor i place) (desk_found trusted old setup.users desks e.actor i before place here)) ∙ o)
+pub step_at_once : (setup : Setup) (w : World) (e : Event) (i : ℕ) (result : Result Rust.Reply Refusal) → IsPlace setup.users e.actor i
+    → RefusedAtOnce (outcome setup (sight_of setup w e.actor) e.request) result → RefusedAtOnce (outcome_of setup w e) result
+step_at_once setup w e i result place at_once why quick o = at_once why quick (sym (outcome_is setup w e (place_is_among setup.users e.actor i place)) ∙ o)
 
 pub step_unknown : (setup : Setup) (w : World) (e : Event) → is_user setup e.actor ≡ false → outcome_of setup w e ≡ Err UnknownUser
 step_unknown setup w e f = rw f refl
@@ -121,25 +106,23 @@ world_kept trusted names old new limit desks u i before now later sound place he
 
 pub told_result : (trusted : ℕ → List ℕ → Bool) (setup : Setup) (old new : List Source) (limit : ℕ) (desks : List Holdings) (e : Event) (i : ℕ)
     (before now : Holdings) (result : Result Rust.Reply Refusal)
-    → Extends old new → All (IsSound old limit) desks → IsPlace setup.users e.actor i → slice_get desks i ≡ Some before
-    → Serves setup (desk_of (trusted i) old before) e.request (desk_of (trusted i) new now) result → IfOk result (λ r. is_refused (told_of r) ≡ false)
+    → let w : World = desk_among trusted old setup.users desks in
+    Extends old new → All (IsSound old limit) desks → IsPlace setup.users e.actor i → slice_get desks i ≡ Some before
+    → Fits (outcome setup (sight_of setup w e.actor) e.request) (desk_of (trusted i) new now) result → IfOk result (λ r. is_refused (told_of r) ≡ false)
     → IfOk result
-    (λ r. (is_refused (told_of r) ≡ false) × IsStep setup (desk_among trusted old setup.users desks) e (told_of r) (desk_among trusted new setup.users (slice_set desks i now)))
-told_result trusted setup old new limit desks e i before now (Ok r) later sound place here serves answered = (
+    (λ r. (is_refused (told_of r) ≡ false) × IsStep setup w e (told_of r) (desk_among trusted new setup.users (slice_set desks i now)))
+told_result trusted setup old new limit desks e i before now (Ok r) later sound place here fits answered = (
   answered,
   step_done trusted trusted setup old new limit desks e i before now (told_of r) (λ k other. refl) later sound place here
-      (desk_outcome trusted setup old desks e i before (becomes (desk_of (trusted i) new now) (told_of r)) place here serves),
+      (outcome_is setup (desk_among trusted old setup.users desks) e (place_is_among setup.users e.actor i place) ∙ fits),
 )
-told_result trusted setup old new limit desks e i before now (Err why) later sound place here serves answered = search rules
+told_result trusted setup old new limit desks e i before now (Err why) later sound place here fits answered = search rules
 
-pub refused_result : (trusted : ℕ → List ℕ → Bool) (setup : Setup) (old : List Source) (desks : List Holdings) (e : Event) (i : ℕ) (before : Holdings)
-    (after : Desk) (result : Result Rust.Reply Refusal)
-    → IsPlace setup.users e.actor i → slice_get desks i ≡ Some before
-    → Serves setup (desk_of (trusted i) old before) e.request after result
-    → IfErr result (λ why. is_fault why ≡ false → outcome_of setup (desk_among trusted old setup.users desks) e ≡ Err why)
-refused_result trusted setup old desks e i before after (Ok r) place here serves = search rules
-refused_result trusted setup old desks e i before after (Err why) place here serves = λ own. desk_outcome trusted setup old desks e i before
-    (Err why) place here (λ sight same. serves sight same own)
+pub refused_result : (setup : Setup) (w : World) (e : Event) (i : ℕ) (after : Desk) (result : Result Rust.Reply Refusal)
+    → IsPlace setup.users e.actor i → Fits (outcome setup (sight_of setup w e.actor) e.request) after result
+    → IfErr result (λ why. is_fault why ≡ false → outcome_of setup w e ≡ Err why)
+refused_result setup w e i after (Ok r) place fits = search rules
+refused_result setup w e i after (Err why) place fits = λ own. outcome_is setup w e (place_is_among setup.users e.actor i place) ∙ fits own
 
 -- a refusal that is the model's is its step
 refused_is : (setup : Setup) (old new : World) (e : Event) (why : Refusal) → outcome_of setup old e ≡ Err why → new ≡ old
@@ -164,15 +147,13 @@ source_hashed texts name tree sound inside = record {
   made = MadeSource tree name sound refl inside;
 }
 
--- where no two texts clash, no other tree is at the path of one that has it by them
-no_clashes : OneTreeAtAPath → (texts : List (List ℕ)) → NoClash texts → (sources : List Source) → All (IsHashed texts) sources
-    → Clashes texts sources → ⊥
-no_clashes one texts clean sources hashed clashes =
-    let s : Source = clashes.source in
-    let had = found_holds (IsHashed texts) sources s.path clashes.taken.had hashed clashes.taken.there in
-    let same : nar had.named.tree ≡ nar clashes.hashed.named.tree =
-    one texts clean had.named clashes.hashed.named had.made clashes.hashed.made (had.path ∙ sym clashes.hashed.path) in
-    clashes.taken.other (ap nar (sym had.tree) ∙ same ∙ ap nar clashes.hashed.tree)
+-- where no two texts clash, no two trees have one path by them
+no_clashes : OneTreeAtAPath → (texts : List (List ℕ)) → NoClash texts → Clashes texts → ⊥
+no_clashes one texts clean clashes =
+    let a = clashes.one_hashed in
+    let b = clashes.other_hashed in
+    let same : nar a.named.tree ≡ nar b.named.tree = one texts clean a.named b.named a.made b.made (a.path ∙ clashes.one_path ∙ sym b.path) in
+    clashes.two_trees (ap nar (sym a.tree) ∙ same ∙ ap nar b.tree)
 
 clash_is : (why : Refusal) → is_clash_refusal why ≡ true → why ≡ Clash
 clash_is Clash h = refl
@@ -221,11 +202,17 @@ no_clash_told : (reply : Reply) → is_refused reply ≡ false → is_clash repl
 no_clash_told (Refused why) h = cc
 no_clash_told reply h = refl
 
+-- no closure is given where the model refuses
+refused_good : (setup : Setup) (w : World) (e : Event) (why : Refusal) → outcome_of setup w e ≡ Err why → GivesGoodClosure setup w e
+refused_good setup w e why o class entries p asked told planned =
+    let no : Refused why ≡ Entries entries = sym (ap reply_of o) ∙ told in
+    absurd (cc)
+
 -- an event that was not refused
 pub served_step : (old new : Core) (e : Event) (reply : Rust.Reply) → IsHandled (parts_of old) e (Ok reply) (parts_of new)
-    → IsCoreStep old e (told_of reply) new
+    → All (IsSound old.table.sources old.limits.charge) old.desks.items → IsCoreStep old e (told_of reply) new
 unfolding HasHashed stored_in world_of setup_of
-served_step old new e reply handled = record {
+served_step old new e reply handled sound = record {
   step = λ memory clash. handled.told.1;
   refused = λ refused. (let no : true ≡ false = sym refused ∙ handled.told.0 in cc);
   setup = handled.setup;
@@ -233,6 +220,7 @@ served_step old new e reply handled = record {
   taken = λ clash. (let no : true ≡ false = sym clash ∙ no_clash_told (told_of reply) handled.told.0 in cc);
   no_clash = λ texts clean hashed inside. no_clash_told (told_of reply) handled.told.0;
   hashed = λ texts hashed inside. handled.hashed texts hashed inside;
+  good = λ texts clean hashed inside memory. gives_good texts clean (parts_of old) e sound hashed inside handled.given;
   going = λ running stopped. (let no : true ≡ false = rw stopped at handled.told.0 in cc);
 }
 
@@ -251,10 +239,16 @@ refused_step one own_refusals old new e why handled =
       no_clash = λ texts clean hashed inside. elim (either (is_clash_refusal why)) [
         | inl t ↦
             let is : why ≡ Clash = clash_is why t in
-            absurd (no_clashes one texts clean (stored_in old) hashed (handled.clashes (ap (λ w. Err w) is) texts inside))
+            absurd (no_clashes one texts clean (handled.clashes (ap (λ w. Err w) is) texts hashed inside))
         | inr f ↦ f
       ];
       hashed = λ texts hashed inside. rw handled.kept.table hashed;
+      good = λ texts clean hashed inside memory. elim (either (is_clash_refusal why)) [
+        | inl t ↦
+            let is : why ≡ Clash = clash_is why t in
+            absurd (no_clashes one texts clean (handled.clashes (ap (λ w. Err w) is) texts hashed inside))
+        | inr f ↦ refused_good setup w e why (handled.refused (no_fault why memory f))
+      ];
       going = λ running stopped.
           let is : why ≡ Stopped = cc in
           let told : reply_to setup w e ≡ Refused Stopped = ap reply_of (handled.refused (rw is refl)) ∙ stopped in

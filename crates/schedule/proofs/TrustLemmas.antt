@@ -1,12 +1,12 @@
 -- A user who trusts another, and who no longer does.
-use Rattle.std.proofs.Common.{◌≡◌, ◌≢◌, ℕ, ◌<◌, ◌≤◌, Bool, true, false, List, length, get_or, refl, sym, ◌∙◌, ap, subst, arith, rules, Some, None, Result, Ok, Err}
+use Rattle.std.proofs.Common.{◌≡◌, ◌≢◌, ℕ, ◌<◌, ◌≤◌, Bool, true, false, List, [], length, get_or, refl, sym, ◌∙◌, ap, subst, arith, rules, Some, None, Result, Ok, Err}
 use Rattle.std.specs.Prelude.{All, bytes_eq, slice_get, slice_set, nat_le, nat_lt, ◌==◌, ◌||◌, ◌&&◌, not}
 use Rattle.std.specs.List.{list_all}
 use Rattle.std.proofs.lemmas.List.{set-get_or}
 use Rattle.std.proofs.lemmas.Bool.Decides.{nat_tests}
 use Rattle.model.specs.declared.refusal.Refusal.{Refusal}
 use Rattle.model.specs.declared.refusal.Refusal.TheVariants.{UnknownUser}
-use Rattle.model.specs.Worlds.{Source, Setup, Desk, World, is_user, is_user_name, are_users, are_distinct}
+use Rattle.model.specs.Worlds.{Source, Setup, World, is_user, is_user_name, are_users, are_distinct}
 use Rattle.model.specs.Events as events
 use Rattle.model.specs.Outcomes.{Outcome, becomes}
 use Rattle.model.specs.Steps.{outcome, outcome_of}
@@ -22,6 +22,7 @@ use Rattle.schedule.specs.Stored.{stored_by}
 use Rattle.schedule.specs.Sound.{desk_of, IsSound}
 use Rattle.schedule.specs.Viewing.{bare}
 use Rattle.schedule.specs.Standing.{parts, desk_among, IsStep}
+use Rattle.schedule.specs.Given.{HasSoundPlan}
 use Rattle.schedule.specs.Handling.{IsHandled}
 use Rattle.schedule.proofs.WorldLemmas.{IsPlace, place_found, place_is_among, no_place, desk_found}
 use Rattle.schedule.proofs.StepLemmas.{step_done}
@@ -66,10 +67,11 @@ module _ (users : List (List ℕ)) (limit : ℕ) (given : ℕ → ℕ → Bool) 
   -- whom the user at a place trusts is changed
   pub trust_changed : (now : ℕ → ℕ → Bool) (request : events.Request) → place_of users actor ≡ Some i → length desks ≡ length users
       → All (IsSound table limit) desks
-      → IsWithin (length users) now → ((k : ℕ) → k ≢ i → trusted_at users now k ≡ trusted_at users given k) → ((d : Desk) → stored_by d request ≡ None)
+      → IsWithin (length users) now → ((k : ℕ) → k ≢ i → trusted_at users now k ≡ trusted_at users given k) → stored_by setup world actor request ≡ []
+      → HasSoundPlan setup world actor request
       → outcome_of setup world (record { actor = actor; request = request }) ≡ becomes (desk_of (trusted_at users now i) table before) events.Done
       → IsHandled (parts users limit given table desks) (record { actor = actor; request = request }) (Ok Rust.Done) (parts users limit now table desks)
-  trust_changed now request found paired sound within others nothing is =
+  trust_changed now request found paired sound within others nothing plans is =
       let place : IsPlace users actor i = place_found users actor i found in
       let here : slice_get desks i ≡ Some before = place_there users desks actor i bare paired found in
       let Step : List Holdings → Type 0 = λ ds.
@@ -89,7 +91,8 @@ module _ (users : List (List ℕ)) (limit : ℕ) (given : ℕ → ℕ → Bool) 
         hashed = λ texts hashed inside. hashed;
         taken = λ clash. cc;
         clashes = λ clash. cc;
-        stored = rw (nothing (world actor)) refl;
+        stored = rw nothing refl;
+        given = plans;
       }
 
   -- he trusts one who is not of the run
@@ -148,7 +151,7 @@ module _ (users : List (List ℕ)) (limit : ℕ) (given : ℕ → ℕ → Bool) 
         let more : trusted_at users (with_pair i j given) i ≡ (λ name. bytes_eq name other || trusted_at users given i name) =
         trusted_added users given i j distinct named.0 ∙ ap (λ who name. bytes_eq name who || trusted_at users given i name) named.1 in
         trust_changed (with_pair i j given) (events.Trust other) found paired sound (within_added (length users) given i j named.0 within)
-        (λ k apart. (trusted_elsewhere users given i j k apart).0) (λ d. refl)
+        (λ k apart. (trusted_elsewhere users given i j k apart).0) refl tt
         (rw (known, also, same_user, differs, his_desk found paired) (sym (ap D more)))
 
     -- he trusts himself
@@ -157,7 +160,7 @@ module _ (users : List (List ℕ)) (limit : ℕ) (given : ℕ → ℕ → Bool) 
         (parts users limit given table desks)
     unfolding outcome
     trust_own same =
-        trust_changed given (events.Trust other) found paired sound within (λ k apart. refl) (λ d. refl)
+        trust_changed given (events.Trust other) found paired sound within (λ k apart. refl) refl tt
         (rw (known, also, same_user, same, his_desk found paired) refl)
 
     -- he no longer trusts another
@@ -169,5 +172,5 @@ module _ (users : List (List ℕ)) (limit : ℕ) (given : ℕ → ℕ → Bool) 
         let less : trusted_at users (without_pair i j given) i ≡ (λ name. not (bytes_eq name other) && trusted_at users given i name) =
         trusted_removed users given i j distinct named.0 ∙ ap (λ who name. not (bytes_eq name who) && trusted_at users given i name) named.1 in
         trust_changed (without_pair i j given) (events.Distrust other) found paired sound (within_removed (length users) given i j within)
-        (λ k apart. (trusted_elsewhere users given i j k apart).1) (λ d. refl)
+        (λ k apart. (trusted_elsewhere users given i j k apart).1) refl tt
         (rw (known, also, his_desk found paired) (sym (ap D less)))

@@ -8,18 +8,20 @@ use Rattle.model.specs.Classes.{known_at, derivation_path}
 use Rattle.model.specs.Worlds.{Source, Setup, Desk, World, are_users}
 use Rattle.model.specs.Events.{Request, Event}
 use Rattle.model.specs.Replies.{is_memory_refusal, is_clash_refusal, is_refused, needs_no_memory}
-use Rattle.model.specs.Outcomes.{Sight, Outcome, becomes, add_entry}
+use Rattle.model.specs.Outcomes.{Sight, sight_of, Outcome, becomes, add_entry}
 use Rattle.model.specs.DerivationRequests.{admit_new}
 use Rattle.model.specs.Steps.{outcome, outcome_of}
 use Rattle.model.specs.HashedTexts.{texts_of, texts_of_event}
 use Rattle.schedule.specs.declared.events.Reply.{Reply}
-use Rattle.trust.specs.Naming.{place_of, IsWithin}
+use Rattle.trust.specs.Naming.{place_of, trusted_at, IsWithin}
 use Rattle.realise.specs.declared.entry.Entry.{Entry}
-use Rattle.store.specs.Stored.{Extends}
+use Rattle.store.specs.Stored.{put_all, Extends}
 use Rattle.realise.specs.Holdings.{Holdings, entry_with}
-use Rattle.schedule.specs.Stored.{stored_by, put_any, IsTakenFor}
+use Rattle.schedule.specs.Stored.{stored_by, IsTakenFor}
 use Rattle.schedule.specs.Sound.{desk_of, IsSound, IsHashed, Clashes}
 use Rattle.schedule.specs.Standing.{reply_of, Parts, parts, world_in, stored_after, IsStep}
+use Rattle.schedule.specs.Viewing.{desk_at}
+use Rattle.schedule.specs.Given.{HasSoundPlan}
 
 -- whether a refusal says nothing of the model: memory was refused, or another tree is at a path
 abbrev pub is_fault : Refusal → Bool
@@ -44,34 +46,42 @@ Serves setup old request new result = (sight : Sight) → sight.desk ≡ old →
 abbrev pub ServesAtOnce : Desk → Request → Result Reply Refusal → Type 0
 ServesAtOnce desk request result = (setup : Setup) (sight : Sight) → sight.desk ≡ desk → RefusedAtOnce (outcome setup sight request) result
 
+-- a request of the user of a desk puts what it stores into a table, whoever he is and whatever else there is
+abbrev pub Stores : List Source → Desk → Request → List Source → Type 0
+Stores old d request new = (setup : Setup) (w : World) (u : List ℕ) → w u ≡ d → new ≡ put_all (stored_by setup w u request) old
+
 -- a table and a desk are as they were
 pub record IsKept (old new : List Source) (before after : Holdings) : Type 0 where
   pub sources : new ≡ old
   pub desk : after ≡ before
 
--- what a handler promises that reads and changes the desk of the user alone, and the table, where the user trusts these: who
--- he is, and what else he sees, makes no difference
-pub record IsHandledTrusting (trusted : List ℕ → Bool) (limit : ℕ) (old : List Source) (before : Holdings) (request : Request) (result : Result Reply Refusal)
-    (new : List Source) (after : Holdings) : Type 0 where
+-- what a handler promises of a user in one world, who has the one desk before and the other after it
+pub record IsHandledIn (setup : Setup) (w : World) (u : List ℕ) (trusted : List ℕ → Bool) (old : List Source) (before : Holdings) (request : Request)
+    (result : Result Reply Refusal) (new : List Source) (after : Holdings) : Type 0 where
   -- the reply is the model's, and so is the desk after it
-  pub serves : (users : List (List ℕ))
-      → Serves (record { users = users; charge = limit }) (desk_of trusted old before) request (desk_of trusted new after) result
+  pub serves : Fits (outcome setup (sight_of setup w u) request) (desk_of trusted new after) result
   pub answered : IfOk result (λ r. is_refused (reply_of r) ≡ false)
   -- a refusal that needs no memory is told whether there is memory or not
-  pub at_once : ServesAtOnce (desk_of trusted old before) request result
+  pub at_once : RefusedAtOnce (outcome setup (sight_of setup w u) request) result
   -- a refusal leaves all as it was
   pub kept : OnErr result (IsKept old new before after)
   -- the desk is within its limits, and what it holds is stored
-  pub sound : IsSound new limit after
+  pub sound : IsSound new setup.charge after
   -- the table only grows, by what was hashed
   pub grows : Extends old new
-  pub hashed : (texts : List (List ℕ)) (setup : Setup) (w : World) (u : List ℕ) → w u ≡ desk_of trusted old before → All (IsHashed texts) old
-      → All (Contains texts) (texts_of setup w u request) → All (IsHashed texts) new
+  pub hashed : (texts : List (List ℕ)) → All (IsHashed texts) old → All (Contains texts) (texts_of setup w u request) → All (IsHashed texts) new
   -- 91 comes only where another tree is at the path of what is added
-  pub taken : result ≡ Err Clash → IsTakenFor old (desk_of trusted old before) request
-  pub clashes : result ≡ Err Clash → (texts : List (List ℕ)) (setup : Setup) (w : World) (u : List ℕ) → w u ≡ desk_of trusted old before
-      → All (Contains texts) (texts_of setup w u request) → Clashes texts old
-  pub stored : OnOk result (new ≡ put_any (stored_by (desk_of trusted old before) request) old)
+  pub taken : result ≡ Err Clash → IsTakenFor old setup w u request
+  pub clashes : result ≡ Err Clash → (texts : List (List ℕ)) → All (IsHashed texts) old → All (Contains texts) (texts_of setup w u request) → Clashes texts
+  pub stored : OnOk result (new ≡ put_all (stored_by setup w u request) old)
+  -- a closure that is given is of sound records
+  pub given : OnOk result (HasSoundPlan setup w u request)
+
+-- what a handler promises that reads and changes the desk of the user alone, and the table, where the user trusts these: who
+-- he is, and what else he sees, makes no difference
+abbrev pub IsHandledTrusting : (List ℕ → Bool) → ℕ → List Source → Holdings → Request → Result Reply Refusal → List Source → Holdings → Type 0
+IsHandledTrusting trusted limit old before request result new after = (users : List (List ℕ)) (w : World) (u : List ℕ) → w u ≡ desk_of trusted old before
+    → IsHandledIn (record { users = users; charge = limit }) w u trusted old before request result new after
 
 -- the same whomever the user trusts, and he trusts the same afterwards
 abbrev pub IsHandledAtDesk : ℕ → List Source → Holdings → Request → Result Reply Refusal → List Source → Holdings → Type 0
@@ -118,9 +128,12 @@ pub record IsHandled (old : Parts) (event : Event) (result : Result Reply Refusa
   pub hashed : (texts : List (List ℕ)) → All (IsHashed texts) old.table → All (Contains texts) (texts_of_event old.setup (world_in old) event)
       → All (IsHashed texts) new.table
   -- 91 comes only where another tree is at the path of what is added
-  pub taken : result ≡ Err Clash → IsTakenFor old.table (world_in old event.actor) event.request
-  pub clashes : result ≡ Err Clash → (texts : List (List ℕ)) → All (Contains texts) (texts_of_event old.setup (world_in old) event) → Clashes texts old.table
-  pub stored : OnOk result (new.table ≡ stored_after (world_in old) event old.table)
+  pub taken : result ≡ Err Clash → IsTakenFor old.table old.setup (world_in old) event.actor event.request
+  pub clashes : result ≡ Err Clash → (texts : List (List ℕ)) → All (IsHashed texts) old.table
+      → All (Contains texts) (texts_of_event old.setup (world_in old) event) → Clashes texts
+  pub stored : OnOk result (new.table ≡ stored_after old.setup (world_in old) event old.table)
+  -- a closure that is given is of sound records
+  pub given : OnOk result (HasSoundPlan old.setup (world_in old) event.actor event.request)
 
 -- the same of what reads the users alone, and changes whom the one at a place trusts: whatever is stored, and on the desks
 abbrev pub IsHandledByTrust : List (List ℕ) → ℕ → (ℕ → ℕ → Bool) → Request → Result Reply Refusal → (ℕ → ℕ → Bool) → Type 0
@@ -128,8 +141,9 @@ IsHandledByTrust users place old request result new = (limit : ℕ) (table : Lis
     → place_of users actor ≡ Some place → length desks ≡ length users → All (IsSound table limit) desks → IsWithin (length users) old
     → IsHandled (parts users limit old table desks) (record { actor = actor; request = request }) result (parts users limit new table desks)
 
--- the same of what reads what the user at a place sees, and changes nothing
-abbrev pub IsHandledBySight : (ℕ → ℕ → Bool) → List Source → List Holdings → ℕ → Request → Result Reply Refusal → Type 0
-IsHandledBySight trust table desks place request result = (users : List (List ℕ)) (limit : ℕ) (actor : List ℕ) → are_users users ≡ true
-    → place_of users actor ≡ Some place → length desks ≡ length users → All (IsSound table limit) desks → IsWithin (length users) trust
-    → IsHandled (parts users limit trust table desks) (record { actor = actor; request = request }) result (parts users limit trust table desks)
+-- what a handler promises that reads what the user at a place sees, and changes the table and his desk
+abbrev pub IsHandledBySight : (ℕ → ℕ → Bool) → ℕ → List Source → List Holdings → ℕ → Request → Result Reply Refusal → List Source → Holdings → Type 0
+IsHandledBySight trust limit old desks place request result new after = (users : List (List ℕ)) (actor : List ℕ) → are_users users ≡ true
+    → place_of users actor ≡ Some place → length desks ≡ length users → All (IsSound old limit) desks → IsWithin (length users) trust
+    → let before = parts users limit trust old desks in
+    IsHandledIn before.setup (world_in before) actor (trusted_at users trust place) old (desk_at desks place) request result new after

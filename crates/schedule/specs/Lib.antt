@@ -3,7 +3,10 @@ pub mod Sound
 pub mod Standing
 pub mod Viewing
 pub mod Offering
+pub mod Given
+pub mod Serving
 pub mod Handling
+pub mod Taking
 pub mod Stepping
 pub mod Running
 pub mod Ever

@@ -10,7 +10,8 @@ use Rattle.model.specs.Occurrences.{IsHashPart}
 use Rattle.model.specs.Settling.{Settled, hash_part_in}
 use Rattle.model.specs.Worlds.{Source, Label}
 use Rattle.model.specs.References.{candidates, paths_of_labels}
-use Rattle.model.specs.OfferRequests.{output_settled, record_for, unless_rewrite_refused}
+use Rattle.model.specs.OfferRequests.{output_settled, record_for}
+use Rattle.model.specs.Results.{unless_rewrite_refused}
 use Rattle.realise.specs.Recorded.{Recorded}
 use Rattle.realise.specs.Holdings.{Holdings, with_tree}
 use Rattle.schedule.specs.Sound.{desk_of}

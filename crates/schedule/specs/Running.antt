@@ -6,6 +6,7 @@ use Rattle.model.specs.Events.{Event, Answer}
 use Rattle.model.specs.Steps.{answers, replies_to, replies}
 use Rattle.model.specs.Striking.{strike}
 use Rattle.model.specs.Replies.{is_memory}
+use Rattle.model.specs.GivenClosures.{GiveGoodClosures}
 use Rattle.schedule.specs.declared.user.User.{User}
 use Rattle.schedule.specs.declared.events.Reply.{Reply}
 use Rattle.schedule.specs.Standing.{reply_of}
@@ -24,7 +25,9 @@ without_memory told = filter (λ a. not (is_memory a.reply)) told
 abbrev pub HadMemory : List (User × Reply) → Type 0
 HadMemory given = list_any (λ a. is_memory (reply_of a.1)) given ≡ false
 
--- the answers to these events are those of private desks, and each user's are those to the events that can reach him
+-- the answers to these events are those of private desks, each user's are those to the events that can reach him, and the
+-- closures that are given are good
 pub record ArePrivate (setup : Setup) (events : List Event) (told : List Answer) : Type 0 where
   pub same : told ≡ answers setup nothing events
   pub isolated : (u : List ℕ) → replies_to u told ≡ replies setup u (strike setup u events)
+  pub good : GiveGoodClosures setup nothing events

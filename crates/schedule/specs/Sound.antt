@@ -1,13 +1,12 @@
 -- What the desks of the store keep, and what the table keeps for them.
-use Rattle.std.specs.Prelude.{◌≡◌, ℕ, ◌≤◌, Bool, true, List, [], length, map, is_some, unwrap_or, All}
-use Rattle.model.specs.Archives.{Tree, Link}
+use Rattle.std.specs.Prelude.{◌≡◌, ◌≢◌, ℕ, ◌≤◌, Bool, true, List, [], length, map, is_some, All}
+use Rattle.model.specs.Archives.{nar}
 use Rattle.model.specs.Limits.{most_sources, most_derivations, most_records, most_pins}
 use Rattle.model.specs.Settling.{Settled, IsMade}
 use Rattle.model.specs.Worlds.{Source, Record, Desk, tree_at, charge_of}
 use Rattle.realise.specs.Recorded.{Recorded}
-use Rattle.store.specs.Stored.{IsTaken}
 use Rattle.choose.specs.Visible.{source_at, record_at}
-use Rattle.realise.specs.Holdings.{Holdings, paths_of}
+use Rattle.realise.specs.Holdings.{Holdings, paths_of, IsClosed}
 
 -- sources with their trees
 abbrev pub sources_at : List Source → List (List ℕ) → List Source
@@ -27,7 +26,7 @@ desk_of trusted table d = record {
   pins = d.pins;
 }
 
--- the paths that a desk holds are in the table, its charge is theirs, and it is within the limits
+-- the paths that a desk holds are in the table, its charge is theirs, it is within the limits, and what its labels name is on it
 pub record IsSound (table : List Source) (limit : ℕ) (d : Holdings) : Type 0 where
   pub charged : (trusted : List ℕ → Bool) → d.charge ≡ charge_of (desk_of trusted table d)
   pub within : d.charge ≤ limit
@@ -36,6 +35,7 @@ pub record IsSound (table : List Source) (limit : ℕ) (d : Holdings) : Type 0 w
   pub few_records : length d.records ≤ most_records
   pub few_pins : length d.pins ≤ most_pins
   pub known : All (λ p. is_some (tree_at p table) ≡ true) (paths_of d)
+  pub closed : IsClosed d
 
 -- a stored tree has its path by texts that were hashed
 pub record IsHashed (texts : List (List ℕ)) (s : Source) : Type 0 where
@@ -44,11 +44,14 @@ pub record IsHashed (texts : List (List ℕ)) (s : Source) : Type 0 where
   pub tree : named.tree ≡ s.tree
   pub made : IsMade texts named
 
--- a tree that has its path by texts that were hashed is put where another is
-pub record Clashes (texts : List (List ℕ)) (sources : List Source) : Type 0 where
-  pub source : Source
-  pub hashed : IsHashed texts source
-  pub taken : IsTaken sources source.path source.tree
+-- two trees have one path by texts that were hashed
+pub record Clashes (texts : List (List ℕ)) : Type 0 where
+  pub one : Source
+  pub other : Source
+  pub one_hashed : IsHashed texts one
+  pub other_hashed : IsHashed texts other
+  pub one_path : one.path ≡ other.path
+  pub two_trees : nar one.tree ≢ nar other.tree
 
 -- a desk with nothing
 pub record IsEmpty (d : Holdings) : Type 0 where

@@ -11,14 +11,15 @@ use Rattle.schedule.specs.declared.user.User.{User}
 use Rattle.schedule.specs.declared.limits.Limits.{Limits}
 use Rattle.schedule.specs.declared.state.Core.{Core}
 use Rattle.schedule.specs.declared.events.Request.{Request}
-use Rattle.schedule.specs.declared.events.Request.TheVariants.{AddSource, AddDerivation, Offer, Fetch, Trust, Distrust, Pin, Unpin, Closure}
+use Rattle.schedule.specs.declared.events.Request.TheVariants.{AddSource, AddDerivation, Offer, Fetch, Trust, Distrust, Pin, Unpin, Closure, Take}
 use Rattle.schedule.specs.declared.events.Event.{Event}
 use Rattle.schedule.specs.declared.events.Reply.{Reply}
 use Rattle.schedule.specs.declared.events.Reply.TheVariants.{Done, Path, Derivation, Content, Entries, Refused}
 use Rattle.trust.specs.Trusting.{trusts}
 use Rattle.trust.specs.Naming.{trusted_at}
 use Rattle.realise.specs.Holdings.{Holdings}
-use Rattle.schedule.specs.Stored.{stored_by, put_any}
+use Rattle.store.specs.Stored.{put_all}
+use Rattle.schedule.specs.Stored.{stored_by}
 use Rattle.schedule.specs.Sound.{desk_of, IsHashed}
 
 -- ---- events and replies in the terms of the model
@@ -33,6 +34,7 @@ request_of (Distrust user) = events.Distrust user
 request_of (Pin class path) = events.Pin class path
 request_of (Unpin class) = events.Unpin class
 request_of (Closure class) = events.Closure class
+request_of (Take class) = events.Take class
 
 abbrev pub event_of : Event → events.Event
 event_of e = record { actor = e.actor; request = request_of e.request }
@@ -101,8 +103,8 @@ unfoldable pub stored_in : Core → List Source
 stored_in core = core.table.sources
 
 -- what is stored once an event in a world was not refused
-abbrev pub stored_after : worlds.World → events.Event → List Source → List Source
-stored_after w event sources = put_any (stored_by (w event.actor) event.request) sources
+abbrev pub stored_after : Setup → worlds.World → events.Event → List Source → List Source
+stored_after setup w event sources = put_all (stored_by setup w event.actor event.request) sources
 
 -- nothing of it changed
 pub record IsUnchanged (old new : Core) : Type 0 where

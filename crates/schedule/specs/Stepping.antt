@@ -7,6 +7,7 @@ use Rattle.model.specs.Events.{Event, Reply, Refused}
 use Rattle.model.specs.Steps.{outcome_of}
 use Rattle.model.specs.Replies.{is_memory, is_clash, is_refused, needs_no_memory}
 use Rattle.model.specs.HashedTexts.{texts_of_event}
+use Rattle.model.specs.GivenClosures.{GivesGoodClosure}
 use Rattle.schedule.specs.declared.state.Core.{Core}
 use Rattle.schedule.specs.Stored.{IsTakenFor}
 use Rattle.schedule.specs.Standing.{world_of, setup_of, stored_in, is_stopped, IsStep, IsUnchanged, HasHashed}
@@ -26,10 +27,13 @@ pub record IsCoreStep (old : Core) (event : Event) (reply : Reply) (new : Core) 
   -- a refusal that needs no memory is told whether there is memory or not
   pub at_once : (why : Refusal) → needs_no_memory why ≡ true → outcome_of (setup_of old) (world_of old) event ≡ Err why → reply ≡ Refused why
   -- 91 comes only where another tree is at the path of what is added
-  pub taken : is_clash reply ≡ true → IsTakenFor (stored_in old) (world_of old event.actor) event.request
+  pub taken : is_clash reply ≡ true → IsTakenFor (stored_in old) (setup_of old) (world_of old) event.actor event.request
   -- and nowhere if no two texts that were hashed have one folded digest
   pub no_clash : (texts : List (List ℕ)) → NoClash texts → HasHashed texts old → HashesWithin texts old event → is_clash reply ≡ false
   -- what is stored afterwards was made by texts that were hashed
   pub hashed : (texts : List (List ℕ)) → HasHashed texts old → HashesWithin texts old event → HasHashed texts new
+  -- and the closure that a user is given then is good
+  pub good : (texts : List (List ℕ)) → NoClash texts → HasHashed texts old → HashesWithin texts old event → is_memory reply ≡ false
+      → GivesGoodClosure (setup_of old) (world_of old) event
   -- 92 comes only from a core that is stopped
   pub going : is_stopped old ≡ false → reply ≢ Refused Stopped

@@ -1,42 +1,57 @@
 -- What a request stores.
-use Rattle.std.specs.Prelude.{◌≡◌, List, Option, Some, None, Result, Ok, Err}
+use Rattle.std.specs.Prelude.{◌≡◌, ℕ, List, [], ◌∷◌, ◌++◌, map, Option, Some, None, Result, Ok, Err}
+use Rattle.model.specs.declared.refusal.Refusal.{Refusal}
 use Rattle.model.specs.declared.refusal.RewriteFault.{RewriteFault}
 use Rattle.model.specs.Archives.{Tree}
 use Rattle.model.specs.Classes.{Admission, known_at}
 use Rattle.model.specs.Settling.{Settled}
-use Rattle.model.specs.Worlds.{Source, Desk, known_of}
+use Rattle.model.specs.Worlds.{Source, Setup, Desk, World, known_of, Entry, path_of_entry}
 use Rattle.model.specs.References.{candidates}
-use Rattle.model.specs.Events.{Request, AddSource, AddDerivation, Offer, Fetch, Trust, Distrust, Pin, Unpin, Closure}
+use Rattle.model.specs.Events.{Request, AddSource, AddDerivation, Offer, Fetch, Trust, Distrust, Pin, Unpin, Closure, Take}
+use Rattle.model.specs.Outcomes.{sight_of}
 use Rattle.model.specs.SourceRequests.{source_named}
 use Rattle.model.specs.OfferRequests.{output_settled}
-use Rattle.store.specs.Stored.{put_once, IsTaken}
+use Rattle.model.specs.Closures.{tree_of_entry}
+use Rattle.model.specs.ClosureRequests.{closure_for}
+use Rattle.store.specs.Stored.{put_all, IsTaken}
 
-abbrev pub settled_source : Result Settled RewriteFault → Option Source
-settled_source (Ok s) = Some (record { path = s.path; tree = s.tree })
-settled_source (Err why) = None
+abbrev pub settled_source : Result Settled RewriteFault → List Source
+settled_source (Ok s) = record { path = s.path; tree = s.tree } ∷ []
+settled_source (Err why) = []
 
-abbrev pub output_stored : Desk → Tree → Option Admission → Option Source
-output_stored d tree None = None
+abbrev pub output_stored : Desk → Tree → Option Admission → List Source
+output_stored d tree None = []
 output_stored d tree (Some a) = settled_source (output_settled (candidates d a.derivation) a tree)
 
--- the tree, with its path, that a request of the user of a desk puts into the table, if it is not refused
-abbrev pub stored_by : Desk → Request → Option Source
-stored_by d (AddSource name tree) = Some (source_named name tree)
-stored_by d (AddDerivation text) = None
-stored_by d (Offer path tree) = output_stored d tree (known_at (known_of d) path)
-stored_by d (Fetch path) = None
-stored_by d (Trust user) = None
-stored_by d (Distrust user) = None
-stored_by d (Pin class path) = None
-stored_by d (Unpin class) = None
-stored_by d (Closure class) = None
+-- the tree of an entry, with its path
+abbrev pub source_of_entry : Entry → Source
+source_of_entry e = record { path = path_of_entry e; tree = tree_of_entry e }
 
-abbrev pub put_any : Option Source → List Source → List Source
-put_any None sources = sources
-put_any (Some s) sources = put_once s sources
+abbrev pub taken_sources : Result (List Entry) Refusal → List Source
+taken_sources (Ok entries) = map source_of_entry entries
+taken_sources (Err why) = []
 
--- the request of the user of a desk is to put a tree where another is
-pub record IsTakenFor (sources : List Source) (d : Desk) (request : Request) : Type 0 where
+-- the trees, with their paths, that a request of a user puts into the table one after another, if it is not refused
+abbrev pub stored_by : Setup → World → List ℕ → Request → List Source
+stored_by setup w u (AddSource name tree) = source_named name tree ∷ []
+stored_by setup w u (AddDerivation text) = []
+stored_by setup w u (Offer path tree) = output_stored (w u) tree (known_at (known_of (w u)) path)
+stored_by setup w u (Fetch path) = []
+stored_by setup w u (Trust user) = []
+stored_by setup w u (Distrust user) = []
+stored_by setup w u (Pin class path) = []
+stored_by setup w u (Unpin class) = []
+stored_by setup w u (Closure class) = []
+stored_by setup w u (Take class) = taken_sources (closure_for (sight_of setup w u) class)
+
+-- one of these trees, put one after another, comes to a path where another is by then
+pub record AreTaken (sources more : List Source) : Type 0 where
+  pub before : List Source
   pub source : Source
-  pub stores : stored_by d request ≡ Some source
-  pub taken : IsTaken sources source.path source.tree
+  pub behind : List Source
+  pub parts : more ≡ before ++ source ∷ behind
+  pub taken : IsTaken (put_all before sources) source.path source.tree
+
+-- the request of a user is to put a tree where another is
+abbrev pub IsTakenFor : List Source → Setup → World → List ℕ → Request → Type 0
+IsTakenFor sources setup w u request = AreTaken sources (stored_by setup w u request)

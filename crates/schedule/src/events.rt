@@ -30,6 +30,9 @@ pub enum Request {
     Unpin(StorePath),
     /// What is chosen for a class among all that he sees, with all that it refers to.
     Closure(StorePath),
+    /// To have on his desk all that the closure of a class has: all of it, or, where it is refused,
+    /// nothing. The reply is the path of what serves the class.
+    Take(StorePath),
 }
 
 /// A request, and the user who makes it.

@@ -14,6 +14,7 @@ mod entries;
 mod offers;
 mod pins;
 mod sources;
+mod taking;
 mod trusting;
 
 use crate::events::{Event, Reply, Request};
@@ -28,6 +29,7 @@ use realise::Desk;
 use sources::{add_source, fetch};
 use std::alloc::Global;
 use store::Table;
+use taking::take;
 use trust::Trust;
 use trusting::{add_trust, remove_trust};
 
@@ -73,5 +75,6 @@ pub(crate) fn handle(
         Request::Pin(class, path) => pin(desk, class, path),
         Request::Unpin(class) => Ok(unpin(desk, &class)),
         Request::Closure(class) => closure(alloc, trust, table, desks, place, &class),
+        Request::Take(class) => take(alloc, trust, table, desks, place, limits, &class),
     }
 }

@@ -8,6 +8,7 @@ ghost use Rattle.model.specs.Steps.{answers, replies_to, replies};
 ghost use Rattle.model.specs.Limits.{most_charge};
 ghost use Rattle.model.specs.Replies.{is_memory};
 ghost use Rattle.model.specs.HashedTexts.{hashed};
+ghost use Rattle.model.specs.GivenClosures.{GiveGoodClosures};
 ghost use Rattle.model.specs.Striking.{strike};
 ghost use Rattle.model.specs.declared.refusal.Refusal.TheVariants.{Memory, BadUsers};
 ghost use Rattle.schedule.specs.Standing.{setup_for, IsRefusedFor, event_of, reply_of, answer_of};
@@ -37,8 +38,10 @@ fn answer(alloc: Global, core: &mut Core, event: Event) -> Result<(User, Reply),
 ///
 /// Where no two hashed texts have one folded digest and memory was refused nowhere, they are those
 /// of private desks (`same`), and each user's are those that he would get if the events of all users
-/// outside his trust closure were struck out (`isolated`): this is the store's main theorem. Where
-/// some are 90 `Memory`, the others are so for the list without the events of these (`others`).
+/// outside his trust closure were struck out (`isolated`). Each closure that a user is given serves no
+/// class by two paths, has an entry for each label of its entries, and keeps no hash part of a path
+/// that another one replaces (`whole`). This is the store's main theorem. Where some replies are 90
+/// `Memory`, the others are so for the list without the events of these (`others`).
 ///
 /// The limit of a charge is at most 1,073,741,824 bytes.
 ///
@@ -63,6 +66,9 @@ pub fn run(
         NoClash (hashed setup nothing all) → IfOk result (λ given. HadMemory given.items →
         (u : List ℕ) → replies_to u (map answer_of given.items)
         ≡ replies setup u (strike setup u all)) }
+    ensures whole { let setup = setup_for users limits in let all = map event_of events.items in
+        NoClash (hashed setup nothing all) → IfOk result (λ given. HadMemory given.items →
+        GiveGoodClosures setup nothing all) }
     ensures others { let setup = setup_for users limits in IfOk result (λ given.
         let told = map answer_of given.items in
         let served = events_served (map event_of events.items) told in

@@ -93,10 +93,15 @@ impl Core {
     /// With 90 `Memory` a growth was refused; 91 `Clash` comes only where another tree is at the
     /// path of what is added. Every other reply, and the world after it, is the model's. A
     /// refusal that needs no memory to be found (11, 22, 41 and 53) is never told as 90.
+    ///
+    /// Where no two hashed texts have one folded digest, a closure that is given serves no class by
+    /// two paths, has an entry for each label of its entries, and keeps no hash part of a path that
+    /// another one replaces.
     pub fn step(&mut self, alloc: Global, event: Event) -> Reply
         ensures step { IsCoreStep self.old (event_of event) (reply_of result) self.new }
         ensures stored { is_refused (reply_of result) ≡ false → stored_in self.new
-            ≡ stored_after (world_of self.old) (event_of event) (stored_in self.old) }
+            ≡ stored_after (setup_of self.old) (world_of self.old) (event_of event)
+            (stored_in self.old) }
         ensures holds { HoldsStored self.new }
     {
         one_tree_at_a_path();

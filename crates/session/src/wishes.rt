@@ -100,6 +100,7 @@ fn request_of(alloc: Global, wish: &Wish<'_>) -> Result<Request, Refusal>
         )),
         (Verb::Closure, [class]) => Ok(Request::Closure(read_path(alloc, class.bytes())?)),
         (Verb::Unpin, [class]) => Ok(Request::Unpin(read_path(alloc, class.bytes())?)),
+        (Verb::Take, [class]) => Ok(Request::Take(read_path(alloc, class.bytes())?)),
         _ => Err(Refusal::BadLine),
     }
 }

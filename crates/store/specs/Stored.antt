@@ -1,5 +1,5 @@
 -- What contracts see of the table.
-use Rattle.std.specs.Prelude.{◌≡◌, ◌≢◌, ℕ, List, [], ◌∷◌, ◌++◌, map, true, is_some, Some, if◌then◌else◌, refl}
+use Rattle.std.specs.Prelude.{◌≡◌, ◌≢◌, ℕ, List, [], ◌∷◌, ◌++◌, map, true, is_some, Some, None, All, if◌then◌else◌, refl}
 use Rattle.std.specs.Coded.{Coded, code_by, coded×, coded_ℕ, coded_list}
 use Rattle.model.specs.Archives.{Tree, nar}
 use Rattle.model.specs.TreeCode.{tree_code}
@@ -25,11 +25,33 @@ put_once s sources = if is_some (tree_at s.path sources) then sources else sourc
 abbrev pub IsAdded : List ℕ → Tree → List Source → List Source → Type 0
 IsAdded path tree old new = new ≡ put_once (record { path = path; tree = tree }) old
 
+-- sources with each of others, one after another, unless its path is there
+abbrev pub put_all : List Source → List Source → List Source
+put_all [] sources = sources
+put_all (s ∷ others) sources = put_all others (put_once s sources)
+
+-- none of others has a path that is there, or that one before it has
+abbrev pub AreNew : List Source → List Source → Type 0
+AreNew sources [] = Unit {0}
+AreNew sources (s ∷ others) = (tree_at s.path sources ≡ None) × AreNew (sources ++ s ∷ []) others
+
 -- another tree is at the path
 pub record IsTaken (sources : List Source) (path : List ℕ) (tree : Tree) : Type 0 where
   pub had : Tree
   pub there : tree_at path sources ≡ Some had
   pub other : nar had ≢ nar tree
+
+-- another tree is at the path of one of these, in the table or with one before it
+pub record AreTaken (sources : List Source) (trees : List (List ℕ × Tree)) : Type 0 where
+  pub before : List (List ℕ × Tree)
+  pub one : List ℕ × Tree
+  pub after : List (List ℕ × Tree)
+  pub are : trees ≡ before ++ one ∷ after
+  pub taken : IsTaken (put_all (sources_of before) sources) one.0 one.1
+
+-- the table with these trees put there has each of them at its path
+abbrev pub AreThere : List Source → List (List ℕ × Tree) → Type 0
+AreThere sources trees = All (λ e. tree_at e.0 (put_all (sources_of trees) sources) ≡ Some e.1) trees
 
 -- every path of a table has the same tree in a later one
 abbrev pub Extends : List Source → List Source → Type 0

@@ -1,10 +1,10 @@
 //! One table for all users.
 
-ghost use Rattle.std.specs.Prelude.{◌≡◌, ◌<◌, ◌++◌, ◌∷◌, ◌⊎◌, ◌↔◌, [], OnOk, OnErr, IfOk, IfErr, Err, Some, None, if◌then◌else◌};
+ghost use Rattle.std.specs.Prelude.{◌≡◌, ◌<◌, ◌≤◌, ◌+◌, ◌++◌, ◌∷◌, ◌⊎◌, ◌↔◌, [], length, OnOk, OnErr, IfOk, IfErr, Err, Some, None, if◌then◌else◌};
 ghost use Rattle.std.specs.Option.{option_copied};
 ghost use Rattle.model.specs.Worlds.{tree_at};
 ghost use Rattle.model.specs.declared.refusal.Refusal.TheVariants.{Memory, Clash};
-ghost use Rattle.store.specs.Stored.{IsAdded, IsTaken};
+ghost use Rattle.store.specs.Stored.{IsAdded, IsTaken, AreNew, AreTaken, AreThere, put_all, sources_of};
 
 use indexmap::IndexMap;
 use model::Refusal;
@@ -32,6 +32,21 @@ impl Model for Table {
     ghost coded = { stored_code };
 
     ghost view = { λ t. record { sources = sources_of t.trees.entries; room = spare t.trees } };
+}
+
+/// Whether a tree is stored at its path in one of two tables already. `false` says that nothing is
+/// there in either. The one error is `Clash`, exactly where another tree is there in the first, or
+/// in the second where the first has none.
+fn has_either(first: &Table, second: &Table, path: &StorePath, tree: &Tree) -> Result<bool, Refusal>
+    ensures stored { IfOk result (λ is. let sources = first.now.sources ++ second.now.sources in
+        tree_at path.now sources ≡ (if is then Some tree.now else None)) }
+    ensures taken { IfErr result (λ e. (e ≡ Clash)
+        × IsTaken (first.now.sources ++ second.now.sources) path.now tree.now) }
+{
+    if first.has(path, tree)? {
+        return Ok(true);
+    }
+    second.has(path, tree)
 }
 
 impl Table {
@@ -69,25 +84,71 @@ impl Table {
         }
     }
 
-    /// Makes room for one tree more.
+    /// Makes room for so many trees more.
     ///
     /// # Errors
     ///
     /// `AllocError` where memory was refused. Nothing that is stored changes.
-    pub fn reserve(&mut self) -> Result<(), AllocError>
+    pub fn reserve(&mut self, additional: usize) -> Result<(), AllocError>
         ensures kept { self.new.sources ≡ self.old.sources }
-        ensures room { OnOk result (0 < self.new.room) }
+        ensures room { OnOk result (additional ≤ self.new.room) }
     {
-        self.trees.reserve(1)
+        self.trees.reserve(additional)
     }
 
     /// Puts a tree at a path that has none yet, into room that was made by [`Table::reserve`].
     pub fn put_reserved(&mut self, path: StorePath, tree: Tree)
         requires absent { tree_at path self.old.sources ≡ None }
         requires room { 0 < self.old.room }
-        ensures { self.new.sources ≡ self.old.sources ++ record { path = path; tree = tree } ∷ [] }
+        ensures put { self.new.sources ≡ self.old.sources ++ record { path = path; tree = tree } ∷ [] }
+        ensures room { self.old.room ≤ self.new.room + 1 }
     {
         let _absent = self.trees.insert(path, tree).unwrap();
+    }
+
+    /// Puts trees at paths that have none yet, into room that was made by [`Table::reserve`].
+    pub fn put_all_reserved(&mut self, trees: Vec<(StorePath, Tree)>)
+        requires absent { AreNew self.old.sources (sources_of trees.items) }
+        requires room { length trees.items ≤ self.old.room }
+        ensures { self.new.sources ≡ self.old.sources ++ sources_of trees.items }
+    {
+        for (path, tree) in trees {
+            self.put_reserved(path, tree);
+        }
+    }
+
+    /// Those of the trees that are not stored at their paths yet, each path once, in order.
+    ///
+    /// # Errors
+    ///
+    /// - `Clash` exactly where another tree is at the path of one of them, in the table or with one
+    ///   before it.
+    /// - `Memory` only where memory was refused.
+    pub fn missing(
+        &self,
+        alloc: Global,
+        trees: Vec<(StorePath, Tree)>,
+    ) -> Result<Vec<(StorePath, Tree)>, Refusal>
+        ensures all { IfOk result (λ missing.
+            put_all (sources_of trees.items) self.now.sources
+            ≡ self.now.sources ++ sources_of missing.items) }
+        ensures new { IfOk result (λ missing.
+            AreNew self.now.sources (sources_of missing.items)) }
+        ensures there { OnOk result (AreThere self.now.sources trees.items) }
+        ensures free { OnOk result (AreTaken self.now.sources trees.items → ⊥) }
+        ensures refused { IfErr result (λ e. (e ≡ Memory)
+            ⊎ ((e ≡ Clash) × AreTaken self.now.sources trees.items)) }
+    {
+        let mut added = Table::new(alloc, *self.trees.hasher());
+        let mut missing = Vec::new(alloc);
+        for (path, tree) in trees {
+            if !has_either(self, &added, &path, &tree)? {
+                added.reserve(1)?;
+                added.put_reserved(path.clone()?, tree.clone()?);
+                missing.push((path, tree))?;
+            }
+        }
+        Ok(missing)
     }
 
     /// Puts a tree at its path, unless it is stored there already.
@@ -106,7 +167,7 @@ impl Table {
         ensures refused { IfErr result (λ e. (e ≡ Memory) ⊎ (e ≡ Clash)) }
     {
         if !self.has(&path, &tree)? {
-            self.reserve()?;
+            self.reserve(1)?;
             self.put_reserved(path, tree);
         }
         Ok(())

@@ -71,7 +71,7 @@ pub(super) fn add_entry(
         return Err(Refusal::Quota);
     }
     let key = path.clone()?;
-    table.reserve()?;
+    table.reserve(1)?;
     desk.add(alloc, entry, more)?;
     put_new(table, is_stored, key, tree);
     Ok(Reply::Path(path))

@@ -10,6 +10,7 @@ ghost use Rattle.model.specs.References.{paths_of_labels};
 ghost use Rattle.model.specs.Events.{Offer as OfferRequest};
 ghost use Rattle.model.specs.OfferRequests.{output_settled};
 ghost use Rattle.model.specs.declared.refusal.Refusal.TheVariants.{Memory};
+ghost use Rattle.realise.specs.Recorded.{AreInPathOrder};
 ghost use Rattle.schedule.specs.Sound.{IsSound};
 ghost use Rattle.schedule.specs.Handling.{IsHandledAtDesk};
 ghost use Rattle.schedule.specs.Offering.{IsRecordOf, IsOutput, IsNotSettled, IsNoOutput};
@@ -74,13 +75,14 @@ fn output_of(
     }
 }
 
-/// The record of an output for the class of a derivation.
+/// The record of an output for the class of a derivation. It refers to some of these labels.
 fn record_of(
     alloc: Global,
     admitted: &Admitted,
     labels: &[Label],
     named: &Named,
 ) -> Result<Record, Refusal>
+    requires in_order { AreInPathOrder labels.now }
     ensures record { IfOk result (λ r. IsRecordOf labels.now admitted.now named.now r) }
     ensures memory { IfErr result (λ why. why ≡ Memory) }
 {

@@ -18,7 +18,7 @@ unreachable-requires c =
     let kept = c.in-Some.kept.now in
     not_there (tree_at kept.path table)
     (ap (λ p. tree_at p table) (sym c.path.ensures) ∙ sym c.get.ensures ∙ ap option_copied c.in_default-get.is)
-    (found_stored table c.view.inside.desks.items c.deref.result.now (pin_of c.args.pins.now c.args.class.now) c.args.class.now kept c.view.invariant
+    (found_stored table c.view.inside.desks.items c.deref.result.now (pin_of c.args.pins.now c.args.class.now) c.args.class.now kept c.view.invariant.stored
     c.deref.ensures.value (ap option_copied (sym c.in-Some.is) ∙ c.choice.ensures))
 
 pub returns : goal.returns

@@ -1,6 +1,6 @@
 use Rattle.std.proofs.Common.{rules, ◌≡◌, ◌+◌, ◌⊎◌, sym, ◌∙◌, drop, length, arith, inl, inr}
 use Rattle.choose.proofs.ChoosingLemmas.{drop_step}
-use Rattle.choose.proofs.ServingLemmas.{before_first, after_first, before_rest, before_end}
+use Rattle.choose.proofs.LabelLemmas.{before_first, after_first, before_rest, before_end}
 use Rattle.choose.proofs.order.are_labels_before.Goals as goal
 use Rattle.choose.proofs.order.are_labels_before.Goals.{then-loop-index-test+else-index-other, else-loop-index-test}
 

@@ -31,7 +31,7 @@ loop-next-preserved c =
     let k = c.loop-next.next in
     let lt : k < length p.records = omega arith in
     let is : q ≡ with_labels c.args.view.now (choose_in c.args.view.now c.args.pins.now) r.labels p = c.in_ok-gathering.ensures
-    ∙ ap (λ ls. with_labels c.args.view.now (choose_in c.args.view.now c.args.pins.now) ls p) c.labels.ensures in
+    ∙ ap (λ ls. with_labels c.args.view.now (choose_in c.args.view.now c.args.pins.now) ls p) c.labels.ensures.labels in
     record {
       within = below_within c.args.view.now (choose_in c.args.view.now c.args.pins.now) k r.labels p q lt is;
       gathered = λ classes sources A P g. below_step c.args.view.now c.args.pins.now classes sources A P k r p q lt c.in_ok-realisation.ensures is

@@ -1,4 +1,4 @@
-use Rattle.model.proofs.ClosureLemmas.{closures_whole}
+use Rattle.model.proofs.WholeLemmas.{closures_whole}
 use Rattle.model.proofs.laws.closures_are_whole.Goals as goal
 
 pub returns : goal.returns

@@ -1,16 +1,18 @@
-use Rattle.std.proofs.Common.{◌≡◌, ℕ, List, get_or, sym, subst, Some, Ok}
+use Rattle.std.proofs.Common.{◌≡◌, ℕ, List, get_or, sym, ◌∙◌, subst, Some, Ok}
 use Rattle.std.proofs.lemmas.List.{set-get_or}
 use Rattle.std.specs.Prelude.{All, slice_get, slice_set, position, bytes_eq, length, ◌≤◌}
 use Rattle.trust.specs.Trusting.{trusts}
+use Rattle.model.specs.Worlds.{Source}
 use Rattle.realise.specs.Holdings.{Holdings}
 use Rattle.schedule.specs.Sound.{IsSound}
 use Rattle.schedule.specs.Standing.{event_of, parts}
-use Rattle.model.specs.Events.{Closure as ClosureRequest}
-use Rattle.choose.specs.Visible.{IsDeskStored}
+use Rattle.model.specs.Events.{Closure as ClosureRequest, Take as TakeRequest}
+use Rattle.choose.specs.Visible.{IsComplete}
+use Rattle.schedule.specs.Viewing.{bare, desk_at}
 use Rattle.schedule.specs.Handling.{IsHandled, IsHandledBySight}
 use Rattle.schedule.proofs.TrustLemmas.{few_users}
-use Rattle.schedule.proofs.ClosureLemmas.{all_stored}
-use Rattle.schedule.proofs.HandlingLemmas.{stranger, at_desk, place_there, sound_at}
+use Rattle.schedule.proofs.ClosureLemmas.{all_complete}
+use Rattle.schedule.proofs.HandlingLemmas.{stranger, in_world, at_desk, place_there, sound_at}
 use Rattle.schedule.proofs.TrustLemmas.{put_back}
 use Rattle.schedule.proofs.requests.handle.Goals as goal
 
@@ -121,20 +123,60 @@ closure-requires-clause-few c =
     let few : length c.args.desks.now ≤ 64 = subst (λ n. n ≤ 64) (sym c.requires.paired) (few_users c.args.users.now c.requires.listed) in
     subst (λ (ds : List Holdings). length ds ≤ 64) (sym (kept_desks c.args.desks.now c.in-Some.place c.index-desks-place.result)) few
 
-pub closure-requires-clause-stored : goal.closure-requires-clause-stored
-closure-requires-clause-stored c =
-    subst (λ (ds : List Holdings). All (IsDeskStored c.args.table.now.sources) ds)
+pub closure-requires-clause-complete : goal.closure-requires-clause-complete
+closure-requires-clause-complete c =
+    subst (λ (ds : List Holdings). IsComplete c.args.table.now.sources ds)
     (sym (kept_desks c.args.desks.now c.in-Some.place c.index-desks-place.result))
-    (all_stored c.args.table.now.sources c.args.limits.charge c.args.desks.now c.requires.sound)
+    (all_complete c.args.table.now.sources c.args.limits.charge c.args.desks.now c.requires.sound)
+
+pub returns-in-Closure : goal.returns-in-Closure
+returns-in-Closure c =
+    let users : List (List ℕ) = c.args.users.now in
+    let desks : List Holdings = c.args.desks.now in
+    let trust = trusts c.args.trust.now in
+    let limit : ℕ = c.args.limits.charge in
+    let sources : List Source = c.args.table.now.sources in
+    let i : ℕ = c.in-Some.place in
+    let found : position (λ n. bytes_eq n c.args.event.actor) users ≡ Some i = sym c.in-Some.ensures in
+    let kept = kept_desks desks i c.index-desks-place.result in
+    let by_sight = subst (λ (ds : List Holdings). IsHandledBySight trust limit sources ds i (ClosureRequest c.in-Closure.class) c.closure.result sources (desk_at ds i))
+    kept (c.closure.ensures limit) in
+    subst (λ (ds : List Holdings).
+    IsHandled (parts users limit trust sources desks) (event_of c.args.event) c.closure.result (parts users limit trust sources ds))
+    (kept_desks desks i bare ∙ sym kept)
+    (in_world users limit trust sources sources desks (event_of c.args.event) i (desk_at desks i) (desk_at desks i) c.closure.result
+    c.requires.sound c.requires.within found (place_there users desks c.args.event.actor i bare c.requires.paired found)
+    (rw c.in-Closure.is (by_sight users c.args.event.actor c.requires.listed found c.requires.paired c.requires.sound c.requires.within)))
+
+pub take-requires-clause-few : goal.take-requires-clause-few
+take-requires-clause-few c =
+    let few : length c.args.desks.now ≤ 64 = subst (λ n. n ≤ 64) (sym c.requires.paired) (few_users c.args.users.now c.requires.listed) in
+    subst (λ (ds : List Holdings). length ds ≤ 64) (sym (kept_desks c.args.desks.now c.in-Some.place c.index-desks-place.result)) few
+
+pub take-requires-clause-sound : goal.take-requires-clause-sound
+take-requires-clause-sound c =
+    subst (λ (ds : List Holdings). All (IsSound c.args.table.now.sources c.args.limits.charge) ds)
+    (sym (kept_desks c.args.desks.now c.in-Some.place c.index-desks-place.result)) c.requires.sound
 
 pub returns : goal.returns
 returns c =
-    let found : position (λ n. bytes_eq n c.args.event.actor) c.args.users.now ≡ Some c.in-Some.place = sym c.in-Some.ensures in
-    let kept = kept_desks c.args.desks.now c.in-Some.place c.index-desks-place.result in
-    let by_sight = subst (λ (ds : List Holdings). IsHandledBySight (trusts c.args.trust.now) c.args.table.now.sources ds c.in-Some.place
-    (ClosureRequest c.in-Closure.class) c.closure.result) kept c.closure.ensures in
+    let users : List (List ℕ) = c.args.users.now in
+    let desks : List Holdings = c.args.desks.now in
+    let trust = trusts c.args.trust.now in
+    let limit : ℕ = c.args.limits.charge in
+    let old : List Source = c.args.table.now.sources in
+    let new : List Source = c.take.new.table.sources in
+    let i : ℕ = c.in-Some.place in
+    let later : List Holdings = c.take.new.desks in
+    let found : position (λ n. bytes_eq n c.args.event.actor) users ≡ Some i = sym c.in-Some.ensures in
+    let kept = kept_desks desks i c.index-desks-place.result in
+    let by_sight = subst (λ (ds : List Holdings). IsHandledBySight trust limit old ds i (TakeRequest c.in-Take.class) c.take.result new (desk_at later i))
+    kept c.take.ensures.taken in
+    let others : later ≡ slice_set desks i (desk_at later i) =
+    subst (λ (ds : List Holdings). later ≡ slice_set ds i (desk_at later i)) kept c.take.ensures.others in
     subst (λ (ds : List Holdings).
-    IsHandled (parts c.args.users.now c.args.limits.charge (trusts c.args.trust.now) c.args.table.now.sources c.args.desks.now) (event_of c.args.event)
-    c.closure.result (parts c.args.users.now c.args.limits.charge (trusts c.args.trust.now) c.args.table.now.sources ds))
-    (sym kept)
-    (rw c.in-Closure.is (by_sight c.args.users.now c.args.limits.charge c.args.event.actor c.requires.listed found c.requires.paired c.requires.sound c.requires.within))
+    IsHandled (parts users limit trust old desks) (event_of c.args.event) c.take.result (parts users limit trust new ds))
+    (sym others)
+    (in_world users limit trust old new desks (event_of c.args.event) i (desk_at desks i) (desk_at later i) c.take.result
+    c.requires.sound c.requires.within found (place_there users desks c.args.event.actor i bare c.requires.paired found)
+    (rw c.in-Take.is (by_sight users c.args.event.actor c.requires.listed found c.requires.paired c.requires.sound c.requires.within)))

@@ -1,9 +1,9 @@
-use Rattle.std.proofs.Common.{List, ◌∷◌, rules, sym, ◌∙◌}
+use Rattle.std.proofs.Common.{List, ◌∷◌, rules, refl, sym, ◌∙◌}
 use Rattle.std.specs.Vec.Iter.{into_iter_items}
 use Rattle.model.specs.Worlds.{Setup}
 use Rattle.schedule.specs.declared.events.Event.{Event}
 use Rattle.schedule.specs.Standing.{setup_for}
-use Rattle.schedule.proofs.RunLemmas.{Going, starts, goes_on, ends, all_actors, all_same, all_isolated, others_private}
+use Rattle.schedule.proofs.RunLemmas.{Going, starts, goes_on, ends, all_actors, all_same, all_whole, all_isolated, others_private}
 use Rattle.schedule.proofs.runs.run.Goals as goal
 
 pub loop-event-init : goal.loop-event-init
@@ -27,6 +27,11 @@ pub returns-clause-same : goal.returns-clause-same
 returns-clause-same c =
     all_same (setup_for c.args.users c.args.limits) c.args.events.items c.loop-event.core _
     (ends _ _ _ c.loop-event.given.items (into_iter_items c.loop-event.event-iterator) _ c.loop-event.invariant (sym c.loop-event.event-iterator.rest.ok.0 ∙ c.in-None.ensures.steps.0) (search rules))
+
+pub returns-clause-whole : goal.returns-clause-whole
+returns-clause-whole c =
+    all_whole (setup_for c.args.users c.args.limits) c.args.events.items c.loop-event.core c.loop-event.given.items
+    (ends _ _ _ c.loop-event.given.items (into_iter_items c.loop-event.event-iterator) _ c.loop-event.invariant (sym c.loop-event.event-iterator.rest.ok.0 ∙ c.in-None.ensures.steps.0) refl)
 
 pub returns-clause-isolated : goal.returns-clause-isolated
 returns-clause-isolated c =

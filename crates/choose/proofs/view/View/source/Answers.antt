@@ -14,7 +14,7 @@ pub unreachable-requires : goal.unreachable-requires
 unreachable-requires c =
     let table = c.self.inside.table.now.sources in
     not_there (tree_at c.args.path.now table) (sym c.get.ensures ∙ ap option_copied c.in_default.is)
-    (found_source table c.self.inside.desks.items c.deref.result.now c.args.path.now c.self.invariant c.deref.ensures.value c.if-not-is_source.ensures)
+    (found_source table c.self.inside.desks.items c.deref.result.now c.args.path.now c.self.invariant.stored c.deref.ensures.value c.if-not-is_source.ensures)
 
 pub returns : goal.returns
 returns c =

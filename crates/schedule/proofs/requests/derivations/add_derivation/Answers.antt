@@ -17,7 +17,7 @@ pub returns-then-text-gt-MOST_DERIVATION_BYTES : goal.returns-then-text-gt-MOST_
 unfolding outcome
 returns-then-text-gt-MOST_DERIVATION_BYTES c table limit sound trusted =
     let over : nat_le (length c.args.text.now) most_derivation_bytes ≡ false = grind (arith, nat_tests, c.if-text-gt-MOST_DERIVATION_BYTES.true) in
-    left trusted limit table c.args.desk.now (AddDerivation c.args.text.now) (Err TooLarge) sound
+    left trusted limit table c.args.desk.now (AddDerivation c.args.text.now) (Err TooLarge) sound (λ setup w u. tt)
     (λ users sight same own. rw same (too_large (record { users = users; charge = limit }) (desk_of trusted table c.args.desk.now) c.args.text.now over))
     (derivation_at_once (desk_of trusted table c.args.desk.now) c.args.text.now (Err TooLarge) (λ large. refl)) (search rules) refl (search rules)
 
@@ -27,7 +27,7 @@ returns-in_err-derivation c table limit sound trusted =
     let p = err_from_is_err_and c.from_residual.result c.from_residual.ensures.1 in
     let within : nat_le (length c.args.text.now) most_derivation_bytes ≡ true = grind (arith, nat_tests, c.if-text-gt-MOST_DERIVATION_BYTES.false) in
     let unread : IsNotRead c.args.text.now p.0 = rw p.2 c.in_err-derivation.ensures.same in
-    rw p.1 (left trusted limit table c.args.desk.now (AddDerivation c.args.text.now) (Err p.0) sound
+    rw p.1 (left trusted limit table c.args.desk.now (AddDerivation c.args.text.now) (Err p.0) sound (λ setup w u. tt)
     (λ users sight same. rw same (unread_fits (record { users = users; charge = limit }) (desk_of trusted table c.args.desk.now) (desk_of trusted table c.args.desk.now) c.args.text.now p.0 within unread))
     (derivation_at_once (desk_of trusted table c.args.desk.now) c.args.text.now (Err p.0) (λ large. let no : true ≡ false = sym within ∙ large in cc))
     (search rules) (unread_no_clash c.args.text.now p.0 unread) (search rules))

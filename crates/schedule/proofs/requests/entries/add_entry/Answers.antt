@@ -84,4 +84,4 @@ returns-clause-adds c users trusted =
 
 pub returns-clause-sound : goal.returns-clause-sound
 returns-clause-sound c =
-    rw (changed c) (sound-entry c.args.table.now.sources c.put_new.new.table.sources c.args.limits.charge c.args.desk.now c.args.tree c.args.entry (later c) c.requires.sound (there c) (now_there c) (roomy c))
+    rw (changed c) (sound-entry c.args.table.now.sources c.put_new.new.table.sources c.args.limits.charge c.args.desk.now c.args.tree c.args.entry (later c) c.requires.sound (there c) (now_there c) (roomy c) c.requires.closed)

@@ -12,7 +12,7 @@ returns-in_err-path c trusted =
     let p = err_from_is_err_and c.from_residual.result c.from_residual.ensures.1 in
     let memory : p.0 ≡ Memory = rw p.2 c.in_err-path.ensures.memory in
     let table = c.args.table.now.sources in
-    rw (p.1, memory) (left trusted c.args.limits.charge table c.args.desk.now (AddSource c.args.name.now c.args.tree) (Err Memory) c.requires
+    rw (p.1, memory) (left trusted c.args.limits.charge table c.args.desk.now (AddSource c.args.name.now c.args.tree) (Err Memory) c.requires (λ setup w u. tt)
     (λ users sight same own. cc) (source_at_once (desk_of trusted table c.args.desk.now) c.args.name.now c.args.tree (Err Memory)) (search rules) refl
     (search rules))
 

@@ -21,6 +21,6 @@ unfolding outcome
 returns-in-None c limit sound trusted =
     let none : held_at c.args.path.now (desk_of trusted c.args.table.now.sources c.args.desk.now) ≡ None =
     sym (c.in-None.ensures ∙ held_in_table trusted c.args.table.now.sources limit c.args.desk.now c.args.path.now sound) in
-    left trusted limit c.args.table.now.sources c.args.desk.now (Fetch c.args.path.now) (Err NotHeld) sound
+    left trusted limit c.args.table.now.sources c.args.desk.now (Fetch c.args.path.now) (Err NotHeld) sound (λ setup w u. tt)
     (λ users sight same own. rw (same, none) refl)
     (fetch_at_once (desk_of trusted c.args.table.now.sources c.args.desk.now) c.args.path.now (Err NotHeld) (λ absent. refl)) (search rules) refl (search rules)

@@ -1,15 +1,15 @@
 use Rattle.trust.specs.Trusting.{trusts}
 use Rattle.trust.specs.Naming.{trusted_at}
-use Rattle.schedule.specs.Standing.{world_of, stored_in, event_of}
+use Rattle.schedule.specs.Standing.{world_of, setup_of, stored_in, event_of}
 use Rattle.schedule.proofs.WorldLemmas.{among_stored}
 use Rattle.schedule.proofs.StepLemmas.{served_step, refused_step}
 use Rattle.schedule.proofs.state.Core.step.Goals as goal
 
 pub returns-in-Ok-clause-step : goal.returns-in-Ok-clause-step
-returns-in-Ok-clause-step c = served_step c.args.self.now c.serve.new.self (event_of c.args.event) c.in-Ok.reply c.in-Ok.ensures
+returns-in-Ok-clause-step c = served_step c.args.self.now c.serve.new.self (event_of c.args.event) c.in-Ok.reply c.in-Ok.ensures c.args.self.now.sound
 
 pub returns-in-Ok-clause-stored : goal.returns-in-Ok-clause-stored
-unfolding world_of stored_in
+unfolding world_of stored_in setup_of
 returns-in-Ok-clause-stored c answered = c.in-Ok.ensures.stored
 
 pub returns-in-Ok-clause-holds : goal.returns-in-Ok-clause-holds

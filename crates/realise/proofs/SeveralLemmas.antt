@@ -1,0 +1,123 @@
+-- A desk with several entries more.
+use Rattle.std.proofs.Common.{◌≡◌, ℕ, ◌+◌, Bool, true, false, ◌||◌, not, List, [], ◌∷◌, ◌++◌, map, refl, sym, ap, ◌∙◌, append_assoc, append-nil, arith}
+use Rattle.std.specs.Prelude.{bytes_eq, All}
+use Rattle.std.proofs.lemmas.List.Elements.{All-nil, All-cons, All-head, All-tail}
+use Rattle.std.proofs.lemmas.List.Folds.{list_any-append}
+use Rattle.model.specs.Classes.{Known, is_one_of}
+use Rattle.model.specs.Reach.{is_among}
+use Rattle.model.specs.Worlds.{are_distinct}
+use Rattle.model.proofs.BoolLemmas.{both_parts}
+use Rattle.classes.specs.Entries.{AreNew}
+use Rattle.realise.specs.Recorded.{Recorded}
+use Rattle.realise.specs.declared.entry.Entry.{Entry}
+use Rattle.realise.specs.declared.entry.Entry.TheVariants as entry
+use Rattle.realise.specs.Holdings.{Holdings, entry_path, is_on, holds_entry, holds_all, holds_each, charged_more, charged_all, sources_in, records_in, AreAbsent}
+use Rattle.realise.proofs.PinLemmas.{bytes_eq_sym}
+
+-- ---- what is on the desk then
+
+-- a desk with these sources and records more, which are charged so many bytes
+abbrev pub with_parts : List (List ℕ) → List Recorded → ℕ → Holdings → Holdings
+with_parts sources records more d = record d {
+  known = record d.known { sources = d.known.sources ++ sources };
+  records = d.records ++ records;
+  charge = d.charge + more;
+}
+
+no_parts : (more : ℕ) (d : Holdings) → record d { charge = d.charge + more } ≡ with_parts [] [] more d
+no_parts more d = λ i. record d {
+  known = record d.known { sources = sym (append-nil d.known.sources) i };
+  records = sym (append-nil d.records) i;
+  charge = d.charge + more;
+}
+
+-- one entry first, and then the parts of the others
+parts_after : (e : Entry) (one more all : ℕ) (es : List Entry) (d : Holdings) → one + more ≡ all
+    → with_parts (sources_in es) (records_in es) more (holds_entry e one d) ≡ with_parts (sources_in (e ∷ es)) (records_in (e ∷ es)) all d
+parts_after (entry.Source path) one more all es d sum =
+    let charge : (d.charge + one) + more ≡ d.charge + all = omega (arith, sum) in
+    λ i. record d {
+      known = record d.known { sources = append_assoc d.known.sources (path ∷ []) (sources_in es) i };
+      records = d.records ++ records_in es;
+      charge = charge i;
+    }
+parts_after (entry.Record r) one more all es d sum =
+    let charge : (d.charge + one) + more ≡ d.charge + all = omega (arith, sum) in
+    λ i. record d {
+      known = record d.known { sources = d.known.sources ++ sources_in es };
+      records = append_assoc d.records (r ∷ []) (records_in es) i;
+      charge = charge i;
+    }
+
+-- entries added one after another are their sources and their records
+pub all_parts : (es : List Entry) (more : ℕ) (d : Holdings) → holds_all es more d ≡ with_parts (sources_in es) (records_in es) more d
+all_parts [] more d = no_parts more d
+all_parts (e ∷ es) more d =
+    let sum : 0 + more ≡ more = omega arith in
+    all_parts es more (holds_entry e 0 d) ∙ parts_after e 0 more more es d sum
+
+each_parts : (es : List (Entry × ℕ)) (d : Holdings)
+    → holds_each es d ≡ with_parts (sources_in (map (λ e. e.0) es)) (records_in (map (λ e. e.0) es)) (charged_all es d) d
+each_parts [] d =
+    let none : d.charge ≡ d.charge + 0 = omega arith in
+    (λ i. record d { charge = none i }) ∙ no_parts 0 d
+each_parts (e ∷ es) d =
+    let more = charged_more (entry_path e.0) e.1 d in
+    let next = holds_entry e.0 more d in
+    each_parts es next ∙ parts_after e.0 more (charged_all es next) (more + charged_all es next) (map (λ e. e.0) es) d refl
+
+-- all entries with what is charged for all is each with what is charged for it, one after another
+pub all_is_each : (es : List (Entry × ℕ)) (d : Holdings) → holds_all (map (λ e. e.0) es) (charged_all es d) d ≡ holds_each es d
+all_is_each es d = all_parts (map (λ e. e.0) es) (charged_all es d) d ∙ sym (each_parts es d)
+
+-- what is known, the records and the charge together
+pub made : (es : List Entry) (more : ℕ) (d : Holdings) (known : Known) (paths : List (List ℕ)) (records kept new : List Recorded) → paths ≡ sources_in es
+    → records ≡ records_in es → known ≡ record d.known { sources = d.known.sources ++ paths } → kept ≡ d.records → new ≡ kept ++ records
+    → record d { known = known; records = new; charge = d.charge + more } ≡ holds_all es more d
+made es more d known paths records kept new are_paths are_records known_is kept_is new_is =
+    let sources : known ≡ record d.known { sources = d.known.sources ++ sources_in es } =
+    known_is ∙ ap (λ ps. record d.known { sources = d.known.sources ++ ps }) are_paths in
+    let all : new ≡ d.records ++ records_in es = new_is ∙ (λ i. kept_is i ++ are_records i) in
+    (λ i. record d { known = sources i; records = all i; charge = d.charge + more }) ∙ sym (all_parts es more d)
+
+-- ---- the sources among them
+
+sources_absent : (es : List Entry) (d : Holdings) → All (λ e. is_on e d ≡ false) es → All (λ path. is_one_of d.known.sources path ≡ false) (sources_in es)
+sources_absent [] d all = All-nil (λ path. is_one_of d.known.sources path ≡ false)
+sources_absent (entry.Source path ∷ es) d all =
+    All-cons (λ p. is_one_of d.known.sources p ≡ false) path (sources_in es) (All-head (λ e. is_on e d ≡ false) (entry.Source path) es all)
+    (sources_absent es d (All-tail (λ e. is_on e d ≡ false) (entry.Source path) es all))
+sources_absent (entry.Record r ∷ es) d all = sources_absent es d (All-tail (λ e. is_on e d ≡ false) (entry.Record r) es all)
+
+neither : (a b : Bool) → (a || b) ≡ false → (a ≡ false) × (b ≡ false)
+neither true b h = cc
+neither false b h = (refl, h)
+
+-- paths that are not known, and of which none is this one
+still_absent : (known paths : List (List ℕ)) (path : List ℕ) → All (λ p. is_one_of known p ≡ false) paths → is_among path paths ≡ false
+    → All (λ p. is_one_of (known ++ path ∷ []) p ≡ false) paths
+still_absent known [] path all others = All-nil (λ p. is_one_of (known ++ path ∷ []) p ≡ false)
+still_absent known (p ∷ paths) path all others =
+    let both = neither (bytes_eq p path) (is_among path paths) others in
+    let old : is_one_of known p ≡ false = All-head (λ q. is_one_of known q ≡ false) p paths all in
+    let other : bytes_eq path p ≡ false = bytes_eq_sym path p ∙ both.0 in
+    let here : is_one_of (known ++ path ∷ []) p ≡ false = list_any-append (λ n. bytes_eq n p) known (path ∷ []) ∙ rw (old, other) refl in
+    All-cons (λ q. is_one_of (known ++ path ∷ []) q ≡ false) p paths here
+    (still_absent known paths path (All-tail (λ q. is_one_of known q ≡ false) p paths all) both.1)
+
+is_not : (b : Bool) → not b ≡ true → b ≡ false
+is_not true h = cc
+is_not false h = refl
+
+pub new_paths : (known paths : List (List ℕ)) → All (λ p. is_one_of known p ≡ false) paths → are_distinct paths ≡ true → AreNew known paths
+unfolding are_distinct
+new_paths known [] all distinct = tt
+new_paths known (path ∷ paths) all distinct =
+    let both = both_parts (not (is_among path paths)) (are_distinct paths) distinct in
+    let others : is_among path paths ≡ false = is_not (is_among path paths) both.0 in (
+      All-head (λ p. is_one_of known p ≡ false) path paths all,
+      new_paths (known ++ path ∷ []) paths (still_absent known paths path (All-tail (λ p. is_one_of known p ≡ false) path paths all) others) both.1,
+    )
+
+pub sources_new : (es : List Entry) (d : Holdings) → AreAbsent es d → AreNew d.known.sources (sources_in es)
+sources_new es d absent = new_paths d.known.sources (sources_in es) (sources_absent es d absent.absent) absent.distinct

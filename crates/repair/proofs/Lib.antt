@@ -1,0 +1,10 @@
+pub mod TurnLemmas
+pub mod MovingLemmas
+pub mod ServingLemmas
+pub mod EntryLemmas
+pub mod TreeLemmas
+pub mod GoneLemmas
+pub mod SoundLemmas
+pub mod KeptLemmas
+pub mod MadeLemmas
+pub mod OrderedLemmas

@@ -1,0 +1,4 @@
+pub mod Serving
+pub mod Moving
+pub mod SoundPlans
+pub mod RepairLaws

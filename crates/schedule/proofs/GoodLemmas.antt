@@ -1,0 +1,240 @@
+-- The closure that a user is given is whole, and keeps no path that is replaced.
+use Rattle.std.proofs.Common.{◌≡◌, ℕ, suc, Bool, true, false, inl, inr, refl, sym, ◌∙◌, ap, subst, List, [], ◌∷◌, ◌++◌, length, Contains, Option, Some, None, Result, Ok, Err}
+use Rattle.std.specs.Prelude.{All, map, filter, flat_map, find, bytes_eq, is_some, if◌then◌else◌}
+use Rattle.std.proofs.lemmas.List.Elements.{All-nil, All-head, All-tail, All-contains, All-cons, All-weaker}
+use Rattle.model.specs.declared.refusal.Refusal.{Refusal}
+use Rattle.model.specs.declared.refusal.Refusal.TheVariants.{UnknownUser}
+use Rattle.model.specs.Results.{then_do}
+use Rattle.model.specs.Paths.{IsPath, NoClash}
+use Rattle.model.specs.Settling.{Settled}
+use Rattle.model.specs.Worlds.{Source, Setup, Desk, World, Label, Record, Pin, Entry, OfSource, OfRecord, empty_desk, tree_at, is_user, path_of_entry}
+use Rattle.model.specs.References.{paths_of_labels}
+use Rattle.model.specs.Choices.{Plan, plan, visible_records}
+use Rattle.model.specs.Repairs.{serving_texts}
+use Rattle.model.specs.Closures.{served_plan, IsWhole, KeepsNoReplaced}
+use Rattle.model.specs.Closures as closures
+use Rattle.model.specs.ClosureRequests.{closure_for}
+use Rattle.model.specs.Events.{Closure, Event, Entries}
+use Rattle.model.specs.Outcomes.{sight_of, view_of, reaches, becomes, reply_of}
+use Rattle.model.specs.Steps.{outcome, reply_to}
+use Rattle.model.specs.HashedTexts.{texts_of_event}
+use Rattle.model.specs.GivenClosures.{GivesGoodClosure}
+use Rattle.model.proofs.BoolLemmas.{either, same_bytes}
+use Rattle.model.proofs.MemberLemmas.{In, in_of, contains_of, in_left, in_right, in_map, in_append, from_map, from_flat_map}
+use Rattle.model.proofs.ServedLemmas.{then_ok, ok_is, find_in, option_cases}
+use Rattle.model.proofs.ClosureLemmas.{plan_visible}
+use Rattle.model.proofs.WholeLemmas.{closures_whole}
+use Rattle.realise.specs.Recorded.{Recorded}
+use Rattle.trust.specs.Naming.{trusted_at}
+use Rattle.realise.specs.Holdings.{Holdings, paths_of, IsClosed, IsClosedWith}
+use Rattle.choose.specs.Visible.{Visible, source_at, record_at, visible_on, seen, IsStored, IsDeskStored}
+use Rattle.choose.specs.Visible as visible
+use Rattle.choose.proofs.DeskLemmas.{desks_seen}
+use Rattle.choose.proofs.LabelledLemmas.{sees_in, labels_in, view_sees_sources}
+use Rattle.repair.specs.SoundPlans.{IsSoundRecord, IsSoundPlan, PartsTellApart}
+use Rattle.repair.specs.RepairLaws.{paths_of_record, paths_in, IsServedEntry}
+use Rattle.repair.proofs.SoundLemmas.{served_is_sound}
+use Rattle.repair.proofs.KeptLemmas.{served_parts, served_for}
+use Rattle.repair.proofs.MadeLemmas.{served_are_made}
+use Rattle.repair.proofs.OrderedLemmas.{closures_keep_no_replaced}
+use Rattle.schedule.specs.Sound.{IsSound, IsHashed}
+use Rattle.schedule.specs.Standing.{Parts, world_in, desk_among}
+use Rattle.schedule.specs.Viewing.{bare}
+use Rattle.schedule.specs.Given.{HasSoundPlan}
+use Rattle.schedule.proofs.ApartLemmas.{IsPrinted, made_printed, one_path}
+
+-- ---- desks of users
+
+-- what is held for a user among paired users and desks
+abbrev held_by : List (List ℕ) → List Holdings → List ℕ → Holdings
+held_by [] desks u = bare
+held_by (name ∷ names) [] u = bare
+held_by (name ∷ names) (d ∷ desks) u = if bytes_eq name u then d else held_by names desks u
+
+held_records : (trusted : ℕ → List ℕ → Bool) (table : List Source) (names : List (List ℕ)) (desks : List Holdings) (u : List ℕ)
+    → (desk_among trusted table names desks u).records ≡ map (record_at table) (held_by names desks u).records
+held_records trusted table [] desks u = refl
+held_records trusted table (name ∷ names) [] u = refl
+held_records trusted table (name ∷ names) (d ∷ desks) u = elim (either (bytes_eq name u)) [
+  | inl t ↦ rw t refl
+  | inr f ↦ rw f (held_records (λ place. trusted (suc place)) table names desks u)
+]
+
+held_sources : (trusted : ℕ → List ℕ → Bool) (table : List Source) (names : List (List ℕ)) (desks : List Holdings) (u : List ℕ)
+    → (desk_among trusted table names desks u).sources ≡ map (source_at table) (held_by names desks u).known.sources
+held_sources trusted table [] desks u = refl
+held_sources trusted table (name ∷ names) [] u = refl
+held_sources trusted table (name ∷ names) (d ∷ desks) u = elim (either (bytes_eq name u)) [
+  | inl t ↦ rw t refl
+  | inr f ↦ rw f (held_sources (λ place. trusted (suc place)) table names desks u)
+]
+
+held_all : (P : Holdings → Type 0) → P bare → (names : List (List ℕ)) (desks : List Holdings) (u : List ℕ) → All P desks → P (held_by names desks u)
+held_all P none [] desks u all = none
+held_all P none (name ∷ names) [] u all = none
+held_all P none (name ∷ names) (d ∷ desks) u all = elim (either (bytes_eq name u)) [
+  | inl t ↦ rw t (All-head P d desks all)
+  | inr f ↦ rw f (held_all P none names desks u (All-tail P d desks all))
+]
+
+each_held : (P : Holdings → Type 0) → P bare → (names : List (List ℕ)) (desks : List Holdings) → All P desks → (users : List (List ℕ))
+    → All P (map (held_by names desks) users)
+each_held P none names desks all [] = All-nil P
+each_held P none names desks all (u ∷ users) =
+    All-cons P (held_by names desks u) (map (held_by names desks) users) (held_all P none names desks u all) (each_held P none names desks all users)
+
+-- ---- paths of what is stored
+
+module _ (texts : List (List ℕ)) (table : List Source) (hashed : All (IsHashed texts) table) where
+  stored_printed : (path : List ℕ) → IsStored table path → IsPrinted texts path
+  stored_printed path there = elim (option_cases (find (λ (s : Source). bytes_eq s.path path) table)) [
+    | inl none ↦ (let no : is_some (tree_at path table) ≡ false = rw none refl in absurd (cc))
+    | inr w ↦
+        let found = find_in (λ (s : Source). bytes_eq s.path path) table w.0 w.1 in
+        let is : IsHashed texts w.0 = All-contains (IsHashed texts) table w.0 hashed (contains_of table w.0 found.0) in
+        subst (IsPrinted texts) (is.path ∙ same_bytes w.0.path path found.1) (made_printed texts is.named is.made)
+  ]
+
+  -- each path on desks all whose paths are stored
+  held_printed : (desks : List Holdings) → All (IsDeskStored table) desks → (d : Holdings) → In d desks → (path : List ℕ) → In path (paths_of d)
+      → IsPrinted texts path
+  held_printed desks stored d h path k =
+      let all : IsDeskStored table d = All-contains (IsDeskStored table) desks d stored (contains_of desks d h) in
+      stored_printed path (All-contains (IsStored table) (paths_of d) path all (contains_of (paths_of d) path k))
+
+  record_printed : (desks : List Holdings) → All (IsDeskStored table) desks → (r : Record) → In r (seen table desks).records → IsPrinted texts r.path
+  record_printed desks stored r h =
+      let v = from_flat_map (λ (d : Holdings). map (record_at table) d.records) r desks h in
+      let w = from_map (record_at table) r v.0.records v.2 in
+      subst (IsPrinted texts) (ap (λ (z : Record). z.path) w.2)
+      (held_printed desks stored v.0 v.1 w.0.path
+      (in_right w.0.path v.0.known.sources (map (λ (q : Recorded). q.path) v.0.records) (in_map (λ (q : Recorded). q.path) w.0 v.0.records w.1)))
+
+  source_printed : (desks : List Holdings) → All (IsDeskStored table) desks → (s : Source) → In s (seen table desks).sources → IsPrinted texts s.path
+  source_printed desks stored s h =
+      let v = from_flat_map (λ (d : Holdings). map (source_at table) d.known.sources) s desks h in
+      let w = from_map (source_at table) s v.0.known.sources v.2 in
+      subst (IsPrinted texts) (ap (λ (z : Source). z.path) w.2)
+      (held_printed desks stored v.0 v.1 w.0 (in_left w.0 v.0.known.sources (map (λ (q : Recorded). q.path) v.0.records) w.1))
+
+  visible_printed : (desks : List Holdings) → All (IsDeskStored table) desks → (path : List ℕ) → Contains (visible.paths_in (seen table desks)) path
+      → IsPrinted texts path
+  visible_printed desks stored path h =
+      let view : Visible = seen table desks in
+      elim (in_append path (map (λ (r : Record). r.path) view.records) (map (λ (s : Source). s.path) view.sources) (in_of (visible.paths_in view) path h)) [
+        | inl a ↦ let w = from_map (λ (r : Record). r.path) path view.records a in subst (IsPrinted texts) w.2 (record_printed desks stored w.0 w.1)
+        | inr b ↦ let w = from_map (λ (s : Source). s.path) path view.sources b in subst (IsPrinted texts) w.2 (source_printed desks stored w.0 w.1)
+      ]
+
+-- ---- the paths of a closure
+
+-- a path that was made, by a text that is hashed
+abbrev IsMadePath : List (List ℕ) → List ℕ → Type 0
+IsMadePath texts path = IsPath path × IsPrinted texts path
+
+not_source : (s : Source) (r : Record) → OfRecord r ≡ OfSource s → ⊥
+not_source s r e = cc
+
+module _ (texts : List (List ℕ)) (table : List Source) (hashed : All (IsHashed texts) table) (desks : List Holdings)
+    (stored : All (IsDeskStored table) desks) (closed : All IsClosed desks) (view : List Desk) (sees : visible_on view ≡ seen table desks)
+    (pins : List Pin) (class : List ℕ) (p : Plan) (planned : plan view pins (class ∷ []) [] ≡ Ok p) (sound : IsSoundPlan p)
+    (entries : List Entry) (served : served_plan p ≡ Ok entries) (inside : All (Contains texts) (serving_texts p.records)) where
+  sound_record : (r : Record) → In r p.records → IsSoundRecord r
+  sound_record r h = All-contains IsSoundRecord p.records r sound (contains_of p.records r h)
+
+  is_seen : (r : Record) → In r p.records → In r (seen table desks).records
+  is_seen r h = subst (λ (v : Visible). In r v.records) sees (plan_visible view pins (class ∷ []) [] p planned r h)
+
+  chosen_path : (r : Record) → In r p.records → IsMadePath texts r.path
+  chosen_path r h = ((sound_record r h).path, record_printed texts table hashed desks stored r (is_seen r h))
+
+  label_path : (r : Record) (l : Label) → In r p.records → In l r.labels → IsMadePath texts l.path
+  label_path r l h k = (
+    All-contains (λ (m : Label). IsPath m.path) r.labels l (sound_record r h).labels (contains_of r.labels l k),
+    visible_printed texts table hashed desks stored l.path
+        (labels_in (seen table desks) table desks refl closed r l (contains_of (seen table desks).records r (is_seen r h)) (contains_of r.labels l k)),
+  )
+
+  served_path : (q : Record) → In (OfRecord q) entries → IsMadePath texts q.path
+  served_path q h =
+      let there = contains_of entries (OfRecord q) h in
+      let from = served_for p entries (served_parts p entries served) q there in
+      let is = served_is_sound p.records sound from.0.class.path q from.2 in
+      elim (served_are_made p entries texts sound served inside (OfRecord q) there) [
+        | inl s ↦ absurd (not_source s.0 q s.2)
+        | inr rest ↦ elim rest [
+          | inl r ↦ subst (IsMadePath texts) (sym r.2) (chosen_path r.0 (in_of p.records r.0 r.1))
+          | inr s ↦ (is.0, subst (IsPrinted texts) s.2 (made_printed texts s.0 s.1))
+        ]
+      ]
+
+  entry_path : (e : Entry) → In e entries → (path : List ℕ) → In path (paths_of_record e) → IsMadePath texts path
+  entry_path (OfSource s) h path k = absurd k
+  entry_path (OfRecord r) h path k = elim k [ inl same ↦ subst (IsMadePath texts) same (served_path r h) | inr none ↦ absurd none ]
+
+  each_path : (path : List ℕ) → Contains (paths_in p entries) path → IsMadePath texts path
+  each_path path h =
+      elim (in_append path (flat_map (λ (r : Record). paths_of_labels r.labels) p.records) (flat_map paths_of_record entries) (in_of (paths_in p entries) path h)) [
+        | inl a ↦
+            let v = from_flat_map (λ (r : Record). paths_of_labels r.labels) path p.records a in
+            let w = from_map (λ (l : Label). l.path) path v.0.labels v.2 in
+            subst (IsMadePath texts) w.2 (label_path v.0 w.0 v.1 w.1)
+        | inr b ↦ let v = from_flat_map paths_of_record path entries b in entry_path v.0 v.1 path v.2
+      ]
+
+  tell_apart : NoClash texts → PartsTellApart (paths_in p entries)
+  tell_apart clean a b h k same =
+      let first = each_path a h in
+      let second = each_path b k in
+      one_path texts clean a b first.0 second.0 first.1 second.1 same
+
+  is_good : NoClash texts → IsWhole entries × KeepsNoReplaced p entries
+  is_good clean =
+      let made : closures.closure view pins (class ∷ []) [] ≡ Ok entries = rw planned served in (
+        closures_whole view pins (class ∷ []) [] entries (view_sees_sources view (seen table desks) sees (sees_in (seen table desks) table desks refl closed)) made,
+        closures_keep_no_replaced view pins (class ∷ []) [] p entries planned sound (tell_apart clean) served,
+      )
+
+-- ---- what a user is given
+
+replied : (d : Desk) (o : Result (List Entry) Refusal) (entries : List Entry) → reply_of (then_do o (λ given. becomes d (Entries given))) ≡ Entries entries
+    → o ≡ Ok entries
+replied d (Ok given) entries h = cc
+replied d (Err why) entries h = cc
+
+-- where a closure is given, it is that of a user of the run
+entries_given : (setup : Setup) (w : World) (e : Event) (class : List ℕ) (entries : List Entry) → e.request ≡ Closure class → reply_to setup w e ≡ Entries entries
+    → (is_user setup e.actor ≡ true) × (closure_for (sight_of setup w e.actor) class ≡ Ok entries)
+unfolding outcome
+entries_given setup w e class entries asked told = elim (either (is_user setup e.actor)) [
+  | inl t ↦ (t, replied (w e.actor) (closure_for (sight_of setup w e.actor) class) entries (rw (t, asked) at told))
+  | inr f ↦ let no : reply_of (Err UnknownUser) ≡ Entries entries = rw f at told in absurd (cc)
+]
+
+stored_bare : (table : List Source) → IsDeskStored table bare
+stored_bare table = All-nil (IsStored table)
+
+closed_bare : IsClosed bare
+closed_bare = All-nil (IsClosedWith bare)
+
+-- where no two texts clash, the closure that a user is given is good if its plan is sound
+pub gives_good : (texts : List (List ℕ)) → NoClash texts → (parts : Parts) (event : Event) → All (IsSound parts.table parts.setup.charge) parts.desks
+    → All (IsHashed texts) parts.table → All (Contains texts) (texts_of_event parts.setup (world_in parts) event)
+    → HasSoundPlan parts.setup (world_in parts) event.actor event.request → GivesGoodClosure parts.setup (world_in parts) event
+gives_good texts clean parts event sound hashed inside has class entries p asked told planned =
+    let setup : Setup = parts.setup in
+    let w : World = world_in parts in
+    let table : List Source = parts.table in
+    let trusted : ℕ → List ℕ → Bool = trusted_at setup.users parts.trust in
+    let users : List (List ℕ) = filter (reaches setup w event.actor) setup.users in
+    let known = entries_given setup w event class entries asked told in
+    let served : served_plan p ≡ Ok entries = rw planned at known.1 in
+    let serving : All (Contains texts) (serving_texts p.records) = rw (known.0, asked, planned) at inside in
+    let plans : HasSoundPlan setup w event.actor (Closure class) = rw asked at has in
+    let stored : All (IsDeskStored table) parts.desks = All-weaker (IsSound table setup.charge) (IsDeskStored table) (λ d is. is.known) parts.desks sound in
+    let closed : All IsClosed parts.desks = All-weaker (IsSound table setup.charge) IsClosed (λ d is. is.closed) parts.desks sound in
+    is_good texts table hashed (map (held_by setup.users parts.desks) users)
+    (each_held (IsDeskStored table) (stored_bare table) setup.users parts.desks stored users)
+    (each_held IsClosed closed_bare setup.users parts.desks closed users) (view_of setup w event.actor)
+    (desks_seen table w (held_by setup.users parts.desks) (held_records trusted table setup.users parts.desks) (held_sources trusted table setup.users parts.desks) users)
+    (w event.actor).pins class p planned (plans p planned) entries served serving clean

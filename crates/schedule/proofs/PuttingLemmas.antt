@@ -1,0 +1,26 @@
+-- Trees that are put into the table one after another.
+use Rattle.std.proofs.Common.{◌∙◌, List, [], ◌∷◌, ◌++◌, refl}
+use Rattle.std.specs.Prelude.{All}
+use Rattle.std.proofs.lemmas.List.Elements.{All-nil, All-cons, All-head, All-tail}
+use Rattle.model.specs.Worlds.{Source}
+use Rattle.store.specs.Stored.{put_once, put_all, Extends}
+use Rattle.store.proofs.TableLemmas.{put_once-Extends, put_once-All}
+
+pub put_all-Extends : (more old : List Source) → Extends old (put_all more old)
+put_all-Extends [] old path there = refl
+put_all-Extends (s ∷ more) old path there =
+    let once = put_once-Extends s old path there in
+    put_all-Extends more (put_once s old) path (rw once there) ∙ once
+
+pub put_all-All : (P : Source → Type 0) (more old : List Source) → All P old → All P more → All P (put_all more old)
+put_all-All P [] old all own = all
+put_all-All P (s ∷ more) old all own =
+    put_all-All P more (put_once s old) (put_once-All P s old all (All-head P s more own)) (All-tail P s more own)
+
+pub all_before : (P : Source → Type 0) (xs : List Source) (y : Source) (zs : List Source) → All P (xs ++ y ∷ zs) → All P xs
+all_before P [] y zs all = All-nil P
+all_before P (x ∷ xs) y zs all = All-cons P x xs (All-head P x (xs ++ y ∷ zs) all) (all_before P xs y zs (All-tail P x (xs ++ y ∷ zs) all))
+
+pub all_between : (P : Source → Type 0) (xs : List Source) (y : Source) (zs : List Source) → All P (xs ++ y ∷ zs) → P y
+all_between P [] y zs all = All-head P y zs all
+all_between P (x ∷ xs) y zs all = all_between P xs y zs (All-tail P x (xs ++ y ∷ zs) all)

@@ -1,0 +1,67 @@
+use Rattle.std.proofs.Common.{◌≡◌, ℕ, ◌<◌, List, length, get_or, None, Some, Result, Ok, Err, refl, sym, ◌∙◌, ap, subst, rules, ◌⊎◌}
+use Rattle.std.specs.Prelude.{slice_set}
+use Rattle.std.proofs.lemmas.List.{get_or-set_same}
+use Rattle.std.proofs.lemmas.Result.{err_from_is_err_and}
+use Rattle.model.specs.declared.refusal.Refusal.{Refusal}
+use Rattle.model.specs.declared.refusal.Refusal.TheVariants.{Memory, NotRealised}
+use Rattle.model.specs.ClosureRequests.{path_for}
+use Rattle.model.specs.Worlds.{Source, Entry}
+use Rattle.realise.specs.Holdings.{Holdings}
+use Rattle.trust.specs.Trusting.{trusts}
+use Rattle.schedule.specs.Taking.{CopiesEntries}
+use Rattle.schedule.specs.Viewing.{bare, desk_at}
+use Rattle.schedule.proofs.ViewLemmas.{any_default}
+use Rattle.schedule.proofs.ClosureLemmas.{all_complete}
+use Rattle.schedule.proofs.TakeLemmas.{take_unserved, take_unnamed, take_done, take_refused}
+use Rattle.schedule.proofs.requests.taking.take.Goals as goal
+
+pub entries_for-requires-clause-complete : goal.entries_for-requires-clause-complete
+entries_for-requires-clause-complete c = all_complete c.args.table.now.sources c.args.limits.charge c.args.desks.now c.requires.sound
+
+pub returns-in_err-entries-clause-taken : goal.returns-in_err-entries-clause-taken
+returns-in_err-entries-clause-taken c =
+    let p = err_from_is_err_and c.from_residual.result c.from_residual.ensures.1 in
+    rw (p.1, p.2) (take_unserved c.served_are_made.ensures (trusts c.args.trust.now) c.args.limits.charge c.args.table.now.sources c.args.desks.now c.args.place c.args.class.now
+    c.in_err-entries.field-0.0 c.in_err-entries.ensures.served)
+
+pub returns-in_err-path-clause-taken : goal.returns-in_err-path-clause-taken
+returns-in_err-path-clause-taken c =
+    let p = err_from_is_err_and c.from_residual-in_err-path.result c.from_residual-in_err-path.ensures.1 in
+    let why = c.in_err-path.field-0.0 in
+    rw (p.1, p.2) (take_unnamed c.served_are_made.ensures (trusts c.args.trust.now) c.args.limits.charge c.args.table.now.sources c.args.desks.now c.args.place c.args.class.now
+    c.in_ok-entries.entries.items c.in_ok-entries.ensures.served why
+    (subst (λ (es : List Entry). (why ≡ Memory) ⊎ ((why ≡ NotRealised) × (path_for c.args.class.now es ≡ None))) c.deref.ensures.value c.in_err-path.ensures))
+
+-- what is copied to the desk at a place
+copied_at : (limit : ℕ) (old : List Source) (desks : List Holdings) (place : ℕ) (any : Holdings) (entries copies : List Entry) (result : Result (Unit {0}) Refusal)
+    (new : List Source) (after : Holdings) → place < length desks → copies ≡ entries
+    → CopiesEntries limit old (get_or desks place any) copies result new after
+    → CopiesEntries limit old (desk_at desks place) entries result new (desk_at (slice_set desks place after) place)
+copied_at limit old desks place any entries copies result new after below same copied =
+    let before : get_or desks place any ≡ desk_at desks place = any_default desks place any bare below in
+    let later : desk_at (slice_set desks place after) place ≡ after = get_or-set_same desks place after bare below in
+    rw (later, ← before, ← same) copied
+
+pub returns-in_err-copy_all-clause-taken : goal.returns-in_err-copy_all-clause-taken
+returns-in_err-copy_all-clause-taken c =
+    let p = err_from_is_err_and c.from_residual-in_err-copy_all.result c.from_residual-in_err-copy_all.ensures.1 in
+    let why = c.in_err-copy_all.field-0.0 in
+    let result : c.copy_all.result ≡ Err why = search rules in
+    let named : path_for c.args.class.now c.in_ok-entries.entries.items ≡ Some c.in_ok-path.path =
+    ap (path_for c.args.class.now) (sym c.deref.ensures.value) ∙ c.in_ok-path.ensures in
+    rw (p.1, p.2) (take_refused c.served_are_made.ensures (trusts c.args.trust.now) c.args.limits.charge c.args.table.now.sources c.args.desks.now c.args.place c.args.class.now
+    c.in_ok-entries.entries.items c.in_ok-entries.ensures.served c.in_ok-path.path named c.copy_all.new.table.sources
+    (desk_at (slice_set c.args.desks.now c.args.place c.copy_all.new.desk) c.args.place) why
+    (copied_at c.args.limits.charge c.args.table.now.sources c.args.desks.now c.args.place c.index-desks-place.result c.in_ok-entries.entries.items c.deref-2.result.now (Err why)
+    c.copy_all.new.table.sources c.copy_all.new.desk c.requires.of_run c.deref-2.ensures.value (rw result at c.copy_all.ensures)))
+
+pub returns-clause-taken : goal.returns-clause-taken
+returns-clause-taken c =
+    let result : c.copy_all.result ≡ Ok tt = search rules in
+    let named : path_for c.args.class.now c.in_ok-entries.entries.items ≡ Some c.in_ok-path.path =
+    ap (path_for c.args.class.now) (sym c.deref.ensures.value) ∙ c.in_ok-path.ensures in
+    take_done c.served_are_made.ensures (trusts c.args.trust.now) c.args.limits.charge c.args.table.now.sources c.args.desks.now c.args.place c.args.class.now
+    c.in_ok-entries.entries.items c.in_ok-entries.ensures.served c.in_ok-path.path named c.copy_all.new.table.sources
+    (desk_at (slice_set c.args.desks.now c.args.place c.copy_all.new.desk) c.args.place) _ refl
+    (copied_at c.args.limits.charge c.args.table.now.sources c.args.desks.now c.args.place c.index-desks-place.result c.in_ok-entries.entries.items c.deref-2.result.now (Ok tt)
+    c.copy_all.new.table.sources c.copy_all.new.desk c.requires.of_run c.deref-2.ensures.value (rw result at c.copy_all.ensures))
