@@ -16,6 +16,9 @@ DIGITS = "0123456789abcdfghijklmnpqrsvwxyz"
 class Refused(Exception):
     """Its text is the number of a refusal, its name and, of a refused rewriting, the reason."""
 
+    def number(self):
+        return int(str(self)[:2])
+
 
 def sha256(data):
     return hashlib.sha256(data).digest()
@@ -59,6 +62,53 @@ def node(tree):
 
 def archive(tree):
     return string(b"nix-archive-1") + node(tree)
+
+
+def read_node(data, at, level=1):
+    """The tree whose node stands in a text from there on, and the offset behind it; of other texts anything, or
+    a fault."""
+    def read(at):
+        end = at + 8 + int.from_bytes(data[at:at + 8], "little")
+        return data[at + 8:end], end + (at - end) % 8
+    if level > 64:
+        raise ValueError
+    kind, at = read(at + len(strings(b"(", b"type")))
+    if kind == b"symlink":
+        target, at = read(at + len(string(b"target")))
+        return ("l", target), at + len(string(b")"))
+    if kind == b"regular":
+        mark = read(at)[0] == b"executable"
+        held, at = read(at + mark * len(strings(b"executable", b"")) + len(string(b"contents")))
+        return ("x" if mark else "f", held), at + len(string(b")"))
+    entries = []
+    while kind == b"directory" and read(at)[0] == b"entry":
+        name, at = read(at + len(strings(b"entry", b"(", b"name")))
+        entry, at = read_node(data, at + len(string(b"node")), level + 1)
+        entries.append((name, entry))
+        at += len(string(b")"))
+    return ("d", entries), at + len(string(b")"))
+
+
+def is_entry_name(name):
+    return 1 <= len(name) <= 255 and name not in (b".", b"..") and b"/" not in name and b"\0" not in name
+
+
+def has_good_names(tree):
+    kind, held = tree
+    names = [name for name, _ in held] if kind == "d" else []
+    return all(map(is_entry_name, names)) and all(a < b for a, b in zip(names, names[1:])) and (
+        kind != "d" or all(has_good_names(entry) for _, entry in held))
+
+
+def read_archive(data):
+    """The tree whose archive that is; nothing where it is none, or is over 64 MiB."""
+    if len(data) > 64 << 20:
+        return None
+    try:
+        tree, _ = read_node(data, len(string(b"nix-archive-1")))
+    except ValueError:
+        return None
+    return tree if archive(tree) == data and has_good_names(tree) else None
 
 
 def tree_text(tree):

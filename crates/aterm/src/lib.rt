@@ -11,4 +11,4 @@ pub use derivation::{Derivation, Parts};
 pub use laws::{derivations_pass, reading_is_exact};
 pub use read::parse;
 pub use text::Text;
-pub use write::{print, print_with_inputs};
+pub use write::{print, print_parts, print_with_inputs};

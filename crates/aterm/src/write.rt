@@ -147,6 +147,23 @@ fn put_rest(out: &mut Vec<u8>, parts: &Parts) -> Result<(), AllocError>
     out.extend_from_slice(b")")
 }
 
+/// The text of what a derivation is made of. Whether the store takes such a derivation is not asked.
+///
+/// # Errors
+///
+/// - `Memory` only where memory was refused.
+pub fn print_parts(alloc: Global, parts: &Parts) -> Result<Vec<u8>, Refusal>
+    ensures { MatchResult result
+        (λ text. text.items ≡ derivation_text (derivation_of parts.now))
+        (λ e. e ≡ Memory) }
+{
+    let mut out = Vec::new(alloc);
+    out.extend_from_slice(HEAD)?;
+    put_paths(&mut out, BEFORE_INPUT, &parts.inputs, BEHIND_INPUT)?;
+    put_rest(&mut out, parts)?;
+    Ok(out)
+}
+
 /// The text of a derivation.
 ///
 /// # Errors
@@ -157,12 +174,7 @@ pub fn print(alloc: Global, derivation: &Derivation) -> Result<Vec<u8>, Refusal>
         (λ text. text.items ≡ derivation_text derivation.now)
         (λ e. e ≡ Memory) }
 {
-    let parts = derivation.parts();
-    let mut out = Vec::new(alloc);
-    out.extend_from_slice(HEAD)?;
-    put_paths(&mut out, BEFORE_INPUT, &parts.inputs, BEHIND_INPUT)?;
-    put_rest(&mut out, parts)?;
-    Ok(out)
+    print_parts(alloc, derivation.parts())
 }
 
 /// The text of a derivation with other strings in place of its inputs' paths.

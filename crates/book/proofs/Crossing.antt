@@ -22,6 +22,12 @@ use Rattle.choose.specs.contracts.realisation.Realisation as Realisation
 use Rattle.choose.specs.contracts.realisation.Source as Source
 use Rattle.choose.specs.contracts.entry.Entry as Entry
 use Rattle.choose.specs.contracts.entry.Closure as Closure
+use Rattle.repair.specs.contracts.resolved.Resolved as Resolved
+use Rattle.jobs.specs.contracts.job.Job as Job
+use Rattle.jobs.specs.contracts.goal.Goal as Goal
+use Rattle.jobs.specs.contracts.indexes.Indexes as Indexes
+use Rattle.jobs.specs.contracts.goals.Goals as Goals
+use Rattle.jobs.specs.contracts.users.Jobs as Jobs
 use Rattle.schedule.specs.contracts.state.Core as Core
 use Rattle.schedule.specs.contracts.events.Event as Event
 use Rattle.schedule.specs.contracts.events.Reply as Reply
@@ -115,8 +121,26 @@ pins_send = search (sendable, crosses, path_send) depth 60 fits 5000
 pub desk_send : IsSend Desk.the_row
 desk_send = search (sendable, crosses, path_send, known_send, record_send, pins_send) depth 60 fits 5000
 
+resolved_send : IsSend Resolved.the_row
+resolved_send = search (sendable, crosses, path_send, closure_send) depth 60 fits 5000
+
+job_send : IsSend Job.the_row
+job_send = search (sendable, crosses) depth 60 fits 5000
+
+goal_send : IsSend Goal.the_row
+goal_send = search (sendable, crosses, path_send, refusal_send, resolved_send, job_send) depth 60 fits 5000
+
+indexes_send : IsSend Indexes.the_row
+indexes_send = search (sendable, crosses, path_send, job_send) depth 60 fits 5000
+
+goals_send : IsSend Goals.the_row
+goals_send = search (sendable, crosses, goal_send, indexes_send) depth 60 fits 5000
+
+jobs_send : IsSend Jobs.the_row
+jobs_send = search (sendable, crosses, goals_send) depth 60 fits 5000
+
 pub core_send : IsSend Core.the_row
-core_send = search (sendable, crosses, desk_send, table_send) depth 60 fits 5000
+core_send = search (sendable, crosses, desk_send, table_send, jobs_send) depth 60 fits 5000
 
 history_send : IsSend (Vec.the_row Row.the_row Global.the_row ghosts)
 history_send = Vec-send Row.the_row row_send

@@ -9,7 +9,7 @@ use Rattle.model.specs.Steps.{world_after, answers, after, reply_to, replies_to}
 use Rattle.model.specs.Laws.{IsIsolated}
 use Rattle.model.specs.Replies.{is_memory, is_memory_refusal, is_stopped_refusal}
 use Rattle.model.specs.HashedTexts.{hashed, texts_of_event}
-use Rattle.model.specs.GivenClosures.{GivesGoodClosure, GiveGoodClosures}
+use Rattle.model.specs.GivenClosures.{GivesGoodClosure, KeepsGoodClosure, GiveGoodClosures}
 use Rattle.schedule.specs.declared.events.Reply.{Reply}
 use Rattle.schedule.specs.declared.events.Reply.TheVariants.{Refused}
 use Rattle.schedule.specs.declared.state.Core.{Core}
@@ -75,12 +75,16 @@ stops setup old new stopped rows kept same = record {
 
 -- ---- a call that is answered
 
+-- the closure that a user is given then, or that a goal is built from, is good
+abbrev IsGood : Setup → World → Event → Type 0
+IsGood setup w e = GivesGoodClosure setup w e × KeepsGoodClosure setup w e
+
 -- the step, where no two texts clash
 record Went (setup : Setup) (rows : List Row) (r : Row) (new : Core) (texts : List (List ℕ)) : Type 0 where
   reply : reply_of r.reply ≡ reply_to setup (world_after setup nothing (events_of rows)) (event_in r)
   world : world_of new ≡ after setup (world_after setup nothing (events_of rows)) (event_in r)
   hashes : HasHashed texts new
-  good : GivesGoodClosure setup (world_after setup nothing (events_of rows)) (event_in r)
+  good : IsGood setup (world_after setup nothing (events_of rows)) (event_in r)
 
 went : (setup : Setup) (old new : Core) (rows : List Row) (r : Row) → Kept setup old false rows → gave_up r.reply ≡ false → Steps old r.event r.reply new
     → (texts : List (List ℕ)) → NoClash texts → All (Contains texts) (hashed setup nothing (events_of (rows ++ r ∷ []))) → Went setup rows r new texts
@@ -96,8 +100,8 @@ went setup old new rows r kept some steps texts clean inside =
       reply = stepped.told ∙ ap (λ (s : Setup). reply_to s (world_of old) (event_in r)) kept.given ∙ ap (λ (w : World). reply_to setup w (event_in r)) before.world;
       world = stepped.world ∙ ap (λ (s : Setup). after s (world_of old) (event_in r)) kept.given ∙ ap (λ (w : World). after setup w (event_in r)) before.world;
       hashes = steps.hashed texts before.hashes here;
-      good = subst (λ (s : Setup). GivesGoodClosure s (world_after setup nothing events) (event_in r)) kept.given
-          (subst (λ (w : World). GivesGoodClosure (setup_of old) w (event_in r)) before.world (steps.good texts clean before.hashes here (some_memory r.reply some)));
+      good = subst (λ (s : Setup). IsGood s (world_after setup nothing events) (event_in r)) kept.given
+          (subst (λ (w : World). IsGood (setup_of old) w (event_in r)) before.world (steps.good texts clean before.hashes here (some_memory r.reply some)));
     }
 
 pub goes_on : (setup : Setup) (old new : Core) (rows : List Row) (r : Row) → Kept setup old false rows → gave_up r.reply ≡ false → Steps old r.event r.reply new → Kept setup new false (rows ++ r ∷ [])
@@ -117,8 +121,9 @@ goes_on setup old new rows r kept some steps = record {
       let own : List (List ℕ) = texts_of_event setup (world_after setup nothing events) (event_in r) in
       let all : All (Contains texts) (hashed setup nothing events ++ own) =
       subst (All (Contains texts)) (ap (hashed setup nothing) (events_push rows r) ∙ hashed_push setup nothing events (event_in r)) inside in
-      rw (events_push rows r) (good_push setup nothing events (event_in r) (kept.good texts clean (all_front (Contains texts) (hashed setup nothing events) own all))
-      (went setup old new rows r kept some steps texts clean inside).good);
+      let now = went setup old new rows r kept some steps texts clean inside in
+      rw (events_push rows r) (good_push setup nothing events (event_in r)
+      (kept.good texts clean (all_front (Contains texts) (hashed setup nothing events) own all)) now.good.0 now.good.1);
   reached = λ going texts clean inside.
       let now = went setup old new rows r kept some steps texts clean inside in
       record {

@@ -12,11 +12,11 @@ use Rattle.model.specs.Classes.{Class, greatest_rank}
 use Rattle.model.specs.Limits.{most_entries}
 use Rattle.model.specs.Choices.{Plan, choose, plan_by, plan, small_plan}
 use Rattle.model.specs.Repairs.{Move, move_to, move_of, moves_of, is_replaced, is_replaced_by, rewritten, resettled, repaired_as, moved, served_by, served, serve, chosen_in, serve_all}
-use Rattle.model.specs.Closures.{served_entries, served_plan}
+use Rattle.model.specs.Closures.{served_entries, served_plan, path_for}
 use Rattle.model.specs.Closures as closures
 use Rattle.model.specs.Events.{Entries, Path}
 use Rattle.model.specs.Outcomes.{Sight, Outcome, becomes, room}
-use Rattle.model.specs.ClosureRequests.{closure_for, closure, path_for, take_entries, take}
+use Rattle.model.specs.ClosureRequests.{closure_for, closure, take_entries, take}
 use Rattle.model.proofs.OutcomeLemmas.{then_done, needed, roomed}
 
 -- all refusals of a result are of a kind

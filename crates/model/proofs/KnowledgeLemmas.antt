@@ -3,14 +3,18 @@ use Rattle.std.proofs.Common.{◌≡◌, ℕ, zero, suc, Bool, ◌⊎◌, inl, i
 use Rattle.std.specs.Prelude.{bytes_eq, if◌then◌else◌, slice_get}
 use Rattle.std.proofs.lemmas.Bool.{cond_both}
 use Rattle.std.proofs.lemmas.List.{append-nil, append_assoc}
-use Rattle.model.specs.declared.refusal.Refusal.TheVariants.{UnknownUser}
+use Rattle.model.specs.declared.refusal.Refusal.TheVariants.{UnknownUser, Quota}
 use Rattle.model.specs.Derivations.{Derivation}
 use Rattle.model.specs.DerivationTexts.{derivation_of_text}
 use Rattle.model.specs.Classes.{Admission, known_at, derivation_path, admit}
-use Rattle.model.specs.Worlds.{Source, Record, Desk, World, nothing, Setup, is_user, with_source, known_of, with_derivation, with_record, with_trust, without_trust, with_pin, without_pin, Entry, with_entries}
-use Rattle.model.specs.Events.{Request, AddSource, AddDerivation, Offer, Fetch, Trust, Distrust, Pin, Unpin, Closure, Take, Event}
-use Rattle.model.specs.Outcomes.{reaches, Sight, sight_of, News, Quiet, Outcome, heard, desk_after}
+use Rattle.model.specs.Worlds.{Source, Record, Building, Failed, Goal, Desk, World, nothing, Setup, is_user, with_source, known_of, with_derivation, with_record, with_trust, without_trust, with_pin, without_pin, Entry, with_entries}
+use Rattle.model.specs.Goals.{with_goal, with_new_goal, in_state, job_of}
+use Rattle.model.specs.Endings.{End, Output, Failure}
+use Rattle.model.specs.Events.{Request, AddSource, AddDerivation, Offer, Fetch, Trust, Distrust, Pin, Unpin, Closure, Take, Build, Status, Plan, Start, Finish, Fail, Event}
+use Rattle.model.specs.Outcomes.{reaches, Sight, sight_of, News, Outcome, heard, desk_after}
 use Rattle.model.specs.SourceRequests.{source_named}
+use Rattle.model.specs.GoalRequests.{own_job}
+use Rattle.model.specs.EndRequests.{end_job}
 use Rattle.model.specs.Steps.{outcome, outcome_of, after, world_after}
 use Rattle.model.specs.Laws.{desk_reached, adding, IsAdmitted, KnowledgeIsAdmitted}
 use Rattle.model.proofs.BoolLemmas.{same_bytes}
@@ -21,6 +25,9 @@ use Rattle.model.proofs.TrustRequestLemmas.{trust_cases, distrust_cases}
 use Rattle.model.proofs.PinRequestLemmas.{pin_cases}
 use Rattle.model.proofs.EntriesLemmas.{entries_added}
 use Rattle.model.proofs.ClosureRequestLemmas.{closure_cases, take_cases}
+use Rattle.model.proofs.GoalRequestLemmas.{planned_goal, build_cases, status_cases, plan_cases, start_cases}
+use Rattle.model.proofs.EndRequestLemmas.{end_job_cases}
+use Rattle.model.proofs.GoalLemmas.{KeepsRest, keeps_heard}
 
 -- ---- what a request does to what its user knows
 
@@ -57,6 +64,18 @@ keeps_knowledge d later derivations sources = record { derivations = derivations
 keeps_itself : (d : Desk) → Keeps d d
 keeps_itself d = keeps_knowledge d d refl refl
 
+-- one of its goals is another
+keeps_turned : (d later : Desk) (n : ℕ) (g : Goal) → Keeps d later → Keeps d (with_goal n g later)
+keeps_turned d later n g keeps = record { derivations = keeps.derivations; added = keeps.added; sources = keeps.sources }
+
+-- entries are copied to it
+keeps_entries : (d : Desk) (entries : List Entry) → Keeps d (with_entries entries d)
+keeps_entries d entries = let more = entries_added entries d in record { derivations = more.derivations; added = more.added; sources = more.sources }
+
+-- a job ends
+end_fits : (setup : Setup) (s : Sight) (r : Request) (n : ℕ) (end : End) → DeskFits r s.desk (end_job setup s n end)
+end_fits setup s r n end = end_job_cases (DeskFits r s.desk) setup s n end (λ g there leads. inl (keeps_itself s.desk)) tt (λ absent. tt)
+
 -- the case of each request
 outcome_fits : (setup : Setup) (s : Sight) (r : Request) → DeskFits r s.desk (outcome setup s r)
 unfolding outcome
@@ -84,9 +103,31 @@ outcome_fits setup s (Pin class path) =
 outcome_fits setup s (Unpin class) = inl (keeps_knowledge s.desk (without_pin class s.desk) refl refl)
 outcome_fits setup s (Closure class) = closure_cases (DeskFits (Closure class) s.desk) s class (λ entries. inl (keeps_itself s.desk)) tt tt (λ why. tt)
 outcome_fits setup s (Take class) =
-    let keeps : (entries : List Entry) → Keeps s.desk (with_entries entries s.desk) = λ entries.
-    let more = entries_added entries s.desk in record { derivations = more.derivations; added = more.added; sources = more.sources } in
-    take_cases (DeskFits (Take class) s.desk) s class setup (λ entries path given there. inl (keeps entries)) tt tt (λ why. tt) tt
+    take_cases (DeskFits (Take class) s.desk) s class setup (λ entries path given there. inl (keeps_entries s.desk entries)) tt tt (λ why. tt) tt
+outcome_fits setup s (Build path) =
+    build_cases (DeskFits (Build path) s.desk) s.desk path
+    (λ a known. inl (keeps_knowledge s.desk (with_new_goal path s.desk) refl refl)) (λ full. tt) (λ unknown. tt)
+outcome_fits setup s (Status n) = status_cases (DeskFits (Status n) s.desk) s n (λ g there. inl (keeps_itself s.desk)) (λ absent. tt)
+outcome_fits setup s (Plan n) =
+    plan_cases (DeskFits (Plan n) s.desk) s n (record {
+      resolved = λ g r. inl (keeps_turned s.desk s.desk n (planned_goal g r) (keeps_itself s.desk));
+      failed = λ g why. inl (keeps_turned s.desk s.desk n (in_state (Failed why) g) (keeps_itself s.desk));
+      unrealised = tt;
+      unknown = tt;
+      untimely = tt;
+      absent = λ absent. tt;
+    })
+outcome_fits setup s (Start n) =
+    start_cases (DeskFits (Start n) s.desk) setup s n (record {
+      entered = λ g r.
+          inl (keeps_turned s.desk (with_entries r.closure s.desk) n (in_state (Building (job_of s.running (own_job s n) r)) g)
+          (keeps_entries s.desk r.closure));
+      over = λ g. inl (keeps_turned s.desk s.desk n (in_state (Failed Quota) g) (keeps_itself s.desk));
+      untimely = tt;
+      absent = λ absent. tt;
+    })
+outcome_fits setup s (Finish n bytes) = end_fits setup s (Finish n bytes) n (Output bytes)
+outcome_fits setup s (Fail n status) = end_fits setup s (Fail n status) n Failure
 
 -- ---- one event
 
@@ -94,9 +135,32 @@ outcome_fits setup s (Take class) =
 abbrev GrowsBy : Event → List ℕ → Desk → Desk → Type 0
 GrowsBy e u old later = Keeps old later ⊎ ((u ≡ e.actor) × Admits e.request old later)
 
+-- the end of a job changes nothing of it
+rest_grows : (e : Event) (u : List ℕ) (old d later : Desk) → KeepsRest d later → GrowsBy e u old d → GrowsBy e u old later
+rest_grows e u old d later rest (inl keeps) =
+    inl (record { derivations = rest.derivations ∙ keeps.derivations; added = keeps.added; sources = rest.sources ∙ keeps.sources })
+rest_grows e u old d later rest (inr p) =
+    let admits = p.1 in
+    inr (
+      p.0,
+      record {
+        text = admits.text;
+        asked = admits.asked;
+        derivation = admits.derivation;
+        read = admits.read;
+        new = admits.new;
+        admission = admits.admission;
+        admitted = admits.admitted;
+        derivations = rest.derivations ∙ admits.derivations;
+        sources = rest.sources ∙ admits.sources;
+      },
+    )
+
 -- news leave it at that
-heard_grows : (setup : Setup) (e : Event) (u : List ℕ) (reached : Bool) (news : News) (old d : Desk) → GrowsBy e u old d → GrowsBy e u old (heard setup e.actor u reached news d)
-heard_grows setup e u reached Quiet old d grows = grows
+heard_grows : (setup : Setup) (e : Event) (u : List ℕ) (reached : Bool) (news : News) (old d : Desk)
+    → GrowsBy e u old d → GrowsBy e u old (heard setup e.actor reached news d)
+heard_grows setup e u reached news old d grows =
+    rest_grows e u old d (heard setup e.actor reached news d) (keeps_heard setup e.actor reached news d) grows
 
 -- the actor's own desk
 own_grows : (e : Event) (u : List ℕ) (w : World) (d : Desk) → u ≡ e.actor → Grows e.request (w e.actor) d → GrowsBy e u (w u) d

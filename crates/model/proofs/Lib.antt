@@ -1,6 +1,5 @@
 pub mod BoolLemmas
 pub mod ReachLemmas
-pub mod AgreeLemmas
 pub mod OutcomeLemmas
 pub mod SourceRequestLemmas
 pub mod DerivationRequestLemmas
@@ -9,7 +8,12 @@ pub mod TrustRequestLemmas
 pub mod PinRequestLemmas
 pub mod EntriesLemmas
 pub mod ClosureRequestLemmas
+pub mod GoalRequestLemmas
+pub mod EndRequestLemmas
 pub mod FailureLemmas
+pub mod GoalLemmas
+pub mod FitLemmas
+pub mod AgreeLemmas
 pub mod StrikeLemmas
 pub mod KnowledgeLemmas
 pub mod RecursionLemmas

@@ -10,7 +10,8 @@ use Rattle.model.specs.Worlds.{Label, Record, Setup, Desk, known_of, OfRecord, w
 use Rattle.model.specs.References.{candidates}
 use Rattle.model.specs.Events.{Path}
 use Rattle.model.specs.Outcomes.{Outcome, becomes, add_entry}
-use Rattle.model.specs.OfferRequests.{output_settled, record_for, offer_output, offer}
+use Rattle.model.specs.Outputs.{record_for}
+use Rattle.model.specs.OfferRequests.{output_settled, offer_output, offer}
 use Rattle.model.specs.Results.{unless_rewrite_refused}
 use Rattle.model.proofs.OutcomeLemmas.{needed, then_done, entry_added}
 

@@ -2,7 +2,7 @@
 use Rattle.std.specs.Prelude.{ℕ, List}
 use Rattle.model.specs.declared.refusal.Refusal.{Refusal}
 use Rattle.model.specs.Archives.{Tree}
-use Rattle.model.specs.Worlds.{Entry}
+use Rattle.model.specs.Worlds.{Entry, State}
 
 -- what a user may ask
 pub data Request : Type 0 where
@@ -16,6 +16,12 @@ pub data Request : Type 0 where
   Unpin : (class : List ℕ) → Request
   Closure : (class : List ℕ) → Request
   Take : (class : List ℕ) → Request
+  Build : (derivation : List ℕ) → Request
+  Status : (number : ℕ) → Request
+  Plan : (number : ℕ) → Request
+  Start : (number : ℕ) → Request
+  Finish : (number : ℕ) → (bytes : List ℕ) → Request
+  Fail : (number : ℕ) → (status : ℕ) → Request
 
 -- a request and the user who makes it
 pub record Event : Type 0 where
@@ -28,6 +34,8 @@ pub data Reply : Type 0 where
   Derivation : (path class : List ℕ) → Reply
   Content : (tree : Tree) → Reply
   Entries : (entries : List Entry) → Reply
+  GoalNumber : (number : ℕ) → Reply
+  GoalState : (state : State) → Reply
   Refused : (why : Refusal) → Reply
 
 -- a reply and the user who gets it

@@ -1,11 +1,13 @@
 -- The texts whose SHA-256 is taken when events are run.
 use Rattle.std.specs.Prelude.{ℕ, if◌then◌else◌, List, [], ◌∷◌, ◌++◌}
 use Rattle.model.specs.Worlds.{Setup, is_user, World}
-use Rattle.model.specs.Events.{Request, AddSource, AddDerivation, Offer, Fetch, Trust, Distrust, Pin, Unpin, Closure, Take, Event}
+use Rattle.model.specs.Events.{Request, AddSource, AddDerivation, Offer, Fetch, Trust, Distrust, Pin, Unpin, Closure, Take, Build, Status, Plan, Start, Finish, Fail, Event}
 use Rattle.model.specs.SourceRequests.{source_texts}
 use Rattle.model.specs.DerivationRequests.{derivation_texts}
 use Rattle.model.specs.OfferRequests.{offer_texts}
 use Rattle.model.specs.ClosureRequests.{texts_for}
+use Rattle.model.specs.GoalRequests.{plan_texts}
+use Rattle.model.specs.EndRequests.{finish_texts}
 use Rattle.model.specs.Outcomes.{sight_of}
 use Rattle.model.specs.Steps.{after}
 
@@ -21,6 +23,12 @@ texts_of setup w u (Pin class path) = []
 texts_of setup w u (Unpin class) = []
 texts_of setup w u (Closure class) = texts_for (sight_of setup w u) class
 texts_of setup w u (Take class) = texts_for (sight_of setup w u) class
+texts_of setup w u (Build derivation) = []
+texts_of setup w u (Status number) = []
+texts_of setup w u (Plan number) = plan_texts (sight_of setup w u) number
+texts_of setup w u (Start number) = []
+texts_of setup w u (Finish number bytes) = finish_texts setup w u number bytes
+texts_of setup w u (Fail number status) = []
 
 -- those of one event; of a stranger's nothing is hashed
 abbrev pub texts_of_event : Setup → World → Event → List (List ℕ)

@@ -19,6 +19,11 @@ pub mod Orders
 pub mod Choices
 pub mod Repairs
 pub mod Closures
+pub mod ArchiveReading
+pub mod Outputs
+pub mod Goals
+pub mod Endings
+pub mod Resolutions
 pub mod Events
 pub mod Replies
 pub mod Outcomes
@@ -28,6 +33,8 @@ pub mod OfferRequests
 pub mod TrustRequests
 pub mod PinRequests
 pub mod ClosureRequests
+pub mod GoalRequests
+pub mod EndRequests
 pub mod Steps
 pub mod Striking
 pub mod HashedTexts

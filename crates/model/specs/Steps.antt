@@ -2,7 +2,7 @@
 use Rattle.std.specs.Prelude.{ℕ, if◌then◌else◌, List, [], ◌∷◌, bytes_eq}
 use Rattle.model.specs.declared.refusal.Refusal.TheVariants.{UnknownUser}
 use Rattle.model.specs.Worlds.{Setup, is_user, World, nothing}
-use Rattle.model.specs.Events.{Request, AddSource, AddDerivation, Offer, Fetch, Trust, Distrust, Pin, Unpin, Closure, Take, Event, Reply, Answer}
+use Rattle.model.specs.Events.{Request, AddSource, AddDerivation, Offer, Fetch, Trust, Distrust, Pin, Unpin, Closure, Take, Build, Status, Plan, Start, Finish, Fail, Event, Reply, Answer}
 use Rattle.model.specs.Outcomes.{reaches, Sight, sight_of, Outcome, check, reply_of, desk_after}
 use Rattle.model.specs.SourceRequests.{add_source, fetch}
 use Rattle.model.specs.DerivationRequests.{add_derivation}
@@ -10,6 +10,8 @@ use Rattle.model.specs.OfferRequests.{offer}
 use Rattle.model.specs.TrustRequests.{trust, distrust}
 use Rattle.model.specs.PinRequests.{pin, unpin}
 use Rattle.model.specs.ClosureRequests.{closure, take}
+use Rattle.model.specs.GoalRequests.{build, status, plan, start}
+use Rattle.model.specs.EndRequests.{finish, fail}
 
 -- ---- one event
 
@@ -25,6 +27,12 @@ outcome setup s (Pin class path) = pin setup s.desk class path
 outcome setup s (Unpin class) = unpin s.desk class
 outcome setup s (Closure class) = closure s class
 outcome setup s (Take class) = take setup s class
+outcome setup s (Build derivation) = build s.desk derivation
+outcome setup s (Status number) = status s number
+outcome setup s (Plan number) = plan s number
+outcome setup s (Start number) = start setup s number
+outcome setup s (Finish number bytes) = finish setup s number bytes
+outcome setup s (Fail number status) = fail setup s number
 
 -- the outcome of an event
 abbrev pub outcome_of : Setup → World → Event → Outcome

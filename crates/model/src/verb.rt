@@ -16,6 +16,12 @@ pub enum WordKind {
     Tree,
     /// All that is left of the line, with its blanks. It is the only word of its verb.
     Text,
+    /// The number of a goal, 1 to 65,535.
+    Number,
+    /// How a builder ended, 0 to 255.
+    ExitStatus,
+    /// What a builder wrote: the text of a tree, or bytes in base 16 behind `n:`.
+    Output,
 }
 
 /// What a line asks for its user. The word of a verb stands behind the user's name.
@@ -41,6 +47,16 @@ pub enum Verb {
     Closure,
     /// `take`: to copy what is chosen for a class, with all that it refers to.
     Take,
+    /// `build`: to have what the derivation in the file at a path builds.
+    Build,
+    /// `status`: how far a goal is.
+    Status,
+    /// `plan`: to find what a goal is built from.
+    Plan,
+    /// `start`: to build a goal, alone or with others.
+    Start,
+    /// `fail`: the builder of a job has failed.
+    Fail,
 }
 
 impl Verb {
@@ -68,6 +84,16 @@ impl Verb {
             Some(Verb::Closure)
         } else if word == b"take".as_slice() {
             Some(Verb::Take)
+        } else if word == b"build".as_slice() {
+            Some(Verb::Build)
+        } else if word == b"status".as_slice() {
+            Some(Verb::Status)
+        } else if word == b"plan".as_slice() {
+            Some(Verb::Plan)
+        } else if word == b"start".as_slice() {
+            Some(Verb::Start)
+        } else if word == b"fail".as_slice() {
+            Some(Verb::Fail)
         } else {
             None
         }
@@ -81,9 +107,13 @@ impl Verb {
             Verb::Source => &[WordKind::Name, WordKind::Tree],
             Verb::Derivation => &[WordKind::Text],
             Verb::Offer => &[WordKind::Path, WordKind::Tree],
-            Verb::Fetch | Verb::Unpin | Verb::Closure | Verb::Take => &[WordKind::Path],
+            Verb::Fetch | Verb::Unpin | Verb::Closure | Verb::Take | Verb::Build => {
+                &[WordKind::Path]
+            }
             Verb::Trust | Verb::Distrust => &[WordKind::User],
             Verb::Pin => &[WordKind::Path, WordKind::Path],
+            Verb::Status | Verb::Plan | Verb::Start => &[WordKind::Number],
+            Verb::Fail => &[WordKind::Number, WordKind::ExitStatus],
         }
     }
 }

@@ -9,7 +9,7 @@ use Rattle.std.proofs.lemmas.Nat.{from_le_bytes-to_le_bytes_8}
 use Rattle.model.specs.Archives.{Tree, File, Link, Directory, Entries, NoEntries, Entry, archive_string, executable_mark, node_text, entries_text, nar, IsSound, AreSound, depth_of, deepest, IsTree, is_entry_name, bytes_before}
 use Rattle.nar.proofs.EntrySteps.{count_of}
 use Rattle.nar.proofs.ReadEntries.{entries_at-next}
-use Rattle.nar.specs.ArchiveReading.{Reader, ◌>>=◌, split_at, length_at, prefix_at, string_at, tag_at, executable_at, head_at, closed_at, file_at, link_at, name_at, entry_at, entries_at, in_front, directory_at, body_at, node_at, tree_at}
+use Rattle.model.specs.ArchiveReading.{Reader, ◌>>=◌, split_at, length_at, prefix_at, string_at, tag_at, executable_at, head_at, closed_at, file_at, link_at, name_at, entry_at, entries_at, in_front, directory_at, body_at, node_at, tree_at}
 use Rattle.std.specs.Str.{bytes_eq}
 
 abbrev Short : List ℕ → Type 0
@@ -97,19 +97,19 @@ name_at-front n k h =
     ) refl
 
 -- the texts, grouped to the right
-file_grouped : (b : Bool) (s k : List ℕ)
+pub file_grouped : (b : Bool) (s k : List ℕ)
     → node_text (File b s) ++ k ≡ archive_string (codes "(") ++ (archive_string (codes "type") ++ (archive_string (codes "regular") ++ (executable_mark b ++ (archive_string (codes "contents") ++ (archive_string s ++ (archive_string (codes ")") ++ k))))))
 file_grouped b s k = grind (arith, append_assoc, append-nil)
 
-link_grouped : (s k : List ℕ)
+pub link_grouped : (s k : List ℕ)
     → node_text (Link s) ++ k ≡ archive_string (codes "(") ++ (archive_string (codes "type") ++ (archive_string (codes "symlink") ++ (archive_string (codes "target") ++ (archive_string s ++ (archive_string (codes ")") ++ k)))))
 link_grouped s k = grind (arith, append_assoc, append-nil)
 
-directory_grouped : (es : Entries) (k : List ℕ)
+pub directory_grouped : (es : Entries) (k : List ℕ)
     → node_text (Directory es) ++ k ≡ archive_string (codes "(") ++ (archive_string (codes "type") ++ (archive_string (codes "directory") ++ (entries_text es ++ (archive_string (codes ")") ++ k))))
 directory_grouped es k = grind (arith, append_assoc, append-nil)
 
-entry_grouped : (n : List ℕ) (t : Tree) (es : Entries) (k : List ℕ)
+pub entry_grouped : (n : List ℕ) (t : Tree) (es : Entries) (k : List ℕ)
     → entries_text (Entry n t es) ++ k ≡ name_text n (node_text t ++ (archive_string (codes ")") ++ (entries_text es ++ k)))
 entry_grouped n t es k = grind (arith, append_assoc, append-nil)
 

@@ -10,3 +10,4 @@ pub mod LowerDigits
 pub mod ArchiveBytes
 pub mod EntrySteps
 pub mod TextLengths
+pub mod ArchiveSoundness

@@ -1,10 +1,9 @@
 -- Reading entries, one after another.
-use Rattle.std.proofs.Common.{◌≡◌, ℕ, zero, suc, ◌-◌, ◌<◌, max, true, false, List, [], ◌∷◌, ◌++◌, refl, ap, sym, subst, ◌+◌, ◌∙◌, append_assoc, append-nil, arith, codes}
+use Rattle.std.proofs.Common.{◌≡◌, ℕ, zero, suc, ◌-◌, ◌<◌, max, true, false, List, [], ◌∷◌, ◌++◌, refl, ap, sym, ◌+◌, ◌∙◌, append_assoc, append-nil, arith, codes}
 use Rattle.std.specs.Prelude.{Option, Some, None}
-use Rattle.model.specs.Archives.{archive_string, executable_mark, Tree, Entries, NoEntries, Entry, entries_text, AreSound, HasBytes, HaveBytes, AreBytes, IsSound, is_entry_name, bytes_before, deepest, depth_of}
-use Rattle.nar.specs.ArchiveParts.{entry_text}
+use Rattle.model.specs.Archives.{archive_string, executable_mark, Tree, Entries, NoEntries, Entry, HasBytes, HaveBytes, AreBytes, deepest, depth_of}
 use Rattle.nar.specs.NodeTrees.{tree_of, entries_of, named_trees, chained, NamedNode}
-use Rattle.nar.specs.ArchiveReading.{Reader, ◌>>=◌, string_at, entry_at, entries_at, in_front}
+use Rattle.model.specs.ArchiveReading.{Reader, ◌>>=◌, string_at, entry_at, entries_at, in_front}
 use Rattle.std.specs.Str.{bytes_eq}
 use Rattle.nar.specs.Outcomes.{Fails}
 use Rattle.nar.specs.declared.reading.ReadError.{ReadError}
@@ -72,14 +71,6 @@ entries_at-push f n i bytes last rest s es e after lt g k h so_far =
     so_far ∙ ap (λ m. behind es (entries_at f m last rest)) less ∙ ap (behind es) (entries_at-next f (n - (i + 1)) last rest s e.0.items (tree_of e.1.value) after g k h)
     ∙ sym (behind-push es e (entries_at f (n - (i + 1)) e.0.items after))
 
-pub AreSound-push : (es : List NamedNode) (e : NamedNode) (last : List ℕ)
-    → ((fs : Entries) → AreSound last fs → AreSound [] (chained (named_trees es) fs))
-    → is_entry_name e.0.items ≡ true → bytes_before last e.0.items ≡ true → IsSound (tree_of e.1.value) → (fs : Entries)
-    → AreSound e.0.items fs → AreSound [] (chained (named_trees (es ++ e ∷ [])) fs)
-AreSound-push es e last so_far n b s fs h =
-    let P : Entries → Type 0 = λ gs. AreSound [] gs in
-    subst P (sym (chained-push es e fs)) (so_far (Entry e.0.items (tree_of e.1.value) fs) (n, b, s, h))
-
 pub HaveBytes-push : (es : List NamedNode) (e : NamedNode) → HaveBytes (entries_of es) → AreBytes e.0.items
     → HasBytes (tree_of e.1.value) → HaveBytes (entries_of (es ++ e ∷ []))
 HaveBytes-push [] e h name tree = (name, tree, tt)
@@ -89,15 +80,3 @@ pub deepest-push : (es : List NamedNode) (e : NamedNode)
     → deepest (entries_of (es ++ e ∷ [])) ≡ max (deepest (entries_of es)) (depth_of (tree_of e.1.value))
 deepest-push [] e = omega arith
 deepest-push (d ∷ es) e = omega (arith, deepest-push es e)
-
-pub entries_text-push : (es : List NamedNode) (e : NamedNode)
-    → entries_text (entries_of (es ++ e ∷ [])) ≡ entries_text (entries_of es) ++ entry_text e.0.items (tree_of e.1.value)
-entries_text-push [] e = grind (arith, append_assoc, append-nil)
-entries_text-push (x ∷ es) e = rw (entries_text-push es e) (grind (arith, append_assoc))
-
-pub entries_text-push_onto : (es : List NamedNode) (e : NamedNode) (bytes rest after : List ℕ)
-    → bytes ≡ entries_text (entries_of es) ++ rest → rest ≡ entry_text e.0.items (tree_of e.1.value) ++ after
-    → bytes ≡ entries_text (entries_of (es ++ e ∷ [])) ++ after
-entries_text-push_onto es e bytes rest after so_far here =
-    so_far ∙ ap (λ r. entries_text (entries_of es) ++ r) here ∙ sym (append_assoc (entries_text (entries_of es)) (entry_text e.0.items (tree_of e.1.value)) after)
-    ∙ ap (λ r. r ++ after) (sym (entries_text-push es e))

@@ -4,7 +4,7 @@ use Rattle.std.specs.Prelude.{Some, None}
 use Rattle.hex.specs.Hex.{encode_lower}
 use Rattle.model.specs.Archives.{Tree, Entries, NoEntries, Entry, AreSound, IsSound, is_entry_name, bytes_before}
 use Rattle.nar.specs.NodeTrees.{tree_of, named_trees, chained, last_name_of, NamedNode}
-use Rattle.nar.specs.ArchiveReading.{prefix_at, Reader, in_front}
+use Rattle.model.specs.ArchiveReading.{prefix_at, Reader, in_front}
 use Rattle.nar.specs.TextReading.{closes, item_at, items_at}
 use Rattle.model.specs.TreeTexts.{separator, entries_text_of, tree_text_of}
 use Rattle.nar.proofs.ReadEntries.{behind, behind-push, chained-push}

@@ -7,7 +7,7 @@ use Rattle.hex.specs.Hex.{encode_lower, encode_with, lower_digits, hex_digit_val
 use Rattle.nar.specs.TextReading.{is_lower_digit}
 use Rattle.hex.proofs.HexLemmas.{decode_of-encode_lower, IsDigits-lower_digits}
 use Rattle.model.specs.Archives.{Tree, IsTree, File, Link, Directory, Entries, NoEntries, Entry, IsSound, AreSound, depth_of, deepest, is_entry_name, bytes_before}
-use Rattle.nar.specs.ArchiveReading.{Reader, in_front}
+use Rattle.model.specs.ArchiveReading.{Reader, in_front}
 use Rattle.nar.specs.TextReading.{digits_at, closes, item_at, items_at, listed_at, kind_at, text_at, whole_at}
 use Rattle.model.specs.TreeTexts.{tree_text_of, entries_text_of, file_mark, separator}
 use Rattle.model.specs.Archives.{HasBytes, HaveBytes}

@@ -4,7 +4,7 @@ use Rattle.std.specs.Result.{result_ok}
 use Rattle.hex.specs.Hex.{decode_of}
 use Rattle.model.specs.Archives.{Tree, File, Link, Directory, Entries, NoEntries, bytes_before, is_entry_name}
 use Rattle.model.specs.TreeTexts.{separator}
-use Rattle.nar.specs.ArchiveReading.{◌>>=◌, split_at, prefix_at, Reader, in_front}
+use Rattle.model.specs.ArchiveReading.{◌>>=◌, split_at, prefix_at, Reader, in_front}
 
 -- 0 to 9 or a to f
 abbrev pub is_lower_digit : ℕ → Bool

@@ -1,10 +1,10 @@
 //! Reading an archive.
 
-ghost use Rattle.std.specs.Prelude.{◌≡◌, ◌++◌, ◌+◌, ◌≤◌, IfOk, IfErr, length, codes, true, []};
-ghost use Rattle.model.specs.Archives.{archive_string, nar, node_text, executable_mark, entry_head, entries_text, is_entry_name, bytes_before, IsSound, AreSound, depth_of, deepest, IsTree};
+ghost use Rattle.std.specs.Prelude.{◌≡◌, ◌⊎◌, IfOk, IfErr, MatchResult, Some, None, length, []};
+ghost use Rattle.model.specs.Archives.{nar, IsTree};
+ghost use Rattle.model.specs.ArchiveReading.{executable_at, head_at, closed_at, file_at, link_at, name_at, entry_at, entries_at, directory_at, body_at, node_at, tree_at, tree_of_archive};
+ghost use Rattle.model.specs.declared.refusal.Refusal.TheVariants.{Memory};
 ghost use Rattle.nar.specs.NodeTrees.{tree_of, entries_of};
-ghost use Rattle.nar.specs.ArchiveParts.{node_head, entry_text};
-ghost use Rattle.nar.specs.ArchiveReading.{executable_at, head_at, closed_at, file_at, link_at, name_at, entry_at, entries_at, directory_at, body_at, node_at, tree_at};
 ghost use Rattle.nar.specs.Outcomes.{Gives};
 ghost use Rattle.nar.specs.Refusing.{IsNoArchive};
 
@@ -31,6 +31,9 @@ use std::sync::Arc;
 pub fn decode(alloc: Global, bytes: &[u8]) -> Result<Tree, Refusal>
     ensures tree { IfOk result (λ tree. IsTree tree × (nar tree ≡ bytes.now)) }
     ensures refused { IfErr result (IsNoArchive bytes.now) }
+    ensures exact { MatchResult result
+        (λ tree. tree_of_archive bytes.now ≡ Some tree)
+        (λ e. (e ≡ Memory) ⊎ (tree_of_archive bytes.now ≡ None)) }
 {
     if bytes.len() > MAX_NAR_LEN {
         return Err(Refusal::TooLarge);
@@ -47,12 +50,9 @@ pub fn decode(alloc: Global, bytes: &[u8]) -> Result<Tree, Refusal>
 }
 
 // The node of a whole text.
-#[tactic(auto, unfolding(crate::specs::ArchiveReading::tree_at))]
+#[tactic(auto, unfolding(model::specs::ArchiveReading::tree_at))]
 fn read_whole(alloc: Global, bytes: &[u8]) -> Result<Node, ReadError>
-    ensures found { IfOk result (λ node. bytes.now ≡ nar (tree_of node)) }
-    ensures sound { IfOk result (λ node. IsSound (tree_of node)) }
-    ensures depth { IfOk result (λ node. depth_of (tree_of node) ≤ 64) }
-    ensures exact { Gives tree_of result (tree_at bytes.now) }
+    ensures { Gives tree_of result (tree_at bytes.now) }
 {
     let rest = skip_string(bytes, b"nix-archive-1")?;
     let (node, rest) = read_node(alloc, rest, MAX_DEPTH)?;
@@ -64,12 +64,9 @@ fn read_whole(alloc: Global, bytes: &[u8]) -> Result<Node, ReadError>
 
 // A node of at most this depth.
 #[cycle(read)]
-#[tactic(auto, unfolding(crate::specs::ArchiveReading::node_at))]
+#[tactic(auto, unfolding(model::specs::ArchiveReading::node_at))]
 fn read_node(alloc: Global, bytes: &[u8], depth: usize) -> Result<(Node, &[u8]), ReadError>
-    ensures found { IfOk result (λ r. bytes.now ≡ node_text (tree_of r.0) ++ r.1.now) }
-    ensures sound { IfOk result (λ r. IsSound (tree_of r.0)) }
-    ensures depth { IfOk result (λ r. depth_of (tree_of r.0) ≤ depth) }
-    ensures exact { Gives (λ r. (tree_of r.0, r.1.now)) result (node_at depth bytes.now) }
+    ensures { Gives (λ r. (tree_of r.0, r.1.now)) result (node_at depth bytes.now) }
 {
     if depth == 0 {
         return Err(ReadError::Malformed);
@@ -79,10 +76,9 @@ fn read_node(alloc: Global, bytes: &[u8], depth: usize) -> Result<(Node, &[u8]),
 }
 
 // The beginning of a node, with the name of its kind.
-#[tactic(auto, unfolding(crate::specs::ArchiveReading::head_at))]
+#[tactic(auto, unfolding(model::specs::ArchiveReading::head_at))]
 fn read_head(bytes: &[u8]) -> Result<(&[u8], &[u8]), ReadError>
-    ensures found { IfOk result (λ r. bytes.now ≡ node_head r.0.now ++ r.1.now) }
-    ensures exact { Gives (λ r. (r.0.now, r.1.now)) result (head_at bytes.now) }
+    ensures { Gives (λ r. (r.0.now, r.1.now)) result (head_at bytes.now) }
 {
     let rest = skip_string(bytes, b"(")?;
     let rest = skip_string(rest, b"type")?;
@@ -92,17 +88,15 @@ fn read_head(bytes: &[u8]) -> Result<(&[u8], &[u8]), ReadError>
 
 // A node of a kind, behind the kind's name.
 #[cycle(read)]
-#[tactic(auto, unfolding(crate::specs::ArchiveReading::body_at))]
+#[tactic(auto, unfolding(model::specs::ArchiveReading::body_at))]
 fn read_body<'a>(
     alloc: Global,
     kind: &[u8],
     bytes: &'a [u8],
     depth: usize,
 ) -> Result<(Node, &'a [u8]), ReadError>
-    ensures found { IfOk result (λ r. node_head kind.now ++ bytes.now ≡ node_text (tree_of r.0) ++ r.1.now) }
-    ensures sound { IfOk result (λ r. IsSound (tree_of r.0)) }
-    ensures depth { IfOk result (λ r. depth_of (tree_of r.0) ≤ depth + 1) }
-    ensures exact { Gives (λ r. (tree_of r.0, r.1.now)) result (body_at (node_at depth) kind.now bytes.now) }
+    ensures { Gives (λ r. (tree_of r.0, r.1.now)) result
+        (body_at (node_at depth) kind.now bytes.now) }
 {
     if kind == b"regular".as_slice() {
         return read_file(alloc, bytes);
@@ -117,12 +111,9 @@ fn read_body<'a>(
 }
 
 // A file, behind the name of its kind.
-#[tactic(auto, unfolding(crate::specs::ArchiveReading::file_at))]
+#[tactic(auto, unfolding(model::specs::ArchiveReading::file_at))]
 fn read_file(alloc: Global, bytes: &[u8]) -> Result<(Node, &[u8]), ReadError>
-    ensures found { IfOk result (λ r. node_head (codes "regular") ++ bytes.now ≡ node_text (tree_of r.0) ++ r.1.now) }
-    ensures sound { IfOk result (λ r. IsSound (tree_of r.0)) }
-    ensures depth { IfOk result (λ r. depth_of (tree_of r.0) ≡ 1) }
-    ensures exact { Gives (λ r. (tree_of r.0, r.1.now)) result (file_at bytes.now) }
+    ensures { Gives (λ r. (tree_of r.0, r.1.now)) result (file_at bytes.now) }
 {
     let (executable, rest) = read_executable(bytes)?;
     let rest = skip_string(rest, b"contents")?;
@@ -137,10 +128,9 @@ fn read_file(alloc: Global, bytes: &[u8]) -> Result<(Node, &[u8]), ReadError>
 }
 
 // Whether the mark of an executable file comes next, and what follows it.
-#[tactic(auto, unfolding(crate::specs::ArchiveReading::executable_at))]
+#[tactic(auto, unfolding(model::specs::ArchiveReading::executable_at))]
 fn read_executable(bytes: &[u8]) -> Result<(bool, &[u8]), ReadError>
-    ensures found { IfOk result (λ r. bytes.now ≡ executable_mark r.0 ++ r.1.now) }
-    ensures exact { Gives (λ r. (r.0, r.1.now)) result (executable_at bytes.now) }
+    ensures { Gives (λ r. (r.0, r.1.now)) result (executable_at bytes.now) }
 {
     let (text, rest) = read_string(bytes)?;
     if text == b"executable".as_slice() {
@@ -152,12 +142,9 @@ fn read_executable(bytes: &[u8]) -> Result<(bool, &[u8]), ReadError>
 }
 
 // A link, behind the name of its kind.
-#[tactic(auto, unfolding(crate::specs::ArchiveReading::link_at))]
+#[tactic(auto, unfolding(model::specs::ArchiveReading::link_at))]
 fn read_link(alloc: Global, bytes: &[u8]) -> Result<(Node, &[u8]), ReadError>
-    ensures found { IfOk result (λ r. node_head (codes "symlink") ++ bytes.now ≡ node_text (tree_of r.0) ++ r.1.now) }
-    ensures sound { IfOk result (λ r. IsSound (tree_of r.0)) }
-    ensures depth { IfOk result (λ r. depth_of (tree_of r.0) ≡ 1) }
-    ensures exact { Gives (λ r. (tree_of r.0, r.1.now)) result (link_at bytes.now) }
+    ensures { Gives (λ r. (tree_of r.0, r.1.now)) result (link_at bytes.now) }
 {
     let rest = skip_string(bytes, b"target")?;
     let (text, rest) = read_closed(rest)?;
@@ -170,10 +157,9 @@ fn read_link(alloc: Global, bytes: &[u8]) -> Result<(Node, &[u8]), ReadError>
 }
 
 // A string, and what closes a node.
-#[tactic(auto, unfolding(crate::specs::ArchiveReading::closed_at))]
+#[tactic(auto, unfolding(model::specs::ArchiveReading::closed_at))]
 fn read_closed(bytes: &[u8]) -> Result<(&[u8], &[u8]), ReadError>
-    ensures found { IfOk result (λ r. bytes.now ≡ archive_string r.0.now ++ archive_string (codes ")") ++ r.1.now) }
-    ensures exact { Gives (λ r. (r.0.now, r.1.now)) result (closed_at bytes.now) }
+    ensures { Gives (λ r. (r.0.now, r.1.now)) result (closed_at bytes.now) }
 {
     let (text, rest) = read_string(bytes)?;
     let rest = skip_string(rest, b")")?;
@@ -182,12 +168,9 @@ fn read_closed(bytes: &[u8]) -> Result<(&[u8], &[u8]), ReadError>
 
 // A directory, behind the name of its kind.
 #[cycle(read)]
-#[tactic(auto, using(crate::proofs::NodeViews::directory_tree), unfolding(crate::specs::ArchiveReading::directory_at))]
+#[tactic(auto, using(crate::proofs::NodeViews::directory_tree), unfolding(model::specs::ArchiveReading::directory_at))]
 fn read_directory(alloc: Global, bytes: &[u8], depth: usize) -> Result<(Node, &[u8]), ReadError>
-    ensures found { IfOk result (λ r. node_head (codes "directory") ++ bytes.now ≡ node_text (tree_of r.0) ++ r.1.now) }
-    ensures sound { IfOk result (λ r. IsSound (tree_of r.0)) }
-    ensures depth { IfOk result (λ r. depth_of (tree_of r.0) ≤ depth + 1) }
-    ensures exact { Gives (λ r. (tree_of r.0, r.1.now)) result (directory_at (node_at depth) bytes.now) }
+    ensures { Gives (λ r. (tree_of r.0, r.1.now)) result (directory_at (node_at depth) bytes.now) }
 {
     let (entries, rest) = read_entries(alloc, bytes, depth)?;
     let rest = skip_string(rest, b")")?;
@@ -201,10 +184,8 @@ fn read_entries(
     bytes: &[u8],
     depth: usize,
 ) -> Result<(Vec<(Vec<u8>, Arc<Node>)>, &[u8]), ReadError>
-    ensures found { IfOk result (λ r. bytes.now ≡ entries_text (entries_of r.0.items) ++ r.1.now) }
-    ensures sound { IfOk result (λ r. AreSound [] (entries_of r.0.items)) }
-    ensures depth { IfOk result (λ r. deepest (entries_of r.0.items) ≤ depth) }
-    ensures exact { Gives (λ r. (entries_of r.0.items, r.1.now)) result (entries_at (node_at depth) (length bytes.now) [] bytes.now) }
+    ensures { Gives (λ r. (entries_of r.0.items, r.1.now)) result
+        (entries_at (node_at depth) (length bytes.now) [] bytes.now) }
 {
     let mut entries = Vec::new(alloc);
     let mut last = b"".as_slice();
@@ -226,19 +207,15 @@ fn read_entries(
 
 // One entry of a directory, whose name comes after the last one.
 #[cycle(read)]
-#[tactic(auto, unfolding(crate::specs::ArchiveReading::entry_at))]
+#[tactic(auto, unfolding(model::specs::ArchiveReading::entry_at))]
 fn read_entry<'a>(
     alloc: Global,
     last: &[u8],
     bytes: &'a [u8],
     depth: usize,
 ) -> Result<((&'a [u8], Node), &'a [u8]), ReadError>
-    ensures found { IfOk result (λ r. bytes.now ≡ entry_text r.0.0.now (tree_of r.0.1) ++ r.1.now) }
-    ensures name { IfOk result (λ r. is_entry_name r.0.0.now ≡ true) }
-    ensures order { IfOk result (λ r. bytes_before last.now r.0.0.now ≡ true) }
-    ensures sound { IfOk result (λ r. IsSound (tree_of r.0.1)) }
-    ensures depth { IfOk result (λ r. depth_of (tree_of r.0.1) ≤ depth) }
-    ensures exact { Gives (λ r. ((r.0.0.now, tree_of r.0.1), r.1.now)) result (entry_at (node_at depth) last.now bytes.now) }
+    ensures { Gives (λ r. ((r.0.0.now, tree_of r.0.1), r.1.now)) result
+        (entry_at (node_at depth) last.now bytes.now) }
 {
     let (name, rest) = read_name(bytes)?;
     if is_name(name) && comes_before(last, name) {
@@ -250,10 +227,9 @@ fn read_entry<'a>(
     }
 }
 
-#[tactic(auto, unfolding(crate::specs::ArchiveReading::name_at))]
+#[tactic(auto, unfolding(model::specs::ArchiveReading::name_at))]
 fn read_name(bytes: &[u8]) -> Result<(&[u8], &[u8]), ReadError>
-    ensures found { IfOk result (λ r. bytes.now ≡ entry_head r.0.now ++ r.1.now) }
-    ensures exact { Gives (λ r. (r.0.now, r.1.now)) result (name_at bytes.now) }
+    ensures { Gives (λ r. (r.0.now, r.1.now)) result (name_at bytes.now) }
 {
     let rest = skip_string(bytes, b"entry")?;
     let rest = skip_string(rest, b"(")?;

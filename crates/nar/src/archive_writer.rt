@@ -23,7 +23,7 @@ impl Model for Nar {
     ghost use Rattle.std.specs.Prelude.{◌≡◌};
     ghost use Rattle.model.specs.Archives.{Tree as TreeValue, IsTree, nar};
     ghost use Rattle.model.specs.TreeCode.{tree_code};
-    ghost use Rattle.nar.specs.ArchiveReading.{tree_in};
+    ghost use Rattle.model.specs.ArchiveReading.{tree_in};
 
     ghost Value = { TreeValue };
 
@@ -51,6 +51,14 @@ impl Nar {
         ensures tree { IsTree self.now }
     {
         self.text.as_slice()
+    }
+
+    /// The archive's bytes, which are not copied.
+    pub fn into_bytes(self) -> Vec<u8>
+        ensures text { result.items ≡ nar self }
+        ensures tree { IsTree self }
+    {
+        self.text
     }
 }
 

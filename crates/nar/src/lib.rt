@@ -26,7 +26,7 @@ mod tree;
 
 pub use archive_reader::decode;
 pub use archive_writer::{Nar, encode};
-pub use law::{archives_differ, texts_differ};
+pub use law::{archives_are_read, archives_differ, texts_differ};
 pub use text_reader::read_tree_text;
 pub use text_writer::tree_text;
 pub use tree::Tree;

@@ -1,19 +1,17 @@
 //! Reading the strings of an archive.
 
-ghost use Rattle.std.specs.Prelude.{◌≡◌, ◌++◌, IfOk};
-ghost use Rattle.std.specs.Int.{w64, to_le_bytes, from_le_bytes};
-ghost use Rattle.model.specs.Archives.{archive_string};
-ghost use Rattle.nar.specs.ArchiveReading.{length_at, string_at, tag_at};
+ghost use Rattle.std.specs.Prelude.{◌≡◌};
+ghost use Rattle.std.specs.Int.{w64, from_le_bytes};
+ghost use Rattle.model.specs.ArchiveReading.{length_at, string_at, tag_at};
 ghost use Rattle.nar.specs.Outcomes.{Gives};
 
 use crate::archive_writer::padding;
 use crate::reading::{ReadError, skip_prefix, split};
 
 // A string, and the rest. Nothing is taken for the string before all of it is known to be there.
-#[tactic(auto, unfolding(model::specs::Archives::archive_string, crate::specs::ArchiveReading::string_at))]
+#[tactic(auto, unfolding(model::specs::ArchiveReading::string_at))]
 pub(crate) fn read_string(bytes: &[u8]) -> Result<(&[u8], &[u8]), ReadError>
-    ensures found { IfOk result (λ r. bytes.now ≡ archive_string r.0.now ++ r.1.now) }
-    ensures exact { Gives (λ r. (r.0.now, r.1.now)) result (string_at bytes.now) }
+    ensures { Gives (λ r. (r.0.now, r.1.now)) result (string_at bytes.now) }
 {
     let (len, rest) = read_length(bytes)?;
     let (text, rest) = split(rest, len)?;
@@ -22,10 +20,9 @@ pub(crate) fn read_string(bytes: &[u8]) -> Result<(&[u8], &[u8]), ReadError>
 }
 
 // What follows just this string.
-#[tactic(auto, unfolding(crate::specs::ArchiveReading::tag_at))]
+#[tactic(auto, unfolding(model::specs::ArchiveReading::tag_at))]
 pub(crate) fn skip_string<'a>(bytes: &'a [u8], tag: &[u8]) -> Result<&'a [u8], ReadError>
-    ensures found { IfOk result (λ rest. bytes.now ≡ archive_string tag.now ++ rest.now) }
-    ensures exact { Gives (λ rest. rest.now) result (tag_at tag.now bytes.now) }
+    ensures { Gives (λ rest. rest.now) result (tag_at tag.now bytes.now) }
 {
     let (text, rest) = read_string(bytes)?;
     if text != tag {
@@ -35,22 +32,13 @@ pub(crate) fn skip_string<'a>(bytes: &'a [u8], tag: &[u8]) -> Result<&'a [u8], R
 }
 
 // The number in the first eight bytes, and the rest.
-#[tactic(auto, unfolding(crate::specs::ArchiveReading::length_at))]
+#[tactic(auto, unfolding(model::specs::ArchiveReading::length_at))]
 fn read_length(bytes: &[u8]) -> Result<(usize, &[u8]), ReadError>
-    ensures found { IfOk result (λ r. bytes.now ≡ to_le_bytes w64 r.0 ++ r.1.now) }
-    ensures exact { Gives (λ r. (r.0, r.1.now)) result (length_at bytes.now) }
+    ensures { Gives (λ r. (r.0, r.1.now)) result (length_at bytes.now) }
 {
     let Some((digits, rest)) = bytes.split_first_chunk::<8>() else {
         return Err(ReadError::Malformed);
     };
-    let len = number_of(*digits);
+    let len = u64::from_le_bytes(*digits);
     Ok((len as usize, rest))
-}
-
-// The number whose bytes these are, the lowest first.
-fn number_of(digits: [u8; 8]) -> u64
-    ensures bytes { to_le_bytes w64 result ≡ digits }
-    ensures value { result ≡ from_le_bytes w64 digits }
-{
-    u64::from_le_bytes(digits)
 }

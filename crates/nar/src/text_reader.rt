@@ -7,7 +7,7 @@ ghost use Rattle.hex.specs.Hex.{encode_lower, decode_of};
 ghost use Rattle.model.specs.Archives.{is_entry_name, bytes_before, IsSound, AreSound, HasBytes, HaveBytes, AreBytes, depth_of, deepest, IsTree};
 ghost use Rattle.model.specs.TreeTexts.{tree_text_of, entries_text_of, separator};
 ghost use Rattle.nar.specs.NodeTrees.{tree_of, entries_of, last_name_of};
-ghost use Rattle.nar.specs.ArchiveReading.{prefix_at};
+ghost use Rattle.model.specs.ArchiveReading.{prefix_at};
 ghost use Rattle.nar.specs.TextReading.{is_lower_digit, digits_in_front, digits_at, closes, item_at, items_at, listed_at, kind_at, text_at, whole_at};
 ghost use Rattle.nar.specs.Outcomes.{Gives};
 ghost use Rattle.nar.specs.Refusing.{IsNoText};

@@ -71,13 +71,13 @@ pub all_is_each : (es : List (Entry × ℕ)) (d : Holdings) → holds_all (map (
 all_is_each es d = all_parts (map (λ e. e.0) es) (charged_all es d) d ∙ sym (each_parts es d)
 
 -- what is known, the records and the charge together
-pub made : (es : List Entry) (more : ℕ) (d : Holdings) (known : Known) (paths : List (List ℕ)) (records kept new : List Recorded) → paths ≡ sources_in es
-    → records ≡ records_in es → known ≡ record d.known { sources = d.known.sources ++ paths } → kept ≡ d.records → new ≡ kept ++ records
+pub made : (es : List Entry) (more : ℕ) (d : Holdings) (known : Known) (paths : List (List ℕ)) (added new : List Recorded) → paths ≡ sources_in es
+    → added ≡ records_in es → known ≡ record d.known { sources = d.known.sources ++ paths } → new ≡ d.records ++ added
     → record d { known = known; records = new; charge = d.charge + more } ≡ holds_all es more d
-made es more d known paths records kept new are_paths are_records known_is kept_is new_is =
+made es more d known paths added new are_paths are_added known_is new_is =
     let sources : known ≡ record d.known { sources = d.known.sources ++ sources_in es } =
     known_is ∙ ap (λ ps. record d.known { sources = d.known.sources ++ ps }) are_paths in
-    let all : new ≡ d.records ++ records_in es = new_is ∙ (λ i. kept_is i ++ are_records i) in
+    let all : new ≡ d.records ++ records_in es = new_is ∙ ap (λ rs. d.records ++ rs) are_added in
     (λ i. record d { known = sources i; records = all i; charge = d.charge + more }) ∙ sym (all_parts es more d)
 
 -- ---- the sources among them

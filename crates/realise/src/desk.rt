@@ -11,12 +11,12 @@ ghost use Rattle.model.specs.declared.refusal.Refusal.TheVariants.{Memory};
 
 use crate::charging::{charged_beyond, insert_paths, insert_record_paths};
 use crate::entry::{Entry, parted};
-use crate::groups::{grouped, put_in_group};
 use crate::limits::{MOST_RECORDS, MOST_SOURCES};
 use crate::pins::Pins;
 use crate::record::Record;
+use crate::records::Records;
 use classes::{Admitted, Known};
-use indexmap::{IndexMap, IndexSet};
+use indexmap::IndexSet;
 use model::Refusal;
 use std::alloc::Global;
 use std::hash::RandomState;
@@ -27,14 +27,11 @@ use storepath::StorePath;
 /// classes, his pins, and the sum of the archive lengths of the distinct paths that he holds, in
 /// bytes.
 ///
-/// What the labels of its records name is on it. The records of one class are found at once,
-/// however many there are: a second table has copies of them by their class, which share what
-/// they hold. Its hasher has keys that nobody outside knows, since records may come from others.
+/// What the labels of its records name is on it.
 #[derive(Drop)]
 pub struct Desk {
     known: Known,
-    records: Vec<Record>,
-    by_class: IndexMap<StorePath, Vec<Record>, RandomState>,
+    records: Records,
     pins: Pins,
     charge: u64,
 }
@@ -44,11 +41,12 @@ impl Model for Desk {
 
     ghost Value = { Holdings };
 
-    ghost use Rattle.realise.specs.Kept.{holdings_of, IsKept};
+    ghost use Rattle.realise.specs.Holdings.{IsClosed};
+    ghost use Rattle.realise.specs.Kept.{holdings_of};
 
     ghost view = { holdings_of };
 
-    ghost invariant = { IsKept };
+    ghost invariant = { λ d. IsClosed (holdings_of d) };
 }
 
 /// Whether one of the records has a path.
@@ -82,24 +80,6 @@ fn has_record(records: &[Record], added: &Record) -> bool
     false
 }
 
-/// Puts a record for which there is room.
-fn push_reserved(records: &mut Vec<Record>, added: Record)
-    requires room { vec_len records.old < vec_capacity records.old }
-    ensures { records.new.items ≡ records.old.items ++ added ∷ [] }
-{
-    records.push(added).unwrap();
-}
-
-/// Puts records for which there is room.
-fn push_all_reserved(records: &mut Vec<Record>, added: Vec<Record>)
-    requires room { vec_len records.old + length added.items ≤ vec_capacity records.old }
-    ensures { records.new.items ≡ records.old.items ++ added.items }
-{
-    for record in added {
-        records.push(record).unwrap();
-    }
-}
-
 impl Desk {
     /// A desk with nothing on it. `hashing` has the keys of the hasher for classes. It takes no
     /// memory.
@@ -113,8 +93,7 @@ impl Desk {
     {
         Desk {
             known: Known::new(alloc),
-            records: Vec::new(alloc),
-            by_class: IndexMap::with_hasher(alloc, hashing),
+            records: Records::new(alloc, hashing),
             pins: Pins::new(alloc),
             charge: 0,
         }
@@ -139,10 +118,7 @@ impl Desk {
     pub fn records_of(&self, class: &StorePath) -> &[Record]
         ensures { result.now ≡ records_of class.now self.now }
     {
-        match self.by_class.get(class) {
-            Some(group) => group.as_slice(),
-            None => &[],
-        }
+        self.records.of_class(class)
     }
 
     /// What is pinned.
@@ -196,7 +172,7 @@ impl Desk {
     {
         match entry {
             Entry::Source(_) => self.known.source_count() < MOST_SOURCES,
-            Entry::Record(_) => self.records.len() < MOST_RECORDS,
+            Entry::Record(_) => self.records.as_slice().len() < MOST_RECORDS,
         }
     }
 
@@ -207,19 +183,14 @@ impl Desk {
         if self.holds(path) { 0 } else { archive }
     }
 
-    /// Adds a record that is not there yet. The one error is memory, and changes nothing: all that
-    /// needs memory comes before the first change.
+    /// Adds a record that is not there yet. The one error is memory, and changes nothing.
     fn add_record(&mut self, alloc: Global, added: Record) -> Result<(), Refusal>
         requires closed { IsClosedWith self.old added }
         ensures { MatchResult result
             (λ _. self.new ≡ record self.old { records = self.old.records ++ added ∷ [] })
             (λ e. (e ≡ Memory) × (self.new ≡ self.old)) }
     {
-        let copy = added.clone()?;
-        self.records.reserve(1)?;
-        put_in_group(alloc, &mut self.by_class, copy)?;
-        push_reserved(&mut self.records, added);
-        Ok(())
+        self.records.push(alloc, added)
     }
 
     /// Adds an entry that is not there yet, for which so many bytes are charged. What its labels
@@ -250,7 +221,7 @@ impl Desk {
             (λ held. IsSetOf held.keys (paths_of self.now))
             (λ e. e ≡ Memory) }
     {
-        let mut held = IndexSet::with_hasher(alloc, *self.by_class.hasher());
+        let mut held = IndexSet::with_hasher(alloc, self.records.hashing());
         insert_paths(&mut held, self.known.sources())?;
         insert_record_paths(&mut held, self.records.as_slice())?;
         Ok(held)
@@ -286,15 +257,38 @@ impl Desk {
             (λ _. self.new ≡ holds_all entries.items more self.old)
             (λ e. (e ≡ Memory) × (self.new ≡ self.old)) }
     {
-        let (paths, records) = parted(alloc, entries)?;
-        let hashing = *self.by_class.hasher();
-        let groups = grouped(alloc, hashing, self.records.as_slice(), &records)?;
-        self.records.reserve(records.len())?;
+        let (paths, added) = parted(alloc, entries)?;
+        let records = self.records.with(alloc, &added)?;
         self.known.add_sources(paths)?;
-        self.by_class = groups;
-        push_all_reserved(&mut self.records, records);
+        self.records = records;
         self.charge += more;
         Ok(())
+    }
+
+    /// The desk's records and these, beside the desk. They may be put in the place of its records
+    /// later, when nothing can fail any more.
+    ///
+    /// # Errors
+    ///
+    /// - `Memory` only where memory was refused.
+    pub fn records_with(&self, alloc: Global, added: &[Record]) -> Result<Records, Refusal>
+        ensures { MatchResult result
+            (λ records. records ≡ self.now.records ++ added.now)
+            (λ e. e ≡ Memory) }
+    {
+        self.records.with(alloc, added)
+    }
+
+    /// Puts records in the place of the desk's, for which so many bytes more are charged. What
+    /// their labels name is on the desk or among them. It takes no memory.
+    pub fn replace_records(&mut self, records: Records, more: u64)
+        requires fits { self.old.charge + more < 2 ^ 64 }
+        requires closed { IsClosed (record self.old { records = records }) }
+        ensures { self.new ≡
+            record self.old { records = records; charge = self.old.charge + more } }
+    {
+        self.records = records;
+        self.charge += more;
     }
 
     /// Adds a derivation that is not there yet.

@@ -13,6 +13,7 @@ mod limits;
 mod order;
 mod pins;
 mod record;
+mod records;
 
 pub use below::records_below;
 pub use candidate::candidates;
@@ -23,3 +24,4 @@ pub use limits::{MOST_DERIVATIONS, MOST_PINS, MOST_RECORDS, MOST_SOURCES};
 pub use order::{is_class_before, labels_in_order, labels_of};
 pub use pins::Pins;
 pub use record::Record;
+pub use records::Records;

@@ -8,3 +8,6 @@ pub mod SoundLemmas
 pub mod KeptLemmas
 pub mod MadeLemmas
 pub mod OrderedLemmas
+pub mod SourceLemmas
+pub mod ResolvingLemmas
+pub mod ServedPathLemmas

@@ -7,7 +7,7 @@ use Rattle.std.proofs.Math.Seq.{take-append_seam, drop-append_seam}
 use Rattle.std.proofs.lemmas.Bool.{le-ltb}
 use Rattle.std.proofs.lemmas.List.{drop-drop, length-replicate}
 use Rattle.std.proofs.lemmas.Nat.{from_le_bytes-to_le_bytes_8}
-use Rattle.nar.specs.ArchiveReading.{◌>>=◌, split_at, length_at}
+use Rattle.model.specs.ArchiveReading.{◌>>=◌, split_at, length_at}
 use Rattle.nar.proofs.ArchiveCompleteness.{split_at-front, length-archive_string}
 use Rattle.model.specs.Archives.{archive_string}
 use Rattle.model.specs.Occurrences.{Keys, Role, EntryName, FileBytes, LinkTarget, Piece, Mark, Text, mark_before, mark_after, piece_text, joined, has_places, places_in, name_holds}

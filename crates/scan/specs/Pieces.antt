@@ -1,6 +1,6 @@
 -- Which pieces an archive may have.
 use Rattle.std.specs.Prelude.{◌≡◌, ℕ, ◌-◌, ◌%◌, ◌<◌, ◌^◌, ◌||◌, false, if◌then◌else◌, List, [], ◌∷◌, length, codes, bytes_eq, Option, Some, None}
-use Rattle.nar.specs.ArchiveReading.{◌>>=◌, split_at, length_at}
+use Rattle.model.specs.ArchiveReading.{◌>>=◌, split_at, length_at}
 use Rattle.model.specs.Archives.{archive_string}
 use Rattle.model.specs.Paths.{is_digit_32}
 use Rattle.model.specs.Occurrences.{EntryName, FileBytes, LinkTarget, Piece, Mark, Text}

@@ -16,8 +16,8 @@ use std::alloc::Global;
 use std::marker::Model;
 use storepath::HashPart;
 
-/// Places in an archive, ascending and at least 32 bytes apart: where each begins, in bytes from
-/// its beginning, and the hash part that stands there.
+/// Places in an archive or another text, ascending and at least 32 bytes apart: where each begins, in
+/// bytes from its beginning, and the hash part that stands there.
 #[derive(Drop)]
 pub struct Places {
     places: Vec<(usize, HashPart)>,
@@ -41,6 +41,24 @@ impl Places {
         ensures apart { crowded self.now ≡ false }
     {
         self.places.as_slice()
+    }
+}
+
+/// Where keys stand in a text. The time is in proportion to its length, however many keys there are.
+///
+/// # Errors
+///
+/// - [`Refusal::RewriteRefused`] with `Overlap` exactly where two places are less than 32 bytes
+///   apart.
+/// - [`Refusal::Memory`] only where memory was refused.
+pub fn places_in(alloc: Global, text: &[u8], keys: &Keys) -> Result<Places, Refusal>
+    ensures found { IfOk result (λ places. places ≡ text_places keys.now text.now) }
+    ensures apart { IfOk result (λ places. crowded places ≡ false) }
+    ensures refused { IfErr result (Finds (crowded (text_places keys.now text.now) ≡ true)) }
+{
+    match search(alloc, text, keys) {
+        Ok(places) => Ok(Places { places }),
+        Err(why) => Err(why),
     }
 }
 

@@ -1,4 +1,4 @@
-//! Where hash parts stand in the archive of a tree.
+//! Where hash parts stand in a text, and in the archive of a tree.
 #![tactic(auto)]
 
 mod finding;
@@ -7,6 +7,6 @@ mod law;
 mod names;
 mod search;
 
-pub use finding::{Places, occurrences, places_of};
+pub use finding::{Places, occurrences, places_in, places_of};
 pub use keys::Keys;
 pub use law::places_are_offsets;

@@ -11,7 +11,7 @@ use crate::search::holds;
 use nar::Nar;
 
 /// The string at the front of an archive's text, and what follows it.
-#[tactic(auto, unfolding(crate::specs::Pieces::string_front, nar::specs::ArchiveReading::split_at, nar::specs::ArchiveReading::length_at))]
+#[tactic(auto, unfolding(crate::specs::Pieces::string_front, model::specs::ArchiveReading::split_at, model::specs::ArchiveReading::length_at))]
 fn split_string(text: &[u8]) -> Option<(&[u8], &[u8])>
     ensures { option_map (λ r. (r.0.now, r.1.now)) result ≡ string_front text.now }
 {

@@ -18,7 +18,7 @@ use Rattle.realise.specs.declared.entry.Entry.{Entry}
 use Rattle.realise.specs.declared.entry.Entry.TheVariants as entry
 use Rattle.store.specs.Stored.{Extends}
 use Rattle.realise.specs.Holdings.{Holdings, with_tree, same_recorded, paths_of, entry_path, entry_with, is_on, holds_entry, has_place, charged_more, is_roomy, IsClosedWithEntry}
-use Rattle.schedule.specs.Sound.{sources_at, records_at, desk_of, IsSound}
+use Rattle.schedule.specs.Sound.{sources_at, records_at, desk_of, IsSound, Beside}
 use Rattle.schedule.proofs.ChargeLemmas.{weight, AgreeAt, weight-between}
 use Rattle.schedule.proofs.ClosedLemmas.{stays_closed}
 use Rattle.schedule.proofs.DeskLemmas.{IsKnown, same_sources, same_records, sources_known, records_known, known_kept, held_found, held_known, held_paths, length-sources_at, length-records_at}
@@ -30,9 +30,9 @@ same_there : (table : List Source) (records : List Recorded) (tree : Tree) (r : 
 same_there table [] tree r = refl
 same_there table (q ∷ records) tree r = rw (same_there table records tree r) refl
 
-pub has_entry-is_on : (trusted : List ℕ → Bool) (table : List Source) (d : Holdings) (tree : Tree) (e : Entry) → has_entry (entry_with tree e) (desk_of trusted table d) ≡ is_on e d
-has_entry-is_on trusted table d tree (entry.Source path) = sym (held_found table d.known.sources path)
-has_entry-is_on trusted table d tree (entry.Record r) = same_there table d.records tree r
+pub has_entry-is_on : (beside : Beside) (table : List Source) (d : Holdings) (tree : Tree) (e : Entry) → has_entry (entry_with tree e) (desk_of beside table d) ≡ is_on e d
+has_entry-is_on beside table d tree (entry.Source path) = sym (held_found table d.known.sources path)
+has_entry-is_on beside table d tree (entry.Record r) = same_there table d.records tree r
 
 -- ---- its charge
 
@@ -60,30 +60,30 @@ append_any (x ∷ xs) ys path h = elim (either (bytes_eq x path)) [
 ]
 
 -- what is charged with one entry more
-pub charge_of-entry : (trusted : List ℕ → Bool) (table : List Source) (d : Holdings) (tree : Tree) (e : Entry) → d.charge ≡ charge_of (desk_of trusted table d)
+pub charge_of-entry : (beside : Beside) (table : List Source) (d : Holdings) (tree : Tree) (e : Entry) → d.charge ≡ charge_of (desk_of beside table d)
     → IsThere table d (entry_path e) tree
-    → charge_of (with_entry (entry_with tree e) (desk_of trusted table d)) ≡ d.charge + charged_more (entry_path e) (length (nar tree)) d
+    → charge_of (with_entry (entry_with tree e) (desk_of beside table d)) ≡ d.charge + charged_more (entry_path e) (length (nar tree)) d
 unfolding charge_of
-charge_of-entry trusted table d tree (entry.Source path) charged there =
+charge_of-entry beside table d tree (entry.Source path) charged there =
     let s : Source = record { path = path; tree = tree } in
     let front : List Source = sources_at table d.known.sources in
     let back : List Source = map tree_of_record (records_at table d.records) in
     let agree : AgreeAt s front = agree_at table d.known.sources path tree (λ h. there (append_any d.known.sources (map (λ r. r.path) d.records) path h)) in
     ap weight (append_assoc front (s ∷ []) back) ∙ weight-between front back s agree
-    ∙ rw (held_paths trusted table d, ← held_found table (paths_of d) path, ← held_paths trusted table d, ← charged) refl
-charge_of-entry trusted table d tree (entry.Record r) charged there =
+    ∙ rw (held_paths beside table d, ← held_found table (paths_of d) path, ← held_paths beside table d, ← charged) refl
+charge_of-entry beside table d tree (entry.Record r) charged there =
     let s : Source = record { path = r.path; tree = tree } in
-    let all : List Source = held (desk_of trusted table d) in
-    let agree : AgreeAt s all = rw (held_paths trusted table d) (agree_at table (paths_of d) r.path tree there) in
-    ap weight (records_more trusted table d r tree) ∙ weight-between all [] s agree
-    ∙ rw (append-nil all, ← charged) (rw (held_paths trusted table d, ← held_found table (paths_of d) r.path) refl)
+    let all : List Source = held (desk_of beside table d) in
+    let agree : AgreeAt s all = rw (held_paths beside table d) (agree_at table (paths_of d) r.path tree there) in
+    ap weight (records_more beside table d r tree) ∙ weight-between all [] s agree
+    ∙ rw (append-nil all, ← charged) (rw (held_paths beside table d, ← held_found table (paths_of d) r.path) refl)
   where
     trees_more : (rs : List Record) (q : Record) → map tree_of_record (rs ++ q ∷ []) ≡ map tree_of_record rs ++ tree_of_record q ∷ []
     trees_more [] q = refl
     trees_more (x ∷ rs) q = ap (λ rest. tree_of_record x ∷ rest) (trees_more rs q)
 
-    records_more : (trusted : List ℕ → Bool) (table : List Source) (d : Holdings) (r : Recorded) (tree : Tree) → held (with_entry (entry_with tree (entry.Record r)) (desk_of trusted table d)) ≡ held (desk_of trusted table d) ++ record { path = r.path; tree = tree } ∷ []
-    records_more trusted table d r tree =
+    records_more : (beside : Beside) (table : List Source) (d : Holdings) (r : Recorded) (tree : Tree) → held (with_entry (entry_with tree (entry.Record r)) (desk_of beside table d)) ≡ held (desk_of beside table d) ++ record { path = r.path; tree = tree } ∷ []
+    records_more beside table d r tree =
         ap (λ rest. sources_at table d.known.sources ++ rest) (trees_more (records_at table d.records) (with_tree tree r))
         ∙ sym (append_assoc (sources_at table d.known.sources) (map tree_of_record (records_at table d.records)) (record { path = r.path; tree = tree } ∷ []))
 
@@ -99,29 +99,29 @@ third_left a b c p d e f g = rw (e, f, g) refl
 below : (n m : ℕ) → nat_le (n + 1) m ≡ nat_lt n m
 below n m = grind (arith, nat_tests)
 
-pub is_within-entry : (users : List (List ℕ)) (trusted : List ℕ → Bool) (table : List Source) (limit : ℕ) (d : Holdings) (tree : Tree) (e : Entry) → IsSound table limit d
+pub is_within-entry : (users : List (List ℕ)) (beside : Beside) (table : List Source) (limit : ℕ) (d : Holdings) (tree : Tree) (e : Entry) → IsSound table limit d
     → IsThere table d (entry_path e) tree
-    → is_within (record { users = users; charge = limit }) (with_entry (entry_with tree e) (desk_of trusted table d)) ≡ is_roomy e (charged_more (entry_path e) (length (nar tree)) d) limit d
+    → is_within (record { users = users; charge = limit }) (with_entry (entry_with tree e) (desk_of beside table d)) ≡ is_roomy e (charged_more (entry_path e) (length (nar tree)) d) limit d
 unfolding is_within
-is_within-entry users trusted table limit d tree (entry.Source path) sound there =
+is_within-entry users beside table limit d tree (entry.Source path) sound there =
     let s : Source = record { path = path; tree = tree } in
     let count : length (sources_at table d.known.sources ++ s ∷ []) ≡ length d.known.sources + 1 = rw (length-append (sources_at table d.known.sources) (s ∷ []), length-sources_at table d.known.sources) refl in
     let derivations : nat_le (length d.known.derivations) most_derivations ≡ true = grind (arith, nat_tests, sound.few_derivations) in
     let records : nat_le (length (records_at table d.records)) most_records ≡ true = grind (arith, nat_tests, sound.few_records, length-records_at table d.records) in
-    let charge = charge_of-entry trusted table d tree (entry.Source path) (sound.charged trusted) there in
+    let charge = charge_of-entry beside table d tree (entry.Source path) (sound.charged beside) there in
     let pins : nat_le (length d.pins) most_pins ≡ true = grind (arith, nat_tests, sound.few_pins) in
     first_left (nat_le (length (sources_at table d.known.sources ++ s ∷ [])) most_sources) (nat_le (length d.known.derivations) most_derivations) (nat_le (length (records_at table d.records)) most_records) (nat_le (length d.pins) most_pins)
-    (nat_le (charge_of (with_entry (entry_with tree (entry.Source path)) (desk_of trusted table d))) limit) derivations records pins
+    (nat_le (charge_of (with_entry (entry_with tree (entry.Source path)) (desk_of beside table d))) limit) derivations records pins
     ∙ rw (count, charge) (ap (λ b. b && nat_le (d.charge + charged_more path (length (nar tree)) d) limit) (below (length d.known.sources) most_sources))
-is_within-entry users trusted table limit d tree (entry.Record r) sound there =
+is_within-entry users beside table limit d tree (entry.Record r) sound there =
     let q : Record = with_tree tree r in
     let count : length (records_at table d.records ++ q ∷ []) ≡ length d.records + 1 = rw (length-append (records_at table d.records) (q ∷ []), length-records_at table d.records) refl in
     let sources : nat_le (length (sources_at table d.known.sources)) most_sources ≡ true = grind (arith, nat_tests, sound.few_sources, length-sources_at table d.known.sources) in
     let derivations : nat_le (length d.known.derivations) most_derivations ≡ true = grind (arith, nat_tests, sound.few_derivations) in
-    let charge = charge_of-entry trusted table d tree (entry.Record r) (sound.charged trusted) there in
+    let charge = charge_of-entry beside table d tree (entry.Record r) (sound.charged beside) there in
     let pins : nat_le (length d.pins) most_pins ≡ true = grind (arith, nat_tests, sound.few_pins) in
     third_left (nat_le (length (sources_at table d.known.sources)) most_sources) (nat_le (length d.known.derivations) most_derivations) (nat_le (length (records_at table d.records ++ q ∷ [])) most_records) (nat_le (length d.pins) most_pins)
-    (nat_le (charge_of (with_entry (entry_with tree (entry.Record r)) (desk_of trusted table d))) limit) sources derivations pins
+    (nat_le (charge_of (with_entry (entry_with tree (entry.Record r)) (desk_of beside table d))) limit) sources derivations pins
     ∙ rw (count, charge) (ap (λ b. b && nat_le (d.charge + charged_more r.path (length (nar tree)) d) limit) (below (length d.records) most_records))
 
 -- ---- the desk with it
@@ -136,21 +136,21 @@ records_at-push table [] r tree e = rw e refl
 records_at-push table (q ∷ records) r tree e = rw (records_at-push table records r tree e) refl
 
 -- a desk of these parts
-pub desk_with : (List ℕ → Bool) → Holdings → List Source → List Record → Desk
-desk_with trusted d sources records = record { trusted = trusted; sources = sources; derivations = d.known.derivations; records = records; pins = d.pins }
+pub desk_with : Beside → Holdings → List Source → List Record → Desk
+desk_with beside d sources records = record { trusted = beside.trusted; sources = sources; derivations = d.known.derivations; records = records; pins = d.pins; goals = beside.goals }
 
-pub desk_of-entry : (trusted : List ℕ → Bool) (old new : List Source) (limit : ℕ) (d : Holdings) (tree : Tree) (e : Entry) (more : ℕ) → Extends old new → IsSound old limit d
+pub desk_of-entry : (beside : Beside) (old new : List Source) (limit : ℕ) (d : Holdings) (tree : Tree) (e : Entry) (more : ℕ) → Extends old new → IsSound old limit d
     → tree_at (entry_path e) new ≡ Some tree
-    → desk_of trusted new (holds_entry e more d) ≡ with_entry (entry_with tree e) (desk_of trusted old d)
+    → desk_of beside new (holds_entry e more d) ≡ with_entry (entry_with tree e) (desk_of beside old d)
 unfolding desk_with
-desk_of-entry trusted old new limit d tree (entry.Source path) more later sound there =
+desk_of-entry beside old new limit d tree (entry.Source path) more later sound there =
     let sources = sources_at-push new d.known.sources path tree there ∙ ap (λ xs. xs ++ record { path = path; tree = tree } ∷ []) (same_sources old new later d.known.sources (sources_known old limit d sound)) in
     let records = same_records old new later d.records (records_known old limit d sound) in
-    λ i. desk_with trusted d (sources i) (records i)
-desk_of-entry trusted old new limit d tree (entry.Record r) more later sound there =
+    λ i. desk_with beside d (sources i) (records i)
+desk_of-entry beside old new limit d tree (entry.Record r) more later sound there =
     let sources = same_sources old new later d.known.sources (sources_known old limit d sound) in
     let records = records_at-push new d.records r tree there ∙ ap (λ xs. xs ++ with_tree tree r ∷ []) (same_records old new later d.records (records_known old limit d sound)) in
-    λ i. desk_with trusted d (sources i) (records i)
+    λ i. desk_with beside d (sources i) (records i)
 
 paths_more : (rs : List Recorded) (r : Recorded) → map (λ q. q.path) (rs ++ r ∷ []) ≡ map (λ q. q.path) rs ++ r.path ∷ []
 paths_more [] r = refl
@@ -201,7 +201,7 @@ sound-entry old new limit d tree e later sound there stored roomy closed =
     let parts = both_parts (has_place e d) (nat_le (d.charge + more) limit) roomy in
     let few = place_left e more d sound.few_sources sound.few_records parts.0 in
     record {
-      charged = λ trusted. charge_is e more d ∙ sym (charge_of-entry trusted old d tree e (sound.charged trusted) there) ∙ ap charge_of (sym (desk_of-entry trusted old new limit d tree e more later sound stored));
+      charged = λ beside. charge_is e more d ∙ sym (charge_of-entry beside old d tree e (sound.charged beside) there) ∙ ap charge_of (sym (desk_of-entry beside old new limit d tree e more later sound stored));
       within = (let fits : d.charge + more ≤ limit = grind (arith, nat_tests, parts.1) in rw (charge_is e more d) fits);
       few_sources = few.0;
       few_derivations = rw (derivations_stay e more d) sound.few_derivations;
@@ -239,19 +239,19 @@ there_if_stored table limit d tree path true sound stored = λ held. stored
 there_if_stored table limit d tree path false sound stored = λ held. (let known = held_known table (paths_of d) path sound.known held in let none = rw stored at known in cc)
 
 -- an entry that is there, one too many, and one more
-pub entry_had : (users : List (List ℕ)) (trusted : List ℕ → Bool) (limit : ℕ) (table : List Source) (d : Holdings) (tree : Tree) (e : Entry) → is_on e d ≡ true
-    → add_entry (record { users = users; charge = limit }) (desk_of trusted table d) (entry_with tree e) ≡ becomes (desk_of trusted table d) (Path (entry_path e))
-entry_had users trusted limit table d tree e on = rw (has_entry-is_on trusted table d tree e, on) (ap (λ p. becomes (desk_of trusted table d) (Path p)) (path_with tree e))
+pub entry_had : (users : List (List ℕ)) (beside : Beside) (limit : ℕ) (table : List Source) (d : Holdings) (tree : Tree) (e : Entry) → is_on e d ≡ true
+    → add_entry (record { users = users; charge = limit }) (desk_of beside table d) (entry_with tree e) ≡ becomes (desk_of beside table d) (Path (entry_path e))
+entry_had users beside limit table d tree e on = rw (has_entry-is_on beside table d tree e, on) (ap (λ p. becomes (desk_of beside table d) (Path p)) (path_with tree e))
 
-pub entry_refused : (users : List (List ℕ)) (trusted : List ℕ → Bool) (limit : ℕ) (table : List Source) (d : Holdings) (tree : Tree) (e : Entry) → IsSound table limit d
+pub entry_refused : (users : List (List ℕ)) (beside : Beside) (limit : ℕ) (table : List Source) (d : Holdings) (tree : Tree) (e : Entry) → IsSound table limit d
     → IsThere table d (entry_path e) tree → is_on e d ≡ false
-    → is_roomy e (charged_more (entry_path e) (length (nar tree)) d) limit d ≡ false → add_entry (record { users = users; charge = limit }) (desk_of trusted table d) (entry_with tree e) ≡ Err Quota
-entry_refused users trusted limit table d tree e sound there on over = rw (has_entry-is_on trusted table d tree e, on, is_within-entry users trusted table limit d tree e sound there, over) refl
+    → is_roomy e (charged_more (entry_path e) (length (nar tree)) d) limit d ≡ false → add_entry (record { users = users; charge = limit }) (desk_of beside table d) (entry_with tree e) ≡ Err Quota
+entry_refused users beside limit table d tree e sound there on over = rw (has_entry-is_on beside table d tree e, on, is_within-entry users beside table limit d tree e sound there, over) refl
 
-pub entry_new : (users : List (List ℕ)) (trusted : List ℕ → Bool) (limit : ℕ) (table : List Source) (d : Holdings) (tree : Tree) (e : Entry) → IsSound table limit d
+pub entry_new : (users : List (List ℕ)) (beside : Beside) (limit : ℕ) (table : List Source) (d : Holdings) (tree : Tree) (e : Entry) → IsSound table limit d
     → IsThere table d (entry_path e) tree → is_on e d ≡ false
     → is_roomy e (charged_more (entry_path e) (length (nar tree)) d) limit d ≡ true
-    → add_entry (record { users = users; charge = limit }) (desk_of trusted table d) (entry_with tree e) ≡ becomes (with_entry (entry_with tree e) (desk_of trusted table d)) (Path (entry_path e))
-entry_new users trusted limit table d tree e sound there on roomy =
-    rw (has_entry-is_on trusted table d tree e, on, is_within-entry users trusted table limit d tree e sound there, roomy)
-    (ap (λ p. becomes (with_entry (entry_with tree e) (desk_of trusted table d)) (Path p)) (path_with tree e))
+    → add_entry (record { users = users; charge = limit }) (desk_of beside table d) (entry_with tree e) ≡ becomes (with_entry (entry_with tree e) (desk_of beside table d)) (Path (entry_path e))
+entry_new users beside limit table d tree e sound there on roomy =
+    rw (has_entry-is_on beside table d tree e, on, is_within-entry users beside table limit d tree e sound there, roomy)
+    (ap (λ p. becomes (with_entry (entry_with tree e) (desk_of beside table d)) (Path p)) (path_with tree e))

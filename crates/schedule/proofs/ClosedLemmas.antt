@@ -16,7 +16,7 @@ use Rattle.realise.specs.declared.entry.Entry.{Entry}
 use Rattle.realise.specs.declared.entry.Entry.TheVariants as entry
 use Rattle.realise.specs.Holdings.{Holdings, is_at, has_labelled, holds_entry, IsClosedWith, IsClosedWithEntry, IsClosed}
 use Rattle.choose.specs.Visible.{source_at, record_at}
-use Rattle.schedule.specs.Sound.{desk_of}
+use Rattle.schedule.specs.Sound.{Beside, desk_of}
 use Rattle.schedule.specs.Offering.{AreLabels, IsRecordOf}
 
 -- ---- candidates
@@ -69,7 +69,7 @@ same_at r = both (bytes_eq r.path r.path) (bytes_eq r.class.path r.class.path) (
 -- what an output of a derivation may refer to is on the desk
 labels_on : (d : Holdings) (x : Derivation) (labels : List Label) → AreLabels d x labels → All (IsLabelled d) labels
 labels_on d x labels are =
-    let none : List ℕ → Bool = λ name. false in
+    let none : Beside = record { trusted = λ name. false; goals = [] } in
     rw (are none [])
     (all_candidates (IsLabelled d) (desk_of none [] d) x
     (All-map (λ (s : Source). IsLabelled d (label_of_source s)) (source_at []) d.known.sources (each_among (λ p q. bytes_eq q p) bytes_same d.known.sources))

@@ -11,7 +11,7 @@ use Rattle.model.specs.declared.refusal.Refusal.TheVariants.{Memory}
 use Rattle.model.specs.Limits.{most_entries}
 use Rattle.model.specs.Results.{then_do, each}
 use Rattle.model.specs.Orders.{placed, set_of}
-use Rattle.model.specs.Worlds.{Source, Record, Setup, Desk, Pin, World, Entry, OfSource, OfRecord, are_users}
+use Rattle.model.specs.Worlds.{Source, Record, Setup, Desk, Pin, World, Goal, Entry, OfSource, OfRecord, are_users}
 use Rattle.model.specs.Events as events
 use Rattle.model.specs.Outcomes.{Sight, sight_of, view_of, becomes}
 use Rattle.model.specs.ClosureRequests.{closure}
@@ -33,42 +33,41 @@ use Rattle.choose.proofs.SetLemmas.{set_ascends}
 use Rattle.choose.proofs.OrderLemmas.{entry_before-Weak}
 use Rattle.choose.proofs.LabelledLemmas.{sees_in, view_sees_sources}
 use Rattle.repair.specs.SoundPlans.{IsSoundPlan}
-use Rattle.trust.specs.Naming.{place_of, trusted_at, IsWithin}
+use Rattle.trust.specs.Naming.{place_of, IsWithin}
 use Rattle.trust.proofs.PlaceLemmas.{name_found}
 use Rattle.schedule.specs.declared.events.Reply as Rust
 use Rattle.schedule.specs.Stored.{stored_by}
-use Rattle.schedule.specs.Sound.{desk_of, IsSound}
-use Rattle.schedule.specs.Standing.{reply_of, desk_among}
+use Rattle.schedule.specs.Sound.{desk_of, IsSound, IsClosure}
+use Rattle.schedule.specs.Standing.{reply_of, beside_at, desk_among}
 use Rattle.schedule.specs.Given.{HasSoundPlan}
 use Rattle.schedule.specs.Serving.{AreServed, AreNotServed, AtPlace, IsServedAt}
 use Rattle.schedule.specs.Handling.{Fits, RefusedAtOnce, IsHandledIn, IsHandledBySight}
-use Rattle.schedule.specs.Taking.{IsClosure}
 use Rattle.schedule.specs.Viewing.{bare, desk_at, IsView}
 use Rattle.schedule.proofs.WorldLemmas.{place_found, desk_found}
 use Rattle.schedule.proofs.HandlingLemmas.{place_there, sound_at, is_left}
 
 -- ---- the user at a place
 
-module _ (users : List (List ℕ)) (limit : ℕ) (trust : ℕ → ℕ → Bool) (table : List Source) (desks : List Holdings) (actor : List ℕ) (place : ℕ)
-    (listed : are_users users ≡ true) (found : place_of users actor ≡ Some place) (paired : length desks ≡ length users) (within : IsWithin (length users) trust) where
+module _ (users : List (List ℕ)) (limit : ℕ) (trust : ℕ → ℕ → Bool) (goals : List (List Goal)) (table : List Source) (desks : List Holdings)
+    (actor : List ℕ) (place : ℕ) (listed : are_users users ≡ true) (found : place_of users actor ≡ Some place) (paired : length desks ≡ length users) (within : IsWithin (length users) trust) where
   abbrev setup : Setup
   setup = record { users = users; charge = limit }
 
   abbrev pub world : World
-  world = desk_among (trusted_at users trust) table users desks
+  world = desk_among (beside_at users trust goals) table users desks
 
   here : slice_get desks place ≡ Some (desk_at desks place)
   here = place_there users desks actor place bare paired found
 
-  pub his_desk : world actor ≡ desk_of (trusted_at users trust place) table (desk_at desks place)
-  his_desk = desk_found (trusted_at users trust) table users desks actor place (desk_at desks place) (place_found users actor place found) here
+  pub his_desk : world actor ≡ desk_of (beside_at users trust goals place) table (desk_at desks place)
+  his_desk = desk_found (beside_at users trust goals) table users desks actor place (desk_at desks place) (place_found users actor place found) here
 
   -- what is visible to him
-  visible : (view : List Holdings) → IsView trust place desks view → visible_on (view_of setup world actor) ≡ seen table view
+  pub visible : (view : List Holdings) → IsView trust place desks view → visible_on (view_of setup world actor) ≡ seen table view
   visible view is =
       let own = name_found users actor place found in
-      ap (λ who. visible_on (view_of setup world who)) (sym own.1) ∙ ap visible_on (is.seen users limit table listed paired within)
-      ∙ desks_seen table (λ p. desk_of (trusted_at users trust p) table (desk_at desks p)) (desk_at desks) (λ p. refl) (λ p. refl) is.places
+      ap (λ who. visible_on (view_of setup world who)) (sym own.1) ∙ ap visible_on (is.seen users limit goals table listed paired within)
+      ∙ desks_seen table (λ p. desk_of (beside_at users trust goals p) table (desk_at desks p)) (desk_at desks) (λ p. refl) (λ p. refl) is.places
       ∙ ap (seen table) (sym is.held)
 
   -- his desk is within its limits
@@ -81,7 +80,7 @@ module _ (users : List (List ℕ)) (limit : ℕ) (trust : ℕ → ℕ → Bool) 
       → IfOk result (λ r. is_refused (reply_of r) ≡ false) → RefusedAtOnce (outcome setup (sight_of setup world actor) request) result
       → IfErr result (λ why. is_clash_refusal why ≡ false) → OnOk result (table ≡ put_all (stored_by setup world actor request) table)
       → OnOk result (HasSoundPlan setup world actor request)
-      → IsHandledIn setup world actor (trusted_at users trust place) table (desk_at desks place) request result table (desk_at desks place)
+      → IsHandledIn setup world actor (beside_at users trust goals place) table (desk_at desks place) request result table (desk_at desks place)
   left_there request result sound fits answered at_once no_clash stored plans = record {
     serves = subst (λ (d : Desk). Fits (outcome setup (sight_of setup world actor) request) d result) his_desk fits;
     answered = answered;
@@ -109,25 +108,25 @@ pub served_at : (trust : ℕ → ℕ → Bool) (table : List Source) (desks view
     MatchResult result (λ entries. answer ≡ Ok entries.items) (λ e. (e ≡ Memory) ⊎ (answer ≡ Err e)))
     → ((s : List Desk) (p : Plan) → visible_on s ≡ seen table view → plan s (desk_at desks place).pins (class ∷ []) [] ≡ Ok p → IfOk result (λ _. IsSoundPlan p))
     → IsServedAt trust table desks place class result
-served_at trust table desks view place class (Ok entries) are served sound = λ users limit actor listed found paired within.
-    let w : World = world users limit trust table desks actor place listed found paired within in
-    let sees = visible users limit trust table desks actor place listed found paired within view are in
-    let pins : (w actor).pins ≡ (desk_at desks place).pins = ap (λ (d : Desk). d.pins) (his_desk users limit trust table desks actor place listed found paired within) in
+served_at trust table desks view place class (Ok entries) are served sound = λ users limit goals actor listed found paired within.
+    let w : World = world users limit trust goals table desks actor place listed found paired within in
+    let sees = visible users limit trust goals table desks actor place listed found paired within view are in
+    let pins : (w actor).pins ≡ (desk_at desks place).pins = ap (λ (d : Desk). d.pins) (his_desk users limit trust goals table desks actor place listed found paired within) in
     let his = view_of (record { users = users; charge = limit }) w actor in
     record {
       are = subst (λ ps. closures.closure his ps (class ∷ []) [] ≡ Ok entries.items) (sym pins) (served his sees);
       sound = λ p e. sound his p sees (subst (λ ps. plan his ps (class ∷ []) [] ≡ Ok p) pins e);
     }
-served_at trust table desks view place class (Err why) are served sound = λ users limit actor listed found paired within.
-    let w : World = world users limit trust table desks actor place listed found paired within in
-    let sees = visible users limit trust table desks actor place listed found paired within view are in
-    let pins : (w actor).pins ≡ (desk_at desks place).pins = ap (λ (d : Desk). d.pins) (his_desk users limit trust table desks actor place listed found paired within) in
+served_at trust table desks view place class (Err why) are served sound = λ users limit goals actor listed found paired within.
+    let w : World = world users limit trust goals table desks actor place listed found paired within in
+    let sees = visible users limit trust goals table desks actor place listed found paired within view are in
+    let pins : (w actor).pins ≡ (desk_at desks place).pins = ap (λ (d : Desk). d.pins) (his_desk users limit trust goals table desks actor place listed found paired within) in
     let his = view_of (record { users = users; charge = limit }) w actor in
     subst (λ ps. (why ≡ Memory) ⊎ (closures.closure his ps (class ∷ []) [] ≡ Err why)) (sym pins) (served his sees)
 
 -- where memory is refused before there is a view
 pub unserved_at : (trust : ℕ → ℕ → Bool) (table : List Source) (desks : List Holdings) (place : ℕ) (class : List ℕ) → IsServedAt trust table desks place class (Err Memory)
-unserved_at trust table desks place class = λ users limit actor listed found paired within. inl refl
+unserved_at trust table desks place class = λ users limit goals actor listed found paired within. inl refl
 
 -- why nothing is served is no clash
 pub unserved_no_clash : (setup : Setup) (w : World) (u class : List ℕ) (why : Refusal) → AreNotServed setup w u class why → is_clash_refusal why ≡ false
@@ -144,22 +143,22 @@ pub closure_handled : (trust : ℕ → ℕ → Bool) (limit : ℕ) (table : List
     → AtPlace trust table desks place (λ setup w u. AreServed setup w u class entries) → reply_of reply ≡ events.Entries entries
     → IsHandledBySight trust limit table desks place (events.Closure class) (Ok reply) table (desk_at desks place)
 unfolding outcome
-closure_handled trust limit table desks place class entries reply served told users actor listed found paired sound within =
+closure_handled trust limit table desks place class entries reply served told users goals actor listed found paired sound within =
     let s : Setup = record { users = users; charge = limit } in
-    let w : World = world users limit trust table desks actor place listed found paired within in
-    left_there users limit trust table desks actor place listed found paired within (events.Closure class) (Ok reply) sound
-    (ap (λ o. then_do o (λ es. becomes (w actor) (events.Entries es))) (served users limit actor listed found paired within).are ∙ ap (becomes (w actor)) (sym told))
-    (rw told refl) (closure_at_once (sight_of s w actor) class (Ok reply)) (search rules) refl (served users limit actor listed found paired within).sound
+    let w : World = world users limit trust goals table desks actor place listed found paired within in
+    left_there users limit trust goals table desks actor place listed found paired within (events.Closure class) (Ok reply) sound
+    (ap (λ o. then_do o (λ es. becomes (w actor) (events.Entries es))) (served users limit goals actor listed found paired within).are ∙ ap (becomes (w actor)) (sym told))
+    (rw told refl) (closure_at_once (sight_of s w actor) class (Ok reply)) (search rules) refl (served users limit goals actor listed found paired within).sound
 
 pub closure_refused : (trust : ℕ → ℕ → Bool) (limit : ℕ) (table : List Source) (desks : List Holdings) (place : ℕ) (class : List ℕ) (why : Refusal)
     → AtPlace trust table desks place (λ setup w u. AreNotServed setup w u class why)
     → IsHandledBySight trust limit table desks place (events.Closure class) (Err why) table (desk_at desks place)
 unfolding outcome
-closure_refused trust limit table desks place class why refused users actor listed found paired sound within =
+closure_refused trust limit table desks place class why refused users goals actor listed found paired sound within =
     let s : Setup = record { users = users; charge = limit } in
-    let w : World = world users limit trust table desks actor place listed found paired within in
-    let none : AreNotServed s w actor class why = refused users limit actor listed found paired within in
-    left_there users limit trust table desks actor place listed found paired within (events.Closure class) (Err why) sound
+    let w : World = world users limit trust goals table desks actor place listed found paired within in
+    let none : AreNotServed s w actor class why = refused users limit goals actor listed found paired within in
+    left_there users limit trust goals table desks actor place listed found paired within (events.Closure class) (Err why) sound
     (λ own. elim none [
       | inl memory ↦ (let no = rw memory at own in cc)
       | inr is ↦ ap (λ o. then_do o (λ es. becomes (w actor) (events.Entries es))) is
@@ -170,7 +169,7 @@ closure_refused trust limit table desks place class why refused users actor list
 
 -- a desk on which all is that a view has
 desk_with : Visible → Desk
-desk_with view = record { trusted = λ name. false; sources = view.sources; derivations = []; records = view.records; pins = [] }
+desk_with view = record { trusted = λ name. false; sources = view.sources; derivations = []; records = view.records; pins = []; goals = [] }
 
 on_one_desk : (view : Visible) → visible_on (desk_with view ∷ []) ≡ view
 unfolding desk_with

@@ -29,8 +29,8 @@ use Rattle.realise.specs.Holdings.{Holdings, paths_of, same_recorded, entry_path
 use Rattle.realise.proofs.SeveralLemmas.{with_parts, all_parts, all_is_each}
 use Rattle.store.specs.Stored.{Extends, put_all, source_of, sources_of, AreThere, AreTaken as AreTakenOf}
 use Rattle.schedule.specs.Stored.{source_of_entry}
-use Rattle.schedule.specs.Sound.{sources_at, records_at, desk_of, IsSound}
-use Rattle.schedule.specs.Taking.{IsClosure, tree_with_path, entry_without, counted, bare, missing_on, are_roomy, copied, CopiesEntries}
+use Rattle.schedule.specs.Sound.{IsClosure, sources_at, records_at, desk_of, IsSound, Beside}
+use Rattle.schedule.specs.Taking.{tree_with_path, entry_without, counted, bare, missing_on, are_roomy, copied, CopiesEntries}
 use Rattle.schedule.proofs.PuttingLemmas.{put_all-Extends}
 use Rattle.schedule.proofs.AddingLemmas.{has_entry-is_on, charge_of-entry, sources_at-push, records_at-push, known-entry, charge_is}
 use Rattle.schedule.proofs.ClosedLemmas.{still_labelled}
@@ -52,27 +52,27 @@ abbrev pub IsThereFor : List Source → worlds.Entry → Type 0
 IsThereFor table e = tree_at (path_of_entry e) table ≡ Some (tree_of_entry e)
 
 module _ (table : List Source) where
-  one_copied : (trusted : List ℕ → Bool) (d : Holdings) (e : worlds.Entry) (more : ℕ) → IsThereFor table e
-      → desk_of trusted table (holds_entry (entry_without e) more d) ≡ with_entry e (desk_of trusted table d)
-  one_copied trusted d (OfSource s) more there =
+  one_copied : (beside : Beside) (d : Holdings) (e : worlds.Entry) (more : ℕ) → IsThereFor table e
+      → desk_of beside table (holds_entry (entry_without e) more d) ≡ with_entry e (desk_of beside table d)
+  one_copied beside d (OfSource s) more there =
       let sources = sources_at-push table d.known.sources s.path s.tree there in
-      λ i. record { trusted = trusted; sources = sources i; derivations = d.known.derivations; records = records_at table d.records; pins = d.pins }
-  one_copied trusted d (OfRecord r) more there =
+      λ i. record { trusted = beside.trusted; sources = sources i; derivations = d.known.derivations; records = records_at table d.records; pins = d.pins; goals = beside.goals }
+  one_copied beside d (OfRecord r) more there =
       let records = records_at-push table d.records (without_tree r) r.tree there in
-      λ i. record { trusted = trusted; sources = sources_at table d.known.sources; derivations = d.known.derivations; records = records i; pins = d.pins }
+      λ i. record { trusted = beside.trusted; sources = sources_at table d.known.sources; derivations = d.known.derivations; records = records i; pins = d.pins; goals = beside.goals }
 
   -- what an entry is charged
   abbrev its_charge : Holdings → worlds.Entry → ℕ
   its_charge d e = charged_more (entry_path (entry_without e)) (length (nar (tree_of_entry e))) d
 
-  one_charged : (trusted : List ℕ → Bool) (d : Holdings) (e : worlds.Entry) → IsThereFor table e → d.charge ≡ charge_of (desk_of trusted table d)
-      → (holds_entry (entry_without e) (its_charge d e) d).charge ≡ charge_of (desk_of trusted table (holds_entry (entry_without e) (its_charge d e) d))
-  one_charged trusted d e there charged =
+  one_charged : (beside : Beside) (d : Holdings) (e : worlds.Entry) → IsThereFor table e → d.charge ≡ charge_of (desk_of beside table d)
+      → (holds_entry (entry_without e) (its_charge d e) d).charge ≡ charge_of (desk_of beside table (holds_entry (entry_without e) (its_charge d e) d))
+  one_charged beside d e there charged =
       let stored : tree_at (entry_path (entry_without e)) table ≡ Some (tree_of_entry e) = ap (λ p. tree_at p table) (its_path e) ∙ there in
       charge_is (entry_without e) (its_charge d e) d
-      ∙ sym (charge_of-entry trusted table d (tree_of_entry e) (entry_without e) charged (λ held. stored))
-      ∙ ap (λ x. charge_of (with_entry x (desk_of trusted table d))) (with_its_tree e)
-      ∙ ap charge_of (sym (one_copied trusted d e (its_charge d e) there))
+      ∙ sym (charge_of-entry beside table d (tree_of_entry e) (entry_without e) charged (λ held. stored))
+      ∙ ap (λ x. charge_of (with_entry x (desk_of beside table d))) (with_its_tree e)
+      ∙ ap charge_of (sym (one_copied beside d e (its_charge d e) there))
 
   -- ---- all entries
 
@@ -80,20 +80,20 @@ module _ (table : List Source) where
   abbrev with_each : List worlds.Entry → Holdings → Holdings
   with_each es d = holds_each (map counted es) d
 
-  all_copied : (trusted : List ℕ → Bool) (es : List worlds.Entry) (d : Holdings) → All (IsThereFor table) es
-      → desk_of trusted table (with_each es d) ≡ with_all es (desk_of trusted table d)
+  all_copied : (beside : Beside) (es : List worlds.Entry) (d : Holdings) → All (IsThereFor table) es
+      → desk_of beside table (with_each es d) ≡ with_all es (desk_of beside table d)
   unfolding with_all
-  all_copied trusted [] d there = refl
-  all_copied trusted (e ∷ es) d there =
-      all_copied trusted es (holds_entry (entry_without e) (its_charge d e) d) (All-tail (IsThereFor table) e es there)
-      ∙ ap (with_all es) (one_copied trusted d e (its_charge d e) (All-head (IsThereFor table) e es there))
+  all_copied beside [] d there = refl
+  all_copied beside (e ∷ es) d there =
+      all_copied beside es (holds_entry (entry_without e) (its_charge d e) d) (All-tail (IsThereFor table) e es there)
+      ∙ ap (with_all es) (one_copied beside d e (its_charge d e) (All-head (IsThereFor table) e es there))
 
-  all_charged : (trusted : List ℕ → Bool) (es : List worlds.Entry) (d : Holdings) → All (IsThereFor table) es → d.charge ≡ charge_of (desk_of trusted table d)
-      → (with_each es d).charge ≡ charge_of (desk_of trusted table (with_each es d))
-  all_charged trusted [] d there charged = charged
-  all_charged trusted (e ∷ es) d there charged =
-      all_charged trusted es (holds_entry (entry_without e) (its_charge d e) d) (All-tail (IsThereFor table) e es there)
-      (one_charged trusted d e (All-head (IsThereFor table) e es there) charged)
+  all_charged : (beside : Beside) (es : List worlds.Entry) (d : Holdings) → All (IsThereFor table) es → d.charge ≡ charge_of (desk_of beside table d)
+      → (with_each es d).charge ≡ charge_of (desk_of beside table (with_each es d))
+  all_charged beside [] d there charged = charged
+  all_charged beside (e ∷ es) d there charged =
+      all_charged beside es (holds_entry (entry_without e) (its_charge d e) d) (All-tail (IsThereFor table) e es there)
+      (one_charged beside d e (All-head (IsThereFor table) e es there) charged)
 
   all_known : (es : List worlds.Entry) (d : Holdings) → All (IsThereFor table) es → All (IsKnown table) (paths_of d)
       → All (IsKnown table) (paths_of (with_each es d))
@@ -106,15 +106,15 @@ module _ (table : List Source) where
 
 -- ---- those that are missing
 
-same_missing : (trusted : List ℕ → Bool) (table : List Source) (d : Holdings) (entries : List worlds.Entry)
-    → missing entries (desk_of trusted table d) ≡ missing_on d entries
-same_missing trusted table d [] = refl
-same_missing trusted table d (e ∷ entries) =
-    let same : has_entry e (desk_of trusted table d) ≡ is_on (entry_without e) d =
-    ap (λ x. has_entry x (desk_of trusted table d)) (sym (with_its_tree e)) ∙ has_entry-is_on trusted table d (tree_of_entry e) (entry_without e) in
+same_missing : (beside : Beside) (table : List Source) (d : Holdings) (entries : List worlds.Entry)
+    → missing entries (desk_of beside table d) ≡ missing_on d entries
+same_missing beside table d [] = refl
+same_missing beside table d (e ∷ entries) =
+    let same : has_entry e (desk_of beside table d) ≡ is_on (entry_without e) d =
+    ap (λ x. has_entry x (desk_of beside table d)) (sym (with_its_tree e)) ∙ has_entry-is_on beside table d (tree_of_entry e) (entry_without e) in
     elim (either (is_on (entry_without e) d)) [
-      | inl t ↦ rw (same, t) (same_missing trusted table d entries)
-      | inr f ↦ rw (same, f) (ap (λ rest. e ∷ rest) (same_missing trusted table d entries))
+      | inl t ↦ rw (same, t) (same_missing beside table d entries)
+      | inr f ↦ rw (same, f) (ap (λ rest. e ∷ rest) (same_missing beside table d entries))
     ]
 
 -- ---- what the labels name
@@ -313,16 +313,16 @@ module _ (old new : List Source) (limit : ℕ) (d : Holdings) (entries : List wo
   found_there = All-filter (λ e. not (is_on (entry_without e) d)) (IsThereFor new) entries there
 
   -- the desk with them is the model's
-  pub desk_copied : (trusted : List ℕ → Bool) → with_entries entries (desk_of trusted old d) ≡ desk_of trusted new with_found
-  desk_copied trusted =
-      ap (λ es. with_all es (desk_of trusted old d)) (same_missing trusted old d entries)
-      ∙ ap (with_all found) (sym (desk_kept trusted old new limit d later sound))
-      ∙ sym (all_copied new trusted found d found_there) ∙ ap (desk_of trusted new) (sym one_by_one)
+  pub desk_copied : (beside : Beside) → with_entries entries (desk_of beside old d) ≡ desk_of beside new with_found
+  desk_copied beside =
+      ap (λ es. with_all es (desk_of beside old d)) (same_missing beside old d entries)
+      ∙ ap (with_all found) (sym (desk_kept beside old new limit d later sound))
+      ∙ sym (all_copied new beside found d found_there) ∙ ap (desk_of beside new) (sym one_by_one)
 
-  charged_so : (trusted : List ℕ → Bool) → with_found.charge ≡ charge_of (desk_of trusted new with_found)
-  charged_so trusted =
-      let before : d.charge ≡ charge_of (desk_of trusted new d) = sound.charged trusted ∙ ap charge_of (sym (desk_kept trusted old new limit d later sound)) in
-      subst (λ (h : Holdings). h.charge ≡ charge_of (desk_of trusted new h)) (sym one_by_one) (all_charged new trusted found d found_there before)
+  charged_so : (beside : Beside) → with_found.charge ≡ charge_of (desk_of beside new with_found)
+  charged_so beside =
+      let before : d.charge ≡ charge_of (desk_of beside new d) = sound.charged beside ∙ ap charge_of (sym (desk_kept beside old new limit d later sound)) in
+      subst (λ (h : Holdings). h.charge ≡ charge_of (desk_of beside new h)) (sym one_by_one) (all_charged new beside found d found_there before)
 
   charge_sum : with_found.charge ≡ d.charge + bytes_more
   charge_sum = ap (λ (h : Holdings). h.charge) in_parts
@@ -334,10 +334,10 @@ module _ (old new : List Source) (limit : ℕ) (d : Holdings) (entries : List wo
   record_sum = ap (λ (h : Holdings). length h.records) in_parts ∙ length-append d.records (records_in (bare_entries found))
 
   -- whether it is within the limits
-  pub within_copied : (users : List (List ℕ)) (trusted : List ℕ → Bool)
-      → is_within (record { users = users; charge = limit }) (desk_of trusted new with_found) ≡ are_roomy (bare_entries found) bytes_more limit d
+  pub within_copied : (users : List (List ℕ)) (beside : Beside)
+      → is_within (record { users = users; charge = limit }) (desk_of beside new with_found) ≡ are_roomy (bare_entries found) bytes_more limit d
   unfolding is_within charge_of
-  within_copied users trusted =
+  within_copied users beside =
       let sources : length (sources_at new with_found.known.sources) ≡ length d.known.sources + length (sources_in (bare_entries found)) =
       length-sources_at new with_found.known.sources ∙ source_sum in
       let records : length (records_at new with_found.records) ≡ length d.records + length (records_in (bare_entries found)) =
@@ -346,7 +346,7 @@ module _ (old new : List Source) (limit : ℕ) (d : Holdings) (entries : List wo
       let same_pins : with_found.pins ≡ d.pins = ap (λ (h : Holdings). h.pins) in_parts in
       let derivations : nat_le (length d.known.derivations) most_derivations ≡ true = grind (arith, nat_tests, sound.few_derivations) in
       let pins : nat_le (length d.pins) most_pins ≡ true = grind (arith, nat_tests, sound.few_pins) in
-      let charge : charge_of (desk_of trusted new with_found) ≡ d.charge + bytes_more = sym (charged_so trusted) ∙ charge_sum in
+      let charge : charge_of (desk_of beside new with_found) ≡ d.charge + bytes_more = sym (charged_so beside) ∙ charge_sum in
       rw (sources, records, same_derivations, same_pins, derivations, pins, charge) refl
 
   pub closed_copied : IsClosure entries → IsClosed with_found
@@ -376,14 +376,14 @@ sources_same : (es : List worlds.Entry) → sources_of (map tree_with_path es) �
 sources_same [] = refl
 sources_same (e ∷ es) = ap (λ rest. source_of_entry e ∷ rest) (sources_same es)
 
-sources_are : (entries : List worlds.Entry) (trees : List (List ℕ × Tree)) → trees ≡ map tree_with_path entries → sources_of trees ≡ map source_of_entry entries
+pub sources_are : (entries : List worlds.Entry) (trees : List (List ℕ × Tree)) → trees ≡ map tree_with_path entries → sources_of trees ≡ map source_of_entry entries
 sources_are entries trees is = ap sources_of is ∙ sources_same entries
 
 unmapped : {X Y : Type 0} (P : Y → Type 0) (f : X → Y) (xs : List X) → All P (map f xs) → All (λ x. P (f x)) xs
 unmapped P f [] all = All-nil (λ x. P (f x))
 unmapped P f (x ∷ xs) all = All-cons (λ x. P (f x)) x xs (All-head P (f x) (map f xs) all) (unmapped P f xs (All-tail P (f x) (map f xs) all))
 
-all_there : (old : List Source) (entries : List worlds.Entry) (trees : List (List ℕ × Tree)) → trees ≡ map tree_with_path entries → AreThere old trees
+pub all_there : (old : List Source) (entries : List worlds.Entry) (trees : List (List ℕ × Tree)) → trees ≡ map tree_with_path entries → AreThere old trees
     → All (IsThereFor (put_all (map source_of_entry entries) old)) entries
 all_there old entries trees is there =
     let here : AreThere old (map tree_with_path entries) = subst (AreThere old) is there in
@@ -398,7 +398,7 @@ map_parts f (x ∷ xs) y zs = ap (λ rest. f x ∷ rest) (map_parts f xs y zs)
 pub uncopied : (limit : ℕ) (old : List Source) (d : Holdings) (entries : List worlds.Entry) (trees : List (List ℕ × Tree)) (why : Refusal)
     → trees ≡ map tree_with_path entries → (why ≡ Memory) ⊎ ((why ≡ Clash) × AreTakenOf old trees) → CopiesEntries limit old d entries (Err why) old d
 uncopied limit old d entries trees why is (inl memory) = record {
-  fits = λ users trusted reply own. (let no = rw memory at own in cc);
+  fits = λ users beside reply own. (let no = rw memory at own in cc);
   stored = search rules;
   sound = search rules;
   kept = record { sources = refl; desk = refl };
@@ -407,7 +407,7 @@ uncopied limit old d entries trees why is (inl memory) = record {
 uncopied limit old d entries trees why is (inr clash) =
     let t = clash.1 in
     record {
-      fits = λ users trusted reply own. (let no = rw clash.0 at own in cc);
+      fits = λ users beside reply own. (let no = rw clash.0 at own in cc);
       stored = search rules;
       sound = search rules;
       kept = record { sources = refl; desk = refl };
@@ -442,18 +442,18 @@ module _ (limit : ℕ) (old : List Source) (d : Holdings) (entries : List worlds
   roomy_as found more b found_is more_is roomy =
       subst (λ f. are_roomy (bare f) (charged_all f d) limit d ≡ b) found_is (subst (λ m. are_roomy (bare found) m limit d ≡ b) more_is roomy)
 
-  copied_as : (users : List (List ℕ)) (trusted : List ℕ → Bool) (reply : events.Reply) (b : Bool) → are_roomy (bare_entries (missing_on d entries)) its_more limit d ≡ b
-      → copied users limit trusted old d entries reply ≡ check Quota b (becomes (desk_of trusted later_table its_desk) reply)
-  copied_as users trusted reply b roomy =
-      ap (λ x. room (record { users = users; charge = limit }) x reply) (desk_copied old later_table limit d entries its_later its_there sound trusted)
-      ∙ ap (λ t. check Quota t (becomes (desk_of trusted later_table its_desk) reply))
-      (within_copied old later_table limit d entries its_later its_there sound users trusted ∙ roomy)
+  copied_as : (users : List (List ℕ)) (beside : Beside) (reply : events.Reply) (b : Bool) → are_roomy (bare_entries (missing_on d entries)) its_more limit d ≡ b
+      → copied users limit beside old d entries reply ≡ check Quota b (becomes (desk_of beside later_table its_desk) reply)
+  copied_as users beside reply b roomy =
+      ap (λ x. room (record { users = users; charge = limit }) x reply) (desk_copied old later_table limit d entries its_later its_there sound beside)
+      ∙ ap (λ t. check Quota t (becomes (desk_of beside later_table its_desk) reply))
+      (within_copied old later_table limit d entries its_later its_there sound users beside ∙ roomy)
 
   -- there is no room for them
   pub over_copied : (found : List (Entry × ℕ)) (more : ℕ) → found ≡ map counted (missing_on d entries) → more ≡ charged_all found d
       → are_roomy (bare found) more limit d ≡ false → CopiesEntries limit old d entries (Err Quota) old d
   over_copied found more found_is more_is over = record {
-    fits = λ users trusted reply own. copied_as users trusted reply false (roomy_as found more false found_is more_is over);
+    fits = λ users beside reply own. copied_as users beside reply false (roomy_as found more false found_is more_is over);
     stored = search rules;
     sound = search rules;
     kept = record { sources = refl; desk = refl };
@@ -475,7 +475,7 @@ module _ (limit : ℕ) (old : List Source) (d : Holdings) (entries : List worlds
       let table : new ≡ later_table = new_is ∙ ap (λ ss. put_all ss old) (sources_are entries trees is) in
       let desk : after ≡ its_desk = after_is ∙ rw (added_is, more_is, found_is) refl in
       rw (table, desk) (record {
-        fits = λ users trusted reply. copied_as users trusted reply true room;
+        fits = λ users beside reply. copied_as users beside reply true room;
         stored = refl;
         sound = sound_copied old later_table limit d entries its_later its_there sound closure room;
         kept = search rules;

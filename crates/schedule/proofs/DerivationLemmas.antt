@@ -13,7 +13,7 @@ use Rattle.model.specs.Outcomes.{Outcome, becomes}
 use Rattle.model.specs.DerivationRequests.{told_of, admitted, admit_new, add_derivation}
 use Rattle.aterm.specs.Refused.{IsNotRead}
 use Rattle.realise.specs.Holdings.{Holdings, holds_derivation}
-use Rattle.schedule.specs.Sound.{desk_of, IsSound}
+use Rattle.schedule.specs.Sound.{desk_of, IsSound, Beside}
 use Rattle.model.specs.Replies.{is_clash_refusal}
 use Rattle.schedule.specs.Handling.{Fits, is_fault}
 use Rattle.schedule.proofs.DeskLemmas.{known_of-desk_of, is_within-derivation}
@@ -32,24 +32,24 @@ admitted_path known d a h = ap (λ x. x.path) (given_by (has_all known d) (nat_l
 
 -- ---- a derivation that is not there yet
 
-module _ (users : List (List ℕ)) (trusted : List ℕ → Bool) (table : List Source) (limit : ℕ) (d : Holdings) (derivation : Derivation) where
+module _ (users : List (List ℕ)) (beside : Beside) (table : List Source) (limit : ℕ) (d : Holdings) (derivation : Derivation) where
   abbrev pub new_outcome : Outcome
-  new_outcome = admit_new (record { users = users; charge = limit }) (desk_of trusted table d) derivation (known_at d.known (derivation_path derivation))
+  new_outcome = admit_new (record { users = users; charge = limit }) (desk_of beside table d) derivation (known_at d.known (derivation_path derivation))
 
-  is_new : (answer : Result Admission Refusal) → known_at d.known (derivation_path derivation) ≡ None → admit d.known derivation ≡ answer → new_outcome ≡ admitted (record { users = users; charge = limit }) (desk_of trusted table d) answer
+  is_new : (answer : Result Admission Refusal) → known_at d.known (derivation_path derivation) ≡ None → admit d.known derivation ≡ answer → new_outcome ≡ admitted (record { users = users; charge = limit }) (desk_of beside table d) answer
   is_new answer none is =
-      let K : Known → Outcome = λ known. admitted (record { users = users; charge = limit }) (desk_of trusted table d) (admit known derivation) in
-      rw none (ap K (known_of-desk_of trusted table d) ∙ ap (admitted (record { users = users; charge = limit }) (desk_of trusted table d)) is)
+      let K : Known → Outcome = λ known. admitted (record { users = users; charge = limit }) (desk_of beside table d) (admit known derivation) in
+      rw none (ap K (known_of-desk_of beside table d) ∙ ap (admitted (record { users = users; charge = limit }) (desk_of beside table d)) is)
 
   pub refused_fits : (e : Refusal) → known_at d.known (derivation_path derivation) ≡ None → (e ≡ Memory) ⊎ (admit d.known derivation ≡ Err e) → is_fault e ≡ false → new_outcome ≡ Err e
   refused_fits e none (inl h) own = let wrong = rw h at own in cc
   refused_fits e none (inr h) own = is_new (Err e) none h
 
   pub over_fits : (a : Admission) → IsSound table limit d → known_at d.known (derivation_path derivation) ≡ None → admit d.known derivation ≡ Ok a → nat_le (length d.known.derivations + 1) most_derivations ≡ false → new_outcome ≡ Err Quota
-  over_fits a sound none ok over = is_new (Ok a) none ok ∙ rw (is_within-derivation users trusted table limit d a sound, over) refl
+  over_fits a sound none ok over = is_new (Ok a) none ok ∙ rw (is_within-derivation users beside table limit d a sound, over) refl
 
-  pub added_fits : (a : Admission) → IsSound table limit d → known_at d.known (derivation_path derivation) ≡ None → admit d.known derivation ≡ Ok a → nat_le (length d.known.derivations + 1) most_derivations ≡ true → new_outcome ≡ becomes (desk_of trusted table (holds_derivation a d)) (told_of a)
-  added_fits a sound none ok within = is_new (Ok a) none ok ∙ rw (is_within-derivation users trusted table limit d a sound, within) refl
+  pub added_fits : (a : Admission) → IsSound table limit d → known_at d.known (derivation_path derivation) ≡ None → admit d.known derivation ≡ Ok a → nat_le (length d.known.derivations + 1) most_derivations ≡ true → new_outcome ≡ becomes (desk_of beside table (holds_derivation a d)) (told_of a)
+  added_fits a sound none ok within = is_new (Ok a) none ok ∙ rw (is_within-derivation users beside table limit d a sound, within) refl
 
 -- ---- a text
 
@@ -59,11 +59,11 @@ too_large setup d text over = rw over refl
 pub no_derivation : (setup : Setup) (d : Desk) (text : List ℕ) → nat_le (length text) most_derivation_bytes ≡ true → derivation_of_text text ≡ None → add_derivation setup d text ≡ Err BadDerivation
 no_derivation setup d text within none = rw (within, none) refl
 
-pub derivation_read : (users : List (List ℕ)) (trusted : List ℕ → Bool) (table : List Source) (limit : ℕ) (d : Holdings) (text : List ℕ) (derivation : Derivation) → nat_le (length text) most_derivation_bytes ≡ true → derivation_of_text text ≡ Some derivation
-    → add_derivation (record { users = users; charge = limit }) (desk_of trusted table d) text ≡ new_outcome users trusted table limit d derivation
-derivation_read users trusted table limit d text derivation within is =
-    let K : Known → Outcome = λ known. admit_new (record { users = users; charge = limit }) (desk_of trusted table d) derivation (known_at known (derivation_path derivation)) in
-    rw (within, is) (ap K (known_of-desk_of trusted table d))
+pub derivation_read : (users : List (List ℕ)) (beside : Beside) (table : List Source) (limit : ℕ) (d : Holdings) (text : List ℕ) (derivation : Derivation) → nat_le (length text) most_derivation_bytes ≡ true → derivation_of_text text ≡ Some derivation
+    → add_derivation (record { users = users; charge = limit }) (desk_of beside table d) text ≡ new_outcome users beside table limit d derivation
+derivation_read users beside table limit d text derivation within is =
+    let K : Known → Outcome = λ known. admit_new (record { users = users; charge = limit }) (desk_of beside table d) derivation (known_at known (derivation_path derivation)) in
+    rw (within, is) (ap K (known_of-desk_of beside table d))
 
 -- a refusal to read a text fits
 pub unread_fits : (setup : Setup) (d new : Desk) (text : List ℕ) (e : Refusal) → nat_le (length text) most_derivation_bytes ≡ true → IsNotRead text e → Fits (add_derivation setup d text) new (Err e)

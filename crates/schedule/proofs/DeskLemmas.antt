@@ -14,7 +14,7 @@ use Rattle.realise.specs.Recorded.{Recorded, without_tree}
 use Rattle.store.specs.Stored.{Extends}
 use Rattle.realise.specs.Holdings.{Holdings, paths_of, holds_derivation, IsClosedWith}
 use Rattle.choose.specs.Visible.{source_at}
-use Rattle.schedule.specs.Sound.{sources_at, records_at, desk_of, IsSound, IsEmpty}
+use Rattle.schedule.specs.Sound.{sources_at, records_at, desk_of, IsSound, IsEmpty, Beside}
 
 -- a path of the table
 abbrev pub IsKnown : List Source → List ℕ → Type 0
@@ -55,16 +55,16 @@ sources_known table limit d sound = known_front table d.known.sources (map (λ r
 pub records_known : (table : List Source) (limit : ℕ) (d : Holdings) → IsSound table limit d → All (IsKnown table) (map (λ r. r.path) d.records)
 records_known table limit d sound = known_back table d.known.sources (map (λ r. r.path) d.records) sound.known
 
-pub desk_kept : (trusted : List ℕ → Bool) (old new : List Source) (limit : ℕ) (d : Holdings) → Extends old new → IsSound old limit d
-    → desk_of trusted new d ≡ desk_of trusted old d
-desk_kept trusted old new limit d later sound =
+pub desk_kept : (beside : Beside) (old new : List Source) (limit : ℕ) (d : Holdings) → Extends old new → IsSound old limit d
+    → desk_of beside new d ≡ desk_of beside old d
+desk_kept beside old new limit d later sound =
     let sources : sources_at new d.known.sources ≡ sources_at old d.known.sources = same_sources old new later d.known.sources (sources_known old limit d sound) in
     let records : records_at new d.records ≡ records_at old d.records = same_records old new later d.records (records_known old limit d sound) in
-    λ i. record { trusted = trusted; sources = sources i; derivations = d.known.derivations; records = records i; pins = d.pins }
+    λ i. record { trusted = beside.trusted; sources = sources i; derivations = d.known.derivations; records = records i; pins = d.pins; goals = beside.goals }
 
 pub sound_kept : (old new : List Source) (limit : ℕ) (d : Holdings) → Extends old new → IsSound old limit d → IsSound new limit d
 sound_kept old new limit d later sound = record {
-  charged = λ trusted. rw (desk_kept trusted old new limit d later sound) (sound.charged trusted);
+  charged = λ beside. rw (desk_kept beside old new limit d later sound) (sound.charged beside);
   within = sound.within;
   few_sources = sound.few_sources;
   few_derivations = sound.few_derivations;
@@ -132,15 +132,15 @@ sources_at-append table [] ys = refl
 sources_at-append table (x ∷ xs) ys = ap (λ rest. source_at table x ∷ rest) (sources_at-append table xs ys)
 
 -- what a desk holds, by its paths
-pub held_paths : (trusted : List ℕ → Bool) (table : List Source) (d : Holdings) → held (desk_of trusted table d) ≡ sources_at table (paths_of d)
-held_paths trusted table d =
+pub held_paths : (beside : Beside) (table : List Source) (d : Holdings) → held (desk_of beside table d) ≡ sources_at table (paths_of d)
+held_paths beside table d =
     let paths : List (List ℕ) = map (λ r. r.path) d.records in
     ap (λ rest. sources_at table d.known.sources ++ rest) (trees_at table d.records) ∙ sym (sources_at-append table d.known.sources paths)
 
 -- what a user holds at a path is what the table has there, if the path is his
-pub held_in_table : (trusted : List ℕ → Bool) (table : List Source) (limit : ℕ) (d : Holdings) (path : List ℕ) → IsSound table limit d
-    → (if list_any (λ p. bytes_eq p path) (paths_of d) then tree_at path table else None) ≡ held_at path (desk_of trusted table d)
-held_in_table trusted table limit d path sound = held_is table (paths_of d) path sound.known ∙ ap (tree_at path) (sym (held_paths trusted table d))
+pub held_in_table : (beside : Beside) (table : List Source) (limit : ℕ) (d : Holdings) (path : List ℕ) → IsSound table limit d
+    → (if list_any (λ p. bytes_eq p path) (paths_of d) then tree_at path table else None) ≡ held_at path (desk_of beside table d)
+held_in_table beside table limit d path sound = held_is table (paths_of d) path sound.known ∙ ap (tree_at path) (sym (held_paths beside table d))
 
 -- records without their trees
 pub records_without : (table : List Source) (records : List Recorded) → map without_tree (records_at table records) ≡ records
@@ -168,8 +168,8 @@ paths_at table [] = refl
 paths_at table (p ∷ paths) = ap (λ rest. p ∷ rest) (paths_at table paths)
 
 -- what the model's desk knows is what the desk knows
-pub known_of-desk_of : (trusted : List ℕ → Bool) (table : List Source) (d : Holdings) → known_of (desk_of trusted table d) ≡ d.known
-known_of-desk_of trusted table d =
+pub known_of-desk_of : (beside : Beside) (table : List Source) (d : Holdings) → known_of (desk_of beside table d) ≡ d.known
+known_of-desk_of beside table d =
     let K : List (List ℕ) → Known = λ paths. record { derivations = d.known.derivations; sources = paths } in
     ap K (paths_at table d.known.sources)
 
@@ -188,15 +188,15 @@ sound-derivation table limit d a sound few = record {
 }
 
 -- whether a desk with one derivation more is within its limits
-pub is_within-derivation : (users : List (List ℕ)) (trusted : List ℕ → Bool) (table : List Source) (limit : ℕ) (d : Holdings) (a : Admission) → IsSound table limit d
-    → is_within (record { users = users; charge = limit }) (with_derivation a (desk_of trusted table d)) ≡ nat_le (length d.known.derivations + 1) most_derivations
+pub is_within-derivation : (users : List (List ℕ)) (beside : Beside) (table : List Source) (limit : ℕ) (d : Holdings) (a : Admission) → IsSound table limit d
+    → is_within (record { users = users; charge = limit }) (with_derivation a (desk_of beside table d)) ≡ nat_le (length d.known.derivations + 1) most_derivations
 unfolding is_within charge_of
-is_within-derivation users trusted table limit d a sound =
+is_within-derivation users beside table limit d a sound =
     let count : length (d.known.derivations ++ a ∷ []) ≡ length d.known.derivations + 1 = length-append d.known.derivations (a ∷ []) in
     let few : nat_le (length (sources_at table d.known.sources)) most_sources ≡ true = grind (arith, nat_tests, sound.few_sources, length-sources_at table d.known.sources) in
     let recorded : nat_le (length (records_at table d.records)) most_records ≡ true = grind (arith, nat_tests, sound.few_records, length-records_at table d.records) in
     let pinned : nat_le (length d.pins) most_pins ≡ true = grind (arith, nat_tests, sound.few_pins) in
-    let charge : nat_le (charge_of (desk_of trusted table d)) limit ≡ true = grind (arith, nat_tests, sound.within, sound.charged trusted) in
+    let charge : nat_le (charge_of (desk_of beside table d)) limit ≡ true = grind (arith, nat_tests, sound.within, sound.charged beside) in
     rw (few, count, recorded, pinned, charge) (and_true (nat_le (length d.known.derivations + 1) most_derivations))
 
 -- ---- empty desks
@@ -204,7 +204,7 @@ is_within-derivation users trusted table limit d a sound =
 pub empty_sound : (table : List Source) (limit : ℕ) (d : Holdings) → IsEmpty d → IsSound table limit d
 unfolding charge_of one_of_each
 empty_sound table limit d e = record {
-  charged = λ trusted. rw (e.known, e.records, e.charge) refl;
+  charged = λ beside. rw (e.known, e.records, e.charge) refl;
   within = rw e.charge (omega arith);
   few_sources = rw e.known (omega arith);
   few_derivations = rw e.known (omega arith);

@@ -1,31 +1,39 @@
 -- The closure that a user is given is whole, and keeps no path that is replaced.
-use Rattle.std.proofs.Common.{◌≡◌, ℕ, suc, Bool, true, false, inl, inr, refl, sym, ◌∙◌, ap, subst, List, [], ◌∷◌, ◌++◌, length, Contains, Option, Some, None, Result, Ok, Err}
-use Rattle.std.specs.Prelude.{All, map, filter, flat_map, find, bytes_eq, is_some, if◌then◌else◌}
+use Rattle.std.proofs.Common.{◌≡◌, ℕ, zero, suc, ◌<◌, Bool, true, false, inl, inr, refl, sym, ◌∙◌, ap, subst, List, [], ◌∷◌, ◌++◌, length, length-set, Contains, Option, Some, None, Result, Ok, Err}
+use Rattle.std.specs.Prelude.{All, slice_set, map, filter, flat_map, find, bytes_eq, is_some, if◌then◌else◌}
+use Rattle.std.proofs.lemmas.List.{get_or-set_same}
+use Rattle.std.proofs.lemmas.Option.{slice_get_within, slice_get-get_or}
 use Rattle.std.proofs.lemmas.List.Elements.{All-nil, All-head, All-tail, All-contains, All-cons, All-weaker}
 use Rattle.model.specs.declared.refusal.Refusal.{Refusal}
-use Rattle.model.specs.declared.refusal.Refusal.TheVariants.{UnknownUser}
+use Rattle.model.specs.declared.refusal.Refusal.TheVariants.{UnknownUser, UnknownDerivation, UnknownGoal, WrongState, NotRealised}
 use Rattle.model.specs.Results.{then_do}
 use Rattle.model.specs.Paths.{IsPath, NoClash}
 use Rattle.model.specs.Settling.{Settled}
-use Rattle.model.specs.Worlds.{Source, Setup, Desk, World, Label, Record, Pin, Entry, OfSource, OfRecord, empty_desk, tree_at, is_user, path_of_entry}
+use Rattle.model.specs.Derivations.{Derivation}
+use Rattle.model.specs.Classes.{Admission, Known, known_at}
+use Rattle.model.specs.Worlds.{Source, Setup, Desk, World, Resolved, Planned, Goal, known_of, Label, Record, Pin, Entry, OfSource, OfRecord, empty_desk, tree_at, is_user, path_of_entry}
 use Rattle.model.specs.References.{paths_of_labels}
 use Rattle.model.specs.Choices.{Plan, plan, visible_records}
 use Rattle.model.specs.Repairs.{serving_texts}
-use Rattle.model.specs.Closures.{served_plan, IsWhole, KeepsNoReplaced}
+use Rattle.model.specs.Closures.{served_plan, closure_texts, IsWhole, KeepsNoReplaced}
 use Rattle.model.specs.Closures as closures
 use Rattle.model.specs.ClosureRequests.{closure_for}
-use Rattle.model.specs.Events.{Closure, Event, Entries}
-use Rattle.model.specs.Outcomes.{sight_of, view_of, reaches, becomes, reply_of}
-use Rattle.model.specs.Steps.{outcome, reply_to}
+use Rattle.model.specs.Goals.{goal_at, with_goal_at, with_goal, as_seen, is_waiting}
+use Rattle.model.specs.Resolutions.{input_classes, served_among, resolved_text, resolved_to, resolved_over, resolve, scratch_texts, resolving_texts}
+use Rattle.model.specs.GoalRequests.{turns, resolve_for, plan_resolved, plan_goal, plan_texts}
+use Rattle.model.specs.GoalRequests as requests
+use Rattle.model.specs.Events.{Closure, Plan as AskPlan, Event, Reply, Entries, GoalState}
+use Rattle.model.specs.Outcomes.{Sight, sight_of, view_of, reaches, Outcome, becomes, check, reply_of, desk_after}
+use Rattle.model.specs.Steps.{outcome, outcome_of, reply_to, after}
 use Rattle.model.specs.HashedTexts.{texts_of_event}
-use Rattle.model.specs.GivenClosures.{GivesGoodClosure}
-use Rattle.model.proofs.BoolLemmas.{either, same_bytes}
+use Rattle.model.specs.GivenClosures.{GivesGoodClosure, KeepsGoodClosure}
+use Rattle.model.proofs.BoolLemmas.{either, same_bytes, bytes_same}
+use Rattle.model.proofs.OutcomeLemmas.{checked, needed}
 use Rattle.model.proofs.MemberLemmas.{In, in_of, contains_of, in_left, in_right, in_map, in_append, from_map, from_flat_map}
 use Rattle.model.proofs.ServedLemmas.{then_ok, ok_is, find_in, option_cases}
 use Rattle.model.proofs.ClosureLemmas.{plan_visible}
 use Rattle.model.proofs.WholeLemmas.{closures_whole}
 use Rattle.realise.specs.Recorded.{Recorded}
-use Rattle.trust.specs.Naming.{trusted_at}
 use Rattle.realise.specs.Holdings.{Holdings, paths_of, IsClosed, IsClosedWith}
 use Rattle.choose.specs.Visible.{Visible, source_at, record_at, visible_on, seen, IsStored, IsDeskStored}
 use Rattle.choose.specs.Visible as visible
@@ -37,10 +45,11 @@ use Rattle.repair.proofs.SoundLemmas.{served_is_sound}
 use Rattle.repair.proofs.KeptLemmas.{served_parts, served_for}
 use Rattle.repair.proofs.MadeLemmas.{served_are_made}
 use Rattle.repair.proofs.OrderedLemmas.{closures_keep_no_replaced}
-use Rattle.schedule.specs.Sound.{IsSound, IsHashed}
-use Rattle.schedule.specs.Standing.{Parts, world_in, desk_among}
+use Rattle.schedule.specs.Sound.{Beside, IsSound, IsHashed}
+use Rattle.schedule.specs.Standing.{beside_at, Parts, world_in, desk_among}
 use Rattle.schedule.specs.Viewing.{bare}
-use Rattle.schedule.specs.Given.{HasSoundPlan}
+use Rattle.schedule.specs.Given.{HasSoundPlan, HasSoundGoalPlan}
+use Rattle.schedule.proofs.PuttingLemmas.{all_front}
 use Rattle.schedule.proofs.ApartLemmas.{IsPrinted, made_printed, one_path}
 
 -- ---- desks of users
@@ -51,22 +60,22 @@ held_by [] desks u = bare
 held_by (name ∷ names) [] u = bare
 held_by (name ∷ names) (d ∷ desks) u = if bytes_eq name u then d else held_by names desks u
 
-held_records : (trusted : ℕ → List ℕ → Bool) (table : List Source) (names : List (List ℕ)) (desks : List Holdings) (u : List ℕ)
-    → (desk_among trusted table names desks u).records ≡ map (record_at table) (held_by names desks u).records
-held_records trusted table [] desks u = refl
-held_records trusted table (name ∷ names) [] u = refl
-held_records trusted table (name ∷ names) (d ∷ desks) u = elim (either (bytes_eq name u)) [
+held_records : (beside : ℕ → Beside) (table : List Source) (names : List (List ℕ)) (desks : List Holdings) (u : List ℕ)
+    → (desk_among beside table names desks u).records ≡ map (record_at table) (held_by names desks u).records
+held_records beside table [] desks u = refl
+held_records beside table (name ∷ names) [] u = refl
+held_records beside table (name ∷ names) (d ∷ desks) u = elim (either (bytes_eq name u)) [
   | inl t ↦ rw t refl
-  | inr f ↦ rw f (held_records (λ place. trusted (suc place)) table names desks u)
+  | inr f ↦ rw f (held_records (λ place. beside (suc place)) table names desks u)
 ]
 
-held_sources : (trusted : ℕ → List ℕ → Bool) (table : List Source) (names : List (List ℕ)) (desks : List Holdings) (u : List ℕ)
-    → (desk_among trusted table names desks u).sources ≡ map (source_at table) (held_by names desks u).known.sources
-held_sources trusted table [] desks u = refl
-held_sources trusted table (name ∷ names) [] u = refl
-held_sources trusted table (name ∷ names) (d ∷ desks) u = elim (either (bytes_eq name u)) [
+held_sources : (beside : ℕ → Beside) (table : List Source) (names : List (List ℕ)) (desks : List Holdings) (u : List ℕ)
+    → (desk_among beside table names desks u).sources ≡ map (source_at table) (held_by names desks u).known.sources
+held_sources beside table [] desks u = refl
+held_sources beside table (name ∷ names) [] u = refl
+held_sources beside table (name ∷ names) (d ∷ desks) u = elim (either (bytes_eq name u)) [
   | inl t ↦ rw t refl
-  | inr f ↦ rw f (held_sources (λ place. trusted (suc place)) table names desks u)
+  | inr f ↦ rw f (held_sources (λ place. beside (suc place)) table names desks u)
 ]
 
 held_all : (P : Holdings → Type 0) → P bare → (names : List (List ℕ)) (desks : List Holdings) (u : List ℕ) → All P desks → P (held_by names desks u)
@@ -137,13 +146,13 @@ not_source s r e = cc
 
 module _ (texts : List (List ℕ)) (table : List Source) (hashed : All (IsHashed texts) table) (desks : List Holdings)
     (stored : All (IsDeskStored table) desks) (closed : All IsClosed desks) (view : List Desk) (sees : visible_on view ≡ seen table desks)
-    (pins : List Pin) (class : List ℕ) (p : Plan) (planned : plan view pins (class ∷ []) [] ≡ Ok p) (sound : IsSoundPlan p)
+    (pins : List Pin) (classes sources : List (List ℕ)) (p : Plan) (planned : plan view pins classes sources ≡ Ok p) (sound : IsSoundPlan p)
     (entries : List Entry) (served : served_plan p ≡ Ok entries) (inside : All (Contains texts) (serving_texts p.records)) where
   sound_record : (r : Record) → In r p.records → IsSoundRecord r
   sound_record r h = All-contains IsSoundRecord p.records r sound (contains_of p.records r h)
 
   is_seen : (r : Record) → In r p.records → In r (seen table desks).records
-  is_seen r h = subst (λ (v : Visible). In r v.records) sees (plan_visible view pins (class ∷ []) [] p planned r h)
+  is_seen r h = subst (λ (v : Visible). In r v.records) sees (plan_visible view pins classes sources p planned r h)
 
   chosen_path : (r : Record) → In r p.records → IsMadePath texts r.path
   chosen_path r h = ((sound_record r h).path, record_printed texts table hashed desks stored r (is_seen r h))
@@ -190,9 +199,9 @@ module _ (texts : List (List ℕ)) (table : List Source) (hashed : All (IsHashed
 
   is_good : NoClash texts → IsWhole entries × KeepsNoReplaced p entries
   is_good clean =
-      let made : closures.closure view pins (class ∷ []) [] ≡ Ok entries = rw planned served in (
-        closures_whole view pins (class ∷ []) [] entries (view_sees_sources view (seen table desks) sees (sees_in (seen table desks) table desks refl closed)) made,
-        closures_keep_no_replaced view pins (class ∷ []) [] p entries planned sound (tell_apart clean) served,
+      let made : closures.closure view pins classes sources ≡ Ok entries = rw planned served in (
+        closures_whole view pins classes sources entries (view_sees_sources view (seen table desks) sees (sees_in (seen table desks) table desks refl closed)) made,
+        closures_keep_no_replaced view pins classes sources p entries planned sound (tell_apart clean) served,
       )
 
 -- ---- what a user is given
@@ -217,24 +226,138 @@ stored_bare table = All-nil (IsStored table)
 closed_bare : IsClosed bare
 closed_bare = All-nil (IsClosedWith bare)
 
--- where no two texts clash, the closure that a user is given is good if its plan is sound
-pub gives_good : (texts : List (List ℕ)) → NoClash texts → (parts : Parts) (event : Event) → All (IsSound parts.table parts.setup.charge) parts.desks
-    → All (IsHashed texts) parts.table → All (Contains texts) (texts_of_event parts.setup (world_in parts) event)
-    → HasSoundPlan parts.setup (world_in parts) event.actor event.request → GivesGoodClosure parts.setup (world_in parts) event
-gives_good texts clean parts event sound hashed inside has class entries p asked told planned =
+-- where no two texts clash, what is served of a sound plan of what a user sees is good
+good_plan : (texts : List (List ℕ)) → NoClash texts → (parts : Parts) (u : List ℕ) (classes sources : List (List ℕ)) (p : Plan) (entries : List Entry)
+    → All (IsSound parts.table parts.setup.charge) parts.desks → All (IsHashed texts) parts.table
+    → plan (view_of parts.setup (world_in parts) u) (world_in parts u).pins classes sources ≡ Ok p → IsSoundPlan p → served_plan p ≡ Ok entries
+    → All (Contains texts) (serving_texts p.records) → IsWhole entries × KeepsNoReplaced p entries
+good_plan texts clean parts u classes sources p entries sound hashed planned plans served serving =
     let setup : Setup = parts.setup in
     let w : World = world_in parts in
     let table : List Source = parts.table in
-    let trusted : ℕ → List ℕ → Bool = trusted_at setup.users parts.trust in
-    let users : List (List ℕ) = filter (reaches setup w event.actor) setup.users in
-    let known = entries_given setup w event class entries asked told in
-    let served : served_plan p ≡ Ok entries = rw planned at known.1 in
-    let serving : All (Contains texts) (serving_texts p.records) = rw (known.0, asked, planned) at inside in
-    let plans : HasSoundPlan setup w event.actor (Closure class) = rw asked at has in
+    let beside : ℕ → Beside = beside_at setup.users parts.trust parts.goals in
+    let users : List (List ℕ) = filter (reaches setup w u) setup.users in
     let stored : All (IsDeskStored table) parts.desks = All-weaker (IsSound table setup.charge) (IsDeskStored table) (λ d is. is.known) parts.desks sound in
     let closed : All IsClosed parts.desks = All-weaker (IsSound table setup.charge) IsClosed (λ d is. is.closed) parts.desks sound in
     is_good texts table hashed (map (held_by setup.users parts.desks) users)
     (each_held (IsDeskStored table) (stored_bare table) setup.users parts.desks stored users)
-    (each_held IsClosed closed_bare setup.users parts.desks closed users) (view_of setup w event.actor)
-    (desks_seen table w (held_by setup.users parts.desks) (held_records trusted table setup.users parts.desks) (held_sources trusted table setup.users parts.desks) users)
-    (w event.actor).pins class p planned (plans p planned) entries served serving clean
+    (each_held IsClosed closed_bare setup.users parts.desks closed users) (view_of setup w u)
+    (desks_seen table w (held_by setup.users parts.desks) (held_records beside table setup.users parts.desks) (held_sources beside table setup.users parts.desks) users)
+    (w u).pins classes sources p planned plans entries served serving clean
+
+-- so is the closure that a user is given
+pub gives_good : (texts : List (List ℕ)) → NoClash texts → (parts : Parts) (event : Event) → All (IsSound parts.table parts.setup.charge) parts.desks
+    → All (IsHashed texts) parts.table → All (Contains texts) (texts_of_event parts.setup (world_in parts) event)
+    → HasSoundPlan parts.setup (world_in parts) event.actor event.request → GivesGoodClosure parts.setup (world_in parts) event
+gives_good texts clean parts event sound hashed inside has class entries asked told p planned =
+    let setup : Setup = parts.setup in
+    let w : World = world_in parts in
+    let known = entries_given setup w event class entries asked told in
+    let served : served_plan p ≡ Ok entries = rw planned at known.1 in
+    let serving : All (Contains texts) (serving_texts p.records) = rw (known.0, asked, planned) at inside in
+    let plans : HasSoundPlan setup w event.actor (Closure class) = rw asked at has in
+    good_plan texts clean parts event.actor (class ∷ []) [] p entries sound hashed planned (plans p planned) served serving
+
+-- ---- what a goal is built from
+
+-- a goal that was planned, and what it was resolved to
+record IsPlanned (s : Sight) (n : ℕ) (o : Outcome) : Type 0 where
+  goal : Goal
+  admission : Admission
+  resolved : Resolved
+  there : goal_at n s.desk.goals ≡ Some goal
+  waits : is_waiting (as_seen s.reach goal.state) ≡ true
+  known : known_at (known_of s.desk) goal.derivation ≡ Some admission
+  is : resolve_for s admission.derivation ≡ Ok resolved
+  outcome_is : o ≡ turns s s.desk n (record { derivation = goal.derivation; resolved = Some resolved; state = Planned })
+
+abbrev TellsPlanned : Sight → ℕ → Outcome → Type 0
+TellsPlanned s n o = reply_of o ≡ GoalState Planned → IsPlanned s n o
+
+module _ (s : Sight) (n : ℕ) (g : Goal) (a : Admission) (there : goal_at n s.desk.goals ≡ Some g) (waits : is_waiting (as_seen s.reach g.state) ≡ true)
+    (known : known_at (known_of s.desk) g.derivation ≡ Some a) where
+  resolved_so : (o : Result Resolved Refusal) → resolve_for s a.derivation ≡ o → TellsPlanned s n (plan_resolved s n g o)
+  resolved_so (Ok r) is told = record { goal = g; admission = a; resolved = r; there = there; waits = waits; known = known; is = is; outcome_is = refl }
+  resolved_so (Err NotRealised) is told = absurd (cc)
+  resolved_so (Err why) is told = absurd (cc)
+
+-- a goal that is planned after it was asked for was resolved
+planned_so : (s : Sight) (n : ℕ) → TellsPlanned s n (requests.plan s n)
+planned_so s n =
+    let P : Outcome → Type 0 = TellsPlanned s n in
+    needed P UnknownGoal (goal_at n s.desk.goals) (λ g. check WrongState (is_waiting (as_seen s.reach g.state)) (plan_goal s n g))
+    (λ g there. checked P WrongState (is_waiting (as_seen s.reach g.state)) (plan_goal s n g)
+    (λ waits. needed P UnknownDerivation (known_at (known_of s.desk) g.derivation) (λ a. plan_resolved s n g (resolve_for s a.derivation))
+    (λ a known. resolved_so s n g a there waits known (resolve_for s a.derivation) refl) (λ none told. absurd (cc))) (λ begun told. absurd (cc)))
+    (λ none told. absurd (cc))
+
+-- what a derivation is resolved to has the closure of its inputs and its sources
+pub resolved_closure : (view : List Desk) (pins : List Pin) (known : Known) (d : Derivation) (r : Resolved) → resolve view pins known d ≡ Ok r
+    → closures.closure view pins (input_classes known d) d.sources ≡ Ok r.closure
+resolved_closure view pins known d r is =
+    let classes : List (List ℕ) = input_classes known d in
+    let one = then_ok (closures.closure view pins classes d.sources) (resolved_over classes d) r is in
+    let two = then_ok (served_among one.0 classes) (λ served. then_do (resolved_text served d) (resolved_to one.0 d)) r one.2 in
+    let three = then_ok (resolved_text two.0 d) (resolved_to one.0 d) r two.2 in
+    let same : one.0 ≡ r.closure = cc in
+    one.1 ∙ ap Ok same
+
+-- the goal of a number that was put there
+put_there : (n : ℕ) (g h : Goal) (goals : List Goal) → goal_at n goals ≡ Some h → goal_at n (with_goal_at n g goals) ≡ Some g
+put_there zero g h goals there = cc
+put_there (suc n) g h goals there =
+    let below : n < length goals = slice_get_within goals n h there in
+    slice_get-get_or (slice_set goals n g) n g (subst (λ k. n < k) (sym (length-set {A = Goal} goals n g)) below) ∙ ap Some (get_or-set_same goals n g g below)
+
+-- the goal of the actor after a change of which nothing is heard
+goal_after : (setup : Setup) (w : World) (e : Event) (n : ℕ) (d : Desk) (reply : Reply) → outcome_of setup w e ≡ becomes d reply
+    → goal_at n (after setup w e e.actor).goals ≡ goal_at n d.goals
+goal_after setup w e n d reply o =
+    ap (λ p. goal_at n (desk_after setup e.actor p e.actor (reaches setup w e.actor e.actor) (w e.actor)).goals) o
+    ∙ rw (bytes_same e.actor) refl
+
+-- a goal of a user of the run is planned
+goal_planned : (setup : Setup) (w : World) (e : Event) (n : ℕ) → e.request ≡ AskPlan n → reply_to setup w e ≡ GoalState Planned
+    → (is_user setup e.actor ≡ true) × IsPlanned (sight_of setup w e.actor) n (outcome_of setup w e)
+unfolding outcome
+goal_planned setup w e n asked told = elim (either (is_user setup e.actor)) [
+  | inl t ↦
+      let o : outcome_of setup w e ≡ requests.plan (sight_of setup w e.actor) n = rw (t, asked) refl in
+      (t, subst (IsPlanned (sight_of setup w e.actor) n) (sym o) (planned_so (sight_of setup w e.actor) n (sym (ap reply_of o) ∙ told)))
+  | inr f ↦ let no : reply_of (Err UnknownUser) ≡ GoalState Planned = rw f at told in absurd (cc)
+]
+
+-- the closure that a goal is built from is good if its plan is sound
+pub keeps_good : (texts : List (List ℕ)) → NoClash texts → (parts : Parts) (event : Event) → All (IsSound parts.table parts.setup.charge) parts.desks
+    → All (IsHashed texts) parts.table → All (Contains texts) (texts_of_event parts.setup (world_in parts) event)
+    → HasSoundPlan parts.setup (world_in parts) event.actor event.request → KeepsGoodClosure parts.setup (world_in parts) event
+keeps_good texts clean parts event sound hashed inside has n g a r asked told there resolved known p planned =
+    let setup : Setup = parts.setup in
+    let w : World = world_in parts in
+    let s : Sight = sight_of setup w event.actor in
+    let done = goal_planned setup w event n asked told in
+    let it = done.1 in
+    let new : Goal = record { derivation = it.goal.derivation; resolved = Some it.resolved; state = Planned } in
+    let now : goal_at n (with_goal_at n new s.desk.goals) ≡ Some g =
+    sym (goal_after setup w event n (with_goal n new s.desk) (GoalState Planned) it.outcome_is) ∙ there in
+    let same : new ≡ g = (let put = sym (put_there n new it.goal s.desk.goals it.there) ∙ now in cc) in
+    let same_resolved : it.resolved ≡ r = (let two : Some it.resolved ≡ Some r = ap (λ (x : Goal). x.resolved) same ∙ resolved in cc) in
+    let same_path : it.goal.derivation ≡ g.derivation = ap (λ (x : Goal). x.derivation) same in
+    let same_known : it.admission ≡ a =
+    (let two : Some it.admission ≡ Some a = sym it.known ∙ ap (known_at (known_of s.desk)) same_path ∙ known in cc) in
+    let classes : List (List ℕ) = input_classes (known_of s.desk) a.derivation in
+    let is : resolve_for s a.derivation ≡ Ok r = subst (λ (x : Admission). resolve_for s x.derivation ≡ Ok r) same_known (it.is ∙ ap Ok same_resolved) in
+    let closed : closures.closure s.view s.desk.pins classes a.derivation.sources ≡ Ok r.closure =
+    resolved_closure s.view s.desk.pins (known_of s.desk) a.derivation r is in
+    let served : served_plan p ≡ Ok r.closure = rw planned at closed in
+    let hashes : All (Contains texts) (plan_texts s n) = rw (done.0, asked) at inside in
+    let here : All (Contains texts) (resolving_texts s.view s.desk.pins (known_of s.desk) a.derivation) =
+    subst (λ (x : Admission). All (Contains texts) (resolving_texts s.view s.desk.pins (known_of s.desk) x.derivation)) same_known
+    (rw (it.there, it.waits, it.known) at hashes) in
+    let first : All (Contains texts) (closure_texts s.view s.desk.pins classes a.derivation.sources) =
+    all_front (Contains texts) (closure_texts s.view s.desk.pins classes a.derivation.sources) (scratch_texts a.derivation (resolve_for s a.derivation)) here in
+    let serving : All (Contains texts) (serving_texts p.records) = rw planned at first in
+    let plans : HasSoundGoalPlan setup w event.actor n = rw asked at has in
+    let own : known_at (known_of s.desk) it.goal.derivation ≡ Some a = it.known ∙ ap Some same_known in
+    good_plan texts clean parts event.actor classes a.derivation.sources p r.closure sound hashed planned
+    (plans it.goal a r it.there own is p planned) served serving

@@ -2,6 +2,7 @@ pub mod ChargeLemmas
 pub mod DeskLemmas
 pub mod AddingLemmas
 pub mod DerivationLemmas
+pub mod GoalLemmas
 pub mod WorldLemmas
 pub mod ApartLemmas
 pub mod GoodLemmas
@@ -10,11 +11,19 @@ pub mod HandlingLemmas
 pub mod TrustLemmas
 pub mod ViewLemmas
 pub mod ClosureLemmas
+pub mod AskingLemmas
 pub mod PuttingLemmas
 pub mod CopyLemmas
 pub mod TakeLemmas
+pub mod ResolveLemmas
+pub mod PlanLemmas
+pub mod JoinLemmas
+pub mod StartLemmas
 pub mod ClosedLemmas
 pub mod PinLemmas
 pub mod OfferLemmas
 pub mod RunLemmas
 pub mod EverLemmas
+pub mod PlaceLemmas
+pub mod EndingLemmas
+pub mod FailingLemmas

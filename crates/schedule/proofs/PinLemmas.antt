@@ -17,9 +17,9 @@ use Rattle.realise.specs.Holdings.{Holdings, with_pins}
 use Rattle.schedule.specs.declared.events.Reply as Rust
 use Rattle.schedule.specs.declared.events.Reply.TheVariants.{Done}
 use Rattle.schedule.specs.Stored.{stored_by}
-use Rattle.schedule.specs.Sound.{sources_at, records_at, desk_of, IsSound}
+use Rattle.schedule.specs.Sound.{sources_at, records_at, desk_of, IsSound, Beside}
 use Rattle.schedule.specs.Given.{HasSoundPlan}
-use Rattle.schedule.specs.Handling.{RefusedAtOnce, ServesAtOnce, IsHandledTrusting}
+use Rattle.schedule.specs.Handling.{RefusedAtOnce, ServesAtOnce, IsHandledBeside}
 use Rattle.schedule.proofs.DeskLemmas.{length-sources_at, length-records_at}
 use Rattle.schedule.proofs.HandlingLemmas.{left}
 
@@ -91,39 +91,39 @@ and_true : (b : Bool) → (b && true) ≡ b
 and_true true = refl
 and_true false = refl
 
-is_within-pins : (users : List (List ℕ)) (trusted : List ℕ → Bool) (table : List Source) (limit : ℕ) (d : Holdings) (pins : List Pin) → IsSound table limit d
-    → is_within (record { users = users; charge = limit }) (desk_of trusted table (with_pins pins d)) ≡ nat_le (length pins) most_pins
+is_within-pins : (users : List (List ℕ)) (beside : Beside) (table : List Source) (limit : ℕ) (d : Holdings) (pins : List Pin) → IsSound table limit d
+    → is_within (record { users = users; charge = limit }) (desk_of beside table (with_pins pins d)) ≡ nat_le (length pins) most_pins
 unfolding is_within charge_of
-is_within-pins users trusted table limit d pins sound =
+is_within-pins users beside table limit d pins sound =
     let sources : nat_le (length (sources_at table d.known.sources)) most_sources ≡ true =
     grind (arith, nat_tests, sound.few_sources, length-sources_at table d.known.sources) in
     let derivations : nat_le (length d.known.derivations) most_derivations ≡ true = grind (arith, nat_tests, sound.few_derivations) in
     let records : nat_le (length (records_at table d.records)) most_records ≡ true =
     grind (arith, nat_tests, sound.few_records, length-records_at table d.records) in
-    let charge : nat_le (charge_of (desk_of trusted table d)) limit ≡ true = grind (arith, nat_tests, sound.within, sound.charged trusted) in
+    let charge : nat_le (charge_of (desk_of beside table d)) limit ≡ true = grind (arith, nat_tests, sound.within, sound.charged beside) in
     rw (sources, derivations, records, charge) (and_true (nat_le (length pins) most_pins))
 
 -- ---- pinning
 
-module _ (trusted : List ℕ → Bool) (limit : ℕ) (table : List Source) (d : Holdings) where
+module _ (beside : Beside) (limit : ℕ) (table : List Source) (d : Holdings) where
   abbrev under : List (List ℕ) → Setup
   under users = record { users = users; charge = limit }
 
   -- the model's desk
   abbrev his : Desk
-  his = desk_of trusted table d
+  his = desk_of beside table d
 
   pin_fits : (users : List (List ℕ)) (class path : List ℕ) → IsSound table limit d → nat_le (length (pinned class path d.pins)) most_pins ≡ true
-      → pin (under users) his class path ≡ becomes (desk_of trusted table (with_pins (pinned class path d.pins) d)) events.Done
+      → pin (under users) his class path ≡ becomes (desk_of beside table (with_pins (pinned class path d.pins) d)) events.Done
   pin_fits users class path sound few = elim (either (is_some (pin_of d.pins class))) [
     | inl t ↦ rw t refl
-    | inr f ↦ rw (f, is_within-pins users trusted table limit d (pinned class path d.pins) sound, few) refl
+    | inr f ↦ rw (f, is_within-pins users beside table limit d (pinned class path d.pins) sound, few) refl
   ]
 
   pin_over : (users : List (List ℕ)) (class path : List ℕ) → IsSound table limit d → is_some (pin_of d.pins class) ≡ false
       → nat_le (length (pinned class path d.pins)) most_pins ≡ false
       → pin (under users) his class path ≡ Err Quota
-  pin_over users class path sound new many = rw (new, is_within-pins users trusted table limit d (pinned class path d.pins) sound, many) refl
+  pin_over users class path sound new many = rw (new, is_within-pins users beside table limit d (pinned class path d.pins) sound, many) refl
 
   pin_at_once : (class path : List ℕ) (result : Result Rust.Reply Refusal) → ServesAtOnce his (events.Pin class path) result
   unfolding outcome
@@ -134,9 +134,9 @@ module _ (trusted : List ℕ → Bool) (limit : ℕ) (table : List Source) (d : 
   pins_handled : (request : Request) (pins : List Pin) → IsSound table limit d → length pins ≤ most_pins
       → ((setup : Setup) (w : World) (u : List ℕ) → HasSoundPlan setup w u request)
       → ((users : List (List ℕ)) (sight : Sight) → sight.desk ≡ his
-      → outcome (under users) sight request ≡ becomes (desk_of trusted table (with_pins pins d)) events.Done)
+      → outcome (under users) sight request ≡ becomes (desk_of beside table (with_pins pins d)) events.Done)
       → ServesAtOnce his request (Ok Done) → ((setup : Setup) (w : World) (u : List ℕ) → stored_by setup w u request ≡ [])
-      → IsHandledTrusting trusted limit table d request (Ok Done) table (with_pins pins d)
+      → IsHandledBeside beside limit table d request (Ok Done) table (with_pins pins d)
   pins_handled request pins sound few plans serves at_once stores users w u here = record {
     serves = serves users (sight_of (under users) w u) here;
     answered = refl;
@@ -152,7 +152,7 @@ module _ (trusted : List ℕ → Bool) (limit : ℕ) (table : List Source) (d : 
   }
 
   pub pin_handled : (class path : List ℕ) → IsSound table limit d → (is_some (pin_of d.pins class) || nat_lt (length d.pins) most_pins) ≡ true
-      → IsHandledTrusting trusted limit table d (events.Pin class path) (Ok Done) table (with_pins (pinned class path d.pins) d)
+      → IsHandledBeside beside limit table d (events.Pin class path) (Ok Done) table (with_pins (pinned class path d.pins) d)
   unfolding outcome
   pin_handled class path sound room =
       let few : length (pinned class path d.pins) ≤ most_pins = few_pinned class path d.pins sound.few_pins room in
@@ -161,20 +161,20 @@ module _ (trusted : List ℕ → Bool) (limit : ℕ) (table : List Source) (d : 
       (λ users sight same. rw same (pin_fits users class path sound within)) (pin_at_once class path (Ok Done)) (λ setup w u. refl)
 
   pub pin_refused : (class path : List ℕ) → IsSound table limit d → (is_some (pin_of d.pins class) || nat_lt (length d.pins) most_pins) ≡ false
-      → IsHandledTrusting trusted limit table d (events.Pin class path) (Err Quota) table d
+      → IsHandledBeside beside limit table d (events.Pin class path) (Err Quota) table d
   unfolding outcome
   pin_refused class path sound none =
       let many = many_pinned class path d.pins none in
-      left trusted limit table d (events.Pin class path) (Err Quota) sound (λ setup w u. tt) (λ users sight same own. rw same (pin_over users class path sound many.0 many.1))
+      left beside limit table d (events.Pin class path) (Err Quota) sound (λ setup w u. tt) (λ users sight same own. rw same (pin_over users class path sound many.0 many.1))
       (pin_at_once class path (Err Quota)) (search rules) refl (search rules)
 
-  pub pin_unserved : (class path : List ℕ) → IsSound table limit d → IsHandledTrusting trusted limit table d (events.Pin class path) (Err Memory) table d
+  pub pin_unserved : (class path : List ℕ) → IsSound table limit d → IsHandledBeside beside limit table d (events.Pin class path) (Err Memory) table d
   pin_unserved class path sound =
-      left trusted limit table d (events.Pin class path) (Err Memory) sound (λ setup w u. tt) (λ users sight same own. cc)
+      left beside limit table d (events.Pin class path) (Err Memory) sound (λ setup w u. tt) (λ users sight same own. cc)
       (pin_at_once class path (Err Memory)) (search rules) refl (search rules)
 
   pub unpin_handled : (class : List ℕ) → IsSound table limit d
-      → IsHandledTrusting trusted limit table d (events.Unpin class) (Ok Done) table (with_pins (unpinned class d.pins) d)
+      → IsHandledBeside beside limit table d (events.Unpin class) (Ok Done) table (with_pins (unpinned class d.pins) d)
   unfolding outcome
   unpin_handled class sound =
       let few : length (unpinned class d.pins) ≤ most_pins = omega (arith, length-unpinned class d.pins, sound.few_pins) in

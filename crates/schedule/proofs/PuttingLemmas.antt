@@ -17,9 +17,13 @@ put_all-All P [] old all own = all
 put_all-All P (s ∷ more) old all own =
     put_all-All P more (put_once s old) (put_once-All P s old all (All-head P s more own)) (All-tail P s more own)
 
+-- what holds of all holds of those in front
+pub all_front : {X : Type 0} (P : X → Type 0) (xs ys : List X) → All P (xs ++ ys) → All P xs
+all_front P [] ys all = All-nil P
+all_front P (x ∷ xs) ys all = All-cons P x xs (All-head P x (xs ++ ys) all) (all_front P xs ys (All-tail P x (xs ++ ys) all))
+
 pub all_before : (P : Source → Type 0) (xs : List Source) (y : Source) (zs : List Source) → All P (xs ++ y ∷ zs) → All P xs
-all_before P [] y zs all = All-nil P
-all_before P (x ∷ xs) y zs all = All-cons P x xs (All-head P x (xs ++ y ∷ zs) all) (all_before P xs y zs (All-tail P x (xs ++ y ∷ zs) all))
+all_before P xs y zs all = all_front P xs (y ∷ zs) all
 
 pub all_between : (P : Source → Type 0) (xs : List Source) (y : Source) (zs : List Source) → All P (xs ++ y ∷ zs) → P y
 all_between P [] y zs all = All-head P y zs all

@@ -3,7 +3,7 @@ use Rattle.std.proofs.Common.{◌≡◌, ℕ, Bool, true, false, inl, inr, List,
 use Rattle.std.specs.Prelude.{All, Contains, map, not, ◌||◌}
 use Rattle.std.specs.List.{list_any}
 use Rattle.std.proofs.lemmas.List.{map_push}
-use Rattle.std.proofs.lemmas.List.Elements.{All-head, All-tail, All-nil, All-cons, All-append, All-contains_itself, filter-append}
+use Rattle.std.proofs.lemmas.List.Elements.{All-tail, All-nil, All-append, All-contains_itself, filter-append}
 use Rattle.model.specs.Paths.{NoClash}
 use Rattle.model.specs.Worlds.{Setup, World, nothing}
 use Rattle.model.specs.Events.{Answer, Event as ModelEvent, Reply as ModelReply, Refused as ModelRefused}
@@ -12,9 +12,9 @@ use Rattle.model.specs.Striking.{strike}
 use Rattle.model.specs.Laws.{IsIsolated}
 use Rattle.model.specs.Replies.{is_memory, is_refused}
 use Rattle.model.specs.HashedTexts.{hashed, texts_of_event}
-use Rattle.model.specs.GivenClosures.{GivesGoodClosure, GiveGoodClosures}
+use Rattle.model.specs.GivenClosures.{GivesGoodClosure, KeepsGoodClosure, GiveGoodClosures}
 use Rattle.model.proofs.BoolLemmas.{either}
-use Rattle.schedule.specs.declared.user.User.{User}
+use Rattle.trust.specs.declared.user.User.{User}
 use Rattle.schedule.specs.declared.events.Event.{Event}
 use Rattle.schedule.specs.declared.events.Reply.{Reply}
 use Rattle.schedule.specs.declared.state.Core.{Core}
@@ -22,10 +22,7 @@ use Rattle.schedule.specs.Sound.{IsHashed}
 use Rattle.schedule.specs.Standing.{world_of, setup_of, stored_in, HasHashed, event_of, reply_of, answer_of, IsStep, IsUnchanged}
 use Rattle.schedule.specs.Stepping.{IsCoreStep}
 use Rattle.schedule.specs.Running.{events_served, without_memory, ArePrivate}
-
-all_front : (P : List ℕ → Type 0) (xs ys : List (List ℕ)) → All P (xs ++ ys) → All P xs
-all_front P [] ys h = All-nil P
-all_front P (x ∷ xs) ys h = All-cons P x xs (All-head P x (xs ++ ys) h) (all_front P xs ys (All-tail P x (xs ++ ys) h))
+use Rattle.schedule.proofs.PuttingLemmas.{all_front}
 
 all_back : (P : List ℕ → Type 0) (xs ys : List (List ℕ)) → All P (xs ++ ys) → All P ys
 all_back P [] ys h = h
@@ -43,10 +40,11 @@ hashed_front P setup w (x ∷ xs) ys h =
 
 -- the closures that are given are good with one event more
 pub good_push : (setup : Setup) (w : World) (events : List ModelEvent) (e : ModelEvent) → GiveGoodClosures setup w events
-    → GivesGoodClosure setup (world_after setup w events) e → GiveGoodClosures setup w (events ++ e ∷ [])
+    → GivesGoodClosure setup (world_after setup w events) e
+    → KeepsGoodClosure setup (world_after setup w events) e → GiveGoodClosures setup w (events ++ e ∷ [])
 unfolding world_after GiveGoodClosures
-good_push setup w [] e all one = (one, tt)
-good_push setup w (x ∷ events) e all one = (all.0, good_push setup (after setup w x) events e all.1 one)
+good_push setup w [] e all given kept = (given, kept, tt)
+good_push setup w (x ∷ events) e all given kept = (all.0, all.1, good_push setup (after setup w x) events e all.2 given kept)
 
 world_after_push : (setup : Setup) (w : World) (events : List ModelEvent) (e : ModelEvent)
     → world_after setup w (events ++ e ∷ []) ≡ after setup (world_after setup w events) e
@@ -152,9 +150,11 @@ reached_more setup texts core next served told e reply given step other clean in
           let own : List (List ℕ) = texts_of_event setup (world_of core) e in
           rw stepped.world (all_back (Contains texts) own (hashed setup (after setup (world_of core) e) later) (before.left (e ∷ later) (rw append_assoc at rest)));
       world = stepped.world ∙ ap (λ w. after setup w e) before.world ∙ sym (world_after_push setup nothing served e);
-      good = good_push setup nothing served e before.good
-          (subst (λ w. GivesGoodClosure setup w e) before.world
-          (subst (λ s. GivesGoodClosure s (world_of core) e) given (step.good texts clean before.stored (rw given here) other)));
+      good =
+          let good = step.good texts clean before.stored (rw given here) other in
+          good_push setup nothing served e before.good
+          (subst (λ w. GivesGoodClosure setup w e) before.world (subst (λ s. GivesGoodClosure s (world_of core) e) given good.0))
+          (subst (λ w. KeepsGoodClosure setup w e) before.world (subst (λ s. KeepsGoodClosure s (world_of core) e) given good.1));
     }
 
 goes_on_with : (setup : Setup) (all : List Event) (core : Core) (given : List (User × Reply)) (e : Event) (rest : List Event) (next : Core) (a : User × Reply)

@@ -6,9 +6,9 @@ use Rattle.model.specs.Archives.{Tree, IsTree, nar}
 use Rattle.model.specs.Paths.{NoClash}
 use Rattle.model.specs.Classes.{known_at}
 use Rattle.model.specs.Settling.{given, MadeSource}
-use Rattle.model.specs.Worlds.{Source, Setup, Desk, World, is_user, held_at, known_of}
+use Rattle.model.specs.Worlds.{Source, Setup, Desk, World, Planned, is_user, held_at, known_of}
 use Rattle.model.specs.Limits.{most_derivation_bytes}
-use Rattle.model.specs.Events.{AddSource, AddDerivation, Offer, Fetch, Event, Reply, Entries, Refused}
+use Rattle.model.specs.Events.{AddSource, AddDerivation, Offer, Fetch, Event, Reply, Entries, GoalState, Refused}
 use Rattle.model.specs.Outcomes.{sight_of, Outcome, becomes, reply_of, desk_after, reaches}
 use Rattle.model.specs.Steps.{outcome, outcome_of, reply_to, after}
 use Rattle.model.specs.Replies.{is_memory_refusal, is_clash_refusal, is_clash, is_refused}
@@ -21,17 +21,19 @@ use Rattle.schedule.specs.declared.events.Reply as Rust
 use Rattle.schedule.specs.declared.state.Core.{Core}
 use Rattle.store.specs.Stored.{Extends}
 use Rattle.realise.specs.Holdings.{Holdings}
-use Rattle.schedule.specs.Sound.{desk_of, IsSound, IsHashed, Clashes}
-use Rattle.schedule.specs.Standing.{reply_of as told_of, parts_of, world_of, setup_of, stored_in, IsStep, HasHashed, desk_among}
+use Rattle.schedule.specs.Sound.{desk_of, IsSound, IsHashed, Clashes, Beside}
+use Rattle.schedule.specs.Standing.{beside_at, reply_of as told_of, parts_of, world_of, setup_of, stored_in, IsStep, HasHashed, KeepsStored, desk_among}
 use Rattle.schedule.specs.Handling.{is_fault, Fits, RefusedAtOnce, ServesAtOnce, IsKept, IsHandled}
 use Rattle.schedule.specs.Stepping.{IsCoreStep}
-use Rattle.model.specs.GivenClosures.{GivesGoodClosure}
+use Rattle.model.specs.GivenClosures.{GivesGoodClosure, KeepsGoodClosure}
 use Rattle.model.specs.Laws.{NeverFails}
 use Rattle.model.proofs.SourceRequestLemmas.{add_source_cases, fetch_cases}
 use Rattle.model.proofs.DerivationRequestLemmas.{add_derivation_cases}
 use Rattle.model.proofs.OfferRequestLemmas.{offer_cases}
-use Rattle.schedule.proofs.GoodLemmas.{gives_good}
-use Rattle.schedule.proofs.WorldLemmas.{IsPlace, place_is_among, desk_found, among_changed, same_world}
+use Rattle.schedule.proofs.GoodLemmas.{gives_good, keeps_good}
+use Rattle.schedule.proofs.GoalLemmas.{goals_sound_at, goal_stored}
+use Rattle.schedule.proofs.WorldLemmas.{IsPlace, place_is_among, desk_found, among_changed, among_goals, same_world}
+use Rattle.trust.specs.Trusting.{trusts}
 
 -- what holds after either result holds
 pub either_way : {X E : Type 0} (r : Result X E) (P : Type 0) → OnOk r P → OnErr r P → P
@@ -41,6 +43,10 @@ either_way (Err e) P p q = q
 pub on_ok_any : {X E : Type 0} (r : Result X E) (P : Type 0) → P → OnOk r P
 on_ok_any (Ok x) P p = p
 on_ok_any (Err e) P p = search rules
+
+pub on_err_any : {X E : Type 0} (r : Result X E) (P : Type 0) → P → OnErr r P
+on_err_any (Ok x) P p = search rules
+on_err_any (Err e) P p = p
 
 pub kept_sound : (old new : List Source) (before now : Holdings) (limit : ℕ) → IsSound old limit before → IsKept old new before now
     → IsSound new limit now
@@ -62,7 +68,7 @@ after_becomes : (setup : Setup) (actor : List ℕ) (o : Outcome) (d : Desk) (r :
 after_becomes setup actor o d r x reached old e = ap (λ p. desk_after setup actor p x reached old) e
 
 -- where the desk changes, or whom its user trusts
-pub step_done : (given now : ℕ → List ℕ → Bool) (setup : Setup) (old new : List Source) (limit : ℕ) (desks : List Holdings) (e : Event) (i : ℕ)
+pub step_done : (given now : ℕ → Beside) (setup : Setup) (old new : List Source) (limit : ℕ) (desks : List Holdings) (e : Event) (i : ℕ)
     (before after : Holdings) (reply : Reply)
     → ((k : ℕ) → k ≢ i → now k ≡ given k) → Extends old new → All (IsSound old limit) desks → IsPlace setup.users e.actor i → slice_get desks i ≡ Some before
     → outcome_of setup (desk_among given old setup.users desks) e ≡ becomes (desk_of (now i) new after) reply
@@ -88,35 +94,35 @@ pub after_refused : (setup : Setup) (w : World) (e : Event) (why : Refusal) → 
 after_refused setup w e why o = same_world (λ v. ap (λ p. desk_after setup e.actor p v (reaches setup w v e.actor) (w v)) o)
 
 -- a desk that stands for the same leaves the world too
-pub world_kept : (trusted : ℕ → List ℕ → Bool) (names : List (List ℕ)) (old new : List Source) (limit : ℕ) (desks : List Holdings) (u : List ℕ) (i : ℕ)
+pub world_kept : (beside : ℕ → Beside) (names : List (List ℕ)) (old new : List Source) (limit : ℕ) (desks : List Holdings) (u : List ℕ) (i : ℕ)
     (before now : Holdings)
     → Extends old new → All (IsSound old limit) desks → IsPlace names u i → slice_get desks i ≡ Some before
-    → desk_of (trusted i) new now ≡ desk_of (trusted i) old before
-    → desk_among trusted new names (slice_set desks i now) ≡ desk_among trusted old names desks
-world_kept trusted names old new limit desks u i before now later sound place here same = same_world (λ v.
-    among_changed trusted trusted old new limit names desks u i now (λ k other. refl) later sound place (slice_get_within desks i before here) v
+    → desk_of (beside i) new now ≡ desk_of (beside i) old before
+    → desk_among beside new names (slice_set desks i now) ≡ desk_among beside old names desks
+world_kept beside names old new limit desks u i before now later sound place here same = same_world (λ v.
+    among_changed beside beside old new limit names desks u i now (λ k other. refl) later sound place (slice_get_within desks i before here) v
     ∙ elim (either (bytes_eq v u)) [
       | inl t ↦
           let is : v ≡ u = Rattle.model.proofs.BoolLemmas.same_bytes v u t in
-          rw t (same ∙ sym (desk_found trusted old names desks u i before place here) ∙ ap (desk_among trusted old names desks) (sym is))
+          rw t (same ∙ sym (desk_found beside old names desks u i before place here) ∙ ap (desk_among beside old names desks) (sym is))
       | inr f ↦ rw f refl
     ])
 
 -- ---- a step by the result of serving it
 
-pub told_result : (trusted : ℕ → List ℕ → Bool) (setup : Setup) (old new : List Source) (limit : ℕ) (desks : List Holdings) (e : Event) (i : ℕ)
-    (before now : Holdings) (result : Result Rust.Reply Refusal)
-    → let w : World = desk_among trusted old setup.users desks in
-    Extends old new → All (IsSound old limit) desks → IsPlace setup.users e.actor i → slice_get desks i ≡ Some before
-    → Fits (outcome setup (sight_of setup w e.actor) e.request) (desk_of (trusted i) new now) result → IfOk result (λ r. is_refused (told_of r) ≡ false)
+pub told_result : (given now : ℕ → Beside) (setup : Setup) (old new : List Source) (limit : ℕ) (desks : List Holdings) (e : Event) (i : ℕ)
+    (before after : Holdings) (result : Result Rust.Reply Refusal)
+    → let w : World = desk_among given old setup.users desks in
+    ((k : ℕ) → k ≢ i → now k ≡ given k) → Extends old new → All (IsSound old limit) desks → IsPlace setup.users e.actor i → slice_get desks i ≡ Some before
+    → Fits (outcome setup (sight_of setup w e.actor) e.request) (desk_of (now i) new after) result → IfOk result (λ r. is_refused (told_of r) ≡ false)
     → IfOk result
-    (λ r. (is_refused (told_of r) ≡ false) × IsStep setup w e (told_of r) (desk_among trusted new setup.users (slice_set desks i now)))
-told_result trusted setup old new limit desks e i before now (Ok r) later sound place here fits answered = (
+    (λ r. (is_refused (told_of r) ≡ false) × IsStep setup w e (told_of r) (desk_among now new setup.users (slice_set desks i after)))
+told_result given now setup old new limit desks e i before after (Ok r) others later sound place here fits answered = (
   answered,
-  step_done trusted trusted setup old new limit desks e i before now (told_of r) (λ k other. refl) later sound place here
-      (outcome_is setup (desk_among trusted old setup.users desks) e (place_is_among setup.users e.actor i place) ∙ fits),
+  step_done given now setup old new limit desks e i before after (told_of r) others later sound place here
+      (outcome_is setup (desk_among given old setup.users desks) e (place_is_among setup.users e.actor i place) ∙ fits),
 )
-told_result trusted setup old new limit desks e i before now (Err why) later sound place here fits answered = search rules
+told_result given now setup old new limit desks e i before after (Err why) others later sound place here fits answered = search rules
 
 pub refused_result : (setup : Setup) (w : World) (e : Event) (i : ℕ) (after : Desk) (result : Result Rust.Reply Refusal)
     → IsPlace setup.users e.actor i → Fits (outcome setup (sight_of setup w e.actor) e.request) after result
@@ -160,9 +166,9 @@ clash_is Clash h = refl
 clash_is why h = cc
 
 -- what is kept stands for the same desk
-pub kept_desk : (trusted : List ℕ → Bool) (old new : List Source) (before now : Holdings) → IsKept old new before now
-    → desk_of trusted new now ≡ desk_of trusted old before
-kept_desk trusted old new before now kept = rw (kept.sources, kept.desk) refl
+pub kept_desk : (beside : Beside) (old new : List Source) (before now : Holdings) → IsKept old new before now
+    → desk_of beside new now ≡ desk_of beside old before
+kept_desk beside old new before now kept = rw (kept.sources, kept.desk) refl
 
 -- ---- refusals that need no memory
 
@@ -202,11 +208,16 @@ no_clash_told : (reply : Reply) → is_refused reply ≡ false → is_clash repl
 no_clash_told (Refused why) h = cc
 no_clash_told reply h = refl
 
--- no closure is given where the model refuses
-refused_good : (setup : Setup) (w : World) (e : Event) (why : Refusal) → outcome_of setup w e ≡ Err why → GivesGoodClosure setup w e
-refused_good setup w e why o class entries p asked told planned =
-    let no : Refused why ≡ Entries entries = sym (ap reply_of o) ∙ told in
-    absurd (cc)
+-- no closure is given, and none kept, where the model refuses
+refused_good : (setup : Setup) (w : World) (e : Event) (why : Refusal) → outcome_of setup w e ≡ Err why
+    → GivesGoodClosure setup w e × KeepsGoodClosure setup w e
+refused_good setup w e why o = (given, kept)
+  where
+    given : GivesGoodClosure setup w e
+    given class entries asked told p planned = let no : Refused why ≡ Entries entries = sym (ap reply_of o) ∙ told in absurd (cc)
+
+    kept : KeepsGoodClosure setup w e
+    kept n g a r asked told there resolved known p planned = let no : Refused why ≡ GoalState Planned = sym (ap reply_of o) ∙ told in absurd (cc)
 
 -- an event that was not refused
 pub served_step : (old new : Core) (e : Event) (reply : Rust.Reply) → IsHandled (parts_of old) e (Ok reply) (parts_of new)
@@ -220,7 +231,10 @@ served_step old new e reply handled sound = record {
   taken = λ clash. (let no : true ≡ false = sym clash ∙ no_clash_told (told_of reply) handled.told.0 in cc);
   no_clash = λ texts clean hashed inside. no_clash_told (told_of reply) handled.told.0;
   hashed = λ texts hashed inside. handled.hashed texts hashed inside;
-  good = λ texts clean hashed inside memory. gives_good texts clean (parts_of old) e sound hashed inside handled.given;
+  good = λ texts clean hashed inside memory. (
+    gives_good texts clean (parts_of old) e sound hashed inside handled.given,
+    keeps_good texts clean (parts_of old) e sound hashed inside handled.given,
+  );
   going = λ running stopped. (let no : true ≡ false = rw stopped at handled.told.0 in cc);
 }
 
@@ -255,3 +269,12 @@ refused_step one own_refusals old new e why handled =
           let no : true ≡ false = rw told at (own_refusals setup w e) in
           cc;
     }
+
+-- what goals are built from is stored
+pub keeps_stored : (core : Core) → KeepsStored core
+unfolding world_of stored_in
+keeps_stored core u n g r there resolved =
+    let beside : ℕ → Beside = beside_at core.users.items (trusts core.trust) core.jobs.goals in
+    goal_stored core.table.sources (world_of core u).goals n g r
+    (among_goals beside core.table.sources core.users.items core.desks.items u
+    (λ k. goals_sound_at core.table.sources core.jobs.goals k core.goals_sound)) there resolved

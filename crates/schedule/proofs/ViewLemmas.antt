@@ -4,7 +4,7 @@ use Rattle.std.specs.Prelude.{All, map, filter}
 use Rattle.std.specs.List.{range_with_len}
 use Rattle.std.proofs.lemmas.List.Elements.{filter-append, All-filter}
 use Rattle.std.proofs.lemmas.List.FromFn.{length-range_with_len, get_or-range_with_len}
-use Rattle.model.specs.Worlds.{Source, Setup, Desk, World, are_distinct}
+use Rattle.model.specs.Worlds.{Source, Setup, Desk, World, Goal, are_distinct}
 use Rattle.model.specs.Outcomes.{trusts, reaches, view_of}
 use Rattle.model.proofs.BoolLemmas.{either}
 use Rattle.trust.specs.Trusting.{IsReach}
@@ -13,7 +13,7 @@ use Rattle.trust.proofs.PlaceLemmas as places
 use Rattle.trust.proofs.NameLemmas.{reached_names}
 use Rattle.realise.specs.Holdings.{Holdings}
 use Rattle.schedule.specs.Sound.{desk_of}
-use Rattle.schedule.specs.Standing.{desk_among}
+use Rattle.schedule.specs.Standing.{beside_at, desk_among}
 use Rattle.schedule.specs.Viewing.{places_of, bare, desk_at, IsView}
 use Rattle.schedule.proofs.WorldLemmas.{place_found, desk_found}
 use Rattle.schedule.proofs.HandlingLemmas.{place_there}
@@ -80,32 +80,42 @@ named_at f p g set (name ∷ users) a ps fs =
 
 -- ---- the view
 
-module _ (users : List (List ℕ)) (limit : ℕ) (trust : ℕ → ℕ → Bool) (table : List Source) (desks : List Holdings)
+module _ (users : List (List ℕ)) (limit : ℕ) (trust : ℕ → ℕ → Bool) (goals : List (List Goal)) (table : List Source) (desks : List Holdings)
     (distinct : are_distinct users ≡ true) (paired : length desks ≡ length users) where
   abbrev setup : Setup
   setup = record { users = users; charge = limit }
 
   abbrev world : World
-  world = desk_among (trusted_at users trust) table users desks
+  world = desk_among (beside_at users trust goals) table users desks
 
   abbrev seen_at : ℕ → Desk
-  seen_at k = desk_of (trusted_at users trust k) table (desk_at desks k)
+  seen_at k = desk_of (beside_at users trust goals k) table (desk_at desks k)
 
   -- the desk of the user at a place
   at_place : (k : ℕ) → k < length users → world (name_at users k) ≡ seen_at k
   at_place k below =
       let found : place_of users (name_at users k) ≡ Some k = places.place_found users k distinct below in
-      desk_found (trusted_at users trust) table users desks (name_at users k) k (desk_at desks k) (place_found users (name_at users k) k found)
+      desk_found (beside_at users trust goals) table users desks (name_at users k) k (desk_at desks k) (place_found users (name_at users k) k found)
       (place_there users desks (name_at users k) k bare paired found)
 
   linked : IsLinked users trust (trusts world)
   linked u below v = ap (λ (d : Desk). d.trusted v) (at_place u below)
 
+  -- whom the user at a place reaches, by their names
+  reach_is : (place : ℕ) (set : ℕ → Bool) → IsWithin (length users) trust → place < length users → IsReach trust place set
+      → names users set ≡ reaches setup world (name_at users place)
+  reach_is place set within inside reach = reached_names users trust (trusts world) place set distinct within linked inside reach
+
+  pub reach_of : (actor : List ℕ) (place : ℕ) (set : ℕ → Bool) → IsWithin (length users) trust → place_of users actor ≡ Some place → IsReach trust place set
+      → names users set ≡ reaches setup world actor
+  reach_of actor place set within found reach =
+      let own = places.name_found users actor place found in
+      reach_is place set within own.0 reach ∙ ap (reaches setup world) own.1
+
   pub view_is : (place : ℕ) (set : ℕ → Bool) → IsWithin (length users) trust → place < length users → IsReach trust place set
       → view_of setup world (name_at users place) ≡ map seen_at (places_of set (length users))
   view_is place set within inside reach =
-      let same : names users set ≡ reaches setup world (name_at users place) =
-      reached_names users trust (trusts world) place set distinct within linked inside reach in
+      let same : names users set ≡ reaches setup world (name_at users place) = reach_is place set within inside reach in
       named_at world (reaches setup world (name_at users place)) seen_at set users 0
       (λ k below.
       ap (λ (test : List ℕ → Bool). test (name_at users k)) (sym same)
@@ -119,7 +129,7 @@ is_view trust place desks view set inside reach held = record {
   places = places_of set (length desks);
   inside = places_below set (length desks);
   held = held;
-  seen = λ users limit table listed paired within.
-      view_is users limit trust table desks (distinct_users users listed) paired place set within (omega (arith, inside, paired)) reach
-      ∙ ap (λ n. map (λ p. desk_of (trusted_at users trust p) table (desk_at desks p)) (places_of set n)) (sym paired);
+  seen = λ users limit goals table listed paired within.
+      view_is users limit trust goals table desks (distinct_users users listed) paired place set within (omega (arith, inside, paired)) reach
+      ∙ ap (λ n. map (λ p. desk_of (beside_at users trust goals p) table (desk_at desks p)) (places_of set n)) (sym paired);
 }

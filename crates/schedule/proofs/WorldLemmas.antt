@@ -2,17 +2,17 @@
 use Rattle.std.proofs.Common.{◌≡◌, ℕ, zero, suc, ◌+◌, ◌<◌, ◌≢◌, Bool, true, false, inl, inr, List, [], ◌∷◌, length, refl, sym, ◌∙◌, ap, arith, get_or, Some, None}
 use Rattle.std.specs.Prelude.{All, bytes_eq, slice_get, slice_set, position, if◌then◌else◌, is_some, nat_lt}
 use Rattle.std.specs.List.{position_or_len, list_any}
-use Rattle.std.proofs.lemmas.List.Elements.{All-head, All-tail}
+use Rattle.std.proofs.lemmas.List.Elements.{All-nil, All-head, All-tail}
 use Rattle.std.proofs.lemmas.List.Quantifiers.{position-Some}
 use Rattle.std.proofs.lemmas.Bool.Decides.{nat_tests}
 use Rattle.model.specs.Reach.{is_among}
 use Rattle.model.specs.Classes.{Known}
-use Rattle.model.specs.Worlds.{Source, Pin, Desk, World, empty_desk, tree_at, held_at}
+use Rattle.model.specs.Worlds.{Source, Pin, Desk, World, Goal, empty_desk, tree_at, held_at}
 use Rattle.model.proofs.BoolLemmas.{either, same_bytes}
 use Rattle.realise.specs.Recorded.{Recorded}
 use Rattle.store.specs.Stored.{Extends}
 use Rattle.realise.specs.Holdings.{Holdings, paths_of}
-use Rattle.schedule.specs.Sound.{sources_at, records_at, desk_of, IsSound, IsEmpty}
+use Rattle.schedule.specs.Sound.{Beside, sources_at, records_at, desk_of, IsSound, IsEmpty, IsResolvedIn, AreGoalsSound}
 use Rattle.schedule.specs.Standing.{desk_among}
 use Rattle.store.proofs.EntryLemmas.{bytes_eq_sym}
 use Rattle.schedule.proofs.DeskLemmas.{desk_kept, held_in_table}
@@ -68,16 +68,16 @@ pub no_place : (names : List (List ℕ)) (u : List ℕ) → position (λ n. byte
 no_place names u e = sym (position_any names u) ∙ ap is_some e
 
 -- the desk at a user's place is his
-pub desk_found : (trusted : ℕ → List ℕ → Bool) (table : List Source) (names : List (List ℕ)) (desks : List Holdings) (u : List ℕ) (i : ℕ) (d : Holdings)
+pub desk_found : (beside : ℕ → Beside) (table : List Source) (names : List (List ℕ)) (desks : List Holdings) (u : List ℕ) (i : ℕ) (d : Holdings)
     → IsPlace names u i
-    → slice_get desks i ≡ Some d → desk_among trusted table names desks u ≡ desk_of (trusted i) table d
-desk_found trusted table [] desks u i d p h = absurd p
-desk_found trusted table (name ∷ names) [] u i d p h = cc
-desk_found trusted table (name ∷ names) (x ∷ desks) u zero d p h = let is : x ≡ d = cc in rw p (ap (desk_of (trusted 0) table) is)
-desk_found trusted table (name ∷ names) (x ∷ desks) u (suc i) d p h = rw p.0 (desk_found (λ k. trusted (suc k)) table names desks u i d p.1 h)
+    → slice_get desks i ≡ Some d → desk_among beside table names desks u ≡ desk_of (beside i) table d
+desk_found beside table [] desks u i d p h = absurd p
+desk_found beside table (name ∷ names) [] u i d p h = cc
+desk_found beside table (name ∷ names) (x ∷ desks) u zero d p h = let is : x ≡ d = cc in rw p (ap (desk_of (beside 0) table) is)
+desk_found beside table (name ∷ names) (x ∷ desks) u (suc i) d p h = rw p.0 (desk_found (λ k. beside (suc k)) table names desks u i d p.1 h)
 
 -- a later table leaves the desks of those who trust the same
-pub among_kept : (given now : ℕ → List ℕ → Bool) (old new : List Source) (limit : ℕ) (names : List (List ℕ)) (desks : List Holdings) (v : List ℕ)
+pub among_kept : (given now : ℕ → Beside) (old new : List Source) (limit : ℕ) (names : List (List ℕ)) (desks : List Holdings) (v : List ℕ)
     → ((k : ℕ) → now k ≡ given k)
     → Extends old new → All (IsSound old limit) desks → desk_among now new names desks v ≡ desk_among given old names desks v
 among_kept given now old new limit [] desks v same later sound = refl
@@ -89,7 +89,7 @@ among_kept given now old new limit (name ∷ names) (d ∷ desks) v same later s
 ]
 
 -- and what changes at a user's place is his alone
-pub among_changed : (given now : ℕ → List ℕ → Bool) (old new : List Source) (limit : ℕ) (names : List (List ℕ)) (desks : List Holdings) (u : List ℕ) (i : ℕ)
+pub among_changed : (given now : ℕ → Beside) (old new : List Source) (limit : ℕ) (names : List (List ℕ)) (desks : List Holdings) (u : List ℕ) (i : ℕ)
     (after : Holdings)
     → ((k : ℕ) → k ≢ i → now k ≡ given k) → Extends old new → All (IsSound old limit) desks → IsPlace names u i → i < length desks
     → (v : List ℕ)
@@ -120,39 +120,59 @@ among_changed given now old new limit (name ∷ names) (d ∷ desks) u (suc i) a
 pub same_world : {w v : World} → ((u : List ℕ) → w u ≡ v u) → w ≡ v
 same_world h = λ i u. h u i
 
--- empty desks of users who trust nobody are the desks of nothing
-pub empty_world : (trusted : ℕ → List ℕ → Bool) (table : List Source) (names : List (List ℕ)) (desks : List Holdings) → ((k : ℕ) → trusted k ≡ λ name. false)
+-- beside an empty desk nobody is trusted, and there are no goals
+abbrev pub nothing_beside : Beside
+nothing_beside = record { trusted = λ name. false; goals = [] }
+
+-- empty desks of users who trust nobody and have no goals are the desks of nothing
+pub empty_world : (beside : ℕ → Beside) (table : List Source) (names : List (List ℕ)) (desks : List Holdings) → ((k : ℕ) → beside k ≡ nothing_beside)
     → All IsEmpty desks
-    → (u : List ℕ) → desk_among trusted table names desks u ≡ empty_desk
-empty_world trusted table [] desks nobody all u = refl
-empty_world trusted table (name ∷ names) [] nobody all u = refl
-empty_world trusted table (name ∷ names) (d ∷ desks) nobody all u = elim (either (bytes_eq name u)) [
+    → (u : List ℕ) → desk_among beside table names desks u ≡ empty_desk
+empty_world beside table [] desks nobody all u = refl
+empty_world beside table (name ∷ names) [] nobody all u = refl
+empty_world beside table (name ∷ names) (d ∷ desks) nobody all u = elim (either (bytes_eq name u)) [
   | inl t ↦
-      let D : (List ℕ → Bool) → Known → List Recorded → List Pin → Desk = λ trusted known records pins.
-      record { trusted = trusted; sources = sources_at table known.sources; derivations = known.derivations; records = records_at table records; pins = pins }
-      in
+      let D : Beside → Known → List Recorded → List Pin → Desk = λ more known records pins.
+      record {
+        trusted = more.trusted;
+        sources = sources_at table known.sources;
+        derivations = known.derivations;
+        records = records_at table records;
+        pins = pins;
+        goals = more.goals;
+      } in
       let empty = All-head IsEmpty d desks all in
-      let none : trusted 0 ≡ λ name. false = nobody 0 in
+      let none : beside 0 ≡ nothing_beside = nobody 0 in
       rw t (λ i. D (none i) (empty.known i) (empty.records i) (empty.pins i))
-  | inr f ↦ rw f (empty_world (λ k. trusted (suc k)) table names desks (λ k. nobody (suc k)) (All-tail IsEmpty d desks all) u)
+  | inr f ↦ rw f (empty_world (λ k. beside (suc k)) table names desks (λ k. nobody (suc k)) (All-tail IsEmpty d desks all) u)
 ]
 
 -- what a desk holds is stored, with the tree that the desk has
-stored_there : (trusted : List ℕ → Bool) (table : List Source) (limit : ℕ) (d : Holdings) (path : List ℕ) → IsSound table limit d
-    → is_some (held_at path (desk_of trusted table d)) ≡ true → tree_at path table ≡ held_at path (desk_of trusted table d)
-stored_there trusted table limit d path sound h = elim (either (list_any (λ p. bytes_eq p path) (paths_of d))) [
-  | inl t ↦ rw t at (held_in_table trusted table limit d path sound)
+stored_there : (beside : Beside) (table : List Source) (limit : ℕ) (d : Holdings) (path : List ℕ) → IsSound table limit d
+    → is_some (held_at path (desk_of beside table d)) ≡ true → tree_at path table ≡ held_at path (desk_of beside table d)
+stored_there beside table limit d path sound h = elim (either (list_any (λ p. bytes_eq p path) (paths_of d))) [
+  | inl t ↦ rw t at (held_in_table beside table limit d path sound)
   | inr f ↦
-      let none : None ≡ held_at path (desk_of trusted table d) = rw f at (held_in_table trusted table limit d path sound) in
+      let none : None ≡ held_at path (desk_of beside table d) = rw f at (held_in_table beside table limit d path sound) in
       (let found = rw (← none) at h in cc)
 ]
 
-pub among_stored : (trusted : ℕ → List ℕ → Bool) (table : List Source) (limit : ℕ) (names : List (List ℕ)) (desks : List Holdings) (u path : List ℕ)
-    → All (IsSound table limit) desks → is_some (held_at path (desk_among trusted table names desks u)) ≡ true
-    → tree_at path table ≡ held_at path (desk_among trusted table names desks u)
-among_stored trusted table limit [] desks u path sound h = cc
-among_stored trusted table limit (name ∷ names) [] u path sound h = cc
-among_stored trusted table limit (name ∷ names) (d ∷ desks) u path sound h = elim (either (bytes_eq name u)) [
-  | inl t ↦ rw t (stored_there (trusted 0) table limit d path (All-head (IsSound table limit) d desks sound) (rw t at h))
-  | inr f ↦ rw f (among_stored (λ k. trusted (suc k)) table limit names desks u path (All-tail (IsSound table limit) d desks sound) (rw f at h))
+pub among_stored : (beside : ℕ → Beside) (table : List Source) (limit : ℕ) (names : List (List ℕ)) (desks : List Holdings) (u path : List ℕ)
+    → All (IsSound table limit) desks → is_some (held_at path (desk_among beside table names desks u)) ≡ true
+    → tree_at path table ≡ held_at path (desk_among beside table names desks u)
+among_stored beside table limit [] desks u path sound h = cc
+among_stored beside table limit (name ∷ names) [] u path sound h = cc
+among_stored beside table limit (name ∷ names) (d ∷ desks) u path sound h = elim (either (bytes_eq name u)) [
+  | inl t ↦ rw t (stored_there (beside 0) table limit d path (All-head (IsSound table limit) d desks sound) (rw t at h))
+  | inr f ↦ rw f (among_stored (λ k. beside (suc k)) table limit names desks u path (All-tail (IsSound table limit) d desks sound) (rw f at h))
+]
+
+-- all that goals are built from is stored
+pub among_goals : (beside : ℕ → Beside) (table : List Source) (names : List (List ℕ)) (desks : List Holdings) (u : List ℕ)
+    → ((k : ℕ) → AreGoalsSound table (beside k).goals) → AreGoalsSound table (desk_among beside table names desks u).goals
+among_goals beside table [] desks u sound = All-nil (λ (g : Goal). IsResolvedIn table g.resolved)
+among_goals beside table (name ∷ names) [] u sound = All-nil (λ (g : Goal). IsResolvedIn table g.resolved)
+among_goals beside table (name ∷ names) (d ∷ desks) u sound = elim (either (bytes_eq name u)) [
+  | inl t ↦ rw t (sound 0)
+  | inr f ↦ rw f (among_goals (λ k. beside (suc k)) table names desks u (λ k. sound (suc k)))
 ]

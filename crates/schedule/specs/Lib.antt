@@ -6,7 +6,10 @@ pub mod Offering
 pub mod Given
 pub mod Serving
 pub mod Handling
+pub mod Ending
 pub mod Taking
+pub mod Planning
+pub mod Starting
 pub mod Stepping
 pub mod Running
 pub mod Ever

@@ -10,15 +10,16 @@ use Rattle.model.specs.Occurrences.{IsHashPart}
 use Rattle.model.specs.Settling.{Settled, hash_part_in}
 use Rattle.model.specs.Worlds.{Source, Label}
 use Rattle.model.specs.References.{candidates, paths_of_labels}
-use Rattle.model.specs.OfferRequests.{output_settled, record_for}
+use Rattle.model.specs.OfferRequests.{output_settled}
+use Rattle.model.specs.Outputs.{record_for}
 use Rattle.model.specs.Results.{unless_rewrite_refused}
 use Rattle.realise.specs.Recorded.{Recorded}
 use Rattle.realise.specs.Holdings.{Holdings, with_tree}
-use Rattle.schedule.specs.Sound.{desk_of}
+use Rattle.schedule.specs.Sound.{desk_of, Beside}
 
 -- the labels are what an output of a derivation may refer to on a desk
 abbrev pub AreLabels : Holdings → Derivation → List Label → Type 0
-AreLabels d x labels = (trusted : List ℕ → Bool) (table : List Source) → labels ≡ candidates (desk_of trusted table d) x
+AreLabels d x labels = (beside : Beside) (table : List Source) → labels ≡ candidates (desk_of beside table d) x
 
 -- a record is that of a tree with its path
 abbrev pub IsRecordOf : List Label → Admission → Settled → Recorded → Type 0

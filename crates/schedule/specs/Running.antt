@@ -7,7 +7,7 @@ use Rattle.model.specs.Steps.{answers, replies_to, replies}
 use Rattle.model.specs.Striking.{strike}
 use Rattle.model.specs.Replies.{is_memory}
 use Rattle.model.specs.GivenClosures.{GiveGoodClosures}
-use Rattle.schedule.specs.declared.user.User.{User}
+use Rattle.trust.specs.declared.user.User.{User}
 use Rattle.schedule.specs.declared.events.Reply.{Reply}
 use Rattle.schedule.specs.Standing.{reply_of}
 

@@ -3,7 +3,7 @@ use Rattle.std.specs.Prelude.{◌≡◌, ◌⊎◌, ℕ, Bool, true, List, lengt
 use Rattle.std.specs.Global.{Vec}
 use Rattle.model.specs.declared.refusal.Refusal.{Refusal}
 use Rattle.model.specs.declared.refusal.Refusal.TheVariants.{Memory}
-use Rattle.model.specs.Worlds.{Source, Setup, World, Entry, are_users}
+use Rattle.model.specs.Worlds.{Source, Setup, World, Entry, Goal, are_users}
 use Rattle.model.specs.Events.{Closure}
 use Rattle.model.specs.Outcomes.{sight_of}
 use Rattle.model.specs.ClosureRequests.{closure_for}
@@ -23,9 +23,10 @@ AreNotServed setup w u class why = (why ≡ Memory) ⊎ (closure_for (sight_of s
 
 -- what is said of the user at a place, whoever he is
 abbrev pub AtPlace : (ℕ → ℕ → Bool) → List Source → List Holdings → ℕ → (Setup → World → List ℕ → Type 0) → Type 0
-AtPlace trust table desks place P = (users : List (List ℕ)) (limit : ℕ) (actor : List ℕ) → are_users users ≡ true → place_of users actor ≡ Some place
+AtPlace trust table desks place P = (users : List (List ℕ)) (limit : ℕ) (goals : List (List Goal)) (actor : List ℕ)
+    → are_users users ≡ true → place_of users actor ≡ Some place
     → length desks ≡ length users → IsWithin (length users) trust
-    → let old = parts users limit trust table desks in P old.setup (world_in old) actor
+    → let old = parts users limit trust goals table desks in P old.setup (world_in old) actor
 
 -- the entries of the closure of a class for the user at a place, or why there are none
 abbrev pub IsServedAt : (ℕ → ℕ → Bool) → List Source → List Holdings → ℕ → List ℕ → Result (Vec Entry) Refusal → Type 0

@@ -1,10 +1,12 @@
 -- What the desks of the store keep, and what the table keeps for them.
-use Rattle.std.specs.Prelude.{◌≡◌, ◌≢◌, ℕ, ◌≤◌, Bool, true, List, [], length, map, is_some, All}
+use Rattle.std.specs.Prelude.{◌≡◌, ◌≢◌, ℕ, ◌≤◌, Bool, true, List, [], length, map, is_some, All, Option, Some, None}
 use Rattle.model.specs.Archives.{nar}
-use Rattle.model.specs.Limits.{most_sources, most_derivations, most_records, most_pins}
+use Rattle.model.specs.Limits.{most_sources, most_derivations, most_records, most_pins, most_entries}
 use Rattle.model.specs.Settling.{Settled, IsMade}
-use Rattle.model.specs.Worlds.{Source, Record, Desk, tree_at, charge_of}
+use Rattle.model.specs.Worlds.{Source, Record, Desk, Entry, path_of_entry, Resolved, Goal, tree_at, charge_of}
+use Rattle.model.specs.Closures.{tree_of_entry, entry_before, IsWhole}
 use Rattle.realise.specs.Recorded.{Recorded}
+use Rattle.choose.specs.Gathering.{Ascends}
 use Rattle.choose.specs.Visible.{source_at, record_at}
 use Rattle.realise.specs.Holdings.{Holdings, paths_of, IsClosed}
 
@@ -16,19 +18,25 @@ sources_at table paths = map (source_at table) paths
 abbrev pub records_at : List Source → List Recorded → List Record
 records_at table records = map (record_at table) records
 
--- the desk of the model that a table, what a user has, and whom he trusts stand for
-abbrev pub desk_of : (List ℕ → Bool) → List Source → Holdings → Desk
-desk_of trusted table d = record {
-  trusted = trusted;
+-- what a user's desk has beside what he holds: whom he trusts, and his goals
+pub record Beside : Type 0 where
+  pub trusted : List ℕ → Bool
+  pub goals : List Goal
+
+-- the desk of the model that a table, what a user has, and what is kept beside it stand for
+abbrev pub desk_of : Beside → List Source → Holdings → Desk
+desk_of beside table d = record {
+  trusted = beside.trusted;
   sources = sources_at table d.known.sources;
   derivations = d.known.derivations;
   records = records_at table d.records;
   pins = d.pins;
+  goals = beside.goals;
 }
 
 -- the paths that a desk holds are in the table, its charge is theirs, it is within the limits, and what its labels name is on it
 pub record IsSound (table : List Source) (limit : ℕ) (d : Holdings) : Type 0 where
-  pub charged : (trusted : List ℕ → Bool) → d.charge ≡ charge_of (desk_of trusted table d)
+  pub charged : (beside : Beside) → d.charge ≡ charge_of (desk_of beside table d)
   pub within : d.charge ≤ limit
   pub few_sources : length d.known.sources ≤ most_sources
   pub few_derivations : length d.known.derivations ≤ most_derivations
@@ -59,3 +67,23 @@ pub record IsEmpty (d : Holdings) : Type 0 where
   pub records : d.records ≡ []
   pub pins : d.pins ≡ []
   pub charge : d.charge ≡ 0
+
+-- ---- goals
+
+-- entries of a closure: they are in order, no more than a closure may have, and whole
+pub record IsClosure (entries : List Entry) : Type 0 where
+  pub whole : IsWhole entries
+  pub in_order : Ascends entry_before entries
+  pub few : length entries ≤ most_entries
+
+-- the tree of an entry is in the table
+abbrev pub IsStored : List Source → Entry → Type 0
+IsStored table e = tree_at (path_of_entry e) table ≡ Some (tree_of_entry e)
+
+-- what a goal is built from is the closure of its inputs, of which the table has all trees
+abbrev pub IsResolvedIn : List Source → Option Resolved → Type 0
+IsResolvedIn table resolved = (r : Resolved) → resolved ≡ Some r → ∥ IsClosure r.closure ∥₁ × All (IsStored table) r.closure
+
+-- so it is with each of a user's goals
+abbrev pub AreGoalsSound : List Source → List Goal → Type 0
+AreGoalsSound table goals = All (λ g. IsResolvedIn table g.resolved) goals

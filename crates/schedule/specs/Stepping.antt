@@ -7,7 +7,7 @@ use Rattle.model.specs.Events.{Event, Reply, Refused}
 use Rattle.model.specs.Steps.{outcome_of}
 use Rattle.model.specs.Replies.{is_memory, is_clash, is_refused, needs_no_memory}
 use Rattle.model.specs.HashedTexts.{texts_of_event}
-use Rattle.model.specs.GivenClosures.{GivesGoodClosure}
+use Rattle.model.specs.GivenClosures.{GivesGoodClosure, KeepsGoodClosure}
 use Rattle.schedule.specs.declared.state.Core.{Core}
 use Rattle.schedule.specs.Stored.{IsTakenFor}
 use Rattle.schedule.specs.Standing.{world_of, setup_of, stored_in, is_stopped, IsStep, IsUnchanged, HasHashed}
@@ -32,8 +32,8 @@ pub record IsCoreStep (old : Core) (event : Event) (reply : Reply) (new : Core) 
   pub no_clash : (texts : List (List ℕ)) → NoClash texts → HasHashed texts old → HashesWithin texts old event → is_clash reply ≡ false
   -- what is stored afterwards was made by texts that were hashed
   pub hashed : (texts : List (List ℕ)) → HasHashed texts old → HashesWithin texts old event → HasHashed texts new
-  -- and the closure that a user is given then is good
+  -- and the closure that a user is given then, or that a goal is built from, is good
   pub good : (texts : List (List ℕ)) → NoClash texts → HasHashed texts old → HashesWithin texts old event → is_memory reply ≡ false
-      → GivesGoodClosure (setup_of old) (world_of old) event
+      → GivesGoodClosure (setup_of old) (world_of old) event × KeepsGoodClosure (setup_of old) (world_of old) event
   -- 92 comes only from a core that is stopped
   pub going : is_stopped old ≡ false → reply ≢ Refused Stopped

@@ -1,14 +1,17 @@
 -- What a request stores.
-use Rattle.std.specs.Prelude.{◌≡◌, ℕ, List, [], ◌∷◌, ◌++◌, map, Option, Some, None, Result, Ok, Err}
+use Rattle.std.specs.Prelude.{◌≡◌, ℕ, List, [], ◌∷◌, ◌++◌, map, flat_map, drop, length, Option, Some, None, Result, Ok, Err}
 use Rattle.model.specs.declared.refusal.Refusal.{Refusal}
 use Rattle.model.specs.declared.refusal.RewriteFault.{RewriteFault}
 use Rattle.model.specs.Archives.{Tree}
 use Rattle.model.specs.Classes.{Admission, known_at}
 use Rattle.model.specs.Settling.{Settled}
-use Rattle.model.specs.Worlds.{Source, Setup, Desk, World, known_of, Entry, path_of_entry}
+use Rattle.model.specs.Worlds.{Source, Setup, Desk, World, known_of, Entry, path_of_entry, Resolved, Goal, tree_of_record}
 use Rattle.model.specs.References.{candidates}
-use Rattle.model.specs.Events.{Request, AddSource, AddDerivation, Offer, Fetch, Trust, Distrust, Pin, Unpin, Closure, Take}
-use Rattle.model.specs.Outcomes.{sight_of}
+use Rattle.model.specs.Events.{Request, AddSource, AddDerivation, Offer, Fetch, Trust, Distrust, Pin, Unpin, Closure, Take, Build, Status, Plan, Start, Finish, Fail, Event}
+use Rattle.model.specs.Outcomes.{Sight, sight_of}
+use Rattle.model.specs.Goals.{goal_at}
+use Rattle.model.specs.GoalRequests.{resolve_for}
+use Rattle.model.specs.Steps.{after}
 use Rattle.model.specs.SourceRequests.{source_named}
 use Rattle.model.specs.OfferRequests.{output_settled}
 use Rattle.model.specs.Closures.{tree_of_entry}
@@ -31,6 +34,27 @@ abbrev pub taken_sources : Result (List Entry) Refusal → List Source
 taken_sources (Ok entries) = map source_of_entry entries
 taken_sources (Err why) = []
 
+-- those of the closure that a goal is to be built from
+abbrev pub resolved_sources : Result Resolved Refusal → List Source
+resolved_sources (Ok r) = map source_of_entry r.closure
+resolved_sources (Err why) = []
+
+abbrev pub admitted_sources : Sight → Option Admission → List Source
+admitted_sources s None = []
+admitted_sources s (Some a) = resolved_sources (resolve_for s a.derivation)
+
+abbrev pub planned_sources : Sight → Option Goal → List Source
+planned_sources s None = []
+planned_sources s (Some g) = admitted_sources s (known_at (known_of s.desk) g.derivation)
+
+-- the trees of the records that a desk got
+abbrev pub gained : Desk → Desk → List Source
+gained old new = map tree_of_record (drop (length old.records) new.records)
+
+-- those that the desks of all got by an event
+abbrev pub gained_sources : Setup → World → Event → List Source
+gained_sources setup w e = flat_map (λ x. gained (w x) (after setup w e x)) setup.users
+
 -- the trees, with their paths, that a request of a user puts into the table one after another, if it is not refused
 abbrev pub stored_by : Setup → World → List ℕ → Request → List Source
 stored_by setup w u (AddSource name tree) = source_named name tree ∷ []
@@ -43,6 +67,12 @@ stored_by setup w u (Pin class path) = []
 stored_by setup w u (Unpin class) = []
 stored_by setup w u (Closure class) = []
 stored_by setup w u (Take class) = taken_sources (closure_for (sight_of setup w u) class)
+stored_by setup w u (Build derivation) = []
+stored_by setup w u (Status number) = []
+stored_by setup w u (Plan number) = planned_sources (sight_of setup w u) (goal_at number (w u).goals)
+stored_by setup w u (Start number) = []
+stored_by setup w u (Finish number bytes) = gained_sources setup w (record { actor = u; request = Finish number bytes })
+stored_by setup w u (Fail number status) = []
 
 -- one of these trees, put one after another, comes to a path where another is by then
 pub record AreTaken (sources more : List Source) : Type 0 where

@@ -16,16 +16,10 @@ use Rattle.realise.specs.declared.entry.Entry.{Entry}
 use Rattle.realise.specs.declared.entry.Entry.TheVariants as entry
 use Rattle.realise.specs.Holdings.{Holdings, is_on, sources_in, records_in}
 use Rattle.schedule.specs.Stored.{source_of_entry, AreTaken}
-use Rattle.schedule.specs.Sound.{desk_of, IsSound}
+use Rattle.schedule.specs.Sound.{Beside, desk_of, IsSound, IsClosure}
 use Rattle.schedule.specs.Handling.{is_fault, IsKept}
 
 -- ---- entries of a closure
-
--- they are in order, no more than a closure may have, and whole
-pub record IsClosure (entries : List worlds.Entry) : Type 0 where
-  pub whole : IsWhole entries
-  pub in_order : Ascends entry_before entries
-  pub few : length entries ≤ most_entries
 
 -- the path and the tree of an entry
 abbrev pub tree_with_path : worlds.Entry → List ℕ × Tree
@@ -57,17 +51,17 @@ are_roomy entries more limit d =
 -- ---- copying
 
 -- the desk of the model with these entries, if it is within the limits
-abbrev pub copied : List (List ℕ) → ℕ → (List ℕ → Bool) → List Source → Holdings → List worlds.Entry → events.Reply → Outcome
-copied users limit trusted table d entries reply = room (record { users = users; charge = limit }) (with_entries entries (desk_of trusted table d)) reply
+abbrev pub copied : List (List ℕ) → ℕ → Beside → List Source → Holdings → List worlds.Entry → events.Reply → Outcome
+copied users limit beside table d entries reply = room (record { users = users; charge = limit }) (with_entries entries (desk_of beside table d)) reply
 
 -- entries are copied to a desk, all or none
 pub record CopiesEntries (limit : ℕ) (old : List Source) (before : Holdings) (entries : List worlds.Entry) (result : Result (Unit {0}) Refusal) (new : List Source)
     (after : Holdings) : Type 0 where
   -- the desk is the model's then
-  pub fits : (users : List (List ℕ)) (trusted : List ℕ → Bool) (reply : events.Reply)
+  pub fits : (users : List (List ℕ)) (beside : Beside) (reply : events.Reply)
       → MatchResult result
-      (λ _. copied users limit trusted old before entries reply ≡ becomes (desk_of trusted new after) reply)
-      (λ why. is_fault why ≡ false → copied users limit trusted old before entries reply ≡ Err why)
+      (λ _. copied users limit beside old before entries reply ≡ becomes (desk_of beside new after) reply)
+      (λ why. is_fault why ≡ false → copied users limit beside old before entries reply ≡ Err why)
   pub stored : OnOk result (new ≡ put_all (map source_of_entry entries) old)
   pub sound : OnOk result (IsSound new limit after)
   pub kept : OnErr result (IsKept old new before after)

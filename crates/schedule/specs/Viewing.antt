@@ -2,12 +2,12 @@
 use Rattle.std.specs.Prelude.{◌≡◌, ℕ, ◌<◌, Bool, true, List, [], length, map, filter, get_or, All}
 use Rattle.std.specs.List.{range_with_len}
 use Rattle.std.specs.Borrow.{Bor}
-use Rattle.model.specs.Worlds.{Source, are_users}
+use Rattle.model.specs.Worlds.{Source, Goal, are_users}
 use Rattle.model.specs.Outcomes.{view_of}
-use Rattle.trust.specs.Naming.{name_at, trusted_at, IsWithin}
+use Rattle.trust.specs.Naming.{name_at, IsWithin}
 use Rattle.realise.specs.Holdings.{Holdings}
 use Rattle.schedule.specs.Sound.{desk_of}
-use Rattle.schedule.specs.Standing.{parts, world_in}
+use Rattle.schedule.specs.Standing.{beside_at, parts, world_in}
 
 -- the places of a set below a number, in order
 abbrev pub places_of : (ℕ → Bool) → ℕ → List ℕ
@@ -28,6 +28,7 @@ pub record IsView (trust : ℕ → ℕ → Bool) (place : ℕ) (desks view : Lis
   pub places : List ℕ
   pub inside : All (λ p. p < length desks) places
   pub held : view ≡ map (desk_at desks) places
-  pub seen : (users : List (List ℕ)) (limit : ℕ) (table : List Source) → are_users users ≡ true → length desks ≡ length users → IsWithin (length users) trust
-      → let old = parts users limit trust table desks in
-      view_of old.setup (world_in old) (name_at users place) ≡ map (λ p. desk_of (trusted_at users trust p) table (desk_at desks p)) places
+  pub seen : (users : List (List ℕ)) (limit : ℕ) (goals : List (List Goal)) (table : List Source)
+      → are_users users ≡ true → length desks ≡ length users → IsWithin (length users) trust
+      → let old = parts users limit trust goals table desks in
+      view_of old.setup (world_in old) (name_at users place) ≡ map (λ p. desk_of (beside_at users trust goals p) table (desk_at desks p)) places

@@ -1,11 +1,12 @@
 //! What users ask, and what they are answered.
 
-use crate::user::User;
 use aterm::Text;
 use choose::Closure;
+use jobs::State;
 use model::Refusal;
 use nar::Tree;
 use storepath::{Name, StorePath};
+use trust::User;
 
 /// What a user may ask.
 #[derive(Clone, Drop)]
@@ -33,6 +34,20 @@ pub enum Request {
     /// To have on his desk all that the closure of a class has: all of it, or, where it is refused,
     /// nothing. The reply is the path of what serves the class.
     Take(StorePath),
+    /// To have built what the derivation in the file at a path builds. The reply is the number of a new
+    /// goal, which waits.
+    Build(StorePath),
+    /// How far the goal of a number is.
+    Status(u16),
+    /// To find what the goal of a number is built from, as the user sees it now: it is planned then. The
+    /// reply is how far it is.
+    Plan(u16),
+    /// To have on his desk all that the planned goal of a number is built from, and to build it, alone
+    /// or with others. The reply is how far it is.
+    Start(u16),
+    /// The job that the goal of a number leads has ended without an output, and its builder with this
+    /// exit status. The reply is how far the goal is then.
+    Fail(u16, u8),
 }
 
 /// A request, and the user who makes it.
@@ -62,6 +77,10 @@ pub enum Reply {
     Content(Tree),
     /// The entries of a closure, by path, then by the path of the class, with a class before a source.
     Entries(Closure),
+    /// The number of a new goal.
+    GoalNumber(u16),
+    /// How far a goal is.
+    GoalState(State),
     /// Why nothing was done.
     Refused(Refusal),
 }

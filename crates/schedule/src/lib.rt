@@ -6,17 +6,18 @@
 
 mod events;
 mod limits;
+mod output;
 mod requests;
 mod runs;
 mod state;
 mod step;
 mod striking;
-mod user;
 mod view;
 
 pub use events::{Event, Reply, Request};
 pub use limits::{LARGEST_CHARGE, Limits};
+pub use output::Output;
 pub use runs::run;
 pub use state::Core;
 pub use striking::strike;
-pub use user::{User, are_users};
+pub use trust::{User, are_users};

@@ -4,33 +4,41 @@ ghost use Rattle.std.specs.Prelude.{◌≡◌, true, length, position, bytes_eq,
 ghost use Rattle.model.specs.Worlds.{are_users};
 ghost use Rattle.trust.specs.Trusting.{trusts};
 ghost use Rattle.trust.specs.Naming.{IsWithin};
-ghost use Rattle.schedule.specs.Sound.{IsSound};
+ghost use Rattle.schedule.specs.Sound.{IsSound, AreGoalsSound};
 ghost use Rattle.schedule.specs.Standing.{event_of, parts};
 ghost use Rattle.schedule.specs.Handling.{IsHandled};
 
 mod closures;
 mod derivations;
+mod ending;
 mod entries;
+mod goals;
 mod offers;
 mod pins;
+mod planning;
 mod sources;
+mod starting;
 mod taking;
 mod trusting;
 
 use crate::events::{Event, Reply, Request};
 use crate::limits::Limits;
-use crate::user::User;
 use closures::closure;
 use derivations::add_derivation;
+use ending::fail;
+use goals::{build, status};
+use jobs::Jobs;
 use model::Refusal;
 use offers::offer;
 use pins::{pin, unpin};
+use planning::plan;
 use realise::Desk;
 use sources::{add_source, fetch};
+use starting::start;
 use std::alloc::Global;
 use store::Table;
 use taking::take;
-use trust::Trust;
+use trust::{Trust, User};
 use trusting::{add_trust, remove_trust};
 
 /// The place of a user in a list.
@@ -46,6 +54,7 @@ pub(crate) fn handle(
     alloc: Global,
     users: &[User],
     trust: &mut Trust,
+    jobs: &mut Jobs,
     table: &mut Table,
     desks: &mut [Desk],
     limits: Limits,
@@ -55,10 +64,14 @@ pub(crate) fn handle(
     requires within { IsWithin (length users.now) (trusts trust.old) }
     requires paired { length desks.old ≡ length users.now }
     requires sound { All (IsSound table.old.sources limits.charge) desks.old }
-    ensures { IsHandled
-        (parts users.now limits.charge (trusts trust.old) table.old.sources desks.old)
+    requires owned { jobs.old.users ≡ users.now }
+    requires with_goals { length jobs.old.goals ≡ length users.now }
+    requires goals_sound { All (AreGoalsSound table.old.sources) jobs.old.goals }
+    ensures handled { IsHandled
+        (parts users.now limits.charge (trusts trust.old) jobs.old.goals table.old.sources desks.old)
         (event_of event) result
-        (parts users.now limits.charge (trusts trust.new) table.new.sources desks.new) }
+        (parts users.now limits.charge (trusts trust.new) jobs.new.goals table.new.sources desks.new) }
+    ensures owned { jobs.new.users ≡ jobs.old.users }
 {
     let Event { actor, request } = event;
     let Some(place) = place_of(users, &actor) else {
@@ -76,5 +89,14 @@ pub(crate) fn handle(
         Request::Unpin(class) => Ok(unpin(desk, &class)),
         Request::Closure(class) => closure(alloc, trust, table, desks, place, &class),
         Request::Take(class) => take(alloc, trust, table, desks, place, limits, &class),
+        Request::Build(path) => build(jobs, desk, place, path),
+        Request::Status(number) => status(users, trust, jobs, place, number),
+        Request::Plan(number) => plan(alloc, users, trust, jobs, table, desks, place, number),
+        Request::Start(number) => {
+            start(
+                alloc, users, trust, jobs, table, desks, place, limits, number,
+            )
+        }
+        Request::Fail(number, _status) => fail(users, trust, jobs, place, number),
     }
 }

@@ -18,10 +18,10 @@ ghost use Rattle.schedule.specs.Running.{HadMemory, events_served, without_memor
 use crate::events::{Event, Reply};
 use crate::limits::Limits;
 use crate::state::Core;
-use crate::user::User;
 use model::{Refusal, isolation};
 use std::alloc::Global;
 use std::hash::RandomState;
+use trust::User;
 
 /// The answer to an event: the reply, beside the actor. The one error is 90 `Memory`.
 fn answer(alloc: Global, core: &mut Core, event: Event) -> Result<(User, Reply), Refusal>

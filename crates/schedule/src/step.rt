@@ -6,7 +6,7 @@ ghost use Rattle.model.specs.Worlds.{are_users, nothing};
 ghost use Rattle.model.specs.Replies.{is_refused};
 ghost use Rattle.model.specs.declared.refusal.Refusal.TheVariants.{Memory, BadUsers};
 ghost use Rattle.schedule.specs.Sound.{IsEmpty};
-ghost use Rattle.schedule.specs.Standing.{world_of, setup_of, setup_for, IsRefusedFor, stored_in, stored_after, is_stopped, event_of, reply_of, parts_of, HoldsStored};
+ghost use Rattle.schedule.specs.Standing.{world_of, setup_of, setup_for, IsRefusedFor, stored_in, stored_after, is_stopped, event_of, reply_of, parts_of, HoldsStored, KeepsStored};
 ghost use Rattle.schedule.specs.Handling.{IsHandled};
 ghost use Rattle.schedule.specs.Stepping.{IsCoreStep};
 
@@ -14,14 +14,14 @@ use crate::events::{Event, Reply};
 use crate::limits::Limits;
 use crate::requests::handle;
 use crate::state::Core;
-use crate::user::{User, are_users};
+use jobs::Jobs;
 use model::{Refusal, never_fails};
 use realise::Desk;
 use rewrite::one_tree_at_a_path;
 use std::alloc::Global;
 use std::hash::RandomState;
 use store::Table;
-use trust::Trust;
+use trust::{Trust, User, are_users};
 
 /// Empty desks, so many of them.
 fn empty_desks(alloc: Global, hashing: RandomState, count: usize) -> Result<Vec<Desk>, Refusal>
@@ -36,7 +36,7 @@ fn empty_desks(alloc: Global, hashing: RandomState, count: usize) -> Result<Vec<
 }
 
 impl Core {
-    /// A core for these users, with empty desks. `hashing` has the keys of its hashers.
+    /// A core for these users, with empty desks and no goals. `hashing` has the keys of its hashers.
     ///
     /// The limit of a charge is at most 1,073,741,824 bytes.
     ///
@@ -62,10 +62,12 @@ impl Core {
         if !are_users(users.as_slice()) {
             return Err(Refusal::BadUsers);
         }
+        let jobs = Jobs::new(alloc, hashing, users.as_slice())?;
         let desks = empty_desks(alloc, hashing, users.len())?;
         Ok(Core {
             users,
             trust: Trust::new(),
+            jobs,
             desks,
             table: Table::new(alloc, hashing),
             limits,
@@ -81,6 +83,7 @@ impl Core {
             alloc,
             self.users.as_slice(),
             &mut self.trust,
+            &mut self.jobs,
             &mut self.table,
             self.desks.as_mut_slice(),
             self.limits,
@@ -103,6 +106,7 @@ impl Core {
             ≡ stored_after (setup_of self.old) (world_of self.old) (event_of event)
             (stored_in self.old) }
         ensures holds { HoldsStored self.new }
+        ensures keeps { KeepsStored self.new }
     {
         one_tree_at_a_path();
         never_fails();

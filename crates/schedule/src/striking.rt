@@ -10,9 +10,8 @@ ghost use Rattle.schedule.specs.Ever.{run_of, gives, IsGiven, why_untold};
 
 use crate::events::{Event, Request};
 use crate::requests::place_of;
-use crate::user::{User, are_users};
 use model::Refusal;
-use trust::Trust;
+use trust::{Trust, User, are_users};
 
 /// Has one user trust another where an event says so, and both are of the list.
 fn hear(trust: &mut Trust, users: &[User], event: &Event)

@@ -9,7 +9,7 @@ use std::alloc::{AllocError, Global};
 use trust::Trust;
 
 /// Whether a place is in a word of places.
-fn has_place(word: u64, place: usize) -> bool
+pub(crate) fn has_place(word: u64, place: usize) -> bool
     requires { place < 64 }
     ensures { result ≡ holds word place }
 {

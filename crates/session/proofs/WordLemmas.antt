@@ -1,11 +1,16 @@
 -- Names of users, and how many words of a line are read.
-use Rattle.std.proofs.Common.{◌≡◌, ℕ, zero, suc, ◌-◌, ◌<◌, Bool, true, false, ◌&&◌, leb, ltb, List, [], ◌∷◌, get_or, take, length, length-take, refl, sym, ap, ◌∙◌, arith, inl, inr}
-use Rattle.std.specs.List.{list_all}
+use Rattle.std.proofs.Common.{cond, not, ◌||◌, ◌==◌, Option, Some, None, ◌≡◌, ℕ, zero, suc, ◌-◌, ◌<◌, Bool, true, false, ◌&&◌, leb, ltb, List, [], ◌∷◌, get_or, take, length, length-take, refl, sym, ap, ◌∙◌, arith, inl, inr}
+use Rattle.std.specs.Prelude.{option_map}
+use Rattle.std.specs.Global.{Vec}
+use Rattle.std.specs.List.{list_all, list_any}
 use Rattle.std.proofs.lemmas.List.{take_all}
-use Rattle.std.proofs.lemmas.Bool.{cases_lt}
+use Rattle.std.proofs.lemmas.Bool.{cases_lt, eqb-true}
 use Rattle.model.specs.declared.refusal.Refusal.TheVariants.{BadUsers}
 use Rattle.model.specs.Worlds.{is_user_name, are_users, begins_with_letter}
-use Rattle.model.specs.Forms.{Refuses, names_form, users_form}
+use Rattle.model.specs.declared.verb.WordKind.{WordKind}
+use Rattle.model.specs.declared.verb.WordKind.TheVariants as kind
+use Rattle.model.specs.Lines.{split}
+use Rattle.model.specs.Forms.{Refuses, names_form, users_form, is_empty_word, is_text, so_many, words_by}
 
 and-false : (a : Bool) → (a && false) ≡ false
 and-false true = refl
@@ -50,3 +55,31 @@ pub users_form-take : (n : ℕ) (words : List (List ℕ)) → 65 < n → users_f
 users_form-take n words h =
     let e : n ≡ suc (n - 1) = omega arith in
     ap (λ m. users_form (take m words)) e ∙ users_form-take_more (n - 1) words (omega arith)
+
+some-of : {A : Type 0} (x y : A) → Some x ≡ Some y → x ≡ y
+some-of x y h = cc h
+
+count-kept : (a b : Bool) (words ws : List (List ℕ)) → cond (a || not b) None (Some words) ≡ Some ws → (b ≡ true) × (words ≡ ws)
+count-kept true b words ws h = cc h
+count-kept false true words ws h = (refl, some-of words ws h)
+count-kept false false words ws h = cc h
+
+so_many-length : (count : ℕ) (words ws : List (List ℕ)) → so_many count words ≡ Some ws → length ws ≡ count
+so_many-length count words ws h =
+    let kept = count-kept (list_any is_empty_word words) (length words == count) words ws h in
+    sym (ap length kept.1) ∙ eqb-true (length words) count kept.0
+
+text-one : (kinds : List WordKind) → is_text kinds ≡ true → length kinds ≡ 1
+text-one (kind.Text ∷ []) h = refl
+text-one kinds h = cc h
+
+by-text : (b : Bool) (kinds : List WordKind) (text : List ℕ) (ws : List (List ℕ)) → is_text kinds ≡ b
+    → cond b (Some (text ∷ [])) (so_many (length kinds) (split 32 text)) ≡ Some ws → length ws ≡ length kinds
+by-text true kinds text ws e h = sym (ap length (some-of (text ∷ []) ws h)) ∙ sym (text-one kinds e)
+by-text false kinds text ws e h = so_many-length (length kinds) (split 32 text) ws h
+
+-- words by kinds are as many as these
+pub words_by-length : (kinds kinds' : List WordKind) (text : List ℕ) (words : Option (Vec (List ℕ))) (ws : Vec (List ℕ))
+    → option_map (λ w. w.items) words ≡ words_by kinds text → words ≡ Some ws → kinds ≡ kinds' → length ws.items ≡ length kinds'
+words_by-length kinds kinds' text words ws h e k =
+    by-text (is_text kinds) kinds text ws.items refl (sym h ∙ ap (option_map (λ w. w.items)) e) ∙ ap length k

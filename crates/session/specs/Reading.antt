@@ -1,9 +1,10 @@
 -- What reading a line gives, against the line's form.
-use Rattle.std.specs.Prelude.{◌≡◌, ◌⊎◌, ℕ, List, ◌∷◌, Result, MatchResult}
+use Rattle.std.specs.Prelude.{◌≡◌, ◌⊎◌, ℕ, nat_le, ◌&&◌, if◌then◌else◌, List, ◌∷◌, Option, None, Some, Result, MatchResult}
 use Rattle.model.specs.declared.refusal.Refusal.{Refusal}
 use Rattle.model.specs.declared.refusal.Refusal.TheVariants.{Memory}
 use Rattle.model.specs.declared.verb.WordKind.TheVariants as kind
-use Rattle.model.specs.Words.{AreWell, FirstIll}
+use Rattle.model.specs.Lines.{is_numeral}
+use Rattle.model.specs.Words.{AreWell, FirstIll, number_in}
 use Rattle.model.specs.Verbs.{kinds_of, IsRequestOf}
 use Rattle.model.specs.Forms.{Form, Wish}
 use Rattle.model.specs.Forms as form
@@ -14,6 +15,10 @@ use Rattle.schedule.specs.declared.events.Request.{Request}
 use Rattle.schedule.specs.Standing.{event_of, request_of}
 use Rattle.session.specs.declared.reading.Reading.{Reading}
 use Rattle.session.specs.declared.reading.Reading.TheVariants as reading
+
+-- the number of a numeral that writes at most that
+abbrev pub numeral_up_to : ℕ → List ℕ → Option ℕ
+numeral_up_to most word = if is_numeral word && nat_le (number_in word) most then Some (number_in word) else None
 
 -- a wish makes this request
 abbrev pub IsRequestOfWish : Wish → Request → Type 0

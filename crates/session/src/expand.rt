@@ -1,11 +1,10 @@
 //! The expansions of a line.
 
 ghost use Rattle.std.specs.Prelude.{◌≡◌, ◌∷◌, ◌++◌, [], IfOk, OnOk, MatchOption, if◌then◌else◌, option_map, slice_index_or};
-ghost use Rattle.std.specs.List.{list_all};
-ghost use Rattle.model.specs.Characters.{is_digit};
-ghost use Rattle.model.specs.Lines.{is_numeral, named_line, is_letter, expansion_in, nothing_told, told_by, part_by, expanded, piece_text, joined, filled};
+ghost use Rattle.model.specs.Lines.{named_line, is_letter, expansion_in, nothing_told, told_by, part_by, expanded, piece_text, joined, filled};
 
 use crate::cut::cut;
+use crate::numbers::numeral_up_to;
 use crate::told::Told;
 use std::alloc::{AllocError, Global};
 use std::marker::Model;
@@ -29,41 +28,12 @@ impl<'a> Model for Expansion<'a> {
     ghost view = { λ e. record { letter = e.letter; line = e.line; rest = e.rest.now } };
 }
 
-fn is_numeral(digits: &[u8]) -> bool
-    ensures { result ≡ is_numeral digits.now }
-{
-    match digits {
-        [] => false,
-        [first, others @ ..] => 49 <= *first && *first <= 57 && are_digits(others),
-    }
-}
-
-fn are_digits(digits: &[u8]) -> bool
-    ensures { result ≡ list_all is_digit digits.now }
-{
-    digits.iter().all(|digit| 48 <= *digit && *digit <= 57)
-}
-
 /// The place of the line that digits name, where `count` lines are earlier.
 fn named_line(count: usize, digits: &[u8]) -> Option<usize>
     ensures { result ≡ named_line count digits.now }
 {
-    if !is_numeral(digits) {
-        return None;
-    }
-    let count = count as u128;
-    let mut number = 0u128;
-    for digit in digits {
-        if count < number {
-            return None;
-        }
-        number = 10 * number + u128::from(digit.saturating_sub(48));
-    }
-    if number <= count {
-        Some((number as usize).saturating_sub(1))
-    } else {
-        None
-    }
+    let number = numeral_up_to(count, digits)?;
+    Some(number.saturating_sub(1))
 }
 
 fn is_letter(letter: u8) -> bool

@@ -17,6 +17,7 @@ mod cut;
 mod entries;
 mod expand;
 mod forms;
+mod numbers;
 mod prefixed;
 mod reading;
 mod serving;

@@ -5,6 +5,7 @@ ghost use Rattle.model.specs.Lines.{nothing_told};
 ghost use Rattle.model.specs.Talk.{told_in};
 ghost use Rattle.schedule.specs.Standing.{reply_of};
 
+use jobs::State;
 use schedule::Reply;
 use std::marker::Model;
 use storepath::StorePath;
@@ -41,7 +42,7 @@ pub(crate) fn told_in(reply: Reply) -> Told
     ensures { result ≡ told_in (reply_of reply) }
 {
     match reply {
-        Reply::Path(path) => Told {
+        Reply::Path(path) | Reply::GoalState(State::Done(path)) => Told {
             path: Some(path),
             class: None,
         },
@@ -49,6 +50,11 @@ pub(crate) fn told_in(reply: Reply) -> Told
             path: Some(path),
             class: Some(class),
         },
-        Reply::Done | Reply::Content(_) | Reply::Entries(_) | Reply::Refused(_) => Told::nothing(),
+        Reply::Done
+        | Reply::Content(_)
+        | Reply::Entries(_)
+        | Reply::GoalNumber(_)
+        | Reply::GoalState(_)
+        | Reply::Refused(_) => Told::nothing(),
     }
 }

@@ -6,7 +6,7 @@ ghost use Rattle.model.specs.Forms.{is_text, words_by, wish_in};
 ghost use Rattle.session.specs.Reading.{IsRequestOfWish, IsNoRequest, IsEventOfWish, IsNoEvent};
 
 use crate::cut::{Word, cut, first_words, has_empty_word, one_word};
-use crate::words::{read_text, read_tree, read_user};
+use crate::words::{read_exit_status, read_number, read_text, read_tree, read_user};
 use model::{Refusal, Verb, WordKind};
 use schedule::{Event, Request};
 use std::alloc::{AllocError, Global};
@@ -101,6 +101,14 @@ fn request_of(alloc: Global, wish: &Wish<'_>) -> Result<Request, Refusal>
         (Verb::Closure, [class]) => Ok(Request::Closure(read_path(alloc, class.bytes())?)),
         (Verb::Unpin, [class]) => Ok(Request::Unpin(read_path(alloc, class.bytes())?)),
         (Verb::Take, [class]) => Ok(Request::Take(read_path(alloc, class.bytes())?)),
+        (Verb::Build, [path]) => Ok(Request::Build(read_path(alloc, path.bytes())?)),
+        (Verb::Status, [number]) => Ok(Request::Status(read_number(number.bytes())?)),
+        (Verb::Plan, [number]) => Ok(Request::Plan(read_number(number.bytes())?)),
+        (Verb::Start, [number]) => Ok(Request::Start(read_number(number.bytes())?)),
+        (Verb::Fail, [number, status]) => Ok(Request::Fail(
+            read_number(number.bytes())?,
+            read_exit_status(status.bytes())?,
+        )),
         _ => Err(Refusal::BadLine),
     }
 }

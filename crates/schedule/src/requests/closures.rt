@@ -7,7 +7,7 @@ ghost use Rattle.trust.specs.Trusting.{trusts};
 ghost use Rattle.schedule.specs.Viewing.{desk_at};
 ghost use Rattle.schedule.specs.Serving.{IsServedAt};
 ghost use Rattle.schedule.specs.Handling.{IsHandledBySight};
-ghost use Rattle.schedule.specs.Taking.{IsClosure};
+ghost use Rattle.schedule.specs.Sound.{IsClosure};
 
 use crate::events::Reply;
 use crate::view::desks_in_view;

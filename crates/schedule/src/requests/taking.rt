@@ -3,14 +3,14 @@
 ghost use Rattle.std.specs.Prelude.{◌≡◌, ◌<◌, ◌≤◌, ◌⊎◌, ◌+◌, map, Some, None, All, length, nat_le, slice_set, IfOk, IfErr, MatchResult};
 ghost use Rattle.model.specs.Limits.{most_sources, most_records};
 ghost use Rattle.model.specs.Events.{Take as TakeRequest};
-ghost use Rattle.model.specs.ClosureRequests.{path_for};
+ghost use Rattle.model.specs.Closures.{path_for};
 ghost use Rattle.model.specs.declared.refusal.Refusal.TheVariants.{Memory, NotRealised};
 ghost use Rattle.realise.specs.Holdings.{sources_in, records_in};
 ghost use Rattle.trust.specs.Trusting.{trusts};
-ghost use Rattle.schedule.specs.Sound.{IsSound};
+ghost use Rattle.schedule.specs.Sound.{IsSound, IsClosure};
 ghost use Rattle.schedule.specs.Viewing.{desk_at};
 ghost use Rattle.schedule.specs.Handling.{IsHandledBySight};
-ghost use Rattle.schedule.specs.Taking.{tree_with_path, counted, bare, missing_on, are_roomy, IsClosure, CopiesEntries};
+ghost use Rattle.schedule.specs.Taking.{tree_with_path, counted, bare, missing_on, are_roomy, CopiesEntries};
 
 use super::closures::entries_for;
 use crate::events::Reply;
@@ -41,7 +41,10 @@ fn path_for(class: &StorePath, entries: &[choose::Entry]) -> Result<StorePath, R
 }
 
 /// The trees of entries, with their paths. The one error is memory.
-fn trees_of(alloc: Global, entries: &[choose::Entry]) -> Result<Vec<(StorePath, Tree)>, Refusal>
+pub(super) fn trees_of(
+    alloc: Global,
+    entries: &[choose::Entry],
+) -> Result<Vec<(StorePath, Tree)>, Refusal>
     ensures { MatchResult result
         (λ trees. trees.items ≡ map tree_with_path entries.now)
         (λ e. e ≡ Memory) }
@@ -134,7 +137,7 @@ fn without_bytes(alloc: Global, counted: Vec<(Entry, u64)>) -> Result<Vec<Entry>
 
 /// Copies entries to a desk, those that it does not have, and their trees to the table where their
 /// paths are new there. All that needs memory comes before the first change.
-fn copy_all(
+pub(super) fn copy_all(
     alloc: Global,
     table: &mut Table,
     desk: &mut Desk,

@@ -8,9 +8,8 @@ ghost use Rattle.schedule.specs.Handling.{IsHandledByTrust};
 
 use super::place_of;
 use crate::events::Reply;
-use crate::user::User;
 use model::Refusal;
-use trust::Trust;
+use trust::{Trust, User};
 
 /// From now on the user at a place trusts another. That he trusts himself says nothing new.
 pub(super) fn add_trust(

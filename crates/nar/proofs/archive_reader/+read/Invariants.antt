@@ -1,7 +1,5 @@
-use Rattle.std.proofs.Common.{◌≡◌, ◌++◌, ◌+◌, ◌-◌, ◌*◌, ◌≤◌, [], length}
-use Rattle.model.specs.Archives.{Entries, entries_text, AreSound, deepest}
-use Rattle.nar.specs.NodeTrees.{entries_of, chained, named_trees}
-use Rattle.nar.specs.ArchiveReading.{entries_at, node_at}
+use Rattle.std.proofs.Common.{◌≡◌, ◌+◌, ◌-◌, ◌*◌, [], length}
+use Rattle.model.specs.ArchiveReading.{entries_at, node_at}
 use Rattle.nar.proofs.ReadEntries.{behind}
 use Rattle.nar.proofs.archive_reader.+read.Given as goal
 
@@ -21,9 +19,5 @@ abbrev pub decreases-read_body : goal.decreases-read_body
 decreases-read_body l = 5 * l.depth + 4
 
 abbrev pub invariant-read_entries-loop : goal.invariant-read_entries-loop
-invariant-read_entries-loop l = record {
-  found : l.bytes ≡ entries_text (entries_of l.entries.items) ++ l.rest;
-  sound : (fs : Entries) → AreSound l.last fs → AreSound [] (chained (named_trees l.entries.items) fs);
-  depth : deepest (entries_of l.entries.items) ≤ l.depth;
-  exact : entries_at (node_at l.depth) (length l.bytes) [] l.bytes ≡ behind l.entries.items (entries_at (node_at l.depth) (length l.bytes - l.counter) l.last l.rest);
-}
+invariant-read_entries-loop l =
+    entries_at (node_at l.depth) (length l.bytes) [] l.bytes ≡ behind l.entries.items (entries_at (node_at l.depth) (length l.bytes - l.counter) l.last l.rest)

@@ -1,118 +1,81 @@
-use Rattle.std.proofs.Common.{◌≡◌, ℕ, List, get_or, sym, ◌∙◌, subst, Some, Ok}
+use Rattle.std.proofs.Common.{◌≡◌, ℕ, List, get_or, sym, ◌∙◌, ap, subst, Some, Ok}
 use Rattle.std.proofs.lemmas.List.{set-get_or}
-use Rattle.std.specs.Prelude.{All, slice_get, slice_set, position, bytes_eq, length, ◌≤◌}
+use Rattle.std.specs.Prelude.{All, slice_set, position, bytes_eq, length, ◌≤◌}
 use Rattle.trust.specs.Trusting.{trusts}
-use Rattle.model.specs.Worlds.{Source}
+use Rattle.model.specs.Worlds.{Source, Goal}
+use Rattle.jobs.specs.Owned.{OwnedByAll, goals_at}
 use Rattle.realise.specs.Holdings.{Holdings}
 use Rattle.schedule.specs.Sound.{IsSound}
 use Rattle.schedule.specs.Standing.{event_of, parts}
-use Rattle.model.specs.Events.{Closure as ClosureRequest, Take as TakeRequest}
+use Rattle.model.specs.Events.{Closure as ClosureRequest, Take as TakeRequest, Plan as PlanRequest, Start as StartRequest}
 use Rattle.choose.specs.Visible.{IsComplete}
 use Rattle.schedule.specs.Viewing.{bare, desk_at}
-use Rattle.schedule.specs.Handling.{IsHandled, IsHandledBySight}
-use Rattle.schedule.proofs.TrustLemmas.{few_users}
+use Rattle.schedule.specs.Handling.{IsHandled, IsHandledBySight, IsHandledAtPlace}
+use Rattle.schedule.proofs.TrustLemmas.{few_users, put_back}
 use Rattle.schedule.proofs.ClosureLemmas.{all_complete}
-use Rattle.schedule.proofs.HandlingLemmas.{stranger, in_world, at_desk, place_there, sound_at}
-use Rattle.schedule.proofs.TrustLemmas.{put_back}
+use Rattle.schedule.proofs.HandlingLemmas.{asking, stranger, at_desk, by_desk, by_sight, by_goals, by_reading, at_place}
 use Rattle.schedule.proofs.requests.handle.Goals as goal
 
-pub returns-in_default : goal.returns-in_default
-returns-in_default c =
-    stranger c.args.users.now c.args.limits.charge (trusts c.args.trust.now) c.args.table.now.sources c.args.desks.now
-    (event_of c.args.event) c.requires.sound c.requires.within (sym c.in_default.ensures)
+pub returns-in_default-clause-handled : goal.returns-in_default-clause-handled
+returns-in_default-clause-handled c = stranger _ (event_of c.args.event) c.requires.sound c.requires.goals_sound c.requires.within (sym c.in_default.ensures)
 
-pub returns-in-AddSource : goal.returns-in-AddSource
-returns-in-AddSource c =
-    let i : ℕ = c.in-Some.place in
-    let found : position (λ n. bytes_eq n c.args.event.actor) c.args.users.now ≡ Some i = sym c.in-Some.ensures in
-    let desk : Holdings = get_or c.args.desks.now i c.index-desks-place.result in
-    let here : slice_get c.args.desks.now i ≡ Some desk =
-    place_there c.args.users.now c.args.desks.now c.args.event.actor i c.index-desks-place.result c.requires.paired found in
-    at_desk c.args.users.now c.args.limits.charge (trusts c.args.trust.now) c.args.table.now.sources c.add_source.new.table.sources c.args.desks.now
-    (event_of c.args.event) i desk c.add_source.new.desk c.add_source.result
-    c.requires.sound c.requires.within found here (rw c.in-AddSource.is c.add_source.ensures)
+pub returns-in-AddSource-clause-handled : goal.returns-in-AddSource-clause-handled
+returns-in-AddSource-clause-handled c =
+    let asks = asking c.requires.listed c.requires.within c.requires.paired c.requires.sound c.requires.with_goals c.requires.goals_sound
+    (sym c.in-Some.ensures) in
+    at_desk _ (event_of c.args.event) c.in-Some.place asks c.index-desks-place.result c.add_source.new.table.sources c.add_source.new.desk c.add_source.result
+    (rw c.in-AddSource.is c.add_source.ensures)
 
-pub returns-in-AddDerivation : goal.returns-in-AddDerivation
-returns-in-AddDerivation c =
-    let i : ℕ = c.in-Some.place in
-    let found : position (λ n. bytes_eq n c.args.event.actor) c.args.users.now ≡ Some i = sym c.in-Some.ensures in
-    let desk : Holdings = get_or c.args.desks.now i c.index-desks-place.result in
-    let here : slice_get c.args.desks.now i ≡ Some desk =
-    place_there c.args.users.now c.args.desks.now c.args.event.actor i c.index-desks-place.result c.requires.paired found in
-    let sound : IsSound c.args.table.now.sources c.args.limits.charge desk =
-    sound_at c.args.table.now.sources c.args.limits.charge c.args.desks.now i desk c.requires.sound here in
-    at_desk c.args.users.now c.args.limits.charge (trusts c.args.trust.now) c.args.table.now.sources c.args.table.now.sources c.args.desks.now
-    (event_of c.args.event) i desk c.add_derivation.new.desk c.add_derivation.result
-    c.requires.sound c.requires.within found here
-    (rw (c.in-AddDerivation.is, ← c.bytes.ensures) (c.add_derivation.ensures c.args.table.now.sources c.args.limits.charge sound))
+pub returns-in-AddDerivation-clause-handled : goal.returns-in-AddDerivation-clause-handled
+returns-in-AddDerivation-clause-handled c =
+    let asks = asking c.requires.listed c.requires.within c.requires.paired c.requires.sound c.requires.with_goals c.requires.goals_sound
+    (sym c.in-Some.ensures) in
+    by_desk _ (event_of c.args.event) c.in-Some.place asks c.index-desks-place.result c.add_derivation.new.desk c.add_derivation.result
+    (rw (c.in-AddDerivation.is, ← c.bytes.ensures) (c.add_derivation.ensures c.args.table.now.sources))
 
-pub returns-in-Offer : goal.returns-in-Offer
-returns-in-Offer c =
-    let i : ℕ = c.in-Some.place in
-    let found : position (λ n. bytes_eq n c.args.event.actor) c.args.users.now ≡ Some i = sym c.in-Some.ensures in
-    let desk : Holdings = get_or c.args.desks.now i c.index-desks-place.result in
-    let here : slice_get c.args.desks.now i ≡ Some desk =
-    place_there c.args.users.now c.args.desks.now c.args.event.actor i c.index-desks-place.result c.requires.paired found in
-    at_desk c.args.users.now c.args.limits.charge (trusts c.args.trust.now) c.args.table.now.sources c.offer.new.table.sources c.args.desks.now
-    (event_of c.args.event) i desk c.offer.new.desk c.offer.result
-    c.requires.sound c.requires.within found here (rw c.in-Offer.is c.offer.ensures)
+pub returns-in-Offer-clause-handled : goal.returns-in-Offer-clause-handled
+returns-in-Offer-clause-handled c =
+    let asks = asking c.requires.listed c.requires.within c.requires.paired c.requires.sound c.requires.with_goals c.requires.goals_sound
+    (sym c.in-Some.ensures) in
+    at_desk _ (event_of c.args.event) c.in-Some.place asks c.index-desks-place.result c.offer.new.table.sources c.offer.new.desk c.offer.result
+    (rw c.in-Offer.is c.offer.ensures)
 
-pub returns-in-Fetch : goal.returns-in-Fetch
-returns-in-Fetch c =
-    let i : ℕ = c.in-Some.place in
-    let found : position (λ n. bytes_eq n c.args.event.actor) c.args.users.now ≡ Some i = sym c.in-Some.ensures in
-    let desk : Holdings = get_or c.args.desks.now i c.index-desks-place.result in
-    let here : slice_get c.args.desks.now i ≡ Some desk =
-    place_there c.args.users.now c.args.desks.now c.args.event.actor i c.index-desks-place.result c.requires.paired found in
-    let sound : IsSound c.args.table.now.sources c.args.limits.charge desk =
-    sound_at c.args.table.now.sources c.args.limits.charge c.args.desks.now i desk c.requires.sound here in
-    at_desk c.args.users.now c.args.limits.charge (trusts c.args.trust.now) c.args.table.now.sources c.args.table.now.sources c.args.desks.now
-    (event_of c.args.event) i desk desk c.fetch.result
-    c.requires.sound c.requires.within found here (rw c.in-Fetch.is (c.fetch.ensures c.args.limits.charge sound))
+pub returns-in-Fetch-clause-handled : goal.returns-in-Fetch-clause-handled
+returns-in-Fetch-clause-handled c =
+    let asks = asking c.requires.listed c.requires.within c.requires.paired c.requires.sound c.requires.with_goals c.requires.goals_sound
+    (sym c.in-Some.ensures) in
+    by_desk _ (event_of c.args.event) c.in-Some.place asks c.index-desks-place.result _ c.fetch.result
+    (rw c.in-Fetch.is c.fetch.ensures)
 
-pub returns-in-Trust : goal.returns-in-Trust
-returns-in-Trust c =
-    let found : position (λ n. bytes_eq n c.args.event.actor) c.args.users.now ≡ Some c.in-Some.place = sym c.in-Some.ensures in
-    put_back c.args.users.now c.args.limits.charge (trusts c.args.trust.now) (trusts c.add_trust.new.trust) c.args.table.now.sources c.args.desks.now
-    (event_of c.args.event) c.in-Some.place c.index-desks-place.result c.add_trust.result
+pub returns-in-Trust-clause-handled : goal.returns-in-Trust-clause-handled
+returns-in-Trust-clause-handled c =
+    put_back c.args.users.now c.args.limits.charge (trusts c.args.trust.now) (trusts c.add_trust.new.trust) c.args.jobs.now.goals
+    c.args.table.now.sources c.args.desks.now (event_of c.args.event) c.in-Some.place c.index-desks-place.result c.add_trust.result
     (rw c.in-Trust.is
-    (c.add_trust.ensures c.args.limits.charge c.args.table.now.sources c.args.desks.now c.args.event.actor found
-    c.requires.paired c.requires.sound c.requires.within))
+    (c.add_trust.ensures c.args.limits.charge c.args.jobs.now.goals c.args.table.now.sources c.args.desks.now c.args.event.actor (sym c.in-Some.ensures)
+    c.requires.paired c.requires.sound c.requires.goals_sound c.requires.within))
 
-pub returns-in-Distrust : goal.returns-in-Distrust
-returns-in-Distrust c =
-    let found : position (λ n. bytes_eq n c.args.event.actor) c.args.users.now ≡ Some c.in-Some.place = sym c.in-Some.ensures in
-    put_back c.args.users.now c.args.limits.charge (trusts c.args.trust.now) (trusts c.remove_trust.new.trust) c.args.table.now.sources c.args.desks.now
-    (event_of c.args.event) c.in-Some.place c.index-desks-place.result c.remove_trust.result
+pub returns-in-Distrust-clause-handled : goal.returns-in-Distrust-clause-handled
+returns-in-Distrust-clause-handled c =
+    put_back c.args.users.now c.args.limits.charge (trusts c.args.trust.now) (trusts c.remove_trust.new.trust) c.args.jobs.now.goals
+    c.args.table.now.sources c.args.desks.now (event_of c.args.event) c.in-Some.place c.index-desks-place.result c.remove_trust.result
     (rw c.in-Distrust.is
-    (c.remove_trust.ensures c.args.limits.charge c.args.table.now.sources c.args.desks.now c.args.event.actor found
-    c.requires.paired c.requires.sound c.requires.within))
+    (c.remove_trust.ensures c.args.limits.charge c.args.jobs.now.goals c.args.table.now.sources c.args.desks.now c.args.event.actor (sym c.in-Some.ensures)
+    c.requires.paired c.requires.sound c.requires.goals_sound c.requires.within))
 
-pub returns-in-Pin : goal.returns-in-Pin
-returns-in-Pin c =
-    let i : ℕ = c.in-Some.place in
-    let found : position (λ n. bytes_eq n c.args.event.actor) c.args.users.now ≡ Some i = sym c.in-Some.ensures in
-    let desk : Holdings = get_or c.args.desks.now i c.index-desks-place.result in
-    let here : slice_get c.args.desks.now i ≡ Some desk =
-    place_there c.args.users.now c.args.desks.now c.args.event.actor i c.index-desks-place.result c.requires.paired found in
-    let sound : IsSound c.args.table.now.sources c.args.limits.charge desk =
-    sound_at c.args.table.now.sources c.args.limits.charge c.args.desks.now i desk c.requires.sound here in
-    at_desk c.args.users.now c.args.limits.charge (trusts c.args.trust.now) c.args.table.now.sources c.args.table.now.sources c.args.desks.now
-    (event_of c.args.event) i desk c.pin.new.desk c.pin.result
-    c.requires.sound c.requires.within found here (rw c.in-Pin.is (c.pin.ensures c.args.table.now.sources c.args.limits.charge sound))
+pub returns-in-Pin-clause-handled : goal.returns-in-Pin-clause-handled
+returns-in-Pin-clause-handled c =
+    let asks = asking c.requires.listed c.requires.within c.requires.paired c.requires.sound c.requires.with_goals c.requires.goals_sound
+    (sym c.in-Some.ensures) in
+    by_desk _ (event_of c.args.event) c.in-Some.place asks c.index-desks-place.result c.pin.new.desk c.pin.result
+    (rw c.in-Pin.is (c.pin.ensures c.args.table.now.sources))
 
-pub returns-in-Unpin : goal.returns-in-Unpin
-returns-in-Unpin c =
-    let i : ℕ = c.in-Some.place in
-    let found : position (λ n. bytes_eq n c.args.event.actor) c.args.users.now ≡ Some i = sym c.in-Some.ensures in
-    let desk : Holdings = get_or c.args.desks.now i c.index-desks-place.result in
-    let here : slice_get c.args.desks.now i ≡ Some desk =
-    place_there c.args.users.now c.args.desks.now c.args.event.actor i c.index-desks-place.result c.requires.paired found in
-    let sound : IsSound c.args.table.now.sources c.args.limits.charge desk =
-    sound_at c.args.table.now.sources c.args.limits.charge c.args.desks.now i desk c.requires.sound here in
-    at_desk c.args.users.now c.args.limits.charge (trusts c.args.trust.now) c.args.table.now.sources c.args.table.now.sources c.args.desks.now
-    (event_of c.args.event) i desk c.unpin.new.desk (Ok c.unpin.result)
-    c.requires.sound c.requires.within found here (rw c.in-Unpin.is (c.unpin.ensures c.args.table.now.sources c.args.limits.charge sound))
+pub returns-in-Unpin-clause-handled : goal.returns-in-Unpin-clause-handled
+returns-in-Unpin-clause-handled c =
+    let asks = asking c.requires.listed c.requires.within c.requires.paired c.requires.sound c.requires.with_goals c.requires.goals_sound
+    (sym c.in-Some.ensures) in
+    by_desk _ (event_of c.args.event) c.in-Some.place asks c.index-desks-place.result c.unpin.new.desk (Ok c.unpin.result)
+    (rw c.in-Unpin.is (c.unpin.ensures c.args.table.now.sources))
 
 -- a desk that is lent and not changed leaves the desks
 kept_desks : (desks : List Holdings) (i : ℕ) (d : Holdings) → slice_set desks i (get_or desks i d) ≡ desks
@@ -129,24 +92,20 @@ closure-requires-clause-complete c =
     (sym (kept_desks c.args.desks.now c.in-Some.place c.index-desks-place.result))
     (all_complete c.args.table.now.sources c.args.limits.charge c.args.desks.now c.requires.sound)
 
-pub returns-in-Closure : goal.returns-in-Closure
-returns-in-Closure c =
-    let users : List (List ℕ) = c.args.users.now in
-    let desks : List Holdings = c.args.desks.now in
+pub returns-in-Closure-clause-handled : goal.returns-in-Closure-clause-handled
+returns-in-Closure-clause-handled c =
     let trust = trusts c.args.trust.now in
     let limit : ℕ = c.args.limits.charge in
-    let sources : List Source = c.args.table.now.sources in
+    let table : List Source = c.args.table.now.sources in
     let i : ℕ = c.in-Some.place in
-    let found : position (λ n. bytes_eq n c.args.event.actor) users ≡ Some i = sym c.in-Some.ensures in
-    let kept = kept_desks desks i c.index-desks-place.result in
-    let by_sight = subst (λ (ds : List Holdings). IsHandledBySight trust limit sources ds i (ClosureRequest c.in-Closure.class) c.closure.result sources (desk_at ds i))
+    let kept = kept_desks c.args.desks.now i c.index-desks-place.result in
+    let sees = subst (λ (ds : List Holdings). IsHandledBySight trust limit table ds i (ClosureRequest c.in-Closure.class) c.closure.result table (desk_at ds i))
     kept (c.closure.ensures limit) in
-    subst (λ (ds : List Holdings).
-    IsHandled (parts users limit trust sources desks) (event_of c.args.event) c.closure.result (parts users limit trust sources ds))
-    (kept_desks desks i bare ∙ sym kept)
-    (in_world users limit trust sources sources desks (event_of c.args.event) i (desk_at desks i) (desk_at desks i) c.closure.result
-    c.requires.sound c.requires.within found (place_there users desks c.args.event.actor i bare c.requires.paired found)
-    (rw c.in-Closure.is (by_sight users c.args.event.actor c.requires.listed found c.requires.paired c.requires.sound c.requires.within)))
+    let asks = asking c.requires.listed c.requires.within c.requires.paired c.requires.sound c.requires.with_goals c.requires.goals_sound
+    (sym c.in-Some.ensures) in
+    subst (λ (ds : List Holdings). IsHandled (parts c.args.users.now limit trust c.args.jobs.now.goals table c.args.desks.now) (event_of c.args.event)
+    c.closure.result (parts c.args.users.now limit trust c.args.jobs.now.goals table ds)) (kept_desks c.args.desks.now i bare ∙ sym kept)
+    (by_sight _ (event_of c.args.event) i asks table (desk_at c.args.desks.now i) c.closure.result (rw c.in-Closure.is sees))
 
 pub take-requires-clause-few : goal.take-requires-clause-few
 take-requires-clause-few c =
@@ -158,25 +117,113 @@ take-requires-clause-sound c =
     subst (λ (ds : List Holdings). All (IsSound c.args.table.now.sources c.args.limits.charge) ds)
     (sym (kept_desks c.args.desks.now c.in-Some.place c.index-desks-place.result)) c.requires.sound
 
-pub returns : goal.returns
-returns c =
-    let users : List (List ℕ) = c.args.users.now in
-    let desks : List Holdings = c.args.desks.now in
+pub returns-in-Take-clause-handled : goal.returns-in-Take-clause-handled
+returns-in-Take-clause-handled c =
     let trust = trusts c.args.trust.now in
     let limit : ℕ = c.args.limits.charge in
     let old : List Source = c.args.table.now.sources in
     let new : List Source = c.take.new.table.sources in
     let i : ℕ = c.in-Some.place in
     let later : List Holdings = c.take.new.desks in
-    let found : position (λ n. bytes_eq n c.args.event.actor) users ≡ Some i = sym c.in-Some.ensures in
-    let kept = kept_desks desks i c.index-desks-place.result in
-    let by_sight = subst (λ (ds : List Holdings). IsHandledBySight trust limit old ds i (TakeRequest c.in-Take.class) c.take.result new (desk_at later i))
+    let kept = kept_desks c.args.desks.now i c.index-desks-place.result in
+    let sees = subst (λ (ds : List Holdings). IsHandledBySight trust limit old ds i (TakeRequest c.in-Take.class) c.take.result new (desk_at later i))
     kept c.take.ensures.taken in
-    let others : later ≡ slice_set desks i (desk_at later i) =
+    let others : later ≡ slice_set c.args.desks.now i (desk_at later i) =
     subst (λ (ds : List Holdings). later ≡ slice_set ds i (desk_at later i)) kept c.take.ensures.others in
-    subst (λ (ds : List Holdings).
-    IsHandled (parts users limit trust old desks) (event_of c.args.event) c.take.result (parts users limit trust new ds))
-    (sym others)
-    (in_world users limit trust old new desks (event_of c.args.event) i (desk_at desks i) (desk_at later i) c.take.result
-    c.requires.sound c.requires.within found (place_there users desks c.args.event.actor i bare c.requires.paired found)
-    (rw c.in-Take.is (by_sight users c.args.event.actor c.requires.listed found c.requires.paired c.requires.sound c.requires.within)))
+    let asks = asking c.requires.listed c.requires.within c.requires.paired c.requires.sound c.requires.with_goals c.requires.goals_sound
+    (sym c.in-Some.ensures) in
+    subst (λ (ds : List Holdings). IsHandled (parts c.args.users.now limit trust c.args.jobs.now.goals old c.args.desks.now) (event_of c.args.event)
+    c.take.result (parts c.args.users.now limit trust c.args.jobs.now.goals new ds)) (sym others)
+    (by_sight _ (event_of c.args.event) i asks new (desk_at later i) c.take.result (rw c.in-Take.is sees))
+
+pub returns-in-Build-clause-handled : goal.returns-in-Build-clause-handled
+returns-in-Build-clause-handled c =
+    let i : ℕ = c.in-Some.place in
+    let asks = asking c.requires.listed c.requires.within c.requires.paired c.requires.sound c.requires.with_goals c.requires.goals_sound
+    (sym c.in-Some.ensures) in
+    let others = ap (λ (j : OwnedByAll). j.goals) c.build.ensures.others in
+    let own : List Goal = goals_at i c.build.new.jobs in
+    subst (λ (goals : List (List Goal)). IsHandled
+    (parts c.args.users.now c.args.limits.charge (trusts c.args.trust.now) c.args.jobs.now.goals c.args.table.now.sources c.args.desks.now)
+    (event_of c.args.event) c.build.result
+    (parts c.args.users.now c.args.limits.charge (trusts c.args.trust.now) goals c.args.table.now.sources
+    (slice_set c.args.desks.now i (get_or c.args.desks.now i c.index-desks-place.result)))) (sym others)
+    (by_goals _ (event_of c.args.event) i asks c.index-desks-place.result own c.build.result (rw c.in-Build.is c.build.ensures.handled))
+
+pub returns-in-Status-clause-handled : goal.returns-in-Status-clause-handled
+returns-in-Status-clause-handled c =
+    let i : ℕ = c.in-Some.place in
+    let asks = asking c.requires.listed c.requires.within c.requires.paired c.requires.sound c.requires.with_goals c.requires.goals_sound
+    (sym c.in-Some.ensures) in
+    put_back c.args.users.now c.args.limits.charge (trusts c.args.trust.now) (trusts c.args.trust.now) c.args.jobs.now.goals
+    c.args.table.now.sources c.args.desks.now (event_of c.args.event) i c.index-desks-place.result c.status.result
+    (by_reading _ (event_of c.args.event) i asks c.status.result (rw c.in-Status.is c.status.ensures))
+
+pub plan-requires-clause-complete : goal.plan-requires-clause-complete
+plan-requires-clause-complete c =
+    subst (λ (ds : List Holdings). IsComplete c.args.table.now.sources ds)
+    (sym (kept_desks c.args.desks.now c.in-Some.place c.index-desks-place.result))
+    (all_complete c.args.table.now.sources c.args.limits.charge c.args.desks.now c.requires.sound)
+
+pub returns-in-Plan-clause-handled : goal.returns-in-Plan-clause-handled
+returns-in-Plan-clause-handled c =
+    let users : List (List ℕ) = c.args.users.now in
+    let trust = trusts c.args.trust.now in
+    let limit : ℕ = c.args.limits.charge in
+    let old : List Source = c.args.table.now.sources in
+    let new : List Source = c.plan.new.table.sources in
+    let i : ℕ = c.in-Some.place in
+    let kept = kept_desks c.args.desks.now i c.index-desks-place.result in
+    let own : List Goal = goals_at i c.plan.new.jobs in
+    let others = ap (λ (j : OwnedByAll). j.goals) c.plan.ensures.others in
+    let asks = asking c.requires.listed c.requires.within c.requires.paired c.requires.sound c.requires.with_goals c.requires.goals_sound
+    (sym c.in-Some.ensures) in
+    let handled = subst (λ (ds : List Holdings). All (IsSound old limit) ds
+    → IsHandledAtPlace users limit trust c.args.jobs.now.goals old ds i (PlanRequest c.in-Plan.number) c.plan.result own new (desk_at ds i)) kept (c.plan.ensures.handled limit) in
+    let before = parts users limit trust c.args.jobs.now.goals old c.args.desks.now in
+    subst (λ (ds : List Holdings). IsHandled before (event_of c.args.event) c.plan.result (parts users limit trust c.plan.new.jobs.goals new ds))
+    (kept_desks c.args.desks.now i bare ∙ sym kept)
+    (subst (λ (goals : List (List Goal)). IsHandled before (event_of c.args.event) c.plan.result
+    (parts users limit trust goals new (slice_set c.args.desks.now i (desk_at c.args.desks.now i)))) (sym others)
+    (at_place _ (event_of c.args.event) i asks own new (desk_at c.args.desks.now i) c.plan.result (rw c.in-Plan.is (handled c.requires.sound))))
+
+pub start-requires-clause-sound : goal.start-requires-clause-sound
+start-requires-clause-sound c =
+    subst (λ (ds : List Holdings). All (IsSound c.args.table.now.sources c.args.limits.charge) ds)
+    (sym (kept_desks c.args.desks.now c.in-Some.place c.index-desks-place.result)) c.requires.sound
+
+pub returns-in-Start-clause-handled : goal.returns-in-Start-clause-handled
+returns-in-Start-clause-handled c =
+    let users : List (List ℕ) = c.args.users.now in
+    let trust = trusts c.args.trust.now in
+    let limit : ℕ = c.args.limits.charge in
+    let old : List Source = c.args.table.now.sources in
+    let new : List Source = c.start.new.table.sources in
+    let i : ℕ = c.in-Some.place in
+    let later : List Holdings = c.start.new.desks in
+    let kept = kept_desks c.args.desks.now i c.index-desks-place.result in
+    let own : List Goal = goals_at i c.start.new.jobs in
+    let others = ap (λ (j : OwnedByAll). j.goals) c.start.ensures.others in
+    let other_desks : later ≡ slice_set c.args.desks.now i (desk_at later i) =
+    subst (λ (ds : List Holdings). later ≡ slice_set ds i (desk_at later i)) kept c.start.ensures.others_desks in
+    let asks = asking c.requires.listed c.requires.within c.requires.paired c.requires.sound c.requires.with_goals c.requires.goals_sound
+    (sym c.in-Some.ensures) in
+    let handled = subst (λ (ds : List Holdings).
+    IsHandledAtPlace users limit trust c.args.jobs.now.goals old ds i (StartRequest c.in-Start.number) c.start.result own new (desk_at later i)) kept
+    c.start.ensures.handled in
+    let before = parts users limit trust c.args.jobs.now.goals old c.args.desks.now in
+    subst (λ (ds : List Holdings). IsHandled before (event_of c.args.event) c.start.result (parts users limit trust c.start.new.jobs.goals new ds)) (sym other_desks)
+    (subst (λ (goals : List (List Goal)). IsHandled before (event_of c.args.event) c.start.result
+    (parts users limit trust goals new (slice_set c.args.desks.now i (desk_at later i)))) (sym others)
+    (at_place _ (event_of c.args.event) i asks own new (desk_at later i) c.start.result (rw c.in-Start.is handled)))
+
+pub returns-clause-handled : goal.returns-clause-handled
+returns-clause-handled c =
+    subst (λ (ds : List Holdings). IsHandled
+    (parts c.args.users.now c.args.limits.charge (trusts c.args.trust.now) c.args.jobs.now.goals c.args.table.now.sources c.args.desks.now)
+    (event_of c.args.event) c.fail.result
+    (parts c.args.users.now c.args.limits.charge (trusts c.args.trust.now) c.fail.new.jobs.goals c.args.table.now.sources ds))
+    (sym (set-get_or c.args.desks.now c.in-Some.place c.index-desks-place.result))
+    (rw c.in-Fail.is
+    (c.fail.ensures.handled c.in-Fail._status c.args.limits.charge c.args.table.now.sources c.args.desks.now c.args.event.actor (sym c.in-Some.ensures)
+    c.requires.paired c.requires.sound c.requires.goals_sound c.requires.within))

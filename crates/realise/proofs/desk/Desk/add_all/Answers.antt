@@ -1,9 +1,8 @@
-use Rattle.std.proofs.Common.{◌≡◌, ◌++◌, sym, ap, subst, ◌∙◌}
+use Rattle.std.proofs.Common.{◌++◌, sym, ap, subst, ◌∙◌}
 use Rattle.classes.specs.Entries.{AreNew}
 use Rattle.realise.specs.Holdings.{Holdings, IsClosed, holds_all, sources_in}
-use Rattle.realise.proofs.SeveralLemmas.{sources_new, made}
-use Rattle.realise.specs.Indexed.{IsIndexed}
 use Rattle.realise.specs.Kept.{holdings_of}
+use Rattle.realise.proofs.SeveralLemmas.{sources_new, made}
 use Rattle.realise.proofs.desk.Desk.add_all.Goals as goal
 
 pub add_sources-requires : goal.add_sources-requires
@@ -16,22 +15,20 @@ add_sources-requires c =
 pub invariant_of-self-2 : goal.invariant_of-self-2
 invariant_of-self-2 c =
     let entries = c.args.entries.items in
-    let records = c.push_all_reserved.new.records.items in
-    let are : c.as_slice.result.now ++ c.deref.result.now ≡ records =
-    (λ i. (c.as_slice.ensures.value ∙ sym c.reserve.ensures.items) i ++ c.deref.ensures.value i) ∙ sym c.push_all_reserved.ensures in
-    let closed : IsClosed (holds_all entries c.args.more (holdings_of c.self.inside)) =
+    let before = holdings_of c.self.inside in
+    let closed : IsClosed (holds_all entries c.args.more before) =
     subst (λ (d : Holdings). IsClosed (holds_all entries c.args.more d)) (sym c.self.view_is) c.requires.closed in
-    record {
-      indexed = subst (IsIndexed c.in_ok-groups.groups.entries) are c.in_ok-groups.ensures;
-      closed = subst IsClosed
-          (sym (made entries c.args.more (holdings_of c.self.inside) c.add_sources.new.self c.in_ok-paths.paths.items c.in_ok-paths.records.items c.reserve.new.self.items records
-          c.in_ok-paths.ensures.0 c.in_ok-paths.ensures.1 c.in_ok-add_sources.ensures c.reserve.ensures.items c.push_all_reserved.ensures))
-          closed;
-    }
+    subst IsClosed
+    (sym (made entries c.args.more before c.add_sources.new.self c.in_ok-paths.paths.items c.in_ok-paths.added.items c.in_ok-records.records
+    c.in_ok-paths.ensures.0 c.in_ok-paths.ensures.1 c.in_ok-add_sources.ensures
+    (c.in_ok-records.ensures ∙ ap (λ rs. before.records ++ rs) c.deref.ensures.value)))
+    closed
 
 pub returns : goal.returns
 returns c =
     let entries = c.args.entries.items in
-    made entries c.args.more (holdings_of c.self.inside) c.add_sources.new.self c.in_ok-paths.paths.items c.in_ok-paths.records.items c.reserve.new.self.items
-    c.push_all_reserved.new.records.items c.in_ok-paths.ensures.0 c.in_ok-paths.ensures.1 c.in_ok-add_sources.ensures c.reserve.ensures.items c.push_all_reserved.ensures
+    let before = holdings_of c.self.inside in
+    made entries c.args.more before c.add_sources.new.self c.in_ok-paths.paths.items c.in_ok-paths.added.items c.in_ok-records.records
+    c.in_ok-paths.ensures.0 c.in_ok-paths.ensures.1 c.in_ok-add_sources.ensures
+    (c.in_ok-records.ensures ∙ ap (λ rs. before.records ++ rs) c.deref.ensures.value)
     ∙ ap (holds_all entries c.args.more) c.self.view_is

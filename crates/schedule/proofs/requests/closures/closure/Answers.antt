@@ -14,7 +14,7 @@ pub returns-in_err-new : goal.returns-in_err-new
 returns-in_err-new c limit =
     let p = err_from_is_err_and c.from_residual-in_err-new.result c.from_residual-in_err-new.ensures.1 in
     rw (p.1, p.2) (closure_refused (trusts c.args.trust.now) limit c.args.table.now.sources c.args.desks.now c.args.place c.args.class.now c.in_err-new.field-0.0
-    (λ users limit actor listed found paired within. inl c.in_err-new.ensures))
+    (λ users limit goals actor listed found paired within. inl c.in_err-new.ensures))
 
 pub returns : goal.returns
 returns c limit =

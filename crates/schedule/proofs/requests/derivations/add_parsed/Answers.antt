@@ -19,12 +19,12 @@ use Rattle.schedule.proofs.DerivationLemmas.{admitted_path, refused_fits, over_f
 use Rattle.schedule.proofs.requests.derivations.add_parsed.Goals as goal
 
 pub returns-in_err-admitted-clause-adds : goal.returns-in_err-admitted-clause-adds
-returns-in_err-admitted-clause-adds c table limit sound users trusted =
+returns-in_err-admitted-clause-adds c table limit sound users beside =
     let p = err_from_is_err_and c.from_residual-in_err-admitted.result c.from_residual-in_err-admitted.ensures.1 in
     let known = c.args.desk.now.known in
     let none : known_at known (derivation_path c.args.derivation) ≡ None = search rules in
     let why : (p.0 ≡ Memory) ⊎ (admit known c.args.derivation ≡ Err p.0) = rw (p.2, ← c.known.ensures) c.in_err-admitted.ensures in
-    rw p.1 (refused_fits users trusted table limit c.args.desk.now c.args.derivation p.0 none why)
+    rw p.1 (refused_fits users beside table limit c.args.desk.now c.args.derivation p.0 none why)
 
 -- no refusal of an admission is a clash
 admission_no_clash : (known : Known) (d : Derivation) (e : Refusal) → (e ≡ Memory) ⊎ (admit known d ≡ Err e) → is_clash_refusal e ≡ false
@@ -38,13 +38,13 @@ returns-in_err-admitted-clause-no_clash c =
 
 pub returns-then-derivation_count-ge-MOST_DERIVATIONS-clause-adds :
     goal.returns-then-derivation_count-ge-MOST_DERIVATIONS-clause-adds
-returns-then-derivation_count-ge-MOST_DERIVATIONS-clause-adds c table limit sound users trusted own =
+returns-then-derivation_count-ge-MOST_DERIVATIONS-clause-adds c table limit sound users beside own =
     let known = c.args.desk.now.known in
     let none : known_at known (derivation_path c.args.derivation) ≡ None = search rules in
     let ok : admit known c.args.derivation ≡ Ok c.in_ok-admitted.admitted = search rules in
     let count : c.derivation_count.result ≡ length known.derivations = search rules in
     let over : nat_le (length known.derivations + 1) most_derivations ≡ false = grind (arith, nat_tests, count, c.if-derivation_count-ge-MOST_DERIVATIONS.true) in
-    over_fits users trusted table limit c.args.desk.now c.args.derivation c.in_ok-admitted.admitted sound none ok over
+    over_fits users beside table limit c.args.desk.now c.args.derivation c.in_ok-admitted.admitted sound none ok over
 
 pub add_derivation-requires : goal.add_derivation-requires
 add_derivation-requires c =
@@ -57,15 +57,15 @@ changed : (c : goal.In_ok-add_derivation) → c.add_derivation.new.self ≡ hold
 changed c = search rules
 
 pub returns-clause-adds : goal.returns-clause-adds
-returns-clause-adds c table limit sound users trusted =
+returns-clause-adds c table limit sound users beside =
     let known = c.args.desk.now.known in
     let none : known_at known (derivation_path c.args.derivation) ≡ None = search rules in
     let ok : admit known c.args.derivation ≡ Ok c.in_ok-admitted.admitted = search rules in
     let count : c.derivation_count.result ≡ length known.derivations = search rules in
     let within : nat_le (length known.derivations + 1) most_derivations ≡ true = grind (arith, nat_tests, count, c.if-derivation_count-ge-MOST_DERIVATIONS.false) in
     let told : reply_of c.in_ok-reply.reply ≡ told_of c.in_ok-admitted.admitted = search rules in
-    added_fits users trusted table limit c.args.desk.now c.args.derivation c.in_ok-admitted.admitted sound none ok within
-    ∙ ap (λ d. becomes (desk_of trusted table d) (told_of c.in_ok-admitted.admitted)) (sym (changed c)) ∙ ap (becomes (desk_of trusted table c.add_derivation.new.self)) (sym told)
+    added_fits users beside table limit c.args.desk.now c.args.derivation c.in_ok-admitted.admitted sound none ok within
+    ∙ ap (λ d. becomes (desk_of beside table d) (told_of c.in_ok-admitted.admitted)) (sym (changed c)) ∙ ap (becomes (desk_of beside table c.add_derivation.new.self)) (sym told)
 
 pub returns-clause-sound : goal.returns-clause-sound
 returns-clause-sound c table limit sound =

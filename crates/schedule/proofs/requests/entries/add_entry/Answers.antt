@@ -12,11 +12,11 @@ use Rattle.schedule.proofs.AddingLemmas.{IsThere, entry_known, there_if_stored, 
 use Rattle.schedule.proofs.requests.entries.add_entry.Goals as goal
 
 pub returns-then-has-clause-adds : goal.returns-then-has-clause-adds
-returns-then-has-clause-adds c users trusted =
+returns-then-has-clause-adds c users beside =
     let on : is_on c.args.entry c.args.desk.now ≡ true = sym c.if-has.ensures in
     let path : c.in_ok-path.path ≡ entry_path c.args.entry = search rules in
-    entry_had users trusted c.args.limits.charge c.args.table.now.sources c.args.desk.now c.args.tree c.args.entry on
-    ∙ ap (λ p. becomes (desk_of trusted c.args.table.now.sources c.args.desk.now) (Path p)) (sym path)
+    entry_had users beside c.args.limits.charge c.args.table.now.sources c.args.desk.now c.args.tree c.args.entry on
+    ∙ ap (λ p. becomes (desk_of beside c.args.table.now.sources c.args.desk.now) (Path p)) (sym path)
 
 pub returns-then-has-clause-stored : goal.returns-then-has-clause-stored
 returns-then-has-clause-stored c =
@@ -26,13 +26,13 @@ returns-then-has-clause-stored c =
     rw there refl
 
 pub returns-then-not-has_room-clause-adds : goal.returns-then-not-has_room-clause-adds
-returns-then-not-has_room-clause-adds c users trusted own =
+returns-then-not-has_room-clause-adds c users beside own =
     let on : is_on c.args.entry c.args.desk.now ≡ false = sym c.if-has.ensures in
     let path : c.in_ok-path.path ≡ entry_path c.args.entry = search rules in
     let stored : tree_at c.in_ok-path.path c.args.table.now.sources ≡ (if c.in_ok-is_stored.is_stored then Some c.args.tree else None) = search rules in
     let more : c.charged_for-more.result ≡ charged_more (entry_path c.args.entry) (length (nar c.args.tree)) c.args.desk.now = search rules in
     let over : is_roomy c.args.entry c.charged_for-more.result c.args.limits.charge c.args.desk.now ≡ false = search rules in
-    entry_refused users trusted c.args.limits.charge c.args.table.now.sources c.args.desk.now c.args.tree c.args.entry c.requires.sound
+    entry_refused users beside c.args.limits.charge c.args.table.now.sources c.args.desk.now c.args.tree c.args.entry c.requires.sound
     (there_if_stored c.args.table.now.sources c.args.limits.charge c.args.desk.now c.args.tree (entry_path c.args.entry) c.in_ok-is_stored.is_stored c.requires.sound (rw path at stored))
     on (rw (← more) over)
 
@@ -74,13 +74,13 @@ module _ (c : goal.After-put_new) where
   now_there = ap (λ p. tree_at p c.put_new.new.table.sources) (sym key) ∙ c.put_new.ensures.there
 
 pub returns-clause-adds : goal.returns-clause-adds
-returns-clause-adds c users trusted =
+returns-clause-adds c users beside =
     let old : List Source = c.args.table.now.sources in
     let new : List Source = c.put_new.new.table.sources in
-    entry_new users trusted c.args.limits.charge old c.args.desk.now c.args.tree c.args.entry c.requires.sound (there c) (on c) (roomy c)
+    entry_new users beside c.args.limits.charge old c.args.desk.now c.args.tree c.args.entry c.requires.sound (there c) (on c) (roomy c)
     ∙ ap (λ d. becomes d (Path (entry_path c.args.entry)))
-    (sym (ap (desk_of trusted new) (changed c) ∙ desk_of-entry trusted old new c.args.limits.charge c.args.desk.now c.args.tree c.args.entry _ (later c) c.requires.sound (now_there c)))
-    ∙ ap (λ p. becomes (desk_of trusted new c.add.new.self) (Path p)) (sym (path c))
+    (sym (ap (desk_of beside new) (changed c) ∙ desk_of-entry beside old new c.args.limits.charge c.args.desk.now c.args.tree c.args.entry _ (later c) c.requires.sound (now_there c)))
+    ∙ ap (λ p. becomes (desk_of beside new c.add.new.self) (Path p)) (sym (path c))
 
 pub returns-clause-sound : goal.returns-clause-sound
 returns-clause-sound c =

@@ -6,15 +6,15 @@ use Rattle.schedule.proofs.ClosedLemmas.{output_closed}
 use Rattle.schedule.proofs.requests.offers.offer.Goals as goal
 
 pub returns-in_default : goal.returns-in_default
-returns-in_default c trusted =
+returns-in_default c beside =
     let none : known_at c.args.desk.now.known c.args.path.now ≡ None = search rules in
-    unknown_handled trusted c.args.limits.charge c.args.table.now.sources c.args.desk.now c.args.path.now c.args.tree.now c.requires none
+    unknown_handled beside c.args.limits.charge c.args.table.now.sources c.args.desk.now c.args.path.now c.args.tree.now c.requires none
 
 pub returns-in_err-record : goal.returns-in_err-record
-returns-in_err-record c trusted =
+returns-in_err-record c beside =
     let p = err_from_is_err_and c.from_residual.result c.from_residual.ensures.1 in
     let known : known_at c.args.desk.now.known c.args.path.now ≡ Some c.in-Some.admitted.now = search rules in
-    rw p.1 (refused_handled trusted c.args.limits.charge c.args.table.now.sources c.args.desk.now c.args.path.now c.args.tree.now
+    rw p.1 (refused_handled beside c.args.limits.charge c.args.table.now.sources c.args.desk.now c.args.path.now c.args.tree.now
     c.in-Some.admitted.now p.0 c.requires known (rw p.2 c.in_err-record.ensures.refused))
 
 pub add_entry-requires-clause-closed : goal.add_entry-requires-clause-closed
@@ -23,9 +23,9 @@ add_entry-requires-clause-closed c =
     output_closed c.args.desk.now c.in-Some.admitted.now output.labels output.settled c.in_ok-record.record output.candidates output.record_is
 
 pub returns : goal.returns
-returns c trusted =
+returns c beside =
     let known : known_at c.args.desk.now.known c.args.path.now ≡ Some c.in-Some.admitted.now = search rules in
     let added = c.add_entry.ensures in
-    offer_handled trusted c.args.limits.charge c.args.table.now.sources c.args.desk.now c.args.path.now c.args.tree.now
+    offer_handled beside c.args.limits.charge c.args.table.now.sources c.args.desk.now c.args.path.now c.args.tree.now
     c.add_entry.new.table.sources c.add_entry.new.desk c.in_ok-record.settled c.in-Some.admitted.now c.in_ok-record.record c.add_entry.result
     c.requires known c.in_ok-record.ensures.output added.adds added.answered added.stored added.sound added.kept added.taken

@@ -2,4 +2,4 @@ use Rattle.schedule.proofs.PinLemmas.{unpin_handled}
 use Rattle.schedule.proofs.requests.pins.unpin.Goals as goal
 
 pub returns : goal.returns
-returns c table limit sound trusted = rw c.unpin.ensures (unpin_handled trusted limit table c.args.desk.now c.args.class.now sound)
+returns c table limit sound beside = rw c.unpin.ensures (unpin_handled beside limit table c.args.desk.now c.args.class.now sound)

@@ -1,5 +1,5 @@
 use Rattle.std.proofs.Common.{◌≡◌, drop}
-use Rattle.model.specs.ClosureRequests.{path_for}
+use Rattle.model.specs.Closures.{path_for}
 use Rattle.schedule.proofs.requests.taking.path_for.Given as goal
 
 abbrev pub invariant-loop-entry : goal.invariant-loop-entry

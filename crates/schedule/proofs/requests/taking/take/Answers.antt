@@ -4,7 +4,7 @@ use Rattle.std.proofs.lemmas.List.{get_or-set_same}
 use Rattle.std.proofs.lemmas.Result.{err_from_is_err_and}
 use Rattle.model.specs.declared.refusal.Refusal.{Refusal}
 use Rattle.model.specs.declared.refusal.Refusal.TheVariants.{Memory, NotRealised}
-use Rattle.model.specs.ClosureRequests.{path_for}
+use Rattle.model.specs.Closures.{path_for}
 use Rattle.model.specs.Worlds.{Source, Entry}
 use Rattle.realise.specs.Holdings.{Holdings}
 use Rattle.trust.specs.Trusting.{trusts}
@@ -12,7 +12,7 @@ use Rattle.schedule.specs.Taking.{CopiesEntries}
 use Rattle.schedule.specs.Viewing.{bare, desk_at}
 use Rattle.schedule.proofs.ViewLemmas.{any_default}
 use Rattle.schedule.proofs.ClosureLemmas.{all_complete}
-use Rattle.schedule.proofs.TakeLemmas.{take_unserved, take_unnamed, take_done, take_refused}
+use Rattle.schedule.proofs.TakeLemmas.{copied_at, take_unserved, take_unnamed, take_done, take_refused}
 use Rattle.schedule.proofs.requests.taking.take.Goals as goal
 
 pub entries_for-requires-clause-complete : goal.entries_for-requires-clause-complete
@@ -31,16 +31,6 @@ returns-in_err-path-clause-taken c =
     rw (p.1, p.2) (take_unnamed c.served_are_made.ensures (trusts c.args.trust.now) c.args.limits.charge c.args.table.now.sources c.args.desks.now c.args.place c.args.class.now
     c.in_ok-entries.entries.items c.in_ok-entries.ensures.served why
     (subst (λ (es : List Entry). (why ≡ Memory) ⊎ ((why ≡ NotRealised) × (path_for c.args.class.now es ≡ None))) c.deref.ensures.value c.in_err-path.ensures))
-
--- what is copied to the desk at a place
-copied_at : (limit : ℕ) (old : List Source) (desks : List Holdings) (place : ℕ) (any : Holdings) (entries copies : List Entry) (result : Result (Unit {0}) Refusal)
-    (new : List Source) (after : Holdings) → place < length desks → copies ≡ entries
-    → CopiesEntries limit old (get_or desks place any) copies result new after
-    → CopiesEntries limit old (desk_at desks place) entries result new (desk_at (slice_set desks place after) place)
-copied_at limit old desks place any entries copies result new after below same copied =
-    let before : get_or desks place any ≡ desk_at desks place = any_default desks place any bare below in
-    let later : desk_at (slice_set desks place after) place ≡ after = get_or-set_same desks place after bare below in
-    rw (later, ← before, ← same) copied
 
 pub returns-in_err-copy_all-clause-taken : goal.returns-in_err-copy_all-clause-taken
 returns-in_err-copy_all-clause-taken c =

@@ -11,11 +11,11 @@ pub returns : goal.returns
 returns c =
     let old = c.args.self.now in
     let handled : IsHandled (parts_of old) (event_of c.args.event) c.handle.result
-    (parts old.users.items old.limits.charge (trusts c.handle.new.trust) c.handle.new.table.sources c.handle.new.desks) =
-    rw (c.as_slice.ensures.value, c.as_mut_slice.ensures.value) at c.handle.ensures in
+    (parts old.users.items old.limits.charge (trusts c.handle.new.trust) c.handle.new.jobs.goals c.handle.new.table.sources c.handle.new.desks) =
+    rw (c.as_slice.ensures.value, c.as_mut_slice.ensures.value) at c.handle.ensures.handled in
     let desks : (with_items old.desks c.handle.new.desks).items ≡ c.handle.new.desks =
     with_items_is old.desks c.handle.new.desks (handled.paired ∙ sym old.desks.ok.0) in
     let Handled : List Holdings → Type 0 = λ ds.
     IsHandled (parts_of old) (event_of c.args.event) c.handle.result
-    (parts old.users.items old.limits.charge (trusts c.handle.new.trust) c.handle.new.table.sources ds) in
+    (parts old.users.items old.limits.charge (trusts c.handle.new.trust) c.handle.new.jobs.goals c.handle.new.table.sources ds) in
     subst Handled (sym desks) handled

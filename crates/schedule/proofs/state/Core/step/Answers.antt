@@ -1,8 +1,7 @@
 use Rattle.trust.specs.Trusting.{trusts}
-use Rattle.trust.specs.Naming.{trusted_at}
-use Rattle.schedule.specs.Standing.{world_of, setup_of, stored_in, event_of}
+use Rattle.schedule.specs.Standing.{world_of, setup_of, stored_in, event_of, beside_at}
 use Rattle.schedule.proofs.WorldLemmas.{among_stored}
-use Rattle.schedule.proofs.StepLemmas.{served_step, refused_step}
+use Rattle.schedule.proofs.StepLemmas.{served_step, refused_step, keeps_stored}
 use Rattle.schedule.proofs.state.Core.step.Goals as goal
 
 pub returns-in-Ok-clause-step : goal.returns-in-Ok-clause-step
@@ -16,7 +15,11 @@ pub returns-in-Ok-clause-holds : goal.returns-in-Ok-clause-holds
 unfolding world_of stored_in
 returns-in-Ok-clause-holds c u path h =
     let core = c.serve.new.self in
-    among_stored (trusted_at core.users.items (trusts core.trust)) core.table.sources core.limits.charge core.users.items core.desks.items u path core.sound h
+    among_stored (beside_at core.users.items (trusts core.trust) core.jobs.goals) core.table.sources core.limits.charge core.users.items core.desks.items u path core.sound h
+
+pub returns-in-Ok-clause-keeps : goal.returns-in-Ok-clause-keeps
+unfolding world_of stored_in
+returns-in-Ok-clause-keeps c = keeps_stored c.serve.new.self
 
 pub returns-in-Err-clause-step : goal.returns-in-Err-clause-step
 returns-in-Err-clause-step c =
@@ -26,4 +29,8 @@ pub returns-in-Err-clause-holds : goal.returns-in-Err-clause-holds
 unfolding world_of stored_in
 returns-in-Err-clause-holds c u path h =
     let core = c.serve.new.self in
-    among_stored (trusted_at core.users.items (trusts core.trust)) core.table.sources core.limits.charge core.users.items core.desks.items u path core.sound h
+    among_stored (beside_at core.users.items (trusts core.trust) core.jobs.goals) core.table.sources core.limits.charge core.users.items core.desks.items u path core.sound h
+
+pub returns-in-Err-clause-keeps : goal.returns-in-Err-clause-keeps
+unfolding world_of stored_in
+returns-in-Err-clause-keeps c = keeps_stored c.serve.new.self

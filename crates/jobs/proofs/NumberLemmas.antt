@@ -1,0 +1,181 @@
+-- The numbers of goals that pass a test, when one goal changes.
+use Rattle.std.proofs.Common.{◌≡◌, ℕ, zero, suc, ◌+◌, ◌-◌, ◌<◌, Bool, true, false, inl, inr, List, [], ◌∷◌, ◌++◌, length, refl, sym, ◌∙◌, ap, arith, Option, Some, None, sub-one}
+use Rattle.std.specs.Prelude.{slice_get, slice_set, slice_index_or, is_some, nat_lt, ◌==◌}
+use Rattle.std.proofs.lemmas.Bool.Decides.{nat_tests}
+use Rattle.std.proofs.lemmas.Option.{get_or_from_slice_get}
+use Rattle.model.proofs.BoolLemmas.{either}
+use Rattle.model.specs.Worlds.{Job, Goal}
+use Rattle.model.specs.Goals.{goal_at, with_goal_at, members, is_in}
+use Rattle.jobs.specs.Owned.{Owned, with_goals}
+use Rattle.jobs.specs.Numbers.{numbers, with_number, without_number, entered, left, is_of}
+
+same_number : (k : ℕ) → (k == k) ≡ true
+same_number k = grind (arith, nat_tests)
+
+apart : (k m : ℕ) → k < m → (k == m) ≡ false
+apart k m h = grind (arith, nat_tests)
+
+lower : (k m : ℕ) → k < m → nat_lt k m ≡ true
+lower k m h = grind (arith, nat_tests)
+
+not_lower : (k m : ℕ) → k < m → nat_lt m k ≡ false
+not_lower k m h = grind (arith, nat_tests)
+
+above_apart : (m j : ℕ) → m < j → (j == m) ≡ false
+above_apart m j h = grind (arith, nat_tests)
+
+longer : (n : ℕ) (ns : List ℕ) → ns ≡ n ∷ ns → ⊥
+longer n ns e = let lengths : length ns ≡ suc (length ns) = ap length e in absurd (omega arith)
+
+tail_is : (n : ℕ) (ns ms : List ℕ) → n ∷ ns ≡ n ∷ ms → ns ≡ ms
+tail_is n ns ms e = cc
+
+-- what was put in anew is taken out again
+pub put_back : (m : ℕ) (ns : List ℕ) → without_number m ns ≡ ns → without_number m (with_number m ns) ≡ ns
+unfolding with_number without_number
+put_back m [] e = rw (same_number m) refl
+put_back m (n ∷ ns) e = elim (either (n == m)) [
+  | inl t ↦ absurd (longer n ns (rw t at e))
+  | inr f ↦ elim (either (nat_lt m n)) [
+    | inl l ↦ rw (l, same_number m) refl
+    | inr g ↦
+        let rest : without_number m ns ≡ ns = tail_is n (without_number m ns) ns (rw f at e) in
+        rw (g, f) (ap (λ r. n ∷ r) (put_back m ns rest))
+  ]
+]
+
+-- a number below the first is not there
+without_above : (t : ℕ → Goal → Bool) (m j : ℕ) (gs : List Goal) → m < j → without_number m (numbers t j gs) ≡ numbers t j gs
+unfolding numbers without_number
+without_above t m j [] h = refl
+without_above t m j (g ∷ gs) h = elim (either (t j g)) [
+  | inl y ↦ rw (y, above_apart m j h) (ap (λ r. j ∷ r) (without_above t m (suc j) gs (omega arith)))
+  | inr f ↦ rw f (without_above t m (suc j) gs (omega arith))
+]
+
+with_above : (t : ℕ → Goal → Bool) (m j : ℕ) (gs : List Goal) → m < j → with_number m (numbers t j gs) ≡ m ∷ numbers t j gs
+unfolding numbers with_number
+with_above t m j [] h = refl
+with_above t m j (g ∷ gs) h = elim (either (t j g)) [
+  | inl y ↦ rw (y, lower m j h) refl
+  | inr f ↦ rw f (with_above t m (suc j) gs (omega arith))
+]
+
+-- a goal that does not pass has its number taken out
+numbers_unset : (t : ℕ → Goal → Bool) (y : Goal) (k m i : ℕ) (gs : List Goal) → t m y ≡ false → m ≡ k + i
+    → without_number m (numbers t k gs) ≡ numbers t k (slice_set gs i y)
+unfolding numbers without_number
+numbers_unset t y k m i [] fail e = refl
+numbers_unset t y k m zero (g ∷ gs) fail e =
+    let is : m ≡ k = omega arith in
+    let here : t k y ≡ false = rw is at fail in
+    elim (either (t k g)) [
+      | inl pass ↦ rw (pass, here, is, same_number k) refl
+      | inr f ↦ rw (f, here) (without_above t m (suc k) gs (omega arith))
+    ]
+numbers_unset t y k m (suc i) (g ∷ gs) fail e = elim (either (t k g)) [
+  | inl pass ↦ rw (pass, apart k m (omega arith)) (ap (λ r. k ∷ r) (numbers_unset t y (suc k) m i gs fail (omega arith)))
+  | inr f ↦ rw f (numbers_unset t y (suc k) m i gs fail (omega arith))
+]
+
+-- a goal that passes now has its number put in
+numbers_set : (t : ℕ → Goal → Bool) (y : Goal) (k m i : ℕ) (gs : List Goal) (g : Goal) → t m y ≡ true → slice_get gs i ≡ Some g → t m g ≡ false → m ≡ k + i
+    → with_number m (numbers t k gs) ≡ numbers t k (slice_set gs i y)
+unfolding numbers with_number
+numbers_set t y k m i [] g pass at fail e = cc
+numbers_set t y k m zero (x ∷ gs) g pass at fail e =
+    let is : m ≡ k = omega arith in
+    let same : x ≡ g = cc in
+    let here : t k y ≡ true = rw is at pass in
+    let before : t k g ≡ false = rw is at fail in
+    rw (here, same, before, is) (with_above t k (suc k) gs (omega arith))
+numbers_set t y k m (suc i) (x ∷ gs) g pass at fail e = elim (either (t k x)) [
+  | inl u ↦ rw (u, not_lower k m (omega arith)) (ap (λ r. k ∷ r) (numbers_set t y (suc k) m i gs g pass at fail (omega arith)))
+  | inr f ↦ rw f (numbers_set t y (suc k) m i gs g pass at fail (omega arith))
+]
+
+-- where it passes now as it did before, nothing changes
+numbers_kept : (t : ℕ → Goal → Bool) (y : Goal) (k m i : ℕ) (gs : List Goal) (g : Goal) → slice_get gs i ≡ Some g → t m y ≡ t m g → m ≡ k + i
+    → numbers t k gs ≡ numbers t k (slice_set gs i y)
+unfolding numbers
+numbers_kept t y k m i [] g at same e = cc
+numbers_kept t y k m zero (x ∷ gs) g at same e =
+    let is : m ≡ k = omega arith in
+    let first : x ≡ g = cc in
+    let here : t k y ≡ t k g = rw is at same in
+    rw (first, here) refl
+numbers_kept t y k m (suc i) (x ∷ gs) g at same e = elim (either (t k x)) [
+  | inl u ↦ rw u (ap (λ r. k ∷ r) (numbers_kept t y (suc k) m i gs g at same (omega arith)))
+  | inr f ↦ rw f (numbers_kept t y (suc k) m i gs g at same (omega arith))
+]
+
+numbers_push : (t : ℕ → Goal → Bool) (k : ℕ) (gs : List Goal) (y : Goal) → ((n : ℕ) → t n y ≡ false) → numbers t k (gs ++ y ∷ []) ≡ numbers t k gs
+unfolding numbers
+numbers_push t k [] y fail = rw (fail k) refl
+numbers_push t k (g ∷ gs) y fail = elim (either (t k g)) [
+  | inl pass ↦ rw pass (ap (λ r. k ∷ r) (numbers_push t (suc k) gs y fail))
+  | inr f ↦ rw f (numbers_push t (suc k) gs y fail)
+]
+
+-- the members of a job are the numbers of those that are built in it
+pub members_are : (job : Job) (k : ℕ) (gs : List Goal) → numbers (is_of job) k gs ≡ members job k gs
+unfolding numbers members
+members_are job k [] = refl
+members_are job k (g ∷ gs) = elim (either (is_in job g.state)) [
+  | inl t ↦ rw t (ap (λ r. k ∷ r) (members_are job (suc k) gs))
+  | inr f ↦ rw f (members_are job (suc k) gs)
+]
+
+-- ---- goals by their numbers
+
+-- one that passes no more, or did not and does not
+pub set_left : (t : ℕ → Goal → Bool) (n : ℕ) (gs : List Goal) (g y : Goal) (leaves : Bool) → goal_at n gs ≡ Some g → t n y ≡ false
+    → (leaves ≡ false → t n g ≡ false)
+    → left leaves n (numbers t 1 gs) ≡ numbers t 1 (slice_set gs (n - 1) y)
+set_left t zero gs g y leaves at fail before = cc
+set_left t (suc i) gs g y true at fail before = rw sub-one (numbers_unset t y 1 (suc i) i gs fail (omega arith))
+set_left t (suc i) gs g y false at fail before = rw sub-one (numbers_kept t y 1 (suc i) i gs g at (fail ∙ sym (before refl)) (omega arith))
+
+-- one that passes now, or does not, and did not before
+pub set_entered : (t : ℕ → Goal → Bool) (n : ℕ) (gs : List Goal) (g y : Goal) (enters : Bool) → goal_at n gs ≡ Some g → t n y ≡ enters → t n g ≡ false
+    → entered enters n (numbers t 1 gs) ≡ numbers t 1 (slice_set gs (n - 1) y)
+set_entered t zero gs g y enters at now before = cc
+set_entered t (suc i) gs g y true at now before = rw sub-one (numbers_set t y 1 (suc i) i gs g now at before (omega arith))
+set_entered t (suc i) gs g y false at now before = rw sub-one (numbers_kept t y 1 (suc i) i gs g at (now ∙ sym before) (omega arith))
+
+-- the number of one that does not pass is not there
+pub not_there : (t : ℕ → Goal → Bool) (n : ℕ) (gs : List Goal) (g : Goal) → goal_at n gs ≡ Some g → t n g ≡ false
+    → without_number n (numbers t 1 gs) ≡ numbers t 1 gs
+not_there t n gs g at fail = set_left t n gs g g true at fail (λ _. fail) ∙ sym (set_left t n gs g g false at fail (λ _. fail))
+
+pub pushed : (t : ℕ → Goal → Bool) (gs : List Goal) (y : Goal) → ((n : ℕ) → t n y ≡ false) → numbers t 1 gs ≡ numbers t 1 (gs ++ y ∷ [])
+pushed t gs y fail = sym (numbers_push t 1 gs y fail)
+
+-- ---- the goal that is read and written
+
+pub got : (n : ℕ) (gs : List Goal) (x g : Goal) → x ≡ slice_index_or gs (n - 1) x → goal_at n gs ≡ Some g → x ≡ g
+got zero gs x g e at = cc
+got (suc n) gs x g e at = let read : x ≡ slice_index_or gs n x = rw sub-one at e in read ∙ get_or_from_slice_get gs n g x at
+
+some_at : (o : Option Goal) → is_some o ≡ true → (g : Goal) × (o ≡ Some g)
+some_at None h = cc
+some_at (Some g) h = (g, refl)
+
+pub found : (n : ℕ) (gs : List Goal) (x : Goal) → x ≡ slice_index_or gs (n - 1) x → is_some (goal_at n gs) ≡ true → goal_at n gs ≡ Some x
+found n gs x e h = let there = some_at (goal_at n gs) h in there.1 ∙ ap (λ y. Some y) (sym (got n gs x there.0 e there.1))
+
+written : (n : ℕ) (gs : List Goal) (y : Goal) (g : Goal) → goal_at n gs ≡ Some g → slice_set gs (n - 1) y ≡ with_goal_at n y gs
+written zero gs y g at = cc
+written (suc n) gs y g at = rw sub-one refl
+
+-- one goal of a user is written
+pub changed : (o : Owned) (owner : List ℕ) (gs : List Goal) (n : ℕ) (x y : Goal) (f : Goal → Goal) → record { owner = owner; goals = gs } ≡ o
+    → x ≡ slice_index_or gs (n - 1) x → y ≡ f x → (g : Goal) → goal_at n o.goals ≡ Some g
+    → record { owner = owner; goals = slice_set gs (n - 1) y } ≡ with_goals (with_goal_at n (f g) o.goals) o
+changed o owner gs n x y f same read is g at =
+    let goals : gs ≡ o.goals = ap (λ (v : Owned). v.goals) same in
+    let here : goal_at n gs ≡ Some g = ap (goal_at n) goals ∙ at in
+    let value : y ≡ f g = is ∙ ap f (got n gs x g read here) in
+    let all : slice_set gs (n - 1) y ≡ with_goal_at n (f g) o.goals =
+    ap (slice_set gs (n - 1)) value ∙ written n gs (f g) g here ∙ ap (with_goal_at n (f g)) goals in
+    λ i. record { owner = ap (λ (v : Owned). v.owner) same i; goals = all i }

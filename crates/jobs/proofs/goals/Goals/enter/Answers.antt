@@ -1,0 +1,29 @@
+use Rattle.std.proofs.Common.{length-set}
+use Rattle.model.specs.Worlds.{Goal, Building}
+use Rattle.model.specs.Goals.{in_state}
+use Rattle.jobs.proofs.NumberLemmas.{changed}
+use Rattle.jobs.proofs.IndexedLemmas.{indexed_entered, listed_nowhere, idle_at}
+use Rattle.jobs.proofs.goals.Goals.enter.Goals as goal
+
+pub enter-requires : goal.enter-requires
+enter-requires c =
+    let is = idle_at c.args.self.now c.self.inside.owner c.self.inside.goals.items c.args.number c.index_mut-goal.result.now c.self.view_is
+    c.index_mut-goal.ensures.value c.requires in
+    listed_nowhere c.self.inside.owner c.self.inside.goals.items c.args.number c.index_mut-goal.result.now c.args.job c.self.inside.indexes.of_jobs.entries
+    c.self.inside.indexes.of_paths.entries is.0 is.1 c.self.invariant.1
+
+pub invariant_of-self-2 : goal.invariant_of-self-2
+invariant_of-self-2 c =
+    let is = idle_at c.args.self.now c.self.inside.owner c.self.inside.goals.items c.args.number c.index_mut-goal.result.now c.self.view_is
+    c.index_mut-goal.ensures.value c.requires in (
+      rw (length-set {A = Goal}) c.self.invariant.0,
+      rw c.set_state.ensures (indexed_entered c.self.inside.owner c.self.inside.goals.items c.args.number c.index_mut-goal.result.now c.args.job
+          c.self.inside.indexes.of_jobs.entries c.enter.new.self.of_jobs.entries c.self.inside.indexes.of_paths.entries c.enter.new.self.of_paths.entries
+          is.0 is.1 c.in_ok-enter.ensures.jobs c.in_ok-enter.ensures.paths c.self.invariant.1),
+    )
+
+pub returns-clause-entered : goal.returns-clause-entered
+returns-clause-entered c =
+    changed c.args.self.now c.self.inside.owner c.self.inside.goals.items c.args.number c.index_mut-goal.result.now c.set_state.new.self
+    (in_state (Building c.args.job))
+    c.self.view_is c.index_mut-goal.ensures.value c.set_state.ensures

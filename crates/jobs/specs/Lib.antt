@@ -1,0 +1,5 @@
+pub mod Owned
+pub mod Codes
+pub mod States
+pub mod Numbers
+pub mod Joining

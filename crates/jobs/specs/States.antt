@@ -1,0 +1,33 @@
+-- How far goals are.
+use Rattle.std.specs.Prelude.{◌≡◌, Bool, false, Option, None, Some, is_some}
+use Rattle.model.specs.Worlds as model
+use Rattle.jobs.specs.declared.goal.State.{State}
+use Rattle.jobs.specs.declared.goal.State.TheVariants.{Waiting, Planned, Building, Done, Failed}
+
+-- what contracts see of a state
+abbrev pub state_of : State → model.State
+state_of Waiting = model.Waiting
+state_of Planned = model.Planned
+state_of (Building job) = model.Building job
+state_of (Done path) = model.Done path
+state_of (Failed why) = model.Failed why
+
+-- the job in which a goal is built
+abbrev pub job_in : model.State → Option model.Job
+job_in model.Waiting = None
+job_in model.Planned = None
+job_in (model.Building job) = Some job
+job_in (model.Done path) = None
+job_in (model.Failed why) = None
+
+abbrev pub is_building : model.State → Bool
+is_building state = is_some (job_in state)
+
+-- a goal that is planned, and built from that
+abbrev pub planned_with : model.Resolved → model.Goal → model.Goal
+planned_with r g = record { derivation = g.derivation; resolved = Some r; state = model.Planned }
+
+-- a goal is there, and is built in no job
+abbrev pub IsIdle : Option model.Goal → Type 0
+IsIdle None = ⊥
+IsIdle (Some g) = is_building g.state ≡ false

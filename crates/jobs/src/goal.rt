@@ -1,0 +1,107 @@
+//! One goal.
+
+ghost use Rattle.std.specs.Prelude.{◌≡◌, None, Some, option_copied};
+ghost use Rattle.model.specs.Goals.{in_state, new_goal};
+ghost use Rattle.jobs.specs.States.{state_of, job_in, planned_with};
+
+use crate::job::Job;
+use model::Refusal;
+use repair::Resolved;
+use std::marker::Model;
+use storepath::StorePath;
+
+/// How far a goal is.
+#[derive(Clone, Debug, Drop)]
+pub enum State {
+    /// It is to be planned.
+    Waiting,
+    /// It can start.
+    Planned,
+    /// It is built in a job.
+    Building(Job),
+    /// It was built, and its output is at that path.
+    Done(StorePath),
+    /// It came to nothing.
+    Failed(Refusal),
+}
+
+/// One request to build.
+#[derive(Drop)]
+pub struct Goal {
+    derivation: StorePath,
+    resolved: Option<Resolved>,
+    state: State,
+}
+
+impl Model for Goal {
+    ghost use Rattle.model.specs.Worlds.{Goal as GoalValue};
+    ghost use Rattle.jobs.specs.Codes.{goal_code};
+
+    ghost Value = { GoalValue };
+
+    ghost coded = { goal_code };
+
+    ghost use Rattle.jobs.specs.States.{state_of};
+
+    ghost view = { λ g.
+        record { derivation = g.derivation; resolved = g.resolved; state = state_of g.state } };
+}
+
+impl Goal {
+    /// A goal that is to be planned.
+    pub(crate) fn new(derivation: StorePath) -> Goal
+        ensures { result ≡ new_goal derivation }
+    {
+        Goal {
+            derivation,
+            resolved: None,
+            state: State::Waiting,
+        }
+    }
+
+    /// The path of the derivation's file.
+    pub fn derivation(&self) -> &StorePath
+        ensures { result.now ≡ self.now.derivation }
+    {
+        &self.derivation
+    }
+
+    /// What it is built from, since it was planned.
+    pub fn resolved(&self) -> Option<&Resolved>
+        ensures { option_copied result ≡ self.now.resolved }
+    {
+        self.resolved.as_ref()
+    }
+
+    /// How far it is.
+    pub fn state(&self) -> &State
+        ensures { state_of result.now ≡ self.now.state }
+    {
+        &self.state
+    }
+
+    /// The job in which it is built.
+    pub fn job(&self) -> Option<&Job>
+        ensures { option_copied result ≡ job_in self.now.state }
+    {
+        match &self.state {
+            State::Building(job) => Some(job),
+            _ => None,
+        }
+    }
+
+    /// It gets another state. What it is built from is left.
+    pub(crate) fn set_state(&mut self, state: State)
+        ensures { self.new ≡ in_state (state_of state) self.old }
+    {
+        self.state = state;
+    }
+
+    /// It is planned, and from now on built from that.
+    pub(crate) fn keep(&mut self, resolved: Resolved)
+        ensures { self.new ≡ planned_with resolved self.old }
+    {
+        self.resolved = Some(resolved);
+        self.state = State::Planned;
+    }
+}

@@ -1,0 +1,179 @@
+//! The goals of one user.
+
+ghost use Rattle.std.specs.Prelude.{◌≡◌, ◌≤◌, ◌+◌, ◌⊎◌, ◌↔◌, true, false, [], ◌∷◌, ◌++◌, length, Some, Err, IfErr, IfOk, OnOk, OnErr, is_some, option_copied};
+ghost use Rattle.model.specs.declared.refusal.Refusal.TheVariants.{Memory, Quota};
+ghost use Rattle.model.specs.Limits.{most_goals};
+ghost use Rattle.model.specs.Worlds.{Building};
+ghost use Rattle.model.specs.Goals.{goal_at, in_state, new_goal, members, led_by};
+ghost use Rattle.jobs.specs.Joining.{job_with, least_with};
+ghost use Rattle.jobs.specs.Owned.{with_goals, ChangesOwn};
+ghost use Rattle.jobs.specs.Numbers.{numbers, leads_at};
+ghost use Rattle.jobs.specs.States.{state_of, is_building, planned_with, IsIdle};
+
+use crate::goal::{Goal, State};
+use crate::indexes::Indexes;
+use crate::job::{Job, lesser};
+use crate::same::same_resolved;
+use model::Refusal;
+use repair::Resolved;
+use std::alloc::Global;
+use std::hash::RandomState;
+use std::marker::Model;
+use storepath::StorePath;
+use trust::User;
+
+/// The most goals of one user.
+pub const MOST_GOALS: usize = 65_535;
+
+/// The goals of one user, numbered from 1.
+#[derive(Drop)]
+pub(crate) struct Goals {
+    owner: User,
+    goals: Vec<Goal>,
+    indexes: Indexes,
+}
+
+impl Model for Goals {
+    ghost use Rattle.std.specs.Prelude.{length, ◌≤◌};
+    ghost use Rattle.model.specs.Limits.{most_goals};
+    ghost use Rattle.jobs.specs.Owned.{Owned};
+    ghost use Rattle.jobs.specs.Codes.{owned_code};
+    ghost use Rattle.jobs.specs.Numbers.{IsIndexed};
+
+    ghost Value = { Owned };
+
+    ghost coded = { owned_code };
+
+    ghost view = { λ g. record { owner = g.owner; goals = g.goals.items } };
+
+    ghost invariant = { λ g. (length g.goals.items ≤ most_goals)
+        × IsIndexed g.owner g.goals.items g.indexes.of_jobs.entries g.indexes.of_paths.entries };
+}
+
+impl Goals {
+    /// No goals.
+    pub(crate) fn new(alloc: Global, hashing: RandomState, owner: User) -> Goals
+        ensures { result ≡ record { owner = owner; goals = [] } }
+    {
+        Goals {
+            owner,
+            goals: Vec::new(alloc),
+            indexes: Indexes::new(alloc, hashing),
+        }
+    }
+
+    /// The user.
+    pub(crate) fn owner(&self) -> &User
+        ensures { result.now ≡ self.now.owner }
+    {
+        &self.owner
+    }
+
+    /// One goal more, which is to be planned. Its number.
+    pub(crate) fn add(&mut self, derivation: StorePath) -> Result<u16, Refusal>
+        ensures added { OnOk result (self.new
+            ≡ with_goals (self.old.goals ++ new_goal derivation ∷ []) self.old) }
+        ensures number { IfOk result (λ n. n ≡ length self.old.goals + 1) }
+        ensures most { IfOk result (λ n. n ≤ most_goals) }
+        ensures kept { OnErr result (self.new ≡ self.old) }
+        ensures full { (result ≡ Err Quota) ↔ (length self.old.goals ≡ most_goals) }
+        ensures errors { IfErr result (λ e. (e ≡ Quota) ⊎ (e ≡ Memory)) }
+    {
+        if self.goals.len() >= MOST_GOALS {
+            return Err(Refusal::Quota);
+        }
+        self.goals.push(Goal::new(derivation))?;
+        Ok(self.goals.len() as u16)
+    }
+
+    /// The goal of a number.
+    pub(crate) fn get(&self, number: u16) -> Option<&Goal>
+        ensures { option_copied result ≡ goal_at number self.now.goals }
+    {
+        if number == 0 {
+            return None;
+        }
+        self.goals.get(number as usize - 1)
+    }
+
+    /// A goal is planned, and from now on built from that. Where it was built in a job, it leaves
+    /// it.
+    pub(crate) fn keep(&mut self, number: u16, resolved: Resolved)
+        requires { is_some (goal_at number self.old.goals) ≡ true }
+        ensures { ChangesOwn number (planned_with resolved) self.old self.new }
+    {
+        let goal = &mut self.goals[number as usize - 1];
+        self.indexes.leave(number, goal);
+        goal.keep(resolved);
+    }
+
+    /// A goal gets a state that is not `Building`. Where it was built in a job it leaves it.
+    pub(crate) fn set_state(&mut self, number: u16, state: State)
+        requires there { is_some (goal_at number self.old.goals) ≡ true }
+        requires state { is_building (state_of state) ≡ false }
+        ensures { ChangesOwn number (in_state (state_of state)) self.old self.new }
+    {
+        let goal = &mut self.goals[number as usize - 1];
+        self.indexes.leave(number, goal);
+        goal.set_state(state);
+    }
+
+    /// A goal that is built in no job enters one. The one error is memory, and changes nothing.
+    pub(crate) fn enter(&mut self, alloc: Global, number: u16, job: Job) -> Result<(), Refusal>
+        requires { IsIdle (goal_at number self.old.goals) }
+        ensures entered { OnOk result
+            (ChangesOwn number (in_state (Building job)) self.old self.new) }
+        ensures kept { OnErr result (self.new ≡ self.old) }
+        ensures memory { IfErr result (λ e. e ≡ Memory) }
+    {
+        let goal = &mut self.goals[number as usize - 1];
+        self.indexes.enter(alloc, &self.owner, number, goal, &job)?;
+        goal.set_state(State::Building(job));
+        Ok(())
+    }
+
+    /// The numbers of the goals that are built in a job, ascending. They are found at once.
+    pub(crate) fn members(&self, job: &Job) -> &[u16]
+        ensures { result.now ≡ members job.now 1 self.now.goals }
+    {
+        self.indexes.of_job(job)
+    }
+
+    /// The numbers of the goals that lead their own job, which is built under a path, ascending.
+    /// They are found at once.
+    pub(crate) fn leading(&self, path: &StorePath) -> &[u16]
+        ensures { result.now ≡ numbers (leads_at self.now.owner path.now) 1 self.now.goals }
+    {
+        self.indexes.of_path(path)
+    }
+
+    // The job of a goal that is built from the same.
+    fn job_with(&self, number: u16, resolved: &Resolved) -> Option<&Job>
+        ensures { option_copied result ≡ job_with resolved.now (goal_at number self.now.goals) }
+    {
+        let goal = self.get(number)?;
+        if same_resolved(goal.resolved()?, resolved) {
+            goal.job()
+        } else {
+            None
+        }
+    }
+
+    /// The least job that a goal of the user leads and in which the same is built, or the best so
+    /// far, where none goes before it.
+    pub(crate) fn least_job<'a>(
+        &'a self,
+        resolved: &Resolved,
+        best: Option<&'a Job>,
+    ) -> Option<&'a Job>
+        ensures { option_copied result
+            ≡ least_with (option_copied best.entry) resolved.now
+            (led_by self.now.owner 1 self.now.goals) }
+    {
+        let mut least = best;
+        for number in self.leading(resolved.scratch()) {
+            least = lesser(least, self.job_with(*number, resolved));
+        }
+        least
+    }
+}

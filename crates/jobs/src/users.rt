@@ -1,0 +1,192 @@
+//! The goals of all users of a run.
+
+ghost use Rattle.std.specs.Prelude.{◌≡◌, ◌≤◌, ◌<◌, ◌+◌, ◌⊎◌, ◌↔◌, true, false, [], ◌∷◌, ◌++◌, length, map, None, Some, Err, IfErr, IfOk, OnOk, OnErr, is_some, option_copied};
+ghost use Rattle.model.specs.declared.refusal.Refusal.TheVariants.{Memory, Quota};
+ghost use Rattle.model.specs.Limits.{most_goals};
+ghost use Rattle.model.specs.Worlds.{Building};
+ghost use Rattle.model.specs.Goals.{in_state, new_goal, members};
+ghost use Rattle.trust.specs.Trusting.{holds};
+ghost use Rattle.jobs.specs.Owned.{goals_at, with_goals_at, goal_of, ChangesGoal};
+ghost use Rattle.jobs.specs.States.{state_of, is_building, planned_with, IsIdle};
+ghost use Rattle.jobs.specs.Joining.{running_at, least_with, joined};
+
+use crate::goal::{Goal, State};
+use crate::goals::Goals;
+use crate::job::Job;
+use model::Refusal;
+use repair::Resolved;
+use std::alloc::Global;
+use std::hash::RandomState;
+use std::marker::Model;
+use storepath::StorePath;
+use trust::User;
+
+/// The goals of the users of a run, who are at most 64. A user is named by his place among them,
+/// and a goal of his by its number, from 1 on.
+#[derive(Drop)]
+pub struct Jobs {
+    all: Vec<Goals>,
+}
+
+impl Model for Jobs {
+    ghost use Rattle.std.specs.Prelude.{length, map, ◌≤◌};
+    ghost use Rattle.jobs.specs.Owned.{Owned, OwnedByAll, all_of};
+    ghost use Rattle.jobs.specs.Codes.{owned_by_all_code};
+
+    ghost Value = { OwnedByAll };
+
+    ghost coded = { owned_by_all_code };
+
+    ghost view = { λ j. all_of j.all.items };
+
+    ghost invariant = { λ j. length j.all.items ≤ 64 };
+}
+
+/// Whether a place is in a word of places.
+fn has_place(set: u64, place: usize) -> bool
+    requires { place < 64 }
+    ensures { result ≡ holds set place }
+{
+    (set >> place) & 1 == 1
+}
+
+impl Jobs {
+    /// No goals, of these users. `hashing` has the keys of the hashers.
+    ///
+    /// # Errors
+    ///
+    /// - `Memory` only where memory was refused.
+    pub fn new(alloc: Global, hashing: RandomState, users: &[User]) -> Result<Jobs, Refusal>
+        requires { length users.now ≤ 64 }
+        ensures value { IfOk result (λ jobs.
+            jobs ≡ record { users = users.now; goals = map (λ u. []) users.now }) }
+        ensures memory { IfErr result (λ e. e ≡ Memory) }
+    {
+        let mut all = Vec::with_capacity(alloc, users.len())?;
+        for user in users {
+            all.push(Goals::new(alloc, hashing, user.clone()?))?;
+        }
+        Ok(Jobs { all })
+    }
+
+    /// One goal more, which is to be planned. Its number.
+    ///
+    /// # Errors
+    ///
+    /// - `Quota` exactly where the user has 65,535 goals.
+    /// - `Memory` only where memory was refused.
+    ///
+    /// Where it is refused, nothing has changed.
+    pub fn add(&mut self, place: usize, derivation: StorePath) -> Result<u16, Refusal>
+        requires { place < length self.old.goals }
+        ensures added { OnOk result (self.new
+            ≡ with_goals_at place (goals_at place self.old ++ new_goal derivation ∷ []) self.old) }
+        ensures number { IfOk result (λ n. n ≡ length (goals_at place self.old) + 1) }
+        ensures most { IfOk result (λ n. n ≤ most_goals) }
+        ensures kept { OnErr result (self.new ≡ self.old) }
+        ensures full { (result ≡ Err Quota) ↔ (length (goals_at place self.old) ≡ most_goals) }
+        ensures errors { IfErr result (λ e. (e ≡ Quota) ⊎ (e ≡ Memory)) }
+    {
+        self.all[place].add(derivation)
+    }
+
+    /// The goal of a number.
+    pub fn get(&self, place: usize, number: u16) -> Option<&Goal>
+        requires { place < length self.now.goals }
+        ensures { option_copied result ≡ goal_of place number self.now }
+    {
+        self.all[place].get(number)
+    }
+
+    /// A goal is planned, and from now on built from that. Where it was built in a job, it leaves
+    /// it. It takes no memory.
+    pub fn keep(&mut self, place: usize, number: u16, resolved: Resolved)
+        requires of_run { place < length self.old.goals }
+        requires there { is_some (goal_of place number self.old) ≡ true }
+        ensures { ChangesGoal place number (planned_with resolved) self.old self.new }
+    {
+        self.all[place].keep(number, resolved);
+    }
+
+    /// A goal gets a state that is not `Building`; what it is built from is left. Where it was
+    /// built in a job, it leaves it. It takes no memory.
+    pub fn set_state(&mut self, place: usize, number: u16, state: State)
+        requires of_run { place < length self.old.goals }
+        requires there { is_some (goal_of place number self.old) ≡ true }
+        requires state { is_building (state_of state) ≡ false }
+        ensures { ChangesGoal place number (in_state (state_of state)) self.old self.new }
+    {
+        self.all[place].set_state(number, state);
+    }
+
+    /// A goal that is built in no job enters one.
+    ///
+    /// # Errors
+    ///
+    /// - `Memory` only where memory was refused. Nothing has changed then.
+    pub fn enter(
+        &mut self,
+        alloc: Global,
+        place: usize,
+        number: u16,
+        job: Job,
+    ) -> Result<(), Refusal>
+        requires of_run { place < length self.old.goals }
+        requires idle { IsIdle (goal_of place number self.old) }
+        ensures entered { OnOk result
+            (ChangesGoal place number (in_state (Building job)) self.old self.new) }
+        ensures kept { OnErr result (self.new ≡ self.old) }
+        ensures memory { IfErr result (λ e. e ≡ Memory) }
+    {
+        self.all[place].enter(alloc, number, job)
+    }
+
+    /// The numbers of the goals of a user that are built in a job, ascending. They are found at
+    /// once.
+    pub fn members(&self, place: usize, job: &Job) -> &[u16]
+        requires { place < length self.now.goals }
+        ensures { result.now ≡ members job.now 1 (goals_at place self.now) }
+    {
+        self.all[place].members(job)
+    }
+
+    // The least job that is led by the users at the places of a set and in which the same is built.
+    fn least_job(&self, set: u64, resolved: &Resolved) -> Option<&Job>
+        ensures { option_copied result
+            ≡ least_with None resolved.now (running_at (holds set) self.now) }
+    {
+        let mut least = None;
+        for place in 0..self.all.len() {
+            if has_place(set, place) {
+                least = self.all[place].least_job(resolved, least);
+            }
+        }
+        least
+    }
+
+    /// The job that a user's goal of that number enters, where it is built from `resolved`: of the
+    /// jobs that the users at the places of a set lead, the least in which the same is built, by
+    /// the names of the leaders and then by number; or, if there is none, its own. It looks only at
+    /// goals that lead jobs under its path.
+    ///
+    /// # Errors
+    ///
+    /// - `Memory` only where there are 2^63 - 1 copies of a name.
+    pub fn join(
+        &self,
+        set: u64,
+        place: usize,
+        number: u16,
+        resolved: &Resolved,
+    ) -> Result<Job, Refusal>
+        requires { place < length self.now.goals }
+        ensures value { IfOk result (λ job.
+            job ≡ joined (holds set) place number resolved.now self.now) }
+        ensures memory { IfErr result (λ e. e ≡ Memory) }
+    {
+        match self.least_job(set, resolved) {
+            Some(job) => Ok(job.clone()?),
+            None => Ok(Job::new(self.all[place].owner().clone()?, number)),
+        }
+    }
+}
