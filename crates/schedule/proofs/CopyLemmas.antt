@@ -31,10 +31,12 @@ use Rattle.store.specs.Stored.{Extends, put_all, source_of, sources_of, AreThere
 use Rattle.schedule.specs.Stored.{source_of_entry}
 use Rattle.schedule.specs.Sound.{IsClosure, sources_at, records_at, desk_of, IsSound, Beside}
 use Rattle.schedule.specs.Taking.{tree_with_path, entry_without, counted, bare, missing_on, are_roomy, copied, CopiesEntries}
+use Rattle.schedule.specs.Supported.{IsEntryOn, GainsOnly}
 use Rattle.schedule.proofs.PuttingLemmas.{put_all-Extends}
 use Rattle.schedule.proofs.AddingLemmas.{has_entry-is_on, charge_of-entry, sources_at-push, records_at-push, known-entry, charge_is}
 use Rattle.schedule.proofs.ClosedLemmas.{still_labelled}
 use Rattle.schedule.proofs.DeskLemmas.{IsKnown, desk_kept, known_kept, length-sources_at, length-records_at}
+use Rattle.schedule.proofs.SupportLemmas.{gains_nothing}
 
 -- ---- one entry
 
@@ -171,6 +173,10 @@ labelled_alike d path (Some a) (Some b) e h =
     let same : a.path ≡ b.path = cc in
     subst (λ p. list_any (λ (r : Recorded). bytes_eq r.path path && bytes_eq r.class.path p) d.records ≡ true) same h
 
+each_of : {X : Type 0} (P : X → Type 0) (xs : List X) → ((x : X) → In x xs → P x) → All P xs
+each_of P [] own = All-nil P
+each_of P (x ∷ xs) own = All-cons P x xs (own x (inl refl)) (each_of P xs (λ y h. own y (inr h)))
+
 is_not : (b : Bool) → b ≡ false → not b ≡ true
 is_not false h = refl
 is_not true h = cc
@@ -185,6 +191,12 @@ module _ (d : Holdings) (entries : List worlds.Entry) where
     | inr f ↦ each_labelled (missing_on d entries) d e
         (in_filter (λ x. not (is_on (entry_without x) d)) e entries h (is_not (is_on (entry_without e) d) f))
   ]
+
+  entries_there : All (λ e. has_labelled after (path_of_entry e) (class_of_entry e) ≡ true) entries
+  entries_there = each_of (λ e. has_labelled after (path_of_entry e) (class_of_entry e) ≡ true) entries entry_there
+
+  still_after : GainsOnly d after
+  still_after path class h = still_each (map counted (missing_on d entries)) d path class h
 
   record_closed : IsWhole entries → (r : Record) → In (OfRecord r) entries → IsClosedWith after (without_tree r)
   record_closed whole r h = by r.labels (λ l k. k)
@@ -352,6 +364,13 @@ module _ (old new : List Source) (limit : ℕ) (d : Holdings) (entries : List wo
   pub closed_copied : IsClosure entries → IsClosed with_found
   closed_copied closure = subst IsClosed (sym one_by_one) (all_closed d entries closure.whole sound.closed)
 
+  -- all of them are on it, and so is what was
+  pub there_copied : All (IsEntryOn with_found) entries
+  there_copied = subst (λ (h : Holdings). All (IsEntryOn h) entries) (sym one_by_one) (entries_there d entries)
+
+  pub gains_copied : GainsOnly d with_found
+  gains_copied = subst (GainsOnly d) (sym one_by_one) (still_after d entries)
+
   pub sound_copied : IsClosure entries → are_roomy (bare_entries found) bytes_more limit d ≡ true → IsSound new limit with_found
   sound_copied closure roomy =
       let S : List Entry = bare_entries found in
@@ -401,6 +420,8 @@ uncopied limit old d entries trees why is (inl memory) = record {
   fits = λ users beside reply own. (let no = rw memory at own in cc);
   stored = search rules;
   sound = search rules;
+  there = search rules;
+  gains = gains_nothing d;
   kept = record { sources = refl; desk = refl };
   taken = λ clash. (let no : Memory ≡ Clash = sym memory ∙ (let same : why ≡ Clash = cc in same) in cc);
 }
@@ -410,6 +431,8 @@ uncopied limit old d entries trees why is (inr clash) =
       fits = λ users beside reply own. (let no = rw clash.0 at own in cc);
       stored = search rules;
       sound = search rules;
+      there = search rules;
+      gains = gains_nothing d;
       kept = record { sources = refl; desk = refl };
       taken = λ same. record {
         before = sources_of t.before;
@@ -456,6 +479,8 @@ module _ (limit : ℕ) (old : List Source) (d : Holdings) (entries : List worlds
     fits = λ users beside reply own. copied_as users beside reply false (roomy_as found more false found_is more_is over);
     stored = search rules;
     sound = search rules;
+    there = search rules;
+    gains = gains_nothing d;
     kept = record { sources = refl; desk = refl };
     taken = λ clash. cc;
   }
@@ -478,6 +503,8 @@ module _ (limit : ℕ) (old : List Source) (d : Holdings) (entries : List worlds
         fits = λ users beside reply. copied_as users beside reply true room;
         stored = refl;
         sound = sound_copied old later_table limit d entries its_later its_there sound closure room;
+        there = there_copied old later_table limit d entries its_later its_there sound;
+        gains = gains_copied old later_table limit d entries its_later its_there sound;
         kept = search rules;
         taken = λ clash. cc;
       })

@@ -3,6 +3,7 @@ pub mod DeskLemmas
 pub mod AddingLemmas
 pub mod DerivationLemmas
 pub mod GoalLemmas
+pub mod SupportLemmas
 pub mod WorldLemmas
 pub mod ApartLemmas
 pub mod GoodLemmas
@@ -21,9 +22,16 @@ pub mod JoinLemmas
 pub mod StartLemmas
 pub mod ClosedLemmas
 pub mod PinLemmas
+pub mod OutputLemmas
+pub mod BuiltLemmas
+pub mod GainLemmas
+pub mod FinishLemmas
+pub mod MadeLemmas
 pub mod OfferLemmas
 pub mod RunLemmas
 pub mod EverLemmas
 pub mod PlaceLemmas
 pub mod EndingLemmas
+pub mod LeaderLemmas
 pub mod FailingLemmas
+pub mod CommitLemmas

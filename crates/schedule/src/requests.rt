@@ -5,17 +5,23 @@ ghost use Rattle.model.specs.Worlds.{are_users};
 ghost use Rattle.trust.specs.Trusting.{trusts};
 ghost use Rattle.trust.specs.Naming.{IsWithin};
 ghost use Rattle.schedule.specs.Sound.{IsSound, AreGoalsSound};
+ghost use Rattle.schedule.specs.Supported.{AreSupported};
 ghost use Rattle.schedule.specs.Standing.{event_of, parts};
 ghost use Rattle.schedule.specs.Handling.{IsHandled};
 
 mod closures;
+mod committing;
 mod derivations;
 mod ending;
 mod entries;
+mod finishing;
+mod gains;
 mod goals;
 mod offers;
+mod outputs;
 mod pins;
 mod planning;
+mod settling;
 mod sources;
 mod starting;
 mod taking;
@@ -67,6 +73,7 @@ pub(crate) fn handle(
     requires owned { jobs.old.users ≡ users.now }
     requires with_goals { length jobs.old.goals ≡ length users.now }
     requires goals_sound { All (AreGoalsSound table.old.sources) jobs.old.goals }
+    requires supported { AreSupported desks.old jobs.old.goals }
     ensures handled { IsHandled
         (parts users.now limits.charge (trusts trust.old) jobs.old.goals table.old.sources desks.old)
         (event_of event) result

@@ -1,6 +1,6 @@
-use Rattle.std.proofs.Common.{◌≡◌, ℕ, List, get_or, sym, ◌∙◌, ap, subst, Some, Ok}
+use Rattle.std.proofs.Common.{◌≡◌, ℕ, List, get_or, sym, ◌∙◌, ap, subst, Ok}
 use Rattle.std.proofs.lemmas.List.{set-get_or}
-use Rattle.std.specs.Prelude.{All, slice_set, position, bytes_eq, length, ◌≤◌}
+use Rattle.std.specs.Prelude.{All, slice_set, length, ◌≤◌}
 use Rattle.trust.specs.Trusting.{trusts}
 use Rattle.model.specs.Worlds.{Source, Goal}
 use Rattle.jobs.specs.Owned.{OwnedByAll, goals_at}
@@ -179,7 +179,8 @@ returns-in-Plan-clause-handled c =
     let asks = asking c.requires.listed c.requires.within c.requires.paired c.requires.sound c.requires.with_goals c.requires.goals_sound
     (sym c.in-Some.ensures) in
     let handled = subst (λ (ds : List Holdings). All (IsSound old limit) ds
-    → IsHandledAtPlace users limit trust c.args.jobs.now.goals old ds i (PlanRequest c.in-Plan.number) c.plan.result own new (desk_at ds i)) kept (c.plan.ensures.handled limit) in
+    → IsHandledAtPlace users limit trust c.args.jobs.now.goals old ds i (PlanRequest c.in-Plan.number) c.plan.result own new (desk_at ds i)) kept
+    (c.plan.ensures.handled limit) in
     let before = parts users limit trust c.args.jobs.now.goals old c.args.desks.now in
     subst (λ (ds : List Holdings). IsHandled before (event_of c.args.event) c.plan.result (parts users limit trust c.plan.new.jobs.goals new ds))
     (kept_desks c.args.desks.now i bare ∙ sym kept)
@@ -212,7 +213,8 @@ returns-in-Start-clause-handled c =
     IsHandledAtPlace users limit trust c.args.jobs.now.goals old ds i (StartRequest c.in-Start.number) c.start.result own new (desk_at later i)) kept
     c.start.ensures.handled in
     let before = parts users limit trust c.args.jobs.now.goals old c.args.desks.now in
-    subst (λ (ds : List Holdings). IsHandled before (event_of c.args.event) c.start.result (parts users limit trust c.start.new.jobs.goals new ds)) (sym other_desks)
+    subst (λ (ds : List Holdings). IsHandled before (event_of c.args.event) c.start.result (parts users limit trust c.start.new.jobs.goals new ds))
+    (sym other_desks)
     (subst (λ (goals : List (List Goal)). IsHandled before (event_of c.args.event) c.start.result
     (parts users limit trust goals new (slice_set c.args.desks.now i (desk_at later i)))) (sym others)
     (at_place _ (event_of c.args.event) i asks own new (desk_at later i) c.start.result (rw c.in-Start.is handled)))

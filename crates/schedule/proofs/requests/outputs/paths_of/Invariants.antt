@@ -2,7 +2,7 @@ use Rattle.std.proofs.Common.{◌≡◌, take}
 use Rattle.std.specs.Prelude.{All}
 use Rattle.model.specs.Paths.{IsPath}
 use Rattle.model.specs.References.{paths_of_labels}
-use Rattle.schedule.proofs.requests.offers.paths_of.Given as goal
+use Rattle.schedule.proofs.requests.outputs.paths_of.Given as goal
 
 abbrev pub invariant-loop-label : goal.invariant-loop-label
 invariant-loop-label l = record {

@@ -1,8 +1,8 @@
 use Rattle.std.proofs.Common.{rules, ◌≡◌, ◌∙◌, arith}
 use Rattle.std.proofs.lemmas.List.Elements.{All-push}
 use Rattle.model.specs.Paths.{IsPath}
-use Rattle.schedule.proofs.OfferLemmas.{path_pushed}
-use Rattle.schedule.proofs.requests.offers.paths_of.Goals as goal
+use Rattle.schedule.proofs.OutputLemmas.{path_pushed}
+use Rattle.schedule.proofs.requests.outputs.paths_of.Goals as goal
 
 pub loop-label-preserved : goal.loop-label-preserved
 loop-label-preserved c =
