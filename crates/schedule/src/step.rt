@@ -95,7 +95,7 @@ impl Core {
     ///
     /// With 90 `Memory` a growth was refused; 91 `Clash` comes only where another tree is at the
     /// path of what is added. Every other reply, and the world after it, is the model's. A
-    /// refusal that needs no memory to be found (11, 22, 41 and 53) is never told as 90.
+    /// refusal that needs no memory to be found (11, 22, 41, 42, 43 and 53) is never told as 90.
     ///
     /// Where no two hashed texts have one folded digest, a closure that is given serves no class by
     /// two paths, has an entry for each label of its entries, and keeps no hash part of a path that
