@@ -1,13 +1,13 @@
 -- The verbs of lines. Each has a row in each of these tables: its word in a line, the kinds of the words behind it, and the request that they make.
 use Rattle.std.specs.Prelude.{◌≡◌, ℕ, if◌then◌else◌, List, [], ◌∷◌, bytes_eq, codes, Option, None, Some}
 use Rattle.model.specs.declared.verb.Verb.{Verb}
-use Rattle.model.specs.declared.verb.Verb.TheVariants.{Source, Derivation, Offer, Fetch, Trust, Distrust, Pin, Unpin, Closure, Take, Build, Status, Plan, Start, Fail}
+use Rattle.model.specs.declared.verb.Verb.TheVariants.{Source, Derivation, Offer, Fetch, Trust, Distrust, Pin, Unpin, Closure, Take, Build, Status, Plan, Start, Finish, Fail}
 use Rattle.model.specs.declared.verb.WordKind.{WordKind}
 use Rattle.model.specs.declared.verb.WordKind.TheVariants as kind
 use Rattle.model.specs.Archives.{Tree}
 use Rattle.model.specs.Events.{Request}
 use Rattle.model.specs.Events as events
-use Rattle.model.specs.Words.{IsTreeText, number_in}
+use Rattle.model.specs.Words.{IsTreeText, IsOutputText, number_in}
 
 -- the verb that a word is
 abbrev pub verb_of : List ℕ → Option Verb
@@ -26,6 +26,7 @@ verb_of word =
     else if bytes_eq word (codes "status") then Some Status
     else if bytes_eq word (codes "plan") then Some Plan
     else if bytes_eq word (codes "start") then Some Start
+    else if bytes_eq word (codes "finish") then Some Finish
     else if bytes_eq word (codes "fail") then Some Fail
     else None
 
@@ -45,6 +46,7 @@ kinds_of Build = kind.Path ∷ []
 kinds_of Status = kind.Number ∷ []
 kinds_of Plan = kind.Number ∷ []
 kinds_of Start = kind.Number ∷ []
+kinds_of Finish = kind.Number ∷ kind.Output ∷ []
 kinds_of Fail = kind.Number ∷ kind.ExitStatus ∷ []
 
 -- the request that it makes of its words
@@ -63,5 +65,6 @@ IsRequestOf Build (path ∷ []) request = request ≡ events.Build path
 IsRequestOf Status (number ∷ []) request = request ≡ events.Status (number_in number)
 IsRequestOf Plan (number ∷ []) request = request ≡ events.Plan (number_in number)
 IsRequestOf Start (number ∷ []) request = request ≡ events.Start (number_in number)
+IsRequestOf Finish (number ∷ output ∷ []) request = (bytes : List ℕ) × IsOutputText output bytes × (request ≡ events.Finish (number_in number) bytes)
 IsRequestOf Fail (number ∷ status ∷ []) request = request ≡ events.Fail (number_in number) (number_in status)
 IsRequestOf verb words request = ⊥

@@ -55,6 +55,8 @@ pub enum Verb {
     Plan,
     /// `start`: to build a goal, alone or with others.
     Start,
+    /// `finish`: the builder of a job has written an output.
+    Finish,
     /// `fail`: the builder of a job has failed.
     Fail,
 }
@@ -92,6 +94,8 @@ impl Verb {
             Some(Verb::Plan)
         } else if word == b"start".as_slice() {
             Some(Verb::Start)
+        } else if word == b"finish".as_slice() {
+            Some(Verb::Finish)
         } else if word == b"fail".as_slice() {
             Some(Verb::Fail)
         } else {
@@ -113,6 +117,7 @@ impl Verb {
             Verb::Trust | Verb::Distrust => &[WordKind::User],
             Verb::Pin => &[WordKind::Path, WordKind::Path],
             Verb::Status | Verb::Plan | Verb::Start => &[WordKind::Number],
+            Verb::Finish => &[WordKind::Number, WordKind::Output],
             Verb::Fail => &[WordKind::Number, WordKind::ExitStatus],
         }
     }

@@ -1,6 +1,6 @@
 -- Asking for a goal, and how far it is.
-use Rattle.std.proofs.Common.{◌≡◌, ℕ, suc, ◌+◌, ◌<◌, ◌≤◌, Bool, true, false, ◌⊎◌, inl, inr, List, [], ◌∷◌, ◌++◌, length, refl, sym, ◌∙◌, ap, subst, arith, rules, Some, None, Result, Ok, Err}
-use Rattle.std.specs.Prelude.{All, IfOk, IfErr, OnOk, OnErr, Option, is_some, nat_lt}
+use Rattle.std.proofs.Common.{◌≡◌, ℕ, suc, ◌+◌, ◌≤◌, Bool, true, false, ◌⊎◌, inl, inr, List, [], ◌∷◌, ◌++◌, length, refl, sym, ◌∙◌, ap, subst, arith, rules, Some, None, Result, Ok, Err}
+use Rattle.std.specs.Prelude.{All, IfOk, IfErr, OnErr, Option, is_some, nat_lt}
 use Rattle.std.proofs.lemmas.Bool.Decides.{nat_tests}
 use Rattle.model.specs.declared.refusal.Refusal.{Refusal}
 use Rattle.model.specs.declared.refusal.Refusal.TheVariants.{Memory, Quota, UnknownDerivation, UnknownGoal}
@@ -9,11 +9,11 @@ use Rattle.model.specs.Classes.{Admission, known_at}
 use Rattle.model.specs.Worlds.{Source, Setup, Desk, World, Goal, are_users, known_of}
 use Rattle.model.specs.Goals.{goal_at, new_goal, as_seen}
 use Rattle.model.specs.Events as events
-use Rattle.model.specs.Outcomes.{Sight, sight_of, reaches, becomes}
-use Rattle.model.specs.GoalRequests.{build, status}
+use Rattle.model.specs.Outcomes.{sight_of, reaches, becomes}
+use Rattle.model.specs.GoalRequests.{status}
 use Rattle.model.specs.Replies.{is_refused, is_clash_refusal}
 use Rattle.model.specs.Steps.{outcome}
-use Rattle.model.proofs.GoalRequestLemmas.{build_cases, status_cases}
+use Rattle.model.proofs.GoalRequestLemmas.{build_cases}
 use Rattle.trust.specs.Trusting.{IsReach}
 use Rattle.trust.specs.Naming.{place_of, names, trusted_at, IsWithin}
 use Rattle.schedule.specs.declared.events.Reply as Rust
@@ -23,9 +23,11 @@ use Rattle.schedule.specs.Sound.{Beside, desk_of, IsSound, AreGoalsSound}
 use Rattle.schedule.specs.Standing.{goals_of, beside_at, reply_of}
 use Rattle.schedule.specs.Viewing.{desk_at}
 use Rattle.schedule.specs.Given.{HasSoundPlan}
+use Rattle.schedule.specs.Supported.{AreSupportedOn}
 use Rattle.schedule.specs.Handling.{Fits, RefusedAtOnce, IsHandledWithGoals, IsHandledByGoals, IsReadAtPlace}
 use Rattle.schedule.proofs.DeskLemmas.{known_of-desk_of}
 use Rattle.schedule.proofs.GoalLemmas.{goals_sound_at, goals_more}
+use Rattle.schedule.proofs.SupportLemmas.{gains_nothing, supported_more}
 use Rattle.schedule.proofs.StepLemmas.{on_ok_any, on_err_any}
 use Rattle.schedule.proofs.HandlingLemmas.{is_left}
 use Rattle.schedule.proofs.TrustLemmas.{distinct_users}
@@ -35,27 +37,30 @@ use Rattle.schedule.proofs.ClosureLemmas.{world, his_desk, his_sound}
 -- a request of goals that stores nothing
 pub goals_handled : (setup : Setup) (w : World) (u : List ℕ) (trusted : List ℕ → Bool) (goals changed : List Goal) (table : List Source) (before : Holdings)
     (request : events.Request) (result : Result Rust.Reply Refusal)
-    → IsSound table setup.charge before → AreGoalsSound table changed → OnErr result (changed ≡ goals)
+    → IsSound table setup.charge before → AreGoalsSound table changed → (AreSupportedOn before goals → AreSupportedOn before changed)
+    → OnErr result (changed ≡ goals)
     → Fits (outcome setup (sight_of setup w u) request) (desk_of (record { trusted = trusted; goals = changed }) table before) result
     → IfOk result (λ r. is_refused (reply_of r) ≡ false) → RefusedAtOnce (outcome setup (sight_of setup w u) request) result
     → IfErr result (λ why. is_clash_refusal why ≡ false) → stored_by setup w u request ≡ [] → HasSoundPlan setup w u request
     → IsHandledWithGoals setup w u trusted goals table before request result changed table before
-goals_handled setup w u trusted goals changed table before request result sound goals_sound kept serves answered at_once no_clash nothing plans = record {
+goals_handled setup w u trusted goals changed table before request result sound goals_sound supported kept serves answered at_once no_clash none plans = record {
   handled = record {
     serves = serves;
     answered = answered;
     at_once = at_once;
     kept = is_left table before result;
     sound = sound;
+    gains = gains_nothing before;
     grows = λ path there. refl;
     hashed = λ texts hashed inside. hashed;
     taken = λ clash. (let no = rw clash at no_clash in cc);
     clashes = λ clash. (let no = rw clash at no_clash in cc);
-    stored = on_ok_any result _ (rw nothing refl);
+    stored = on_ok_any result _ (rw none refl);
     given = on_ok_any result _ plans;
   };
   kept = kept;
   sound = goals_sound;
+  supported = supported;
 }
 
 -- ---- asking for a goal
@@ -71,7 +76,7 @@ module _ (before : Holdings) (goals : List Goal) (path : List ℕ) where
   build_unknown none setup w u trusted table sound goals_sound here =
       let beside : Beside = record { trusted = trusted; goals = goals } in
       let unknown : known_at (known_of (desk_of beside table before)) path ≡ None = ap (λ k. known_at k path) (known_of-desk_of beside table before) ∙ none in
-      goals_handled setup w u trusted goals goals table before (events.Build path) (Err UnknownDerivation) sound goals_sound refl
+      goals_handled setup w u trusted goals goals table before (events.Build path) (Err UnknownDerivation) sound goals_sound (λ was. was) refl
       (λ own. rw (here, unknown) refl) (search rules) (λ why quick o. (let is = rw (here, unknown) at o in cc)) refl refl tt
 
   module _ (known : is_some (known_at before.known path) ≡ true) where
@@ -88,7 +93,7 @@ module _ (before : Holdings) (goals : List Goal) (path : List ℕ) where
     unfolding outcome
     build_refused why refused setup w u trusted table sound goals_sound here =
         let beside : Beside = record { trusted = trusted; goals = goals } in
-        goals_handled setup w u trusted goals goals table before (events.Build path) (Err why) sound goals_sound refl
+        goals_handled setup w u trusted goals goals table before (events.Build path) (Err why) sound goals_sound (λ was. was) refl
         (λ own. elim refused [
           | inl full ↦
               let no_room : nat_lt (length goals) most_goals ≡ false = (let n = full.1 in grind (arith, nat_tests, n)) in
@@ -110,7 +115,7 @@ module _ (before : Holdings) (goals : List Goal) (path : List ℕ) where
         let next : number ≡ suc (length goals) = omega (arith, count) in
         let reply_is : reply_of reply ≡ events.GoalNumber (suc (length goals)) = told ∙ ap events.GoalNumber next in
         goals_handled setup w u trusted goals changed table before (events.Build path) (Ok reply) sound
-        (rw is (goals_more table goals path goals_sound)) (search rules)
+        (rw is (goals_more table goals path goals_sound)) (rw is (supported_more before goals path)) (search rules)
         (rw (here, known_there beside table, has_room, reply_is, is) refl) (rw told refl)
         (rw here (build_cases (λ o. RefusedAtOnce o (Ok reply)) (desk_of beside table before) path (λ b there quick_why quick o. cc)
         (λ full quick_why quick o. cc)
@@ -148,7 +153,7 @@ module _ (users : List (List ℕ)) (trust : ℕ → ℕ → Bool) (goals : List 
     told_there result fits answered at_once no_clash =
         goals_handled setup w actor (trusted_at users trust place) own own table (desk_at desks place) (events.Status n) result
         (his_sound users limit trust goals table desks actor place listed found paired within sound) (goals_sound_at table goals place goals_sound)
-        (on_err_any result (own ≡ own) refl) (subst (λ (d : Desk). Fits (status (sight_of setup w actor) n) d result) his fits)
+        (λ was. was) (on_err_any result (own ≡ own) refl) (subst (λ (d : Desk). Fits (status (sight_of setup w actor) n) d result) his fits)
         answered at_once no_clash refl tt
 
   -- there is no such goal

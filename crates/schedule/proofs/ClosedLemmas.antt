@@ -17,7 +17,8 @@ use Rattle.realise.specs.declared.entry.Entry.TheVariants as entry
 use Rattle.realise.specs.Holdings.{Holdings, is_at, has_labelled, holds_entry, IsClosedWith, IsClosedWithEntry, IsClosed}
 use Rattle.choose.specs.Visible.{source_at, record_at}
 use Rattle.schedule.specs.Sound.{Beside, desk_of}
-use Rattle.schedule.specs.Offering.{AreLabels, IsRecordOf}
+use Rattle.schedule.specs.Offering.{AreLabels}
+use Rattle.schedule.specs.Outputs.{IsRecordOf}
 
 -- ---- candidates
 
@@ -36,7 +37,7 @@ module _ (P : Label → Type 0) where
       (whichever (All P) (bytes_eq first.path l.path) (least_label first l ∷ others) (l ∷ first ∷ others)
       (All-cons P (least_label first l) others (whichever P (class_before l.class first.class) l first one front) back) (All-cons P l (first ∷ others) one all))
 
-  all_in_order : (ls : List Label) → All P ls → All P (labels_in_order ls)
+  pub all_in_order : (ls : List Label) → All P ls → All P (labels_in_order ls)
   all_in_order [] all = All-nil P
   all_in_order (l ∷ ls) all = all_with l (labels_in_order ls) (All-head P l ls all) (all_in_order ls (All-tail P l ls all))
 

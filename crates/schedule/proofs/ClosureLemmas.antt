@@ -45,6 +45,7 @@ use Rattle.schedule.specs.Handling.{Fits, RefusedAtOnce, IsHandledIn, IsHandledB
 use Rattle.schedule.specs.Viewing.{bare, desk_at, IsView}
 use Rattle.schedule.proofs.WorldLemmas.{place_found, desk_found}
 use Rattle.schedule.proofs.HandlingLemmas.{place_there, sound_at, is_left}
+use Rattle.schedule.proofs.SupportLemmas.{gains_nothing}
 
 -- ---- the user at a place
 
@@ -87,6 +88,7 @@ module _ (users : List (List ℕ)) (limit : ℕ) (trust : ℕ → ℕ → Bool) 
     at_once = at_once;
     kept = is_left table (desk_at desks place) result;
     sound = his_sound sound;
+    gains = gains_nothing (desk_at desks place);
     grows = λ path there. refl;
     hashed = λ texts hashed inside. hashed;
     taken = λ clash. (let no = rw clash at no_clash in cc);

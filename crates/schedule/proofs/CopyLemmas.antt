@@ -1,10 +1,9 @@
 -- A desk to which the entries of a closure are copied.
 use Rattle.std.proofs.Common.{◌≡◌, ℕ, ◌+◌, ◌≤◌, ◌⊎◌, rules, Bool, true, false, inl, inr, List, [], ◌∷◌, ◌++◌, length, refl, sym, ◌∙◌, ap, subst, arith, Option, Some, None, Ok, Err}
-use Rattle.std.specs.Prelude.{All, map, filter, bytes_eq, nat_le, not, ◌&&◌}
+use Rattle.std.specs.Prelude.{All, map, bytes_eq, nat_le, not, ◌&&◌}
 use Rattle.std.specs.List.{list_any}
 use Rattle.std.proofs.lemmas.List.{length-append}
 use Rattle.std.proofs.lemmas.List.Elements.{All-nil, All-cons, All-head, All-tail, All-weaker, All-push, All-filter}
-use Rattle.std.proofs.lemmas.List.Sums.{sum_by-le}
 use Rattle.std.proofs.lemmas.List.Folds.{list_any-append}
 use Rattle.std.proofs.lemmas.Bool.Decides.{nat_tests}
 use Rattle.model.specs.declared.refusal.Refusal.{Refusal}
@@ -13,28 +12,28 @@ use Rattle.model.specs.Archives.{Tree, nar}
 use Rattle.model.specs.Events as events
 use Rattle.model.specs.Outcomes.{becomes, check, room}
 use Rattle.model.specs.Classes.{Class}
-use Rattle.model.specs.Reach.{is_among}
 use Rattle.model.specs.Limits.{most_sources, most_derivations, most_records, most_pins}
 use Rattle.model.specs.Worlds.{Source, Record, Desk, OfSource, OfRecord, path_of_entry, tree_at, are_distinct, charge_of, is_within, has_entry, with_entry, with_all, missing, with_entries}
 use Rattle.model.specs.Worlds as worlds
-use Rattle.model.specs.Closures.{class_of_entry, tree_of_entry, entry_before, path_of_class, IsWhole}
-use Rattle.model.proofs.BoolLemmas.{either, same_bytes, bytes_same, or_cases, or_left, or_right, both, both_parts}
+use Rattle.model.specs.Closures.{class_of_entry, tree_of_entry, path_of_class, IsWhole}
+use Rattle.model.proofs.BoolLemmas.{either, bytes_same, or_cases, or_left, or_right, both, both_parts}
 use Rattle.model.proofs.MemberLemmas.{In, in_of, contains_of, from_filter, in_filter}
-use Rattle.choose.specs.Gathering.{Ascends}
-use Rattle.choose.proofs.SetLemmas.{irreflexive, clash}
-use Rattle.choose.proofs.OrderLemmas.{entry_before-Weak}
+use Rattle.choose.proofs.SetLemmas.{clash}
 use Rattle.realise.specs.Recorded.{Recorded, without_tree}
 use Rattle.realise.specs.declared.entry.Entry.{Entry}
-use Rattle.realise.specs.Holdings.{Holdings, paths_of, same_recorded, entry_path, entry_with, is_on, holds_entry, holds_all, holds_each, charged_more, charged_all, sources_in, records_in, is_at, has_labelled, AreCountable, AreAbsent, IsClosed, IsClosedWith}
+use Rattle.realise.specs.Holdings.{Holdings, paths_of, same_recorded, entry_path, entry_with, is_on, holds_entry, holds_all, holds_each, charged_more, charged_all, sources_in, records_in, is_at, has_labelled, IsClosed, IsClosedWith}
 use Rattle.realise.proofs.SeveralLemmas.{with_parts, all_parts, all_is_each}
 use Rattle.store.specs.Stored.{Extends, put_all, source_of, sources_of, AreThere, AreTaken as AreTakenOf}
 use Rattle.schedule.specs.Stored.{source_of_entry}
 use Rattle.schedule.specs.Sound.{IsClosure, sources_at, records_at, desk_of, IsSound, Beside}
 use Rattle.schedule.specs.Taking.{tree_with_path, entry_without, counted, bare, missing_on, are_roomy, copied, CopiesEntries}
+use Rattle.schedule.specs.Supported.{IsEntryOn, GainsOnly}
+use Rattle.schedule.proofs.MissingLemmas.{bare_entries, is_not}
 use Rattle.schedule.proofs.PuttingLemmas.{put_all-Extends}
 use Rattle.schedule.proofs.AddingLemmas.{has_entry-is_on, charge_of-entry, sources_at-push, records_at-push, known-entry, charge_is}
 use Rattle.schedule.proofs.ClosedLemmas.{still_labelled}
 use Rattle.schedule.proofs.DeskLemmas.{IsKnown, desk_kept, known_kept, length-sources_at, length-records_at}
+use Rattle.schedule.proofs.SupportLemmas.{gains_nothing}
 
 -- ---- one entry
 
@@ -171,9 +170,9 @@ labelled_alike d path (Some a) (Some b) e h =
     let same : a.path ≡ b.path = cc in
     subst (λ p. list_any (λ (r : Recorded). bytes_eq r.path path && bytes_eq r.class.path p) d.records ≡ true) same h
 
-is_not : (b : Bool) → b ≡ false → not b ≡ true
-is_not false h = refl
-is_not true h = cc
+each_of : {X : Type 0} (P : X → Type 0) (xs : List X) → ((x : X) → In x xs → P x) → All P xs
+each_of P [] own = All-nil P
+each_of P (x ∷ xs) own = All-cons P x xs (own x (inl refl)) (each_of P xs (λ y h. own y (inr h)))
 
 module _ (d : Holdings) (entries : List worlds.Entry) where
   abbrev after : Holdings
@@ -185,6 +184,12 @@ module _ (d : Holdings) (entries : List worlds.Entry) where
     | inr f ↦ each_labelled (missing_on d entries) d e
         (in_filter (λ x. not (is_on (entry_without x) d)) e entries h (is_not (is_on (entry_without e) d) f))
   ]
+
+  entries_there : All (λ e. has_labelled after (path_of_entry e) (class_of_entry e) ≡ true) entries
+  entries_there = each_of (λ e. has_labelled after (path_of_entry e) (class_of_entry e) ≡ true) entries entry_there
+
+  still_after : GainsOnly d after
+  still_after path class h = still_each (map counted (missing_on d entries)) d path class h
 
   record_closed : IsWhole entries → (r : Record) → In (OfRecord r) entries → IsClosedWith after (without_tree r)
   record_closed whole r h = by r.labels (λ l k. k)
@@ -213,82 +218,6 @@ module _ (d : Holdings) (entries : List worlds.Entry) where
       (All-weaker (IsClosedWith d) (IsClosedWith after) (λ r all. All-weaker (λ l. has_labelled d l.path l.class ≡ true) (λ l. has_labelled after l.path l.class ≡ true)
       (λ l h. still_each (map counted (missing_on d entries)) d l.path l.class h) r.labels all) d.records closed)
       (λ r h. record_closed whole r (from_filter (λ e. not (is_on (entry_without e) d)) (OfRecord r) entries h).0)
-
--- ---- what is asked of entries that are added
-
-abbrev pub bare_entries : List worlds.Entry → List Entry
-bare_entries es = bare (map counted es)
-
-still_ascends : {X : Type 0} (before : X → X → Bool) (p : X → Bool) (xs : List X) → Ascends before xs → Ascends before (filter p xs)
-still_ascends before p [] up = tt
-still_ascends before p (x ∷ xs) up = elim (either (p x)) [
-  | inl t ↦ rw t (λ y h. up.0 y (from_filter p y xs h).0, still_ascends before p xs up.1)
-  | inr f ↦ rw f (still_ascends before p xs up.1)
-]
-
--- a source before which another one stands has another path
-not_again : (s : Source) (es : List worlds.Entry) → ((y : worlds.Entry) → In y es → entry_before (OfSource s) y ≡ true)
-    → is_among s.path (sources_in (bare_entries es)) ≡ false
-not_again s [] up = refl
-not_again s (OfRecord r ∷ es) up = not_again s es (λ y h. up y (inr h))
-not_again s (OfSource t ∷ es) up = elim (either (bytes_eq t.path s.path)) [
-  | inl same ↦
-      let path : t.path ≡ s.path = same_bytes t.path s.path same in
-      let up_to : entry_before (OfSource s) (OfSource (record { path = s.path; tree = t.tree })) ≡ true =
-      subst (λ p. entry_before (OfSource s) (OfSource (record { path = p; tree = t.tree })) ≡ true) path (up (OfSource t) (inl refl)) in
-      absurd (clash (entry_before (OfSource s) (OfSource s)) up_to (irreflexive entry_before entry_before-Weak (OfSource s)))
-  | inr other ↦ rw other (not_again s es (λ y h. up y (inr h)))
-]
-
-sources_distinct : (es : List worlds.Entry) → Ascends entry_before es → are_distinct (sources_in (bare_entries es)) ≡ true
-unfolding are_distinct
-sources_distinct [] up = refl
-sources_distinct (OfRecord r ∷ es) up = sources_distinct es up.1
-sources_distinct (OfSource s ∷ es) up =
-    both (not (is_among s.path (sources_in (bare_entries es)))) _ (is_not (is_among s.path (sources_in (bare_entries es))) (not_again s es up.0)) (sources_distinct es up.1)
-
-not_true : (b : Bool) → not b ≡ true → b ≡ false
-not_true true h = cc
-not_true false h = refl
-
-bare_all : (P : Entry → Type 0) (es : List worlds.Entry) → All (λ e. P (entry_without e)) es → All P (bare_entries es)
-bare_all P [] all = All-nil P
-bare_all P (e ∷ es) all = All-cons P (entry_without e) (bare_entries es) (All-head (λ e. P (entry_without e)) e es all) (bare_all P es (All-tail (λ e. P (entry_without e)) e es all))
-
-filtered_all : {X : Type 0} (p : X → Bool) (P : X → Type 0) → ((x : X) → p x ≡ true → P x) → (xs : List X) → All P (filter p xs)
-filtered_all p P own [] = All-nil P
-filtered_all p P own (x ∷ xs) = elim (either (p x)) [
-  | inl t ↦ rw t (All-cons P x (filter p xs) (own x t) (filtered_all p P own xs))
-  | inr f ↦ rw f (filtered_all p P own xs)
-]
-
-pub are_absent : (d : Holdings) (entries : List worlds.Entry) → IsClosure entries → AreAbsent (bare_entries (missing_on d entries)) d
-are_absent d entries closure = record {
-  absent = bare_all (λ e. is_on e d ≡ false) (missing_on d entries)
-      (filtered_all (λ e. not (is_on (entry_without e) d)) (λ e. is_on (entry_without e) d ≡ false) (λ e h. not_true (is_on (entry_without e) d) h) entries);
-  distinct = sources_distinct (missing_on d entries) (still_ascends entry_before (λ e. not (is_on (entry_without e) d)) entries closure.in_order);
-}
-
-fewer : {X : Type 0} (p : X → Bool) (xs : List X) → length (filter p xs) ≤ length xs
-fewer p [] = omega arith
-fewer p (x ∷ xs) = elim (either (p x)) [
-  | inl t ↦ rw t (let rest = fewer p xs in omega (arith, rest))
-  | inr f ↦ rw f (let rest = fewer p xs in omega (arith, rest))
-]
-
-length-map : {X Y : Type 0} (f : X → Y) (xs : List X) → length (map f xs) ≡ length xs
-length-map f [] = refl
-length-map f (x ∷ xs) = let rest = length-map f xs in omega (arith, rest)
-
--- no tree has more bytes than a tree may have, so they can be counted together
-pub are_countable : (d : Holdings) (entries : List worlds.Entry) (found : List (Entry × ℕ)) → IsClosure entries → found ≡ map counted (missing_on d entries)
-    → All (λ e. e.1 ≤ 67108864) found → AreCountable found
-are_countable d entries found closure is small =
-    let count : length found ≤ 1024 = (let few = fewer (λ e. not (is_on (entry_without e) d)) entries in
-    let same : length found ≡ length (missing_on d entries) = ap (λ (es : List (Entry × ℕ)). length es) is ∙ length-map counted (missing_on d entries) in
-    omega (arith, few, same, closure.few)) in
-    let sum = sum_by-le (λ (e : Entry × ℕ). e.1) 67108864 found small in
-    omega (arith, sum, count)
 
 -- ---- room
 
@@ -352,6 +281,13 @@ module _ (old new : List Source) (limit : ℕ) (d : Holdings) (entries : List wo
   pub closed_copied : IsClosure entries → IsClosed with_found
   closed_copied closure = subst IsClosed (sym one_by_one) (all_closed d entries closure.whole sound.closed)
 
+  -- all of them are on it, and so is what was
+  pub there_copied : All (IsEntryOn with_found) entries
+  there_copied = subst (λ (h : Holdings). All (IsEntryOn h) entries) (sym one_by_one) (entries_there d entries)
+
+  pub gains_copied : GainsOnly d with_found
+  gains_copied = subst (GainsOnly d) (sym one_by_one) (still_after d entries)
+
   pub sound_copied : IsClosure entries → are_roomy (bare_entries found) bytes_more limit d ≡ true → IsSound new limit with_found
   sound_copied closure roomy =
       let S : List Entry = bare_entries found in
@@ -379,7 +315,8 @@ sources_same (e ∷ es) = ap (λ rest. source_of_entry e ∷ rest) (sources_same
 pub sources_are : (entries : List worlds.Entry) (trees : List (List ℕ × Tree)) → trees ≡ map tree_with_path entries → sources_of trees ≡ map source_of_entry entries
 sources_are entries trees is = ap sources_of is ∙ sources_same entries
 
-unmapped : {X Y : Type 0} (P : Y → Type 0) (f : X → Y) (xs : List X) → All P (map f xs) → All (λ x. P (f x)) xs
+-- what holds of images holds of what they are of
+pub unmapped : {X Y : Type 0} (P : Y → Type 0) (f : X → Y) (xs : List X) → All P (map f xs) → All (λ x. P (f x)) xs
 unmapped P f [] all = All-nil (λ x. P (f x))
 unmapped P f (x ∷ xs) all = All-cons (λ x. P (f x)) x xs (All-head P (f x) (map f xs) all) (unmapped P f xs (All-tail P (f x) (map f xs) all))
 
@@ -401,6 +338,8 @@ uncopied limit old d entries trees why is (inl memory) = record {
   fits = λ users beside reply own. (let no = rw memory at own in cc);
   stored = search rules;
   sound = search rules;
+  there = search rules;
+  gains = gains_nothing d;
   kept = record { sources = refl; desk = refl };
   taken = λ clash. (let no : Memory ≡ Clash = sym memory ∙ (let same : why ≡ Clash = cc in same) in cc);
 }
@@ -410,6 +349,8 @@ uncopied limit old d entries trees why is (inr clash) =
       fits = λ users beside reply own. (let no = rw clash.0 at own in cc);
       stored = search rules;
       sound = search rules;
+      there = search rules;
+      gains = gains_nothing d;
       kept = record { sources = refl; desk = refl };
       taken = λ same. record {
         before = sources_of t.before;
@@ -456,6 +397,8 @@ module _ (limit : ℕ) (old : List Source) (d : Holdings) (entries : List worlds
     fits = λ users beside reply own. copied_as users beside reply false (roomy_as found more false found_is more_is over);
     stored = search rules;
     sound = search rules;
+    there = search rules;
+    gains = gains_nothing d;
     kept = record { sources = refl; desk = refl };
     taken = λ clash. cc;
   }
@@ -478,6 +421,8 @@ module _ (limit : ℕ) (old : List Source) (d : Holdings) (entries : List worlds
         fits = λ users beside reply. copied_as users beside reply true room;
         stored = refl;
         sound = sound_copied old later_table limit d entries its_later its_there sound closure room;
+        there = there_copied old later_table limit d entries its_later its_there sound;
+        gains = gains_copied old later_table limit d entries its_later its_there sound;
         kept = search rules;
         taken = λ clash. cc;
       })

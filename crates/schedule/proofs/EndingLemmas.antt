@@ -1,10 +1,12 @@
 -- The end of a job: what all hear of it makes the step of the model.
-use Rattle.std.proofs.Common.{◌≡◌, ℕ, zero, suc, ◌<◌, Bool, true, false, inl, inr, List, [], ◌∷◌, length, refl, sym, ◌∙◌, ap, subst, arith, rules, Option, Some, None, Result, Ok, Err}
-use Rattle.std.specs.Prelude.{All, Contains, bytes_eq, if◌then◌else◌}
+use Rattle.std.proofs.Common.{◌≡◌, ℕ, zero, suc, ◌<◌, ◌≤◌, Bool, true, false, ◌⊎◌, inl, inr, List, [], ◌∷◌, length, refl, sym, ◌∙◌, ap, subst, arith, rules, Option, Some, None, Result, Ok, Err}
+use Rattle.std.specs.Prelude.{All, Contains, bytes_eq, nat_lt, if◌then◌else◌}
+use Rattle.std.proofs.lemmas.Bool.Decides.{nat_tests}
+use Rattle.std.proofs.lemmas.List.{get_or_past}
 use Rattle.std.proofs.lemmas.Option.{slice_get_within, get_or_from_slice_get}
-use Rattle.std.proofs.lemmas.List.Elements.{All-get_or, All-from_get_or, All-set}
+use Rattle.std.proofs.lemmas.List.Elements.{All-nil, All-get_or, All-from_get_or, All-set}
 use Rattle.model.specs.declared.refusal.Refusal.{Refusal}
-use Rattle.model.specs.declared.refusal.Refusal.TheVariants.{Quota, UnknownGoal, WrongState, BuilderFailed, Memory}
+use Rattle.model.specs.declared.refusal.Refusal.TheVariants.{Quota, UnknownGoal, WrongState, BuilderFailed, Memory, Clash}
 use Rattle.model.specs.Results.{then_do}
 use Rattle.model.specs.Worlds.{Source, Record, Setup, World, Job, State, Waiting, Done, Failed, Goal, Desk, is_user, known_of, has_record, with_record, is_within, empty_desk}
 use Rattle.model.specs.Goals.{goal_at, with_goal_at, with_goal, in_state, is_in, members}
@@ -22,14 +24,18 @@ use Rattle.realise.specs.Holdings.{Holdings}
 use Rattle.jobs.specs.States.{is_building}
 use Rattle.store.specs.Stored.{Extends}
 use Rattle.schedule.specs.declared.events.Reply as replies
-use Rattle.schedule.specs.Handling.{RefusedAtOnce, IsHandled}
-use Rattle.schedule.specs.Sound.{IsResolvedIn, AreGoalsSound, IsSound, IsHashed}
+use Rattle.schedule.specs.Handling.{is_fault, RefusedAtOnce, IsHandled}
+use Rattle.schedule.specs.Stored.{IsTakenFor}
+use Rattle.schedule.specs.Sound.{IsResolvedIn, AreGoalsSound, IsSound, IsHashed, Clashes}
 use Rattle.schedule.specs.Standing.{reply_of, goals_of, Parts, parts, world_in, stored_after, IsStep}
 use Rattle.schedule.specs.Given.{HasSoundPlan}
+use Rattle.schedule.specs.Viewing.{desk_at}
+use Rattle.schedule.specs.Supported.{IsSupported, AreSupported, GainsOnly}
 use Rattle.schedule.specs.Ending.{desk_in, reaches_in, AllHear, EndsJob, leading}
 use Rattle.schedule.proofs.GoalLemmas.{goals_kept, goals_sound_at}
 use Rattle.schedule.proofs.WorldLemmas.{place_found, place_is_among, same_world}
 use Rattle.schedule.proofs.HandlingLemmas.{all_left}
+use Rattle.schedule.proofs.SupportLemmas.{still_supported}
 use Rattle.schedule.proofs.PlaceLemmas.{nobody_there, desk_there}
 
 pub finish_ends : (n : ℕ) (bytes : List ℕ) → EndsJob (Finish n bytes) n (Output bytes)
@@ -149,6 +155,24 @@ module _ (users : List (List ℕ)) (limit : ℕ) (trust : ℕ → ℕ → Bool) 
         goals_kept table table_now later (goals_of goals_now k)
         (goals_stay (λ g. IsResolvedIn table g.resolved) (λ state g idle is. is) k inside (goals_sound_at table goals k sound)))
 
+    below_or : (k count : ℕ) → (k < count) ⊎ (count ≤ k)
+    below_or k count = elim (either (nat_lt k count)) [
+      | inl t ↦ inl (grind (arith, nat_tests, t))
+      | inr f ↦ inr (grind (arith, nat_tests, f))
+    ]
+
+    -- what goals that are still being built are built from is on desks that have gained
+    pub supported_now : length goals_now ≡ length users → ((k : ℕ) → GainsOnly (desk_at desks k) (desk_at desks_now k)) → AreSupported desks goals
+        → AreSupported desks_now goals_now
+    supported_now with_goals gains was k = elim (below_or k (length users)) [
+      | inl below ↦
+          still_supported (desk_at desks k) (desk_at desks_now k) (goals_of goals_now k) (gains k)
+          (goals_stay (IsSupported (desk_at desks k)) (λ state g idle own job building. let none = rw building at idle in cc) k below (was k))
+      | inr past ↦
+          let none : goals_of goals_now k ≡ [] = get_or_past goals_now k [] (rw with_goals past) in
+          rw none (All-nil (IsSupported (desk_at desks_now k)))
+    ]
+
     ended_desk : (x : List ℕ) → world_in new x ≡ heard old.setup actor (reaches old.setup (world_in old) x actor) (Ended n end) (world_in old x)
     ended_desk x = elim (option_cases (place_of users x)) [
       | inl none ↦
@@ -169,7 +193,8 @@ module _ (users : List (List ℕ)) (limit : ℕ) (trust : ℕ → ℕ → Bool) 
     ends_job request g ends there leads =
         let setup : Setup = old.setup in
         let w : World = world_in old in
-        let c : Change = record { desk = w actor; reply = told; news = Ended n end } in
+        let told_by : Reply → Change = λ r. record { desk = w actor; reply = r; news = Ended n end } in
+        let c : Change = told_by told in
         let known : is_user setup actor ≡ true = place_is_among users actor place (place_found users actor place found) in
         let own : w actor ≡ desk_in old place = desk_there old paired actor place found in
         let goal : goal_at n (w actor).goals ≡ Some g = ap (λ (d : Desk). goal_at n d.goals) own ∙ there in
@@ -177,7 +202,7 @@ module _ (users : List (List ℕ)) (limit : ℕ) (trust : ℕ → ℕ → Bool) 
         sym (ended_desk actor) ∙ desk_there new paired_now actor place found in
         let all : outcome_of setup w (record { actor = actor; request = request }) ≡ Ok c =
         rw known (ends setup (sight_of setup w actor)
-        ∙ rw (goal, leads) (ap (λ (d : Desk). Ok (record { desk = w actor; reply = told_of (reaches setup w actor) (goal_at n d.goals); news = Ended n end })) later)) in
+        ∙ rw (goal, leads) (ap (λ (d : Desk). Ok (told_by (told_of (reaches setup w actor) (goal_at n d.goals)))) later)) in
         record {
           told = sym (ap reply_in all);
           world = same_world (λ x.
@@ -237,13 +262,19 @@ module _ (old : Parts) (actor : List ℕ) (place n : ℕ) (end : End) (request :
       no_refusal : (c : Change) (why : Refusal) → Ok c ≡ Err why → ⊥
       no_refusal c why e = cc
 
-  -- memory is refused before anything has changed
-  pub end_fault : All (IsSound old.table old.setup.charge) old.desks → All (AreGoalsSound old.table) old.goals → IsWithin (length old.setup.users) old.trust
-      → led ≡ Ok tt → IsHandled old event (Err Memory) old
-  end_fault sound goals_sound within e = record {
+  same_refusal : (a b : Refusal) → ◌≡◌ {A = Result replies.Reply Refusal} (Err a) (Err b) → a ≡ b
+  same_refusal a b same = cc
+
+  -- memory is refused, or another tree is at a path, before anything has changed
+  pub end_left : All (IsSound old.table old.setup.charge) old.desks → All (AreGoalsSound old.table) old.goals → IsWithin (length old.setup.users) old.trust
+      → led ≡ Ok tt → (why : Refusal) → is_fault why ≡ true → (why ≡ Clash → IsTakenFor old.table old.setup (world_in old) actor request)
+      → (why ≡ Clash → (texts : List (List ℕ)) → All (IsHashed texts) old.table
+      → All (Contains texts) (texts_of_event old.setup (world_in old) event) → Clashes texts)
+      → IsHandled old event (Err why) old
+  end_left sound goals_sound within e why fault taken clashes = record {
     told = search rules;
-    refused = λ fault. cc;
-    at_once = end_at_once (Err Memory) e;
+    refused = λ own. (let none : true ≡ false = sym fault ∙ own in cc);
+    at_once = end_at_once (Err why) e;
     kept = record { world = refl; table = refl };
     setup = refl;
     trust = within;
@@ -251,13 +282,18 @@ module _ (old : Parts) (actor : List ℕ) (place n : ℕ) (end : End) (request :
     sound = sound;
     with_goals = refl;
     goals_sound = goals_sound;
+    supported = λ was. was;
     grows = λ path there. refl;
     hashed = λ texts hashed inside. hashed;
-    taken = λ clash. cc;
-    clashes = λ clash. cc;
+    taken = λ clash. taken (same_refusal why Clash clash);
+    clashes = λ clash. clashes (same_refusal why Clash clash);
     stored = search rules;
     given = search rules;
   }
+
+  pub end_fault : All (IsSound old.table old.setup.charge) old.desks → All (AreGoalsSound old.table) old.goals → IsWithin (length old.setup.users) old.trust
+      → led ≡ Ok tt → IsHandled old event (Err Memory) old
+  end_fault sound goals_sound within e = end_left sound goals_sound within e Memory refl (λ clash. cc) (λ clash. cc)
 
 -- all have heard, and what is stored and the desks are sound
 module _ (users : List (List ℕ)) (limit : ℕ) (trust : ℕ → ℕ → Bool) (goals : List (List Goal)) (table : List Source) (desks : List Holdings)
@@ -276,11 +312,12 @@ module _ (users : List (List ℕ)) (limit : ℕ) (trust : ℕ → ℕ → Bool) 
   pub ended_handled : leading (record { leader = actor; number = n }) (goal_at n (goals_of goals place)) ≡ Ok tt → AllHear before actor n end after
       → told_of (reaches before.setup (world_in before) actor) (goal_at n (goals_of goals_now place)) ≡ reply_of reply
       → is_refused (reply_of reply) ≡ false → Extends table table_now → All (IsSound table_now limit) desks_now → All (AreGoalsSound table) goals
-      → IsWithin (length users) trust
-      → ((texts : List (List ℕ)) → All (IsHashed texts) table → All (Contains texts) (texts_of_event before.setup (world_in before) asked) → All (IsHashed texts) table_now)
+      → ((k : ℕ) → GainsOnly (desk_at desks k) (desk_at desks_now k)) → IsWithin (length users) trust
+      → ((texts : List (List ℕ)) → All (IsHashed texts) table → All (Contains texts) (texts_of_event before.setup (world_in before) asked)
+      → All (IsHashed texts) table_now)
       → table_now ≡ stored_after before.setup (world_in before) asked table → HasSoundPlan before.setup (world_in before) actor request
       → IsHandled before asked (Ok reply) after
-  ended_handled e hear tells answered later sound goals_sound within hashed stored given =
+  ended_handled e hear tells answered later sound goals_sound gains within hashed stored given =
       let its = leads_goal (record { leader = actor; number = n }) (goal_at n (goals_of goals place)) e in
       let step = ends_job users limit trust goals table desks goals_now table_now desks_now actor place n end found paired paired_now hear request its.0 ends
       its.1 its.2 in
@@ -296,6 +333,8 @@ module _ (users : List (List ℕ)) (limit : ℕ) (trust : ℕ → ℕ → Bool) 
         with_goals = with_goals_now;
         goals_sound = goals_sound_now users limit trust goals table desks goals_now table_now desks_now actor place n end found paired paired_now hear later
             with_goals_now with_goals goals_sound;
+        supported = supported_now users limit trust goals table desks goals_now table_now desks_now actor place n end found paired paired_now hear
+            (with_goals_now ∙ with_goals) gains;
         grows = later;
         hashed = hashed;
         taken = λ clash. cc;

@@ -1,8 +1,6 @@
 -- The end of a job that came to nothing, goal by goal and user by user.
-use Rattle.std.proofs.Common.{◌≡◌, ◌≢◌, ℕ, zero, suc, ◌+◌, ◌<◌, Bool, true, false, ◌⊎◌, inl, inr, List, [], ◌∷◌, length, refl, sym, ◌∙◌, ap, subst, arith, Option, Some, None, Result, Ok, Err}
-use Rattle.std.specs.Prelude.{◌==◌, ◌||◌, All, is_some, slice_get, slice_set}
-use Rattle.std.specs.List.{list_any}
-use Rattle.std.proofs.lemmas.Bool.Decides.{nat_tests, Decides-eqb}
+use Rattle.std.proofs.Common.{◌≡◌, ℕ, zero, suc, ◌+◌, ◌<◌, Bool, true, false, inl, inr, List, [], ◌∷◌, length, refl, sym, ◌∙◌, ap, subst, arith, Option, Some, None, Result, Ok, Err}
+use Rattle.std.specs.Prelude.{All, is_some, slice_get, slice_set}
 use Rattle.std.proofs.lemmas.List.{get_or-set_same}
 use Rattle.model.specs.declared.refusal.Refusal.{Refusal}
 use Rattle.model.specs.declared.refusal.Refusal.TheVariants.{BuilderFailed, Memory}
@@ -26,7 +24,9 @@ use Rattle.schedule.specs.Viewing.{desk_at}
 use Rattle.schedule.specs.Handling.{IsHandled}
 use Rattle.schedule.specs.Ending.{desk_in, reaches_in, AllHear, leading, state_failed, HearsFailure, AllHearByTrust}
 use Rattle.schedule.proofs.TrustLemmas.{distinct_users}
+use Rattle.schedule.proofs.SupportLemmas.{gains_nothing}
 use Rattle.schedule.proofs.PlaceLemmas.{reach_there}
+use Rattle.schedule.proofs.LeaderLemmas.{leader_fails}
 use Rattle.schedule.proofs.EndingLemmas.{fail_ends, leads_goal, end_refused, end_fault, ended_handled}
 
 -- ---- the members of a job, one at a time
@@ -111,11 +111,12 @@ set_again (z ∷ xs) (suc i) x y = ap (λ l. z ∷ l) (set_again xs i x y)
 abbrev pub IsChangedAt : ℕ → OwnedByAll → OwnedByAll → Type 0
 IsChangedAt place old new = new ≡ with_goals_at place (goals_of new.goals place) old
 
-changed_again : (place : ℕ) (old now next : OwnedByAll) (own : List Goal) → place < length old.goals → IsChangedAt place old now
+pub changed_again : (place : ℕ) (old now next : OwnedByAll) (own : List Goal) → place < length old.goals → IsChangedAt place old now
     → next ≡ with_goals_at place own now → (goals_of next.goals place ≡ own) × IsChangedAt place old next
 changed_again place old now next own below changed is =
     let both : next ≡ with_goals_at place own old =
-    is ∙ ap (with_goals_at place own) changed ∙ ap (λ gs. record { users = old.users; goals = gs }) (set_again old.goals place (goals_of now.goals place) own) in
+    is ∙ ap (with_goals_at place own) changed
+    ∙ ap (λ gs. record { users = old.users; goals = gs }) (set_again old.goals place (goals_of now.goals place) own) in
     let here : goals_of next.goals place ≡ own = ap (λ (o : OwnedByAll). goals_of o.goals place) both ∙ get_or-set_same old.goals place own [] below in
     (here, both ∙ ap (λ gs. with_goals_at place gs old) (sym here))
 
@@ -149,118 +150,12 @@ fails_on job reached old now next place n ms state below left changed are is tol
     )
 
 -- no member is left
-pub failed_last : (job : Job) (reached : Bool) (old now : List Goal) (ms : List ℕ) → IsFailing job reached old now → ms ≡ members job 1 now → None ≡ slice_get ms 0
-    → HearsFailure job reached old now
+pub failed_last : (job : Job) (reached : Bool) (old now : List Goal) (ms : List ℕ) → IsFailing job reached old now → ms ≡ members job 1 now
+    → None ≡ slice_get ms 0 → HearsFailure job reached old now
 failed_last job reached old now ms left are is setup trusted table d =
     let e : members job 1 now ≡ [] = sym are ∙ none_listed ms is in
     sym (ap (λ ms. ended_goals setup reached Failure ms (desk_with trusted table d now)) e ∙ none_fails setup reached (desk_with trusted table d now))
     ∙ left setup trusted table d
-
--- ---- the leader's own goal
-
-same_itself : (n : ℕ) → (n == n) ≡ true
-same_itself n = grind (arith, nat_tests)
-
--- a goal in a job is one of its members
-member_listed : (job : Job) (k i n : ℕ) (gs : List Goal) (g : Goal) → n ≡ k + i → slice_get gs i ≡ Some g → is_in job g.state ≡ true
-    → list_any (λ m. m == n) (members job k gs) ≡ true
-unfolding members
-member_listed job k i n [] g at there t = cc
-member_listed job k zero n (x ∷ gs) g at there t =
-    let is : x ≡ g = cc in
-    let same : n ≡ k = omega (arith, at) in
-    rw (is, t, same, same_itself k) refl
-member_listed job k (suc i) n (x ∷ gs) g at there t =
-    let rest = member_listed job (suc k) i n gs g (omega (arith, at)) there t in
-    elim (either (is_in job x.state)) [
-      | inl u ↦ rw u (either_listed (k == n) (list_any (λ m. m == n) (members job (suc k) gs)) rest)
-      | inr f ↦ rw f rest
-    ]
-  where
-    either_listed : (a b : Bool) → b ≡ true → (a || b) ≡ true
-    either_listed true b t = refl
-    either_listed false b t = t
-
-pub leader_listed : (job : Job) (n : ℕ) (gs : List Goal) (g : Goal) → goal_at n gs ≡ Some g → is_in job g.state ≡ true
-    → list_any (λ m. m == n) (members job 1 gs) ≡ true
-leader_listed job zero gs g there t = cc
-leader_listed job (suc i) gs g there t = member_listed job 1 i (suc i) gs g (omega arith) there t
-
-abbrev IsFailed : Option Goal → Type 0
-IsFailed None = ⊥
-IsFailed (Some g) = g.state ≡ Failed BuilderFailed
-
-set_there : (xs : List Goal) (i : ℕ) (x y : Goal) → slice_get xs i ≡ Some x → slice_get (slice_set xs i y) i ≡ Some y
-set_there [] i x y there = cc
-set_there (z ∷ xs) zero x y there = refl
-set_there (z ∷ xs) (suc i) x y there = set_there xs i x y there
-
-set_elsewhere : (xs : List Goal) (i j : ℕ) (y : Goal) → i ≢ j → slice_get (slice_set xs i y) j ≡ slice_get xs j
-set_elsewhere [] i j y apart = refl
-set_elsewhere (z ∷ xs) zero zero y apart = absurd (apart refl)
-set_elsewhere (z ∷ xs) zero (suc j) y apart = refl
-set_elsewhere (z ∷ xs) (suc i) zero y apart = refl
-set_elsewhere (z ∷ xs) (suc i) (suc j) y apart = set_elsewhere xs i j y (λ e. apart (ap suc e))
-
-goal_set : (n : ℕ) (gs : List Goal) (g y : Goal) → goal_at n gs ≡ Some g → goal_at n (with_goal_at n y gs) ≡ Some y
-goal_set zero gs g y there = cc
-goal_set (suc i) gs g y there = set_there gs i g y there
-
-goal_elsewhere : (m n : ℕ) (gs : List Goal) (y : Goal) → m ≢ n → goal_at n (with_goal_at m y gs) ≡ goal_at n gs
-goal_elsewhere zero n gs y apart = refl
-goal_elsewhere (suc i) zero gs y apart = refl
-goal_elsewhere (suc i) (suc j) gs y apart = set_elsewhere gs i j y (λ e. apart (ap suc e))
-
-apart : (m n : ℕ) → (m == n) ≡ false → m ≢ n
-apart m n f e = let no = (Decides-eqb m n).1 e in cc
-
--- it has failed, or is still to hear
-abbrev Fails : ℕ → List ℕ → List Goal → Type 0
-Fails n ms gs = IsFailed (goal_at n gs) ⊎ ((g : Goal) × (goal_at n gs ≡ Some g) × (list_any (λ m. m == n) ms ≡ true))
-
-fails_first : (setup : Setup) (m n : ℕ) (ms : List ℕ) (o : Option Goal) (d : Desk) → goal_at m d.goals ≡ o → Fails n (m ∷ ms) d.goals
-    → Fails n ms (ended_goal setup true Failure m o d).goals
-fails_first setup m n ms None d at now = elim (either (m == n)) [
-  | inl t ↦ (let is : m ≡ n = (Decides-eqb m n).0 t in elim now [
-    | inl failed ↦ inl failed
-    | inr left ↦ (let no = sym (rw is at at) ∙ left.1 in cc)
-  ])
-  | inr f ↦ elim now [
-    | inl failed ↦ inl failed
-    | inr left ↦ inr (left.0, left.1, rw f at left.2)
-  ]
-]
-fails_first setup m n ms (Some h) d at now = elim (either (m == n)) [
-  | inl t ↦
-      let is : m ≡ n = (Decides-eqb m n).0 t in
-      let y : Goal = in_state (Failed BuilderFailed) h in
-      let set : goal_at n (with_goal_at m y d.goals) ≡ Some y = rw (← is) (goal_set m d.goals h y at) in
-      inl (rw set refl)
-  | inr f ↦
-      let y : Goal = in_state (Failed BuilderFailed) h in
-      let same : goal_at n (with_goal_at m y d.goals) ≡ goal_at n d.goals = goal_elsewhere m n d.goals y (apart m n f) in
-      elim now [
-        | inl failed ↦ inl (rw same failed)
-        | inr left ↦ inr (left.0, same ∙ left.1, rw f at left.2)
-      ]
-]
-
-fails_all : (setup : Setup) (n : ℕ) (ms : List ℕ) (d : Desk) → Fails n ms d.goals → IsFailed (goal_at n (ended_goals setup true Failure ms d).goals)
-unfolding ended_goals
-fails_all setup n [] d (inl failed) = failed
-fails_all setup n [] d (inr left) = (let no : false ≡ true = left.2 in cc)
-fails_all setup n (m ∷ ms) d now =
-    fails_all setup n ms (ended_goal setup true Failure m (goal_at m d.goals) d) (fails_first setup m n ms (goal_at m d.goals) d refl now)
-
-failed_there : (o : Option Goal) → IsFailed o → (g : Goal) × (o ≡ Some g) × (g.state ≡ Failed BuilderFailed)
-failed_there None h = absurd h
-failed_there (Some g) h = (g, refl, h)
-
--- the goal that leads a job has failed once its user has heard that the job came to nothing
-pub leader_fails : (setup : Setup) (job : Job) (n : ℕ) (d : Desk) (g : Goal) → goal_at n d.goals ≡ Some g → is_in job g.state ≡ true
-    → (y : Goal) × (goal_at n (ended_goals setup true Failure (members job 1 d.goals) d).goals ≡ Some y) × (y.state ≡ Failed BuilderFailed)
-leader_fails setup job n d g there t =
-    failed_there _ (fails_all setup n (members job 1 d.goals) d (inr (g, there, leader_listed job n d.goals g there t)))
 
 -- ---- the event
 
@@ -335,4 +230,4 @@ module _ (users : List (List ℕ)) (limit : ℕ) (trust : ℕ → ℕ → Bool) 
     fail_handled =
         ended_handled users limit trust goals table desks goals_now table desks actor place n Failure (Fail n status)
         (reply.GoalState (states.Failed BuilderFailed)) found paired paired with_goals hear.paired (fail_ends n status) e all_hear tells refl
-        (λ path there. refl) sound goals_sound within (λ texts hashed inside. hashed) refl tt
+        (λ path there. refl) sound goals_sound (λ k. gains_nothing (desk_at desks k)) within (λ texts hashed inside. hashed) refl tt

@@ -1,11 +1,10 @@
 -- The goals of users, and the trees that they are built from.
-use Rattle.std.proofs.Common.{◌≡◌, ◌≢◌, ℕ, zero, suc, ◌<◌, Bool, List, [], ◌∷◌, ◌++◌, length, get_or, refl, sym, ◌∙◌, ap, subst, Option, Some, None}
-use Rattle.std.specs.Prelude.{All, map, slice_get, slice_set}
+use Rattle.std.proofs.Common.{◌≡◌, ◌≢◌, ℕ, zero, suc, ◌<◌, Bool, List, [], ◌∷◌, ◌++◌, length, get_or, refl, sym, ◌∙◌, ap, Option, Some, None}
+use Rattle.std.specs.Prelude.{All, map, slice_set}
 use Rattle.std.proofs.lemmas.List.{get_or-set_same, get_or-set_other, set-get_or}
 use Rattle.std.proofs.lemmas.List.Elements.{All-nil, All-cons, All-head, All-tail, All-get_or, All-push, All-weaker}
 use Rattle.std.proofs.lemmas.Option.{slice_get_within, get_or_from_slice_get}
-use Rattle.model.specs.Worlds.{Source, Entry, path_of_entry, Resolved, Goal, tree_at}
-use Rattle.model.specs.Closures.{tree_of_entry}
+use Rattle.model.specs.Worlds.{Source, Entry, path_of_entry, Resolved, Goal}
 use Rattle.model.specs.Goals.{goal_at, new_goal}
 use Rattle.trust.specs.Naming.{trusted_at}
 use Rattle.store.specs.Stored.{Extends}

@@ -1,5 +1,5 @@
 -- The closure that a user is given is whole, and keeps no path that is replaced.
-use Rattle.std.proofs.Common.{◌≡◌, ℕ, zero, suc, ◌<◌, Bool, true, false, inl, inr, refl, sym, ◌∙◌, ap, subst, List, [], ◌∷◌, ◌++◌, length, length-set, Contains, Option, Some, None, Result, Ok, Err}
+use Rattle.std.proofs.Common.{◌≡◌, ℕ, zero, suc, ◌<◌, true, false, inl, inr, refl, sym, ◌∙◌, ap, subst, List, [], ◌∷◌, length, length-set, Contains, Some, Result, Ok, Err}
 use Rattle.std.specs.Prelude.{All, slice_set, map, filter, flat_map, find, bytes_eq, is_some, if◌then◌else◌}
 use Rattle.std.proofs.lemmas.List.{get_or-set_same}
 use Rattle.std.proofs.lemmas.Option.{slice_get_within, slice_get-get_or}
@@ -8,12 +8,11 @@ use Rattle.model.specs.declared.refusal.Refusal.{Refusal}
 use Rattle.model.specs.declared.refusal.Refusal.TheVariants.{UnknownUser, UnknownDerivation, UnknownGoal, WrongState, NotRealised}
 use Rattle.model.specs.Results.{then_do}
 use Rattle.model.specs.Paths.{IsPath, NoClash}
-use Rattle.model.specs.Settling.{Settled}
 use Rattle.model.specs.Derivations.{Derivation}
 use Rattle.model.specs.Classes.{Admission, Known, known_at}
-use Rattle.model.specs.Worlds.{Source, Setup, Desk, World, Resolved, Planned, Goal, known_of, Label, Record, Pin, Entry, OfSource, OfRecord, empty_desk, tree_at, is_user, path_of_entry}
+use Rattle.model.specs.Worlds.{Source, Setup, Desk, World, Resolved, Planned, Goal, known_of, Label, Record, Pin, Entry, OfSource, OfRecord, tree_at, is_user}
 use Rattle.model.specs.References.{paths_of_labels}
-use Rattle.model.specs.Choices.{Plan, plan, visible_records}
+use Rattle.model.specs.Choices.{Plan, plan}
 use Rattle.model.specs.Repairs.{serving_texts}
 use Rattle.model.specs.Closures.{served_plan, closure_texts, IsWhole, KeepsNoReplaced}
 use Rattle.model.specs.Closures as closures
@@ -30,7 +29,7 @@ use Rattle.model.specs.GivenClosures.{GivesGoodClosure, KeepsGoodClosure}
 use Rattle.model.proofs.BoolLemmas.{either, same_bytes, bytes_same}
 use Rattle.model.proofs.OutcomeLemmas.{checked, needed}
 use Rattle.model.proofs.MemberLemmas.{In, in_of, contains_of, in_left, in_right, in_map, in_append, from_map, from_flat_map}
-use Rattle.model.proofs.ServedLemmas.{then_ok, ok_is, find_in, option_cases}
+use Rattle.model.proofs.ServedLemmas.{then_ok, find_in, option_cases}
 use Rattle.model.proofs.ClosureLemmas.{plan_visible}
 use Rattle.model.proofs.WholeLemmas.{closures_whole}
 use Rattle.realise.specs.Recorded.{Recorded}
@@ -40,7 +39,7 @@ use Rattle.choose.specs.Visible as visible
 use Rattle.choose.proofs.DeskLemmas.{desks_seen}
 use Rattle.choose.proofs.LabelledLemmas.{sees_in, labels_in, view_sees_sources}
 use Rattle.repair.specs.SoundPlans.{IsSoundRecord, IsSoundPlan, PartsTellApart}
-use Rattle.repair.specs.RepairLaws.{paths_of_record, paths_in, IsServedEntry}
+use Rattle.repair.specs.RepairLaws.{paths_of_record, paths_in}
 use Rattle.repair.proofs.SoundLemmas.{served_is_sound}
 use Rattle.repair.proofs.KeptLemmas.{served_parts, served_for}
 use Rattle.repair.proofs.MadeLemmas.{served_are_made}

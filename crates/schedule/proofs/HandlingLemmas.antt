@@ -25,7 +25,7 @@ use Rattle.realise.specs.declared.entry.Entry.TheVariants as entry
 use Rattle.trust.specs.Naming.{place_of, trusted_at, IsWithin}
 use Rattle.store.specs.Stored.{IsAdded, IsTaken, Extends}
 use Rattle.realise.specs.Holdings.{Holdings, entry_path, entry_with}
-use Rattle.schedule.specs.Stored.{stored_by}
+use Rattle.schedule.specs.Stored.{stored_by, tried_by}
 use Rattle.schedule.specs.Sound.{Beside, desk_of, IsSound, AreGoalsSound, IsHashed}
 use Rattle.schedule.specs.Standing.{reply_of, goals_of, beside_at, Parts, parts, world_in, desk_among}
 use Rattle.schedule.specs.Viewing.{bare}
@@ -36,6 +36,8 @@ use Rattle.schedule.proofs.DerivationLemmas.{derivation_read}
 use Rattle.store.proofs.TableLemmas.{put_once-Extends, put_once-All, found_holds}
 use Rattle.schedule.proofs.WorldLemmas.{IsPlace, place_found, place_below, place_is_among, no_place, desk_found}
 use Rattle.schedule.proofs.GoalLemmas.{goals_kept, all_goals_kept, goals_sound_at, beside_elsewhere, beside_here, goals_put_back}
+use Rattle.schedule.specs.Supported.{AreSupportedOn, GainsOnly}
+use Rattle.schedule.proofs.SupportLemmas.{gains_nothing, still_supported, supported_set}
 use Rattle.schedule.proofs.StepLemmas.{either_way, on_ok_any, on_err_any, kept_sound, kept_later, kept_desk, source_hashed, source_at_once, derivation_at_once, fetch_at_once, step_unknown, step_at_once, told_result, refused_result, world_kept}
 
 -- ---- all events
@@ -137,6 +139,10 @@ module _ (old : Parts) (e : Event) (i : ℕ) (asks : Asks old e.actor i) where
             (λ d s. sound_kept old.table new old.setup.charge d handled.grows s) old.desks asks.sound);
         with_goals = length-set {A = List Goal} old.goals i changed;
         goals_sound = All-set (AreGoalsSound new) old.goals i changed is.sound (all_goals_kept old.table new handled.grows old.goals asks.goals_sound);
+        supported = λ was.
+            let own : AreSupportedOn before (goals_of old.goals i) =
+            subst (λ (d : Holdings). AreSupportedOn d (goals_of old.goals i)) (get_or_from_slice_get old.desks i before bare here) (was i) in
+            supported_set old.desks old.goals i now changed (slice_get_within old.desks i before here) below was (is.supported own);
         grows = handled.grows;
         hashed = λ texts hashed inside. handled.hashed texts hashed (rw own at inside);
         taken = handled.taken;
@@ -158,6 +164,7 @@ module _ (old : Parts) (e : Event) (i : ℕ) (asks : Asks old e.actor i) where
         handled = handled;
         kept = same;
         sound = goals_kept old.table new handled.grows goals (goals_sound_at old.table old.goals i asks.goals_sound);
+        supported = still_supported before now goals handled.gains;
       }))
 
   -- his desk, whatever is read past the end of the desks
@@ -237,6 +244,7 @@ all_left old e why sound goals_sound within is no_clash = record {
   sound = sound;
   with_goals = refl;
   goals_sound = goals_sound;
+  supported = λ was. was;
   grows = λ path there. refl;
   hashed = λ texts hashed inside. hashed;
   taken = λ clash. (let same : why ≡ Clash = cc in let no = rw same at no_clash in cc);
@@ -271,6 +279,7 @@ left beside limit table desk request result sound plans serves at_once answered 
   at_once = at_once (record { users = users; charge = limit }) (sight_of (record { users = users; charge = limit }) w u) here;
   kept = is_left table desk result;
   sound = sound;
+  gains = gains_nothing desk;
   grows = λ path there. refl;
   hashed = λ texts hashed inside. hashed;
   taken = λ clash. (let no = rw clash at no_clash in cc);
@@ -287,13 +296,15 @@ pub entry_handled : (beside : Beside) (limit : ℕ) (old new : List Source) (bef
     → ((setup : Setup) (sight : Sight) → sight.desk ≡ desk_of beside old before → outcome setup sight request ≡ add_entry setup (desk_of beside old before) (entry_with tree entry))
     → ServesAtOnce (desk_of beside old before) request result
     → ((setup : Setup) (w : World) (u : List ℕ) → w u ≡ desk_of beside old before → stored_by setup w u request ≡ s ∷ [])
+    → ((setup : Setup) (w : World) (u : List ℕ) → tried_by setup w u request ≡ stored_by setup w u request)
     → ((setup : Setup) (w : World) (u : List ℕ) → HasSoundPlan setup w u request)
     → ((texts : List (List ℕ)) (setup : Setup) (w : World) (u : List ℕ) → w u ≡ desk_of beside old before → All (Contains texts) (texts_of setup w u request) → IsHashed texts s)
     → AddsEntry limit old before entry tree result new now → IfOk result (λ r. is_refused (reply_of r) ≡ false)
     → OnOk result (IsAdded (entry_path entry) tree old new) → OnOk result (IsSound new limit now) → OnErr result (IsKept old new before now)
-    → (result ≡ Err Clash → IsTaken old (entry_path entry) tree)
+    → GainsOnly before now → (result ≡ Err Clash → IsTaken old (entry_path entry) tree)
     → IsHandledBeside beside limit old before request result new now
-entry_handled beside limit old new before now request entry tree result sound asks at_once stores plans hashes adds answered stored sound_now kept taken users w u here =
+entry_handled beside limit old new before now request entry tree result sound asks at_once stores tries plans hashes adds answered stored sound_now kept gains taken =
+    λ users w u here.
     let s : Source = record { path = entry_path entry; tree = tree } in
     let setup : Setup = record { users = users; charge = limit } in
     record {
@@ -302,12 +313,13 @@ entry_handled beside limit old new before now request entry tree result sound as
       at_once = at_once setup (sight_of setup w u) here;
       kept = kept;
       sound = either_way result (IsSound new limit now) sound_now (on_err_weaker result (kept_sound old new before now limit sound) kept);
+      gains = gains;
       grows = either_way result _ (on_ok_weaker result (λ more. rw more (put_once-Extends s old)) stored)
           (on_err_weaker result (kept_later old new before now) kept);
       hashed = λ texts hashed inside.
           either_way result _ (on_ok_weaker result (λ more. rw more (put_once-All (IsHashed texts) s old hashed (hashes texts setup w u here inside))) stored)
           (on_err_weaker result (λ k. rw k.sources hashed) kept);
-      taken = λ clash. record { before = []; source = s; behind = []; parts = stores setup w u here; taken = taken clash };
+      taken = λ clash. record { before = []; source = s; behind = []; parts = tries setup w u ∙ stores setup w u here; taken = taken clash };
       clashes = λ clash texts hashed inside.
           let had = taken clash in record {
             one = record { path = s.path; tree = had.had };
@@ -328,12 +340,12 @@ pub source_handled : (beside : Beside) (limit : ℕ) (old new : List Source) (be
     IsSound old limit before → path ≡ source_path tree name → IsTree tree → AddsEntry limit old before entry tree result new now
     → IfOk result (λ r. is_refused (reply_of r) ≡ false)
     → OnOk result (IsAdded path tree old new) → OnOk result (IsSound new limit now) → OnErr result (IsKept old new before now)
-    → (result ≡ Err Clash → IsTaken old path tree)
+    → GainsOnly before now → (result ≡ Err Clash → IsTaken old path tree)
     → IsHandledBeside beside limit old before (AddSource name tree) result new now
 unfolding outcome
 source_handled beside limit old new before now name tree path result sound is whole =
     entry_handled beside limit old new before now (AddSource name tree) (entry.Source path) tree result sound
-    (λ setup sight same. rw (same, is) refl) (source_at_once (desk_of beside old before) name tree result) (λ setup w u here. rw is refl) (λ setup w u. tt)
+    (λ setup sight same. rw (same, is) refl) (source_at_once (desk_of beside old before) name tree result) (λ setup w u here. rw is refl) (λ setup w u. refl) (λ setup w u. tt)
     (λ texts setup w u here inside. rw is (source_hashed texts name tree whole inside))
 
 fetch_fits : (setup : Setup) (d : Desk) (path : List ℕ) (tree : Tree) (result : Result Rust.Reply Refusal) → held_at path d ≡ Some tree
@@ -368,17 +380,18 @@ pub derivation_handled : (beside : Beside) (limit : ℕ) (table : List Source) (
     (result : Result Rust.Reply Refusal)
     → nat_le (length text) most_derivation_bytes ≡ true → derivation_of_text text ≡ Some derivation
     → AddsDerivation limit table before derivation result now
-    → IfOk result (λ r. is_refused (reply_of r) ≡ false) → IsSound table limit now → OnErr result (now ≡ before)
+    → IfOk result (λ r. is_refused (reply_of r) ≡ false) → IsSound table limit now → GainsOnly before now → OnErr result (now ≡ before)
     → IfErr result (λ why. is_clash_refusal why ≡ false)
     → IsHandledBeside beside limit table before (AddDerivation text) result table now
 unfolding outcome
-derivation_handled beside limit table before now text derivation result within read adds answered sound kept no_clash users w u here = record {
+derivation_handled beside limit table before now text derivation result within read adds answered sound gains kept no_clash users w u here = record {
   serves = rw (here, derivation_read users beside table limit before text derivation within read) (adds users beside);
   answered = answered;
   at_once = derivation_at_once (desk_of beside table before) text result (λ large. let no : true ≡ false = sym within ∙ large in cc)
       (record { users = users; charge = limit }) (sight_of (record { users = users; charge = limit }) w u) here;
   kept = on_err_weaker result (λ same. record { sources = refl; desk = same }) kept;
   sound = sound;
+  gains = gains;
   grows = λ path there. refl;
   hashed = λ texts hashed inside. hashed;
   taken = λ clash. (let no = rw clash at no_clash in cc);

@@ -1,20 +1,19 @@
 -- Whom a user joins: those whom he reaches, and who reach him.
-use Rattle.std.proofs.Common.{◌≡◌, ◌≢◌, ℕ, suc, ◌+◌, ◌<◌, ◌≤◌, Bool, true, false, inl, inr, List, [], ◌∷◌, ◌++◌, length, refl, sym, ◌∙◌, ap, subst, arith, Some}
-use Rattle.std.specs.Prelude.{◌==◌, ◌||◌, ◌&&◌, All, filter, flat_map}
+use Rattle.std.proofs.Common.{◌≡◌, ℕ, suc, ◌+◌, ◌<◌, ◌≤◌, Bool, true, false, inl, inr, List, [], ◌∷◌, ◌++◌, length, refl, sym, ◌∙◌, ap, subst, arith, Some}
+use Rattle.std.specs.Prelude.{◌==◌, ◌||◌, ◌&&◌, filter, flat_map}
 use Rattle.std.specs.List.{range_with_len}
-use Rattle.std.proofs.lemmas.Bool.Decides.{nat_tests}
-use Rattle.model.specs.Worlds.{Source, Setup, Desk, World, Goal, are_users}
-use Rattle.model.specs.Goals.{Running, led_by}
+use Rattle.model.specs.Worlds.{Source, Setup, Desk, World, are_users}
+use Rattle.model.specs.Goals.{led_by}
 use Rattle.model.specs.Outcomes.{joins, running_for}
 use Rattle.model.proofs.BoolLemmas.{either}
 use Rattle.trust.specs.Trusting.{IsReach}
-use Rattle.trust.specs.Naming.{place_of, name_at, is_at, names, IsWithin}
+use Rattle.trust.specs.Naming.{place_of, name_at, is_at, IsWithin}
 use Rattle.trust.proofs.RowLemmas.{eq_cases}
 use Rattle.trust.proofs.PlaceLemmas.{place_found}
 use Rattle.jobs.specs.Owned.{OwnedByAll, goals_at}
 use Rattle.jobs.specs.Joining.{led_at, running_at}
 use Rattle.realise.specs.Holdings.{Holdings}
-use Rattle.schedule.specs.Starting.{Joins, JoinsAll}
+use Rattle.schedule.specs.Starting.{JoinsAll}
 use Rattle.schedule.proofs.TrustLemmas.{distinct_users}
 use Rattle.schedule.proofs.ClosureLemmas.{world, his_desk}
 use Rattle.schedule.proofs.PlanLemmas.{reach_at_place}

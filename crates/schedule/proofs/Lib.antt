@@ -3,6 +3,7 @@ pub mod DeskLemmas
 pub mod AddingLemmas
 pub mod DerivationLemmas
 pub mod GoalLemmas
+pub mod SupportLemmas
 pub mod WorldLemmas
 pub mod ApartLemmas
 pub mod GoodLemmas
@@ -13,6 +14,7 @@ pub mod ViewLemmas
 pub mod ClosureLemmas
 pub mod AskingLemmas
 pub mod PuttingLemmas
+pub mod MissingLemmas
 pub mod CopyLemmas
 pub mod TakeLemmas
 pub mod ResolveLemmas
@@ -21,9 +23,21 @@ pub mod JoinLemmas
 pub mod StartLemmas
 pub mod ClosedLemmas
 pub mod PinLemmas
+pub mod OutputLemmas
+pub mod BuiltLemmas
+pub mod GainLemmas
+pub mod HearLemmas
+pub mod MadeLemmas
 pub mod OfferLemmas
 pub mod RunLemmas
 pub mod EverLemmas
 pub mod PlaceLemmas
 pub mod EndingLemmas
+pub mod LeaderLemmas
 pub mod FailingLemmas
+pub mod CommitLemmas
+pub mod InPlaceLemmas
+pub mod AllBuiltLemmas
+pub mod TriedLemmas
+pub mod StoredLemmas
+pub mod FinishLemmas

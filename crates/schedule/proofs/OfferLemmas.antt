@@ -1,6 +1,5 @@
 -- What is made of an output that is offered, in the terms of the model.
-use Rattle.std.proofs.Common.{◌≡◌, ℕ, ◌+◌, ◌<◌, Bool, false, inl, inr, List, [], ◌∷◌, ◌++◌, length, take, get_or, refl, sym, ◌∙◌, ap, rules, Option, None, Some, Result, Ok, Err}
-use Rattle.std.proofs.lemmas.List.{map_push, take_more}
+use Rattle.std.proofs.Common.{◌≡◌, ℕ, false, inl, inr, List, [], ◌∷◌, refl, sym, ◌∙◌, ap, rules, Option, None, Some, Result, Ok, Err}
 use Rattle.std.specs.Prelude.{All, Contains, OnOk, OnErr, IfOk}
 use Rattle.model.specs.declared.refusal.Refusal.{Refusal}
 use Rattle.model.specs.declared.refusal.RewriteFault.{RewriteFault}
@@ -26,6 +25,7 @@ use Rattle.store.specs.Stored.{IsAdded, IsTaken}
 use Rattle.realise.specs.Holdings.{Holdings, with_tree, entry_with}
 use Rattle.schedule.specs.Stored.{settled_source, output_stored}
 use Rattle.schedule.specs.Sound.{desk_of, IsSound, IsHashed, Beside}
+use Rattle.schedule.specs.Supported.{GainsOnly}
 use Rattle.schedule.specs.Standing.{reply_of}
 use Rattle.schedule.specs.Offering.{AreLabels, IsOutput, IsNotSettled, IsNoOutput}
 use Rattle.schedule.specs.Handling.{Fits, IsKept, IsHandledBeside, AddsEntry}
@@ -101,7 +101,7 @@ module _ (beside : Beside) (limit : ℕ) (table : List Source) (d : Holdings) (p
       → IsOutput d a tree r settled → AddsEntry limit table d (entry.Record r) settled result new now
       → IfOk result (λ x. is_refused (reply_of x) ≡ false)
       → OnOk result (IsAdded r.path settled table new) → OnOk result (IsSound new limit now) → OnErr result (IsKept table new d now)
-      → (result ≡ Err Clash → IsTaken table r.path settled)
+      → GainsOnly d now → (result ≡ Err Clash → IsTaken table r.path settled)
       → IsHandledBeside beside limit table d (Offer path tree) result new now
   unfolding outcome
   offer_handled new now settled a r result sound known output =
@@ -111,7 +111,7 @@ module _ (beside : Beside) (limit : ℕ) (table : List Source) (d : Holdings) (p
       (λ setup w u here.
       ap (λ e. output_stored e tree (known_at (known_of e) path)) here ∙ ap (output_stored (desk_of beside table d) tree) (known_there (Some a) known)
       ∙ ap (λ ls. settled_source (output_settled ls a tree)) (sym (output.candidates beside table)) ∙ ap settled_source output.is ∙ ap (λ s. s ∷ []) same_source)
-      (λ setup w u. tt)
+      (λ setup w u. refl) (λ setup w u. tt)
       (λ texts setup w u here inside. output_hashed texts beside table d a tree settled r path output known (rw here at inside))
     where
       same_source : ◌≡◌ {A = Source} (record { path = output.settled.path; tree = output.settled.tree }) (record { path = r.path; tree = settled })
@@ -126,15 +126,6 @@ module _ (beside : Beside) (limit : ℕ) (table : List Source) (d : Holdings) (p
           ∙ ap (λ t. add_entry setup (desk_of beside table d) (OfRecord (with_tree t r))) (sym output.tree_is)
 
 -- ---- what it may refer to
-
--- the path of one label more
-pub path_pushed : (labels : List Label) (i : ℕ) (label : Label) (path : List ℕ) (paths : List (List ℕ)) → i < length labels
-    → label ≡ get_or labels i label → path ≡ label.path
-    → paths ≡ paths_of_labels (take i labels) → paths ++ path ∷ [] ≡ paths_of_labels (take (i + 1) labels)
-path_pushed labels i label path paths inside here is before =
-    let last : path ≡ (get_or labels i label).path = is ∙ ap (λ (l : Label). l.path) here in
-    ap (λ ps. ps ++ path ∷ []) before ∙ ap (λ p. paths_of_labels (take i labels) ++ p ∷ []) last
-    ∙ sym (map_push (λ (l : Label). l.path) (take i labels) (get_or labels i label)) ∙ ap paths_of_labels (sym (take_more labels i label inside))
 
 -- labels that are the candidates on each desk of this knowledge and these records
 pub are_labels : (d : Holdings) (a : Admission) (labels : List Label) → AreCandidates d.known a.derivation d.records labels

@@ -21,6 +21,7 @@ use Rattle.schedule.specs.Sound.{sources_at, records_at, desk_of, IsSound, Besid
 use Rattle.schedule.specs.Given.{HasSoundPlan}
 use Rattle.schedule.specs.Handling.{RefusedAtOnce, ServesAtOnce, IsHandledBeside}
 use Rattle.schedule.proofs.DeskLemmas.{length-sources_at, length-records_at}
+use Rattle.schedule.proofs.SupportLemmas.{gains_same}
 use Rattle.schedule.proofs.HandlingLemmas.{left}
 
 -- ---- how many there are
@@ -143,6 +144,7 @@ module _ (beside : Beside) (limit : ℕ) (table : List Source) (d : Holdings) wh
     at_once = at_once (under users) (sight_of (under users) w u) here;
     kept = search rules;
     sound = sound-pins table limit d pins sound few;
+    gains = gains_same d (with_pins pins d) refl refl;
     grows = λ path there. refl;
     hashed = λ texts hashed inside. hashed;
     taken = λ clash. cc;

@@ -1,7 +1,7 @@
 -- A goal that is planned.
-use Rattle.std.proofs.Common.{◌≡◌, ℕ, zero, suc, ◌<◌, Bool, true, false, List, [], ◌∷◌, ◌++◌, length, get_or, refl, sym, ◌∙◌, ap, subst, ◌⊎◌, inl, inr, rules, Option, Some, None, Result, Ok, Err}
+use Rattle.std.proofs.Common.{◌≡◌, ◌≢◌, ℕ, zero, suc, ◌<◌, Bool, true, false, List, [], ◌∷◌, length, get_or, refl, sym, ◌∙◌, ap, subst, ◌⊎◌, inl, inr, rules, Some, Result, Ok, Err}
 use Rattle.std.specs.Borrow.{Bor}
-use Rattle.std.specs.Prelude.{All, Contains, MatchResult, IfOk, IfErr, OnOk, OnErr, map, is_some, slice_get, slice_set}
+use Rattle.std.specs.Prelude.{All, Contains, MatchResult, map, is_some}
 use Rattle.std.proofs.lemmas.Grind.{merely}
 use Rattle.std.proofs.lemmas.List.{get_or-set_same}
 use Rattle.std.proofs.lemmas.List.Elements.{All-nil, All-get_or, All-set}
@@ -10,14 +10,14 @@ use Rattle.model.specs.declared.refusal.Refusal.{Refusal}
 use Rattle.model.specs.declared.refusal.Refusal.TheVariants.{Memory, Clash, UnknownDerivation, UnknownGoal, WrongState, NotRealised}
 use Rattle.model.specs.Derivations.{Derivation}
 use Rattle.model.specs.Classes.{Admission, Known, known_at}
-use Rattle.model.specs.Worlds.{Source, Setup, Desk, World, are_users, Resolved, State, Planned, Failed, Goal, known_of}
+use Rattle.model.specs.Worlds.{Source, Setup, Desk, World, are_users, Resolved, Job, State, Building, Planned, Failed, Goal, known_of}
 use Rattle.model.specs.Goals.{goal_at, with_goal_at, with_goal, in_state}
 use Rattle.model.specs.Resolutions.{input_classes, resolving_texts, scratch_texts}
 use Rattle.model.specs.Closures.{closure_texts}
 use Rattle.model.specs.Events as events
 use Rattle.model.specs.Outcomes.{Sight, sight_of, reaches, trusts, becomes}
 use Rattle.model.specs.GoalRequests.{resolve_for, plan_resolved, plan, plan_texts}
-use Rattle.model.specs.Replies.{is_refused, is_clash_refusal, needs_no_memory}
+use Rattle.model.specs.Replies.{is_clash_refusal, needs_no_memory}
 use Rattle.model.specs.Steps.{outcome}
 use Rattle.model.proofs.GoalRequestLemmas.{planned_goal, plan_cases}
 use Rattle.model.specs.Archives.{Tree, Link}
@@ -30,19 +30,19 @@ use Rattle.trust.specs.Trusting.{IsReach}
 use Rattle.trust.proofs.PlaceLemmas.{name_found, place_found}
 use Rattle.trust.proofs.NameLemmas.{reached_names}
 use Rattle.schedule.specs.declared.events.Reply as Rust
-use Rattle.schedule.specs.Stored.{stored_by, source_of_entry, planned_sources, resolved_sources, AreTaken}
-use Rattle.schedule.specs.Sound.{Beside, desk_of, IsSound, IsClosure, IsStored, IsResolvedIn, AreGoalsSound, IsHashed, Clashes}
+use Rattle.schedule.specs.Stored.{stored_by, source_of_entry, resolved_sources, AreTaken}
+use Rattle.schedule.specs.Sound.{Beside, desk_of, IsSound, IsClosure, IsStored, IsResolvedIn, AreGoalsSound, IsHashed}
 use Rattle.schedule.specs.Standing.{reply_of, goals_of, beside_at}
 use Rattle.schedule.specs.Given.{HasSoundPlan, HasSoundPlanOf}
 use Rattle.schedule.specs.Handling.{is_fault, RefusedAtOnce, IsHandledWithGoals}
 use Rattle.schedule.specs.Viewing.{bare, desk_at}
 use Rattle.schedule.specs.Taking.{tree_with_path}
-use Rattle.schedule.specs.Serving.{AtPlace}
 use Rattle.schedule.specs.Planning.{IsResolvedFor, IsNotResolvedFor, IsToPlan, TellsToPlan, fails, IsNotKept}
 use Rattle.schedule.proofs.DeskLemmas.{desk_kept, sound_kept, known_of-desk_of}
 use Rattle.schedule.proofs.GoalLemmas.{goals_kept, goals_sound_at}
 use Rattle.schedule.proofs.GoodLemmas.{resolved_closure}
 use Rattle.schedule.proofs.PuttingLemmas.{put_all-Extends, put_all-All, all_front}
+use Rattle.schedule.proofs.SupportLemmas.{gains_nothing, idle_supported, supported_with}
 use Rattle.schedule.proofs.ClosureLemmas.{world, his_desk, his_sound, left_there}
 use Rattle.schedule.proofs.TrustLemmas.{distinct_users}
 use Rattle.schedule.proofs.CopyLemmas.{uncopied}
@@ -119,7 +119,8 @@ module _ (setup : Setup) (w : World) (u : List ℕ) (n : ℕ) (d : Derivation) (
 pub reach_at_place : (users : List (List ℕ)) (limit : ℕ) (trust : ℕ → ℕ → Bool) (goals : List (List Goal)) (table : List Source) (desks : List Holdings)
     (listed : are_users users ≡ true) (paired : length desks ≡ length users) (within : IsWithin (length users) trust) (actor : List ℕ) (place : ℕ)
     (found : place_of users actor ≡ Some place) (set : ℕ → Bool) → IsReach trust place set
-    → reaches (record { users = users; charge = limit }) (world users limit trust goals table desks actor place listed found paired within) actor ≡ names users set
+    → reaches (record { users = users; charge = limit }) (world users limit trust goals table desks actor place listed found paired within) actor
+    ≡ names users set
 reach_at_place users limit trust goals table desks listed paired within actor place found set reach =
     let w : World = world users limit trust goals table desks actor place listed found paired within in
     let own = name_found users actor place found in
@@ -127,7 +128,8 @@ reach_at_place users limit trust goals table desks listed paired within actor pl
     let linked : IsLinked users trust (trusts w) = λ u below v.
     (let there : place_of users (name_at users u) ≡ Some u = place_found users u distinct below in
     ap (λ (d : Desk). d.trusted v) (his_desk users limit trust goals table desks (name_at users u) u listed there paired within)) in
-    ap (reaches (record { users = users; charge = limit }) w) (sym own.1) ∙ sym (reached_names users trust (trusts w) place set distinct within linked own.0 reach)
+    ap (reaches (record { users = users; charge = limit }) w) (sym own.1)
+    ∙ sym (reached_names users trust (trusts w) place set distinct within linked own.0 reach)
 
 module _ (users : List (List ℕ)) (limit : ℕ) (trust : ℕ → ℕ → Bool) (goals : List (List Goal)) (old : List Source) (desks : List Holdings) (place n : ℕ)
     (listed : are_users users ≡ true) (paired : length desks ≡ length users) (within : IsWithin (length users) trust)
@@ -171,15 +173,18 @@ module _ (users : List (List ℕ)) (limit : ℕ) (trust : ℕ → ℕ → Bool) 
       → Handles (Err why) own old
   unfolding outcome
   refused why fits at_once no_clash = record {
-    handled = left_there users limit trust goals old desks actor place listed found paired within (events.Plan n) (Err why) sound fits (search rules) at_once no_clash
+    handled = left_there users limit trust goals old desks actor place listed found paired within (events.Plan n) (Err why) sound fits (search rules)
+        at_once no_clash
         (search rules) (search rules);
     kept = refl;
     sound = own_sound;
+    supported = λ was. was;
   }
 
   -- the goal is none that is to be planned
   pub not_to_plan : (why : Refusal) → plan s n ≡ Err why → Handles (Err why) own old
-  not_to_plan why is = refused why (λ own. is) (λ other quick o. (let same : why ≡ other = (let two = sym is ∙ o in cc) in ap Err same)) (plan_no_clash s n why is)
+  not_to_plan why is = refused why (λ own. is) (λ other quick o. (let same : why ≡ other = (let two = sym is ∙ o in cc) in ap Err same))
+      (plan_no_clash s n why is)
 
   module _ (d : Derivation) (it : IsToPlan s n d) where
     -- the goal becomes another one
@@ -188,9 +193,9 @@ module _ (users : List (List ℕ)) (limit : ℕ) (trust : ℕ → ℕ → Bool) 
         → IsResolvedIn (put_all more old) g.resolved
         → ((texts : List (List ℕ)) → All (IsHashed texts) old → All (Contains texts) (plan_texts s n) → All (IsHashed texts) more)
         → stored_by setup w actor (events.Plan n) ≡ more → HasSoundPlan setup w actor (events.Plan n)
-        → Handles (Ok reply) (with_goal_at n g own) (put_all more old)
+        → ((job : Job) → g.state ≢ Building job) → Handles (Ok reply) (with_goal_at n g own) (put_all more old)
     unfolding outcome
-    becomes_so reply g state more told is resolved hashed stores plans =
+    becomes_so reply g state more told is resolved hashed stores plans idle =
         let changed : List Goal = with_goal_at n g own in
         let later : Extends old (put_all more old) = put_all-Extends more old in
         let his_sound = his_sound users limit trust goals old desks actor place listed found paired within sound in
@@ -204,6 +209,7 @@ module _ (users : List (List ℕ)) (limit : ℕ) (trust : ℕ → ℕ → Bool) 
             at_once = λ why quick o. (let no = sym is ∙ o in cc);
             kept = search rules;
             sound = sound_kept old (put_all more old) limit desk later his_sound;
+            gains = gains_nothing desk;
             grows = later;
             hashed = λ texts all inside. put_all-All (IsHashed texts) more old all (hashed texts all inside);
             taken = λ clash. cc;
@@ -213,6 +219,7 @@ module _ (users : List (List ℕ)) (limit : ℕ) (trust : ℕ → ℕ → Bool) 
           };
           kept = search rules;
           sound = sound_with (put_all more old) own n g (goals_kept old (put_all more old) later own own_sound) resolved;
+          supported = λ was. supported_with desk own n g was (idle_supported desk g idle);
         }
 
     -- it is not resolved
@@ -242,7 +249,7 @@ module _ (users : List (List ℕ)) (limit : ℕ) (trust : ℕ → ℕ → Bool) 
         becomes_so reply (in_state (Failed why) it.goal) (Failed why) [] told (planned_so setup w actor n d it (Err why) is ∙ failing s n it.goal why t)
         (resolved_there old own n it.goal own_sound (own_there d it)) (λ texts all inside. All-nil (IsHashed texts))
         (stored_so setup w actor n d it (Err why) is)
-        (given_so setup w actor n d it (λ r two. absurd (let no = sym is ∙ two in cc)))
+        (given_so setup w actor n d it (λ r two. absurd (let no = sym is ∙ two in cc))) (λ job building. cc)
 
     module _ (law : ServedAreMade) (r : Resolved) (resolved : IsResolvedFor setup w actor d r) where
       closure_hashed : (texts : List (List ℕ)) → All (IsHashed texts) old → All (Contains texts) (plan_texts s n)
@@ -262,8 +269,10 @@ module _ (users : List (List ℕ)) (limit : ℕ) (trust : ℕ → ℕ → Bool) 
       planned reply told closure there =
           becomes_so reply (planned_goal it.goal r) Planned (map source_of_entry r.closure) told (planned_so setup w actor n d it (Ok r) resolved.is)
           (λ q is. (let same : r ≡ q = cc in
-          subst (λ (x : Resolved). ∥ IsClosure x.closure ∥₁ × All (IsStored (put_all (map source_of_entry r.closure) old)) x.closure) same (merely closure, there)))
+          subst (λ (x : Resolved). ∥ IsClosure x.closure ∥₁ × All (IsStored (put_all (map source_of_entry r.closure) old)) x.closure) same
+          (merely closure, there)))
           closure_hashed (stored_so setup w actor n d it (Ok r) resolved.is) (given_so setup w actor n d it (λ q is. resolved.sound))
+          (λ job building. cc)
 
       -- there is no memory for it, or another tree at one of its paths
       pub not_kept : (why : Refusal) → IsNotKept old r why → Handles (Err why) own old
@@ -275,6 +284,7 @@ module _ (users : List (List ℕ)) (limit : ℕ) (trust : ℕ → ℕ → Bool) 
           at_once = λ other quick o. (let no = sym o ∙ planned_so setup w actor n d it (Ok r) resolved.is in cc);
           kept = record { sources = refl; desk = refl };
           sound = his_sound users limit trust goals old desks actor place listed found paired within sound;
+          gains = gains_nothing desk;
           grows = λ path there. refl;
           hashed = λ texts hashed inside. hashed;
           taken = λ clash. subst (AreTaken old) (sym (stored_so setup w actor n d it (Ok r) resolved.is)) (is_taken is (let same : why ≡ Clash = cc in same));
@@ -285,6 +295,7 @@ module _ (users : List (List ℕ)) (limit : ℕ) (trust : ℕ → ℕ → Bool) 
         };
         kept = refl;
         sound = own_sound;
+        supported = λ was. was;
       }
         where
           is_taken : IsNotKept old r why → why ≡ Clash → AreTaken old (map source_of_entry r.closure)
@@ -328,7 +339,8 @@ pub goal_to_plan : (goals : List Goal) (known : Known) (reach : List ℕ → Boo
 goal_to_plan goals known reach n d tells = rw (goal_there goals known reach n d tells).1 refl
 
 -- those at a place are others
-pub put_there : (all new : OwnedByAll) (place : ℕ) (changed : List Goal) → place < length all.goals → new ≡ with_goals_at place changed all → goals_at place new ≡ changed
+pub put_there : (all new : OwnedByAll) (place : ℕ) (changed : List Goal) → place < length all.goals → new ≡ with_goals_at place changed all
+    → goals_at place new ≡ changed
 put_there all new place changed below is = ap (goals_at place) is ∙ get_or-set_same all.goals place changed [] below
 
 pub others_left : (all new : OwnedByAll) (place : ℕ) (changed : List Goal) → place < length all.goals → new ≡ with_goals_at place changed all

@@ -1,24 +1,23 @@
 -- What a derivation is built from, for the user at a place.
-use Rattle.std.proofs.Common.{◌≡◌, ℕ, Bool, List, length, sym, ◌∙◌, ap, subst, ◌⊎◌, inl, inr, refl, rules, Result, Ok, Err}
+use Rattle.std.proofs.Common.{◌≡◌, ℕ, Bool, List, sym, ◌∙◌, ap, subst, ◌⊎◌, inl, inr, refl, rules, Result, Ok, Err}
 use Rattle.std.specs.Prelude.{All, IfOk, MatchResult}
 use Rattle.model.specs.declared.refusal.Refusal.{Refusal}
 use Rattle.model.specs.declared.refusal.Refusal.TheVariants.{Memory}
 use Rattle.model.specs.Results.{then_do}
 use Rattle.model.specs.Derivations.{Derivation}
 use Rattle.model.specs.Classes.{Known}
-use Rattle.model.specs.Worlds.{Source, Setup, Desk, Pin, World, Resolved, known_of}
+use Rattle.model.specs.Worlds.{Source, Desk, Pin, World, Resolved, known_of}
 use Rattle.model.specs.Choices.{Plan, plan}
 use Rattle.model.specs.Closures.{served_plan, ClosuresAreWhole}
-use Rattle.model.specs.Closures as closures
 use Rattle.model.specs.Resolutions.{input_classes, resolved_over, resolve}
 use Rattle.model.specs.Outcomes.{view_of}
 use Rattle.realise.specs.Holdings.{Holdings, IsClosed}
-use Rattle.choose.specs.Visible.{Visible, visible_on, seen}
+use Rattle.choose.specs.Visible.{visible_on, seen}
 use Rattle.repair.specs.SoundPlans.{IsSoundPlan}
-use Rattle.schedule.specs.Sound.{desk_of, IsClosure}
+use Rattle.schedule.specs.Sound.{IsClosure}
 use Rattle.schedule.specs.Standing.{beside_at}
 use Rattle.schedule.specs.Viewing.{desk_at, IsView}
-use Rattle.schedule.specs.Planning.{IsResolvedFor, IsResolvedAt}
+use Rattle.schedule.specs.Planning.{IsResolvedAt}
 use Rattle.schedule.proofs.DeskLemmas.{known_of-desk_of}
 use Rattle.schedule.proofs.GoodLemmas.{resolved_closure}
 use Rattle.schedule.proofs.ClosureLemmas.{world, his_desk, visible, is_closure}

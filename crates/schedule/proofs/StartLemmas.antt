@@ -1,45 +1,44 @@
 -- A goal that is started.
-use Rattle.std.proofs.Common.{◌≡◌, ℕ, zero, suc, ◌<◌, ◌≤◌, Bool, true, false, List, [], ◌∷◌, ◌++◌, length, length-set, get_or, refl, sym, ◌∙◌, ap, subst, arith, ◌⊎◌, inl, inr, rules, Option, Some, None, Result, Ok, Err}
-use Rattle.std.specs.Prelude.{All, Any, Contains, IfOk, IfErr, OnOk, OnErr, MatchResult, ◌&&◌, if◌then◌else◌, is_some, map, filter, bytes_eq, nat_le, slice_get, slice_set}
+use Rattle.std.proofs.Common.{◌≡◌, ℕ, zero, suc, ◌<◌, Bool, true, false, List, [], ◌∷◌, ◌++◌, length, length-set, refl, sym, ◌∙◌, ap, subst, arith, inl, inr, rules, Option, Some, None, Result, Ok, Err}
+use Rattle.std.specs.Prelude.{All, ◌&&◌, if◌then◌else◌, is_some, map, filter, bytes_eq, nat_le, slice_get, slice_set}
 use Rattle.std.specs.List.{list_any}
-use Rattle.std.specs.Borrow.{Bor}
 use Rattle.std.proofs.lemmas.Grind.{not_there}
 use Rattle.std.proofs.lemmas.Bool.Decides.{nat_tests}
 use Rattle.std.proofs.lemmas.List.Folds.{Any-from_list_any, list_any-from_Any}
-use Rattle.std.proofs.lemmas.List.Elements.{All-nil, All-head, All-tail, All-filter}
+use Rattle.std.proofs.lemmas.List.Elements.{All-head, All-tail, All-filter}
 use Rattle.model.specs.declared.refusal.Refusal.{Refusal}
 use Rattle.model.specs.declared.refusal.Refusal.TheVariants.{Memory, Clash, Quota, UnknownGoal, WrongState, NotRealised}
 use Rattle.model.specs.Limits.{most_entries}
 use Rattle.model.specs.Archives.{nar}
-use Rattle.model.specs.Worlds.{Source, Record, Label, Setup, Desk, World, are_users, Resolved, Job, State, Planned, Building, Failed, Goal, Entry, path_of_entry, tree_at, is_within, with_entries}
+use Rattle.model.specs.Worlds.{Source, Label, Setup, Desk, World, are_users, Resolved, Job, State, Building, Failed, Goal, Entry, path_of_entry, tree_at, is_within, with_entries}
 use Rattle.model.specs.Goals.{goal_at, with_goal_at, with_goal, in_state, as_seen, same_resolved, Running, running_before, job_or, job_of}
 use Rattle.model.specs.Orders.{lesser, least_from, least}
-use Rattle.model.specs.Closures.{entry_before, class_of_entry, path_of_class, tree_of_entry, IsWhole}
+use Rattle.model.specs.Closures.{entry_before, class_of_entry, path_of_class}
 use Rattle.model.specs.Events as events
 use Rattle.model.specs.Outcomes.{Sight, sight_of, Outcome, becomes, check}
 use Rattle.model.specs.GoalRequests.{turns, own_job, start_goal, start}
-use Rattle.model.specs.Replies.{is_refused, is_clash_refusal, needs_no_memory}
+use Rattle.model.specs.Replies.{is_clash_refusal, needs_no_memory}
 use Rattle.model.specs.Steps.{outcome}
 use Rattle.model.proofs.BoolLemmas.{either, same_bytes, bytes_same, both_parts}
-use Rattle.model.proofs.MemberLemmas.{In}
 use Rattle.model.proofs.FitLemmas.{IsReached, IsSound as IsSoundSight}
 use Rattle.model.proofs.AgreeLemmas.{sight_sound}
 use Rattle.model.proofs.GoalRequestLemmas.{start_cases}
 use Rattle.choose.specs.Gathering.{Ascends}
-use Rattle.store.specs.Stored.{put_all, put_once, Extends, IsTaken}
+use Rattle.store.specs.Stored.{put_all, put_once, IsTaken}
 use Rattle.jobs.specs.Owned.{OwnedByAll, goals_at, with_goals_at}
 use Rattle.realise.specs.Holdings.{Holdings}
 use Rattle.trust.specs.Naming.{place_of, trusted_at, IsWithin}
 use Rattle.schedule.specs.declared.events.Reply as Rust
 use Rattle.schedule.specs.Stored.{source_of_entry, AreTaken}
-use Rattle.schedule.specs.Sound.{Beside, desk_of, IsSound, IsClosure, IsStored, IsResolvedIn, AreGoalsSound}
+use Rattle.schedule.specs.Sound.{Beside, desk_of, IsSound, IsClosure, IsStored, AreGoalsSound}
 use Rattle.schedule.specs.Standing.{reply_of, goals_of, beside_at}
 use Rattle.schedule.specs.Handling.{is_fault, RefusedAtOnce, IsHandledWithGoals}
-use Rattle.schedule.specs.Taking.{copied, CopiesEntries}
+use Rattle.schedule.specs.Taking.{CopiesEntries}
 use Rattle.schedule.specs.Viewing.{desk_at}
 use Rattle.schedule.specs.Planning.{fails}
 use Rattle.schedule.specs.Starting.{IsToStart}
 use Rattle.schedule.proofs.GoalLemmas.{goals_sound_at}
+use Rattle.schedule.proofs.SupportLemmas.{still_supported, idle_supported, supported_with, built_supported}
 use Rattle.schedule.proofs.ClosureLemmas.{world, his_desk, his_sound, left_there}
 use Rattle.schedule.proofs.PlanLemmas.{resolved_there, sound_with, put_there, others_left}
 
@@ -221,10 +220,12 @@ module _ (users : List (List ℕ)) (limit : ℕ) (trust : ℕ → ℕ → Bool) 
       → Handles (Err why) own desk
   unfolding outcome
   refused why fits at_once no_clash = record {
-    handled = left_there users limit trust goals old desks actor place listed found paired within (events.Start n) (Err why) sound fits (search rules) at_once no_clash
+    handled = left_there users limit trust goals old desks actor place listed found paired within (events.Start n) (Err why) sound fits (search rules)
+        at_once no_clash
         (search rules) (search rules);
     kept = refl;
     sound = own_sound;
+    supported = λ was. was;
   }
 
   -- the goal is none that is to be started
@@ -299,6 +300,7 @@ module _ (users : List (List ℕ)) (limit : ℕ) (trust : ℕ → ℕ → Bool) 
               at_once = λ why quick o. absurd (not_quick why quick o);
               kept = search rules;
               sound = subst (λ t. IsSound t limit after) kept copies.sound;
+              gains = copies.gains;
               grows = λ path there. refl;
               hashed = λ texts hashed inside. hashed;
               taken = λ clash. cc;
@@ -308,6 +310,8 @@ module _ (users : List (List ℕ)) (limit : ℕ) (trust : ℕ → ℕ → Bool) 
             };
             kept = search rules;
             sound = changed_sound (Building job);
+            supported = λ was. supported_with after own n (in_state (Building job) it.goal) (still_supported desk after own copies.gains was)
+                (built_supported after (in_state (Building job) it.goal) r it.resolved copies.there);
           }
 
       -- there is none
@@ -321,9 +325,11 @@ module _ (users : List (List ℕ)) (limit : ℕ) (trust : ℕ → ℕ → Bool) 
           let outside : is_within setup (with_entries r.closure s.desk) ≡ false = ap (λ d. is_within setup (with_entries r.closure d)) his ∙ parts.0 in
           let is : start setup s n ≡ turns s s.desk n (in_state (Failed why) it.goal) =
           begun ∙ rw outside (ap (λ y. turns s s.desk n (in_state (Failed y) it.goal)) (sym parts.1)) in
-          let now : s.desk ≡ desk_of (beside_at users trust goals place) old after = his ∙ ap (desk_of (beside_at users trust goals place) old) (sym copies.kept.desk) in
+          let now : s.desk ≡ desk_of (beside_at users trust goals place) old after =
+          his ∙ ap (desk_of (beside_at users trust goals place) old) (sym copies.kept.desk) in
           let done : start setup s n ≡ becomes (desk_of beside old after) (reply_of reply) =
-          is ∙ (λ i. becomes (with_goal n (in_state (Failed why) it.goal) (now i)) (events.GoalState (Failed why))) ∙ ap (becomes (desk_of beside old after)) (sym told) in
+          is ∙ (λ i. becomes (with_goal n (in_state (Failed why) it.goal) (now i)) (events.GoalState (Failed why)))
+          ∙ ap (becomes (desk_of beside old after)) (sym told) in
           record {
             handled = record {
               serves = done;
@@ -331,6 +337,7 @@ module _ (users : List (List ℕ)) (limit : ℕ) (trust : ℕ → ℕ → Bool) 
               at_once = λ why quick o. absurd (not_quick why quick o);
               kept = search rules;
               sound = rw copies.kept.desk (his_sound users limit trust goals old desks actor place listed found paired within sound);
+              gains = copies.gains;
               grows = λ path there. refl;
               hashed = λ texts hashed inside. hashed;
               taken = λ clash. cc;
@@ -340,6 +347,8 @@ module _ (users : List (List ℕ)) (limit : ℕ) (trust : ℕ → ℕ → Bool) 
             };
             kept = search rules;
             sound = changed_sound (Failed why);
+            supported = λ was. supported_with after own n (in_state (Failed why) it.goal) (still_supported desk after own copies.gains was)
+                (idle_supported after (in_state (Failed why) it.goal) (λ job building. cc));
           }
         where
           no_fault : (y : Refusal) → fails y ≡ true → (y ≡ Clash → ⊥) → is_fault y ≡ false
@@ -354,7 +363,8 @@ module _ (users : List (List ℕ)) (limit : ℕ) (trust : ℕ → ℕ → Bool) 
           at : (y : Refusal) → CopiesEntries limit old desk r.closure (Err y) new after → fails y ≡ false → Handles (Err y) own desk
           at Memory c f = no_memory
           at NotRealised c f =
-              absurd (let parts = over_so (is_within setup added) added events.Done NotRealised (c.fits users (beside_at users trust goals place) events.Done refl) in
+              absurd (let parts = over_so (is_within setup added) added events.Done NotRealised
+              (c.fits users (beside_at users trust goals place) events.Done refl) in
               let no : NotRealised ≡ Quota = parts.1 in cc)
           at y c f = cc
 
@@ -388,10 +398,11 @@ with_back zero g goals there = refl
 with_back (suc n) g goals there = set_back goals n g there
 
 -- what a goal that is to be started is built from
-pub goal_closure : (old : List Source) (goals : List (List Goal)) (place n : ℕ) (r : Resolved) → All (AreGoalsSound old) goals → IsToStart (goals_of goals place) n r
-    → IsClosure r.closure × All (IsStored old) r.closure
+pub goal_closure : (old : List Source) (goals : List (List Goal)) (place n : ℕ) (r : Resolved) → All (AreGoalsSound old) goals
+    → IsToStart (goals_of goals place) n r → IsClosure r.closure × All (IsStored old) r.closure
 goal_closure old goals place n r sound it =
-    let own = resolved_there old (goals_of goals place) n it.goal (goals_sound_at old goals place sound) it.there r it.resolved in (closure_there r.closure own.0, own.1)
+    let own = resolved_there old (goals_of goals place) n it.goal (goals_sound_at old goals place sound) it.there r it.resolved in
+    (closure_there r.closure own.0, own.1)
 
 -- a goal of the user at a place enters a job, and its state may change again then
 module _ (all entered : OwnedByAll) (place n : ℕ) (g : Goal) (job : Job) (there : goal_at n (goals_at place all) ≡ Some g) (inside : place < length all.goals)

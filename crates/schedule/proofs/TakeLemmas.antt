@@ -28,7 +28,6 @@ use Rattle.realise.specs.Recorded.{Recorded}
 use Rattle.realise.specs.Holdings.{Holdings}
 use Rattle.choose.specs.Visible.{source_at, record_at}
 use Rattle.repair.specs.RepairLaws.{IsServedEntry, ServedAreMade}
-use Rattle.trust.specs.Naming.{trusted_at}
 use Rattle.schedule.specs.declared.events.Reply as Rust
 use Rattle.schedule.specs.Stored.{source_of_entry, taken_sources, AreTaken}
 use Rattle.schedule.specs.Sound.{Beside, desk_of, IsSound, IsHashed, Clashes}
@@ -245,6 +244,7 @@ module _ (law : ServedAreMade) (trust : ℕ → ℕ → Bool) (limit : ℕ) (old
             at_once = take_at_once s (sight_of s w actor) class (Ok reply);
             kept = search rules;
             sound = copies.sound;
+            gains = copies.gains;
             grows = rw copies.stored (put_all-Extends (map source_of_entry entries) old);
             hashed = λ texts hashed inside. rw copies.stored
                 (put_all-All (IsHashed texts) (map source_of_entry entries) old hashed
@@ -273,6 +273,7 @@ module _ (law : ServedAreMade) (trust : ℕ → ℕ → Bool) (limit : ℕ) (old
             at_once = take_at_once s (sight_of s w actor) class (Err why);
             kept = copies.kept;
             sound = kept_sound old new (desk_at desks place) after limit (his_sound users limit trust goals old desks actor place listed found paired within sound) copies.kept;
+            gains = copies.gains;
             grows = kept_later old new (desk_at desks place) after copies.kept;
             hashed = λ texts hashed inside. rw copies.kept.sources hashed;
             taken = λ clash.

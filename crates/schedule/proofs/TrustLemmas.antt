@@ -96,6 +96,7 @@ module _ (users : List (List ℕ)) (limit : ℕ) (given : ℕ → ℕ → Bool) 
         sound = sound;
         with_goals = refl;
         goals_sound = goals_sound;
+        supported = λ was. was;
         grows = λ path there. refl;
         hashed = λ texts hashed inside. hashed;
         taken = λ clash. cc;

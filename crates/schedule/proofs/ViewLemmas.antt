@@ -8,7 +8,7 @@ use Rattle.model.specs.Worlds.{Source, Setup, Desk, World, Goal, are_distinct}
 use Rattle.model.specs.Outcomes.{trusts, reaches, view_of}
 use Rattle.model.proofs.BoolLemmas.{either}
 use Rattle.trust.specs.Trusting.{IsReach}
-use Rattle.trust.specs.Naming.{place_of, name_at, is_at, names, trusted_at, IsWithin, IsLinked}
+use Rattle.trust.specs.Naming.{place_of, name_at, is_at, names, IsWithin, IsLinked}
 use Rattle.trust.proofs.PlaceLemmas as places
 use Rattle.trust.proofs.NameLemmas.{reached_names}
 use Rattle.realise.specs.Holdings.{Holdings}

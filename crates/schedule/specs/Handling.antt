@@ -22,6 +22,7 @@ use Rattle.schedule.specs.Sound.{Beside, desk_of, IsSound, AreGoalsSound, IsHash
 use Rattle.schedule.specs.Standing.{reply_of, goals_of, beside_at, Parts, parts, world_in, stored_after, IsStep}
 use Rattle.schedule.specs.Viewing.{desk_at}
 use Rattle.schedule.specs.Given.{HasSoundPlan}
+use Rattle.schedule.specs.Supported.{AreSupportedOn, AreSupported, GainsOnly}
 
 -- whether a refusal says nothing of the model: memory was refused, or another tree is at a path
 abbrev pub is_fault : Refusal → Bool
@@ -67,6 +68,8 @@ pub record IsHandledIn (setup : Setup) (w : World) (u : List ℕ) (beside : Besi
   pub kept : OnErr result (IsKept old new before after)
   -- the desk is within its limits, and what it holds is stored
   pub sound : IsSound new setup.charge after
+  -- what it has labelled it keeps
+  pub gains : GainsOnly before after
   -- the table only grows, by what was hashed
   pub grows : Extends old new
   pub hashed : (texts : List (List ℕ)) → All (IsHashed texts) old → All (Contains texts) (texts_of setup w u request) → All (IsHashed texts) new
@@ -104,12 +107,14 @@ AddsDerivation limit table before derivation result after = (users : List (List 
 
 -- ---- events of goals
 
--- what a handler promises of a user in one world that may change his goals too: a refusal leaves them, and each is sound
+-- what a handler promises of a user in one world that may change his goals too: a refusal leaves them, each is sound, and has
+-- what it is built from on the desk
 pub record IsHandledWithGoals (setup : Setup) (w : World) (u : List ℕ) (trusted : List ℕ → Bool) (goals : List Goal) (old : List Source) (before : Holdings)
     (request : Request) (result : Result Reply Refusal) (changed : List Goal) (new : List Source) (after : Holdings) : Type 0 where
   pub handled : IsHandledIn setup w u (record { trusted = trusted; goals = changed }) old before request result new after
   pub kept : OnErr result (changed ≡ goals)
   pub sound : AreGoalsSound new changed
+  pub supported : AreSupportedOn before goals → AreSupportedOn after changed
 
 -- what a handler promises that reads the desk of the user alone, and changes his goals: who he is, whom he trusts, and what else he
 -- sees, makes no difference
@@ -142,6 +147,8 @@ pub record IsHandled (old : Parts) (event : Event) (result : Result Reply Refusa
   -- so it is with goals, and what each is built from is stored
   pub with_goals : length new.goals ≡ length old.goals
   pub goals_sound : All (AreGoalsSound new.table) new.goals
+  -- what a goal that is being built is built from stays on its user's desk
+  pub supported : AreSupported old.desks old.goals → AreSupported new.desks new.goals
   -- the table only grows, by what was hashed
   pub grows : Extends old.table new.table
   pub hashed : (texts : List (List ℕ)) → All (IsHashed texts) old.table → All (Contains texts) (texts_of_event old.setup (world_in old) event)
@@ -167,6 +174,11 @@ IsHandledByAllGoals users place trust old request result new = (limit : ℕ) (ta
     → place_of users actor ≡ Some place → length desks ≡ length users → All (IsSound table limit) desks → All (AreGoalsSound table) old
     → IsWithin (length users) trust
     → IsHandled (parts users limit trust old table desks) (record { actor = actor; request = request }) result (parts users limit trust new table desks)
+
+-- what a handler promises that may change the goals and the desks of all, and the table
+abbrev pub IsHandledByAll : Parts → ℕ → Request → Result Reply Refusal → Parts → Type 0
+IsHandledByAll old place request result new = (actor : List ℕ) → place_of old.setup.users actor ≡ Some place
+    → IsHandled old (record { actor = actor; request = request }) result new
 
 -- what a handler promises that reads what the user at a place sees, and changes the table and his desk
 abbrev pub IsHandledBySight : (ℕ → ℕ → Bool) → ℕ → List Source → List Holdings → ℕ → Request → Result Reply Refusal → List Source → Holdings → Type 0

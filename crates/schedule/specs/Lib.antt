@@ -2,6 +2,13 @@ pub mod Stored
 pub mod Sound
 pub mod Standing
 pub mod Viewing
+pub mod Supported
+pub mod Outputs
+pub mod Built
+pub mod Gaining
+pub mod Hearing
+pub mod Committing
+pub mod Finishing
 pub mod Offering
 pub mod Given
 pub mod Serving

@@ -1,5 +1,5 @@
 -- What is made of an output that is offered.
-use Rattle.std.specs.Prelude.{◌≡◌, ◌⊎◌, ℕ, Bool, List, All, Ok, Err}
+use Rattle.std.specs.Prelude.{◌≡◌, ◌⊎◌, List, All, Ok, Err}
 use Rattle.model.specs.declared.refusal.Refusal.{Refusal}
 use Rattle.model.specs.declared.refusal.Refusal.TheVariants.{Memory}
 use Rattle.model.specs.Archives.{Tree, IsTree}
@@ -11,19 +11,15 @@ use Rattle.model.specs.Settling.{Settled, hash_part_in}
 use Rattle.model.specs.Worlds.{Source, Label}
 use Rattle.model.specs.References.{candidates, paths_of_labels}
 use Rattle.model.specs.OfferRequests.{output_settled}
-use Rattle.model.specs.Outputs.{record_for}
 use Rattle.model.specs.Results.{unless_rewrite_refused}
 use Rattle.realise.specs.Recorded.{Recorded}
-use Rattle.realise.specs.Holdings.{Holdings, with_tree}
+use Rattle.realise.specs.Holdings.{Holdings}
+use Rattle.schedule.specs.Outputs.{IsRecordOf}
 use Rattle.schedule.specs.Sound.{desk_of, Beside}
 
 -- the labels are what an output of a derivation may refer to on a desk
 abbrev pub AreLabels : Holdings → Derivation → List Label → Type 0
 AreLabels d x labels = (beside : Beside) (table : List Source) → labels ≡ candidates (desk_of beside table d) x
-
--- a record is that of a tree with its path
-abbrev pub IsRecordOf : List Label → Admission → Settled → Recorded → Type 0
-IsRecordOf labels a s r = with_tree s.tree r ≡ record_for labels a s
 
 -- a tree that is offered is settled, and gets this record
 pub record IsOutput (d : Holdings) (a : Admission) (tree : Tree) (r : Recorded) (new : Tree) : Type 0 where

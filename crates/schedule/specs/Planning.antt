@@ -1,5 +1,5 @@
 -- What a goal is to be built from.
-use Rattle.std.specs.Prelude.{◌≡◌, ◌⊎◌, ℕ, Bool, true, false, List, map, All, OnOk, OnErr, IfErr, MatchResult, Some, Result, Ok, Err}
+use Rattle.std.specs.Prelude.{◌≡◌, ◌⊎◌, ℕ, Bool, true, false, List, map, MatchResult, Some, Result, Ok, Err}
 use Rattle.std.specs.Borrow.{Bor}
 use Rattle.model.specs.declared.refusal.Refusal.{Refusal}
 use Rattle.model.specs.declared.refusal.Refusal.TheVariants.{Memory, Clash, NotRealised}
@@ -10,10 +10,8 @@ use Rattle.model.specs.Goals.{goal_at, as_seen, is_waiting}
 use Rattle.model.specs.Resolutions.{input_classes}
 use Rattle.model.specs.Outcomes.{Sight, sight_of}
 use Rattle.model.specs.GoalRequests.{resolve_for, plan}
-use Rattle.store.specs.Stored.{put_all}
 use Rattle.realise.specs.Holdings.{Holdings}
 use Rattle.schedule.specs.Stored.{source_of_entry, AreTaken}
-use Rattle.schedule.specs.Sound.{IsStored}
 use Rattle.schedule.specs.Given.{HasSoundPlanOf}
 use Rattle.schedule.specs.Serving.{AtPlace}
 

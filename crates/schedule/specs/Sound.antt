@@ -1,5 +1,5 @@
 -- What the desks of the store keep, and what the table keeps for them.
-use Rattle.std.specs.Prelude.{◌≡◌, ◌≢◌, ℕ, ◌≤◌, Bool, true, List, [], length, map, is_some, All, Option, Some, None}
+use Rattle.std.specs.Prelude.{◌≡◌, ◌≢◌, ℕ, ◌≤◌, Bool, true, List, [], length, map, is_some, All, Option, Some}
 use Rattle.model.specs.Archives.{nar}
 use Rattle.model.specs.Limits.{most_sources, most_derivations, most_records, most_pins, most_entries}
 use Rattle.model.specs.Settling.{Settled, IsMade}

@@ -1,5 +1,5 @@
 -- The world that the store stands for, and what its steps do to it.
-use Rattle.std.specs.Prelude.{◌≡◌, ◌⊎◌, ℕ, suc, Bool, true, false, if◌then◌else◌, List, [], ◌∷◌, is_some, bytes_eq, get_or, Some, All}
+use Rattle.std.specs.Prelude.{◌≡◌, ◌⊎◌, ℕ, suc, Bool, true, false, if◌then◌else◌, List, [], ◌∷◌, is_some, bytes_eq, Some, All}
 use Rattle.std.specs.Global.{Vec}
 use Rattle.model.specs.declared.refusal.Refusal.{Refusal}
 use Rattle.model.specs.declared.refusal.Refusal.TheVariants.{Memory, BadUsers}
@@ -12,7 +12,7 @@ use Rattle.trust.specs.declared.user.User.{User}
 use Rattle.schedule.specs.declared.limits.Limits.{Limits}
 use Rattle.schedule.specs.declared.state.Core.{Core}
 use Rattle.schedule.specs.declared.events.Request.{Request}
-use Rattle.schedule.specs.declared.events.Request.TheVariants.{AddSource, AddDerivation, Offer, Fetch, Trust, Distrust, Pin, Unpin, Closure, Take, Build, Status, Plan, Start, Fail}
+use Rattle.schedule.specs.declared.events.Request.TheVariants.{AddSource, AddDerivation, Offer, Fetch, Trust, Distrust, Pin, Unpin, Closure, Take, Build, Status, Plan, Start, Finish, Fail}
 use Rattle.schedule.specs.declared.events.Event.{Event}
 use Rattle.schedule.specs.declared.events.Reply.{Reply}
 use Rattle.schedule.specs.declared.events.Reply.TheVariants.{Done, Path, Derivation, Content, Entries, GoalNumber, GoalState, Refused}
@@ -23,6 +23,7 @@ use Rattle.realise.specs.Holdings.{Holdings}
 use Rattle.store.specs.Stored.{put_all}
 use Rattle.schedule.specs.Stored.{stored_by}
 use Rattle.schedule.specs.Sound.{Beside, desk_of, IsHashed, IsStored}
+pub use Rattle.schedule.specs.Supported.{goals_of}
 
 -- ---- events and replies in the terms of the model
 
@@ -41,6 +42,7 @@ request_of (Build derivation) = events.Build derivation
 request_of (Status number) = events.Status number
 request_of (Plan number) = events.Plan number
 request_of (Start number) = events.Start number
+request_of (Finish number output) = events.Finish number output
 request_of (Fail number status) = events.Fail number status
 
 abbrev pub event_of : Event → events.Event
@@ -68,10 +70,6 @@ desk_among beside table [] desks u = worlds.empty_desk
 desk_among beside table (name ∷ names) [] u = worlds.empty_desk
 desk_among beside table (name ∷ names) (d ∷ desks) u =
     if bytes_eq name u then desk_of (beside 0) table d else desk_among (λ place. beside (suc place)) table names desks u
-
--- the goals of the user at a place
-abbrev pub goals_of : List (List Goal) → ℕ → List Goal
-goals_of goals place = get_or goals place []
 
 -- what the desk of the user at a place has beside what he holds
 abbrev pub beside_at : List (List ℕ) → (ℕ → ℕ → Bool) → List (List Goal) → ℕ → Beside

@@ -1,15 +1,16 @@
 -- What a request stores.
-use Rattle.std.specs.Prelude.{◌≡◌, ℕ, List, [], ◌∷◌, ◌++◌, map, flat_map, drop, length, Option, Some, None, Result, Ok, Err}
+use Rattle.std.specs.Prelude.{◌≡◌, ℕ, List, [], ◌∷◌, ◌++◌, map, flat_map, filter, drop, length, Option, Some, None, Result, Ok, Err}
 use Rattle.model.specs.declared.refusal.Refusal.{Refusal}
 use Rattle.model.specs.declared.refusal.RewriteFault.{RewriteFault}
 use Rattle.model.specs.Archives.{Tree}
-use Rattle.model.specs.Classes.{Admission, known_at}
+use Rattle.model.specs.Classes.{Admission, Known, known_at}
 use Rattle.model.specs.Settling.{Settled}
-use Rattle.model.specs.Worlds.{Source, Setup, Desk, World, known_of, Entry, path_of_entry, Resolved, Goal, tree_of_record}
+use Rattle.model.specs.Worlds.{Source, Record, Setup, Desk, World, known_of, Entry, path_of_entry, Resolved, Job, Goal, tree_of_record}
 use Rattle.model.specs.References.{candidates}
 use Rattle.model.specs.Events.{Request, AddSource, AddDerivation, Offer, Fetch, Trust, Distrust, Pin, Unpin, Closure, Take, Build, Status, Plan, Start, Finish, Fail, Event}
-use Rattle.model.specs.Outcomes.{Sight, sight_of}
-use Rattle.model.specs.Goals.{goal_at}
+use Rattle.model.specs.Outcomes.{Sight, sight_of, reaches}
+use Rattle.model.specs.Goals.{goal_at, members}
+use Rattle.model.specs.Endings.{built_record}
 use Rattle.model.specs.GoalRequests.{resolve_for}
 use Rattle.model.specs.Steps.{after}
 use Rattle.model.specs.SourceRequests.{source_named}
@@ -74,6 +75,29 @@ stored_by setup w u (Start number) = []
 stored_by setup w u (Finish number bytes) = gained_sources setup w (record { actor = u; request = Finish number bytes })
 stored_by setup w u (Fail number status) = []
 
+-- the tree that is settled for a goal of which this is built, with its path
+abbrev pub record_tried : Result Record Refusal → List Source
+record_tried (Ok r) = tree_of_record r ∷ []
+record_tried (Err why) = []
+
+abbrev pub goal_tried : Known → List ℕ → Option Goal → List Source
+goal_tried known bytes None = []
+goal_tried known bytes (Some g) = record_tried (built_record known g bytes)
+
+-- those for the goals of a desk that are built in a job
+abbrev pub desk_tried : Job → List ℕ → Desk → List Source
+desk_tried job bytes d = flat_map (λ n. goal_tried (known_of d) bytes (goal_at n d.goals)) (members job 1 d.goals)
+
+-- and for all of them whose users reach the leader
+abbrev pub job_tried : Setup → World → Job → List ℕ → List Source
+job_tried setup w job bytes = flat_map (λ x. desk_tried job bytes (w x)) (filter (λ x. reaches setup w x job.leader) setup.users)
+
+-- the trees, with their paths, that a request of a user is to put into the table: of an output all that are settled, whether there is
+-- room for them or not
+abbrev pub tried_by : Setup → World → List ℕ → Request → List Source
+tried_by setup w u (Finish number bytes) = job_tried setup w (record { leader = u; number = number }) bytes
+tried_by setup w u request = stored_by setup w u request
+
 -- one of these trees, put one after another, comes to a path where another is by then
 pub record AreTaken (sources more : List Source) : Type 0 where
   pub before : List Source
@@ -84,4 +108,4 @@ pub record AreTaken (sources more : List Source) : Type 0 where
 
 -- the request of a user is to put a tree where another is
 abbrev pub IsTakenFor : List Source → Setup → World → List ℕ → Request → Type 0
-IsTakenFor sources setup w u request = AreTaken sources (stored_by setup w u request)
+IsTakenFor sources setup w u request = AreTaken sources (tried_by setup w u request)

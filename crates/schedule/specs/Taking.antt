@@ -1,23 +1,23 @@
 -- What is put on a desk that takes a closure.
-use Rattle.std.specs.Prelude.{◌≡◌, ℕ, ◌+◌, ◌≤◌, Bool, false, ◌&&◌, not, nat_le, List, length, map, filter, MatchResult, OnOk, OnErr, Result, Err}
+use Rattle.std.specs.Prelude.{◌≡◌, ℕ, ◌+◌, Bool, false, ◌&&◌, not, nat_le, List, length, map, filter, MatchResult, OnOk, OnErr, Result, Err, All}
 use Rattle.model.specs.declared.refusal.Refusal.{Refusal}
 use Rattle.model.specs.declared.refusal.Refusal.TheVariants.{Clash}
 use Rattle.model.specs.Archives.{Tree, nar}
-use Rattle.model.specs.Limits.{most_sources, most_records, most_entries}
+use Rattle.model.specs.Limits.{most_sources, most_records}
 use Rattle.model.specs.Worlds.{Source, OfSource, OfRecord, path_of_entry, with_entries}
 use Rattle.model.specs.Worlds as worlds
 use Rattle.model.specs.Events as events
-use Rattle.model.specs.Closures.{tree_of_entry, entry_before, IsWhole}
+use Rattle.model.specs.Closures.{tree_of_entry}
 use Rattle.model.specs.Outcomes.{Outcome, becomes, room}
-use Rattle.choose.specs.Gathering.{Ascends}
 use Rattle.store.specs.Stored.{put_all}
 use Rattle.realise.specs.Recorded.{without_tree}
 use Rattle.realise.specs.declared.entry.Entry.{Entry}
 use Rattle.realise.specs.declared.entry.Entry.TheVariants as entry
 use Rattle.realise.specs.Holdings.{Holdings, is_on, sources_in, records_in}
 use Rattle.schedule.specs.Stored.{source_of_entry, AreTaken}
-use Rattle.schedule.specs.Sound.{Beside, desk_of, IsSound, IsClosure}
+use Rattle.schedule.specs.Sound.{Beside, desk_of, IsSound}
 use Rattle.schedule.specs.Handling.{is_fault, IsKept}
+use Rattle.schedule.specs.Supported.{IsEntryOn, GainsOnly}
 
 -- ---- entries of a closure
 
@@ -64,6 +64,9 @@ pub record CopiesEntries (limit : ℕ) (old : List Source) (before : Holdings) (
       (λ why. is_fault why ≡ false → copied users limit beside old before entries reply ≡ Err why)
   pub stored : OnOk result (new ≡ put_all (map source_of_entry entries) old)
   pub sound : OnOk result (IsSound new limit after)
+  -- all of them are on the desk then, and so is what was
+  pub there : OnOk result (All (IsEntryOn after) entries)
+  pub gains : GainsOnly before after
   pub kept : OnErr result (IsKept old new before after)
   -- 91 comes only where another tree is at the path of one of them
   pub taken : result ≡ Err Clash → AreTaken old (map source_of_entry entries)

@@ -1,5 +1,5 @@
 -- What a user sees: the desks of all whom he reaches.
-use Rattle.std.specs.Prelude.{◌≡◌, ℕ, ◌<◌, Bool, true, List, [], length, map, filter, get_or, All}
+use Rattle.std.specs.Prelude.{◌≡◌, ℕ, ◌<◌, Bool, true, List, length, map, filter, All}
 use Rattle.std.specs.List.{range_with_len}
 use Rattle.std.specs.Borrow.{Bor}
 use Rattle.model.specs.Worlds.{Source, Goal, are_users}
@@ -7,18 +7,12 @@ use Rattle.model.specs.Outcomes.{view_of}
 use Rattle.trust.specs.Naming.{name_at, IsWithin}
 use Rattle.realise.specs.Holdings.{Holdings}
 use Rattle.schedule.specs.Sound.{desk_of}
+pub use Rattle.schedule.specs.Supported.{bare, desk_at}
 use Rattle.schedule.specs.Standing.{beside_at, parts, world_in}
 
 -- the places of a set below a number, in order
 abbrev pub places_of : (ℕ → Bool) → ℕ → List ℕ
 places_of set count = filter set (range_with_len 0 count)
-
--- the desk at a place
-abbrev pub bare : Holdings
-bare = record { known = record { derivations = []; sources = [] }; records = []; pins = []; charge = 0 }
-
-abbrev pub desk_at : List Holdings → ℕ → Holdings
-desk_at desks place = get_or desks place bare
 
 abbrev pub desks_of : List (Bor Holdings) → List Holdings
 desks_of desks = map (λ d. d.now) desks

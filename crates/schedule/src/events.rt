@@ -1,5 +1,6 @@
 //! What users ask, and what they are answered.
 
+use crate::output::Output;
 use aterm::Text;
 use choose::Closure;
 use jobs::State;
@@ -45,6 +46,10 @@ pub enum Request {
     /// To have on his desk all that the planned goal of a number is built from, and to build it, alone
     /// or with others. The reply is how far it is.
     Start(u16),
+    /// The job that the goal of a number leads has ended, and its builder wrote this. Each user who
+    /// reaches the leader gets what is built for his goals in the job. The reply is how far the goal is
+    /// then.
+    Finish(u16, Output),
     /// The job that the goal of a number leads has ended without an output, and its builder with this
     /// exit status. The reply is how far the goal is then.
     Fail(u16, u8),

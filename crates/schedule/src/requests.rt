@@ -5,17 +5,24 @@ ghost use Rattle.model.specs.Worlds.{are_users};
 ghost use Rattle.trust.specs.Trusting.{trusts};
 ghost use Rattle.trust.specs.Naming.{IsWithin};
 ghost use Rattle.schedule.specs.Sound.{IsSound, AreGoalsSound};
+ghost use Rattle.schedule.specs.Supported.{AreSupported};
 ghost use Rattle.schedule.specs.Standing.{event_of, parts};
 ghost use Rattle.schedule.specs.Handling.{IsHandled};
 
 mod closures;
+mod committing;
 mod derivations;
 mod ending;
 mod entries;
+mod finishing;
+mod gains;
 mod goals;
+mod hearing;
 mod offers;
+mod outputs;
 mod pins;
 mod planning;
+mod settling;
 mod sources;
 mod starting;
 mod taking;
@@ -26,6 +33,7 @@ use crate::limits::Limits;
 use closures::closure;
 use derivations::add_derivation;
 use ending::fail;
+use finishing::finish;
 use goals::{build, status};
 use jobs::Jobs;
 use model::Refusal;
@@ -67,6 +75,7 @@ pub(crate) fn handle(
     requires owned { jobs.old.users ≡ users.now }
     requires with_goals { length jobs.old.goals ≡ length users.now }
     requires goals_sound { All (AreGoalsSound table.old.sources) jobs.old.goals }
+    requires supported { AreSupported desks.old jobs.old.goals }
     ensures handled { IsHandled
         (parts users.now limits.charge (trusts trust.old) jobs.old.goals table.old.sources desks.old)
         (event_of event) result
@@ -95,6 +104,20 @@ pub(crate) fn handle(
         Request::Start(number) => {
             start(
                 alloc, users, trust, jobs, table, desks, place, limits, number,
+            )
+        }
+        Request::Finish(number, output) => {
+            finish(
+                alloc,
+                users,
+                trust,
+                jobs,
+                table,
+                desks,
+                place,
+                limits,
+                number,
+                output.bytes(),
             )
         }
         Request::Fail(number, _status) => fail(users, trust, jobs, place, number),

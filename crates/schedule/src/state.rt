@@ -8,6 +8,7 @@ ghost use Rattle.model.specs.Worlds.{are_users};
 ghost use Rattle.trust.specs.Trusting.{trusts};
 ghost use Rattle.trust.specs.Naming.{IsWithin};
 ghost use Rattle.schedule.specs.Sound.{IsSound, AreGoalsSound};
+ghost use Rattle.schedule.specs.Supported.{AreSupported};
 
 use crate::limits::Limits;
 use jobs::Jobs;
@@ -31,4 +32,5 @@ pub struct Core {
     ghost owned: { jobs.users ≡ users.items },
     ghost with_goals: { length jobs.goals ≡ length users.items },
     ghost goals_sound: { All (AreGoalsSound table.sources) jobs.goals } by { Prim.hlevel (props, codes, tree_code) },
+    ghost supported: { AreSupported desks.items jobs.goals } by { Prim.hlevel (props, codes) },
 }

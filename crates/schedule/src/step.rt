@@ -94,8 +94,9 @@ impl Core {
     /// Takes one event, and gives its actor's reply. A refusal changes nothing.
     ///
     /// With 90 `Memory` a growth was refused; 91 `Clash` comes only where another tree is at the
-    /// path of what is added. Every other reply, and the world after it, is the model's. A
-    /// refusal that needs no memory to be found (11, 22, 41, 42, 43 and 53) is never told as 90.
+    /// path of what is added, or of what an output is settled to at the end of a job. Every other
+    /// reply, and the world after it, is the model's. A refusal that needs no memory to be found
+    /// (11, 22, 41, 42, 43 and 53) is never told as 90.
     ///
     /// Where no two hashed texts have one folded digest, a closure that is given serves no class by
     /// two paths, has an entry for each label of its entries, and keeps no hash part of a path that

@@ -6,7 +6,7 @@ ghost use Rattle.model.specs.Forms.{is_text, words_by, wish_in};
 ghost use Rattle.session.specs.Reading.{IsRequestOfWish, IsNoRequest, IsEventOfWish, IsNoEvent};
 
 use crate::cut::{Word, cut, first_words, has_empty_word, one_word};
-use crate::words::{read_exit_status, read_number, read_text, read_tree, read_user};
+use crate::words::{read_exit_status, read_number, read_output, read_text, read_tree, read_user};
 use model::{Refusal, Verb, WordKind};
 use schedule::{Event, Request};
 use std::alloc::{AllocError, Global};
@@ -105,6 +105,10 @@ fn request_of(alloc: Global, wish: &Wish<'_>) -> Result<Request, Refusal>
         (Verb::Status, [number]) => Ok(Request::Status(read_number(number.bytes())?)),
         (Verb::Plan, [number]) => Ok(Request::Plan(read_number(number.bytes())?)),
         (Verb::Start, [number]) => Ok(Request::Start(read_number(number.bytes())?)),
+        (Verb::Finish, [number, output]) => Ok(Request::Finish(
+            read_number(number.bytes())?,
+            read_output(alloc, output.bytes())?,
+        )),
         (Verb::Fail, [number, status]) => Ok(Request::Fail(
             read_number(number.bytes())?,
             read_exit_status(status.bytes())?,

@@ -7,6 +7,7 @@ ghost use Rattle.model.specs.Replies.{is_clash_refusal, is_refused};
 ghost use Rattle.model.specs.DerivationRequests.{told_of};
 ghost use Rattle.model.specs.declared.refusal.Refusal.TheVariants.{Memory};
 ghost use Rattle.schedule.specs.Sound.{IsSound};
+ghost use Rattle.schedule.specs.Supported.{GainsOnly};
 ghost use Rattle.schedule.specs.Standing.{reply_of};
 ghost use Rattle.schedule.specs.Handling.{IsHandledByDesk, AddsDerivation};
 
@@ -37,6 +38,7 @@ fn add_parsed(alloc: Global, desk: &mut Desk, derivation: Derivation) -> Result<
     ensures answered { IfOk result (λ r. is_refused (reply_of r) ≡ false) }
     ensures sound { (table : List Source) (limit : ℕ) → IsSound table limit desk.old
         → IsSound table limit desk.new }
+    ensures gains { GainsOnly desk.old desk.new }
     ensures kept { OnErr result (desk.new ≡ desk.old) }
     ensures no_clash { IfErr result (λ why. is_clash_refusal why ≡ false) }
 {

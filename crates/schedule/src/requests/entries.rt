@@ -7,6 +7,7 @@ ghost use Rattle.model.specs.declared.refusal.Refusal.TheVariants.{Clash};
 ghost use Rattle.store.specs.Stored.{IsTaken, IsAdded};
 ghost use Rattle.realise.specs.Holdings.{entry_path, is_roomy, IsClosedWithEntry};
 ghost use Rattle.schedule.specs.Sound.{IsSound};
+ghost use Rattle.schedule.specs.Supported.{GainsOnly};
 ghost use Rattle.schedule.specs.Standing.{reply_of};
 ghost use Rattle.schedule.specs.Handling.{IsKept, AddsEntry};
 
@@ -58,6 +59,7 @@ pub(super) fn add_entry(
     ensures stored { let path = entry_path entry in
         OnOk result (IsAdded path tree table.old.sources table.new.sources) }
     ensures sound { OnOk result (IsSound table.new.sources limits.charge desk.new) }
+    ensures gains { GainsOnly desk.old desk.new }
     ensures kept { OnErr result (IsKept table.old.sources table.new.sources desk.old desk.new) }
     ensures taken { result ≡ Err Clash → IsTaken table.old.sources (entry_path entry) tree }
 {

@@ -3,52 +3,27 @@
 ghost use Rattle.std.specs.Prelude.{◌≡◌, IfOk, IfErr, Ok, All};
 ghost use Rattle.model.specs.Archives.{IsTree};
 ghost use Rattle.model.specs.Paths.{IsPath};
-ghost use Rattle.model.specs.Derivations.{name_of};
 ghost use Rattle.model.specs.Occurrences.{IsHashPart};
 ghost use Rattle.model.specs.Settling.{hash_part_in};
 ghost use Rattle.model.specs.References.{paths_of_labels};
 ghost use Rattle.model.specs.Events.{Offer as OfferRequest};
 ghost use Rattle.model.specs.OfferRequests.{output_settled};
-ghost use Rattle.model.specs.declared.refusal.Refusal.TheVariants.{Memory};
-ghost use Rattle.realise.specs.Recorded.{AreInPathOrder};
 ghost use Rattle.schedule.specs.Sound.{IsSound};
 ghost use Rattle.schedule.specs.Handling.{IsHandledAtDesk};
-ghost use Rattle.schedule.specs.Offering.{IsRecordOf, IsOutput, IsNotSettled, IsNoOutput};
+ghost use Rattle.schedule.specs.Offering.{IsOutput, IsNotSettled, IsNoOutput};
 
 use super::entries::add_entry;
+use super::outputs::{Input, record_of};
 use crate::events::Reply;
 use crate::limits::Limits;
-use aterm::Derivation;
 use classes::Admitted;
 use model::Refusal;
 use nar::{Tree, encode};
-use realise::{Desk, Entry, Label, Record, candidates, labels_of};
-use rewrite::{Named, settle};
-use std::alloc::{AllocError, Global};
+use realise::{Desk, Entry, Label, Record, candidates};
+use rewrite::Named;
+use std::alloc::Global;
 use store::Table;
-use storepath::{Name, StorePath};
-
-/// The paths of labels.
-fn paths_of(alloc: Global, labels: &[Label]) -> Result<Vec<StorePath>, AllocError>
-    ensures paths { IfOk result (λ paths. paths.items ≡ paths_of_labels labels.now) }
-    ensures sound { IfOk result (λ paths. All IsPath paths.items) }
-{
-    let mut paths = Vec::with_capacity(alloc, labels.len())?;
-    for label in labels {
-        let path = label.path().clone()?;
-        let _part = path.hash_part();
-        paths.push(path)?;
-    }
-    Ok(paths)
-}
-
-/// The name of a derivation's output.
-fn name_for(alloc: Global, derivation: &Derivation) -> Result<Name, Refusal>
-    ensures name { IfOk result (λ name. name ≡ name_of derivation.now) }
-    ensures memory { IfErr result (λ why. why ≡ Memory) }
-{
-    Name::new(alloc, derivation.name())
-}
+use storepath::StorePath;
 
 /// An output of a derivation that may refer to these, with its path.
 fn output_of(
@@ -64,32 +39,10 @@ fn output_of(
     ensures refused { IfErr result (IsNotSettled labels.now admitted.now tree.now) }
 {
     let _len = tree.nar_len();
-    let own = admitted.class().path().hash_part();
-    let _digits = own.bytes();
-    let paths = paths_of(alloc, labels)?;
-    let name = name_for(alloc, admitted.derivation())?;
+    let own = admitted.class().path();
+    let input = Input::new(alloc, own, labels, admitted.derivation())?;
     let archive = encode(alloc, tree)?;
-    match settle(alloc, &archive, &own, &paths, &name) {
-        Ok(named) => Ok(named),
-        Err(why) => Err(why),
-    }
-}
-
-/// The record of an output for the class of a derivation. It refers to some of these labels.
-fn record_of(
-    alloc: Global,
-    admitted: &Admitted,
-    labels: &[Label],
-    named: &Named,
-) -> Result<Record, Refusal>
-    requires in_order { AreInPathOrder labels.now }
-    ensures record { IfOk result (λ r. IsRecordOf labels.now admitted.now named.now r) }
-    ensures memory { IfErr result (λ why. why ≡ Memory) }
-{
-    let labels = labels_of(alloc, named.refs(), labels)?;
-    let class = admitted.class().clone()?;
-    let path = named.path().clone()?;
-    Record::new(class, path, labels)
+    input.settle(alloc, &archive)
 }
 
 /// The record of an output, and its tree.

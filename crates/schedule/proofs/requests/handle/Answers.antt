@@ -1,16 +1,16 @@
-use Rattle.std.proofs.Common.{◌≡◌, ℕ, List, get_or, sym, ◌∙◌, ap, subst, Some, Ok}
+use Rattle.std.proofs.Common.{◌≡◌, ℕ, List, get_or, sym, ◌∙◌, ap, subst, Ok}
 use Rattle.std.proofs.lemmas.List.{set-get_or}
-use Rattle.std.specs.Prelude.{All, slice_set, position, bytes_eq, length, ◌≤◌}
+use Rattle.std.specs.Prelude.{All, slice_set, length, ◌≤◌}
 use Rattle.trust.specs.Trusting.{trusts}
 use Rattle.model.specs.Worlds.{Source, Goal}
 use Rattle.jobs.specs.Owned.{OwnedByAll, goals_at}
 use Rattle.realise.specs.Holdings.{Holdings}
 use Rattle.schedule.specs.Sound.{IsSound}
 use Rattle.schedule.specs.Standing.{event_of, parts}
-use Rattle.model.specs.Events.{Closure as ClosureRequest, Take as TakeRequest, Plan as PlanRequest, Start as StartRequest}
+use Rattle.model.specs.Events.{Closure as ClosureRequest, Take as TakeRequest, Plan as PlanRequest, Start as StartRequest, Finish as FinishRequest}
 use Rattle.choose.specs.Visible.{IsComplete}
 use Rattle.schedule.specs.Viewing.{bare, desk_at}
-use Rattle.schedule.specs.Handling.{IsHandled, IsHandledBySight, IsHandledAtPlace}
+use Rattle.schedule.specs.Handling.{IsHandled, IsHandledByAll, IsHandledBySight, IsHandledAtPlace}
 use Rattle.schedule.proofs.TrustLemmas.{few_users, put_back}
 use Rattle.schedule.proofs.ClosureLemmas.{all_complete}
 use Rattle.schedule.proofs.HandlingLemmas.{asking, stranger, at_desk, by_desk, by_sight, by_goals, by_reading, at_place}
@@ -179,7 +179,8 @@ returns-in-Plan-clause-handled c =
     let asks = asking c.requires.listed c.requires.within c.requires.paired c.requires.sound c.requires.with_goals c.requires.goals_sound
     (sym c.in-Some.ensures) in
     let handled = subst (λ (ds : List Holdings). All (IsSound old limit) ds
-    → IsHandledAtPlace users limit trust c.args.jobs.now.goals old ds i (PlanRequest c.in-Plan.number) c.plan.result own new (desk_at ds i)) kept (c.plan.ensures.handled limit) in
+    → IsHandledAtPlace users limit trust c.args.jobs.now.goals old ds i (PlanRequest c.in-Plan.number) c.plan.result own new (desk_at ds i)) kept
+    (c.plan.ensures.handled limit) in
     let before = parts users limit trust c.args.jobs.now.goals old c.args.desks.now in
     subst (λ (ds : List Holdings). IsHandled before (event_of c.args.event) c.plan.result (parts users limit trust c.plan.new.jobs.goals new ds))
     (kept_desks c.args.desks.now i bare ∙ sym kept)
@@ -212,7 +213,8 @@ returns-in-Start-clause-handled c =
     IsHandledAtPlace users limit trust c.args.jobs.now.goals old ds i (StartRequest c.in-Start.number) c.start.result own new (desk_at later i)) kept
     c.start.ensures.handled in
     let before = parts users limit trust c.args.jobs.now.goals old c.args.desks.now in
-    subst (λ (ds : List Holdings). IsHandled before (event_of c.args.event) c.start.result (parts users limit trust c.start.new.jobs.goals new ds)) (sym other_desks)
+    subst (λ (ds : List Holdings). IsHandled before (event_of c.args.event) c.start.result (parts users limit trust c.start.new.jobs.goals new ds))
+    (sym other_desks)
     (subst (λ (goals : List (List Goal)). IsHandled before (event_of c.args.event) c.start.result
     (parts users limit trust goals new (slice_set c.args.desks.now i (desk_at later i)))) (sym others)
     (at_place _ (event_of c.args.event) i asks own new (desk_at later i) c.start.result (rw c.in-Start.is handled)))
@@ -227,3 +229,12 @@ returns-clause-handled c =
     (rw c.in-Fail.is
     (c.fail.ensures.handled c.in-Fail._status c.args.limits.charge c.args.table.now.sources c.args.desks.now c.args.event.actor (sym c.in-Some.ensures)
     c.requires.paired c.requires.sound c.requires.goals_sound c.requires.within))
+
+pub returns-in-Finish-clause-handled : goal.returns-in-Finish-clause-handled
+returns-in-Finish-clause-handled c =
+    let handled = subst (λ (ds : List Holdings). IsHandledByAll
+    (parts c.args.users.now c.args.limits.charge (trusts c.args.trust.now) c.args.jobs.now.goals c.args.table.now.sources ds) c.in-Some.place
+    (FinishRequest c.in-Finish.number c.bytes-in-Finish.result.now) c.finish.result
+    (parts c.args.users.now c.args.limits.charge (trusts c.args.trust.now) c.finish.new.jobs.goals c.finish.new.table.sources c.finish.new.desks))
+    (kept_desks c.args.desks.now c.in-Some.place c.index-desks-place.result) c.finish.ensures.handled in
+    rw (c.in-Finish.is, ← c.bytes-in-Finish.ensures) (handled c.args.event.actor (sym c.in-Some.ensures))

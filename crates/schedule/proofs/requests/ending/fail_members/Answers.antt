@@ -4,7 +4,8 @@ use Rattle.schedule.proofs.requests.ending.fail_members.Goals as goal
 
 pub set_state-requires-clause-there : goal.set_state-requires-clause-there
 set_state-requires-clause-there c =
-    first_there c.args.job.now (goals_of c.loop-first.jobs.goals c.args.place) c.members.result.now c.in-Some.first.now c.members.ensures c.in-Some.ensures.value
+    first_there c.args.job.now (goals_of c.loop-first.jobs.goals c.args.place) c.members.result.now c.in-Some.first.now c.members.ensures
+    c.in-Some.ensures.value
 
 pub loop-first-smaller : goal.loop-first-smaller
 loop-first-smaller c =

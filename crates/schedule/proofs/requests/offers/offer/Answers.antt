@@ -28,4 +28,4 @@ returns c beside =
     let added = c.add_entry.ensures in
     offer_handled beside c.args.limits.charge c.args.table.now.sources c.args.desk.now c.args.path.now c.args.tree.now
     c.add_entry.new.table.sources c.add_entry.new.desk c.in_ok-record.settled c.in-Some.admitted.now c.in_ok-record.record c.add_entry.result
-    c.requires known c.in_ok-record.ensures.output added.adds added.answered added.stored added.sound added.kept added.taken
+    c.requires known c.in_ok-record.ensures.output added.adds added.answered added.stored added.sound added.kept added.gains added.taken

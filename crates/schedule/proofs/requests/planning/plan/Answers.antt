@@ -1,16 +1,14 @@
-use Rattle.std.proofs.Common.{◌≡◌, ℕ, Bool, ◌<◌, ◌≤◌, List, length, get_or, refl, sym, ◌∙◌, ap, subst, arith, rules, Some, Ok, Err}
-use Rattle.std.specs.Prelude.{All, map}
+use Rattle.std.proofs.Common.{◌≡◌, ℕ, Bool, ◌<◌, List, length, refl, sym, ◌∙◌, subst, arith, Ok, Err}
+use Rattle.std.specs.Prelude.{All}
 use Rattle.std.proofs.lemmas.List.{get_or_default}
 use Rattle.std.proofs.lemmas.Result.{err_from_is_err_and}
 use Rattle.model.specs.Worlds.{Source, Failed}
 use Rattle.model.specs.Goals.{with_goal_at, in_state}
-use Rattle.store.specs.Stored.{put_all}
 use Rattle.trust.specs.Trusting.{holds, trusts}
 use Rattle.trust.specs.Naming.{names}
 use Rattle.realise.specs.Holdings.{Holdings}
 use Rattle.jobs.specs.Owned.{goals_at}
 use Rattle.jobs.specs.States.{planned_with}
-use Rattle.schedule.specs.Stored.{source_of_entry}
 use Rattle.schedule.specs.Sound.{IsStored}
 use Rattle.schedule.specs.Viewing.{bare, desk_at}
 use Rattle.schedule.specs.Planning.{TellsToPlan}
@@ -29,12 +27,14 @@ resolved_for-requires-clause-few c = let few = few_users c.args.users.now c.requ
 
 pub keep-requires-clause-there : goal.keep-requires-clause-there
 keep-requires-clause-there c =
-    goal_to_plan (goals_at c.args.place c.args.jobs.now) c.index-desks-place.result.known (names c.args.users.now (holds c.closure-reached.result)) c.args.number
+    goal_to_plan (goals_at c.args.place c.args.jobs.now) c.index-desks-place.result.known (names c.args.users.now (holds c.closure-reached.result))
+    c.args.number
     c.in_ok-derivation.derivation c.in_ok-derivation.ensures
 
 pub set_state-requires-clause-there : goal.set_state-requires-clause-there
 set_state-requires-clause-there c =
-    goal_to_plan (goals_at c.args.place c.args.jobs.now) c.index-desks-place.result.known (names c.args.users.now (holds c.closure-reached.result)) c.args.number
+    goal_to_plan (goals_at c.args.place c.args.jobs.now) c.index-desks-place.result.known (names c.args.users.now (holds c.closure-reached.result))
+    c.args.number
     c.in_ok-derivation.derivation c.in_ok-derivation.ensures
 
 pub returns-in_err-derivation-clause-handled : goal.returns-in_err-derivation-clause-handled
@@ -47,10 +47,12 @@ returns-in_err-derivation-clause-handled c limit sound actor found =
     ∙ sym c.index-desks-place.is in
     let tells = subst (λ (d : Holdings). TellsToPlan own d.known (names c.args.users.now set) c.args.number (Err c.in_err-derivation.field-0.0)) (sym same)
     c.in_err-derivation.ensures in
-    rw (p.1, p.2) (not_to_plan c.args.users.now limit (trusts c.args.trust.now) c.args.jobs.now.goals c.args.table.now.sources c.args.desks.now c.args.place c.args.number
+    rw (p.1, p.2) (not_to_plan c.args.users.now limit (trusts c.args.trust.now) c.args.jobs.now.goals c.args.table.now.sources c.args.desks.now
+    c.args.place c.args.number
     c.requires.listed c.requires.paired c.requires.within sound c.requires.goals_sound actor found c.in_err-derivation.field-0.0
     (told_of_him c.args.users.now limit (trusts c.args.trust.now) c.args.jobs.now.goals c.args.table.now.sources c.args.desks.now c.args.place c.args.number
-    c.requires.listed c.requires.paired c.requires.within sound c.requires.goals_sound actor found set (Err c.in_err-derivation.field-0.0) c.closure-reached.ensures tells))
+    c.requires.listed c.requires.paired c.requires.within sound c.requires.goals_sound actor found set (Err c.in_err-derivation.field-0.0)
+    c.closure-reached.ensures tells))
 
 pub returns-in_err-keep-in-Ok-clause-handled : goal.returns-in_err-keep-in-Ok-clause-handled
 returns-in_err-keep-in-Ok-clause-handled c limit sound actor found =
@@ -62,12 +64,15 @@ returns-in_err-keep-in-Ok-clause-handled c limit sound actor found =
     ∙ sym c.index-desks-place.is in
     let tells = subst (λ (d : Holdings). TellsToPlan own d.known (names c.args.users.now set) c.args.number (Ok c.in_ok-derivation.derivation)) (sym same)
     c.in_ok-derivation.ensures in
-    let it = told_of_him c.args.users.now limit (trusts c.args.trust.now) c.args.jobs.now.goals c.args.table.now.sources c.args.desks.now c.args.place c.args.number
-    c.requires.listed c.requires.paired c.requires.within sound c.requires.goals_sound actor found set (Ok c.in_ok-derivation.derivation) c.closure-reached.ensures tells in
+    let it = told_of_him c.args.users.now limit (trusts c.args.trust.now) c.args.jobs.now.goals c.args.table.now.sources c.args.desks.now
+    c.args.place c.args.number
+    c.requires.listed c.requires.paired c.requires.within sound c.requires.goals_sound actor found set (Ok c.in_ok-derivation.derivation)
+    c.closure-reached.ensures tells in
     let left = c.in_err-keep-in-Ok.ensures.left in
     rw (p.1, p.2, left.0, left.1)
     (not_kept c.args.users.now limit (trusts c.args.trust.now) c.args.jobs.now.goals c.args.table.now.sources c.args.desks.now c.args.place c.args.number
-    c.requires.listed c.requires.paired c.requires.within sound c.requires.goals_sound actor found c.in_ok-derivation.derivation.now it c.served_are_made.ensures
+    c.requires.listed c.requires.paired c.requires.within sound c.requires.goals_sound actor found c.in_ok-derivation.derivation.now it
+    c.served_are_made.ensures
     c.in-Ok.resolved (c.in-Ok.ensures.resolved c.args.users.now limit c.args.jobs.now.goals actor c.requires.listed found c.requires.paired c.requires.within)
     c.in_err-keep-in-Ok.field-0.0 c.in_err-keep-in-Ok.ensures.refused)
 
@@ -80,9 +85,12 @@ returns-in_ok-keep-in-Ok-clause-handled c limit sound actor found =
     ∙ sym c.index-desks-place.is in
     let tells = subst (λ (d : Holdings). TellsToPlan own d.known (names c.args.users.now set) c.args.number (Ok c.in_ok-derivation.derivation)) (sym same)
     c.in_ok-derivation.ensures in
-    let it = told_of_him c.args.users.now limit (trusts c.args.trust.now) c.args.jobs.now.goals c.args.table.now.sources c.args.desks.now c.args.place c.args.number
-    c.requires.listed c.requires.paired c.requires.within sound c.requires.goals_sound actor found set (Ok c.in_ok-derivation.derivation) c.closure-reached.ensures tells in
-    let there = own_there c.args.users.now limit (trusts c.args.trust.now) c.args.jobs.now.goals c.args.table.now.sources c.args.desks.now c.args.place c.args.number
+    let it = told_of_him c.args.users.now limit (trusts c.args.trust.now) c.args.jobs.now.goals c.args.table.now.sources c.args.desks.now
+    c.args.place c.args.number
+    c.requires.listed c.requires.paired c.requires.within sound c.requires.goals_sound actor found set (Ok c.in_ok-derivation.derivation)
+    c.closure-reached.ensures tells in
+    let there = own_there c.args.users.now limit (trusts c.args.trust.now) c.args.jobs.now.goals c.args.table.now.sources c.args.desks.now
+    c.args.place c.args.number
     c.requires.listed c.requires.paired c.requires.within sound c.requires.goals_sound actor found c.in_ok-derivation.derivation.now it in
     let below : c.args.place < length c.args.jobs.now.goals = subst (λ k. c.args.place < k) (sym c.requires.with_goals) c.requires.of_run in
     let goals_are : goals_at c.args.place c.keep.new.jobs ≡ with_goal_at c.args.number (planned_with c.in-Ok.resolved it.goal) own =
@@ -91,7 +99,8 @@ returns-in_ok-keep-in-Ok-clause-handled c limit sound actor found =
     let stored = c.in_ok-keep-in-Ok.ensures.stored in
     rw (goals_are, stored)
     (planned c.args.users.now limit (trusts c.args.trust.now) c.args.jobs.now.goals c.args.table.now.sources c.args.desks.now c.args.place c.args.number
-    c.requires.listed c.requires.paired c.requires.within sound c.requires.goals_sound actor found c.in_ok-derivation.derivation.now it c.served_are_made.ensures
+    c.requires.listed c.requires.paired c.requires.within sound c.requires.goals_sound actor found c.in_ok-derivation.derivation.now it
+    c.served_are_made.ensures
     c.in-Ok.resolved (c.in-Ok.ensures.resolved c.args.users.now limit c.args.jobs.now.goals actor c.requires.listed found c.requires.paired c.requires.within)
     _ refl c.in-Ok.ensures.closure
     (subst (λ (table : List Source). All (IsStored table) c.in-Ok.resolved.closure) stored c.in_ok-keep-in-Ok.ensures.there))
@@ -114,9 +123,12 @@ returns-in-Err-clause-handled c limit sound actor found =
     ∙ sym c.index-desks-place.is in
     let tells = subst (λ (d : Holdings). TellsToPlan own d.known (names c.args.users.now set) c.args.number (Ok c.in_ok-derivation.derivation)) (sym same)
     c.in_ok-derivation.ensures in
-    let it = told_of_him c.args.users.now limit (trusts c.args.trust.now) c.args.jobs.now.goals c.args.table.now.sources c.args.desks.now c.args.place c.args.number
-    c.requires.listed c.requires.paired c.requires.within sound c.requires.goals_sound actor found set (Ok c.in_ok-derivation.derivation) c.closure-reached.ensures tells in
-    let there = own_there c.args.users.now limit (trusts c.args.trust.now) c.args.jobs.now.goals c.args.table.now.sources c.args.desks.now c.args.place c.args.number
+    let it = told_of_him c.args.users.now limit (trusts c.args.trust.now) c.args.jobs.now.goals c.args.table.now.sources c.args.desks.now
+    c.args.place c.args.number
+    c.requires.listed c.requires.paired c.requires.within sound c.requires.goals_sound actor found set (Ok c.in_ok-derivation.derivation)
+    c.closure-reached.ensures tells in
+    let there = own_there c.args.users.now limit (trusts c.args.trust.now) c.args.jobs.now.goals c.args.table.now.sources c.args.desks.now
+    c.args.place c.args.number
     c.requires.listed c.requires.paired c.requires.within sound c.requires.goals_sound actor found c.in_ok-derivation.derivation.now it in
     let below : c.args.place < length c.args.jobs.now.goals = subst (λ k. c.args.place < k) (sym c.requires.with_goals) c.requires.of_run in
     let goals_are : goals_at c.args.place c.set_state.new.self ≡ with_goal_at c.args.number (in_state (Failed c.in-Err.why) it.goal) own =
@@ -146,8 +158,10 @@ returns-in-Err-2-clause-handled c limit sound actor found =
     ∙ sym c.index-desks-place.is in
     let tells = subst (λ (d : Holdings). TellsToPlan own d.known (names c.args.users.now set) c.args.number (Ok c.in_ok-derivation.derivation)) (sym same)
     c.in_ok-derivation.ensures in
-    let it = told_of_him c.args.users.now limit (trusts c.args.trust.now) c.args.jobs.now.goals c.args.table.now.sources c.args.desks.now c.args.place c.args.number
-    c.requires.listed c.requires.paired c.requires.within sound c.requires.goals_sound actor found set (Ok c.in_ok-derivation.derivation) c.closure-reached.ensures tells in
+    let it = told_of_him c.args.users.now limit (trusts c.args.trust.now) c.args.jobs.now.goals c.args.table.now.sources c.args.desks.now
+    c.args.place c.args.number
+    c.requires.listed c.requires.paired c.requires.within sound c.requires.goals_sound actor found set (Ok c.in_ok-derivation.derivation)
+    c.closure-reached.ensures tells in
     not_resolved c.args.users.now limit (trusts c.args.trust.now) c.args.jobs.now.goals c.args.table.now.sources c.args.desks.now c.args.place c.args.number
     c.requires.listed c.requires.paired c.requires.within sound c.requires.goals_sound actor found c.in_ok-derivation.derivation.now it c.in-Err.why
     (c.in-Err.ensures.resolved c.args.users.now limit c.args.jobs.now.goals actor c.requires.listed found c.requires.paired c.requires.within)

@@ -1,4 +1,4 @@
-use Rattle.std.proofs.Common.{◌≡◌, ◌⊎◌, List, sym, ◌∙◌, ap, subst, rules, Result, Ok, Err}
+use Rattle.std.proofs.Common.{◌≡◌, ◌⊎◌, sym, ◌∙◌, ap, subst, rules, Ok, Err}
 use Rattle.std.specs.Prelude.{IfOk}
 use Rattle.std.proofs.lemmas.List.{get_or_default}
 use Rattle.std.proofs.lemmas.Result.{err_from_is_err_and}
@@ -20,11 +20,13 @@ use Rattle.schedule.proofs.requests.planning.resolved_for.Goals as goal
 
 pub new-view-requires-clause-stored : goal.new-view-requires-clause-stored
 new-view-requires-clause-stored c =
-    (view_complete (trusts c.args.trust.now) c.args.place c.args.table.now.sources c.args.desks.now (desks_of c.in_ok-seen.seen.items) c.requires.complete c.in_ok-seen.ensures).stored
+    (view_complete (trusts c.args.trust.now) c.args.place c.args.table.now.sources c.args.desks.now (desks_of c.in_ok-seen.seen.items) c.requires.complete
+    c.in_ok-seen.ensures).stored
 
 pub new-view-requires-clause-closed : goal.new-view-requires-clause-closed
 new-view-requires-clause-closed c =
-    (view_complete (trusts c.args.trust.now) c.args.place c.args.table.now.sources c.args.desks.now (desks_of c.in_ok-seen.seen.items) c.requires.complete c.in_ok-seen.ensures).closed
+    (view_complete (trusts c.args.trust.now) c.args.place c.args.table.now.sources c.args.desks.now (desks_of c.in_ok-seen.seen.items) c.requires.complete
+    c.in_ok-seen.ensures).closed
 
 pub returns-in_err-plan-clause-resolved : goal.returns-in_err-plan-clause-resolved
 returns-in_err-plan-clause-resolved c =
@@ -38,9 +40,11 @@ returns-in_err-plan-clause-resolved c =
     let known : c.known.result.now ≡ desk.known = c.known.ensures ∙ ap (λ (x : Holdings). x.known) (sym same) in
     let classes : c.deref.result.now ≡ input_classes desk.known d = c.deref.ensures.value ∙ c.in_ok-classes.ensures ∙ ap (λ k. input_classes k d) known in
     let sources : c.deref-2.result.now ≡ d.sources = c.deref-2.ensures.value ∙ ap (λ (x : Derivation). x.sources) c.parts.ensures.parts in
-    rw (q.1, q.2) (resolved_at (trusts c.args.trust.now) c.args.table.now.sources c.args.desks.now (desks_of c.in_ok-seen.seen.items) c.args.place d (Err why) c.in_ok-seen.ensures
+    rw (q.1, q.2) (resolved_at (trusts c.args.trust.now) c.args.table.now.sources c.args.desks.now (desks_of c.in_ok-seen.seen.items) c.args.place d (Err why)
+    c.in_ok-seen.ensures
     (λ s sees. not_planned s desk.pins desk.known d why
-    (subst (λ o. (why ≡ Memory) ⊎ (o ≡ Err why)) (λ i. plan s (pins i) (classes i) (sources i)) (c.in_err-plan.ensures.planned s (sees ∙ sym c.new-view.ensures))))
+    (subst (λ o. (why ≡ Memory) ⊎ (o ≡ Err why)) (λ i. plan s (pins i) (classes i) (sources i))
+    (c.in_err-plan.ensures.planned s (sees ∙ sym c.new-view.ensures))))
     (λ s p sees planned. search rules))
 
 pub returns-clause-resolved : goal.returns-clause-resolved
@@ -56,7 +60,8 @@ returns-clause-resolved c =
     let sources : c.deref-2.result.now ≡ d.sources = c.deref-2.ensures.value ∙ ap (λ (x : Derivation). x.sources) c.parts.ensures.parts in
     let found : Plan = c.in_ok-plan.plan in
     let over = subst (λ cs. IsAnswer c.resolve.result (then_do (served_plan found) (resolved_over cs d))) again c.resolve.ensures.resolved in
-    resolved_at (trusts c.args.trust.now) c.args.table.now.sources c.args.desks.now (desks_of c.in_ok-seen.seen.items) c.args.place d c.resolve.result c.in_ok-seen.ensures
+    resolved_at (trusts c.args.trust.now) c.args.table.now.sources c.args.desks.now (desks_of c.in_ok-seen.seen.items) c.args.place d c.resolve.result
+    c.in_ok-seen.ensures
     (λ s sees. by_plan s desk.pins desk.known d found c.resolve.result
     ((λ i. plan s (sym pins i) (sym classes i) (sym sources i)) ∙ c.in_ok-plan.ensures.planned s (sees ∙ sym c.new-view.ensures)) over)
     (λ s p sees planned.
@@ -80,6 +85,7 @@ returns-clause-closure c =
     let found : Plan = c.in_ok-plan.plan in
     let over = subst (λ cs. IsAnswer c.resolve.result (then_do (served_plan found) (resolved_over cs d))) again c.resolve.ensures.resolved in
     closure_if_resolved c.closures_are_whole.ensures c.args.table.now.sources (desks_of c.in_ok-seen.seen.items) desk.pins desk.known d c.resolve.result
-    (view_complete (trusts c.args.trust.now) c.args.place c.args.table.now.sources c.args.desks.now (desks_of c.in_ok-seen.seen.items) c.requires.complete c.in_ok-seen.ensures).closed
+    (view_complete (trusts c.args.trust.now) c.args.place c.args.table.now.sources c.args.desks.now (desks_of c.in_ok-seen.seen.items) c.requires.complete
+    c.in_ok-seen.ensures).closed
     (λ s sees. by_plan s desk.pins desk.known d found c.resolve.result
     ((λ i. plan s (sym pins i) (sym classes i) (sym sources i)) ∙ c.in_ok-plan.ensures.planned s (sees ∙ sym c.new-view.ensures)) over)

@@ -21,4 +21,4 @@ returns c beside =
     let added = c.add_entry.ensures in
     source_handled beside c.args.limits.charge c.args.table.now.sources c.add_entry.new.table.sources c.args.desk.now c.add_entry.new.desk c.args.name.now
     c.args.tree c.in_ok-path.path c.add_entry.result
-    c.requires c.in_ok-path.ensures.value c.in_ok-path.ensures.tree added.adds added.answered added.stored added.sound added.kept added.taken
+    c.requires c.in_ok-path.ensures.value c.in_ok-path.ensures.tree added.adds added.answered added.stored added.sound added.kept added.gains added.taken

@@ -1,6 +1,6 @@
-use Rattle.std.proofs.Common.{◌≡◌, sym, ◌∙◌}
+use Rattle.std.proofs.Common.{sym}
 use Rattle.trust.specs.Trusting.{holds, trusts}
-use Rattle.schedule.proofs.JoinLemmas.{joined_more, joined_same, joined_nobody}
+use Rattle.schedule.proofs.JoinLemmas.{joined_more, joined_same}
 use Rattle.schedule.proofs.requests.starting.joined.Goals as goal
 use Rattle.schedule.proofs.requests.starting.joined.Goals.{then-join, else-join}
 

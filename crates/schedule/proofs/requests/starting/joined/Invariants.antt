@@ -1,4 +1,3 @@
-use Rattle.std.specs.Prelude.{◌≡◌}
 use Rattle.trust.specs.Trusting.{holds, trusts}
 use Rattle.schedule.specs.Starting.{JoinsAll}
 use Rattle.schedule.proofs.JoinLemmas.{IsBelow}

@@ -4,7 +4,8 @@ use Rattle.model.specs.Worlds.{Source}
 use Rattle.store.specs.Stored.{put_all, sources_of}
 use Rattle.realise.specs.Holdings.{AreAbsent, AreCountable, charged_all, holds_all}
 use Rattle.schedule.specs.Taking.{bare, are_roomy}
-use Rattle.schedule.proofs.CopyLemmas.{uncopied, are_countable, are_absent, over_copied, entries_closed, done_copied}
+use Rattle.schedule.proofs.MissingLemmas.{are_countable, are_absent}
+use Rattle.schedule.proofs.CopyLemmas.{uncopied, over_copied, entries_closed, done_copied}
 use Rattle.schedule.proofs.requests.taking.copy_all.Goals as goal
 
 pub returns-in_err-trees-2 : goal.returns-in_err-trees-2

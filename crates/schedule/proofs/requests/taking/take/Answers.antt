@@ -1,16 +1,11 @@
-use Rattle.std.proofs.Common.{◌≡◌, ℕ, ◌<◌, List, length, get_or, None, Some, Result, Ok, Err, refl, sym, ◌∙◌, ap, subst, rules, ◌⊎◌}
+use Rattle.std.proofs.Common.{◌≡◌, List, None, Some, Ok, Err, refl, sym, ◌∙◌, ap, subst, rules, ◌⊎◌}
 use Rattle.std.specs.Prelude.{slice_set}
-use Rattle.std.proofs.lemmas.List.{get_or-set_same}
 use Rattle.std.proofs.lemmas.Result.{err_from_is_err_and}
-use Rattle.model.specs.declared.refusal.Refusal.{Refusal}
 use Rattle.model.specs.declared.refusal.Refusal.TheVariants.{Memory, NotRealised}
 use Rattle.model.specs.Closures.{path_for}
-use Rattle.model.specs.Worlds.{Source, Entry}
-use Rattle.realise.specs.Holdings.{Holdings}
+use Rattle.model.specs.Worlds.{Entry}
 use Rattle.trust.specs.Trusting.{trusts}
-use Rattle.schedule.specs.Taking.{CopiesEntries}
-use Rattle.schedule.specs.Viewing.{bare, desk_at}
-use Rattle.schedule.proofs.ViewLemmas.{any_default}
+use Rattle.schedule.specs.Viewing.{desk_at}
 use Rattle.schedule.proofs.ClosureLemmas.{all_complete}
 use Rattle.schedule.proofs.TakeLemmas.{copied_at, take_unserved, take_unnamed, take_done, take_refused}
 use Rattle.schedule.proofs.requests.taking.take.Goals as goal

@@ -10,6 +10,7 @@ use Rattle.schedule.specs.Standing.{world_of, setup_of, stored_in, goals_of, bes
 use Rattle.jobs.specs.Owned.{OwnedByAll}
 use Rattle.schedule.proofs.DeskLemmas.{empty_sound}
 use Rattle.schedule.proofs.GoalLemmas.{none_of, no_goals, none_counted, none_sound}
+use Rattle.schedule.proofs.SupportLemmas.{none_supported}
 use Rattle.schedule.proofs.TrustLemmas.{few_users}
 use Rattle.schedule.proofs.WorldLemmas.{empty_world, same_world}
 use Rattle.schedule.proofs.state.Core.new.Goals as goal
@@ -33,6 +34,8 @@ invariant_of-result c =
           c.in_ok-desks.ensures.value.0;
       with_goals = ap (λ (goals : List (List Goal)). length goals) none ∙ none_counted c.args.users.items;
       goals_sound = subst (All (AreGoalsSound table)) (sym none) (none_sound table c.args.users.items);
+      supported = none_supported c.in_ok-desks.desks.items c.in_ok-jobs.jobs.goals
+          (λ place. ap (λ (goals : List (List Goal)). goals_of goals place) none ∙ no_goals c.args.users.items place);
     }
 
 pub returns-clause-setup : goal.returns-clause-setup

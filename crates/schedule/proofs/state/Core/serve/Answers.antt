@@ -1,11 +1,37 @@
-use Rattle.std.proofs.Common.{◌≡◌, List, sym, ◌∙◌, subst}
+use Rattle.std.proofs.Common.{◌≡◌, List, length, sym, ◌∙◌, ap, subst}
+use Rattle.std.specs.Prelude.{All}
 use Rattle.std.specs.Vec.{with_items}
 use Rattle.std.proofs.lemmas.List.{with_items_is}
 use Rattle.trust.specs.Trusting.{trusts}
 use Rattle.realise.specs.Holdings.{Holdings}
+use Rattle.schedule.specs.declared.state.Core.{Core}
+use Rattle.schedule.specs.Sound.{IsSound}
+use Rattle.schedule.specs.Supported.{AreSupported}
 use Rattle.schedule.specs.Standing.{event_of, parts_of, parts}
 use Rattle.schedule.specs.Handling.{IsHandled}
 use Rattle.schedule.proofs.state.Core.serve.Goals as goal
+
+-- the desks that were lent
+lent_back : (old : Core) (new : List Holdings) → length new ≡ length old.desks.items → (with_items old.desks new).items ≡ new
+lent_back old new paired = with_items_is old.desks new (paired ∙ sym old.desks.ok.0)
+
+pub invariant_of-self : goal.invariant_of-self
+invariant_of-self c =
+    let old = c.args.self.now in
+    let handled : IsHandled (parts_of old) (event_of c.args.event) c.handle.result
+    (parts old.users.items old.limits.charge (trusts c.handle.new.trust) c.handle.new.jobs.goals c.handle.new.table.sources c.handle.new.desks) =
+    rw (c.as_slice.ensures.value, c.as_mut_slice.ensures.value) at c.handle.ensures.handled in
+    let desks : (with_items old.desks c.handle.new.desks).items ≡ c.handle.new.desks = lent_back old c.handle.new.desks handled.paired in
+    record {
+      paired = ap (λ (ds : List Holdings). length ds) desks ∙ handled.paired ∙ old.paired;
+      listed = old.listed;
+      within = handled.trust;
+      sound = subst (All (IsSound c.handle.new.table.sources old.limits.charge)) (sym desks) handled.sound;
+      owned = c.handle.ensures.owned ∙ old.owned;
+      with_goals = handled.with_goals ∙ old.with_goals;
+      goals_sound = handled.goals_sound;
+      supported = subst (λ (ds : List Holdings). AreSupported ds c.handle.new.jobs.goals) (sym desks) (handled.supported old.supported);
+    }
 
 pub returns : goal.returns
 returns c =
@@ -13,9 +39,7 @@ returns c =
     let handled : IsHandled (parts_of old) (event_of c.args.event) c.handle.result
     (parts old.users.items old.limits.charge (trusts c.handle.new.trust) c.handle.new.jobs.goals c.handle.new.table.sources c.handle.new.desks) =
     rw (c.as_slice.ensures.value, c.as_mut_slice.ensures.value) at c.handle.ensures.handled in
-    let desks : (with_items old.desks c.handle.new.desks).items ≡ c.handle.new.desks =
-    with_items_is old.desks c.handle.new.desks (handled.paired ∙ sym old.desks.ok.0) in
     let Handled : List Holdings → Type 0 = λ ds.
     IsHandled (parts_of old) (event_of c.args.event) c.handle.result
     (parts old.users.items old.limits.charge (trusts c.handle.new.trust) c.handle.new.jobs.goals c.handle.new.table.sources ds) in
-    subst Handled (sym desks) handled
+    subst Handled (sym (lent_back old c.handle.new.desks handled.paired)) handled
