@@ -12,7 +12,8 @@ use Rattle.realise.specs.Recorded.{Recorded}
 use Rattle.realise.specs.declared.entry.Entry.{Entry}
 use Rattle.realise.specs.declared.entry.Entry.TheVariants as entry
 use Rattle.realise.specs.Holdings.{Holdings, paths_of, entry_path, holds_entry, charged_more, charged_all}
-use Rattle.realise.specs.Charging.{IsSetOf, charged_beyond}
+use Rattle.realise.specs.Held.{IsSetOf}
+use Rattle.realise.specs.Charging.{charged_beyond}
 
 -- ---- sets of paths
 
@@ -62,7 +63,7 @@ any_moved test xs ys path =
     ∙ ap (λ b. b || list_any test ys) (sym (list_any-append test xs (path ∷ []))) ∙ sym (list_any-append test (xs ++ path ∷ []) ys)
 
 -- the paths of a desk with one entry more
-paths_more : (test : List ℕ → Bool) (e : Entry) (more : ℕ) (d : Holdings)
+pub paths_more : (test : List ℕ → Bool) (e : Entry) (more : ℕ) (d : Holdings)
     → list_any test (paths_of d ++ entry_path e ∷ []) ≡ list_any test (paths_of (holds_entry e more d))
 paths_more test (entry.Source path) more d = any_moved test d.known.sources (map (λ r. r.path) d.records) path
 paths_more test (entry.Record r) more d =

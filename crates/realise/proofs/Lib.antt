@@ -8,3 +8,5 @@ pub mod PinLemmas
 pub mod DeskLemmas
 pub mod ChargingLemmas
 pub mod SeveralLemmas
+pub mod HoldingLemmas
+pub mod KeepingLemmas

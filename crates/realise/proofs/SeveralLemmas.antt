@@ -11,7 +11,7 @@ use Rattle.classes.specs.Entries.{AreNew}
 use Rattle.realise.specs.Recorded.{Recorded}
 use Rattle.realise.specs.declared.entry.Entry.{Entry}
 use Rattle.realise.specs.declared.entry.Entry.TheVariants as entry
-use Rattle.realise.specs.Holdings.{Holdings, entry_path, is_on, holds_entry, holds_all, holds_each, charged_more, charged_all, sources_in, records_in, AreAbsent}
+use Rattle.realise.specs.Holdings.{Holdings, entry_path, is_on, holds_entry, holds_all, holds_each, charged_more, charged_all, bare, sources_in, records_in, AreAbsent}
 use Rattle.realise.proofs.PinLemmas.{bytes_eq_sym}
 
 -- ---- what is on the desk then
@@ -71,14 +71,14 @@ pub all_is_each : (es : List (Entry × ℕ)) (d : Holdings) → holds_all (map (
 all_is_each es d = all_parts (map (λ e. e.0) es) (charged_all es d) d ∙ sym (each_parts es d)
 
 -- what is known, the records and the charge together
-pub made : (es : List Entry) (more : ℕ) (d : Holdings) (known : Known) (paths : List (List ℕ)) (added new : List Recorded) → paths ≡ sources_in es
-    → added ≡ records_in es → known ≡ record d.known { sources = d.known.sources ++ paths } → new ≡ d.records ++ added
-    → record d { known = known; records = new; charge = d.charge + more } ≡ holds_all es more d
-made es more d known paths added new are_paths are_added known_is new_is =
-    let sources : known ≡ record d.known { sources = d.known.sources ++ sources_in es } =
+pub made : (es : List (Entry × ℕ)) (d : Holdings) (known : Known) (paths : List (List ℕ)) (added new : List Recorded) (charge : ℕ) → paths ≡ sources_in (bare es)
+    → added ≡ records_in (bare es) → known ≡ record d.known { sources = d.known.sources ++ paths } → new ≡ d.records ++ added
+    → charge ≡ d.charge + charged_all es d → record d { known = known; records = new; charge = charge } ≡ holds_each es d
+made es d known paths added new charge are_paths are_added known_is new_is charge_is =
+    let sources : known ≡ record d.known { sources = d.known.sources ++ sources_in (bare es) } =
     known_is ∙ ap (λ ps. record d.known { sources = d.known.sources ++ ps }) are_paths in
-    let all : new ≡ d.records ++ records_in es = new_is ∙ ap (λ rs. d.records ++ rs) are_added in
-    (λ i. record d { known = sources i; records = all i; charge = d.charge + more }) ∙ sym (all_parts es more d)
+    let all : new ≡ d.records ++ records_in (bare es) = new_is ∙ ap (λ rs. d.records ++ rs) are_added in
+    (λ i. record d { known = sources i; records = all i; charge = charge_is i }) ∙ sym (each_parts es d)
 
 -- ---- the sources among them
 

@@ -1,13 +1,9 @@
 -- Counting what is charged for several entries, by a set of the paths so far.
-use Rattle.std.specs.Prelude.{◌≡◌, ℕ, ◌+◌, List, [], ◌∷◌, bytes_eq, if◌then◌else◌}
+use Rattle.std.specs.Prelude.{ℕ, ◌+◌, List, [], ◌∷◌, bytes_eq, if◌then◌else◌}
 use Rattle.std.specs.List.{list_any}
 use Rattle.indexmap.specs.IndexSet.{insert_key}
 use Rattle.realise.specs.Holdings.{entry_path}
 use Rattle.realise.specs.declared.entry.Entry.{Entry}
-
--- the keys of a set are these paths
-abbrev pub IsSetOf : List (List ℕ) → List (List ℕ) → Type 0
-IsSetOf keys paths = (path : List ℕ) → list_any (bytes_eq path) keys ≡ list_any (bytes_eq path) paths
 
 -- what is charged for entries whose archives have so many bytes: nothing for a path of the set, or for one that came before
 abbrev pub charged_beyond : List (List ℕ) → List (Entry × ℕ) → ℕ

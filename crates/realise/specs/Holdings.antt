@@ -8,6 +8,7 @@ use Rattle.model.specs.Worlds.{Label, Pin, same_label, are_distinct}
 use Rattle.model.specs.Worlds as worlds
 use Rattle.model.specs.Limits.{most_sources, most_records}
 use Rattle.realise.specs.Recorded.{Recorded}
+use Rattle.realise.specs.Held.{paths_held, charged_beside, IsSetOf}
 use Rattle.realise.specs.declared.entry.Entry.{Entry}
 use Rattle.realise.specs.declared.entry.Entry.TheVariants as entry
 
@@ -116,14 +117,38 @@ records_in [] = []
 records_in (entry.Source path ∷ es) = records_in es
 records_in (entry.Record r ∷ es) = r ∷ records_in es
 
--- these paths are the sources among entries, and these records their records
-abbrev pub AreParts : List Entry → List (List ℕ) → List Recorded → Type 0
-AreParts entries paths records = (paths ≡ sources_in entries) × (records ≡ records_in entries)
+-- entries without the bytes of their archives
+abbrev pub bare : List (Entry × ℕ) → List Entry
+bare entries = map (λ e. e.0) entries
+
+-- the path of an entry, with the bytes of its archive
+abbrev pub archive_of : Entry × ℕ → List ℕ × ℕ
+archive_of e = (entry_path e.0, e.1)
+
+-- these paths are the sources among entries, these records their records, and these archives those of all
+pub record AreParts (entries : List (Entry × ℕ)) (paths : List (List ℕ)) (records : List Recorded) (archives : List (List ℕ × ℕ)) : Type 0 where
+  pub paths_are : paths ≡ sources_in (bare entries)
+  pub records_are : records ≡ records_in (bare entries)
+  pub archives_are : archives ≡ map archive_of entries
 
 -- none of the entries is on a desk, and no source comes twice
 pub record AreAbsent (entries : List Entry) (d : Holdings) : Type 0 where
   pub absent : All (λ e. is_on e d ≡ false) entries
   pub distinct : are_distinct (sources_in entries) ≡ true
+
+-- ---- more records, beside a desk
+
+-- records, the paths that are held with them, and the charge in bytes
+pub record Growth : Type 0 where
+  pub records : List Recorded
+  pub paths : List (List ℕ)
+  pub charge : ℕ
+
+-- these are a desk's with records and archives more
+pub record IsGrown (d : Holdings) (added : List Recorded) (archives : List (List ℕ × ℕ)) (growth : Growth) : Type 0 where
+  pub records : growth.records ≡ d.records ++ added
+  pub paths : IsSetOf growth.paths (paths_of d ++ paths_held archives)
+  pub charge : growth.charge ≡ d.charge + charged_beside archives (paths_of d)
 
 -- ---- closed desks
 

@@ -3,6 +3,7 @@ pub mod LabelLaws
 pub mod Below
 pub mod Reaching
 pub mod Ordered
+pub mod Held
 pub mod Holdings
 pub mod Indexed
 pub mod Kept

@@ -2,7 +2,8 @@
 
 ghost use Rattle.std.specs.Prelude.{◌≡◌, ◌++◌, map, MatchResult};
 ghost use Rattle.realise.specs.Holdings.{AreCountable};
-ghost use Rattle.realise.specs.Charging.{IsSetOf, charged_beyond};
+ghost use Rattle.realise.specs.Charging.{charged_beyond};
+ghost use Rattle.realise.specs.Held.{IsSetOf};
 ghost use Rattle.model.specs.declared.refusal.Refusal.TheVariants.{Memory};
 
 use crate::entry::Entry;

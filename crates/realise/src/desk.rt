@@ -1,16 +1,18 @@
 //! What one user has.
 
-ghost use Rattle.std.specs.Prelude.{◌≡◌, ◌+◌, ◌<◌, ◌≤◌, ◌^◌, [], ◌∷◌, ◌++◌, None, false, length, map, vec_len, vec_capacity, MatchResult};
+ghost use Rattle.std.specs.Prelude.{◌≡◌, ◌+◌, ◌<◌, ◌≤◌, ◌^◌, [], ◌∷◌, ◌++◌, None, false, length, map, MatchResult};
 ghost use Rattle.std.specs.List.{list_any};
 ghost use Rattle.std.specs.Option.{option_copied};
 ghost use Rattle.model.specs.Classes.{known_at, is_one_of};
 ghost use Rattle.model.specs.Worlds.{pinned, unpinned};
-ghost use Rattle.realise.specs.Holdings.{same_recorded, records_of, paths_of, is_on, has_place, charged_more, holds_entry, holds_derivation, with_pins, IsClosed, IsClosedWith, IsClosedWithEntry, holds_all, charged_all, AreAbsent, AreCountable};
-ghost use Rattle.realise.specs.Charging.{IsSetOf};
+ghost use Rattle.realise.specs.Held.{charged_beside, IsSetOf};
+ghost use Rattle.realise.specs.Holdings.{same_recorded, records_of, paths_of, is_on, has_place, charged_more, holds_entry, holds_derivation, with_pins, entry_path, bare, IsClosed, IsClosedWithEntry, holds_each, charged_all, AreAbsent, AreCountable, IsGrown};
 ghost use Rattle.model.specs.declared.refusal.Refusal.TheVariants.{Memory};
 
 use crate::charging::{charged_beyond, insert_paths, insert_record_paths};
 use crate::entry::{Entry, parted};
+use crate::grown::Grown;
+use crate::holding::Holding;
 use crate::limits::{MOST_RECORDS, MOST_SOURCES};
 use crate::pins::Pins;
 use crate::record::Record;
@@ -24,8 +26,8 @@ use std::marker::Model;
 use storepath::StorePath;
 
 /// What a user's desk knows of his derivations and sources, the records of what was built for their
-/// classes, his pins, and the sum of the archive lengths of the distinct paths that he holds, in
-/// bytes.
+/// classes, his pins, and the distinct paths that he holds, with the sum of their archive lengths in
+/// bytes, which is what he is charged.
 ///
 /// What the labels of its records name is on it.
 #[derive(Drop)]
@@ -33,7 +35,7 @@ pub struct Desk {
     known: Known,
     records: Records,
     pins: Pins,
-    charge: u64,
+    holding: Holding,
 }
 
 impl Model for Desk {
@@ -41,24 +43,11 @@ impl Model for Desk {
 
     ghost Value = { Holdings };
 
-    ghost use Rattle.realise.specs.Holdings.{IsClosed};
-    ghost use Rattle.realise.specs.Kept.{holdings_of};
+    ghost use Rattle.realise.specs.Kept.{holdings_of, IsConsistent};
 
     ghost view = { holdings_of };
 
-    ghost invariant = { λ d. IsClosed (holdings_of d) };
-}
-
-/// Whether one of the records has a path.
-fn has_path(records: &[Record], path: &StorePath) -> bool
-    ensures { result ≡ is_one_of (map (λ r. r.path) records.now) path.now }
-{
-    for record in records {
-        if *record.path() == *path {
-            return true;
-        }
-    }
-    false
+    ghost invariant = { IsConsistent };
 }
 
 /// Whether two records are for one class at one path, with the same labels.
@@ -95,7 +84,7 @@ impl Desk {
             known: Known::new(alloc),
             records: Records::new(alloc, hashing),
             pins: Pins::new(alloc),
-            charge: 0,
+            holding: Holding::new(alloc, hashing),
         }
     }
 
@@ -132,7 +121,7 @@ impl Desk {
     pub fn charge(&self) -> u64
         ensures { result ≡ self.now.charge }
     {
-        self.charge
+        self.holding.charge()
     }
 
     /// The derivation whose file has a path, if it is on the desk.
@@ -146,7 +135,7 @@ impl Desk {
     pub fn holds(&self, path: &StorePath) -> bool
         ensures { result ≡ is_one_of (paths_of self.now) path.now }
     {
-        self.known.has_source(path) || has_path(self.records.as_slice(), path)
+        self.holding.has(path)
     }
 
     /// Whether a record is on the desk. Only those of its class are looked at.
@@ -183,35 +172,27 @@ impl Desk {
         if self.holds(path) { 0 } else { archive }
     }
 
-    /// Adds a record that is not there yet. The one error is memory, and changes nothing.
-    fn add_record(&mut self, alloc: Global, added: Record) -> Result<(), Refusal>
-        requires closed { IsClosedWith self.old added }
-        ensures { MatchResult result
-            (λ _. self.new ≡ record self.old { records = self.old.records ++ added ∷ [] })
-            (λ e. (e ≡ Memory) × (self.new ≡ self.old)) }
-    {
-        self.records.push(alloc, added)
-    }
-
-    /// Adds an entry that is not there yet, for which so many bytes are charged. What its labels
-    /// name is on the desk.
+    /// Adds an entry that is not there yet, whose archive has so many bytes: they are charged unless
+    /// its path is held. What its labels name is on the desk.
     ///
     /// # Errors
     ///
     /// - `Memory` only where memory was refused. Then nothing has changed.
-    pub fn add(&mut self, alloc: Global, entry: Entry, more: u64) -> Result<(), Refusal>
+    pub fn add(&mut self, alloc: Global, entry: Entry, archive: u64) -> Result<(), Refusal>
         requires absent { is_on entry self.old ≡ false }
-        requires fits { self.old.charge + more < 2 ^ 64 }
+        requires fits { self.old.charge + charged_more (entry_path entry) archive self.old < 2 ^ 64 }
         requires closed { IsClosedWithEntry self.old entry }
-        ensures { MatchResult result
+        ensures { let more = charged_more (entry_path entry) archive self.old in MatchResult result
             (λ _. self.new ≡ holds_entry entry more self.old)
             (λ e. (e ≡ Memory) × (self.new ≡ self.old)) }
     {
+        let path = entry.path().clone()?;
+        self.holding.reserve(1)?;
         match entry {
-            Entry::Source(path) => self.known.add_source(path)?,
-            Entry::Record(record) => self.add_record(alloc, record)?,
+            Entry::Source(source) => self.known.add_source(source)?,
+            Entry::Record(record) => self.records.push(alloc, record)?,
         }
-        self.charge += more;
+        self.holding.put_reserved(path, archive);
         Ok(())
     }
 
@@ -243,52 +224,62 @@ impl Desk {
         charged_beyond(held, entries)
     }
 
-    /// Adds entries that are not there yet, all or none, for which so many bytes are charged
-    /// together. What their labels name is on the desk or among them.
+    /// Adds entries that are not there yet, all or none, whose archives have so many bytes: those of
+    /// each path are charged once, and not where it is held. What their labels name is on the desk or
+    /// among them.
     ///
     /// # Errors
     ///
     /// - `Memory` only where memory was refused. Then nothing has changed.
-    pub fn add_all(&mut self, alloc: Global, entries: Vec<Entry>, more: u64) -> Result<(), Refusal>
-        requires absent { AreAbsent entries.items self.old }
-        requires fits { self.old.charge + more < 2 ^ 64 }
-        requires closed { IsClosed (holds_all entries.items more self.old) }
+    pub fn add_all(&mut self, alloc: Global, entries: Vec<(Entry, u64)>) -> Result<(), Refusal>
+        requires absent { AreAbsent (bare entries.items) self.old }
+        requires fits { self.old.charge + charged_all entries.items self.old < 2 ^ 64 }
+        requires closed { IsClosed (holds_each entries.items self.old) }
         ensures { MatchResult result
-            (λ _. self.new ≡ holds_all entries.items more self.old)
+            (λ _. self.new ≡ holds_each entries.items self.old)
             (λ e. (e ≡ Memory) × (self.new ≡ self.old)) }
     {
-        let (paths, added) = parted(alloc, entries)?;
-        let records = self.records.with(alloc, &added)?;
-        self.known.add_sources(paths)?;
+        let parts = parted(alloc, entries)?;
+        let holding = self.holding.with(alloc, parts.archives)?;
+        let records = self.records.with(alloc, &parts.records)?;
+        self.known.add_sources(parts.sources)?;
         self.records = records;
-        self.charge += more;
+        self.holding = holding;
         Ok(())
     }
 
-    /// The desk's records and these, beside the desk. They may be put in the place of its records
-    /// later, when nothing can fail any more.
+    /// The desk's records and what it holds, with these records more, at paths with so many bytes of
+    /// archives. It is made beside the desk, and may be put in its place later.
     ///
     /// # Errors
     ///
     /// - `Memory` only where memory was refused.
-    pub fn records_with(&self, alloc: Global, added: &[Record]) -> Result<Records, Refusal>
+    pub fn grown(
+        &self,
+        alloc: Global,
+        added: &[Record],
+        archives: Vec<(StorePath, u64)>,
+    ) -> Result<Grown, Refusal>
+        requires fits { self.now.charge + charged_beside archives.items (paths_of self.now) < 2 ^ 64 }
         ensures { MatchResult result
-            (λ records. records ≡ self.now.records ++ added.now)
+            (λ grown. IsGrown self.now added.now archives.items grown)
             (λ e. e ≡ Memory) }
     {
-        self.records.with(alloc, added)
+        let holding = self.holding.with(alloc, archives)?;
+        let records = self.records.with(alloc, added)?;
+        Ok(Grown { records, holding })
     }
 
-    /// Puts records in the place of the desk's, for which so many bytes more are charged. What
-    /// their labels name is on the desk or among them. It takes no memory.
-    pub fn replace_records(&mut self, records: Records, more: u64)
-        requires fits { self.old.charge + more < 2 ^ 64 }
-        requires closed { IsClosed (record self.old { records = records }) }
+    /// Puts what was made beside the desk in the place of its records and of what it holds. What the
+    /// labels name is on the desk or among them. It takes no memory.
+    pub fn replace(&mut self, grown: Grown)
+        requires held { IsSetOf grown.paths (paths_of (record self.old { records = grown.records })) }
+        requires closed { IsClosed (record self.old { records = grown.records }) }
         ensures { self.new ≡
-            record self.old { records = records; charge = self.old.charge + more } }
+            record self.old { records = grown.records; charge = grown.charge } }
     {
-        self.records = records;
-        self.charge += more;
+        self.records = grown.records;
+        self.holding = grown.holding;
     }
 
     /// Adds a derivation that is not there yet.

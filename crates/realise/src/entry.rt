@@ -30,22 +30,34 @@ impl Entry {
     }
 }
 
-/// The sources among entries, and the records. The one error is memory.
-pub(crate) fn parted(
-    alloc: Global,
-    entries: Vec<Entry>,
-) -> Result<(Vec<StorePath>, Vec<Record>), Refusal>
+/// What entries are put on a desk as: the sources among them, the records, and the path of each with
+/// the bytes of its archive.
+#[derive(Drop)]
+pub(crate) struct Parts {
+    pub(crate) sources: Vec<StorePath>,
+    pub(crate) records: Vec<Record>,
+    pub(crate) archives: Vec<(StorePath, u64)>,
+}
+
+/// The parts of entries with the bytes of their archives. The one error is memory.
+pub(crate) fn parted(alloc: Global, entries: Vec<(Entry, u64)>) -> Result<Parts, Refusal>
     ensures { MatchResult result
-        (λ parts. AreParts entries.items parts.0.items parts.1.items)
+        (λ p. AreParts entries.items p.sources.items p.records.items p.archives.items)
         (λ e. e ≡ Memory) }
 {
-    let mut paths = Vec::new(alloc);
+    let mut sources = Vec::new(alloc);
     let mut records = Vec::new(alloc);
-    for entry in entries {
+    let mut archives = Vec::new(alloc);
+    for (entry, archive) in entries {
+        archives.push((entry.path().clone()?, archive))?;
         match entry {
-            Entry::Source(path) => paths.push(path)?,
+            Entry::Source(path) => sources.push(path)?,
             Entry::Record(record) => records.push(record)?,
         }
     }
-    Ok((paths, records))
+    Ok(Parts {
+        sources,
+        records,
+        archives,
+    })
 }

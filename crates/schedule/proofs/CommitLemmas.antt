@@ -1,19 +1,20 @@
 -- What all users hear of a job that ended with an output, put on their desks and among their goals, one user after another.
-use Rattle.std.proofs.Common.{◌≡◌, ℕ, zero, suc, ◌+◌, ◌<◌, ◌≤◌, true, ◌⊎◌, inl, inr, List, [], ◌∷◌, ◌++◌, length, drop, refl, sym, ◌∙◌, ap, subst, arith, Option, Some, None}
+use Rattle.std.proofs.Common.{◌≡◌, ℕ, zero, suc, ◌+◌, ◌<◌, ◌≤◌, true, ◌⊎◌, inl, inr, List, [], ◌∷◌, ◌++◌, length, map, drop, refl, sym, ◌∙◌, ap, subst, append_assoc, arith, Option, Some, None}
 use Rattle.std.specs.Prelude.{All, get_or, is_some, slice_get, slice_set, nat_lt}
 use Rattle.std.proofs.lemmas.Bool.Decides.{nat_tests}
-use Rattle.std.proofs.lemmas.List.{get_or-map, get_or_append_left, get_or_push, get_or-set_same, get_or-set_other}
+use Rattle.std.proofs.lemmas.List.{map-append, get_or-map, get_or_append_left, get_or_push, get_or-set_same, get_or-set_other}
 use Rattle.std.proofs.lemmas.List.Elements.{All-head, All-tail, All-weaker}
 use Rattle.model.proofs.BoolLemmas.{either}
 use Rattle.model.specs.Worlds.{State, Goal}
 use Rattle.model.specs.Goals.{goal_at, with_goal_at, in_state}
 use Rattle.jobs.specs.Owned.{OwnedByAll, with_goals_at}
 use Rattle.realise.specs.Recorded.{Recorded}
-use Rattle.realise.specs.Holdings.{Holdings}
+use Rattle.realise.specs.Held.{paths_held, IsSetOf}
+use Rattle.realise.specs.Holdings.{Holdings, Growth, paths_of, IsClosed}
 use Rattle.schedule.specs.Supported.{desk_at, goals_of, bare}
-use Rattle.schedule.specs.Gaining.{gains_in, nothing, with_gains, with_state, with_states, IsSettable}
-use Rattle.schedule.specs.Committing.{Heard, gains_heard, gains_at, states_heard, states_for, MayGain, IsGrown, AreGrown}
-use Rattle.schedule.proofs.MadeLemmas.{drop_head}
+use Rattle.schedule.specs.Gaining.{Gains, gains_in, nothing, archive_of_tree, with_gains, with_state, with_states, IsSettable}
+use Rattle.schedule.specs.Committing.{Heard, gains_heard, gains_at, states_heard, states_for, MayGain, IsGrownWith, MayReplace, MayReplaceAll, grown_to}
+use Rattle.schedule.proofs.MadeLemmas.{drop_head, held_paths}
 use Rattle.schedule.proofs.ViewLemmas.{any_default}
 use Rattle.schedule.proofs.FailingLemmas.{IsChangedAt, changed_again}
 
@@ -34,48 +35,60 @@ states_there heard place e below = sym (get_or-map states_heard heard place e []
 
 -- ---- records made beside the desks
 
-pub grown_next : (desks : List Holdings) (heard : List Heard) (all now : List (Option (List Recorded))) (place : ℕ) (rs : Option (List Recorded))
-    → now ≡ all ++ rs ∷ [] → length all ≡ place → IsGrown (desk_at desks place) (gains_at heard place) rs
-    → ((k : ℕ) → k < place → IsGrown (desk_at desks k) (gains_at heard k) (get_or all k None))
-    → (k : ℕ) → k < place + 1 → IsGrown (desk_at desks k) (gains_at heard k) (get_or now k None)
-grown_next desks heard all now place rs is count here before k below = elim (before_or_at k place below) [
+pub grown_next : (desks : List Holdings) (heard : List Heard) (all now : List (Option Growth)) (place : ℕ) (one : Option Growth)
+    → now ≡ all ++ one ∷ [] → length all ≡ place → IsGrownWith (desk_at desks place) (gains_at heard place) one
+    → ((k : ℕ) → k < place → IsGrownWith (desk_at desks k) (gains_at heard k) (get_or all k None))
+    → (k : ℕ) → k < place + 1 → IsGrownWith (desk_at desks k) (gains_at heard k) (get_or now k None)
+grown_next desks heard all now place one is count here before k below = elim (before_or_at k place below) [
   | inl less ↦
-      subst (IsGrown (desk_at desks k) (gains_at heard k))
-      (sym (ap (λ xs. get_or xs k None) is ∙ get_or_append_left all (rs ∷ []) None k (omega (arith, less, count)))) (before k less)
+      subst (IsGrownWith (desk_at desks k) (gains_at heard k))
+      (sym (ap (λ xs. get_or xs k None) is ∙ get_or_append_left all (one ∷ []) None k (omega (arith, less, count)))) (before k less)
   | inr same ↦
-      subst (IsGrown (desk_at desks k) (gains_at heard k)) (sym (ap (λ xs. get_or xs k None) is ∙ get_or_push all rs None k (count ∙ sym same)))
-      (subst (λ j. IsGrown (desk_at desks j) (gains_at heard j) rs) (sym same) here)
+      subst (IsGrownWith (desk_at desks k) (gains_at heard k)) (sym (ap (λ xs. get_or xs k None) is ∙ get_or_push all one None k (count ∙ sym same)))
+      (subst (λ j. IsGrownWith (desk_at desks j) (gains_at heard j) one) (sym same) here)
 ]
 
 -- ---- desks
 
--- the first of the records that are left are those for the desk at the place, which may get what is said of its place
-pub own_records : (desks now : List Holdings) (heard : List Heard) (grown rest : List (Option (List Recorded))) (place : ℕ) (e : Holdings) (f : Heard)
-    (rs : Option (List Recorded)) → length heard ≡ length desks → length grown ≡ length desks → AreGrown desks heard grown
-    → ((k : ℕ) → k < length desks → MayGain (desk_at desks k) (gains_at heard k)) → length now ≡ length desks
-    → ((k : ℕ) → place ≤ k → desk_at now k ≡ desk_at desks k) → drop place grown ≡ rs ∷ rest
-    → ((drop (place + 1) grown ≡ rest) × (place < length now))
-    × (IsGrown (get_or now place e) (gains_in (get_or heard place f).0) rs × MayGain (get_or now place e) (gains_in (get_or heard place f).0)
-    × (with_gains (gains_in (get_or heard place f).0) (get_or now place e) ≡ with_gains (gains_at heard place) (desk_at desks place)))
-own_records desks now heard grown rest place e f rs count each are may same kept left =
-    let head = drop_head (λ (x : Option (List Recorded)). x) None grown rest place rs left in
-    let inside = head.1.1 in
-    let below : place < length desks = omega (arith, inside, each) in
-    let is : get_or grown place None ≡ rs = sym (get_or-map (λ (x : Option (List Recorded)). x) grown place None None inside) ∙ head.0 in
-    let own : get_or now place e ≡ desk_at desks place = any_default now place e bare (omega (arith, below, same)) ∙ kept place (omega arith) in
-    let gains : gains_in (get_or heard place f).0 ≡ gains_at heard place = gains_there heard place f (omega (arith, below, count)) in (
-      (head.1.0, omega (arith, below, same)),
-      (
-        rw (own, gains) (subst (IsGrown (desk_at desks place) (gains_at heard place)) is (are place below)),
-        rw (own, gains) (may place below),
-        (λ i. with_gains (gains i) (own i)),
-      ),
+-- what was made beside a desk may be put in its place, and then it has what it gets
+pub may_replace : (d : Holdings) (gains : Gains) (one : Option Growth) → IsGrownWith d gains one → MayGain d gains → MayReplace d one
+may_replace d gains None same may = tt
+may_replace d gains (Some growth) grown may =
+    let path = λ (r : Recorded). r.path in
+    let held : paths_of d ++ paths_held (map archive_of_tree gains.trees) ≡ paths_of (record d { records = growth.records }) =
+    append_assoc d.known.sources (map path d.records) (paths_held (map archive_of_tree gains.trees))
+    ∙ ap (λ ps. d.known.sources ++ ps)
+    (ap (λ ps. map path d.records ++ ps) (held_paths gains.trees ∙ may.paired) ∙ sym (map-append path d.records gains.records) ∙ ap (map path) (sym grown.records)) in (
+      subst (IsSetOf growth.paths) held grown.paths,
+      subst (λ rs. IsClosed (record d { records = rs })) (sym grown.records) may.closed,
     )
 
-module _ (desks now : List Holdings) (heard : List Heard) (place : ℕ) (d : Holdings) (below : place < length now) where
-  pub replaced_next : d ≡ with_gains (gains_at heard place) (desk_at desks place)
-      → ((k : ℕ) → k < place → desk_at now k ≡ with_gains (gains_at heard k) (desk_at desks k))
-      → (k : ℕ) → k < place + 1 → desk_at (slice_set now place d) k ≡ with_gains (gains_at heard k) (desk_at desks k)
+pub grown_has : (d : Holdings) (gains : Gains) (one : Option Growth) → IsGrownWith d gains one → MayGain d gains → grown_to one d ≡ with_gains gains d
+grown_has d gains None same may = sym same
+grown_has d gains (Some growth) grown may =
+    let charge : growth.charge ≡ d.charge + gains.more = grown.charge ∙ ap (λ n. d.charge + n) (sym may.charge.counted) in
+    λ i. record d { records = grown.records i; charge = charge i }
+
+-- the first of what is left is for the desk at the place, in whose place it may be put
+pub own_grown : (desks now : List Holdings) (grown rest : List (Option Growth)) (place : ℕ) (e : Holdings) (one : Option Growth)
+    → length grown ≡ length desks → MayReplaceAll desks grown → length now ≡ length desks → ((k : ℕ) → place ≤ k → desk_at now k ≡ desk_at desks k)
+    → drop place grown ≡ one ∷ rest
+    → ((drop (place + 1) grown ≡ rest) × (place < length now))
+    × (MayReplace (get_or now place e) one × (grown_to one (get_or now place e) ≡ grown_to (get_or grown place None) (desk_at desks place)))
+own_grown desks now grown rest place e one each may same kept left =
+    let head = drop_head (λ (x : Option Growth). x) None grown rest place one left in
+    let inside = head.1.1 in
+    let below : place < length desks = omega (arith, inside, each) in
+    let is : get_or grown place None ≡ one = sym (get_or-map (λ (x : Option Growth). x) grown place None None inside) ∙ head.0 in
+    let own : get_or now place e ≡ desk_at desks place = any_default now place e bare (omega (arith, below, same)) ∙ kept place (omega arith) in (
+      (head.1.0, omega (arith, below, same)),
+      (rw own (subst (MayReplace (desk_at desks place)) is (may place below)), (λ i. grown_to (sym is i) (own i))),
+    )
+
+module _ (desks now : List Holdings) (grown : List (Option Growth)) (place : ℕ) (d : Holdings) (below : place < length now) where
+  pub replaced_next : d ≡ grown_to (get_or grown place None) (desk_at desks place)
+      → ((k : ℕ) → k < place → desk_at now k ≡ grown_to (get_or grown k None) (desk_at desks k))
+      → (k : ℕ) → k < place + 1 → desk_at (slice_set now place d) k ≡ grown_to (get_or grown k None) (desk_at desks k)
   replaced_next here before k less = elim (before_or_at k place less) [
     | inl early ↦ get_or-set_other now place k d bare (λ same. (let no : k ≡ place = same in omega (arith, early, no))) ∙ before k early
     | inr same ↦ rw same (get_or-set_same now place d bare below ∙ here)

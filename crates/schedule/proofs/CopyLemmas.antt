@@ -21,12 +21,12 @@ use Rattle.model.proofs.MemberLemmas.{In, in_of, contains_of, from_filter, in_fi
 use Rattle.choose.proofs.SetLemmas.{clash}
 use Rattle.realise.specs.Recorded.{Recorded, without_tree}
 use Rattle.realise.specs.declared.entry.Entry.{Entry}
-use Rattle.realise.specs.Holdings.{Holdings, paths_of, same_recorded, entry_path, entry_with, is_on, holds_entry, holds_all, holds_each, charged_more, charged_all, sources_in, records_in, is_at, has_labelled, IsClosed, IsClosedWith}
+use Rattle.realise.specs.Holdings.{Holdings, bare, paths_of, same_recorded, entry_path, entry_with, is_on, holds_entry, holds_all, holds_each, charged_more, charged_all, sources_in, records_in, is_at, has_labelled, IsClosed, IsClosedWith}
 use Rattle.realise.proofs.SeveralLemmas.{with_parts, all_parts, all_is_each}
 use Rattle.store.specs.Stored.{Extends, put_all, source_of, sources_of, AreThere, AreTaken as AreTakenOf}
 use Rattle.schedule.specs.Stored.{source_of_entry}
 use Rattle.schedule.specs.Sound.{IsClosure, sources_at, records_at, desk_of, IsSound, Beside}
-use Rattle.schedule.specs.Taking.{tree_with_path, entry_without, counted, bare, missing_on, are_roomy, copied, CopiesEntries}
+use Rattle.schedule.specs.Taking.{tree_with_path, entry_without, counted, missing_on, are_roomy, copied, CopiesEntries}
 use Rattle.schedule.specs.Supported.{IsEntryOn, GainsOnly}
 use Rattle.schedule.proofs.MissingLemmas.{bare_entries, is_not}
 use Rattle.schedule.proofs.PuttingLemmas.{put_all-Extends}
@@ -404,19 +404,19 @@ module _ (limit : ℕ) (old : List Source) (d : Holdings) (entries : List worlds
   }
 
   -- what the labels on the desk with them name is on it
-  pub entries_closed : (added : List Entry) (found : List (Entry × ℕ)) (more : ℕ) → added ≡ bare found → found ≡ map counted (missing_on d entries)
-      → more ≡ charged_all found d → IsClosed (holds_all added more d)
-  entries_closed added found more added_is found_is more_is =
-      rw (added_is, more_is, found_is) (closed_copied old later_table limit d entries its_later its_there sound closure)
+  pub entries_closed : (found : List (Entry × ℕ)) → found ≡ map counted (missing_on d entries) → IsClosed (holds_each found d)
+  entries_closed found found_is =
+      rw found_is (subst IsClosed (all_is_each (map counted (missing_on d entries)) d)
+      (closed_copied old later_table limit d entries its_later its_there sound closure))
 
   -- they are copied
-  pub done_copied : (added : List Entry) (found : List (Entry × ℕ)) (more : ℕ) (new : List Source) (after : Holdings) → added ≡ bare found
-      → found ≡ map counted (missing_on d entries) → more ≡ charged_all found d → are_roomy (bare found) more limit d ≡ true
-      → new ≡ put_all (sources_of trees) old → after ≡ holds_all added more d → CopiesEntries limit old d entries (Ok tt) new after
-  done_copied added found more new after added_is found_is more_is roomy new_is after_is =
+  pub done_copied : (found : List (Entry × ℕ)) (more : ℕ) (new : List Source) (after : Holdings) → found ≡ map counted (missing_on d entries)
+      → more ≡ charged_all found d → are_roomy (bare found) more limit d ≡ true → new ≡ put_all (sources_of trees) old → after ≡ holds_each found d
+      → CopiesEntries limit old d entries (Ok tt) new after
+  done_copied found more new after found_is more_is roomy new_is after_is =
       let room = roomy_as found more true found_is more_is roomy in
       let table : new ≡ later_table = new_is ∙ ap (λ ss. put_all ss old) (sources_are entries trees is) in
-      let desk : after ≡ its_desk = after_is ∙ rw (added_is, more_is, found_is) refl in
+      let desk : after ≡ its_desk = after_is ∙ rw found_is (sym (all_is_each (map counted (missing_on d entries)) d)) in
       rw (table, desk) (record {
         fits = λ users beside reply. copied_as users beside reply true room;
         stored = refl;

@@ -1,53 +1,97 @@
 -- The desk and the goals of a user where a job has ended with an output, once the table has the trees of what the desk got.
-use Rattle.std.proofs.Common.{◌≡◌, ℕ, zero, suc, ◌+◌, Bool, true, false, inl, inr, List, [], ◌∷◌, ◌++◌, length, drop, refl, sym, ◌∙◌, ap, subst, arith, Option, Some, None, Result, Ok, Err}
+use Rattle.std.proofs.Common.{◌≡◌, ℕ, zero, suc, ◌+◌, Bool, true, false, inl, inr, List, [], ◌∷◌, ◌++◌, length, drop, refl, sym, ◌∙◌, ap, subst, append_assoc, append-nil, arith, Option, Some, None, Result, Ok, Err}
 use Rattle.std.specs.Prelude.{All, Contains, map, is_some, slice_get, if◌then◌else◌}
 use Rattle.std.proofs.lemmas.List.Elements.{All-nil, All-cons, All-head, All-tail, All-weaker, All-map, All-append, All-push, All-contains_itself}
-use Rattle.std.proofs.lemmas.List.{map_push}
+use Rattle.std.proofs.lemmas.List.{map_push, map-append}
 use Rattle.std.proofs.Math.Seq.{drop-append_seam}
 use Rattle.model.specs.declared.refusal.Refusal.{Refusal}
 use Rattle.model.specs.Archives.{Tree}
 use Rattle.model.specs.ArchiveReading.{tree_of_archive}
-use Rattle.model.specs.Classes.{Known}
+use Rattle.model.specs.Classes.{Known, is_one_of}
 use Rattle.model.specs.Worlds.{Source, Record, Goal, Job, Setup, State, Waiting, tree_at, tree_of_record, charge_of}
 use Rattle.model.specs.Goals.{goal_at, is_in, members}
 use Rattle.model.specs.Endings.{End, Output as WithOutput, ended_goal, ended_goals}
 use Rattle.model.proofs.BoolLemmas.{either}
 use Rattle.jobs.specs.States.{is_building}
 use Rattle.realise.specs.Recorded.{Recorded}
-use Rattle.realise.specs.Holdings.{Holdings, paths_of}
+use Rattle.realise.specs.Held.{paths_held, charged_beside}
+use Rattle.realise.specs.Holdings.{paths_of, Holdings, paths_of}
 use Rattle.choose.specs.Visible.{record_at}
 use Rattle.store.specs.Stored.{Extends, sources_of}
 use Rattle.schedule.specs.Stored.{gained}
 use Rattle.schedule.specs.Sound.{Beside, sources_at, records_at, desk_of, IsSound}
 use Rattle.schedule.specs.Built.{built_at, built_output, all_built, numbered, IsClosedBuilt, IsStoredBuilt}
-use Rattle.schedule.specs.Gaining.{Output, Gains, nothing, with_gains, is_had, is_free, charged_with, one_more, state_of_built, gains_of, all_gains, all_states, with_state, with_states, waiting, IsSettable, IsTreeIn}
-use Rattle.schedule.specs.Hearing.{tree_built, trees_built, ArePaired, Hears}
+use Rattle.schedule.specs.Gaining.{ArePaired, IsCounted, archive_of_tree, Output, Gains, nothing, with_gains, is_had, is_free, charged_with, one_more, state_of_built, gains_of, all_gains, all_states, with_state, with_states, waiting, IsSettable, IsTreeIn}
+use Rattle.schedule.specs.Hearing.{tree_built, trees_built, Hears}
 use Rattle.schedule.proofs.CopyLemmas.{unmapped}
 use Rattle.schedule.proofs.DeskLemmas.{IsKnown, sources_known, records_known, desk_kept, sound_kept, trees_at, length-records_at}
 use Rattle.schedule.proofs.GainLemmas.{with_nothing, all_goals}
-use Rattle.schedule.proofs.MadeLemmas.{all_left, all_right, trees_stored}
+use Rattle.schedule.proofs.MadeLemmas.{held_paths, all_left, all_right, trees_stored}
 
 -- ---- what is got
+
+-- one archive more is charged unless its path is held or came before
+charged_push : (archives : List (List ℕ × ℕ)) (a : List ℕ × ℕ) (paths : List (List ℕ))
+    → charged_beside (archives ++ a ∷ []) paths
+    ≡ charged_beside archives paths + (if is_one_of (paths ++ paths_held archives) a.0 then 0 else a.1)
+charged_push [] a paths =
+    let none : (n : ℕ) → n + 0 ≡ 0 + n = λ n. omega arith in
+    none (if is_one_of paths a.0 then 0 else a.1) ∙ ap (λ ps. 0 + (if is_one_of ps a.0 then 0 else a.1)) (sym (append-nil paths))
+charged_push (b ∷ archives) a paths =
+    let first : ℕ = if is_one_of paths b.0 then 0 else b.1 in
+    let rest = charged_push archives a (paths ++ b.0 ∷ []) in
+    let last = ap (λ ps. if is_one_of ps a.0 then 0 else a.1) (append_assoc paths (b.0 ∷ []) (paths_held archives)) in
+    let sum : (n m k : ℕ) → n + (m + k) ≡ (n + m) + k = λ n m k. omega arith in
+    ap (λ n. first + n) (rest ∙ ap (λ n. charged_beside archives (paths ++ b.0 ∷ []) + n) last) ∙ sum first _ _
 
 whichever : {X : Type 0} (P : X → Type 0) (b : Bool) (x y : X) → P x → P y → P (if b then x else y)
 whichever P true x y p q = p
 whichever P false x y p q = q
 
+-- the charge of what a desk gets, and the trees that it is for
+record AreCharged (d : Holdings) (g : Gains) : Type 0 where
+  paired : ArePaired g
+  counted : IsCounted d g
+
+module _ (d : Holdings) (g : Gains) (o : Output) (charged : AreCharged d g) where
+  abbrev desk_now : Holdings
+  desk_now = with_gains g d
+
+  abbrev one : List ℕ × ℕ
+  one = archive_of_tree (o.0.path, o.1)
+
+  paths_now : paths_of desk_now ≡ paths_of d ++ paths_held (map archive_of_tree g.trees)
+  paths_now =
+      let path = λ (r : Recorded). r.path in
+      ap (λ ps. d.known.sources ++ ps) (map-append path d.records g.records ∙ ap (λ ps. map path d.records ++ ps) (sym charged.paired ∙ sym (held_paths g.trees)))
+      ∙ sym (append_assoc d.known.sources (map path d.records) (paths_held (map archive_of_tree g.trees)))
+
+  -- one record more
+  one_charged : AreCharged d (one_more o (charged_with o desk_now) g)
+  one_charged = record {
+    paired = map_push (λ (t : List ℕ × Tree). t.0) g.trees (o.0.path, o.1) ∙ ap (λ ps. ps ++ o.0.path ∷ []) charged.paired
+        ∙ sym (map_push (λ (r : Recorded). r.path) g.records o.0);
+    counted = (λ i. charged.counted i + (if is_one_of (paths_now i) o.0.path then 0 else one.1))
+        ∙ sym (charged_push (map archive_of_tree g.trees) one (paths_of d))
+        ∙ ap (λ archives. charged_beside archives (paths_of d)) (sym (map_push archive_of_tree g.trees (o.0.path, o.1)));
+  }
+
 module _ (limit : ℕ) (d : Holdings) where
-  pub paired_all : (xs : List (ℕ × Result Output Refusal)) (g : Gains) → ArePaired g → ArePaired (all_gains limit d xs g)
+  charged_all : (xs : List (ℕ × Result Output Refusal)) (g : Gains) → AreCharged d g → AreCharged d (all_gains limit d xs g)
   unfolding all_gains
-  paired_all [] g paired = paired
-  paired_all (x ∷ xs) g paired = paired_all xs (gains_of limit d x.1 g) (one x.1)
+  charged_all [] g charged = charged
+  charged_all (x ∷ xs) g charged = charged_all xs (gains_of limit d x.1 g) (next x.1)
     where
-      one : (built : Result Output Refusal) → ArePaired (gains_of limit d built g)
-      one (Err why) = paired
-      one (Ok o) =
+      next : (built : Result Output Refusal) → AreCharged d (gains_of limit d built g)
+      next (Err why) = charged
+      next (Ok o) =
           let now : Holdings = with_gains g d in
           let more : Gains = one_more o (charged_with o now) g in
-          let pushed : ArePaired more =
-          map_push (λ (t : List ℕ × Tree). t.0) g.trees (o.0.path, o.1) ∙ ap (λ ps. ps ++ o.0.path ∷ []) paired
-          ∙ sym (map_push (λ (r : Recorded). r.path) g.records o.0) in
-          whichever ArePaired (is_had o.0 now) g _ paired (whichever ArePaired (is_free (charged_with o now) limit now) more g pushed paired)
+          whichever (AreCharged d) (is_had o.0 now) g _ charged
+          (whichever (AreCharged d) (is_free (charged_with o now) limit now) more g (one_charged d g o charged) charged)
+
+  all_charged : (xs : List (ℕ × Result Output Refusal)) → AreCharged d (all_gains limit d xs nothing)
+  all_charged xs = charged_all xs nothing (record { paired = refl; counted = refl })
 
   -- what holds of the trees of what was built holds of those that are got
   among_all : (P : List ℕ × Tree → Type 0) (xs : List (ℕ × Result Output Refusal)) (g : Gains) → All P g.trees → All P (trees_built xs)
@@ -163,7 +207,7 @@ ended_at_desk users limit trusted old big later d goals bytes ns xs sound in_big
     let before : desk_of (beside goals) old d ≡ desk_of (beside goals) big (with_gains nothing d) =
     sym (desk_kept (beside goals) old big limit d in_big sound) ∙ ap (desk_of (beside goals) big) (sym none) in
     let all = all_goals users limit trusted big d bytes ns goals nothing xs sound_big are stored closed in
-    let paired : ArePaired gains = paired_all limit d xs nothing refl in
+    let paired : ArePaired gains = (all_charged limit d xs).paired in
     let trees_big : All (IsTreeIn big) gains.trees = stored_all limit d big xs nothing (All-nil (IsTreeIn big)) stored in (
       ap (ended_goals setup true (WithOutput bytes) ns) before ∙ all.0
           ∙ sym (desk_same big later old limit d gains sound in_big in_later paired trees_big there
@@ -302,7 +346,8 @@ pub hears_reached : (limit : ℕ) (d : Holdings) (goals : List Goal) (job : Job)
     → gains ≡ all_gains limit d xs nothing → states ≡ all_states limit d xs nothing → Hears limit d goals job true xs gains states
 hears_reached limit d goals job xs gains states gains_are states_are =
     rw (gains_are, states_are) (record {
-      paired = paired_all limit d xs nothing refl;
+      paired = (all_charged limit d xs).paired;
+      counted = (all_charged limit d xs).counted;
       trees = among_all limit d (Contains (trees_built xs)) xs nothing (All-nil (Contains (trees_built xs))) (All-contains_itself (trees_built xs));
       settable = λ output is. all_settable limit d goals job xs output (is refl);
       desk = λ users trusted bytes old big later sound in_big built in_later there.
@@ -319,6 +364,7 @@ pub hears_waiting : (limit : ℕ) (d : Holdings) (goals : List Goal) (job : Job)
 hears_waiting limit d goals job xs gains states gains_are states_are =
     rw (gains_are, states_are) (record {
       paired = refl;
+      counted = refl;
       trees = All-nil (Contains (trees_built xs));
       settable = λ output is. waiting_settable job goals;
       desk = λ users trusted bytes old big later sound in_big built in_later there.

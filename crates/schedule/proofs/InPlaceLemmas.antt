@@ -28,7 +28,7 @@ use Rattle.schedule.specs.Supported.{GainsOnly}
 use Rattle.schedule.specs.Built.{IsStoredBuilt}
 use Rattle.schedule.specs.Gaining.{Output, Gains, with_gains, with_state, with_states, last_state, IsTreeIn, IsSettable}
 use Rattle.schedule.specs.Hearing.{AreEach, all_trees, built_for_place, IsBuiltFor, IsBuiltAtPlace, IsHeardAtPlace, IsMadeBeside}
-use Rattle.schedule.specs.Committing.{Heard, gains_heard, gains_at, states_heard, states_for, trees_gained, MayGain}
+use Rattle.schedule.specs.Committing.{Heard, gains_heard, gains_at, states_heard, states_for, trees_gained, MayCharge, MayGain}
 use Rattle.schedule.specs.Finishing.{IsPrepared}
 use Rattle.schedule.specs.Ending.{desk_in, reaches_in, AllHear, leading}
 use Rattle.schedule.proofs.TrustLemmas.{distinct_users}
@@ -72,6 +72,16 @@ stored_for table [] all i below = absurd (omega arith)
 stored_for table (xs ∷ built) all zero below = All-head (λ xs. All (λ x. IsStoredBuilt table x.1) xs.items) xs built all
 stored_for table (xs ∷ built) all (suc i) below =
     stored_for table built (All-tail (λ xs. All (λ x. IsStoredBuilt table x.1) xs.items) xs built all) i (omega (arith, below))
+
+-- all desks may be charged for what they get
+pub may_charge : (sources : List Source) (output : Option Tree) (trust : ℕ → ℕ → Bool) (leader limit : ℕ) (job : Job) (desks : List Holdings)
+    (goals : List (List Goal)) (heard : List Heard) → IsMadeBeside sources output trust leader limit job desks goals heard → limit < 2 ^ 64 → (p : ℕ)
+    → p < length heard → MayCharge (desk_at desks p) (gains_at heard p)
+may_charge sources output trust leader limit job desks goals heard made bounded p below =
+    let hears =
+    heard_at (λ k gains states. IsHeardAtPlace trust leader limit job (desk_at desks k) (goals_of goals k) k (built_for_place made.built k) gains states) 0 p
+    heard made.hears p below (omega arith) in
+    record { fits = (let fits = hears.fits in omega (arith, fits, bounded)); counted = hears.hears.counted }
 
 -- ---- a goal that gets states
 
@@ -189,7 +199,8 @@ module _ (users : List (List ℕ)) (limit : ℕ) (trust : ℕ → ℕ → Bool) 
 
       pub may_gain : limit < 2 ^ 64 → MayGain own (gains_at heard p)
       may_gain bounded = record {
-        fits = (let fits = hears.fits in omega (arith, fits, bounded));
+        charge = record { fits = (let fits = hears.fits in omega (arith, fits, bounded)); counted = hears.hears.counted };
+        paired = hears.hears.paired;
         closed = sound_then.closed;
       }
 

@@ -10,11 +10,17 @@ use Rattle.model.proofs.BoolLemmas.{either, same_bytes}
 use Rattle.store.specs.Stored.{Extends, put_once, put_all, source_of, sources_of, AreTaken}
 use Rattle.store.proofs.PuttingLemmas.{found_first, found_second}
 use Rattle.trust.specs.Trusting.{IsReach}
+use Rattle.realise.specs.Held.{paths_held}
 use Rattle.realise.specs.Holdings.{Holdings}
 use Rattle.schedule.specs.Viewing.{desk_at}
 use Rattle.schedule.specs.Built.{IsStoredBuilt}
-use Rattle.schedule.specs.Gaining.{Output, IsTreeIn}
+use Rattle.schedule.specs.Gaining.{Output, IsTreeIn, archive_of_tree}
 use Rattle.schedule.specs.Hearing.{tree_built, trees_built, all_trees, AreStored, AreEach}
+
+-- the paths of trees are those of their archives
+pub held_paths : (trees : List (List ℕ × Tree)) → paths_held (map archive_of_tree trees) ≡ map (λ t. t.0) trees
+held_paths [] = refl
+held_paths (t ∷ trees) = ap (λ ps. t.0 ∷ ps) (held_paths trees)
 
 -- ---- what holds of the trees holds of what was built
 

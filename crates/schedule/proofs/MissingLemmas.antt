@@ -13,9 +13,9 @@ use Rattle.choose.specs.Gathering.{Ascends}
 use Rattle.choose.proofs.SetLemmas.{irreflexive, clash}
 use Rattle.choose.proofs.OrderLemmas.{entry_before-Weak}
 use Rattle.realise.specs.declared.entry.Entry.{Entry}
-use Rattle.realise.specs.Holdings.{Holdings, is_on, sources_in, AreCountable, AreAbsent}
+use Rattle.realise.specs.Holdings.{bare, Holdings, is_on, sources_in, AreCountable, AreAbsent}
 use Rattle.schedule.specs.Sound.{IsClosure}
-use Rattle.schedule.specs.Taking.{entry_without, counted, bare, missing_on}
+use Rattle.schedule.specs.Taking.{entry_without, counted, missing_on}
 
 pub is_not : (b : Bool) → b ≡ false → not b ≡ true
 is_not false h = refl

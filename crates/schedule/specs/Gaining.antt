@@ -10,7 +10,8 @@ use Rattle.jobs.specs.declared.goal.State as jobs
 use Rattle.jobs.specs.States.{state_of, is_building}
 use Rattle.realise.specs.Recorded.{Recorded}
 use Rattle.realise.specs.declared.entry.Entry.TheVariants as entry
-use Rattle.realise.specs.Holdings.{Holdings, is_on, charged_more}
+use Rattle.realise.specs.Held.{charged_beside}
+use Rattle.realise.specs.Holdings.{Holdings, paths_of, is_on, charged_more}
 use Rattle.schedule.specs.declared.requests.gains.Gains as Rust
 
 -- ---- what a desk gets
@@ -34,6 +35,18 @@ nothing = record { records = []; trees = []; more = 0 }
 -- a desk with what it gets
 abbrev pub with_gains : Gains → Holdings → Holdings
 with_gains g d = record d { records = d.records ++ g.records; charge = d.charge + g.more }
+
+-- the path of a tree, with the bytes of its archive
+abbrev pub archive_of_tree : List ℕ × Tree → List ℕ × ℕ
+archive_of_tree t = (t.0, length (nar t.1))
+
+-- the trees that a desk gets are those of its records
+abbrev pub ArePaired : Gains → Type 0
+ArePaired g = map (λ t. t.0) g.trees ≡ map (λ r. r.path) g.records
+
+-- the bytes that are charged for them are those of their archives, each path once, and nothing for one that the desk holds
+abbrev pub IsCounted : Holdings → Gains → Type 0
+IsCounted d g = g.more ≡ charged_beside (map archive_of_tree g.trees) (paths_of d)
 
 -- ---- one record
 

@@ -17,7 +17,7 @@ use Rattle.schedule.specs.Viewing.{desk_at}
 use Rattle.schedule.specs.Built.{all_built, numbered, AreBuiltOn, IsClosedBuilt, HaveInputs, IsStoredBuilt}
 use Rattle.jobs.specs.declared.goal.State as jobs
 use Rattle.schedule.specs.declared.requests.gains.Gains as Rust
-use Rattle.schedule.specs.Gaining.{Output, Gains, gains_in, with_gains, with_states, state_at, IsSettable, IsTreeIn}
+use Rattle.schedule.specs.Gaining.{Output, Gains, gains_in, ArePaired, IsCounted, with_gains, with_states, state_at, IsSettable, IsTreeIn}
 
 -- ---- the trees of what was built
 
@@ -37,10 +37,6 @@ all_trees (xs ∷ others) = trees_built xs.items ++ all_trees others
 
 -- ---- what a user hears
 
--- the trees that a desk gets are those of its records
-abbrev pub ArePaired : Gains → Type 0
-ArePaired g = map (λ t. t.0) g.trees ≡ map (λ r. r.path) g.records
-
 -- this was built for the goals of a user that are in a job, if he reaches its leader; a table has the trees
 pub record IsBuiltFor (bytes : List ℕ) (d : Holdings) (goals : List Goal) (job : Job) (reached : Bool) (built : List (ℕ × Result Output Refusal))
     (table : List Source) : Type 0 where
@@ -52,6 +48,7 @@ pub record IsBuiltFor (bytes : List ℕ) (d : Holdings) (goals : List Goal) (job
 pub record Hears (limit : ℕ) (d : Holdings) (goals : List Goal) (job : Job) (reached : Bool) (built : List (ℕ × Result Output Refusal)) (gains : Gains)
     (states : List (ℕ × State)) : Type 0 where
   pub paired : ArePaired gains
+  pub counted : IsCounted d gains
   -- they are of what was built
   pub trees : All (Contains (trees_built built)) gains.trees
   pub settable : (output : Option Tree) → (reached ≡ true → map numbered built ≡ all_built d.known output goals (members job 1 goals))

@@ -34,10 +34,6 @@ entry_without (OfRecord r) = entry.Record (without_tree r)
 abbrev pub counted : worlds.Entry → Entry × ℕ
 counted e = (entry_without e, length (nar (tree_of_entry e)))
 
--- entries without these bytes
-abbrev pub bare : List (Entry × ℕ) → List Entry
-bare entries = map (λ e. e.0) entries
-
 -- those of the entries that are not on a desk
 abbrev pub missing_on : Holdings → List worlds.Entry → List worlds.Entry
 missing_on d entries = filter (λ e. not (is_on (entry_without e) d)) entries

@@ -1,17 +1,17 @@
 //! What all users hear of a job that ended with an output, put on their desks and among their goals.
 
-ghost use Rattle.std.specs.Prelude.{◌≡◌, ◌<◌, ◌++◌, ℕ, All, length, map, MatchResult, IfOk, IfErr};
+ghost use Rattle.std.specs.Prelude.{◌≡◌, ◌<◌, ◌++◌, ℕ, All, length, map, get_or, None, MatchResult, IfOk, IfErr};
 ghost use Rattle.model.specs.declared.refusal.Refusal.TheVariants.{Memory};
 ghost use Rattle.jobs.specs.Owned.{with_goals_at};
 ghost use Rattle.schedule.specs.Supported.{goals_of, desk_at};
-ghost use Rattle.schedule.specs.Gaining.{gains_in, with_gains, with_states, state_at, IsSettable};
-ghost use Rattle.schedule.specs.Committing.{trees_gained, gains_at, states_for, MayGain, IsGrown, AreGrown};
+ghost use Rattle.schedule.specs.Gaining.{gains_in, archive_of_tree, with_states, state_at, IsSettable};
+ghost use Rattle.schedule.specs.Committing.{trees_gained, gains_at, states_for, MayCharge, IsGrownWith, AreGrown, MayReplace, MayReplaceAll, grown_to};
 
 use super::gains::Gains;
 use jobs::{Jobs, State};
 use model::Refusal;
 use nar::Tree;
-use realise::{Desk, Records};
+use realise::{Desk, Grown};
 use std::alloc::Global;
 use storepath::StorePath;
 
@@ -47,17 +47,32 @@ pub(super) fn gained_by_all(
     Ok(trees)
 }
 
-/// The records of a desk with those that it gets, made beside it, if it gets any. The one error is
-/// memory.
-fn grown_at(alloc: Global, desk: &Desk, gains: &Gains) -> Result<Option<Records>, Refusal>
-    ensures grown { IfOk result (IsGrown desk.now (gains_in gains.now)) }
+/// The paths of trees, with the bytes of their archives. The one error is memory.
+fn archives_of(alloc: Global, trees: &[(StorePath, Tree)]) -> Result<Vec<(StorePath, u64)>, Refusal>
+    ensures { MatchResult result
+        (λ archives. archives.items ≡ map archive_of_tree trees.now)
+        (λ e. e ≡ Memory) }
+{
+    let mut archives = Vec::new(alloc);
+    for (path, tree) in trees {
+        archives.push((path.clone()?, tree.nar_len() as u64))?;
+    }
+    Ok(archives)
+}
+
+/// A desk's records and what it holds with what it gets, made beside it, if it gets anything. The one
+/// error is memory.
+fn grown_at(alloc: Global, desk: &Desk, gains: &Gains) -> Result<Option<Grown>, Refusal>
+    requires { MayCharge desk.now (gains_in gains.now) }
+    ensures grown { IfOk result (IsGrownWith desk.now (gains_in gains.now)) }
     ensures memory { IfErr result (λ why. why ≡ Memory) }
 {
     if gains.records.is_empty() && gains.more == 0 {
         return Ok(None);
     }
-    let records = desk.records_with(alloc, gains.records.as_slice())?;
-    Ok(Some(records))
+    let archives = archives_of(alloc, gains.trees.as_slice())?;
+    let grown = desk.grown(alloc, gains.records.as_slice(), archives)?;
+    Ok(Some(grown))
 }
 
 /// The same for all desks. One that gets nothing is not looked at.
@@ -65,8 +80,10 @@ pub(super) fn grown(
     alloc: Global,
     desks: &[Desk],
     heard: &[(Gains, Vec<(u16, State)>)],
-) -> Result<Vec<Option<Records>>, Refusal>
+) -> Result<Vec<Option<Grown>>, Refusal>
     requires count { length heard.now ≡ length desks.now }
+    requires may { (place : ℕ) → place < length desks.now
+        → MayCharge (desk_at desks.now place) (gains_at heard.now place) }
     ensures grown { IfOk result (λ grown. AreGrown desks.now heard.now grown.items) }
     ensures count { IfOk result (λ grown. length grown.items ≡ length desks.now) }
     ensures memory { IfErr result (λ why. why ≡ Memory) }
@@ -78,35 +95,27 @@ pub(super) fn grown(
     Ok(all)
 }
 
-/// Puts the records that were made in the place of a desk's, if there are any.
-fn replace(desk: &mut Desk, grown: Option<Records>, gains: &Gains)
-    requires grown { IsGrown desk.old (gains_in gains.now) grown }
-    requires may { MayGain desk.old (gains_in gains.now) }
-    ensures { desk.new ≡ with_gains (gains_in gains.now) desk.old }
+/// Puts what was made beside a desk in its place, if anything was.
+fn replace(desk: &mut Desk, grown: Option<Grown>)
+    requires { MayReplace desk.old grown }
+    ensures { desk.new ≡ grown_to grown desk.old }
 {
-    if let Some(records) = grown {
-        desk.replace_records(records, gains.more);
+    if let Some(grown) = grown {
+        desk.replace(grown);
     }
 }
 
-/// Puts the records that were made in the place of those of the desks.
-pub(super) fn replace_all(
-    desks: &mut [Desk],
-    grown: Vec<Option<Records>>,
-    heard: &[(Gains, Vec<(u16, State)>)],
-)
-    requires count { length heard.now ≡ length desks.old }
+/// Puts what was made beside the desks in their places.
+pub(super) fn replace_all(desks: &mut [Desk], grown: Vec<Option<Grown>>)
     requires each { length grown.items ≡ length desks.old }
-    requires grown { AreGrown desks.old heard.now grown.items }
-    requires may { (place : ℕ) → place < length desks.old
-        → MayGain (desk_at desks.old place) (gains_at heard.now place) }
+    requires may { MayReplaceAll desks.old grown.items }
     ensures count { length desks.new ≡ length desks.old }
-    ensures gains { (place : ℕ) → place < length desks.old
-        → desk_at desks.new place ≡ with_gains (gains_at heard.now place) (desk_at desks.old place) }
+    ensures grown { (place : ℕ) → place < length desks.old → desk_at desks.new place
+        ≡ grown_to (get_or grown.items place None) (desk_at desks.old place) }
 {
     let mut place = 0;
-    for records in grown {
-        replace(&mut desks[place], records, &heard[place].0);
+    for one in grown {
+        replace(&mut desks[place], one);
         place += 1;
     }
 }

@@ -74,7 +74,7 @@ pub(super) fn add_entry(
     }
     let key = path.clone()?;
     table.reserve(1)?;
-    desk.add(alloc, entry, more)?;
+    desk.add(alloc, entry, tree.nar_len() as u64)?;
     put_new(table, is_stored, key, tree);
     Ok(Reply::Path(path))
 }

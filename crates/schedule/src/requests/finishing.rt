@@ -29,7 +29,7 @@ use crate::limits::Limits;
 use jobs::{Job, Jobs, State};
 use model::Refusal;
 use nar::{Nar, Tree, decode, encode};
-use realise::{Desk, Records};
+use realise::{Desk, Grown};
 use std::alloc::{AllocError, Global};
 use store::Table;
 use storepath::StorePath;
@@ -67,7 +67,7 @@ fn state_then(state: &State, number: u16, states: &[(u16, State)]) -> Result<Sta
 #[derive(Drop)]
 pub(super) struct Ending {
     heard: Vec<(Gains, Vec<(u16, State)>)>,
-    grown: Vec<Option<Records>>,
+    grown: Vec<Option<Grown>>,
     trees: Vec<(StorePath, Tree)>,
     told: State,
 }
@@ -166,7 +166,7 @@ pub(super) fn finish(
         alloc, trust, table, desks, limits, jobs, place, &job, archive, number,
     )?;
     table.reserve(ending.trees.len())?;
-    replace_all(desks, ending.grown, &ending.heard);
+    replace_all(desks, ending.grown);
     set_all(jobs, ending.heard);
     table.put_all_reserved(ending.trees);
     Ok(Reply::GoalState(ending.told))

@@ -5,12 +5,12 @@ ghost use Rattle.model.specs.Limits.{most_sources, most_records};
 ghost use Rattle.model.specs.Events.{Take as TakeRequest};
 ghost use Rattle.model.specs.Closures.{path_for};
 ghost use Rattle.model.specs.declared.refusal.Refusal.TheVariants.{Memory, NotRealised};
-ghost use Rattle.realise.specs.Holdings.{sources_in, records_in};
+ghost use Rattle.realise.specs.Holdings.{bare, sources_in, records_in};
 ghost use Rattle.trust.specs.Trusting.{trusts};
 ghost use Rattle.schedule.specs.Sound.{IsSound, IsClosure};
 ghost use Rattle.schedule.specs.Viewing.{desk_at};
 ghost use Rattle.schedule.specs.Handling.{IsHandledBySight};
-ghost use Rattle.schedule.specs.Taking.{tree_with_path, counted, bare, missing_on, are_roomy, CopiesEntries};
+ghost use Rattle.schedule.specs.Taking.{tree_with_path, counted, missing_on, are_roomy, CopiesEntries};
 
 use super::closures::entries_for;
 use crate::events::Reply;
@@ -122,19 +122,6 @@ fn has_room(desk: &Desk, limits: Limits, entries: &[(Entry, u64)], more: u64) ->
     ) && fits(desk.charge(), more, limits.charge)
 }
 
-/// Entries without the bytes of their archives. The one error is memory.
-fn without_bytes(alloc: Global, counted: Vec<(Entry, u64)>) -> Result<Vec<Entry>, Refusal>
-    ensures { MatchResult result
-        (λ entries. entries.items ≡ bare counted.items)
-        (λ e. e ≡ Memory) }
-{
-    let mut entries = Vec::new(alloc);
-    for (entry, _bytes) in counted {
-        entries.push(entry)?;
-    }
-    Ok(entries)
-}
-
 /// Copies entries to a desk, those that it does not have, and their trees to the table where their
 /// paths are new there. All that needs memory comes before the first change.
 pub(super) fn copy_all(
@@ -156,9 +143,8 @@ pub(super) fn copy_all(
     if !has_room(desk, limits, &found, more) {
         return Err(Refusal::Quota);
     }
-    let added = without_bytes(alloc, found)?;
     table.reserve(trees.len())?;
-    desk.add_all(alloc, added, more)?;
+    desk.add_all(alloc, found)?;
     table.put_all_reserved(trees);
     Ok(())
 }

@@ -1,5 +1,5 @@
 use Rattle.std.proofs.Common.{◌++◌, take}
-use Rattle.realise.specs.Charging.{IsSetOf}
+use Rattle.realise.specs.Held.{IsSetOf}
 use Rattle.realise.proofs.charging.insert_paths.Given as goal
 
 abbrev pub invariant-loop-path : goal.invariant-loop-path

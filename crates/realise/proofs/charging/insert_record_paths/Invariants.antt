@@ -1,5 +1,5 @@
 use Rattle.std.proofs.Common.{◌++◌, map, take}
-use Rattle.realise.specs.Charging.{IsSetOf}
+use Rattle.realise.specs.Held.{IsSetOf}
 use Rattle.realise.proofs.charging.insert_record_paths.Given as goal
 
 abbrev pub invariant-loop-record : goal.invariant-loop-record

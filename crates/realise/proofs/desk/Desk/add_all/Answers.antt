@@ -1,34 +1,59 @@
-use Rattle.std.proofs.Common.{◌++◌, sym, ap, subst, ◌∙◌}
+use Rattle.std.proofs.Common.{◌≡◌, ◌+◌, ◌++◌, ◌<◌, ◌^◌, ℕ, List, sym, ap, subst, ◌∙◌, arith}
 use Rattle.classes.specs.Entries.{AreNew}
-use Rattle.realise.specs.Holdings.{Holdings, IsClosed, holds_all, sources_in}
+use Rattle.realise.specs.Recorded.{Recorded}
+use Rattle.realise.specs.declared.entry.Entry.{Entry}
+use Rattle.realise.specs.Held.{paths_held, bytes_held, IsSetOf}
+use Rattle.realise.specs.Holdings.{Holdings, paths_of, bare, holds_each, charged_all, sources_in, IsClosed}
 use Rattle.realise.specs.Kept.{holdings_of}
 use Rattle.realise.proofs.SeveralLemmas.{sources_new, made}
+use Rattle.realise.proofs.KeepingLemmas.{entries_bytes, entries_held}
 use Rattle.realise.proofs.desk.Desk.add_all.Goals as goal
+
+pub with-requires : goal.with-requires
+with-requires c =
+    let entries : List (Entry × ℕ) = c.args.entries.items in
+    let d : Holdings = holdings_of c.self.inside in
+    let fits : d.charge + charged_all entries d < 2 ^ 64 =
+    subst (λ (h : Holdings). h.charge + charged_all entries h < 2 ^ 64) (sym c.self.view_is) c.requires.fits in
+    let bytes = entries_bytes c.self.inside c.self.invariant entries c.in_ok-parts.parts.archives.items c.in_ok-parts.ensures.archives_are in
+    record { fits = omega (arith, bytes, fits) }
 
 pub add_sources-requires : goal.add_sources-requires
 add_sources-requires c =
-    let entries = c.args.entries.items in
-    let new : AreNew c.self.inside.known.sources (sources_in entries) =
-    subst (λ (d : Holdings). AreNew d.known.sources (sources_in entries)) (sym c.self.view_is) (sources_new entries c.args.self.now c.requires.absent) in
-    record { absent = subst (AreNew c.self.inside.known.sources) (sym c.in_ok-paths.ensures.0) new }
+    let entries : List (Entry × ℕ) = c.args.entries.items in
+    let new : AreNew c.self.inside.known.sources (sources_in (bare entries)) =
+    subst (λ (d : Holdings). AreNew d.known.sources (sources_in (bare entries))) (sym c.self.view_is) (sources_new (bare entries) c.args.self.now c.requires.absent) in
+    record { absent = subst (AreNew c.self.inside.known.sources) (sym c.in_ok-parts.ensures.paths_are) new }
 
 pub invariant_of-self-2 : goal.invariant_of-self-2
 invariant_of-self-2 c =
-    let entries = c.args.entries.items in
-    let before = holdings_of c.self.inside in
-    let closed : IsClosed (holds_all entries c.args.more before) =
-    subst (λ (d : Holdings). IsClosed (holds_all entries c.args.more d)) (sym c.self.view_is) c.requires.closed in
-    subst IsClosed
-    (sym (made entries c.args.more before c.add_sources.new.self c.in_ok-paths.paths.items c.in_ok-paths.added.items c.in_ok-records.records
-    c.in_ok-paths.ensures.0 c.in_ok-paths.ensures.1 c.in_ok-add_sources.ensures
-    (c.in_ok-records.ensures ∙ ap (λ rs. before.records ++ rs) c.deref.ensures.value)))
-    closed
+    let entries : List (Entry × ℕ) = c.args.entries.items in
+    let d : Holdings = holdings_of c.self.inside in
+    let parts = c.in_ok-parts.parts in
+    let are = c.in_ok-parts.ensures in
+    let held : List (List ℕ × ℕ) = c.in_ok-holding.holding.archives in
+    let bytes : bytes_held held ≡ d.charge + charged_all entries d =
+    ap bytes_held c.in_ok-holding.ensures ∙ entries_bytes c.self.inside c.self.invariant entries parts.archives.items are.archives_are in
+    let view : record d { known = c.add_sources.new.self; records = c.in_ok-records.records; charge = bytes_held held } ≡ holds_each entries d =
+    made entries d c.add_sources.new.self parts.sources.items parts.records.items c.in_ok-records.records (bytes_held held) are.paths_are are.records_are
+    c.in_ok-add_sources.ensures (c.in_ok-records.ensures ∙ ap (λ (rs : List Recorded). d.records ++ rs) c.deref.ensures.value) bytes in
+    record {
+      closed = subst IsClosed (sym view) (subst (λ (h : Holdings). IsClosed (holds_each entries h)) (sym c.self.view_is) c.requires.closed);
+      held = subst (λ (h : Holdings). IsSetOf (paths_held held) (paths_of h)) (sym view)
+          (subst (λ found. IsSetOf (paths_held found) (paths_of (holds_each entries d))) (sym c.in_ok-holding.ensures)
+          (entries_held c.self.inside c.self.invariant entries parts.archives.items are.archives_are));
+    }
 
 pub returns : goal.returns
 returns c =
-    let entries = c.args.entries.items in
-    let before = holdings_of c.self.inside in
-    made entries c.args.more before c.add_sources.new.self c.in_ok-paths.paths.items c.in_ok-paths.added.items c.in_ok-records.records
-    c.in_ok-paths.ensures.0 c.in_ok-paths.ensures.1 c.in_ok-add_sources.ensures
-    (c.in_ok-records.ensures ∙ ap (λ rs. before.records ++ rs) c.deref.ensures.value)
-    ∙ ap (holds_all entries c.args.more) c.self.view_is
+    let entries : List (Entry × ℕ) = c.args.entries.items in
+    let d : Holdings = holdings_of c.self.inside in
+    let parts = c.in_ok-parts.parts in
+    let are = c.in_ok-parts.ensures in
+    let held : List (List ℕ × ℕ) = c.in_ok-holding.holding.archives in
+    let bytes : bytes_held held ≡ d.charge + charged_all entries d =
+    ap bytes_held c.in_ok-holding.ensures ∙ entries_bytes c.self.inside c.self.invariant entries parts.archives.items are.archives_are in
+    let view : record d { known = c.add_sources.new.self; records = c.in_ok-records.records; charge = bytes_held held } ≡ holds_each entries d =
+    made entries d c.add_sources.new.self parts.sources.items parts.records.items c.in_ok-records.records (bytes_held held) are.paths_are are.records_are
+    c.in_ok-add_sources.ensures (c.in_ok-records.ensures ∙ ap (λ (rs : List Recorded). d.records ++ rs) c.deref.ensures.value) bytes in
+    view ∙ ap (holds_each entries) c.self.view_is

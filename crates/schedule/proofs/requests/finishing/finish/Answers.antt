@@ -1,4 +1,5 @@
-use Rattle.std.proofs.Common.{◌≡◌, ℕ, ◌<◌, ◌≤◌, ◌++◌, List, length, sym, ◌∙◌, ap, subst, rules}
+use Rattle.std.proofs.Common.{◌≡◌, None, ℕ, ◌<◌, ◌≤◌, ◌++◌, List, length, sym, ◌∙◌, ap, subst, rules}
+use Rattle.std.specs.Prelude.{get_or}
 use Rattle.std.proofs.lemmas.Result.{err_from_is_err_and}
 use Rattle.model.specs.Worlds.{Source, Job}
 use Rattle.trust.specs.Trusting.{trusts}
@@ -7,9 +8,10 @@ use Rattle.trust.proofs.PlaceLemmas.{place_found}
 use Rattle.store.specs.Stored.{sources_of}
 use Rattle.schedule.specs.Viewing.{desk_at}
 use Rattle.schedule.specs.Gaining.{with_gains}
-use Rattle.schedule.specs.Committing.{Heard, gains_at, MayGain}
+use Rattle.schedule.specs.Committing.{Heard, gains_at}
 use Rattle.schedule.proofs.TrustLemmas.{few_users, distinct_users}
 use Rattle.schedule.proofs.ViewLemmas.{any_default}
+use Rattle.schedule.proofs.CommitLemmas.{may_replace, grown_has}
 use Rattle.schedule.proofs.AllBuiltLemmas.{all_built_on}
 use Rattle.schedule.proofs.FinishLemmas.{finish_refused, finish_fault, finish_not_made, may_gain, may_be_set, finish_handled}
 use Rattle.schedule.proofs.requests.finishing.finish.Goals as goal
@@ -66,7 +68,8 @@ replace_all-requires-clause-may c p below =
     c.in_ok-clone.ensures.cases ∙ c.index-users-place.is ∙ any_default users c.args.place c.index-users-place.result _ c.requires.of_run in
     let J : List ℕ → Job = λ u. record { leader = u; number = c.args.number } in
     let found = place_found users c.args.place (distinct_users users c.requires.listed) c.requires.of_run in
-    subst (λ (heard : List Heard). MayGain (desk_at c.args.desks.now p) (gains_at heard p)) (sym c.deref.ensures.value)
+    let heard : List Heard = c.in_ok-ending.ending.heard.items in
+    may_replace (desk_at c.args.desks.now p) (gains_at heard p) (get_or c.in_ok-ending.ending.grown.items p None) (c.in_ok-ending.ensures.prepared.grown p below)
     (may_gain users c.args.limits.charge (trusts c.args.trust.now) c.args.jobs.now.goals c.args.table.now.sources c.args.desks.now (name_at users c.args.place)
     c.args.place c.args.number c.args.output.now c.requires.listed found c.requires.paired c.requires.with_goals c.requires.sound c.requires.goals_sound
     c.requires.within _ c.new-job.result c.in_ok-ending.ending (search rules) (sym c.leads.ensures ∙ c.in_ok-leads.was) (c.new-job.ensures ∙ ap J leader)
@@ -93,8 +96,16 @@ returns-clause-handled c actor found =
     let ending = c.in_ok-ending.ending in
     let put : c.put_all_reserved.new.self.sources ≡ c.args.table.now.sources ++ sources_of ending.trees.items =
     c.put_all_reserved.ensures ∙ ap (λ (ss : List Source). ss ++ sources_of ending.trees.items) c.in_ok-reserve.ensures.kept in
-    let gains = subst (λ (heard : List Heard). (p : ℕ) → p < length c.args.desks.now
-    → desk_at c.replace_all.new.desks p ≡ with_gains (gains_at heard p) (desk_at c.args.desks.now p)) c.deref.ensures.value c.replace_all.ensures.gains in
+    let heard : List Heard = ending.heard.items in
+    let own = place_found users c.args.place (distinct_users users c.requires.listed) c.requires.of_run in
+    let gains : (p : ℕ) → p < length c.args.desks.now → desk_at c.replace_all.new.desks p ≡ with_gains (gains_at heard p) (desk_at c.args.desks.now p) =
+    λ p below.
+    c.replace_all.ensures.grown p below
+    ∙ grown_has (desk_at c.args.desks.now p) (gains_at heard p) (get_or ending.grown.items p None) (c.in_ok-ending.ensures.prepared.grown p below)
+    (may_gain users c.args.limits.charge (trusts c.args.trust.now) c.args.jobs.now.goals c.args.table.now.sources c.args.desks.now (name_at users c.args.place)
+    c.args.place c.args.number c.args.output.now c.requires.listed own c.requires.paired c.requires.with_goals c.requires.sound c.requires.goals_sound
+    c.requires.within _ c.new-job.result ending (search rules) (sym c.leads.ensures ∙ c.in_ok-leads.was) (c.new-job.ensures ∙ ap J leader)
+    c.in_ok-ending.ensures.prepared (search rules) p below) in
     finish_handled users c.args.limits.charge (trusts c.args.trust.now) c.args.jobs.now.goals c.args.table.now.sources c.args.desks.now actor c.args.place
     c.args.number c.args.output.now c.requires.listed found c.requires.paired c.requires.with_goals c.requires.sound c.requires.goals_sound
     c.requires.within _ c.new-job.result ending (search rules) (sym c.leads.ensures ∙ c.in_ok-leads.was) (c.new-job.ensures ∙ ap J leader)

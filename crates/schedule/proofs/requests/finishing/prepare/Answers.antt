@@ -7,8 +7,10 @@ use Rattle.jobs.specs.States.{state_of}
 use Rattle.trust.specs.Trusting.{trusts}
 use Rattle.store.specs.Stored.{put_all, sources_of, AreThere}
 use Rattle.schedule.specs.Gaining.{last_state, state_at}
-use Rattle.schedule.specs.Committing.{Heard, trees_gained, states_for, states_heard, AreGrown}
+use Rattle.schedule.specs.Committing.{Heard, trees_gained, states_for, states_heard, gains_at, MayCharge, AreGrown}
+use Rattle.schedule.specs.Supported.{desk_at}
 use Rattle.schedule.proofs.CommitLemmas.{states_there}
+use Rattle.schedule.proofs.InPlaceLemmas.{may_charge}
 use Rattle.schedule.proofs.AllBuiltLemmas.{only_memory}
 use Rattle.schedule.proofs.requests.finishing.prepare.Goals as goal
 
@@ -20,6 +22,13 @@ returns-in_err-trees-clause-refused c =
     rw (p.1, p.2) (inl (only_memory (trusts c.args.trust.now) c.args.place c.args.limits.charge c.args.job.now c.args.desks.now c.args.jobs.now.goals
     c.args.table.now.sources (option_copied c.args.archive) c.in_ok-heard.heard.items c.in_ok-heard.ensures.heard c.in_err-trees.field-0.0
     c.in_ok-gained_by_all.field-0.items are c.in_err-trees.ensures.refused))
+
+pub grown-requires-clause-may : goal.grown-requires-clause-may
+grown-requires-clause-may c p below =
+    subst (λ (heard : List Heard). MayCharge (desk_at c.args.desks.now p) (gains_at heard p)) (sym c.deref-2.ensures.value)
+    (may_charge c.args.table.now.sources (option_copied c.args.archive) (trusts c.args.trust.now) c.args.place c.args.limits.charge c.args.job.now
+    c.args.desks.now c.args.jobs.now.goals c.in_ok-heard.heard.items c.in_ok-heard.ensures.heard (search rules) p
+    (let count = c.in_ok-heard.ensures.count in omega (arith, count, below)))
 
 pub returns-clause-prepared : goal.returns-clause-prepared
 returns-clause-prepared c =

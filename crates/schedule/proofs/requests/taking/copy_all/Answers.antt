@@ -1,9 +1,10 @@
-use Rattle.std.proofs.Common.{◌≡◌, true, false, ◌++◌, rules, sym, ◌∙◌, ap, subst, List}
+use Rattle.std.proofs.Common.{◌≡◌, true, false, ◌++◌, rules, sym, ◌∙◌, ap, subst, List, ℕ}
 use Rattle.std.proofs.lemmas.Result.{err_from_is_err_and}
 use Rattle.model.specs.Worlds.{Source}
 use Rattle.store.specs.Stored.{put_all, sources_of}
-use Rattle.realise.specs.Holdings.{AreAbsent, AreCountable, charged_all, holds_all}
-use Rattle.schedule.specs.Taking.{bare, are_roomy}
+use Rattle.realise.specs.declared.entry.Entry.{Entry}
+use Rattle.realise.specs.Holdings.{bare, AreAbsent, AreCountable, charged_all, holds_each}
+use Rattle.schedule.specs.Taking.{are_roomy}
 use Rattle.schedule.proofs.MissingLemmas.{are_countable, are_absent}
 use Rattle.schedule.proofs.CopyLemmas.{uncopied, over_copied, entries_closed, done_copied}
 use Rattle.schedule.proofs.requests.taking.copy_all.Goals as goal
@@ -28,25 +29,23 @@ returns-then-not-has_room c =
 
 pub add_all-requires-clause-absent : goal.add_all-requires-clause-absent
 add_all-requires-clause-absent c =
-    let added : c.in_ok-added.added.items ≡ bare c.in_ok-found.found.items = search rules in
-    subst (λ es. AreAbsent es c.args.desk.now) (sym (added ∙ ap bare c.in_ok-found.ensures.found)) (are_absent c.args.desk.now c.args.entries.now c.requires.closure)
+    subst (λ (es : List (Entry × ℕ)). AreAbsent (bare es) c.args.desk.now) (sym c.in_ok-found.ensures.found)
+    (are_absent c.args.desk.now c.args.entries.now c.requires.closure)
 
 pub add_all-requires-clause-closed : goal.add_all-requires-clause-closed
 add_all-requires-clause-closed c =
-    let more : c.in_ok-more.more ≡ charged_all c.in_ok-found.found.items c.args.desk.now = search rules in
-    let added : c.in_ok-added.added.items ≡ bare c.in_ok-found.found.items = search rules in
     entries_closed c.args.limits.charge c.args.table.now.sources c.args.desk.now c.args.entries.now c.in_ok-trees.trees.items c.requires.sound c.requires.closure
-    c.in_ok-trees.ensures c.in_ok-trees-2.ensures.there c.in_ok-added.added.items c.in_ok-found.found.items c.in_ok-more.more added c.in_ok-found.ensures.found more
+    c.in_ok-trees.ensures c.in_ok-trees-2.ensures.there c.in_ok-found.found.items c.in_ok-found.ensures.found
 
 pub returns : goal.returns
 returns c =
     let old : List Source = c.args.table.now.sources in
-    let more : c.in_ok-more.more ≡ charged_all c.in_ok-found.found.items c.args.desk.now = search rules in
-    let added : c.in_ok-added.added.items ≡ bare c.in_ok-found.found.items = search rules in
-    let roomy : are_roomy (bare c.in_ok-found.found.items) c.in_ok-more.more c.args.limits.charge c.args.desk.now ≡ true = search rules in
+    let found : List (Entry × ℕ) = c.in_ok-found.found.items in
+    let more : c.in_ok-more.more ≡ charged_all found c.args.desk.now = search rules in
+    let roomy : are_roomy (bare found) c.in_ok-more.more c.args.limits.charge c.args.desk.now ≡ true = search rules in
     let stored : c.put_all_reserved.new.self.sources ≡ put_all (sources_of c.in_ok-trees.trees.items) old =
     c.put_all_reserved.ensures ∙ ap (λ ss. ss ++ sources_of c.in_ok-trees-2.trees.items) c.in_ok-reserve.ensures.kept ∙ sym c.in_ok-trees-2.ensures.all in
-    let after : c.add_all.new.self ≡ holds_all c.in_ok-added.added.items c.in_ok-more.more c.args.desk.now = search rules in
+    let after : c.add_all.new.self ≡ holds_each found c.args.desk.now = search rules in
     done_copied c.args.limits.charge old c.args.desk.now c.args.entries.now c.in_ok-trees.trees.items c.requires.sound c.requires.closure
-    c.in_ok-trees.ensures c.in_ok-trees-2.ensures.there c.in_ok-added.added.items c.in_ok-found.found.items c.in_ok-more.more
-    c.put_all_reserved.new.self.sources c.add_all.new.self added c.in_ok-found.ensures.found more roomy stored after
+    c.in_ok-trees.ensures c.in_ok-trees-2.ensures.there found c.in_ok-more.more c.put_all_reserved.new.self.sources c.add_all.new.self
+    c.in_ok-found.ensures.found more roomy stored after

@@ -1,6 +1,5 @@
 use Rattle.std.proofs.Common.{◌≡◌, ◌+◌, ◌≤◌, length, drop}
-use Rattle.realise.specs.Holdings.{sources_in, records_in}
-use Rattle.schedule.specs.Taking.{bare}
+use Rattle.realise.specs.Holdings.{bare, sources_in, records_in}
 use Rattle.schedule.proofs.requests.taking.counts.Given as goal
 
 abbrev pub invariant-loop-entry : goal.invariant-loop-entry

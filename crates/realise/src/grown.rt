@@ -1,0 +1,28 @@
+//! What a desk has once it got more records, made beside it.
+
+use crate::holding::Holding;
+use crate::records::Records;
+use std::marker::Model;
+
+/// The records of a desk and what it holds, with some more. [`crate::Desk::replace`] puts them in the
+/// place of the desk's own, when nothing can fail any more.
+///
+/// Contracts see the records, the paths that are held, and the charge in bytes.
+#[derive(Drop)]
+pub struct Grown {
+    pub(crate) records: Records,
+    pub(crate) holding: Holding,
+}
+
+impl Model for Grown {
+    ghost use Rattle.realise.specs.Holdings.{Growth};
+    ghost use Rattle.realise.specs.Held.{paths_held, bytes_held};
+
+    ghost Value = { Growth };
+
+    ghost view = { λ g. record {
+      records = g.records;
+      paths = paths_held g.holding.archives;
+      charge = bytes_held g.holding.archives;
+    } };
+}

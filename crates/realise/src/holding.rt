@@ -1,0 +1,123 @@
+//! The paths that a desk holds.
+
+ghost use Rattle.std.specs.Prelude.{◌≡◌, ◌<◌, ◌≤◌, ◌+◌, ◌^◌, [], length, MatchResult, OnOk, IfOk, IfErr};
+ghost use Rattle.std.specs.List.{list_any};
+ghost use Rattle.std.specs.Prelude.{bytes_eq};
+ghost use Rattle.realise.specs.Held.{paths_held, bytes_held, with_archive, with_archives};
+ghost use Rattle.model.specs.declared.refusal.Refusal.TheVariants.{Memory};
+
+use indexmap::IndexMap;
+use model::Refusal;
+use std::alloc::{AllocError, Global};
+use std::hash::RandomState;
+use std::marker::Model;
+use storepath::StorePath;
+
+/// Each path that a desk holds, once, with the length of its archive in bytes, and the sum of these
+/// lengths, which is what the desk is charged.
+///
+/// Its hasher has keys that nobody outside knows, since whoever adds a source has a say in its path.
+/// Contracts see the paths with the lengths (`archives`), and for how many more there is room.
+#[derive(Drop)]
+pub struct Holding {
+    archives: IndexMap<StorePath, u64, RandomState>,
+    charge: u64,
+}
+
+impl Model for Holding {
+    ghost use Rattle.std.specs.Prelude.{◌≡◌};
+    ghost use Rattle.realise.specs.Held.{Held, bytes_held};
+    ghost use Rattle.indexmap.specs.IndexMap.{spare};
+
+    ghost Value = { Held };
+
+    ghost view = { λ h. record { archives = h.archives.entries; room = spare h.archives } };
+
+    ghost invariant = { λ h. h.charge ≡ bytes_held h.archives.entries };
+}
+
+impl Holding {
+    /// Nothing is held. `hashing` has the keys of the hasher. It takes no memory.
+    pub(crate) fn new(alloc: Global, hashing: RandomState) -> Holding
+        ensures { result.archives ≡ [] }
+    {
+        Holding {
+            archives: IndexMap::with_hasher(alloc, hashing),
+            charge: 0,
+        }
+    }
+
+    /// The archives together, in bytes.
+    pub(crate) fn charge(&self) -> u64
+        ensures { result ≡ bytes_held self.now.archives }
+    {
+        self.charge
+    }
+
+    /// Whether a path is held.
+    pub(crate) fn has(&self, path: &StorePath) -> bool
+        ensures { result ≡ list_any (bytes_eq path.now) (paths_held self.now.archives) }
+    {
+        self.archives.contains_key(path)
+    }
+
+    /// Makes room for so many paths more. What is held stays.
+    pub(crate) fn reserve(&mut self, additional: usize) -> Result<(), AllocError>
+        ensures kept { self.new.archives ≡ self.old.archives }
+        ensures room { OnOk result (additional ≤ self.new.room) }
+    {
+        self.archives.reserve(additional)
+    }
+
+    /// Puts a path with the length of its archive into room that was made by [`Holding::reserve`],
+    /// unless the path is held.
+    pub(crate) fn put_reserved(&mut self, path: StorePath, archive: u64)
+        requires room { 0 < self.old.room }
+        requires fits { bytes_held (with_archive (path, archive) self.old.archives) < 2 ^ 64 }
+        ensures put { self.new.archives ≡ with_archive (path, archive) self.old.archives }
+        ensures room { self.old.room ≤ self.new.room + 1 }
+    {
+        if self.has(&path) {
+            return;
+        }
+        self.charge += archive;
+        let _absent = self.archives.insert(path, archive).unwrap();
+    }
+
+    /// A copy, with room for so many paths more. The one error is memory.
+    fn copy(&self, alloc: Global, additional: usize) -> Result<Holding, Refusal>
+        ensures copied { IfOk result (λ copy. copy.archives ≡ self.now.archives) }
+        ensures room { IfOk result (λ copy. additional ≤ copy.room) }
+        ensures memory { IfErr result (λ why. why ≡ Memory) }
+    {
+        let mut archives = IndexMap::with_hasher(alloc, *self.archives.hasher());
+        for (path, archive) in self.archives.iter() {
+            let _absent = archives.insert(path.clone()?, *archive)?;
+        }
+        archives.reserve(additional)?;
+        Ok(Holding {
+            archives,
+            charge: self.charge,
+        })
+    }
+
+    /// What is held, and each of these paths with the length of its archive, beside it. The one error
+    /// is memory.
+    #[tactic(auto, unfolding(crate::specs::Held::with_archives))]
+    pub(crate) fn with(
+        &self,
+        alloc: Global,
+        added: Vec<(StorePath, u64)>,
+    ) -> Result<Holding, Refusal>
+        requires fits { bytes_held (with_archives added.items self.now.archives) < 2 ^ 64 }
+        ensures { MatchResult result
+            (λ more. more.archives ≡ with_archives added.items self.now.archives)
+            (λ e. e ≡ Memory) }
+    {
+        let mut more = self.copy(alloc, added.len())?;
+        for (path, archive) in added {
+            more.put_reserved(path, archive);
+        }
+        Ok(more)
+    }
+}
