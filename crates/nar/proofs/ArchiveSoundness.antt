@@ -1,5 +1,5 @@
 -- What is read is what is written: the bytes that a part was read from begin with that part's text.
-use Rattle.std.proofs.Common.{◌≡◌, ℕ, zero, suc, ◌-◌, ◌%◌, ◌<◌, ◌≤◌, Bool, true, false, cond, ◌⊎◌, inl, inr, List, [], ◌∷◌, ◌++◌, length, take, drop, replicate, codes, refl, ap, sym, subst, ◌∙◌, append_assoc, append-nil, arith, eqb-true, take-append-drop}
+use Rattle.std.proofs.Common.{◌≡◌, ℕ, zero, suc, ◌-◌, ◌%◌, ◌<◌, ◌≤◌, Bool, true, false, cond, inl, inr, List, [], ◌∷◌, ◌++◌, length, take, drop, replicate, codes, refl, ap, sym, subst, ◌∙◌, append_assoc, append-nil, arith, take-append-drop}
 use Rattle.std.proofs.lemmas.List.{length-take}
 use Rattle.std.proofs.lemmas.Nat.{le_bytes_8}
 use Rattle.std.specs.Prelude.{Option, Some, None, nat_lt, nat_le, nat_eq, ◌&&◌}
@@ -9,34 +9,9 @@ use Rattle.model.specs.Archives.{Tree, File, Link, Directory, Entries, NoEntries
 use Rattle.model.specs.ArchiveReading.{Reader, ◌>>=◌, split_at, length_at, prefix_at, string_at, tag_at, executable_at, head_at, closed_at, file_at, link_at, name_at, entry_at, entries_at, in_front, directory_at, body_at, node_at, tree_at, tree_of_archive}
 use Rattle.model.proofs.BoolLemmas.{same_bytes, both_parts}
 use Rattle.nar.proofs.ArchiveBytes.{front, back, is_tree_of_archive}
+use Rattle.nar.proofs.ReadingSteps.{bind_some, if_true, if_false, if_either, some_same, split_sound, prefix_sound, empty}
 use Rattle.nar.proofs.ArchiveCompleteness.{file_grouped, link_grouped, directory_grouped, entry_grouped, tree_at-nar}
 use Rattle.nar.proofs.ReadEntries.{set_executable}
-
--- ---- steps
-
--- a step that gave something had something from the step before
-bind_some : {A B : Type 0} {P : Type 0} (read : Option A) (more : A → Option B) (y : B) → (read >>= more) ≡ Some y
-    → ((x : A) → read ≡ Some x → more x ≡ Some y → P) → P
-bind_some None more y h then = cc
-bind_some (Some x) more y h then = then x refl h
-
--- a test that had to pass, and one that had to fail
-if_true : {A : Type 0} (test : Bool) (read : Option A) (y : A) → cond test read None ≡ Some y → (test ≡ true) × (read ≡ Some y)
-if_true true read y h = (refl, h)
-if_true false read y h = cc
-
-if_false : {A : Type 0} (test : Bool) (read : Option A) (y : A) → cond test None read ≡ Some y → (test ≡ false) × (read ≡ Some y)
-if_false true read y h = cc
-if_false false read y h = (refl, h)
-
--- a test between two readings
-if_either : {A : Type 0} (test : Bool) (read other : Option A) (y : A) → cond test read other ≡ Some y
-    → ((test ≡ true) × (read ≡ Some y)) ⊎ ((test ≡ false) × (other ≡ Some y))
-if_either true read other y h = inl (refl, h)
-if_either false read other y h = inr (refl, h)
-
-some_same : {A : Type 0} (x y : A) → Some x ≡ Some y → x ≡ y
-some_same x y h = cc
 
 -- ---- strings
 
@@ -47,15 +22,6 @@ record Begins (whole text rest : List ℕ) : Type 0 where
 
 begins : (bytes text rest : List ℕ) → AreBytes bytes → bytes ≡ text ++ rest → Begins bytes text rest
 begins bytes text rest b e = record { same = e; bytes = back text rest (subst AreBytes e b) }
-
-split_sound : (n : ℕ) (bytes : List ℕ) (r : List ℕ × List ℕ) → split_at n bytes ≡ Some r → (bytes ≡ r.0 ++ r.1) × (length r.0 ≡ n)
-unfolding split_at
-split_sound n bytes r h =
-    let long = if_false (nat_lt (length bytes) n) (Some (take n bytes, drop n bytes)) r h in
-    let Split : List ℕ × List ℕ → Type 0 = λ p. (bytes ≡ p.0 ++ p.1) × (length p.0 ≡ n) in
-    let enough : n ≤ length bytes = search (arith, long.0) in
-    let count : length (take n bytes) ≡ n = omega (arith, length-take n bytes, enough) in
-    subst Split (some_same _ _ long.1) (sym (take-append-drop n bytes), count)
 
 length_sound : (bytes : List ℕ) (r : ℕ × List ℕ) → AreBytes bytes → length_at bytes ≡ Some r → Begins bytes (to_le_bytes w64 r.0) r.1
 unfolding length_at
@@ -68,14 +34,6 @@ length_sound bytes r b h =
     let value : to_le_bytes w64 (from_le_bytes w64 (take 8 bytes)) ≡ take 8 bytes = le_bytes_8 (take 8 bytes) _ count digits refl in
     let Read : ℕ × List ℕ → Type 0 = λ p. Begins bytes (to_le_bytes w64 p.0) p.1 in
     subst Read (some_same _ _ long.1) (begins bytes _ _ b (whole ∙ ap (λ s. s ++ drop 8 bytes) (sym value)))
-
-prefix_sound : (prefix bytes rest : List ℕ) → prefix_at prefix bytes ≡ Some rest → bytes ≡ prefix ++ rest
-unfolding prefix_at
-prefix_sound prefix bytes rest h =
-    bind_some (split_at (length prefix) bytes) (λ p. cond (bytes_eq p.0 prefix) (Some p.1) None) rest h
-    (λ p e k.
-    let test = if_true (bytes_eq p.0 prefix) (Some p.1) rest k in
-    (split_sound (length prefix) bytes p e).0 ∙ ap (λ s. s ++ p.1) (same_bytes p.0 prefix test.0) ∙ ap (λ s. prefix ++ s) (some_same _ _ test.1))
 
 -- the zeros behind a string of so many bytes
 abbrev padding : ℕ → List ℕ
@@ -338,10 +296,6 @@ node_sound (suc depth) bytes r b h =
     subst Read (sym strings.same) (body_sound depth (node_at depth) (node_sound depth) k.0 k.1 r strings.bytes h))
 
 -- ---- whole texts
-
-empty : (s : List ℕ) → nat_eq (length s) 0 ≡ true → s ≡ []
-empty [] h = refl
-empty (x ∷ s) h = let none : length (x ∷ s) ≡ 0 = eqb-true (length (x ∷ s)) 0 h in absurd (omega (arith, none))
 
 -- a tree that is read from a text has that text as its archive
 pub tree_at-sound : (bytes : List ℕ) (tree : Tree) → AreBytes bytes → length bytes ≤ 67108864 → tree_at bytes ≡ Some tree

@@ -10,4 +10,6 @@ pub mod LowerDigits
 pub mod ArchiveBytes
 pub mod EntrySteps
 pub mod TextLengths
+pub mod ReadingSteps
 pub mod ArchiveSoundness
+pub mod TextSoundness

@@ -1,8 +1,8 @@
 -- Reading entries, one after another.
-use Rattle.std.proofs.Common.{◌≡◌, ℕ, zero, suc, ◌-◌, ◌<◌, max, true, false, List, [], ◌∷◌, ◌++◌, refl, ap, sym, ◌+◌, ◌∙◌, append_assoc, append-nil, arith, codes}
+use Rattle.std.proofs.Common.{◌≡◌, ℕ, zero, suc, ◌-◌, ◌<◌, true, false, List, [], ◌∷◌, ◌++◌, refl, ap, sym, ◌+◌, ◌∙◌, append_assoc, append-nil, arith, codes}
 use Rattle.std.specs.Prelude.{Option, Some, None}
-use Rattle.model.specs.Archives.{archive_string, executable_mark, Tree, Entries, NoEntries, Entry, HasBytes, HaveBytes, AreBytes, deepest, depth_of}
-use Rattle.nar.specs.NodeTrees.{tree_of, entries_of, named_trees, chained, NamedNode}
+use Rattle.model.specs.Archives.{archive_string, executable_mark, Tree, Entries, NoEntries, Entry}
+use Rattle.nar.specs.NodeTrees.{tree_of, named_trees, chained, NamedNode}
 use Rattle.model.specs.ArchiveReading.{Reader, ◌>>=◌, string_at, entry_at, entries_at, in_front}
 use Rattle.std.specs.Str.{bytes_eq}
 use Rattle.nar.specs.Outcomes.{Fails}
@@ -70,13 +70,3 @@ entries_at-push f n i bytes last rest s es e after lt g k h so_far =
     let less : n - i ≡ suc (n - (i + 1)) = omega arith in
     so_far ∙ ap (λ m. behind es (entries_at f m last rest)) less ∙ ap (behind es) (entries_at-next f (n - (i + 1)) last rest s e.0.items (tree_of e.1.value) after g k h)
     ∙ sym (behind-push es e (entries_at f (n - (i + 1)) e.0.items after))
-
-pub HaveBytes-push : (es : List NamedNode) (e : NamedNode) → HaveBytes (entries_of es) → AreBytes e.0.items
-    → HasBytes (tree_of e.1.value) → HaveBytes (entries_of (es ++ e ∷ []))
-HaveBytes-push [] e h name tree = (name, tree, tt)
-HaveBytes-push (d ∷ es) e h name tree = (h.0, h.1, HaveBytes-push es e h.2 name tree)
-
-pub deepest-push : (es : List NamedNode) (e : NamedNode)
-    → deepest (entries_of (es ++ e ∷ [])) ≡ max (deepest (entries_of es)) (depth_of (tree_of e.1.value))
-deepest-push [] e = omega arith
-deepest-push (d ∷ es) e = omega (arith, deepest-push es e)

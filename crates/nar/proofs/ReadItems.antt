@@ -1,13 +1,12 @@
 -- Reading the entries of a tree text, one after another.
-use Rattle.std.proofs.Common.{◌≡◌, ℕ, zero, suc, ◌+◌, ◌-◌, ◌<◌, Bool, true, false, List, [], ◌∷◌, ◌++◌, length, get_or, refl, ap, sym, subst, ◌∙◌, append_assoc, arith, codes}
+use Rattle.std.proofs.Common.{◌≡◌, ℕ, zero, suc, ◌+◌, ◌-◌, ◌<◌, Bool, true, false, List, [], ◌∷◌, ◌++◌, length, get_or, refl, ap, sym, ◌∙◌, arith}
 use Rattle.std.specs.Prelude.{Some, None}
-use Rattle.hex.specs.Hex.{encode_lower}
-use Rattle.model.specs.Archives.{Tree, Entries, NoEntries, Entry, AreSound, IsSound, is_entry_name, bytes_before}
-use Rattle.nar.specs.NodeTrees.{tree_of, named_trees, chained, last_name_of, NamedNode}
+use Rattle.model.specs.Archives.{Tree, NoEntries}
+use Rattle.nar.specs.NodeTrees.{tree_of, last_name_of, NamedNode}
 use Rattle.model.specs.ArchiveReading.{prefix_at, Reader, in_front}
 use Rattle.nar.specs.TextReading.{closes, item_at, items_at}
-use Rattle.model.specs.TreeTexts.{separator, entries_text_of, tree_text_of}
-use Rattle.nar.proofs.ReadEntries.{behind, behind-push, chained-push}
+use Rattle.model.specs.TreeTexts.{separator}
+use Rattle.nar.proofs.ReadEntries.{behind, behind-push}
 
 pub last_name_of-push : (es : List NamedNode) (e : NamedNode) → last_name_of (es ++ e ∷ []) ≡ e.0.items
 last_name_of-push [] e = refl
@@ -55,24 +54,3 @@ items_at-push f n i bytes rest start after first es e lt k g h so_far =
     let less : n - i ≡ suc (n - (i + 1)) = omega arith in
     so_far ∙ ap (λ m. behind es (items_at f m first (last_name_of es) rest)) less ∙ ap (behind es) (items_at-next f (n - (i + 1)) first (last_name_of es) rest start e.0.items (tree_of e.1.value) after k g h)
     ∙ sym (behind-push es e (items_at f (n - (i + 1)) false e.0.items after)) ∙ ap (λ l. behind (es ++ e ∷ []) (items_at f (n - (i + 1)) false l after)) (sym (last_name_of-push es e))
-
-pub entries_text_of-push : (bytes rest start after : List ℕ) (first : Bool) (es : List NamedNode) (e : NamedNode)
-    → rest ≡ separator first ++ start → start ≡ encode_lower e.0.items ++ codes "=" ++ tree_text_of (tree_of e.1.value) ++ after
-    → ((fs : Entries) (k : List ℕ) → rest ≡ entries_text_of first fs ++ k → bytes ≡ entries_text_of true (chained (named_trees es) fs) ++ k)
-    → (fs : Entries) (k : List ℕ) → after ≡ entries_text_of false fs ++ k
-    → bytes ≡ entries_text_of true (chained (named_trees (es ++ e ∷ [])) fs) ++ k
-entries_text_of-push bytes rest start after first es e h g f fs k here =
-    let n = encode_lower e.0.items in
-    let t = tree_text_of (tree_of e.1.value) in
-    let regroup : separator first ++ (n ++ codes "=" ++ t ++ (entries_text_of false fs ++ k)) ≡ entries_text_of first (Entry e.0.items (tree_of e.1.value) fs) ++ k = grind (arith, append_assoc) in
-    f (Entry e.0.items (tree_of e.1.value) fs) k (h ∙ ap (λ s. separator first ++ s) g ∙ ap (λ a. separator first ++ (n ++ codes "=" ++ t ++ a)) here ∙ regroup)
-    ∙ ap (λ gs. entries_text_of true gs ++ k) (sym (chained-push es e fs))
-
-pub AreSound-push_item : (es : List NamedNode) (e : NamedNode)
-    → ((fs : Entries) → AreSound (last_name_of es) fs → AreSound [] (chained (named_trees es) fs))
-    → is_entry_name e.0.items ≡ true → bytes_before (last_name_of es) e.0.items ≡ true → IsSound (tree_of e.1.value) → (fs : Entries)
-    → AreSound (last_name_of (es ++ e ∷ [])) fs → AreSound [] (chained (named_trees (es ++ e ∷ [])) fs)
-AreSound-push_item es e so_far n b s fs h =
-    let P : Entries → Type 0 = λ gs. AreSound [] gs in
-    let Q : List ℕ → Type 0 = λ l. AreSound l fs in
-    subst P (sym (chained-push es e fs)) (so_far (Entry e.0.items (tree_of e.1.value) fs) (n, b, s, subst Q (last_name_of-push es e) h))

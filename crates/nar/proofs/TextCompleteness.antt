@@ -94,7 +94,8 @@ count_of-le-length first NoEntries = omega arith
 count_of-le-length first (Entry n t es) =
     omega (arith, count_of-le-length false es, length-append {A = ℕ})
 
-item_grouped : (first : Bool) (n : List ℕ) (t : Tree) (es : Entries) (k : List ℕ)
+-- the text of entries, part by part
+pub item_grouped : (first : Bool) (n : List ℕ) (t : Tree) (es : Entries) (k : List ℕ)
     → entries_text_of first (Entry n t es) ++ k ≡ separator first ++ (encode_lower n ++ (codes "=" ++ (tree_text_of t ++ (entries_text_of false es ++ k))))
 item_grouped first n t es k = grind (arith, append_assoc)
 

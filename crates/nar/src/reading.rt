@@ -1,6 +1,5 @@
 //! What the readers of archives and of tree texts share.
 
-ghost use Rattle.std.specs.Prelude.{◌≡◌, ◌++◌, IfOk, length};
 ghost use Rattle.model.specs.ArchiveReading.{split_at, prefix_at};
 ghost use Rattle.nar.specs.Outcomes.{Gives};
 
@@ -40,8 +39,7 @@ impl<T: Drop> From<AllocFailed<T>> for ReadError {
 // So many bytes, and the rest.
 #[tactic(auto, unfolding(model::specs::ArchiveReading::split_at))]
 pub(crate) fn split(bytes: &[u8], count: usize) -> Result<(&[u8], &[u8]), ReadError>
-    ensures found { IfOk result (λ r. (bytes.now ≡ r.0.now ++ r.1.now) × (length r.0.now ≡ count)) }
-    ensures exact { Gives (λ r. (r.0.now, r.1.now)) result (split_at count bytes.now) }
+    ensures { Gives (λ r. (r.0.now, r.1.now)) result (split_at count bytes.now) }
 {
     if bytes.len() < count {
         return Err(ReadError::Malformed);
@@ -52,8 +50,7 @@ pub(crate) fn split(bytes: &[u8], count: usize) -> Result<(&[u8], &[u8]), ReadEr
 // What follows just these bytes.
 #[tactic(auto, unfolding(model::specs::ArchiveReading::prefix_at))]
 pub(crate) fn skip_prefix<'a>(bytes: &'a [u8], prefix: &[u8]) -> Result<&'a [u8], ReadError>
-    ensures found { IfOk result (λ rest. bytes.now ≡ prefix.now ++ rest.now) }
-    ensures exact { Gives (λ rest. rest.now) result (prefix_at prefix.now bytes.now) }
+    ensures { Gives (λ rest. rest.now) result (prefix_at prefix.now bytes.now) }
 {
     let (front, rest) = split(bytes, prefix.len())?;
     if front != prefix {

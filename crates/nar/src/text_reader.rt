@@ -1,11 +1,11 @@
 //! Reading the text of a tree.
 
-ghost use Rattle.std.specs.Prelude.{◌≡◌, ◌++◌, ◌+◌, ◌≤◌, IfOk, IfErr, length, codes, true, []};
+ghost use Rattle.std.specs.Prelude.{◌≡◌, IfOk, IfErr, length, true, []};
 ghost use Rattle.std.specs.List.{list_all};
 ghost use Rattle.std.specs.Result.{result_ok};
-ghost use Rattle.hex.specs.Hex.{encode_lower, decode_of};
-ghost use Rattle.model.specs.Archives.{is_entry_name, bytes_before, IsSound, AreSound, HasBytes, HaveBytes, AreBytes, depth_of, deepest, IsTree};
-ghost use Rattle.model.specs.TreeTexts.{tree_text_of, entries_text_of, separator};
+ghost use Rattle.hex.specs.Hex.{decode_of};
+ghost use Rattle.model.specs.Archives.{IsTree};
+ghost use Rattle.model.specs.TreeTexts.{tree_text_of, separator};
 ghost use Rattle.nar.specs.NodeTrees.{tree_of, entries_of, last_name_of};
 ghost use Rattle.model.specs.ArchiveReading.{prefix_at};
 ghost use Rattle.nar.specs.TextReading.{is_lower_digit, digits_in_front, digits_at, closes, item_at, items_at, listed_at, kind_at, text_at, whole_at};
@@ -59,11 +59,7 @@ pub fn read_tree_text(alloc: Global, text: &[u8]) -> Result<Tree, Refusal>
 // The node of a whole text.
 #[tactic(auto, unfolding(crate::specs::TextReading::whole_at))]
 fn read_whole_text(alloc: Global, bytes: &[u8]) -> Result<Node, ReadError>
-    ensures found { IfOk result (λ node. bytes.now ≡ tree_text_of (tree_of node)) }
-    ensures sound { IfOk result (λ node. IsSound (tree_of node)) }
-    ensures bytes { IfOk result (λ node. HasBytes (tree_of node)) }
-    ensures depth { IfOk result (λ node. depth_of (tree_of node) ≤ 64) }
-    ensures exact { Gives tree_of result (whole_at bytes.now) }
+    ensures { Gives tree_of result (whole_at bytes.now) }
 {
     let (node, rest) = read_text(alloc, bytes, MAX_DEPTH)?;
     match rest {
@@ -76,11 +72,7 @@ fn read_whole_text(alloc: Global, bytes: &[u8]) -> Result<Node, ReadError>
 #[cycle(parse)]
 #[tactic(auto, unfolding(crate::specs::TextReading::text_at))]
 fn read_text(alloc: Global, bytes: &[u8], depth: usize) -> Result<(Node, &[u8]), ReadError>
-    ensures found { IfOk result (λ r. bytes.now ≡ tree_text_of (tree_of r.0) ++ r.1.now) }
-    ensures sound { IfOk result (λ r. IsSound (tree_of r.0)) }
-    ensures bytes { IfOk result (λ r. HasBytes (tree_of r.0)) }
-    ensures depth { IfOk result (λ r. depth_of (tree_of r.0) ≤ depth) }
-    ensures exact { Gives (λ r. (tree_of r.0, r.1.now)) result (text_at depth bytes.now) }
+    ensures { Gives (λ r. (tree_of r.0, r.1.now)) result (text_at depth bytes.now) }
 {
     if depth == 0 {
         return Err(ReadError::Malformed);
@@ -98,11 +90,8 @@ fn read_kind<'a>(
     bytes: &'a [u8],
     depth: usize,
 ) -> Result<(Node, &'a [u8]), ReadError>
-    ensures found { IfOk result (λ r. kind.now ++ bytes.now ≡ tree_text_of (tree_of r.0) ++ r.1.now) }
-    ensures sound { IfOk result (λ r. IsSound (tree_of r.0)) }
-    ensures bytes { IfOk result (λ r. HasBytes (tree_of r.0)) }
-    ensures depth { IfOk result (λ r. depth_of (tree_of r.0) ≤ depth + 1) }
-    ensures exact { Gives (λ r. (tree_of r.0, r.1.now)) result (kind_at (text_at depth) kind.now bytes.now) }
+    ensures { Gives (λ r. (tree_of r.0, r.1.now)) result
+        (kind_at (text_at depth) kind.now bytes.now) }
 {
     if kind == b"f:".as_slice() {
         let (decoded, rest) = read_digits(alloc, bytes)?;
@@ -138,11 +127,8 @@ fn read_kind<'a>(
 #[cycle(parse)]
 #[tactic(auto, using(crate::proofs::NodeViews::directory_tree), unfolding(crate::specs::TextReading::listed_at))]
 fn read_listed(alloc: Global, bytes: &[u8], depth: usize) -> Result<(Node, &[u8]), ReadError>
-    ensures found { IfOk result (λ r. codes "d(" ++ bytes.now ≡ tree_text_of (tree_of r.0) ++ r.1.now) }
-    ensures sound { IfOk result (λ r. IsSound (tree_of r.0)) }
-    ensures bytes { IfOk result (λ r. HasBytes (tree_of r.0)) }
-    ensures depth { IfOk result (λ r. depth_of (tree_of r.0) ≤ depth + 1) }
-    ensures exact { Gives (λ r. (tree_of r.0, r.1.now)) result (listed_at (text_at depth) bytes.now) }
+    ensures { Gives (λ r. (tree_of r.0, r.1.now)) result
+        (listed_at (text_at depth) bytes.now) }
 {
     let (entries, rest) = read_items(alloc, bytes, depth)?;
     let rest = skip_prefix(rest, b")")?;
@@ -156,11 +142,8 @@ fn read_items(
     bytes: &[u8],
     depth: usize,
 ) -> Result<(Vec<(Vec<u8>, Arc<Node>)>, &[u8]), ReadError>
-    ensures found { IfOk result (λ r. bytes.now ≡ entries_text_of true (entries_of r.0.items) ++ r.1.now) }
-    ensures sound { IfOk result (λ r. AreSound [] (entries_of r.0.items)) }
-    ensures bytes { IfOk result (λ r. HaveBytes (entries_of r.0.items)) }
-    ensures depth { IfOk result (λ r. deepest (entries_of r.0.items) ≤ depth) }
-    ensures exact { Gives (λ r. (entries_of r.0.items, r.1.now)) result (items_at (text_at depth) (length bytes.now) true [] bytes.now) }
+    ensures { Gives (λ r. (entries_of r.0.items, r.1.now)) result
+        (items_at (text_at depth) (length bytes.now) true [] bytes.now) }
 {
     let mut entries = Vec::new(alloc);
     let mut first = true;
@@ -201,8 +184,7 @@ fn is_closed(bytes: &[u8]) -> bool
 
 // What follows the separator before an entry.
 fn skip_separator(bytes: &[u8], first: bool) -> Result<&[u8], ReadError>
-    ensures found { IfOk result (λ rest. bytes.now ≡ separator first ++ rest.now) }
-    ensures exact { Gives (λ rest. rest.now) result (prefix_at (separator first) bytes.now) }
+    ensures { Gives (λ rest. rest.now) result (prefix_at (separator first) bytes.now) }
 {
     skip_prefix(bytes, separator_before(first))
 }
@@ -216,13 +198,8 @@ fn read_item<'a>(
     bytes: &'a [u8],
     depth: usize,
 ) -> Result<((Vec<u8>, Node), &'a [u8]), ReadError>
-    ensures found { IfOk result (λ r. bytes.now ≡ encode_lower r.0.0.items ++ codes "=" ++ tree_text_of (tree_of r.0.1) ++ r.1.now) }
-    ensures name { IfOk result (λ r. is_entry_name r.0.0.items ≡ true) }
-    ensures order { IfOk result (λ r. bytes_before last.now r.0.0.items ≡ true) }
-    ensures sound { IfOk result (λ r. IsSound (tree_of r.0.1)) }
-    ensures bytes { IfOk result (λ r. AreBytes r.0.0.items × HasBytes (tree_of r.0.1)) }
-    ensures depth { IfOk result (λ r. depth_of (tree_of r.0.1) ≤ depth) }
-    ensures exact { Gives (λ r. ((r.0.0.items, tree_of r.0.1), r.1.now)) result (item_at (text_at depth) last.now bytes.now) }
+    ensures { Gives (λ r. ((r.0.0.items, tree_of r.0.1), r.1.now)) result
+        (item_at (text_at depth) last.now bytes.now) }
 {
     let (name, rest) = read_digits(alloc, bytes)?;
     let rest = skip_prefix(rest, b"=")?;
@@ -237,9 +214,7 @@ fn read_item<'a>(
 // The bytes of the digits in front, and the rest.
 #[tactic(auto, unfolding(crate::specs::TextReading::digits_at))]
 fn read_digits(alloc: Global, bytes: &[u8]) -> Result<(Vec<u8>, &[u8]), ReadError>
-    ensures found { IfOk result (λ r. bytes.now ≡ encode_lower r.0.items ++ r.1.now) }
-    ensures bytes { IfOk result (λ r. AreBytes r.0.items) }
-    ensures exact { Gives (λ r. (r.0.items, r.1.now)) result (digits_at bytes.now) }
+    ensures { Gives (λ r. (r.0.items, r.1.now)) result (digits_at bytes.now) }
 {
     let (digits, rest) = split(bytes, digit_count(bytes))?;
     let decoded = decode_digits(alloc, digits)?;
@@ -288,10 +263,7 @@ fn is_digit(byte: u8) -> bool
 
 // The bytes of digits, all in lower case.
 fn decode_digits(alloc: Global, digits: &[u8]) -> Result<Vec<u8>, ReadError>
-    requires { list_all is_lower_digit digits.now ≡ true }
-    ensures found { IfOk result (λ decoded. digits.now ≡ encode_lower decoded.items) }
-    ensures bytes { IfOk result (λ decoded. AreBytes decoded.items) }
-    ensures exact { Gives (λ decoded. decoded.items) result (result_ok (decode_of digits.now)) }
+    ensures { Gives (λ decoded. decoded.items) result (result_ok (decode_of digits.now)) }
 {
     match hex::decode(alloc, digits) {
         Ok(decoded) => Ok(decoded),
