@@ -53,11 +53,13 @@ none_of None is = refl
 none_of (Some x) is = cc
 
 -- looking up a path that is not held
-pub absent_held : (path : List ℕ) (held : List (List ℕ × ℕ)) → list_any (bytes_eq path) (paths_held held) ≡ false → lookup (bytes_eq path) held ≡ None
+pub absent_held : (path : List ℕ) (held : List (List ℕ × ℕ)) → list_any (bytes_eq path) (paths_held held) ≡ false
+    → lookup (bytes_eq path) held ≡ None
 absent_held path held absent = none_of (lookup (bytes_eq path) held) (is_some-lookup (bytes_eq path) held ∙ absent)
 
 -- a path that is not held goes to the end
-pub put_last : (held : List (List ℕ × ℕ)) (a : List ℕ × ℕ) → list_any (bytes_eq a.0) (paths_held held) ≡ false → with_archive a held ≡ held ++ a ∷ []
+pub put_last : (held : List (List ℕ × ℕ)) (a : List ℕ × ℕ) → list_any (bytes_eq a.0) (paths_held held) ≡ false
+    → with_archive a held ≡ held ++ a ∷ []
 put_last held a absent = rw absent refl
 
 pub bytes_last : (held : List (List ℕ × ℕ)) (a : List ℕ × ℕ) → bytes_held (held ++ a ∷ []) ≡ bytes_held held + a.1

@@ -59,14 +59,16 @@ module _ (d : Inside) (is : IsConsistent d) (e : Entry) (archive : ℕ) where
   more = charged_more (entry_path e) archive before
 
   -- the bytes that are held with it
-  pub entry_bytes : (held : Held) → held.archives ≡ d.holding.archives → bytes_held (with_archive (entry_path e, archive) held.archives) ≡ before.charge + more
+  pub entry_bytes : (held : Held) → held.archives ≡ d.holding.archives
+      → bytes_held (with_archive (entry_path e, archive) held.archives) ≡ before.charge + more
   entry_bytes held same =
       ap (λ had. bytes_held (with_archive (entry_path e, archive) had)) same
       ∙ bytes_with (entry_path e, archive) d.holding.archives (paths_of before) is.held
 
 module _ (d : Inside) (is : IsConsistent d) where
   -- the desk then
-  pub entry_view : (e : Entry) (archive : ℕ) (held new : Held) → held.archives ≡ d.holding.archives → new.archives ≡ with_archive (entry_path e, archive) held.archives
+  pub entry_view : (e : Entry) (archive : ℕ) (held new : Held) → held.archives ≡ d.holding.archives
+      → new.archives ≡ with_archive (entry_path e, archive) held.archives
       → holdings_of (record (has_entry e held d) { holding = new }) ≡ holds_entry e (charged_more (entry_path e) archive (holdings_of d)) (holdings_of d)
   entry_view (entry.Source path) archive held new same put =
       let bytes = ap bytes_held put ∙ entry_bytes d is (entry.Source path) archive held same in

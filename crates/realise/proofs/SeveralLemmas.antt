@@ -1,6 +1,7 @@
 -- A desk with several entries more.
 use Rattle.std.proofs.Common.{◌≡◌, ℕ, ◌+◌, Bool, true, false, ◌||◌, not, List, [], ◌∷◌, ◌++◌, map, refl, sym, ap, ◌∙◌, append_assoc, append-nil, arith}
 use Rattle.std.specs.Prelude.{bytes_eq, All}
+use Rattle.std.proofs.lemmas.Bool.{not-true}
 use Rattle.std.proofs.lemmas.List.Elements.{All-nil, All-cons, All-head, All-tail}
 use Rattle.std.proofs.lemmas.List.Folds.{list_any-append}
 use Rattle.model.specs.Classes.{Known, is_one_of}
@@ -71,8 +72,8 @@ pub all_is_each : (es : List (Entry × ℕ)) (d : Holdings) → holds_all (map (
 all_is_each es d = all_parts (map (λ e. e.0) es) (charged_all es d) d ∙ sym (each_parts es d)
 
 -- what is known, the records and the charge together
-pub made : (es : List (Entry × ℕ)) (d : Holdings) (known : Known) (paths : List (List ℕ)) (added new : List Recorded) (charge : ℕ) → paths ≡ sources_in (bare es)
-    → added ≡ records_in (bare es) → known ≡ record d.known { sources = d.known.sources ++ paths } → new ≡ d.records ++ added
+pub made : (es : List (Entry × ℕ)) (d : Holdings) (known : Known) (paths : List (List ℕ)) (added new : List Recorded) (charge : ℕ)
+    → paths ≡ sources_in (bare es) → added ≡ records_in (bare es) → known ≡ record d.known { sources = d.known.sources ++ paths } → new ≡ d.records ++ added
     → charge ≡ d.charge + charged_all es d → record d { known = known; records = new; charge = charge } ≡ holds_each es d
 made es d known paths added new charge are_paths are_added known_is new_is charge_is =
     let sources : known ≡ record d.known { sources = d.known.sources ++ sources_in (bare es) } =
@@ -105,16 +106,12 @@ still_absent known (p ∷ paths) path all others =
     All-cons (λ q. is_one_of (known ++ path ∷ []) q ≡ false) p paths here
     (still_absent known paths path (All-tail (λ q. is_one_of known q ≡ false) p paths all) both.1)
 
-is_not : (b : Bool) → not b ≡ true → b ≡ false
-is_not true h = cc
-is_not false h = refl
-
 pub new_paths : (known paths : List (List ℕ)) → All (λ p. is_one_of known p ≡ false) paths → are_distinct paths ≡ true → AreNew known paths
 unfolding are_distinct
 new_paths known [] all distinct = tt
 new_paths known (path ∷ paths) all distinct =
     let both = both_parts (not (is_among path paths)) (are_distinct paths) distinct in
-    let others : is_among path paths ≡ false = is_not (is_among path paths) both.0 in (
+    let others : is_among path paths ≡ false = not-true (is_among path paths) both.0 in (
       All-head (λ p. is_one_of known p ≡ false) path paths all,
       new_paths (known ++ path ∷ []) paths (still_absent known paths path (All-tail (λ p. is_one_of known p ≡ false) path paths all) others) both.1,
     )

@@ -7,4 +7,3 @@ pub mod Held
 pub mod Holdings
 pub mod Indexed
 pub mod Kept
-pub mod Charging

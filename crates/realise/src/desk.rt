@@ -9,7 +9,6 @@ ghost use Rattle.realise.specs.Held.{charged_beside, IsSetOf};
 ghost use Rattle.realise.specs.Holdings.{same_recorded, records_of, paths_of, is_on, has_place, charged_more, holds_entry, holds_derivation, with_pins, entry_path, bare, IsClosed, IsClosedWithEntry, holds_each, charged_all, AreAbsent, AreCountable, IsGrown};
 ghost use Rattle.model.specs.declared.refusal.Refusal.TheVariants.{Memory};
 
-use crate::charging::{charged_beyond, insert_paths, insert_record_paths};
 use crate::entry::{Entry, parted};
 use crate::grown::Grown;
 use crate::holding::Holding;
@@ -18,7 +17,6 @@ use crate::pins::Pins;
 use crate::record::Record;
 use crate::records::Records;
 use classes::{Admitted, Known};
-use indexmap::IndexSet;
 use model::Refusal;
 use std::alloc::Global;
 use std::hash::RandomState;
@@ -48,25 +46,6 @@ impl Model for Desk {
     ghost view = { holdings_of };
 
     ghost invariant = { IsConsistent };
-}
-
-/// Whether two records are for one class at one path, with the same labels.
-fn is_same(one: &Record, other: &Record) -> bool
-    ensures { result ≡ same_recorded one.now other.now }
-{
-    one.same(other)
-}
-
-/// Whether a record is among others.
-fn has_record(records: &[Record], added: &Record) -> bool
-    ensures { result ≡ list_any (λ r. same_recorded r added.now) records.now }
-{
-    for record in records {
-        if is_same(record, added) {
-            return true;
-        }
-    }
-    false
 }
 
 impl Desk {
@@ -142,7 +121,7 @@ impl Desk {
     fn has_record(&self, added: &Record) -> bool
         ensures { result ≡ list_any (λ r. same_recorded r added.now) self.now.records }
     {
-        has_record(self.records_of(added.class().path()), added)
+        added.is_among(self.records_of(added.class().path()))
     }
 
     /// Whether an entry is on the desk.
@@ -196,18 +175,6 @@ impl Desk {
         Ok(())
     }
 
-    /// The paths that are held.
-    fn held(&self, alloc: Global) -> Result<IndexSet<StorePath, RandomState>, Refusal>
-        ensures { MatchResult result
-            (λ held. IsSetOf held.keys (paths_of self.now))
-            (λ e. e ≡ Memory) }
-    {
-        let mut held = IndexSet::with_hasher(alloc, self.records.hashing());
-        insert_paths(&mut held, self.known.sources())?;
-        insert_record_paths(&mut held, self.records.as_slice())?;
-        Ok(held)
-    }
-
     /// What is charged more for entries whose archives have so many bytes: each path once, and
     /// nothing for one that is held.
     ///
@@ -220,8 +187,7 @@ impl Desk {
             (λ more. more ≡ charged_all entries.now self.now)
             (λ e. e ≡ Memory) }
     {
-        let held = self.held(alloc)?;
-        charged_beyond(held, entries)
+        self.holding.charged_for_all(alloc, entries)
     }
 
     /// Adds entries that are not there yet, all or none, whose archives have so many bytes: those of

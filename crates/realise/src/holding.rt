@@ -1,12 +1,14 @@
 //! The paths that a desk holds.
 
-ghost use Rattle.std.specs.Prelude.{◌≡◌, ◌<◌, ◌≤◌, ◌+◌, ◌^◌, [], length, MatchResult, OnOk, IfOk, IfErr};
+ghost use Rattle.std.specs.Prelude.{◌≡◌, ◌<◌, ◌≤◌, ◌+◌, ◌^◌, [], length, map, MatchResult, OnOk, IfOk, IfErr};
 ghost use Rattle.std.specs.List.{list_any};
 ghost use Rattle.std.specs.Prelude.{bytes_eq};
-ghost use Rattle.realise.specs.Held.{paths_held, bytes_held, with_archive, with_archives};
+ghost use Rattle.realise.specs.Held.{paths_held, bytes_held, with_archive, with_archives, charged_beside};
+ghost use Rattle.realise.specs.Holdings.{archive_of, AreCountable};
 ghost use Rattle.model.specs.declared.refusal.Refusal.TheVariants.{Memory};
 
-use indexmap::IndexMap;
+use crate::entry::Entry;
+use indexmap::{IndexMap, IndexSet};
 use model::Refusal;
 use std::alloc::{AllocError, Global};
 use std::hash::RandomState;
@@ -59,6 +61,31 @@ impl Holding {
         ensures { result ≡ list_any (bytes_eq path.now) (paths_held self.now.archives) }
     {
         self.archives.contains_key(path)
+    }
+
+    /// What is charged more for entries whose archives have so many bytes: each path once, and nothing
+    /// for one that is held. The one error is memory.
+    pub(crate) fn charged_for_all(
+        &self,
+        alloc: Global,
+        entries: &[(Entry, u64)],
+    ) -> Result<u64, Refusal>
+        requires { AreCountable entries.now }
+        ensures { let archives = map archive_of entries.now in MatchResult result
+            (λ more. more ≡ charged_beside archives (paths_held self.now.archives))
+            (λ e. e ≡ Memory) }
+    {
+        let mut counted = IndexSet::with_hasher(alloc, *self.archives.hasher());
+        let mut more = 0;
+        for entry in entries {
+            if self.has(entry.0.path()) {
+                continue;
+            }
+            if counted.insert(entry.0.path().clone()?)? {
+                more += entry.1;
+            }
+        }
+        Ok(more)
     }
 
     /// Makes room for so many paths more. What is held stays.

@@ -4,7 +4,6 @@
 
 mod below;
 mod candidate;
-mod charging;
 mod desk;
 mod entry;
 mod groups;

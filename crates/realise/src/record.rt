@@ -1,7 +1,9 @@
 //! Records: what was built for a class.
 
 ghost use Rattle.std.specs.Prelude.{◌≡◌, MatchResult};
+ghost use Rattle.std.specs.List.{list_any};
 ghost use Rattle.realise.specs.Recorded.{IsSame, AreInPathOrder};
+ghost use Rattle.realise.specs.Holdings.{same_recorded};
 ghost use Rattle.model.specs.declared.refusal.Refusal.TheVariants.{Memory};
 
 use crate::label::Label;
@@ -30,6 +32,13 @@ impl Model for Record {
     ghost view = { λ r. record { class = r.class; path = r.path; labels = arc_slice_items r.labels } };
 
     ghost invariant = { λ r. AreInPathOrder (arc_slice_items r.labels) };
+}
+
+/// Whether two records are for one class at one path, with the same labels, whatever their trees are.
+fn is_same(one: &Record, other: &Record) -> bool
+    ensures { result ≡ same_recorded one.now other.now }
+{
+    one.same(other)
 }
 
 impl Record {
@@ -81,6 +90,19 @@ impl Record {
         self.class.path() == other.class.path()
             && self.path == other.path
             && self.labels() == other.labels()
+    }
+
+    /// Whether the record is among others: one of them is for the same class at the same path, with the
+    /// same labels. Each of them is looked at.
+    pub fn is_among(&self, others: &[Record]) -> bool
+        ensures { result ≡ list_any (λ r. same_recorded r self.now) others.now }
+    {
+        for other in others {
+            if is_same(other, self) {
+                return true;
+            }
+        }
+        false
     }
 }
 

@@ -1,11 +1,10 @@
 //! What the end of a job with an output makes of one user's desk and goals.
 
 ghost use Rattle.std.specs.Prelude.{◌≡◌, ◌<◌, ◌≤◌, ◌+◌, [], length, map, IfOk, IfErr};
-ghost use Rattle.std.specs.List.{list_any};
 ghost use Rattle.model.specs.Classes.{is_one_of};
 ghost use Rattle.model.specs.Limits.{most_records};
 ghost use Rattle.model.specs.declared.refusal.Refusal.TheVariants.{Memory};
-ghost use Rattle.realise.specs.Holdings.{charged_more, same_recorded};
+ghost use Rattle.realise.specs.Holdings.{charged_more};
 ghost use Rattle.jobs.specs.Owned.{goals_at};
 ghost use Rattle.jobs.specs.States.{state_of};
 ghost use Rattle.schedule.specs.Gaining.{gains_in, with_gains, nothing, is_had, is_free, gains_with, state_with, gains_of, state_of_built, all_gains, all_states, state_at, waiting};
@@ -26,25 +25,6 @@ fn has_path(records: &[Record], path: &StorePath) -> bool
 {
     for record in records {
         if *record.path() == *path {
-            return true;
-        }
-    }
-    false
-}
-
-/// Whether two records are for one class at one path, with the same labels.
-fn is_same(one: &Record, other: &Record) -> bool
-    ensures { result ≡ same_recorded one.now other.now }
-{
-    one.same(other)
-}
-
-/// Whether a record is among others.
-fn has_record(records: &[Record], added: &Record) -> bool
-    ensures { result ≡ list_any (λ r. same_recorded r added.now) records.now }
-{
-    for record in records {
-        if is_same(record, added) {
             return true;
         }
     }
@@ -78,7 +58,7 @@ impl Gains {
         ensures memory { IfErr result (λ why. why ≡ Memory) }
     {
         let entry = Entry::Record(added.clone()?);
-        Ok(desk.has(&entry) || has_record(&self.records, added))
+        Ok(desk.has(&entry) || added.is_among(&self.records))
     }
 
     /// What is charged more for a path whose archive has so many bytes: nothing where it is held.

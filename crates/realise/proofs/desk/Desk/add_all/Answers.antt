@@ -22,38 +22,43 @@ pub add_sources-requires : goal.add_sources-requires
 add_sources-requires c =
     let entries : List (Entry × ℕ) = c.args.entries.items in
     let new : AreNew c.self.inside.known.sources (sources_in (bare entries)) =
-    subst (λ (d : Holdings). AreNew d.known.sources (sources_in (bare entries))) (sym c.self.view_is) (sources_new (bare entries) c.args.self.now c.requires.absent) in
+    subst (λ (d : Holdings). AreNew d.known.sources (sources_in (bare entries))) (sym c.self.view_is)
+    (sources_new (bare entries) c.args.self.now c.requires.absent) in
     record { absent = subst (AreNew c.self.inside.known.sources) (sym c.in_ok-parts.ensures.paths_are) new }
+
+-- once the sources were added
+module _ (c : goal.After-drop-parts-2) where
+  abbrev entries : List (Entry × ℕ)
+  entries = c.args.entries.items
+
+  abbrev before : Holdings
+  before = holdings_of c.self.inside
+
+  abbrev archives : List (List ℕ × ℕ)
+  archives = c.in_ok-holding.holding.archives
+
+  abbrev after : Holdings
+  after = record before { known = c.add_sources.new.self; records = c.in_ok-records.records; charge = bytes_held archives }
+
+  view : after ≡ holds_each entries before
+  view =
+      let parts = c.in_ok-parts.parts in
+      let are = c.in_ok-parts.ensures in
+      let bytes = ap bytes_held c.in_ok-holding.ensures ∙ entries_bytes c.self.inside c.self.invariant entries parts.archives.items are.archives_are in
+      let records = c.in_ok-records.ensures ∙ ap (λ (rs : List Recorded). before.records ++ rs) c.deref.ensures.value in
+      made entries before c.add_sources.new.self parts.sources.items parts.records.items c.in_ok-records.records (bytes_held archives)
+      are.paths_are are.records_are c.in_ok-add_sources.ensures records bytes
 
 pub invariant_of-self-2 : goal.invariant_of-self-2
 invariant_of-self-2 c =
-    let entries : List (Entry × ℕ) = c.args.entries.items in
-    let d : Holdings = holdings_of c.self.inside in
+    let all = entries c in
     let parts = c.in_ok-parts.parts in
-    let are = c.in_ok-parts.ensures in
-    let held : List (List ℕ × ℕ) = c.in_ok-holding.holding.archives in
-    let bytes : bytes_held held ≡ d.charge + charged_all entries d =
-    ap bytes_held c.in_ok-holding.ensures ∙ entries_bytes c.self.inside c.self.invariant entries parts.archives.items are.archives_are in
-    let view : record d { known = c.add_sources.new.self; records = c.in_ok-records.records; charge = bytes_held held } ≡ holds_each entries d =
-    made entries d c.add_sources.new.self parts.sources.items parts.records.items c.in_ok-records.records (bytes_held held) are.paths_are are.records_are
-    c.in_ok-add_sources.ensures (c.in_ok-records.ensures ∙ ap (λ (rs : List Recorded). d.records ++ rs) c.deref.ensures.value) bytes in
+    let paths = entries_held c.self.inside c.self.invariant all parts.archives.items c.in_ok-parts.ensures.archives_are in
     record {
-      closed = subst IsClosed (sym view) (subst (λ (h : Holdings). IsClosed (holds_each entries h)) (sym c.self.view_is) c.requires.closed);
-      held = subst (λ (h : Holdings). IsSetOf (paths_held held) (paths_of h)) (sym view)
-          (subst (λ found. IsSetOf (paths_held found) (paths_of (holds_each entries d))) (sym c.in_ok-holding.ensures)
-          (entries_held c.self.inside c.self.invariant entries parts.archives.items are.archives_are));
+      closed = subst IsClosed (sym (view c)) (subst (λ (h : Holdings). IsClosed (holds_each all h)) (sym c.self.view_is) c.requires.closed);
+      held = subst (λ (h : Holdings). IsSetOf (paths_held (archives c)) (paths_of h)) (sym (view c))
+          (subst (λ found. IsSetOf (paths_held found) (paths_of (holds_each all (before c)))) (sym c.in_ok-holding.ensures) paths);
     }
 
 pub returns : goal.returns
-returns c =
-    let entries : List (Entry × ℕ) = c.args.entries.items in
-    let d : Holdings = holdings_of c.self.inside in
-    let parts = c.in_ok-parts.parts in
-    let are = c.in_ok-parts.ensures in
-    let held : List (List ℕ × ℕ) = c.in_ok-holding.holding.archives in
-    let bytes : bytes_held held ≡ d.charge + charged_all entries d =
-    ap bytes_held c.in_ok-holding.ensures ∙ entries_bytes c.self.inside c.self.invariant entries parts.archives.items are.archives_are in
-    let view : record d { known = c.add_sources.new.self; records = c.in_ok-records.records; charge = bytes_held held } ≡ holds_each entries d =
-    made entries d c.add_sources.new.self parts.sources.items parts.records.items c.in_ok-records.records (bytes_held held) are.paths_are are.records_are
-    c.in_ok-add_sources.ensures (c.in_ok-records.ensures ∙ ap (λ (rs : List Recorded). d.records ++ rs) c.deref.ensures.value) bytes in
-    view ∙ ap (holds_each entries) c.self.view_is
+returns c = view c ∙ ap (holds_each (entries c)) c.self.view_is

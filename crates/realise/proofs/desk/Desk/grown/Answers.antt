@@ -27,6 +27,7 @@ returns c =
     })) c.self.view_is
     (record {
       records = c.in_ok-records.ensures;
-      paths = subst (λ held. IsSetOf (paths_held held) (paths_of d ++ paths_held archives)) (sym now) (held_beside archives had (paths_of d) c.self.invariant.held);
+      paths = subst (λ held. IsSetOf (paths_held held) (paths_of d ++ paths_held archives)) (sym now)
+          (held_beside archives had (paths_of d) c.self.invariant.held);
       charge = ap bytes_held now ∙ bytes_beside archives had (paths_of d) c.self.invariant.held;
     })

@@ -9,4 +9,4 @@ returns c =
     let added = c.args.added.now in
     let desk = c.args.self.now in
     let group = c.records_of.ensures ∙ ap (λ (class : List ℕ). records_of class desk) (c.path.ensures ∙ ap (λ x. x.path) c.class.ensures) in
-    c.has_record.ensures ∙ ap (list_any (λ q. same_recorded q added)) group ∙ found_in_group added desk.records
+    c.is_among.ensures ∙ ap (list_any (λ q. same_recorded q added)) group ∙ found_in_group added desk.records
