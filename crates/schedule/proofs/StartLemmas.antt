@@ -1,5 +1,5 @@
 -- A goal that is started.
-use Rattle.std.proofs.Common.{◌≡◌, ℕ, zero, suc, ◌<◌, Bool, true, false, List, [], ◌∷◌, ◌++◌, length, length-set, refl, sym, ◌∙◌, ap, subst, arith, inl, inr, rules, Option, Some, None, Result, Ok, Err}
+use Rattle.std.proofs.Common.{◌≡◌, ℕ, zero, suc, ◌<◌, Bool, true, false, List, [], ◌∷◌, ◌++◌, length, length-set, refl, sym, ◌∙◌, ap, subst, arith, inl, ◌⊎◌, inr, rules, Option, Some, None, Result, Ok, Err}
 use Rattle.std.specs.Prelude.{All, ◌&&◌, if◌then◌else◌, is_some, map, filter, bytes_eq, nat_le, slice_get, slice_set}
 use Rattle.std.specs.List.{list_any}
 use Rattle.std.proofs.lemmas.Grind.{not_there}
@@ -186,6 +186,15 @@ over_so : (b : Bool) (d : Desk) (reply : events.Reply) (why : Refusal) → check
 over_so true d reply why is = cc
 over_so false d reply why is = (refl, (let same : Quota ≡ why = cc in sym same))
 
+-- a goal that is to be started fails with every refusal but these two
+not_failing : (why : Refusal) → fails why ≡ false → (why ≡ Memory) ⊎ (why ≡ NotRealised)
+not_failing Memory f = inl refl
+not_failing NotRealised f = inr refl
+not_failing why f = cc
+
+not_quota : NotRealised ≡ Quota → ⊥
+not_quota same = cc
+
 -- ---- the user at a place
 
 module _ (users : List (List ℕ)) (limit : ℕ) (trust : ℕ → ℕ → Bool) (goals : List (List Goal)) (old : List Source) (desks : List Holdings) (place n : ℕ)
@@ -358,15 +367,14 @@ module _ (users : List (List ℕ)) (limit : ℕ) (trust : ℕ → ℕ → Bool) 
 
       -- memory is refused for the copy
       pub uncopied : (why : Refusal) → CopiesEntries limit old desk r.closure (Err why) new after → fails why ≡ false → Handles (Err why) own after
-      uncopied why copies f = rw copies.kept.desk (at why copies f)
-        where
-          at : (y : Refusal) → CopiesEntries limit old desk r.closure (Err y) new after → fails y ≡ false → Handles (Err y) own desk
-          at Memory c f = no_memory
-          at NotRealised c f =
-              absurd (let parts = over_so (is_within setup added) added events.Done NotRealised
-              (c.fits users (beside_at users trust goals place) events.Done refl) in
-              let no : NotRealised ≡ Quota = parts.1 in cc)
-          at y c f = cc
+      uncopied why copies f = rw copies.kept.desk (elim (not_failing why f) [
+        | inl memory ↦ subst (λ y. Handles (Err y) own desk) (sym memory) no_memory
+        | inr unbuilt ↦
+            let beside = beside_at users trust goals place in
+            let fits = subst (λ y. CopiesEntries limit old desk r.closure (Err y) new after) unbuilt copies in
+            let parts = over_so (is_within setup added) added events.Done NotRealised (fits.fits users beside events.Done refl) in
+            absurd (not_quota parts.1)
+      ])
 
 -- ---- all goals
 

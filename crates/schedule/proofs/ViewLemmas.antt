@@ -4,7 +4,7 @@ use Rattle.std.specs.Prelude.{All, map, filter}
 use Rattle.std.specs.List.{range_with_len}
 use Rattle.std.proofs.lemmas.List.Elements.{filter-append, All-filter}
 use Rattle.std.proofs.lemmas.List.FromFn.{length-range_with_len, get_or-range_with_len}
-use Rattle.model.specs.Worlds.{Source, Setup, Desk, World, Goal, are_distinct}
+use Rattle.model.specs.Worlds.{Source, Setup, Desk, World, Goal, Job, are_distinct}
 use Rattle.model.specs.Outcomes.{trusts, reaches, view_of}
 use Rattle.model.proofs.BoolLemmas.{either}
 use Rattle.trust.specs.Trusting.{IsReach}
@@ -41,6 +41,13 @@ pub any_default : {X : Type 0} (xs : List X) (k : ℕ) (d e : X) → k < length 
 any_default [] k d e below = absurd (omega arith)
 any_default (x ∷ xs) zero d e below = refl
 any_default (x ∷ xs) (suc k) d e below = any_default xs k d e (omega arith)
+
+-- the job that the user at a place leads, made with a copy of his name
+pub job_made : (users : List (List ℕ)) (place number : ℕ) (found copy : List ℕ) (job : Job) → place < length users
+    → found ≡ get_or users place found → copy ≡ found → job ≡ record { leader = copy; number = number }
+    → job ≡ record { leader = name_at users place; number = number }
+job_made users place number found copy job below is same made =
+    made ∙ ap (λ u. record { leader = u; number = number }) (same ∙ is ∙ any_default users place found [] below)
 
 -- with one place more, which is in the set, or is not
 module _ {X : Type 0} (f : ℕ → X) (set : ℕ → Bool) (n : ℕ) where

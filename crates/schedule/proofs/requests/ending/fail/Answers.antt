@@ -1,10 +1,8 @@
-use Rattle.std.proofs.Common.{◌≡◌, ℕ, List, sym, ◌∙◌, ap}
+use Rattle.std.proofs.Common.{ℕ, List, sym, ◌∙◌}
 use Rattle.std.proofs.lemmas.Result.{err_from_is_err_and}
-use Rattle.model.specs.Worlds.{Job}
 use Rattle.trust.specs.Trusting.{trusts}
-use Rattle.trust.specs.Naming.{name_at}
 use Rattle.schedule.proofs.TrustLemmas.{few_users}
-use Rattle.schedule.proofs.ViewLemmas.{any_default}
+use Rattle.schedule.proofs.ViewLemmas.{job_made}
 use Rattle.schedule.proofs.FailingLemmas.{fail_handled, fail_refused, fail_fault}
 use Rattle.schedule.proofs.requests.ending.fail.Goals as goal
 
@@ -26,9 +24,8 @@ fail_all-requires-clause-few c = few_users c.args.users.now c.requires.listed
 pub returns-clause-handled : goal.returns-clause-handled
 returns-clause-handled c status limit table desks actor found paired sound goals_sound within =
     let users : List (List ℕ) = c.args.users.now in
-    let leader : c.in_ok-clone.field-0 ≡ name_at users c.args.place =
-    c.in_ok-clone.ensures.cases ∙ c.index-users-place.is ∙ any_default users c.args.place c.index-users-place.result _ c.requires.of_run in
-    let J : List ℕ → Job = λ u. record { leader = u; number = c.args.number } in
+    let job = job_made users c.args.place c.args.number c.index-users-place.result c.in_ok-clone.field-0 c.new-job.result c.requires.of_run
+    c.index-users-place.is c.in_ok-clone.ensures.cases c.new-job.ensures in
     fail_handled users limit (trusts c.args.trust.now) c.args.jobs.now.goals table desks actor c.args.place c.args.number status
     c.requires.listed found paired c.requires.with_goals sound goals_sound within c.fail_all.new.jobs.goals c.new-job.result
-    (sym c.leads.ensures ∙ c.in_ok-leads.was) (c.new-job.ensures ∙ ap J leader) c.fail_all.ensures.hear
+    (sym c.leads.ensures ∙ c.in_ok-leads.was) job c.fail_all.ensures.hear
