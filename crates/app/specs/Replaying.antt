@@ -9,7 +9,7 @@ use Rattle.model.specs.Events.{Event, Reply}
 use Rattle.model.specs.Lines.{lines_of}
 use Rattle.model.specs.Talk as talk
 use Rattle.model.specs.Talk.{fresh, after_all, Talks, text_from, asked_in, users_in}
-use Rattle.schedule.specs.Standing.{reply_of}
+use Rattle.events.specs.Terms.{reply_of}
 use Rattle.session.specs.Serving.{Finished, EndedEarly}
 use Rattle.session.specs.declared.ahead.Ahead.{Ahead}
 use Rattle.session.specs.Ahead.{NoUsersSoFar, LooksAhead}

@@ -4,6 +4,7 @@ use Rattle.std.proofs.Math.Seq.{take-append_seam, drop-append_seam}
 use Rattle.std.proofs.lemmas.Bool.Decides.{nat_tests, eqb_tells}
 use Rattle.std.specs.Prelude.{Some, bytes_eq, ◌==◌, nat_le}
 use Rattle.std.specs.List.{list_all, flat_map}
+use Rattle.model.proofs.BoolLemmas.{both_parts}
 use Rattle.model.specs.Derivations.{Derivation, has_texts, is_character, is_text, is_variable, character_text, derivation_text}
 use Rattle.aterm.proofs.Texts.{head, items_text, closed, closed_is, member_text, members_text, behind, variables_text, text_is, member_grouped, variable_grouped}
 use Rattle.model.specs.DerivationTexts.{Reader, ◌>>=◌, is_at, tag_at, in_front, items_at, escaped_at, character_at, string_at, member_at, members_at, variable_at, variables_at, derivation_at}
@@ -28,17 +29,13 @@ pub record ReadsAgain (X : Type 0) (item : Reader X) (text : List ℕ → X → 
   pub again : (separator : List ℕ) (x : X) (rest : List ℕ) → Used separator → test x ≡ true → item separator (text separator x ++ rest) ≡ Some (x, rest)
   pub apart : (separator : List ℕ) (x : X) (rest : List ℕ) → Used separator → test x ≡ true → is_at closing (text separator x ++ rest) ≡ false
 
-pub both_pass : (a b : Bool) → (a && b) ≡ true → (a ≡ true) × (b ≡ true)
-both_pass true b h = (refl, h)
-both_pass false b h = cc
-
 pub items_again : {X : Type 0} (item : Reader X) (text : List ℕ → X → List ℕ) (test : X → Bool) (closing next : List ℕ) (Used : List ℕ → Type 0) → ReadsAgain X item text test closing Used → Used next
     → (xs : List X) (n : ℕ) (separator rest : List ℕ) → Used separator → list_all test xs ≡ true → length xs < n → items_at item closing next n separator (items_text text closing next separator xs ++ rest) ≡ Some (xs, rest)
 unfolding items_at
 items_again item text test closing next Used reads u xs zero separator rest v h lt = absurd (omega (arith, lt))
 items_again item text test closing next Used reads u [] (suc n) separator rest v h lt = rw (is_at_front closing rest, drop-append_seam closing rest) refl
 items_again item text test closing next Used reads u (x ∷ xs) (suc n) separator rest v h lt =
-    let passes = both_pass (test x) (list_all test xs) h in
+    let passes = both_parts (test x) (list_all test xs) h in
     let more = items_text text closing next next xs in
     let others = items_again item text test closing next Used reads u xs n next rest u passes.1 (omega (arith, lt)) in
     ap (items_at item closing next (suc n) separator) (append_assoc (text separator x) more rest)
@@ -182,7 +179,7 @@ members_again tag opening closing texts rest opens h =
 variable_again : (separator : List ℕ) (v : List ℕ × List ℕ) (rest : List ℕ) → is_variable v ≡ true → variable_at separator (behind separator v ++ rest) ≡ Some (v, rest)
 unfolding variable_at
 variable_again separator v rest h =
-    let texts = both_pass (is_text v.0) (is_text v.1) h in
+    let texts = both_parts (is_text v.0) (is_text v.1) h in
     ap (λ s. tag_at separator s >>= λ r. string_at (codes "(\"") r >>= λ k. string_at (codes ",\"") k.1 >>= λ x. tag_at (codes ")") x.1 >>= λ e. Some ((k.0, x.0), e))
     (variable_grouped separator (codes "(\"") (closed v.0) (codes ",\"") (closed v.1) (codes ")") rest)
     ∙ rw (
@@ -218,9 +215,9 @@ variables_again tag vs rest h =
 pub derivation_again : (d : Derivation) → list_all is_text d.inputs ≡ true → list_all is_text d.sources ≡ true → has_texts d ≡ true → derivation_at (derivation_text d) ≡ Some d
 unfolding derivation_at
 derivation_again d inputs_are sources_are h =
-    let one = both_pass (is_text d.platform) (is_text d.builder && (list_all is_text d.arguments && list_all is_variable d.environment)) h in
-    let two = both_pass (is_text d.builder) (list_all is_text d.arguments && list_all is_variable d.environment) one.1 in
-    let three = both_pass (list_all is_text d.arguments) (list_all is_variable d.environment) two.1 in
+    let one = both_parts (is_text d.platform) (is_text d.builder && (list_all is_text d.arguments && list_all is_variable d.environment)) h in
+    let two = both_parts (is_text d.builder) (list_all is_text d.arguments && list_all is_variable d.environment) one.1 in
+    let three = both_parts (list_all is_text d.arguments) (list_all is_variable d.environment) two.1 in
     let environment = codes ",[" ++ (variables_text [] d.environment ++ codes ")") in
     let arguments = codes ",[" ++ (members_text (codes "\"") [] [] d.arguments ++ environment) in
     let builder = codes ",\"" ++ (closed d.builder ++ arguments) in

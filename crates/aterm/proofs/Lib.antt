@@ -5,5 +5,4 @@ pub mod SoundWhole
 pub mod Complete
 pub mod PathTexts
 pub mod Refusing
-pub mod Written
 pub mod Exact

@@ -7,7 +7,7 @@ use Rattle.std.proofs.lemmas.List.Folds.{list_all-append}
 use Rattle.std.proofs.lemmas.List.Sums.{AllPass-from_list_all, list_all-from_AllPass}
 use Rattle.model.specs.Paths.{digits_32, digits_of, number_of, base32, is_name_byte, begins_with_dot, is_name, path_text, IsPath}
 use Rattle.model.specs.Derivations.{is_character, is_text}
-use Rattle.aterm.proofs.Complete.{both_pass}
+use Rattle.model.proofs.BoolLemmas.{both_parts}
 
 name_byte : (b : ℕ) → is_name_byte b ≡ true → is_character b ≡ true
 name_byte b h = grind (arith, nat_tests)
@@ -18,15 +18,15 @@ both_are xs ys p q = rw (list_all-append is_character xs ys, p, q) refl
 name_bytes : (bytes : List ℕ) → list_all is_name_byte bytes ≡ true → is_text bytes ≡ true
 name_bytes [] h = refl
 name_bytes (b ∷ bs) h =
-    let passes = both_pass (is_name_byte b) (list_all is_name_byte bs) h in
+    let passes = both_parts (is_name_byte b) (list_all is_name_byte bs) h in
     rw (name_byte b passes.0) (name_bytes bs passes.1)
 
 name_is : (name : List ℕ) → is_name name ≡ true → is_text name ≡ true
 unfolding is_name
 name_is name h =
-    let long = both_pass (nat_lt 0 (length name)) (nat_le (length name) 211 && (not (begins_with_dot name) && list_all is_name_byte name)) h in
-    let short = both_pass (nat_le (length name) 211) (not (begins_with_dot name) && list_all is_name_byte name) long.1 in
-    name_bytes name (both_pass (not (begins_with_dot name)) (list_all is_name_byte name) short.1).1
+    let long = both_parts (nat_lt 0 (length name)) (nat_le (length name) 211 && (not (begins_with_dot name) && list_all is_name_byte name)) h in
+    let short = both_parts (nat_le (length name) 211) (not (begins_with_dot name) && list_all is_name_byte name) long.1 in
+    name_bytes name (both_parts (not (begins_with_dot name)) (list_all is_name_byte name) short.1).1
 
 digit_is : (n : ℕ) → is_character (slice_index digits_32 (n % 32)) ≡ true
 digit_is n =

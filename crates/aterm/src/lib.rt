@@ -1,14 +1,9 @@
-//! Derivations and their texts, in the ATerm format of the Nix Reference Manual.
+//! Reading the texts of derivations, in the ATerm format of the Nix Reference Manual.
 #![tactic(auto)]
 
-mod derivation;
 mod laws;
 mod read;
-mod text;
-mod write;
 
-pub use derivation::{Derivation, Parts};
+pub use derivation::{Derivation, Parts, Text, print, print_parts, print_with_inputs};
 pub use laws::{derivations_pass, reading_is_exact};
 pub use read::parse;
-pub use text::Text;
-pub use write::{print, print_parts, print_with_inputs};

@@ -3,13 +3,12 @@
 ghost use Rattle.std.specs.Prelude.{◌≡◌, IfOk, MatchResult, Some, []};
 ghost use Rattle.model.specs.Derivations.{derivation_text, IsDerivation, IsOnlyDerivation};
 ghost use Rattle.model.specs.DerivationTexts.{tag_at, escaped_at, character_at, string_at, member_at, members_at, variable_at, variables_at, derivation_at, derivation_of_text};
-ghost use Rattle.aterm.specs.Parts.{derivation_of};
+ghost use Rattle.derivation.specs.Parts.{derivation_of};
 ghost use Rattle.aterm.specs.Strings.{derivation_read};
 ghost use Rattle.aterm.specs.Refused.{AreNoPaths, HasNoPaths, IsRefused, IsNotRead};
 ghost use Rattle.aterm.specs.Gives.{Gives};
 
-use crate::derivation::{Derivation, Parts};
-use crate::text::Text;
+use derivation::{Derivation, Parts, Text};
 use model::Refusal;
 use std::alloc::{AllocError, AllocFailed, Global};
 use storepath::{StorePath, read_path};

@@ -2,10 +2,10 @@
 use Rattle.std.proofs.Common.{◌≡◌, true, false, refl, sym, ◌∙◌, ap, subst, ◌++◌, ◌∷◌, []}
 use Rattle.model.specs.declared.refusal.Refusal.TheVariants.{Memory, Stopped}
 use Rattle.model.specs.Worlds.{Setup}
-use Rattle.schedule.specs.declared.events.Event.{Event}
-use Rattle.schedule.specs.declared.events.Reply.{Reply}
-use Rattle.schedule.specs.declared.events.Reply.TheVariants.{Refused}
-use Rattle.schedule.specs.Standing.{event_of, reply_of}
+use Rattle.events.specs.declared.event.Event.{Event}
+use Rattle.events.specs.declared.reply.Reply.{Reply}
+use Rattle.events.specs.declared.reply.Reply.TheVariants.{Refused}
+use Rattle.events.specs.Terms.{event_of, reply_of}
 use Rattle.book.specs.Callers.{Caller, told_stopped}
 use Rattle.book.specs.Histories.{row, gave_up, IsAnswered, IsLegal}
 use Rattle.book.specs.Answering.{IsOnlyAnswer}

@@ -10,11 +10,12 @@ use Rattle.model.specs.Laws.{IsIsolated}
 use Rattle.model.specs.Replies.{is_memory, is_memory_refusal, is_stopped_refusal}
 use Rattle.model.specs.HashedTexts.{hashed, texts_of_event}
 use Rattle.model.specs.GivenClosures.{GivesGoodClosure, KeepsGoodClosure, GiveGoodClosures}
-use Rattle.schedule.specs.declared.events.Reply.{Reply}
-use Rattle.schedule.specs.declared.events.Reply.TheVariants.{Refused}
+use Rattle.events.specs.declared.reply.Reply.{Reply}
+use Rattle.events.specs.declared.reply.Reply.TheVariants.{Refused}
 use Rattle.schedule.specs.declared.state.Core.{Core}
-use Rattle.schedule.specs.Sound.{IsHashed}
-use Rattle.schedule.specs.Standing.{world_of, setup_of, stored_in, HasHashed, reply_of, IsUnchanged}
+use Rattle.desks.specs.Sound.{IsHashed}
+use Rattle.schedule.specs.Standing.{world_of, setup_of, stored_in, HasHashed, IsUnchanged}
+use Rattle.events.specs.Terms.{reply_of}
 use Rattle.schedule.proofs.RunLemmas.{good_push}
 use Rattle.book.specs.declared.history.Row.{Row}
 use Rattle.book.specs.Histories.{event_in, events_of, answers_of, gave_up, IsLegal}

@@ -3,7 +3,7 @@ use Rattle.std.specs.Prelude.{◌≡◌, true, false, [], ◌∷◌, ◌++◌}
 use Rattle.model.specs.Worlds.{Setup}
 use Rattle.model.specs.Events.{Event, Reply}
 use Rattle.model.specs.Replies.{is_unrecorded}
-use Rattle.schedule.specs.Standing.{reply_of}
+use Rattle.events.specs.Terms.{reply_of}
 use Rattle.book.specs.declared.history.Row.{Row}
 use Rattle.book.specs.Callers.{Caller}
 use Rattle.book.specs.Histories.{event_in, IsLegal}

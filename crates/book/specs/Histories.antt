@@ -9,9 +9,9 @@ use Rattle.model.specs.Replies.{is_unrecorded}
 use Rattle.model.specs.HashedTexts.{hashed}
 use Rattle.model.specs.Striking.{strike}
 use Rattle.model.specs.GivenClosures.{GiveGoodClosures}
-use Rattle.schedule.specs.declared.events.Event.{Event}
-use Rattle.schedule.specs.declared.events.Reply.{Reply}
-use Rattle.schedule.specs.Standing.{event_of, reply_of}
+use Rattle.events.specs.declared.event.Event.{Event}
+use Rattle.events.specs.declared.reply.Reply.{Reply}
+use Rattle.events.specs.Terms.{event_of, reply_of}
 use Rattle.book.specs.declared.history.Row.{Row}
 use Rattle.book.specs.Callers.{Caller, answered}
 

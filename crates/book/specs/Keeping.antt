@@ -7,9 +7,10 @@ use Rattle.model.specs.Replies.{is_refused}
 use Rattle.model.specs.HashedTexts.{hashed}
 use Rattle.model.specs.GivenClosures.{GiveGoodClosures}
 use Rattle.schedule.specs.declared.state.Core.{Core}
-use Rattle.schedule.specs.declared.events.Event.{Event}
-use Rattle.schedule.specs.declared.events.Reply.{Reply}
-use Rattle.schedule.specs.Standing.{world_of, setup_of, stored_in, HasHashed, event_of, reply_of, IsUnchanged}
+use Rattle.events.specs.declared.event.Event.{Event}
+use Rattle.events.specs.declared.reply.Reply.{Reply}
+use Rattle.schedule.specs.Standing.{world_of, setup_of, stored_in, HasHashed, IsUnchanged}
+use Rattle.events.specs.Terms.{event_of, reply_of}
 use Rattle.schedule.specs.Stepping.{IsCoreStep}
 use Rattle.book.specs.declared.history.Row.{Row}
 use Rattle.book.specs.Histories.{events_of, answers_of, gave_up}

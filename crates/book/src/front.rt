@@ -3,7 +3,7 @@
 ghost use Rattle.std.specs.Prelude.{◌≡◌, ◌<◌, ◌≤◌, ◌++◌, ◌∷◌, [], true, false, length, map, sum, All, IfOk, IfErr};
 ghost use mathlib.Core.List.{IsPrefix};
 ghost use Rattle.model.specs.declared.refusal.Refusal.TheVariants.{Memory, Stopped};
-ghost use Rattle.schedule.specs.declared.events.Reply.TheVariants.{Refused};
+ghost use Rattle.events.specs.declared.reply.Reply.TheVariants.{Refused};
 ghost use Rattle.book.specs.Keeping.{IsNew};
 ghost use Rattle.book.specs.Callers.{newcomer, told_stopped, below, rows_of};
 ghost use Rattle.book.specs.Tokens.{nothing_recorded};

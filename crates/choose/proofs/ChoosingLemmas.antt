@@ -13,7 +13,8 @@ use Rattle.model.proofs.ClosureLemmas.{least_from_in}
 use Rattle.model.proofs.MemberLemmas.{In, in_right, in_map, from_filter, from_flat_map}
 use Rattle.realise.specs.Recorded.{Recorded}
 use Rattle.realise.specs.Holdings.{Holdings, paths_of, is_record_of}
-use Rattle.choose.specs.Visible.{Visible, record_at, seen, desks_of, IsStored, IsDeskStored, AreStored, recorded_before, is_recorded_at, records_on, is_recorded_pinned, choose_recorded, choose_in}
+use Rattle.choose.specs.Visible.{Visible, seen, desks_of, IsStored, IsDeskStored, AreStored, recorded_before, is_recorded_at, records_on, is_recorded_pinned, choose_recorded, choose_in}
+use Rattle.closures.specs.Trees.{record_at}
 
 -- ---- the least
 

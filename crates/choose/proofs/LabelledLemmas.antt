@@ -13,7 +13,8 @@ use Rattle.model.proofs.BoolLemmas.{either, both_parts, same_bytes}
 use Rattle.model.proofs.MemberLemmas.{In, in_of, contains_of, in_left, in_right, in_map, from_map, from_filter_map, in_flat_map, from_flat_map}
 use Rattle.realise.specs.Recorded.{Recorded}
 use Rattle.realise.specs.Holdings.{Holdings, is_at, has_labelled, IsClosed, IsClosedWith}
-use Rattle.choose.specs.Visible.{Visible, visible_on, source_at, record_at, seen, choose_in, SeesSourcesOf, SeesSourcesIn, paths_in, LabelsAreVisible, is_source_on}
+use Rattle.choose.specs.Visible.{Visible, visible_on, seen, choose_in, SeesSourcesOf, SeesSourcesIn, paths_in, LabelsAreVisible, is_source_on}
+use Rattle.closures.specs.Trees.{source_at, record_at}
 use Rattle.choose.specs.Gathering.{IsGathered}
 use Rattle.choose.proofs.ChoosingLemmas.{chosen_visible}
 use Rattle.choose.proofs.SourceLemmas.{some_desk}

@@ -12,7 +12,8 @@ use Rattle.model.proofs.BoolLemmas.{either, same_bytes}
 use Rattle.model.proofs.MemberLemmas.{In, in_left, in_right, in_append, from_filter_map, in_filter_map, in_flat_map, from_flat_map, from_set, in_set}
 use Rattle.model.proofs.ClosureLemmas.{some_same, IsOfClass, reached_chosen, chosen_for, sources_for}
 use Rattle.choose.specs.Visible.{Visible}
-use Rattle.choose.specs.Gathering.{AreApart, AreReached, IsGathered, Ascends}
+use Rattle.choose.specs.Gathering.{AreApart, AreReached, IsGathered}
+use Rattle.closures.specs.Ordered.{Ascends}
 use Rattle.choose.proofs.SetLemmas.{no_more, same_members, set_ascends, apart_distinct}
 use Rattle.choose.proofs.OrderLemmas.{rank_before-Weak, same_class_path, source_before-Weak, same_source}
 

@@ -6,6 +6,7 @@ use Rattle.model.specs.Worlds.{Source, Label, Record}
 use Rattle.model.specs.Classes.{Class}
 use Rattle.model.specs.Choices.{is_of, rank_before, source_before, reached, classes_below, sources_below, Plan}
 use Rattle.model.proofs.MemberLemmas.{In}
+use Rattle.closures.specs.Ordered.{Ascends}
 use Rattle.choose.specs.Visible.{Visible, source_in}
 
 abbrev pub has_class : List ℕ → Plan → Bool
@@ -91,11 +92,6 @@ pub record IsTooMuch (view : Visible) (choice : List ℕ → Option Record) (cla
   pub many : most_entries < length plan.records + length plan.sources
 
 -- ---- what a plan keeps
-
--- each stands before all that follow
-abbrev pub Ascends : {X : Type 0} → (X → X → Bool) → List X → Type 0
-Ascends before [] = Unit {0}
-Ascends {X = X} before (x ∷ xs) = ((y : X) → In y xs → before x y ≡ true) × Ascends before xs
 
 -- records and sources are in order, with one record for a class
 pub record IsInOrder (p : Plan) : Type 0 where

@@ -1,4 +1,3 @@
 pub mod Codes
 pub mod Visible
 pub mod Gathering
-pub mod Entries

@@ -1,29 +1,16 @@
 -- What is visible on desks, with the trees of the one table.
-use Rattle.std.specs.Prelude.{◌≡◌, ℕ, Bool, true, false, List, [], ◌++◌, map, filter, flat_map, bytes_eq, is_some, unwrap_or, All, Contains, Option, Some, None, Result}
+use Rattle.std.specs.Prelude.{◌≡◌, ℕ, Bool, true, false, List, ◌++◌, map, filter, flat_map, bytes_eq, is_some, All, Contains, Option, Some, None, Result}
 use Rattle.std.specs.Borrow.{Bor}
 use Rattle.std.specs.Option.{option_or}
 use Rattle.model.specs.declared.refusal.Refusal.{Refusal}
-use Rattle.model.specs.Archives.{Tree, Link, bytes_before}
+use Rattle.model.specs.Archives.{bytes_before}
 use Rattle.model.specs.Classes.{is_one_of}
 use Rattle.model.specs.Worlds.{Source, Label, Record, Desk, Pin, tree_at}
 use Rattle.model.specs.Orders.{first_by, list_before, least}
 use Rattle.model.specs.Choices.{visible_records, visible_sources, label_before, choose_among, source_among, sources_below, Plan, plan_by}
 use Rattle.realise.specs.Recorded.{Recorded}
-use Rattle.realise.specs.Holdings.{Holdings, IsClosed, paths_of, with_tree, records_of}
-
--- ---- trees of the table
-
--- the tree that a table has at a path
-abbrev pub tree_in : List Source → List ℕ → Tree
-tree_in table path = unwrap_or (tree_at path table) (Link [])
-
--- a path with that tree
-abbrev pub source_at : List Source → List ℕ → Source
-source_at table path = record { path = path; tree = tree_in table path }
-
--- a record with that tree
-abbrev pub record_at : List Source → Recorded → Record
-record_at table r = with_tree (tree_in table r.path) r
+use Rattle.closures.specs.Trees.{source_at, record_at}
+use Rattle.realise.specs.Holdings.{Holdings, IsClosed, paths_of, records_of}
 
 -- ---- what is visible
 

@@ -7,8 +7,8 @@ ghost use Rattle.model.specs.declared.refusal.Refusal.TheVariants.{Memory};
 ghost use Rattle.choose.specs.Visible.{recorded_before, at_path, pinned_at, of_class, choose_recorded, choose_in};
 
 use crate::order::is_record_before;
-use crate::realisation::Realisation;
 use crate::view::View;
+use closures::Realisation;
 use model::Refusal;
 use realise::{Desk, Pins, Record};
 use storepath::StorePath;

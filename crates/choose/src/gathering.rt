@@ -7,8 +7,8 @@ ghost use Rattle.choose.specs.Visible.{choose_in};
 ghost use Rattle.choose.specs.Gathering.{has_class, with_class, with_source, with_label, with_labels};
 
 use crate::choice::chosen;
-use crate::realisation::{Realisation, Source};
 use crate::view::View;
+use closures::{Realisation, Source};
 use indexmap::IndexSet;
 use model::Refusal;
 use realise::{Label, Pins};

@@ -3,16 +3,13 @@
 #![tactic(auto)]
 
 mod choice;
-mod entry;
 mod gathering;
 mod order;
 mod planned;
 mod planning;
-mod realisation;
 mod view;
 
-pub use entry::{Closure, Entry};
+pub use closures::{Closure, Entry, Realisation, Source};
 pub use planned::Plan;
 pub use planning::plan;
-pub use realisation::{Realisation, Source};
 pub use view::View;

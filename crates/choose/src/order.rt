@@ -6,7 +6,7 @@ ghost use Rattle.model.specs.Orders.{list_before};
 ghost use Rattle.model.specs.Choices.{label_before, rank_before, source_before};
 ghost use Rattle.choose.specs.Visible.{recorded_before};
 
-use crate::realisation::{Realisation, Source};
+use closures::{Realisation, Source};
 use realise::{Label, Record, is_class_before};
 use std::cmp::Ordering;
 

@@ -6,7 +6,7 @@ ghost use Rattle.model.specs.declared.refusal.Refusal.TheVariants.{Memory};
 ghost use Rattle.realise.specs.Holdings.{IsClosed};
 ghost use Rattle.choose.specs.Visible.{seen, desks_of, AreStored, is_source_on, source_in};
 
-use crate::realisation::Source;
+use closures::Source;
 use model::Refusal;
 use realise::Desk;
 use std::marker::Model;

@@ -10,7 +10,7 @@ ghost use Rattle.model.specs.declared.refusal.Refusal.TheVariants.{MissingInput,
 use crate::class::{Admitted, Class};
 use crate::known::Known;
 use crate::paths::{copies, set_of};
-use aterm::{Derivation, Text, print, print_with_inputs};
+use derivation::{Derivation, Text, print, print_with_inputs};
 use hashmod::sha256;
 use model::Refusal;
 use std::alloc::Global;

@@ -5,8 +5,8 @@ ghost use Rattle.model.specs.Goals.{in_state, new_goal};
 ghost use Rattle.jobs.specs.States.{state_of, job_in, planned_with};
 
 use crate::job::Job;
+use closures::Resolved;
 use model::Refusal;
-use repair::Resolved;
 use std::marker::Model;
 use storepath::StorePath;
 

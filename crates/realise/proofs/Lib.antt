@@ -1,7 +1,5 @@
 pub mod OrderLemmas
 pub mod PathOrderLemmas
-pub mod ZipLemmas
-pub mod StepLemmas
 pub mod Filtering
 pub mod LoopLemmas
 pub mod PinLemmas

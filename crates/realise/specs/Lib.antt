@@ -1,7 +1,5 @@
 pub mod Recorded
 pub mod LabelLaws
-pub mod Below
-pub mod Reaching
 pub mod Ordered
 pub mod Held
 pub mod Holdings

@@ -1,9 +1,6 @@
-//! What one user has: his desk, what was built for its classes, and what an output may refer to
-//! (Dolstra 2006, section 6.2).
+//! What one user has: his desk, and what was built for its classes (Dolstra 2006, section 6.2).
 #![tactic(auto)]
 
-mod below;
-mod candidate;
 mod desk;
 mod entry;
 mod groups;
@@ -16,8 +13,6 @@ mod pins;
 mod record;
 mod records;
 
-pub use below::records_below;
-pub use candidate::candidates;
 pub use desk::Desk;
 pub use entry::Entry;
 pub use grown::Grown;

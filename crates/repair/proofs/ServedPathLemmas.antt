@@ -9,7 +9,7 @@ use Rattle.model.specs.Classes.{Class}
 use Rattle.model.specs.Closures.{is_for, path_for, class_of_entry}
 use Rattle.realise.proofs.PinLemmas.{bytes_eq_sym}
 use Rattle.rewrite.specs.Tables.{with_first}
-use Rattle.repair.proofs.TurnLemmas.{take_step}
+use Rattle.moving.proofs.TurnLemmas.{take_step}
 
 abbrev Table : Type 0
 Table = List (List ℕ × List ℕ)

@@ -5,16 +5,16 @@ ghost use Rattle.model.specs.Results.{then_do};
 ghost use Rattle.model.specs.Closures.{served_plan};
 ghost use Rattle.model.specs.Resolutions.{resolved_text, resolved_over, scratch_path};
 ghost use Rattle.model.specs.declared.refusal.Refusal.TheVariants.{Memory};
-ghost use Rattle.repair.specs.SoundPlans.{IsSoundPlan};
+ghost use Rattle.closures.specs.Sound.{IsSoundPlan};
 
-use crate::resolved::Resolved;
 use crate::served::{Served, served_among};
-use crate::serving::served_closure;
 use crate::strings::resolved_parts;
-use aterm::{Derivation, print_parts};
 use choose::Plan;
+use closures::Resolved;
+use derivation::{Derivation, print_parts};
 use hashmod::sha256;
 use model::Refusal;
+use serving::served_closure;
 use std::alloc::Global;
 use storepath::{Kind, Name, StorePath, make_path};
 

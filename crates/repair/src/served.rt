@@ -7,7 +7,7 @@ ghost use Rattle.model.specs.Resolutions.{served_among, images_for};
 ghost use Rattle.model.specs.declared.refusal.Refusal.TheVariants.{Memory};
 ghost use Rattle.rewrite.specs.Tables.{with_first};
 
-use choose::Entry;
+use closures::Entry;
 use indexmap::IndexMap;
 use model::Refusal;
 use rewrite::Images;

@@ -4,13 +4,13 @@ ghost use Rattle.std.specs.Prelude.{◌≡◌, map, false, MatchResult};
 ghost use Rattle.std.specs.List.{list_any};
 ghost use Rattle.model.specs.Substitutions.{put_text};
 ghost use Rattle.model.specs.Resolutions.{is_crowded, put_variable, resolved_derivation};
-ghost use Rattle.aterm.specs.Parts.{derivation_of};
+ghost use Rattle.derivation.specs.Parts.{derivation_of};
 ghost use Rattle.rewrite.specs.Strings.{IsOverlap};
 ghost use Rattle.repair.specs.Resolving.{is_variable_crowded, overlaps};
 
 use crate::served::{Served, images_for};
 use crate::sources::sources_with;
-use aterm::{Derivation, Parts, Text};
+use derivation::{Derivation, Parts, Text};
 use model::Refusal;
 use rewrite::Replacer;
 use std::alloc::Global;

@@ -14,10 +14,10 @@ use Rattle.trust.specs.Trusting.{IsReach}
 use Rattle.trust.specs.Naming.{place_of, name_at, names, IsWithin, IsLinked}
 use Rattle.trust.proofs.PlaceLemmas.{option_cases, name_found, same_place, no_place}
 use Rattle.trust.proofs.NameLemmas.{within_nobody, reached_names}
-use Rattle.schedule.specs.declared.events.Event.{Event}
-use Rattle.schedule.specs.Standing.{event_of}
+use Rattle.events.specs.declared.event.Event.{Event}
+use Rattle.events.specs.Terms.{event_of}
 use Rattle.schedule.specs.Ever.{run_of, IsGiven, why_untold}
-use Rattle.schedule.proofs.WorldLemmas as worlds
+use Rattle.desks.proofs.WorldLemmas as worlds
 
 -- a list of users has no name twice, and no more than 64
 pub distinct_users : (users : List (List ℕ)) → are_users users ≡ true → (are_distinct users ≡ true) × (length users ≤ 64)

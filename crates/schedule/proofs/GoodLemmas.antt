@@ -8,8 +8,7 @@ use Rattle.model.specs.declared.refusal.Refusal.{Refusal}
 use Rattle.model.specs.declared.refusal.Refusal.TheVariants.{UnknownUser, UnknownDerivation, UnknownGoal, WrongState, NotRealised}
 use Rattle.model.specs.Results.{then_do}
 use Rattle.model.specs.Paths.{IsPath, NoClash}
-use Rattle.model.specs.Derivations.{Derivation}
-use Rattle.model.specs.Classes.{Admission, Known, known_at}
+use Rattle.model.specs.Classes.{Admission, known_at}
 use Rattle.model.specs.Worlds.{Source, Setup, Desk, World, Resolved, Planned, Goal, known_of, Label, Record, Pin, Entry, OfSource, OfRecord, tree_at, is_user}
 use Rattle.model.specs.References.{paths_of_labels}
 use Rattle.model.specs.Choices.{Plan, plan}
@@ -18,7 +17,7 @@ use Rattle.model.specs.Closures.{served_plan, closure_texts, IsWhole, KeepsNoRep
 use Rattle.model.specs.Closures as closures
 use Rattle.model.specs.ClosureRequests.{closure_for}
 use Rattle.model.specs.Goals.{goal_at, with_goal_at, with_goal, as_seen, is_waiting}
-use Rattle.model.specs.Resolutions.{input_classes, served_among, resolved_text, resolved_to, resolved_over, resolve, scratch_texts, resolving_texts}
+use Rattle.model.specs.Resolutions.{input_classes, scratch_texts, resolving_texts}
 use Rattle.model.specs.GoalRequests.{turns, resolve_for, plan_resolved, plan_goal, plan_texts}
 use Rattle.model.specs.GoalRequests as requests
 use Rattle.model.specs.Events.{Closure, Plan as AskPlan, Event, Reply, Entries, GoalState}
@@ -29,26 +28,29 @@ use Rattle.model.specs.GivenClosures.{GivesGoodClosure, KeepsGoodClosure}
 use Rattle.model.proofs.BoolLemmas.{either, same_bytes, bytes_same}
 use Rattle.model.proofs.OutcomeLemmas.{checked, needed}
 use Rattle.model.proofs.MemberLemmas.{In, in_of, contains_of, in_left, in_right, in_map, in_append, from_map, from_flat_map}
-use Rattle.model.proofs.ServedLemmas.{then_ok, find_in, option_cases}
+use Rattle.model.proofs.ServedLemmas.{find_in, option_cases}
 use Rattle.model.proofs.ClosureLemmas.{plan_visible}
 use Rattle.model.proofs.WholeLemmas.{closures_whole}
 use Rattle.realise.specs.Recorded.{Recorded}
 use Rattle.realise.specs.Holdings.{Holdings, paths_of, IsClosed, IsClosedWith}
-use Rattle.choose.specs.Visible.{Visible, source_at, record_at, visible_on, seen, IsStored, IsDeskStored}
+use Rattle.choose.specs.Visible.{Visible, visible_on, seen, IsStored, IsDeskStored}
+use Rattle.closures.specs.Trees.{source_at, record_at}
 use Rattle.choose.specs.Visible as visible
 use Rattle.choose.proofs.DeskLemmas.{desks_seen}
 use Rattle.choose.proofs.LabelledLemmas.{sees_in, labels_in, view_sees_sources}
-use Rattle.repair.specs.SoundPlans.{IsSoundRecord, IsSoundPlan, PartsTellApart}
-use Rattle.repair.specs.RepairLaws.{paths_of_record, paths_in}
-use Rattle.repair.proofs.SoundLemmas.{served_is_sound}
-use Rattle.repair.proofs.KeptLemmas.{served_parts, served_for}
-use Rattle.repair.proofs.MadeLemmas.{served_are_made}
-use Rattle.repair.proofs.OrderedLemmas.{closures_keep_no_replaced}
-use Rattle.schedule.specs.Sound.{Beside, IsSound, IsHashed}
-use Rattle.schedule.specs.Standing.{beside_at, Parts, world_in, desk_among}
-use Rattle.schedule.specs.Viewing.{bare}
-use Rattle.schedule.specs.Given.{HasSoundPlan, HasSoundGoalPlan}
-use Rattle.schedule.proofs.PuttingLemmas.{all_front}
+use Rattle.closures.specs.Sound.{IsSoundRecord, IsSoundPlan}
+use Rattle.serving.specs.SoundPlans.{PartsTellApart}
+use Rattle.serving.specs.RepairLaws.{paths_of_record, paths_in}
+use Rattle.serving.proofs.SoundLemmas.{served_is_sound}
+use Rattle.serving.proofs.KeptLemmas.{served_parts, served_for}
+use Rattle.serving.proofs.MadeLemmas.{served_are_made}
+use Rattle.serving.proofs.OrderedLemmas.{closures_keep_no_replaced}
+use Rattle.goals.proofs.ResolveLemmas.{resolved_closure}
+use Rattle.desks.specs.Sound.{Beside, IsSound, IsHashed}
+use Rattle.desks.specs.Parts.{beside_at, Parts, world_in, desk_among}
+use Rattle.desks.specs.Viewing.{bare}
+use Rattle.desks.specs.Given.{HasSoundPlan, HasSoundGoalPlan}
+use Rattle.desks.proofs.PuttingLemmas.{all_front}
 use Rattle.schedule.proofs.ApartLemmas.{IsPrinted, made_printed, one_path}
 
 -- ---- desks of users
@@ -289,17 +291,6 @@ planned_so s n =
     (λ waits. needed P UnknownDerivation (known_at (known_of s.desk) g.derivation) (λ a. plan_resolved s n g (resolve_for s a.derivation))
     (λ a known. resolved_so s n g a there waits known (resolve_for s a.derivation) refl) (λ none told. absurd (cc))) (λ begun told. absurd (cc)))
     (λ none told. absurd (cc))
-
--- what a derivation is resolved to has the closure of its inputs and its sources
-pub resolved_closure : (view : List Desk) (pins : List Pin) (known : Known) (d : Derivation) (r : Resolved) → resolve view pins known d ≡ Ok r
-    → closures.closure view pins (input_classes known d) d.sources ≡ Ok r.closure
-resolved_closure view pins known d r is =
-    let classes : List (List ℕ) = input_classes known d in
-    let one = then_ok (closures.closure view pins classes d.sources) (resolved_over classes d) r is in
-    let two = then_ok (served_among one.0 classes) (λ served. then_do (resolved_text served d) (resolved_to one.0 d)) r one.2 in
-    let three = then_ok (resolved_text two.0 d) (resolved_to one.0 d) r two.2 in
-    let same : one.0 ≡ r.closure = cc in
-    one.1 ∙ ap Ok same
 
 -- the goal of a number that was put there
 put_there : (n : ℕ) (g h : Goal) (goals : List Goal) → goal_at n goals ≡ Some h → goal_at n (with_goal_at n g goals) ≡ Some g

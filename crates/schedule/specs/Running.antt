@@ -8,8 +8,8 @@ use Rattle.model.specs.Striking.{strike}
 use Rattle.model.specs.Replies.{is_memory}
 use Rattle.model.specs.GivenClosures.{GiveGoodClosures}
 use Rattle.trust.specs.declared.user.User.{User}
-use Rattle.schedule.specs.declared.events.Reply.{Reply}
-use Rattle.schedule.specs.Standing.{reply_of}
+use Rattle.events.specs.declared.reply.Reply.{Reply}
+use Rattle.events.specs.Terms.{reply_of}
 
 -- the events that were answered otherwise than with 90
 abbrev pub events_served : List Event → List Answer → List Event

@@ -9,8 +9,9 @@ use Rattle.model.specs.Replies.{is_memory, is_clash, is_refused, needs_no_memory
 use Rattle.model.specs.HashedTexts.{texts_of_event}
 use Rattle.model.specs.GivenClosures.{GivesGoodClosure, KeepsGoodClosure}
 use Rattle.schedule.specs.declared.state.Core.{Core}
-use Rattle.schedule.specs.Stored.{IsTakenFor}
-use Rattle.schedule.specs.Standing.{world_of, setup_of, stored_in, is_stopped, IsStep, IsUnchanged, HasHashed}
+use Rattle.desks.specs.Stored.{IsTakenFor}
+use Rattle.schedule.specs.Standing.{world_of, setup_of, stored_in, is_stopped, IsUnchanged, HasHashed}
+use Rattle.desks.specs.Parts.{IsStep}
 
 -- all that an event hashes at a core is among the texts
 abbrev pub HashesWithin : List (List ℕ) → Core → Event → Type 0

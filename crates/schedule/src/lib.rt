@@ -4,19 +4,14 @@
 //! both promise is said in the terms of the crate `model`: the store is as good as private desks.
 #![tactic(auto)]
 
-mod events;
-mod limits;
-mod output;
 mod requests;
 mod runs;
 mod state;
 mod step;
 mod striking;
-mod view;
 
-pub use events::{Event, Reply, Request};
-pub use limits::{LARGEST_CHARGE, Limits};
-pub use output::Output;
+pub use desks::{LARGEST_CHARGE, Limits};
+pub use events::{Event, Output, Reply, Request};
 pub use runs::run;
 pub use state::Core;
 pub use striking::strike;

@@ -4,57 +4,25 @@ ghost use Rattle.std.specs.Prelude.{◌≡◌, true, length, position, bytes_eq,
 ghost use Rattle.model.specs.Worlds.{are_users};
 ghost use Rattle.trust.specs.Trusting.{trusts};
 ghost use Rattle.trust.specs.Naming.{IsWithin};
-ghost use Rattle.schedule.specs.Sound.{IsSound, AreGoalsSound};
-ghost use Rattle.schedule.specs.Supported.{AreSupported};
-ghost use Rattle.schedule.specs.Standing.{event_of, parts};
-ghost use Rattle.schedule.specs.Handling.{IsHandled};
+ghost use Rattle.desks.specs.Sound.{IsSound, AreGoalsSound};
+ghost use Rattle.desks.specs.Supported.{AreSupported};
+ghost use Rattle.events.specs.Terms.{event_of};
+ghost use Rattle.desks.specs.Parts.{parts};
+ghost use Rattle.desks.specs.Handling.{IsHandled};
 
-mod closures;
-mod committing;
-mod derivations;
-mod ending;
-mod entries;
-mod finishing;
-mod gains;
-mod goals;
-mod hearing;
-mod offers;
-mod outputs;
-mod pins;
-mod planning;
-mod settling;
-mod sources;
-mod starting;
-mod taking;
-mod trusting;
-
-use crate::events::{Event, Reply, Request};
-use crate::limits::Limits;
-use closures::closure;
-use derivations::add_derivation;
-use ending::fail;
-use finishing::finish;
-use goals::{build, status};
+use desks::{
+    Limits, add_derivation, add_source, add_trust, fetch, offer, pin, place_of, remove_trust, unpin,
+};
+use endings::{fail, finish};
+use events::{Event, Reply, Request};
+use goals::{build, plan, start, status};
 use jobs::Jobs;
 use model::Refusal;
-use offers::offer;
-use pins::{pin, unpin};
-use planning::plan;
 use realise::Desk;
-use sources::{add_source, fetch};
-use starting::start;
 use std::alloc::Global;
 use store::Table;
-use taking::take;
 use trust::{Trust, User};
-use trusting::{add_trust, remove_trust};
-
-/// The place of a user in a list.
-pub(crate) fn place_of(users: &[User], name: &User) -> Option<usize>
-    ensures { result ≡ position (λ u. bytes_eq u name.now) users.now }
-{
-    users.iter().position(|user| *user == *name)
-}
+use views::{closure, take};
 
 /// Handles an event by the parts of a core: its users, whom they trust, its table, a desk for each
 /// user, and its limits.

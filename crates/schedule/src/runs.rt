@@ -11,13 +11,14 @@ ghost use Rattle.model.specs.HashedTexts.{hashed};
 ghost use Rattle.model.specs.GivenClosures.{GiveGoodClosures};
 ghost use Rattle.model.specs.Striking.{strike};
 ghost use Rattle.model.specs.declared.refusal.Refusal.TheVariants.{Memory, BadUsers};
-ghost use Rattle.schedule.specs.Standing.{setup_for, IsRefusedFor, event_of, reply_of, answer_of};
+ghost use Rattle.schedule.specs.Standing.{setup_for, IsRefusedFor};
+ghost use Rattle.events.specs.Terms.{event_of, reply_of, answer_of};
 ghost use Rattle.schedule.specs.Stepping.{IsCoreStep};
 ghost use Rattle.schedule.specs.Running.{HadMemory, events_served, without_memory, ArePrivate};
 
-use crate::events::{Event, Reply};
-use crate::limits::Limits;
 use crate::state::Core;
+use desks::Limits;
+use events::{Event, Reply};
 use model::{Refusal, isolation};
 use std::alloc::Global;
 use std::hash::RandomState;

@@ -7,10 +7,10 @@ ghost use Rattle.model.specs.TreeCode.{tree_code};
 ghost use Rattle.model.specs.Worlds.{are_users};
 ghost use Rattle.trust.specs.Trusting.{trusts};
 ghost use Rattle.trust.specs.Naming.{IsWithin};
-ghost use Rattle.schedule.specs.Sound.{IsSound, AreGoalsSound};
-ghost use Rattle.schedule.specs.Supported.{AreSupported};
+ghost use Rattle.desks.specs.Sound.{IsSound, AreGoalsSound};
+ghost use Rattle.desks.specs.Supported.{AreSupported};
 
-use crate::limits::Limits;
+use desks::Limits;
 use jobs::Jobs;
 use realise::Desk;
 use store::Table;

@@ -5,11 +5,11 @@ ghost use Rattle.model.specs.Worlds.{are_users};
 ghost use Rattle.model.specs.Striking.{strike};
 ghost use Rattle.trust.specs.Trusting.{holds, trusts};
 ghost use Rattle.trust.specs.Naming.{names, IsWithin};
-ghost use Rattle.schedule.specs.Standing.{event_of};
+ghost use Rattle.events.specs.Terms.{event_of};
 ghost use Rattle.schedule.specs.Ever.{run_of, gives, IsGiven, why_untold};
 
-use crate::events::{Event, Request};
-use crate::requests::place_of;
+use desks::place_of;
+use events::{Event, Request};
 use model::Refusal;
 use trust::{Trust, User, are_users};
 

@@ -1,8 +1,3 @@
-pub mod CutLemmas
-pub mod NumberLemmas
-pub mod WordLemmas
-pub mod OutputLemmas
-pub mod FillLemmas
 pub mod SessionLemmas
 pub mod LineLemmas
 pub mod RowLemmas

@@ -6,11 +6,11 @@ use Rattle.model.specs.Events as events
 use Rattle.model.specs.Lines.{Told, nothing_told}
 use Rattle.model.specs.Forms.{Form}
 use Rattle.model.specs.Talk.{Row, Names, Refuses, Asks, Seen, form_of, Gets, answer_text, told_in, is_bad_users}
-use Rattle.schedule.specs.declared.events.Event.{Event}
-use Rattle.schedule.specs.Standing.{event_of}
-use Rattle.session.specs.declared.reading.Reading.{Reading}
-use Rattle.session.specs.declared.reading.Reading.TheVariants as reading
-use Rattle.session.specs.Reading.{IsRowOf, Becomes}
+use Rattle.events.specs.declared.event.Event.{Event}
+use Rattle.events.specs.Terms.{event_of}
+use Rattle.lines.specs.declared.reading.Reading.{Reading}
+use Rattle.lines.specs.declared.reading.Reading.TheVariants as reading
+use Rattle.lines.specs.Reading.{IsRowOf, Becomes}
 use Rattle.session.specs.Serving.{Gives, StopsAt}
 
 abbrev pub seen_by : Bool → Bool → List Told → Seen

@@ -1,4 +1,3 @@
-pub mod Reading
 pub mod Serving
 pub mod Ahead
 pub mod Prefixed

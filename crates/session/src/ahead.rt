@@ -8,15 +8,14 @@ ghost use Rattle.session.specs.Ahead.{IsLook, NoUsersSoFar, LooksAhead, Searches
 ghost use Rattle.session.specs.Serving.{HasFailed};
 
 use crate::answer::{Faults, NoUsers};
-use crate::cut::cut;
-use crate::reading::Reading;
 use crate::serving::{CHUNK, hold, is_begun};
 use crate::session::{Mode, Session};
 use crate::streams::read_some;
+use lines::{Reading, cut};
 use model::Refusal;
-use schedule::User;
 use std::alloc::Global;
 use std::io::Read;
+use trust::User;
 
 /// What was read of an input, up to its first line of users that is answered `ok`.
 #[derive(Drop)]

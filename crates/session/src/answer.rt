@@ -2,10 +2,10 @@
 
 ghost use Rattle.std.specs.Prelude.{◌≡◌, ℕ};
 ghost use Rattle.model.specs.Events as events;
-ghost use Rattle.schedule.specs.Standing.{event_of, reply_of};
+ghost use Rattle.events.specs.Terms.{event_of, reply_of};
 
+use events::{Event, Reply};
 use model::Refusal;
-use schedule::{Core, Event, Reply};
 use std::alloc::Global;
 
 /// What answers the events of a session.
@@ -41,17 +41,6 @@ impl Answer for NoUsers {
 
     fn call(&mut self, _alloc: Global, _event: Event) -> Reply {
         Reply::Refused(Refusal::UnknownUser)
-    }
-}
-
-/// A store answers each event by a step.
-impl Answer for Core {
-    ghost use Rattle.schedule.specs.Stepping.{IsCoreStep};
-
-    ghost answers = { IsCoreStep };
-
-    fn call(&mut self, alloc: Global, event: Event) -> Reply {
-        self.step(alloc, event)
     }
 }
 

@@ -13,24 +13,14 @@
 
 mod ahead;
 mod answer;
-mod cut;
-mod entries;
-mod expand;
-mod forms;
-mod numbers;
 mod prefixed;
-mod reading;
 mod serving;
 mod session;
 mod streams;
-mod texts;
-mod told;
-mod wishes;
-mod words;
 
 pub use ahead::{Ahead, read_ahead};
 pub use answer::{Answer, Faults, NoUsers};
+pub use lines::answer_text;
 pub use prefixed::Prefixed;
 pub use serving::{serve, serve_whole_lines};
 pub use session::{Mode, Session};
-pub use texts::answer_text;

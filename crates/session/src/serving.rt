@@ -7,10 +7,9 @@ ghost use Rattle.model.specs.Lines.{lines_of};
 ghost use Rattle.session.specs.Serving.{GoesOn, EndsIn, Finishes, EndsAtLast, AnsweredSoFar, EndedEarly, Finished, HoldsMore, IsOwn, MayBeFault};
 
 use crate::answer::{Answer, Faults};
-use crate::cut::cut;
-use crate::forms::LONGEST_LINE;
 use crate::session::{Mode, Session};
 use crate::streams::{flush, read_some, write_whole};
+use lines::{LONGEST_LINE, cut};
 use model::Refusal;
 use std::alloc::{AllocError, Global};
 use std::io::{Read, Write};

@@ -4,17 +4,14 @@ ghost use Rattle.std.specs.Prelude.{◌≡◌, ◌⊎◌, IfOk, IfErr, OnErr};
 ghost use Rattle.model.specs.declared.refusal.Refusal.TheVariants.{Memory};
 ghost use Rattle.model.specs.Talk.{fresh, form_of, Gets, answer_text, told_in, is_bad_users};
 ghost use Rattle.model.specs.Events as events;
-ghost use Rattle.schedule.specs.Standing.{event_of, reply_of};
-ghost use Rattle.session.specs.Reading.{Becomes, IsRowOf};
+ghost use Rattle.events.specs.Terms.{event_of, reply_of};
+ghost use Rattle.lines.specs.Reading.{Becomes, IsRowOf};
 ghost use Rattle.session.specs.Serving.{Gives, StopsAt};
 
 use crate::answer::Answer;
-use crate::forms::read_line;
-use crate::reading::Reading;
-use crate::texts::answer_text;
-use crate::told::{Told, told_in};
+use events::{Event, Reply};
+use lines::{Reading, Told, answer_text, read_line, told_in};
 use model::Refusal;
-use schedule::{Event, Reply};
 use std::alloc::Global;
 use std::marker::Model;
 

@@ -1,7 +1,7 @@
 //! A reader and a writer whose calls are counted, and of which one call may fail.
 
+use crate::calls::number;
 use crate::fault::Fault;
-use crate::lines::number;
 use session::Faults;
 use std::alloc::Global;
 use std::io;

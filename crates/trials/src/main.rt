@@ -1,18 +1,18 @@
 //! Runs sessions, stores and fronts on the lines of standard input, and prints what each line gives.
 //!
-//! A line is a call, a blank and its argument; [`lines`] says what else a line may be. In the texts of
+//! A line is a call, a blank and its argument; [`calls`] says what else a line may be. In the texts of
 //! inputs and outputs `;` stands for a newline. What the lines should give comes from outside:
 //! `tests/trials` computes it.
 #![tactic(auto)]
 
+mod calls;
 mod devices;
 mod fault;
 mod fronts;
-mod lines;
 mod sessions;
 mod stores;
 
-use crate::lines::answer_of_line;
+use crate::calls::answer_of_line;
 use anyhow::Context;
 use std::hash::RandomState;
 

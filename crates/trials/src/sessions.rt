@@ -1,14 +1,30 @@
 //! Sessions in pieces, over a reader and a writer that may fail.
 
+use crate::calls::{on_one_line, with_newlines};
 use crate::devices::{Sink, Source, calls_of};
 use crate::fault::Fault;
-use crate::lines::{on_one_line, with_newlines};
 use crate::stores::{new_core, store_of};
 use model::Refusal;
-use schedule::User;
-use session::{Ahead, Mode, NoUsers, Prefixed, Session, read_ahead, serve, serve_whole_lines};
+use schedule::{Core, Event, Reply, User};
+use session::{
+    Ahead, Answer, Mode, NoUsers, Prefixed, Session, read_ahead, serve, serve_whole_lines,
+};
 use std::alloc::Global;
 use std::hash::RandomState;
+
+/// A store that answers each event by a step.
+#[derive(Drop)]
+struct Store {
+    core: Core,
+}
+
+impl Answer for Store {
+    ghost answers = { λ old event reply new. Unit {0} };
+
+    fn call(&mut self, alloc: Global, event: Event) -> Reply {
+        self.core.step(alloc, event)
+    }
+}
 
 /// `ok`, or the refusal.
 fn word_of(alloc: Global, ended: Result<(), Refusal>) -> Result<String, Fault> {
@@ -46,18 +62,20 @@ pub(crate) fn talk(alloc: Global, hashing: RandomState, argument: &str) -> Resul
     let (writes, rest) = calls_of(rest)?;
     let mut source = Source::new(with_newlines(alloc, rest)?, reads);
     let mut sink = Sink::new(alloc, writes);
-    let mut core = new_core(alloc, hashing)?;
-    let ended = serve(alloc, Mode::Service, &mut source, &mut sink, &mut core);
+    let core = new_core(alloc, hashing)?;
+    let mut store = Store { core };
+    let ended = serve(alloc, Mode::Service, &mut source, &mut sink, &mut store);
     told(alloc, ended, source.count.made, sink)
 }
 
 /// `INPUT`: answers the input to alice and bob a line at a time.
 pub(crate) fn lines(alloc: Global, hashing: RandomState, argument: &str) -> Result<String, Fault> {
-    let mut core = new_core(alloc, hashing)?;
+    let core = new_core(alloc, hashing)?;
+    let mut store = Store { core };
     let mut session = Session::new(alloc, Mode::Service);
     let mut text = Vec::new(alloc);
     for line in argument.split(';') {
-        let answer = session.line(alloc, line.as_bytes(), &mut core)?;
+        let answer = session.line(alloc, line.as_bytes(), &mut store)?;
         text.extend_from_slice(&answer)?;
     }
     on_one_line(text)
@@ -71,10 +89,11 @@ fn answered_by_store(
     bytes: Vec<u8>,
     source: Source,
 ) -> Result<Vec<u8>, Fault> {
-    let mut core = store_of(alloc, hashing, users)?;
+    let core = store_of(alloc, hashing, users)?;
+    let mut store = Store { core };
     let mut reader = Prefixed::new(bytes, source);
     let mut text = Vec::new(alloc);
-    serve(alloc, Mode::Service, &mut reader, &mut text, &mut core)?;
+    serve(alloc, Mode::Service, &mut reader, &mut text, &mut store)?;
     Ok(text)
 }
 

@@ -1,7 +1,7 @@
 use Rattle.std.proofs.Common.{◌≡◌, ap, sym, ◌∙◌}
 use Rattle.std.specs.Prelude.{Some}
 use Rattle.std.proofs.lemmas.Result.{err_from_is_err_and}
-use Rattle.aterm.specs.Parts.{derivation_of}
+use Rattle.derivation.specs.Parts.{derivation_of}
 use Rattle.aterm.specs.Strings.{derivation_read}
 use Rattle.model.specs.DerivationTexts.{derivation_at}
 use Rattle.aterm.proofs.Refusing.{refused_strings, refused_paths, made_or_refused, made_only}

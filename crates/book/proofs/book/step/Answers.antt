@@ -1,7 +1,7 @@
 use Rattle.std.proofs.Common.{◌≡◌, false, inl, inr}
 use Rattle.model.specs.Replies.{is_refused}
 use Rattle.model.proofs.BoolLemmas.{either}
-use Rattle.schedule.specs.Standing.{reply_of}
+use Rattle.events.specs.Terms.{reply_of}
 use Rattle.book.proofs.book.step.Goals as goal
 
 pub returns-in-Err-clause-lost : goal.returns-in-Err-clause-lost

@@ -1,7 +1,7 @@
 use Rattle.std.proofs.Common.{◌≡◌, ◌∙◌, sym, ap, Some}
 use Rattle.std.specs.Prelude.{option_copied, option_map}
 use Rattle.model.specs.Worlds.{pin_of, tree_at}
-use Rattle.choose.specs.Visible.{record_at}
+use Rattle.closures.specs.Trees.{record_at}
 use Rattle.choose.proofs.ChoosingLemmas.{found_choice, found_stored, not_there, made_record}
 use Rattle.choose.proofs.choice.chosen.Goals as goal
 

@@ -6,7 +6,7 @@ use Rattle.sha2.specs.Sha256.{sha256}
 use Rattle.model.specs.Paths.{OutputClass, store_path}
 use Rattle.model.specs.Derivations.{Derivation, derivation_text, name_of}
 use Rattle.model.specs.Classes.{rank_at, greatest, mask_of, sorted, masked_text, admit}
-use Rattle.aterm.specs.Parts.{derivation_of}
+use Rattle.derivation.specs.Parts.{derivation_of}
 use Rattle.classes.proofs.Order.{sort_gives}
 use Rattle.classes.proofs.Admitting.{has_inputs, has_sources, sources_missing, too_high, admission, is_admitted, is_admission, refused_masks}
 use Rattle.classes.proofs.admission.class_for.Goals as goal

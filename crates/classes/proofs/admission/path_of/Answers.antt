@@ -6,7 +6,7 @@ use Rattle.model.specs.Derivations.{derivation_text}
 use Rattle.model.specs.Classes.{sorted, references_of, derivation_path}
 use Rattle.std.specs.Prelude.{filter}
 use Rattle.classes.proofs.Others.{is_other}
-use Rattle.aterm.specs.Parts.{derivation_of}
+use Rattle.derivation.specs.Parts.{derivation_of}
 use Rattle.classes.proofs.admission.path_of.Goals as goal
 
 pub returns : goal.returns

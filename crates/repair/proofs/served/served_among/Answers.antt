@@ -2,7 +2,7 @@ use Rattle.std.proofs.Common.{inr, ◌∙◌, sym, ap}
 use Rattle.std.specs.Option.{option_copied}
 use Rattle.model.specs.declared.refusal.Refusal.TheVariants.{NotRealised}
 use Rattle.model.specs.Resolutions.{served_by}
-use Rattle.repair.proofs.TurnLemmas.{each_none, each_step, each_stop}
+use Rattle.moving.proofs.TurnLemmas.{each_none, each_step, each_stop}
 use Rattle.repair.proofs.ResolvingLemmas.{served_none, served_some}
 use Rattle.repair.proofs.served.served_among.Goals as goal
 

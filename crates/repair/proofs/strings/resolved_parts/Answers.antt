@@ -2,7 +2,7 @@ use Rattle.std.proofs.Common.{◌≡◌, false, subst, ◌∙◌}
 use Rattle.std.proofs.lemmas.Result.{err_from_is_err_and}
 use Rattle.model.specs.Derivations.{Derivation}
 use Rattle.model.specs.Resolutions.{resolved_derivation}
-use Rattle.aterm.specs.Parts.{derivation_of}
+use Rattle.derivation.specs.Parts.{derivation_of}
 use Rattle.rewrite.specs.Strings.{IsOverlap}
 use Rattle.repair.specs.Resolving.{overlaps}
 use Rattle.repair.proofs.ResolvingLemmas.{made_of, builder_overlaps, arguments_overlap, variables_overlap, none_overlap, parts_resolve}

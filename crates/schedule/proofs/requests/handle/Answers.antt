@@ -5,15 +5,16 @@ use Rattle.trust.specs.Trusting.{trusts}
 use Rattle.model.specs.Worlds.{Source, Goal}
 use Rattle.jobs.specs.Owned.{OwnedByAll, goals_at}
 use Rattle.realise.specs.Holdings.{Holdings}
-use Rattle.schedule.specs.Sound.{IsSound}
-use Rattle.schedule.specs.Standing.{event_of, parts}
+use Rattle.desks.specs.Sound.{IsSound}
+use Rattle.events.specs.Terms.{event_of}
+use Rattle.desks.specs.Parts.{parts}
 use Rattle.model.specs.Events.{Closure as ClosureRequest, Take as TakeRequest, Plan as PlanRequest, Start as StartRequest, Finish as FinishRequest}
 use Rattle.choose.specs.Visible.{IsComplete}
-use Rattle.schedule.specs.Viewing.{bare, desk_at}
-use Rattle.schedule.specs.Handling.{IsHandled, IsHandledByAll, IsHandledBySight, IsHandledAtPlace}
-use Rattle.schedule.proofs.TrustLemmas.{few_users, put_back}
-use Rattle.schedule.proofs.ClosureLemmas.{all_complete}
-use Rattle.schedule.proofs.HandlingLemmas.{asking, stranger, at_desk, by_desk, by_sight, by_goals, by_reading, at_place}
+use Rattle.desks.specs.Viewing.{bare, desk_at}
+use Rattle.desks.specs.Handling.{IsHandled, IsHandledByAll, IsHandledBySight, IsHandledAtPlace}
+use Rattle.desks.proofs.TrustLemmas.{few_users, put_back}
+use Rattle.views.proofs.ClosureLemmas.{all_complete}
+use Rattle.desks.proofs.HandlingLemmas.{asking, stranger, at_desk, by_desk, by_sight, by_goals, by_reading, at_place}
 use Rattle.schedule.proofs.requests.handle.Goals as goal
 
 pub returns-in_default-clause-handled : goal.returns-in_default-clause-handled

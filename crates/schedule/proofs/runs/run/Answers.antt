@@ -1,7 +1,7 @@
 use Rattle.std.proofs.Common.{List, ◌∷◌, rules, refl, sym, ◌∙◌}
 use Rattle.std.specs.Vec.Iter.{into_iter_items}
 use Rattle.model.specs.Worlds.{Setup}
-use Rattle.schedule.specs.declared.events.Event.{Event}
+use Rattle.events.specs.declared.event.Event.{Event}
 use Rattle.schedule.specs.Standing.{setup_for}
 use Rattle.schedule.proofs.RunLemmas.{Going, starts, goes_on, ends, all_actors, all_same, all_whole, all_isolated, others_private}
 use Rattle.schedule.proofs.runs.run.Goals as goal

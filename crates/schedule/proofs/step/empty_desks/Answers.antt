@@ -1,6 +1,6 @@
 use Rattle.std.proofs.Common.{rules, refl, ◌≡◌, [], ◌∷◌, ◌++◌}
 use Rattle.std.proofs.lemmas.List.Elements.{All-push}
-use Rattle.schedule.specs.Sound.{IsEmpty}
+use Rattle.desks.specs.Sound.{IsEmpty}
 use Rattle.schedule.proofs.step.empty_desks.Goals as goal
 
 pub loop-desk-preserved : goal.loop-desk-preserved

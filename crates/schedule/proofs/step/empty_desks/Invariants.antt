@@ -1,6 +1,6 @@
 use Rattle.std.proofs.Common.{◌≡◌, vec_len}
 use Rattle.std.specs.Prelude.{All}
-use Rattle.schedule.specs.Sound.{IsEmpty}
+use Rattle.desks.specs.Sound.{IsEmpty}
 use Rattle.schedule.proofs.step.empty_desks.Given as goal
 
 abbrev pub invariant-loop-desk : goal.invariant-loop-desk

@@ -5,14 +5,15 @@ use Rattle.model.specs.Worlds.{Goal, are_users}
 use Rattle.trust.specs.Trusting.{trusts}
 use Rattle.trust.specs.Naming.{trusted_at, IsWithin}
 use Rattle.trust.proofs.NameLemmas.{trusted_by_nobody, within_nobody}
-use Rattle.schedule.specs.Sound.{Beside, IsEmpty, IsSound, AreGoalsSound}
-use Rattle.schedule.specs.Standing.{world_of, setup_of, stored_in, goals_of, beside_at}
+use Rattle.desks.specs.Sound.{Beside, IsEmpty, IsSound, AreGoalsSound}
+use Rattle.schedule.specs.Standing.{world_of, setup_of, stored_in}
+use Rattle.desks.specs.Parts.{goals_of, beside_at}
 use Rattle.jobs.specs.Owned.{OwnedByAll}
-use Rattle.schedule.proofs.DeskLemmas.{empty_sound}
-use Rattle.schedule.proofs.GoalLemmas.{none_of, no_goals, none_counted, none_sound}
-use Rattle.schedule.proofs.SupportLemmas.{none_supported}
-use Rattle.schedule.proofs.TrustLemmas.{few_users}
-use Rattle.schedule.proofs.WorldLemmas.{empty_world, same_world}
+use Rattle.desks.proofs.DeskLemmas.{empty_sound}
+use Rattle.desks.proofs.GoalLemmas.{none_of, no_goals, none_counted, none_sound}
+use Rattle.desks.proofs.SupportLemmas.{none_supported}
+use Rattle.desks.proofs.TrustLemmas.{few_users}
+use Rattle.desks.proofs.WorldLemmas.{empty_world, same_world}
 use Rattle.schedule.proofs.state.Core.new.Goals as goal
 
 pub new-requires : goal.new-requires

@@ -5,10 +5,12 @@ use Rattle.std.proofs.lemmas.List.{with_items_is}
 use Rattle.trust.specs.Trusting.{trusts}
 use Rattle.realise.specs.Holdings.{Holdings}
 use Rattle.schedule.specs.declared.state.Core.{Core}
-use Rattle.schedule.specs.Sound.{IsSound}
-use Rattle.schedule.specs.Supported.{AreSupported}
-use Rattle.schedule.specs.Standing.{event_of, parts_of, parts}
-use Rattle.schedule.specs.Handling.{IsHandled}
+use Rattle.desks.specs.Sound.{IsSound}
+use Rattle.desks.specs.Supported.{AreSupported}
+use Rattle.events.specs.Terms.{event_of}
+use Rattle.schedule.specs.Standing.{parts_of}
+use Rattle.desks.specs.Parts.{parts}
+use Rattle.desks.specs.Handling.{IsHandled}
 use Rattle.schedule.proofs.state.Core.serve.Goals as goal
 
 -- the desks that were lent

@@ -1,6 +1,8 @@
 use Rattle.trust.specs.Trusting.{trusts}
-use Rattle.schedule.specs.Standing.{world_of, setup_of, stored_in, event_of, beside_at}
-use Rattle.schedule.proofs.WorldLemmas.{among_stored}
+use Rattle.schedule.specs.Standing.{world_of, setup_of, stored_in}
+use Rattle.events.specs.Terms.{event_of}
+use Rattle.desks.specs.Parts.{beside_at}
+use Rattle.desks.proofs.WorldLemmas.{among_stored}
 use Rattle.schedule.proofs.StepLemmas.{served_step, refused_step, keeps_stored}
 use Rattle.schedule.proofs.state.Core.step.Goals as goal
 

@@ -1,8 +1,0 @@
-use Rattle.std.proofs.Common.{rules}
-use Rattle.std.proofs.lemmas.Result.{IfOk-equal}
-use Rattle.aterm.specs.Parts.{derivation_of}
-use Rattle.aterm.proofs.Written.{rest_written}
-use Rattle.aterm.proofs.write.put_rest.Goals as goal
-
-pub returns : goal.returns
-returns c = IfOk-equal c.extend_from_slice-6.result c.extend_from_slice-6.new.self.items _ _ (search rules) (rest_written (derivation_of c.args.parts.now) c.args.out.now.items)

@@ -1,0 +1,175 @@
+//! The records below a derivation.
+
+ghost use Rattle.std.specs.Prelude.{◌≡◌, ◌||◌, ℕ, List, MatchResult, bytes_eq};
+ghost use Rattle.std.specs.List.{list_any};
+ghost use Rattle.model.specs.References.{is_class_of, is_input_class};
+ghost use Rattle.model.specs.Classes.{known_at};
+ghost use Rattle.model.specs.declared.refusal.Refusal.TheVariants.{Memory};
+ghost use Rattle.candidates.specs.Below.{AreBelow};
+ghost use Rattle.candidates.specs.Reaching.{AreReached, IsNext, is_label_for, is_named, is_named_by, has_class};
+
+use classes::Known;
+use derivation::Derivation;
+use indexmap::IndexSet;
+use model::Refusal;
+use realise::{Label, Record};
+use std::alloc::Global;
+use storepath::StorePath;
+
+/// For each record, whether it was reached so far, and whether it was reached in the last step.
+#[derive(Drop)]
+struct Reached {
+    marked: Vec<bool>,
+    fresh: Vec<bool>,
+}
+
+// Whether a record was reached in the last step.
+fn has_fresh(reached: &Reached) -> bool
+    ensures { result ≡ list_any (λ b. b) reached.now.fresh.items }
+{
+    reached.fresh.iter().any(|is_fresh| *is_fresh)
+}
+
+// The paths of the inputs' classes.
+fn input_classes(
+    alloc: Global,
+    known: &Known,
+    inputs: &[StorePath],
+) -> Result<IndexSet<StorePath>, Refusal>
+    ensures { MatchResult result
+        (λ set. (class : List ℕ) → list_any (bytes_eq class) set.keys
+        ≡ list_any (λ path. is_class_of class (known_at known.now path)) inputs.now)
+        (λ e. e ≡ Memory) }
+{
+    let mut classes = IndexSet::new(alloc);
+    for path in inputs {
+        if let Some(admitted) = known.derivation(path) {
+            let _is_new = classes.insert(admitted.class().path().clone()?)?;
+        }
+    }
+    Ok(classes)
+}
+
+// The records of these classes.
+fn records_of(
+    alloc: Global,
+    classes: &IndexSet<StorePath>,
+    records: &[Record],
+) -> Result<Reached, Refusal>
+    ensures { MatchResult result
+        (λ reached. AreReached records.now (has_class classes.now.keys) 0 reached)
+        (λ e. e ≡ Memory) }
+{
+    let mut marked = Vec::new(alloc);
+    let mut fresh = Vec::new(alloc);
+    for record in records {
+        let is_input = classes.contains(record.class().path());
+        marked.push(is_input)?;
+        fresh.push(is_input)?;
+    }
+    Ok(Reached { marked, fresh })
+}
+
+// The records for the inputs of a derivation.
+fn records_of_inputs(
+    alloc: Global,
+    known: &Known,
+    derivation: &Derivation,
+    records: &[Record],
+) -> Result<Reached, Refusal>
+    ensures { MatchResult result
+        (λ reached. AreReached records.now (is_input_class known.now derivation.now) 0 reached)
+        (λ e. e ≡ Memory) }
+{
+    let classes = input_classes(alloc, known, &derivation.parts().inputs)?;
+    records_of(alloc, &classes, records)
+}
+
+// Adds the path and the class of each label that has a class.
+fn add_labels(named: &mut IndexSet<(StorePath, StorePath)>, labels: &[Label]) -> Result<(), Refusal>
+    ensures { MatchResult result
+        (λ _. (path class : List ℕ) → is_named named.new.keys path class
+        ≡ (is_named named.old.keys path class || list_any (is_label_for path class) labels.now))
+        (λ e. e ≡ Memory) }
+{
+    for label in labels {
+        if let Some(class) = label.class() {
+            let pair = (label.path().clone()?, class.path().clone()?);
+            let _is_new = named.insert(pair)?;
+        }
+    }
+    Ok(())
+}
+
+// The paths and the classes of the labels of fresh records.
+fn named_by(
+    alloc: Global,
+    records: &[Record],
+    fresh: &[bool],
+) -> Result<IndexSet<(StorePath, StorePath)>, Refusal>
+    ensures { MatchResult result
+        (λ named. (path class : List ℕ) → is_named named.keys path class
+        ≡ is_named_by records.now fresh.now path class)
+        (λ e. e ≡ Memory) }
+{
+    let mut named = IndexSet::new(alloc);
+    for (record, is_fresh) in records.iter().zip(fresh) {
+        if *is_fresh {
+            add_labels(&mut named, record.labels())?;
+        }
+    }
+    Ok(named)
+}
+
+// Whether a record is named.
+fn is_named(named: &IndexSet<(StorePath, StorePath)>, one: &Record) -> Result<bool, Refusal>
+    ensures { MatchResult result
+        (λ b. b ≡ is_named named.now.keys one.now.path one.now.class.path)
+        (λ e. e ≡ Memory) }
+{
+    let pair = (one.path().clone()?, one.class().path().clone()?);
+    Ok(named.contains(&pair))
+}
+
+// What is reached in one step more.
+fn one_step(alloc: Global, records: &[Record], reached: &Reached) -> Result<Reached, Refusal>
+    ensures { MatchResult result
+        (λ next. IsNext records.now reached.now next)
+        (λ e. e ≡ Memory) }
+{
+    let named = named_by(alloc, records, &reached.fresh)?;
+    let mut marked = Vec::new(alloc);
+    let mut fresh = Vec::new(alloc);
+    for (record, was_marked) in records.iter().zip(&reached.marked) {
+        let is_fresh = !*was_marked && is_named(&named, record)?;
+        marked.push(*was_marked || is_fresh)?;
+        fresh.push(is_fresh)?;
+    }
+    Ok(Reached { marked, fresh })
+}
+
+/// For each record of a desk, whether it is one for an input of the derivation, or is referred to
+/// from there, directly or through others.
+///
+/// # Errors
+///
+/// - `Memory` only where memory was refused.
+pub fn records_below(
+    alloc: Global,
+    known: &Known,
+    derivation: &Derivation,
+    records: &[Record],
+) -> Result<Vec<bool>, Refusal>
+    ensures { MatchResult result
+        (λ marks. AreBelow known.now derivation.now records.now marks.items)
+        (λ e. e ≡ Memory) }
+{
+    let mut reached = records_of_inputs(alloc, known, derivation, records)?;
+    for _step in 0..records.len() {
+        if !has_fresh(&reached) {
+            return Ok(reached.marked);
+        }
+        reached = one_step(alloc, records, &reached)?;
+    }
+    Ok(reached.marked)
+}

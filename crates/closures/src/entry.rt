@@ -1,0 +1,168 @@
+//! The entries of closures.
+
+ghost use Rattle.std.specs.Prelude.{◌≡◌, option_copied, IfOk, MatchResult};
+ghost use Rattle.model.specs.declared.refusal.Refusal.TheVariants.{Memory};
+ghost use Rattle.model.specs.Worlds.{OfSource, OfRecord, path_of_entry};
+ghost use Rattle.model.specs.Closures.{class_of_entry, labels_of_entry, tree_of_entry};
+ghost use Rattle.realise.specs.Holdings.{entry_with};
+
+use crate::realisation::{Realisation, Source};
+use classes::Class;
+use model::Refusal;
+use nar::Tree;
+use realise::Label;
+use std::alloc::AllocError;
+use std::marker::Model;
+use std::sync::ArcSlice;
+use storepath::StorePath;
+
+/// What stands in an entry.
+#[derive(Drop)]
+enum Item {
+    Record(Realisation),
+    Source(Source),
+}
+
+/// What a closure has at a path: a record, or a source, with its tree.
+#[derive(Drop)]
+pub struct Entry {
+    item: Item,
+}
+
+impl Model for Entry {
+    ghost use Rattle.closures.specs.Codes.{entry_code};
+    ghost use Rattle.model.specs.Worlds.{Entry as EntryValue};
+
+    ghost Value = { EntryValue };
+
+    ghost coded = { entry_code };
+
+    ghost use Rattle.closures.specs.Entries.{entry_of};
+
+    ghost view = { λ e. entry_of e.item };
+}
+
+impl Entry {
+    /// The entry of a record.
+    pub fn of_record(realisation: Realisation) -> Entry
+        ensures { result ≡ OfRecord realisation }
+    {
+        Entry {
+            item: Item::Record(realisation),
+        }
+    }
+
+    /// The entry of a source.
+    pub fn of_source(source: Source) -> Entry
+        ensures { result ≡ OfSource source }
+    {
+        Entry {
+            item: Item::Source(source),
+        }
+    }
+
+    /// The path.
+    pub fn path(&self) -> &StorePath
+        ensures { result.now ≡ path_of_entry self.now }
+    {
+        match &self.item {
+            Item::Record(record) => record.path(),
+            Item::Source(source) => source.path(),
+        }
+    }
+
+    /// The class of a record; a source has none.
+    pub fn class(&self) -> Option<&Class>
+        ensures { option_copied result ≡ class_of_entry self.now }
+    {
+        match &self.item {
+            Item::Record(record) => Some(record.class()),
+            Item::Source(_) => None,
+        }
+    }
+
+    /// A label for each other path that the tree refers to, in the order of paths; a source refers
+    /// to none.
+    pub fn labels(&self) -> &[Label]
+        ensures { result.now ≡ labels_of_entry self.now }
+    {
+        match &self.item {
+            Item::Record(record) => record.labels(),
+            Item::Source(_) => &[],
+        }
+    }
+
+    /// The entry without its tree, as it is put on a desk. The copy shares the labels. The one error
+    /// is memory.
+    pub fn without_tree(&self) -> Result<realise::Entry, AllocError>
+        ensures { IfOk result (λ entry. entry_with (tree_of_entry self.now) entry ≡ self.now) }
+    {
+        match &self.item {
+            Item::Record(record) => Ok(realise::Entry::Record(record.record().clone()?)),
+            Item::Source(source) => Ok(realise::Entry::Source(source.path().clone()?)),
+        }
+    }
+
+    /// The tree.
+    pub fn tree(&self) -> &Tree
+        ensures { result.now ≡ tree_of_entry self.now }
+    {
+        match &self.item {
+            Item::Record(record) => record.tree(),
+            Item::Source(source) => source.tree(),
+        }
+    }
+}
+
+/// The entries of a closure. A copy shares them.
+#[derive(Drop)]
+pub struct Closure {
+    entries: ArcSlice<Entry>,
+}
+
+impl Model for Closure {
+    ghost use Rattle.std.specs.Arc.{arc_slice_items};
+    ghost use Rattle.std.specs.Coded.{coded_list};
+    ghost use Rattle.std.specs.Prelude.{List};
+    ghost use Rattle.closures.specs.Codes.{entry_code};
+    ghost use Rattle.model.specs.Worlds.{Entry as EntryValue};
+
+    ghost Value = { List EntryValue };
+
+    ghost coded = { coded_list entry_code };
+
+    ghost view = { λ c. arc_slice_items c.entries };
+}
+
+impl Closure {
+    /// A closure of these entries.
+    ///
+    /// # Errors
+    ///
+    /// - `Memory` only where memory was refused.
+    pub fn new(entries: Vec<Entry>) -> Result<Closure, Refusal>
+        ensures { MatchResult result (λ made. made ≡ entries.items) (λ e. e ≡ Memory) }
+    {
+        let entries = ArcSlice::from_vec(entries)?;
+        Ok(Closure { entries })
+    }
+
+    /// The entries, by path, then by the path of the class, with a class before a source.
+    pub fn entries(&self) -> &[Entry]
+        ensures { result.now ≡ self.now }
+    {
+        self.entries.as_slice()
+    }
+}
+
+/// The copy is equal, and shares the entries. It fails only where memory is refused.
+impl Clone for Closure {
+    ghost use Rattle.std.specs.Prelude.{◌≡◌};
+
+    ghost is_clone = { λ original copy. copy ≡ original };
+
+    fn clone(&self) -> Result<Closure, AllocError> {
+        let entries = self.entries.clone()?;
+        Ok(Closure { entries })
+    }
+}

@@ -1,0 +1,31 @@
+use Rattle.std.proofs.Common.{List, rules}
+use Rattle.std.proofs.lemmas.Result.{err_from_is_err_and}
+use Rattle.model.specs.Worlds.{Label}
+use Rattle.candidates.specs.Below.{AreCandidates}
+use Rattle.desks.specs.Offering.{IsNotSettled}
+use Rattle.desks.proofs.OfferLemmas.{are_labels, no_output}
+use Rattle.desks.proofs.offers.output_for.Goals as goal
+
+pub returns-in_err-named-clause-refused : goal.returns-in_err-named-clause-refused
+returns-in_err-named-clause-refused c =
+    let p = err_from_is_err_and c.from_residual-in_err-named.result c.from_residual-in_err-named.ensures.1 in
+    let labels : List Label = c.deref.result.now in
+    let found : AreCandidates c.args.desk.now.known c.args.admitted.now.derivation c.args.desk.now.records labels = search rules in
+    let refused : IsNotSettled labels c.args.admitted.now c.args.tree.now p.0 = rw p.2 c.in_err-named.ensures.refused in
+    rw p.1 (no_output c.args.desk.now c.args.admitted.now c.args.tree.now labels p.0 (are_labels c.args.desk.now c.args.admitted.now labels found) refused)
+
+pub returns-clause-output : goal.returns-clause-output
+returns-clause-output c =
+    let labels : List Label = c.deref.result.now in
+    let found : AreCandidates c.args.desk.now.known c.args.admitted.now.derivation c.args.desk.now.records labels = search rules in
+    record {
+      labels = labels;
+      candidates = are_labels c.args.desk.now c.args.admitted.now labels found;
+      settled = c.in_ok-named.named;
+      is = c.in_ok-named.ensures.settled;
+      tree_is = search rules;
+      record_is = search rules;
+      sound = c.in_ok-named.ensures.tree;
+      own = c.in_ok-named.ensures.own;
+      paths = c.in_ok-named.ensures.paths;
+    }

@@ -1,0 +1,9 @@
+pub mod Stored
+pub mod Sound
+pub mod Parts
+pub mod Viewing
+pub mod Supported
+pub mod Outputs
+pub mod Offering
+pub mod Given
+pub mod Handling

@@ -1,0 +1,94 @@
+//! Offering an output.
+
+ghost use Rattle.std.specs.Prelude.{◌≡◌, IfOk, IfErr, Ok, All};
+ghost use Rattle.model.specs.Archives.{IsTree};
+ghost use Rattle.model.specs.Paths.{IsPath};
+ghost use Rattle.model.specs.Occurrences.{IsHashPart};
+ghost use Rattle.model.specs.Settling.{hash_part_in};
+ghost use Rattle.model.specs.References.{paths_of_labels};
+ghost use Rattle.model.specs.Events.{Offer as OfferRequest};
+ghost use Rattle.model.specs.OfferRequests.{output_settled};
+ghost use Rattle.desks.specs.Sound.{IsSound};
+ghost use Rattle.desks.specs.Handling.{IsHandledAtDesk};
+ghost use Rattle.desks.specs.Offering.{IsOutput, IsNotSettled, IsNoOutput};
+
+use crate::entries::add_entry;
+use crate::limits::Limits;
+use crate::outputs::{Input, record_of};
+use candidates::candidates;
+use classes::Admitted;
+use events::Reply;
+use model::Refusal;
+use nar::{Tree, encode};
+use realise::{Desk, Entry, Label, Record};
+use rewrite::Named;
+use std::alloc::Global;
+use store::Table;
+use storepath::StorePath;
+
+/// An output of a derivation that may refer to these, with its path.
+fn output_of(
+    alloc: Global,
+    admitted: &Admitted,
+    labels: &[Label],
+    tree: &Tree,
+) -> Result<Named, Refusal>
+    ensures tree { IsTree tree.now }
+    ensures paths { IfOk result (λ _. All IsPath (paths_of_labels labels.now)) }
+    ensures own { IsHashPart (hash_part_in admitted.now.class.path) }
+    ensures settled { IfOk result (λ named. output_settled labels.now admitted.now tree.now ≡ Ok named) }
+    ensures refused { IfErr result (IsNotSettled labels.now admitted.now tree.now) }
+{
+    let _len = tree.nar_len();
+    let own = admitted.class().path();
+    let input = Input::new(alloc, own, labels, admitted.derivation())?;
+    let archive = encode(alloc, tree)?;
+    input.settle(alloc, &archive)
+}
+
+/// The record of an output, and its tree.
+fn output_for(
+    alloc: Global,
+    desk: &Desk,
+    admitted: &Admitted,
+    tree: &Tree,
+) -> Result<(Record, Tree), Refusal>
+    ensures output { IfOk result (λ o. IsOutput desk.now admitted.now tree.now o.0 o.1) }
+    ensures refused { IfErr result (IsNoOutput desk.now admitted.now tree.now) }
+{
+    let labels = candidates(alloc, desk.known(), admitted.derivation(), desk.records())?;
+    let named = output_of(alloc, admitted, &labels, tree)?;
+    let record = record_of(alloc, admitted, &labels, &named)?;
+    Ok((record, named.tree(alloc)?))
+}
+
+/// Adds an output of the derivation in the file at a path to a desk: its tree with the path of its
+/// content, and a record for the class of the derivation. The reply is that path; a record that is
+/// there already changes nothing.
+///
+/// # Errors
+///
+/// - `UnknownDerivation` exactly where the desk has no such derivation, whether there is memory or not.
+/// - `RewriteRefused` exactly where the tree cannot be settled, with its reason.
+/// - `Clash` only where another tree is stored at the new path.
+/// - `Quota` exactly where the record is new on the desk, no other tree is at its path, and a limit
+///   would be passed.
+/// - `Memory` only where memory was refused; it may stand in the place of each answer but the first.
+pub fn offer(
+    alloc: Global,
+    table: &mut Table,
+    desk: &mut Desk,
+    limits: Limits,
+    path: &StorePath,
+    tree: &Tree,
+) -> Result<Reply, Refusal>
+    requires { IsSound table.old.sources limits.charge desk.old }
+    ensures { IsHandledAtDesk limits.charge table.old.sources desk.old
+        (OfferRequest path.now tree.now) result table.new.sources desk.new }
+{
+    let Some(admitted) = desk.derivation(path) else {
+        return Err(Refusal::UnknownDerivation);
+    };
+    let (record, settled) = output_for(alloc, desk, admitted, tree)?;
+    add_entry(alloc, table, desk, limits, Entry::Record(record), settled)
+}

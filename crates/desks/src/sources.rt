@@ -1,0 +1,96 @@
+//! Adding a source, and fetching a tree.
+
+ghost use Rattle.std.specs.Prelude.{◌≡◌, ◌≤◌, IfOk, IfErr, None, if◌then◌else◌};
+ghost use Rattle.std.specs.Option.{option_copied};
+ghost use Rattle.model.specs.Archives.{IsTree};
+ghost use Rattle.model.specs.Paths.{source_path};
+ghost use Rattle.model.specs.Classes.{is_one_of};
+ghost use Rattle.model.specs.Worlds.{tree_at};
+ghost use Rattle.model.specs.Events.{AddSource as AddSourceRequest, Fetch as FetchRequest, Content};
+ghost use Rattle.model.specs.declared.refusal.Refusal.TheVariants.{Memory};
+ghost use Rattle.realise.specs.Holdings.{paths_of};
+ghost use Rattle.desks.specs.Sound.{IsSound};
+ghost use Rattle.events.specs.Terms.{reply_of};
+ghost use Rattle.desks.specs.Handling.{IsHandledAtDesk, IsHandledByDesk};
+
+use crate::entries::add_entry;
+use crate::limits::Limits;
+use events::Reply;
+use model::Refusal;
+use nar::{Tree, encode};
+use realise::{Desk, Entry};
+use std::alloc::Global;
+use store::Table;
+use storepath::{Kind, Name, StorePath, make_path};
+
+/// The path of a source. The archive is let go before anything else is made.
+fn path_of_source(alloc: Global, name: &Name, tree: &Tree) -> Result<StorePath, Refusal>
+    ensures value { IfOk result (λ p. p ≡ source_path tree.now name.now) }
+    ensures tree { IfOk result (λ _. IsTree tree.now) }
+    ensures memory { IfErr result (λ e. e ≡ Memory) }
+{
+    let archive = encode(alloc, tree)?;
+    let digest = hashmod::sha256(archive.bytes());
+    drop(archive);
+    make_path(alloc, &Kind::Source, &digest, name)
+}
+
+/// Adds a tree to a desk as a source of a name. The reply is its path; one that is there already
+/// changes nothing.
+///
+/// # Errors
+///
+/// - `Clash` only where another tree is stored at its path.
+/// - `Quota` exactly where it is new on the desk, no other tree is at its path, and a limit would be
+///   passed.
+/// - `Memory` only where memory was refused; it may stand in the place of each answer.
+pub fn add_source(
+    alloc: Global,
+    table: &mut Table,
+    desk: &mut Desk,
+    limits: Limits,
+    name: &Name,
+    tree: Tree,
+) -> Result<Reply, Refusal>
+    requires { IsSound table.old.sources limits.charge desk.old }
+    ensures { IsHandledAtDesk limits.charge table.old.sources desk.old
+        (AddSourceRequest name.now tree) result table.new.sources desk.new }
+{
+    let path = path_of_source(alloc, name, &tree)?;
+    add_entry(alloc, table, desk, limits, Entry::Source(path), tree)
+}
+
+/// The tree at a path, if the desk holds the path. Whoever else holds it makes no difference.
+fn held<'a>(table: &'a Table, desk: &Desk, path: &StorePath) -> Option<&'a Tree>
+    ensures { let path = path.now in option_copied result
+        ≡ (if is_one_of (paths_of desk.now) path then tree_at path table.now.sources else None) }
+{
+    if desk.holds(path) {
+        table.get(path)
+    } else {
+        None
+    }
+}
+
+/// A reply with a tree.
+fn reply_with(tree: &Tree) -> Result<Reply, Refusal>
+    ensures content { IfOk result (λ r. reply_of r ≡ Content tree.now) }
+    ensures memory { IfErr result (λ e. e ≡ Memory) }
+{
+    Ok(Reply::Content(tree.clone()?))
+}
+
+/// The tree at a path that a desk holds.
+///
+/// # Errors
+///
+/// - `NotHeld` exactly where the desk does not hold the path, whether there is memory or not.
+/// - `Memory` only where it does, and memory was refused.
+pub fn fetch(table: &Table, desk: &Desk, path: &StorePath) -> Result<Reply, Refusal>
+    ensures { IsHandledByDesk table.now.sources desk.now (FetchRequest path.now) result desk.now }
+{
+    match held(table, desk, path) {
+        Some(tree) => reply_with(tree),
+        None => Err(Refusal::NotHeld),
+    }
+}

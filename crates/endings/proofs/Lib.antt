@@ -1,0 +1,14 @@
+pub mod BuiltLemmas
+pub mod GainLemmas
+pub mod HearLemmas
+pub mod MadeLemmas
+pub mod PlaceLemmas
+pub mod EndingLemmas
+pub mod LeaderLemmas
+pub mod FailingLemmas
+pub mod CommitLemmas
+pub mod InPlaceLemmas
+pub mod AllBuiltLemmas
+pub mod TriedLemmas
+pub mod StoredLemmas
+pub mod FinishLemmas

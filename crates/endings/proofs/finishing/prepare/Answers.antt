@@ -1,0 +1,55 @@
+use Rattle.std.proofs.Common.{◌≡◌, ◌<◌, List, length, Some, inl, arith, rules, sym, ◌∙◌, ap, subst}
+use Rattle.std.specs.Prelude.{map}
+use Rattle.std.specs.Option.{option_copied}
+use Rattle.std.proofs.lemmas.Result.{err_from_is_err_and}
+use Rattle.model.specs.Worlds.{Goal, State}
+use Rattle.jobs.specs.States.{state_of}
+use Rattle.trust.specs.Trusting.{trusts}
+use Rattle.store.specs.Stored.{put_all, sources_of, AreThere}
+use Rattle.endings.specs.Gaining.{last_state, state_at}
+use Rattle.endings.specs.Committing.{Heard, trees_gained, states_for, states_heard, gains_at, MayCharge, AreGrown}
+use Rattle.desks.specs.Supported.{desk_at}
+use Rattle.endings.proofs.CommitLemmas.{states_there}
+use Rattle.endings.proofs.InPlaceLemmas.{may_charge}
+use Rattle.endings.proofs.AllBuiltLemmas.{only_memory}
+use Rattle.endings.proofs.finishing.prepare.Goals as goal
+
+pub returns-in_err-trees-clause-refused : goal.returns-in_err-trees-clause-refused
+returns-in_err-trees-clause-refused c =
+    let p = err_from_is_err_and c.from_residual-in_err-trees.result c.from_residual-in_err-trees.ensures.1 in
+    let are : c.in_ok-gained_by_all.field-0.items ≡ trees_gained c.in_ok-heard.heard.items =
+    c.in_ok-gained_by_all.ensures ∙ ap trees_gained c.deref.ensures.value in
+    rw (p.1, p.2) (inl (only_memory (trusts c.args.trust.now) c.args.place c.args.limits.charge c.args.job.now c.args.desks.now c.args.jobs.now.goals
+    c.args.table.now.sources (option_copied c.args.archive) c.in_ok-heard.heard.items c.in_ok-heard.ensures.heard c.in_err-trees.field-0.0
+    c.in_ok-gained_by_all.field-0.items are c.in_err-trees.ensures.refused))
+
+pub grown-requires-clause-may : goal.grown-requires-clause-may
+grown-requires-clause-may c p below =
+    subst (λ (heard : List Heard). MayCharge (desk_at c.args.desks.now p) (gains_at heard p)) (sym c.deref-2.ensures.value)
+    (may_charge c.args.table.now.sources (option_copied c.args.archive) (trusts c.args.trust.now) c.args.place c.args.limits.charge c.args.job.now
+    c.args.desks.now c.args.jobs.now.goals c.in_ok-heard.heard.items c.in_ok-heard.ensures.heard (search rules) p
+    (let count = c.in_ok-heard.ensures.count in omega (arith, count, below)))
+
+pub returns-clause-prepared : goal.returns-clause-prepared
+returns-clause-prepared c =
+    let heard : List Heard = c.in_ok-heard.heard.items in
+    let are : c.in_ok-gained_by_all.field-0.items ≡ trees_gained heard = c.in_ok-gained_by_all.ensures ∙ ap trees_gained c.deref.ensures.value in
+    let within : c.args.place < length heard = (let count = c.in_ok-heard.ensures.count in let below = c.requires.of_run in omega (arith, count, below)) in
+    record {
+      made = c.in_ok-heard.ensures.heard;
+      count = c.in_ok-heard.ensures.count;
+      grown = subst (λ (hs : List Heard). AreGrown c.args.desks.now hs c.in_ok-grown.grown.items) c.deref-2.ensures.value c.in_ok-grown.ensures.grown;
+      each = c.in_ok-grown.ensures.count;
+      all = sym (ap (λ ts. put_all (sources_of ts) c.args.table.now.sources) are) ∙ c.in_ok-trees.ensures.all;
+      new = c.in_ok-trees.ensures.new;
+      there = subst (AreThere c.args.table.now.sources) are c.in_ok-trees.ensures.there;
+      told = λ g is.
+          let same : g ≡ c.unwrap-goal.result.now =
+          (let some : option_copied c.get.result ≡ Some c.unwrap-goal.result.now = search rules in let own = sym is ∙ sym c.get.ensures ∙ some in cc) in
+          let states : map state_at c.as_slice.result.now ≡ states_for heard c.args.place =
+          ap (map state_at) c.as_slice.ensures.value ∙ ap (λ (h : Heard). states_heard h) c.index.ensures
+          ∙ states_there heard c.args.place c.index.result.now within in
+          let state : state_of c.state.result.now ≡ g.state = c.state.ensures ∙ ap (λ (x : Goal). x.state) (sym same) in
+          c.in_ok-told.ensures ∙ ap (λ (s : State). last_state c.args.number s (map state_at c.as_slice.result.now)) state
+          ∙ ap (last_state c.args.number g.state) states;
+    }

@@ -1,0 +1,173 @@
+//! The end of a job with an output: what all users hear of it is made beside everything, and then put in
+//! place.
+
+ghost use Rattle.std.specs.Prelude.{◌≡◌, ◌<◌, ◌≤◌, ◌⊎◌, All, IfOk, IfErr, true, is_some, length, map};
+ghost use Rattle.std.specs.Option.{option_copied};
+ghost use Rattle.model.specs.declared.refusal.Refusal.TheVariants.{Memory};
+ghost use Rattle.model.specs.ArchiveReading.{tree_of_archive};
+ghost use Rattle.model.specs.Limits.{most_records};
+ghost use Rattle.model.specs.Worlds.{are_users};
+ghost use Rattle.model.specs.Goals.{goal_at};
+ghost use Rattle.model.specs.Events.{Finish as FinishRequest};
+ghost use Rattle.jobs.specs.States.{state_of};
+ghost use Rattle.trust.specs.Trusting.{trusts};
+ghost use Rattle.trust.specs.Naming.{IsWithin};
+ghost use Rattle.desks.specs.Sound.{IsSound, AreGoalsSound};
+ghost use Rattle.desks.specs.Supported.{AreSupported};
+ghost use Rattle.desks.specs.Parts.{goals_of, parts};
+ghost use Rattle.endings.specs.Gaining.{last_state, state_at};
+ghost use Rattle.endings.specs.Hearing.{AreAllBuiltOn, IsNotMade};
+ghost use Rattle.endings.specs.Finishing.{IsPrepared};
+ghost use Rattle.desks.specs.Handling.{IsHandledByAll};
+
+use crate::committing::{gained_by_all, grown, replace_all, set_all};
+use crate::ending::leads;
+use crate::gains::Gains;
+use crate::hearing::heard_by_all;
+use desks::Limits;
+use events::Reply;
+use jobs::{Job, Jobs, State};
+use model::Refusal;
+use nar::{Nar, Tree, decode, encode};
+use realise::{Desk, Grown};
+use std::alloc::{AllocError, Global};
+use store::Table;
+use storepath::StorePath;
+use trust::{Trust, User};
+
+/// The archive that a builder wrote, if its output is one. The one error is memory.
+fn archive_in(alloc: Global, output: &[u8]) -> Result<Option<Nar>, Refusal>
+    ensures archive { IfOk result (λ archive. archive ≡ tree_of_archive output.now) }
+    ensures memory { IfErr result (λ why. why ≡ Memory) }
+{
+    match decode(alloc, output) {
+        Ok(tree) => Ok(Some(encode(alloc, &tree)?)),
+        Err(Refusal::Memory) => Err(Refusal::Memory),
+        Err(_) => Ok(None),
+    }
+}
+
+/// How far the goal of a number, which was this far, is once goals have got these states. The one error
+/// is memory.
+#[tactic(auto, unfolding(crate::specs::Gaining::last_state))]
+fn state_then(state: &State, number: u16, states: &[(u16, State)]) -> Result<State, AllocError>
+    ensures { IfOk result (λ then. state_of then
+        ≡ last_state number (state_of state.now) (map state_at states.now)) }
+{
+    let mut last = state;
+    for (other, told) in states {
+        if *other == number {
+            last = told;
+        }
+    }
+    last.clone()
+}
+
+/// What the end of a job with an output changes.
+#[derive(Drop)]
+pub(crate) struct Ending {
+    heard: Vec<(Gains, Vec<(u16, State)>)>,
+    grown: Vec<Option<Grown>>,
+    trees: Vec<(StorePath, Tree)>,
+    told: State,
+}
+
+/// What a job changes that ends with an output, whose leader is the goal of a number of the user at a
+/// place. Nothing changes yet.
+///
+/// # Errors
+///
+/// - `Clash` only where another tree is at the path of one that was built, in the table or with one
+///   before it.
+/// - `Memory` only where memory was refused.
+fn prepare(
+    alloc: Global,
+    trust: &Trust,
+    table: &Table,
+    desks: &[Desk],
+    limits: Limits,
+    jobs: &Jobs,
+    place: usize,
+    job: &Job,
+    archive: Option<&Nar>,
+    number: u16,
+) -> Result<Ending, Refusal>
+    requires few { length desks.now ≤ 64 }
+    requires of_run { place < length desks.now }
+    requires with_goals { length jobs.now.goals ≡ length desks.now }
+    requires there { is_some (goal_at number (goals_of jobs.now.goals place)) ≡ true }
+    requires on_desks { AreAllBuiltOn job.now desks.now jobs.now.goals }
+    requires records { All (λ d. length d.records ≤ most_records) desks.now }
+    requires charge { All (λ d. d.charge ≤ limits.charge) desks.now }
+    ensures prepared { IfOk result (IsPrepared table.now.sources (option_copied archive.entry)
+        (trusts trust.now) place limits.charge job.now desks.now jobs.now.goals number) }
+    ensures refused { IfErr result (IsNotMade table.now.sources (option_copied archive.entry)
+        (trusts trust.now) place job.now desks.now jobs.now.goals) }
+{
+    let heard = heard_by_all(
+        alloc, trust, table, desks, limits, jobs, place, job, archive,
+    )?;
+    let trees = table.missing(alloc, gained_by_all(alloc, &heard)?)?;
+    let grown = grown(alloc, desks, &heard)?;
+    let goal = jobs.get(place, number).unwrap();
+    let told = state_then(goal.state(), number, heard[place].1.as_slice())?;
+    Ok(Ending {
+        heard,
+        grown,
+        trees,
+        told,
+    })
+}
+
+/// The job that the goal of a number of the user at a place leads has ended with an output. Each of its
+/// goals whose user reaches him is done, or has failed for itself, and the others wait. The reply is how
+/// far the leader's goal is then.
+///
+/// # Errors
+///
+/// Nothing has changed then.
+///
+/// - `UnknownGoal` exactly where he has no goal of that number, and `WrongState` exactly where it leads no
+///   job that is built now.
+/// - `Clash` only where another tree is at the path of one that was built, in the table or with one
+///   before it.
+/// - `Memory` only where memory was refused.
+pub fn finish(
+    alloc: Global,
+    users: &[User],
+    trust: &Trust,
+    jobs: &mut Jobs,
+    table: &mut Table,
+    desks: &mut [Desk],
+    place: usize,
+    limits: Limits,
+    number: u16,
+    output: &[u8],
+) -> Result<Reply, Refusal>
+    requires listed { are_users users.now ≡ true }
+    requires within { IsWithin (length users.now) (trusts trust.now) }
+    requires paired { length desks.old ≡ length users.now }
+    requires sound { All (IsSound table.old.sources limits.charge) desks.old }
+    requires with_goals { length jobs.old.goals ≡ length users.now }
+    requires goals_sound { All (AreGoalsSound table.old.sources) jobs.old.goals }
+    requires supported { AreSupported desks.old jobs.old.goals }
+    requires of_run { place < length users.now }
+    ensures handled { IsHandledByAll
+        (parts users.now limits.charge (trusts trust.now) jobs.old.goals table.old.sources desks.old)
+        place (FinishRequest number output.now) result
+        (parts users.now limits.charge (trusts trust.now) jobs.new.goals table.new.sources desks.new) }
+    ensures users { jobs.new.users ≡ jobs.old.users }
+{
+    leads(users, jobs, place, number)?;
+    let job = Job::new(users[place].clone()?, number);
+    let archive = archive_in(alloc, output)?;
+    let archive = archive.as_ref();
+    let ending = prepare(
+        alloc, trust, table, desks, limits, jobs, place, &job, archive, number,
+    )?;
+    table.reserve(ending.trees.len())?;
+    replace_all(desks, ending.grown);
+    set_all(jobs, ending.heard);
+    table.put_all_reserved(ending.trees);
+    Ok(Reply::GoalState(ending.told))
+}

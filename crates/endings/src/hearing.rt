@@ -1,0 +1,247 @@
+//! The end of a job with an output.
+
+ghost use Rattle.std.specs.Prelude.{◌≡◌, ◌<◌, ◌≤◌, ◌⊎◌, ◌++◌, length, map, All, OnOk, IfOk, IfErr, MatchResult};
+ghost use Rattle.model.specs.declared.refusal.Refusal.TheVariants.{Memory, Clash};
+ghost use Rattle.store.specs.Stored.{AreTaken, put_all, sources_of};
+ghost use Rattle.model.specs.Goals.{members};
+ghost use Rattle.model.specs.Limits.{most_records};
+ghost use Rattle.endings.specs.Gaining.{gains_in, state_at};
+ghost use Rattle.std.specs.Option.{option_copied};
+ghost use Rattle.jobs.specs.Owned.{goals_at};
+ghost use Rattle.trust.specs.Trusting.{trusts};
+ghost use Rattle.endings.specs.Built.{AreBuiltOn, IsLastFrom};
+ghost use Rattle.endings.specs.Hearing.{trees_built, tree_built, all_trees, AreStored, IsBuiltAtPlace, AreAllBuiltOn, AreBuiltFor, IsHeardAtPlace, AreHeard, IsMadeBeside, IsNotMade};
+
+use crate::gains::{Gains, hear};
+use crate::settling::{Built, Settled, built_on};
+use desks::{Limits, has_place};
+use jobs::{Job, Jobs, State};
+use model::Refusal;
+use nar::{Nar, Tree};
+use realise::Desk;
+use std::alloc::Global;
+use store::Table;
+use storepath::StorePath;
+use trust::Trust;
+
+/// Puts the tree of what was built for a goal, with its path, behind others. The one error is memory.
+fn put_tree(built: &Built, trees: &mut Vec<(StorePath, Tree)>) -> Result<(), Refusal>
+    ensures { MatchResult result
+        (λ _. trees.new.items ≡ trees.old.items ++ tree_built built.now)
+        (λ e. e ≡ Memory) }
+{
+    if let Ok((record, tree)) = built {
+        trees.push((record.path().clone()?, tree.clone()?))?;
+    }
+    Ok(())
+}
+
+/// The same of what was built for the goals of one user.
+#[tactic(auto, unfolding(crate::specs::Hearing::trees_built))]
+fn put_trees(built: &[(u16, Built)], trees: &mut Vec<(StorePath, Tree)>) -> Result<(), Refusal>
+    ensures { MatchResult result
+        (λ _. trees.new.items ≡ trees.old.items ++ trees_built built.now)
+        (λ e. e ≡ Memory) }
+{
+    for one in built {
+        put_tree(&one.1, trees)?;
+    }
+    Ok(())
+}
+
+/// The trees of all that was built, with their paths. The one error is memory.
+#[tactic(auto, unfolding(crate::specs::Hearing::all_trees))]
+fn trees_of(alloc: Global, built: &[Vec<(u16, Built)>]) -> Result<Vec<(StorePath, Tree)>, Refusal>
+    ensures { MatchResult result
+        (λ trees. trees.items ≡ all_trees built.now)
+        (λ e. e ≡ Memory) }
+{
+    let mut trees = Vec::new(alloc);
+    for of_user in built {
+        put_trees(of_user.as_slice(), &mut trees)?;
+    }
+    Ok(trees)
+}
+
+/// That no other tree is at the path of one that was built, in the table or with one before it.
+pub(crate) fn tested(
+    alloc: Global,
+    table: &Table,
+    built: &[Vec<(u16, Built)>],
+) -> Result<(), Refusal>
+    ensures stored { OnOk result
+        (AreStored (put_all (sources_of (all_trees built.now)) table.now.sources) built.now) }
+    ensures refused { IfErr result (λ e. (e ≡ Memory)
+        ⊎ ((e ≡ Clash) × AreTaken table.now.sources (all_trees built.now))) }
+{
+    let trees = trees_of(alloc, built)?;
+    let _missing = table.missing(alloc, trees)?;
+    Ok(())
+}
+
+/// What is built for the goals in a job of the user at a place, if he reaches its leader. The one error
+/// is memory.
+fn build_at(
+    alloc: Global,
+    trust: &Trust,
+    desk: &Desk,
+    jobs: &Jobs,
+    leader: usize,
+    place: usize,
+    job: &Job,
+    archive: Option<&Nar>,
+    last: &mut Option<Settled>,
+) -> Result<Vec<(u16, Built)>, Refusal>
+    requires leader { leader < 64 }
+    requires place { place < 64 }
+    requires of_run { place < length jobs.now.goals }
+    requires on_desk { AreBuiltOn desk.now (goals_at place jobs.now)
+        (members job.now 1 (goals_at place jobs.now)) }
+    requires last { IsLastFrom (option_copied archive) last.old }
+    ensures built { IfOk result (λ built. IsBuiltAtPlace (option_copied archive.entry)
+        (trusts trust.now) leader job.now desk.now (goals_at place jobs.now) place built.items) }
+    ensures memory { IfErr result (λ why. why ≡ Memory) }
+    ensures last { IsLastFrom (option_copied archive.entry) last.new }
+{
+    let reached = has_place(trust.closure(place), leader);
+    if !reached {
+        return Ok(Vec::new(alloc));
+    }
+    let built = built_on(
+        alloc,
+        desk,
+        jobs,
+        place,
+        jobs.members(place, job),
+        archive,
+        last,
+    )?;
+    Ok(built)
+}
+
+/// What is built for the goals in a job of each user who reaches its leader, in the order of users; for
+/// another user nothing. The one error is memory.
+pub(crate) fn build_all(
+    alloc: Global,
+    trust: &Trust,
+    desks: &[Desk],
+    jobs: &Jobs,
+    leader: usize,
+    job: &Job,
+    archive: Option<&Nar>,
+) -> Result<Vec<Vec<(u16, Built)>>, Refusal>
+    requires few { length desks.now ≤ 64 }
+    requires of_run { leader < length desks.now }
+    requires with_goals { length jobs.now.goals ≡ length desks.now }
+    requires on_desks { AreAllBuiltOn job.now desks.now jobs.now.goals }
+    ensures built { IfOk result (λ built. AreBuiltFor (option_copied archive.entry)
+        (trusts trust.now) leader job.now desks.now jobs.now.goals built.items) }
+    ensures count { IfOk result (λ built. length built.items ≡ length desks.now) }
+    ensures memory { IfErr result (λ why. why ≡ Memory) }
+{
+    let mut last = None;
+    let mut all = Vec::new(alloc);
+    for place in 0..desks.len() {
+        let desk = &desks[place];
+        let built = build_at(
+            alloc, trust, desk, jobs, leader, place, job, archive, &mut last,
+        )?;
+        all.push(built)?;
+    }
+    Ok(all)
+}
+
+/// What the user at a place hears of a job that ended with an output, of which this was built for his
+/// goals. The one error is memory.
+fn hear_at(
+    alloc: Global,
+    trust: &Trust,
+    desk: &Desk,
+    limits: Limits,
+    jobs: &Jobs,
+    leader: usize,
+    place: usize,
+    job: &Job,
+    built: Vec<(u16, Built)>,
+) -> Result<(Gains, Vec<(u16, State)>), Refusal>
+    requires leader { leader < 64 }
+    requires place { place < 64 }
+    requires of_run { place < length jobs.now.goals }
+    requires records { length desk.now.records ≤ most_records }
+    requires charge { desk.now.charge ≤ limits.charge }
+    ensures heard { IfOk result (λ r. IsHeardAtPlace (trusts trust.now) leader limits.charge job.now
+        desk.now (goals_at place jobs.now) place built.items (gains_in r.0) (map state_at r.1.items)) }
+    ensures memory { IfErr result (λ why. why ≡ Memory) }
+{
+    let reached = has_place(trust.closure(place), leader);
+    let heard = hear(alloc, desk, limits, jobs, place, job, reached, built)?;
+    Ok(heard)
+}
+
+/// What each user hears of a job that ended with an output, in the order of users, of which these were
+/// built for their goals. The one error is memory.
+pub(crate) fn hear_all(
+    alloc: Global,
+    trust: &Trust,
+    desks: &[Desk],
+    limits: Limits,
+    jobs: &Jobs,
+    leader: usize,
+    job: &Job,
+    built: Vec<Vec<(u16, Built)>>,
+) -> Result<Vec<(Gains, Vec<(u16, State)>)>, Refusal>
+    requires few { length desks.now ≤ 64 }
+    requires of_run { leader < length desks.now }
+    requires with_goals { length jobs.now.goals ≡ length desks.now }
+    requires count { length built.items ≡ length desks.now }
+    requires records { All (λ d. length d.records ≤ most_records) desks.now }
+    requires charge { All (λ d. d.charge ≤ limits.charge) desks.now }
+    ensures heard { IfOk result (λ heard. AreHeard (trusts trust.now) leader limits.charge job.now
+        desks.now jobs.now.goals built.items heard.items) }
+    ensures count { IfOk result (λ heard. length heard.items ≡ length desks.now) }
+    ensures memory { IfErr result (λ why. why ≡ Memory) }
+{
+    let mut all = Vec::new(alloc);
+    for own in built {
+        let place = all.len();
+        let desk = &desks[place];
+        all.push(hear_at(alloc, trust, desk, limits, jobs, leader, place, job, own)?)?;
+    }
+    Ok(all)
+}
+
+/// What each user hears of a job that ended with an output, in the order of users. Nothing changes.
+///
+/// # Errors
+///
+/// - `Clash` only where another tree is at the path of one that was built, in the table or with one
+///   before it.
+/// - `Memory` only where memory was refused.
+pub(crate) fn heard_by_all(
+    alloc: Global,
+    trust: &Trust,
+    table: &Table,
+    desks: &[Desk],
+    limits: Limits,
+    jobs: &Jobs,
+    leader: usize,
+    job: &Job,
+    archive: Option<&Nar>,
+) -> Result<Vec<(Gains, Vec<(u16, State)>)>, Refusal>
+    requires few { length desks.now ≤ 64 }
+    requires of_run { leader < length desks.now }
+    requires with_goals { length jobs.now.goals ≡ length desks.now }
+    requires on_desks { AreAllBuiltOn job.now desks.now jobs.now.goals }
+    requires records { All (λ d. length d.records ≤ most_records) desks.now }
+    requires charge { All (λ d. d.charge ≤ limits.charge) desks.now }
+    ensures heard { IfOk result (λ heard. IsMadeBeside table.now.sources (option_copied archive.entry)
+        (trusts trust.now) leader limits.charge job.now desks.now jobs.now.goals heard.items) }
+    ensures count { IfOk result (λ heard. length heard.items ≡ length desks.now) }
+    ensures refused { IfErr result (IsNotMade table.now.sources (option_copied archive.entry)
+        (trusts trust.now) leader job.now desks.now jobs.now.goals) }
+{
+    let built = build_all(alloc, trust, desks, jobs, leader, job, archive)?;
+    tested(alloc, table, &built)?;
+    let heard = hear_all(alloc, trust, desks, limits, jobs, leader, job, built)?;
+    Ok(heard)
+}

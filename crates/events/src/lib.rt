@@ -1,0 +1,10 @@
+//! What users ask of a store, and what they are answered.
+#![tactic(auto)]
+
+mod event;
+mod output;
+mod reply;
+
+pub use event::{Event, Request};
+pub use output::Output;
+pub use reply::Reply;

@@ -1,0 +1,190 @@
+//! Planning a goal.
+
+ghost use Rattle.std.specs.Prelude.{◌≡◌, ℕ, ◌<◌, ◌≤◌, true, length, map, All, IfOk, IfErr, OnOk, OnErr, Some, is_some};
+ghost use Rattle.model.specs.Worlds.{Goal as GoalValue, are_users};
+ghost use Rattle.model.specs.Goals.{as_seen, is_waiting, goal_at, with_goal_at};
+ghost use Rattle.model.specs.Events.{Plan as PlanRequest};
+ghost use Rattle.trust.specs.Trusting.{holds, trusts};
+ghost use Rattle.trust.specs.Naming.{names, IsWithin};
+ghost use Rattle.choose.specs.Visible.{IsComplete};
+ghost use Rattle.store.specs.Stored.{put_all};
+ghost use Rattle.jobs.specs.Owned.{goals_at, with_goals_at};
+ghost use Rattle.jobs.specs.States.{state_of, planned_with};
+ghost use Rattle.desks.specs.Stored.{source_of_entry};
+ghost use Rattle.desks.specs.Sound.{IsSound, IsClosure, IsStored, AreGoalsSound};
+ghost use Rattle.desks.specs.Viewing.{desk_at};
+ghost use Rattle.desks.specs.Handling.{IsHandledAtPlace};
+ghost use Rattle.goals.specs.Planning.{IsResolvedAt, TellsToPlan, fails, IsNotKept};
+
+use crate::asking::is_reached;
+use choose::View;
+use classes::input_classes;
+use closures::Resolved;
+use derivation::Derivation;
+use desks::desks_in_view;
+use events::Reply;
+use jobs::{Jobs, State};
+use model::{Refusal, closures_are_whole};
+use realise::Desk;
+use repair::resolve;
+use serving::served_are_made;
+use std::alloc::Global;
+use store::Table;
+use trust::{Trust, User};
+use views::trees_of;
+
+/// What a derivation is built from, for the user at a place, of all that he sees.
+fn resolved_for(
+    alloc: Global,
+    trust: &Trust,
+    table: &Table,
+    desks: &[Desk],
+    place: usize,
+    derivation: &Derivation,
+) -> Result<Resolved, Refusal>
+    requires of_run { place < length desks.now }
+    requires few { length desks.now ≤ 64 }
+    requires complete { IsComplete table.now.sources desks.now }
+    ensures resolved { IsResolvedAt (trusts trust.now) table.now.sources desks.now place
+        derivation.now result }
+    ensures closure { IfOk result (λ r. IsClosure r.closure) }
+{
+    closures_are_whole();
+    let seen = desks_in_view(alloc, trust, place, desks)?;
+    let view = View::new(table, seen);
+    let desk = &desks[place];
+    let classes = input_classes(alloc, desk.known(), derivation)?;
+    let sources = &derivation.parts().sources;
+    let plan = choose::plan(alloc, &view, desk.pins(), &classes, sources)?;
+    resolve(alloc, &plan, derivation, &classes)
+}
+
+/// Whether a goal waits, as one sees it who reaches the users at the places of a word.
+fn waits(users: &[User], reached: u64, state: &State) -> bool
+    requires { length users.now ≤ 64 }
+    ensures { result ≡ is_waiting (as_seen (names users.now (holds reached)) (state_of state.now)) }
+{
+    match state {
+        State::Waiting => true,
+        State::Building(job) => !is_reached(users, reached, job.leader()),
+        _ => false,
+    }
+}
+
+/// The derivation of a goal that is to be planned, for the user at a place, who reaches the users at
+/// the places of a word.
+///
+/// A number without a goal is refused with 42 `UnknownGoal`, a goal that does not wait with 43
+/// `WrongState`, and one whose derivation is not on the desk with 41 `UnknownDerivation`.
+fn derivation_to_plan<'a>(
+    users: &[User],
+    reached: u64,
+    jobs: &Jobs,
+    desk: &'a Desk,
+    place: usize,
+    number: u16,
+) -> Result<&'a Derivation, Refusal>
+    requires few { length users.now ≤ 64 }
+    requires of_run { place < length jobs.now.goals }
+    ensures { TellsToPlan (goals_at place jobs.now) desk.now.known (names users.now (holds reached))
+        number result }
+{
+    let Some(goal) = jobs.get(place, number) else {
+        return Err(Refusal::UnknownGoal);
+    };
+    if !waits(users, reached, goal.state()) {
+        return Err(Refusal::WrongState);
+    }
+    match desk.derivation(goal.derivation()) {
+        Some(admitted) => Ok(admitted.derivation()),
+        None => Err(Refusal::UnknownDerivation),
+    }
+}
+
+/// Whether a goal comes to nothing where its derivation is not resolved for this reason.
+pub(crate) fn fails(why: Refusal) -> bool
+    ensures { result ≡ fails why }
+{
+    match why {
+        Refusal::NotRealised | Refusal::Memory => false,
+        _ => true,
+    }
+}
+
+/// A goal is planned, and the trees of the closure that it is built from are put into the table,
+/// where their paths are new there. All that needs memory comes before the first change.
+fn keep(
+    alloc: Global,
+    jobs: &mut Jobs,
+    table: &mut Table,
+    place: usize,
+    number: u16,
+    resolved: Resolved,
+) -> Result<(), Refusal>
+    requires of_run { place < length jobs.old.goals }
+    requires there { is_some (goal_at number (goals_at place jobs.old)) ≡ true }
+    ensures planned { (g : GoalValue) → goal_at number (goals_at place jobs.old) ≡ Some g
+        → OnOk result (jobs.new ≡ with_goals_at place
+        (with_goal_at number (planned_with resolved g) (goals_at place jobs.old)) jobs.old) }
+    ensures stored { OnOk result (table.new.sources
+        ≡ put_all (map source_of_entry resolved.closure) table.old.sources) }
+    ensures there { OnOk result (All (IsStored table.new.sources) resolved.closure) }
+    ensures left { OnErr result ((jobs.new ≡ jobs.old) × (table.new.sources ≡ table.old.sources)) }
+    ensures refused { IfErr result (IsNotKept table.old.sources resolved) }
+{
+    let trees = trees_of(alloc, resolved.closure())?;
+    let trees = table.missing(alloc, trees)?;
+    table.reserve(trees.len())?;
+    jobs.keep(place, number, resolved);
+    table.put_all_reserved(trees);
+    Ok(())
+}
+
+/// Finds what the goal of a number of the user at a place is built from, as he sees it now. The reply
+/// is how far the goal is then: it is planned, or has failed.
+///
+/// # Errors
+///
+/// - `UnknownGoal` exactly where he has no goal of that number, and `WrongState` exactly where it does not
+///   wait, whether there is memory or not.
+/// - `NotRealised` exactly where no desk that he sees has a record of the class of an input.
+/// - `Clash` only where another tree is stored at the path of an entry.
+/// - `Memory` only where memory was refused; it may stand in the place of each answer but the first two.
+pub fn plan(
+    alloc: Global,
+    users: &[User],
+    trust: &Trust,
+    jobs: &mut Jobs,
+    table: &mut Table,
+    desks: &[Desk],
+    place: usize,
+    number: u16,
+) -> Result<Reply, Refusal>
+    requires listed { are_users users.now ≡ true }
+    requires within { IsWithin (length users.now) (trusts trust.now) }
+    requires paired { length desks.now ≡ length users.now }
+    requires complete { IsComplete table.old.sources desks.now }
+    requires with_goals { length jobs.old.goals ≡ length users.now }
+    requires goals_sound { All (AreGoalsSound table.old.sources) jobs.old.goals }
+    requires of_run { place < length users.now }
+    ensures handled { (limit : ℕ) → All (IsSound table.old.sources limit) desks.now
+        → IsHandledAtPlace users.now limit (trusts trust.now) jobs.old.goals table.old.sources
+        desks.now place (PlanRequest number) result
+        (goals_at place jobs.new) table.new.sources (desk_at desks.now place) }
+    ensures others { jobs.new ≡ with_goals_at place (goals_at place jobs.new) jobs.old }
+{
+    served_are_made();
+    let reached = trust.closure(place);
+    let derivation = derivation_to_plan(users, reached, jobs, &desks[place], place, number)?;
+    match resolved_for(alloc, trust, table, desks, place, derivation) {
+        Ok(resolved) => {
+            keep(alloc, jobs, table, place, number, resolved)?;
+            Ok(Reply::GoalState(State::Planned))
+        }
+        Err(why) if fails(why) => {
+            jobs.set_state(place, number, State::Failed(why));
+            Ok(Reply::GoalState(State::Failed(why)))
+        }
+        Err(why) => Err(why),
+    }
+}

@@ -1,0 +1,57 @@
+-- What reading a line gives, against the line's form.
+use Rattle.std.specs.Prelude.{◌≡◌, ◌⊎◌, ℕ, nat_le, ◌&&◌, if◌then◌else◌, List, ◌∷◌, Option, None, Some, Result, MatchResult}
+use Rattle.model.specs.declared.refusal.Refusal.{Refusal}
+use Rattle.model.specs.declared.refusal.Refusal.TheVariants.{Memory}
+use Rattle.model.specs.declared.verb.WordKind.TheVariants as kind
+use Rattle.model.specs.Lines.{is_numeral}
+use Rattle.model.specs.Words.{AreWell, FirstIll, number_in}
+use Rattle.model.specs.Verbs.{kinds_of, IsRequestOf}
+use Rattle.model.specs.Forms.{Form, Wish}
+use Rattle.model.specs.Forms as form
+use Rattle.model.specs.Talk.{Row, Silent, Names, Refuses, Asks, Gets}
+use Rattle.model.specs.Events as events
+use Rattle.events.specs.declared.event.Event.{Event}
+use Rattle.events.specs.declared.event.Request.{Request}
+use Rattle.events.specs.Terms.{event_of, request_of}
+use Rattle.lines.specs.declared.reading.Reading.{Reading}
+use Rattle.lines.specs.declared.reading.Reading.TheVariants as reading
+
+-- the number of a numeral that writes at most that
+abbrev pub numeral_up_to : ℕ → List ℕ → Option ℕ
+numeral_up_to most word = if is_numeral word && nat_le (number_in word) most then Some (number_in word) else None
+
+-- a wish makes this request
+abbrev pub IsRequestOfWish : Wish → Request → Type 0
+IsRequestOfWish wish request = AreWell (kinds_of wish.verb) wish.words × IsRequestOf wish.verb wish.words (request_of request)
+
+-- it makes none: a word is ill-formed, or memory was refused
+abbrev pub IsNoRequest : Wish → Refusal → Type 0
+IsNoRequest wish why = (why ≡ Memory) ⊎ FirstIll (kinds_of wish.verb) wish.words why
+
+-- a user's wish makes this event
+abbrev pub IsEventOfWish : List ℕ → Wish → Event → Type 0
+IsEventOfWish user wish event =
+    AreWell (kind.User ∷ kinds_of wish.verb) (user ∷ wish.words) × (event.actor ≡ user) × IsRequestOf wish.verb wish.words (request_of event.request)
+
+-- it makes none
+abbrev pub IsNoEvent : List ℕ → Wish → Refusal → Type 0
+IsNoEvent user wish why = (why ≡ Memory) ⊎ FirstIll (kind.User ∷ kinds_of wish.verb) (user ∷ wish.words) why
+
+-- the row of what a line comes to
+abbrev pub IsRowOf : Reading → Row → Type 0
+IsRowOf reading.Silent row = row ≡ Silent
+IsRowOf (reading.Names users) row = row ≡ Names users.items
+IsRowOf (reading.Refuses why) row = row ≡ Refuses why
+IsRowOf (reading.Asks event) row = (reply : events.Reply) × (row ≡ Asks (event_of event) reply)
+
+-- a line of that form comes to this
+abbrev pub Becomes : Form → Reading → Type 0
+Becomes form reading.Silent = Gets form Silent
+Becomes form (reading.Names users) = Gets form (Names users.items)
+Becomes form (reading.Refuses why) = Gets form (Refuses why)
+Becomes form (reading.Asks event) = (reply : events.Reply) → Gets form (Asks (event_of event) reply)
+
+-- a line of any wish that makes this event, or none for this, comes to this
+abbrev pub BecomesOfWish : Result Event Refusal → Reading → Type 0
+BecomesOfWish event reading =
+    (user : List ℕ) (wish : Wish) → MatchResult event (IsEventOfWish user wish) (IsNoEvent user wish) → Becomes (form.Asks user wish) reading

@@ -1,0 +1,22 @@
+//! What the lines of a session are read as, and the text that is printed for replies.
+//!
+//! What a line is, which request it makes and what is printed for a reply is said by the definitions
+//! of the crate `model`.
+#![tactic(auto)]
+
+mod cutting;
+mod entries;
+mod expand;
+mod forms;
+mod numbers;
+mod reading;
+mod texts;
+mod told;
+mod wishes;
+mod words;
+
+pub use cutting::cut;
+pub use forms::{LONGEST_LINE, read_line};
+pub use reading::Reading;
+pub use texts::answer_text;
+pub use told::{Told, told_in};

@@ -1,0 +1,60 @@
+//! What the reply to a line tells.
+
+ghost use Rattle.std.specs.Prelude.{◌≡◌};
+ghost use Rattle.model.specs.Lines.{nothing_told};
+ghost use Rattle.model.specs.Talk.{told_in};
+ghost use Rattle.events.specs.Terms.{reply_of};
+
+use events::Reply;
+use jobs::State;
+use std::marker::Model;
+use storepath::StorePath;
+
+/// What the reply to a line tells that later lines may use: a path, and the path of a class.
+#[derive(Drop)]
+pub struct Told {
+    pub(crate) path: Option<StorePath>,
+    pub(crate) class: Option<StorePath>,
+}
+
+impl Model for Told {
+    ghost use Rattle.model.specs.Lines.{Told as ToldValue};
+
+    ghost Value = { ToldValue };
+
+    ghost view = { λ told. record { path = told.path; class = told.class } };
+}
+
+impl Told {
+    /// What a line tells that has no reply, or one with no path.
+    pub fn nothing() -> Told
+        ensures { result ≡ nothing_told }
+    {
+        Told {
+            path: None,
+            class: None,
+        }
+    }
+}
+
+/// What a reply tells.
+pub fn told_in(reply: Reply) -> Told
+    ensures { result ≡ told_in (reply_of reply) }
+{
+    match reply {
+        Reply::Path(path) | Reply::GoalState(State::Done(path)) => Told {
+            path: Some(path),
+            class: None,
+        },
+        Reply::Derivation { path, class } => Told {
+            path: Some(path),
+            class: Some(class),
+        },
+        Reply::Done
+        | Reply::Content(_)
+        | Reply::Entries(_)
+        | Reply::GoalNumber(_)
+        | Reply::GoalState(_)
+        | Reply::Refused(_) => Told::nothing(),
+    }
+}

@@ -1,0 +1,138 @@
+//! Records whose labels move.
+
+ghost use Rattle.std.specs.Prelude.{◌≡◌, ◌≤◌, ◌⊎◌, IfOk, MatchResult, Ok, Err};
+ghost use Rattle.model.specs.Classes.{greatest_rank};
+ghost use Rattle.model.specs.Settling.{name_in};
+ghost use Rattle.model.specs.References.{paths_of_labels};
+ghost use Rattle.model.specs.Repairs.{moved, repaired};
+ghost use Rattle.model.specs.declared.refusal.Refusal.TheVariants.{Memory};
+ghost use Rattle.moving.specs.Moving.{IsRewritten, IsNotRewritten, IsResettled, IsNotResettled};
+ghost use Rattle.moving.specs.Served.{served_from};
+ghost use Rattle.closures.specs.Sound.{IsSoundRecord};
+
+use crate::images::images_of;
+use crate::moves::{Move, is_any_replaced, is_any_replaced_by, moved_labels, moves_of};
+use closures::Realisation;
+use indexmap::IndexMap;
+use model::{Refusal, RewriteFault};
+use nar::{Nar, encode};
+use realise::{Label, Record};
+use rewrite::{Named, settle, substitute};
+use scan::occurrences;
+use std::alloc::{AllocError, Global};
+use storepath::{Name, StorePath};
+
+// The paths of labels. The one error is memory.
+fn paths_of(alloc: Global, labels: &[Label]) -> Result<Vec<StorePath>, AllocError>
+    ensures { IfOk result (λ paths. paths.items ≡ paths_of_labels labels.now) }
+{
+    let mut paths = Vec::new(alloc);
+    for label in labels {
+        paths.push(label.path().clone()?)?;
+    }
+    Ok(paths)
+}
+
+// The name of a path. The one error is memory.
+fn name_in(alloc: Global, path: &StorePath) -> Result<Name, Refusal>
+    ensures { MatchResult result (λ name. name ≡ name_in path.now) (λ e. e ≡ Memory) }
+{
+    Name::new(alloc, path.name())
+}
+
+// The tree of a record with the hash parts of its labels put anew.
+fn rewritten(alloc: Global, chosen: &Realisation, moves: &[Move]) -> Result<Nar, Refusal>
+    ensures { MatchResult result
+        (IsRewritten chosen.now moves.now)
+        (IsNotRewritten chosen.now moves.now) }
+{
+    let images = images_of(alloc, chosen.path(), moves)?;
+    let keys = images.keys(alloc)?;
+    let archive = encode(alloc, chosen.tree())?;
+    let places = occurrences(alloc, &archive, &keys)?;
+    substitute(alloc, &archive, &places, &images)
+}
+
+// Such a tree with the path of its content, where these are its moved labels.
+fn resettled(
+    alloc: Global,
+    chosen: &Realisation,
+    labels: &[Label],
+    archive: &Nar,
+) -> Result<Named, Refusal>
+    ensures { MatchResult result
+        (IsResettled chosen.now labels.now archive.now)
+        (IsNotResettled chosen.now labels.now archive.now) }
+{
+    let own = chosen.path().hash_part();
+    let paths = paths_of(alloc, labels)?;
+    let name = name_in(alloc, chosen.path())?;
+    settle(alloc, archive, &own, &paths, &name)
+}
+
+// The record with its labels moved, at the path of its new tree.
+fn repaired(alloc: Global, chosen: &Realisation, moves: &[Move]) -> Result<Realisation, Refusal>
+    ensures { let answer = repaired chosen.now moves.now in MatchResult result
+        (λ made. answer ≡ Ok made)
+        (λ e. (e ≡ Memory) ⊎ (answer ≡ Err e)) }
+{
+    let archive = rewritten(alloc, chosen, moves)?;
+    let labels = moved_labels(alloc, moves)?;
+    let named = resettled(alloc, chosen, &labels, &archive)?;
+    let tree = named.tree(alloc)?;
+    let record = Record::new(chosen.class().clone()?, named.path().clone()?, labels)?;
+    Ok(Realisation::new(record, tree))
+}
+
+/// A record as it is where no path is replaced, and else with its labels moved, at the path of its
+/// new tree.
+///
+/// # Errors
+///
+/// - `RewriteRefused` exactly where a path is replaced, and it is one of these: its own path is to
+///   stand in the place of another; hash parts cannot be put anew; or the new tree cannot be given
+///   its path.
+/// - `Memory` only where memory was refused; it may stand in the place of each answer.
+pub(crate) fn moved(
+    alloc: Global,
+    chosen: &Realisation,
+    moves: &[Move],
+) -> Result<Realisation, Refusal>
+    ensures { let answer = moved chosen.now moves.now in MatchResult result
+        (λ made. answer ≡ Ok made)
+        (λ e. (e ≡ Memory) ⊎ (answer ≡ Err e)) }
+{
+    if !is_any_replaced(moves) {
+        return Ok(chosen.clone()?);
+    }
+    if is_any_replaced_by(chosen.path(), moves) {
+        return Err(Refusal::RewriteRefused(RewriteFault::Accidental));
+    }
+    repaired(alloc, chosen, moves)
+}
+
+/// A chosen record, moved to what serves the classes of its labels, of those that are served so
+/// far.
+///
+/// # Errors
+///
+/// - `NotRealised` exactly where the class of a label is not served, or is not of a lower rank.
+/// - `RewriteRefused` exactly where the labels move and the record cannot be repaired, with the reason.
+/// - `Memory` only where memory was refused; it may stand in the place of each answer.
+pub fn serve(
+    alloc: Global,
+    chosen: &Realisation,
+    served: &IndexMap<StorePath, Realisation>,
+) -> Result<Realisation, Refusal>
+    ensures served { let answer = served_from served.now.entries chosen.now in
+        MatchResult result
+        (λ made. answer ≡ Ok made)
+        (λ e. (e ≡ Memory) ⊎ (answer ≡ Err e)) }
+    ensures sound { IfOk result (λ _. IsSoundRecord chosen.now) }
+    ensures low { chosen.now.class.rank ≤ greatest_rank }
+{
+    let _len = chosen.tree().nar_len();
+    let _part = chosen.path().hash_part();
+    let moves = moves_of(alloc, chosen.labels(), served, chosen.class().rank())?;
+    moved(alloc, chosen, &moves)
+}

@@ -1,0 +1,71 @@
+//! Asking for a closure.
+
+ghost use Rattle.std.specs.Prelude.{◌≡◌, ◌<◌, ◌≤◌, ℕ, IfOk, length};
+ghost use Rattle.model.specs.Events.{Closure as ClosureRequest};
+ghost use Rattle.choose.specs.Visible.{IsComplete};
+ghost use Rattle.trust.specs.Trusting.{trusts};
+ghost use Rattle.desks.specs.Viewing.{desk_at};
+ghost use Rattle.views.specs.Serving.{IsServedAt};
+ghost use Rattle.desks.specs.Handling.{IsHandledBySight};
+ghost use Rattle.desks.specs.Sound.{IsClosure};
+
+use choose::View;
+use closures::{Closure, Entry};
+use desks::desks_in_view;
+use events::Reply;
+use model::{Refusal, closures_are_whole};
+use realise::Desk;
+use std::alloc::Global;
+use store::Table;
+use storepath::StorePath;
+use trust::Trust;
+
+/// The entries of the closure of a class for the user at a place, of all that he sees.
+pub(crate) fn entries_for(
+    alloc: Global,
+    trust: &Trust,
+    table: &Table,
+    desks: &[Desk],
+    place: usize,
+    class: &StorePath,
+) -> Result<Vec<Entry>, Refusal>
+    requires of_run { place < length desks.now }
+    requires few { length desks.now ≤ 64 }
+    requires complete { IsComplete table.now.sources desks.now }
+    ensures served { IsServedAt (trusts trust.now) table.now.sources desks.now place
+        class.now result }
+    ensures closure { IfOk result (λ entries. IsClosure entries.items) }
+{
+    closures_are_whole();
+    let seen = desks_in_view(alloc, trust, place, desks)?;
+    let view = View::new(table, seen);
+    let classes = [class.clone()?];
+    serving::closure(alloc, &view, desks[place].pins(), &classes, &[])
+}
+
+/// The closure of a class for the user at a place, of all that he sees.
+///
+/// # Errors
+///
+/// - `NotRealised` exactly where no desk that he sees has a record of the class.
+/// - `ClosureTooLarge` exactly where there would be more than 1,024 entries.
+/// - `RewriteRefused` exactly where a record cannot be repaired, with the reason of the first such class
+///   by rank and then by the path of the class.
+/// - `Memory` only where memory was refused; it may stand in the place of each answer.
+pub fn closure(
+    alloc: Global,
+    trust: &Trust,
+    table: &Table,
+    desks: &[Desk],
+    place: usize,
+    class: &StorePath,
+) -> Result<Reply, Refusal>
+    requires of_run { place < length desks.now }
+    requires few { length desks.now ≤ 64 }
+    requires complete { IsComplete table.now.sources desks.now }
+    ensures { (limit : ℕ) → IsHandledBySight (trusts trust.now) limit table.now.sources desks.now
+        place (ClosureRequest class.now) result table.now.sources (desk_at desks.now place) }
+{
+    let entries = entries_for(alloc, trust, table, desks, place, class)?;
+    Ok(Reply::Entries(Closure::new(entries)?))
+}
