@@ -2,6 +2,7 @@
 use Rattle.std.specs.Prelude.{◌≡◌, ◌⊎◌, ℕ, nat_le, ◌&&◌, if◌then◌else◌, List, ◌∷◌, Option, None, Some, Result, MatchResult}
 use Rattle.model.specs.declared.refusal.Refusal.{Refusal}
 use Rattle.model.specs.declared.refusal.Refusal.TheVariants.{Memory}
+use Rattle.model.specs.declared.verb.Verb.{Verb}
 use Rattle.model.specs.declared.verb.WordKind.TheVariants as kind
 use Rattle.model.specs.Lines.{is_numeral}
 use Rattle.model.specs.Words.{AreWell, FirstIll, number_in}
@@ -19,6 +20,10 @@ use Rattle.lines.specs.declared.reading.Reading.TheVariants as reading
 -- the number of a numeral that writes at most that
 abbrev pub numeral_up_to : ℕ → List ℕ → Option ℕ
 numeral_up_to most word = if is_numeral word && nat_le (number_in word) most then Some (number_in word) else None
+
+-- the wish of a verb with these words
+abbrev pub wish_of : Verb → List (List ℕ) → Wish
+wish_of verb words = record { verb = verb; words = words }
 
 -- a wish makes this request
 abbrev pub IsRequestOfWish : Wish → Request → Type 0

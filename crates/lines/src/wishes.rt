@@ -1,9 +1,10 @@
 //! What a line asks for its user.
 
-ghost use Rattle.std.specs.Prelude.{◌≡◌, ◌∷◌, [], IfOk, IfErr, MatchResult, option_map};
+ghost use Rattle.std.specs.Prelude.{◌≡◌, ◌∷◌, [], length, IfOk, IfErr, MatchResult, option_map};
 ghost use Rattle.model.specs.declared.refusal.Refusal.TheVariants.{Memory};
+ghost use Rattle.model.specs.Verbs.{kinds_of};
 ghost use Rattle.model.specs.Forms.{is_text, words_by, wish_in};
-ghost use Rattle.lines.specs.Reading.{IsRequestOfWish, IsNoRequest, IsEventOfWish, IsNoEvent};
+ghost use Rattle.lines.specs.Reading.{wish_of, IsRequestOfWish, IsNoRequest, IsEventOfWish, IsNoEvent};
 
 use crate::cutting::{Word, cut, first_words, has_empty_word, one_word};
 use crate::words::{read_exit_status, read_number, read_output, read_text, read_tree, read_user};
@@ -77,42 +78,56 @@ pub(crate) fn wish_in(alloc: Global, text: &[u8]) -> Result<Option<Wish<'_>>, Al
     Ok(Some(Wish { verb, words }))
 }
 
+/// The request of a verb with one word.
+fn request_of_one(alloc: Global, verb: Verb, word: &[u8]) -> Result<Request, Refusal>
+    requires { length (kinds_of verb) ≡ 1 }
+    ensures { let wish = wish_of verb (word.now ∷ []) in
+        MatchResult result (IsRequestOfWish wish) (IsNoRequest wish) }
+{
+    match verb {
+        Verb::Derivation => Ok(Request::AddDerivation(read_text(alloc, word)?)),
+        Verb::Fetch => Ok(Request::Fetch(read_path(alloc, word)?)),
+        Verb::Trust => Ok(Request::Trust(read_user(alloc, word)?)),
+        Verb::Distrust => Ok(Request::Distrust(read_user(alloc, word)?)),
+        Verb::Unpin => Ok(Request::Unpin(read_path(alloc, word)?)),
+        Verb::Closure => Ok(Request::Closure(read_path(alloc, word)?)),
+        Verb::Take => Ok(Request::Take(read_path(alloc, word)?)),
+        Verb::Build => Ok(Request::Build(read_path(alloc, word)?)),
+        Verb::Status => Ok(Request::Status(read_number(word)?)),
+        Verb::Plan => Ok(Request::Plan(read_number(word)?)),
+        Verb::Start => Ok(Request::Start(read_number(word)?)),
+        _ => Err(Refusal::BadLine),
+    }
+}
+
+/// The request of a verb with two words.
+fn request_of_two(
+    alloc: Global,
+    verb: Verb,
+    first: &[u8],
+    second: &[u8],
+) -> Result<Request, Refusal>
+    requires { length (kinds_of verb) ≡ 2 }
+    ensures { let wish = wish_of verb (first.now ∷ second.now ∷ []) in
+        MatchResult result (IsRequestOfWish wish) (IsNoRequest wish) }
+{
+    match verb {
+        Verb::Source => Ok(Request::AddSource(Name::new(alloc, first)?, read_tree(alloc, second)?)),
+        Verb::Offer => Ok(Request::Offer(read_path(alloc, first)?, read_tree(alloc, second)?)),
+        Verb::Pin => Ok(Request::Pin(read_path(alloc, first)?, read_path(alloc, second)?)),
+        Verb::Finish => Ok(Request::Finish(read_number(first)?, read_output(alloc, second)?)),
+        Verb::Fail => Ok(Request::Fail(read_number(first)?, read_exit_status(second)?)),
+        _ => Err(Refusal::BadLine),
+    }
+}
+
 /// The request of a wish.
 fn request_of(alloc: Global, wish: &Wish<'_>) -> Result<Request, Refusal>
     ensures { MatchResult result (IsRequestOfWish wish.now) (IsNoRequest wish.now) }
 {
-    match (wish.verb, wish.words.as_slice()) {
-        (Verb::Source, [name, tree]) => Ok(Request::AddSource(
-            Name::new(alloc, name.bytes())?,
-            read_tree(alloc, tree.bytes())?,
-        )),
-        (Verb::Derivation, [text]) => Ok(Request::AddDerivation(read_text(alloc, text.bytes())?)),
-        (Verb::Offer, [path, tree]) => Ok(Request::Offer(
-            read_path(alloc, path.bytes())?,
-            read_tree(alloc, tree.bytes())?,
-        )),
-        (Verb::Fetch, [path]) => Ok(Request::Fetch(read_path(alloc, path.bytes())?)),
-        (Verb::Trust, [user]) => Ok(Request::Trust(read_user(alloc, user.bytes())?)),
-        (Verb::Distrust, [user]) => Ok(Request::Distrust(read_user(alloc, user.bytes())?)),
-        (Verb::Pin, [class, path]) => Ok(Request::Pin(
-            read_path(alloc, class.bytes())?,
-            read_path(alloc, path.bytes())?,
-        )),
-        (Verb::Closure, [class]) => Ok(Request::Closure(read_path(alloc, class.bytes())?)),
-        (Verb::Unpin, [class]) => Ok(Request::Unpin(read_path(alloc, class.bytes())?)),
-        (Verb::Take, [class]) => Ok(Request::Take(read_path(alloc, class.bytes())?)),
-        (Verb::Build, [path]) => Ok(Request::Build(read_path(alloc, path.bytes())?)),
-        (Verb::Status, [number]) => Ok(Request::Status(read_number(number.bytes())?)),
-        (Verb::Plan, [number]) => Ok(Request::Plan(read_number(number.bytes())?)),
-        (Verb::Start, [number]) => Ok(Request::Start(read_number(number.bytes())?)),
-        (Verb::Finish, [number, output]) => Ok(Request::Finish(
-            read_number(number.bytes())?,
-            read_output(alloc, output.bytes())?,
-        )),
-        (Verb::Fail, [number, status]) => Ok(Request::Fail(
-            read_number(number.bytes())?,
-            read_exit_status(status.bytes())?,
-        )),
+    match wish.words.as_slice() {
+        [word] => request_of_one(alloc, wish.verb, word.bytes()),
+        [first, second] => request_of_two(alloc, wish.verb, first.bytes(), second.bytes()),
         _ => Err(Refusal::BadLine),
     }
 }
