@@ -101,6 +101,25 @@ fn want_in(reply: &Reply) -> Option<Refusal>
     }
 }
 
+/// A reply with its row. There is none where memory is refused for the copy of the reply, which is no
+/// refusal then.
+fn with_row(pass: u64, event: Event, reply: Reply) -> Option<(Reply, Row)>
+    ensures row { IfSome result (λ p. (p.0 ≡ reply) × (p.1 ≡ row pass event reply)) }
+    ensures lost { IfNone result (is_refused (reply_of reply) ≡ false) }
+{
+    match copy_of(&reply) {
+        Ok(copy) => {
+            let row = Row {
+                pass,
+                event,
+                reply: copy,
+            };
+            Some((reply, row))
+        }
+        Err(_) => None,
+    }
+}
+
 /// Lets a core take an event, and gives its reply and the row. There is none where the core has
 /// taken the event, and memory is refused for the copy of the reply. The error is the core's own want
 /// of memory, at which the core is as it was.
@@ -125,17 +144,7 @@ fn step(
     if let Some(why) = want_in(&reply) {
         return Err(why);
     }
-    match copy_of(&reply) {
-        Ok(copy) => {
-            let row = Row {
-                pass,
-                event: asked,
-                reply: copy,
-            };
-            Ok(Some((reply, row)))
-        }
-        Err(_) => Ok(None),
-    }
+    Ok(with_row(pass, asked, reply))
 }
 
 /// A refusal of an event that is let go.
