@@ -1,6 +1,7 @@
 //! Running those events of one input that can reach a user.
 
-ghost use Rattle.std.specs.Prelude.{OnOk};
+ghost use Rattle.std.specs.Prelude.{OnOk, ◌≤◌};
+ghost use Rattle.model.specs.Limits.{most_charge};
 ghost use Rattle.std.specs.Io.KnownBytes.{Appends};
 
 use crate::settings::Options;
@@ -85,6 +86,14 @@ fn write_text<W: Write + Faults>(writer: &mut W, text: &[u8]) -> Result<(), Refu
     }
 }
 
+/// Shows all that was written.
+fn flush_text<W: Write + Faults>(writer: &mut W) -> Result<(), Refusal> {
+    match writer.flush() {
+        Ok(()) => Ok(()),
+        Err(_) => Err(Refusal::OutputFault),
+    }
+}
+
 /// Writes the replies to a user, each as the line of its number.
 fn print_replies<W: Write + Faults>(
     alloc: Global,
@@ -132,6 +141,35 @@ fn users_in(alloc: Global, input: &[u8]) -> Result<Vec<User>, Refusal> {
     Err(Refusal::UnknownUser)
 }
 
+/// The user of a name, who is one of these.
+fn user_among(alloc: Global, users: &[User], name: &[u8]) -> Result<User, Refusal> {
+    let user = User::new(alloc, name)?;
+    if users.iter().any(|other| *other == user) {
+        Ok(user)
+    } else {
+        Err(Refusal::UnknownUser)
+    }
+}
+
+/// The replies to those of an input's events that can reach a user, in a new store, and the numbers of
+/// his lines.
+fn struck(
+    alloc: Global,
+    hashing: RandomState,
+    users: Vec<User>,
+    limits: Limits,
+    user: &User,
+    input: &[u8],
+) -> Result<(Vec<(User, Reply)>, Vec<usize>), Refusal>
+    requires { limits.charge ≤ most_charge }
+{
+    let core = Core::new(alloc, hashing, users.clone()?, limits)?;
+    let Asked { events, numbers } = ask_all(alloc, core, input, user)?;
+    let kept = schedule::strike(users.as_slice(), events, user)?;
+    let replies = run(alloc, hashing, users, limits, kept)?;
+    Ok((replies, numbers))
+}
+
 /// Runs the lines that a reader gives, and then, in a new store, those of their events that can reach a
 /// user. Writes what is printed for his lines then, under their numbers.
 ///
@@ -152,26 +190,11 @@ pub(crate) fn strike<R: Read + Faults, W: Write + Faults>(
 ) -> Result<(), Refusal> {
     let input = read_whole(alloc, reader)?;
     let users = users_in(alloc, input.as_slice())?;
-    let user = User::new(alloc, name)?;
-    if !users.iter().any(|other| *other == user) {
-        return Err(Refusal::UnknownUser);
-    }
+    let user = user_among(alloc, users.as_slice(), name)?;
     let limits = Limits {
         charge: options.charge,
     };
-    let core = Core::new(alloc, hashing, users.clone()?, limits)?;
-    let asked = ask_all(alloc, core, input.as_slice(), &user)?;
-    let kept = schedule::strike(users.as_slice(), asked.events, &user)?;
-    let replies = run(alloc, hashing, users, limits, kept)?;
-    print_replies(
-        alloc,
-        replies.as_slice(),
-        &user,
-        asked.numbers.as_slice(),
-        writer,
-    )?;
-    match writer.flush() {
-        Ok(()) => Ok(()),
-        Err(_) => Err(Refusal::OutputFault),
-    }
+    let (replies, numbers) = struck(alloc, hashing, users, limits, &user, input.as_slice())?;
+    print_replies(alloc, replies.as_slice(), &user, numbers.as_slice(), writer)?;
+    flush_text(writer)
 }
