@@ -15,7 +15,6 @@ use std::marker::Model;
 use storepath::{StorePath, is_name};
 
 /// What a derivation is made of.
-#[derive(Drop)]
 pub struct Parts {
     /// The derivation files whose outputs it uses.
     pub inputs: Vec<StorePath>,
@@ -31,10 +30,28 @@ pub struct Parts {
     pub environment: Vec<(Text, Text)>,
 }
 
+impl Drop for Parts {
+    fn drop(self) {
+        let Parts {
+            inputs: _,
+            sources: _,
+            platform: _,
+            builder: _,
+            arguments: _,
+            environment: _,
+        } = self;
+    }
+}
+
 /// A derivation of one output, `out`, that has a text.
-#[derive(Drop)]
 pub struct Derivation {
     parts: Parts,
+}
+
+impl Drop for Derivation {
+    fn drop(self) {
+        let Derivation { parts: _ } = self;
+    }
 }
 
 impl Model for Derivation {

@@ -11,9 +11,14 @@ use std::sync::ArcSlice;
 /// A string of a derivation, of any bytes. A copy shares them.
 ///
 /// A derivation's own strings have bytes 32 to 126, tabs, newlines and carriage returns alone.
-#[derive(Drop)]
 pub struct Text {
     bytes: ArcSlice<u8>,
+}
+
+impl Drop for Text {
+    fn drop(self) {
+        let Text { bytes: _ } = self;
+    }
 }
 
 impl Model for Text {

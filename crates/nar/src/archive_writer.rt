@@ -14,9 +14,14 @@ use std::marker::Model;
 use std::sync::Arc;
 
 /// The archive of a tree.
-#[derive(Drop)]
 pub struct Nar {
     text: Vec<u8>,
+}
+
+impl Drop for Nar {
+    fn drop(self) {
+        let Nar { text: _ } = self;
+    }
 }
 
 impl Model for Nar {
@@ -58,7 +63,8 @@ impl Nar {
         ensures text { result.items ≡ nar self }
         ensures tree { IsTree self }
     {
-        self.text
+        let Nar { text } = self;
+        text
     }
 }
 

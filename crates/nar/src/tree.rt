@@ -3,6 +3,7 @@
 ghost use Rattle.std.specs.Prelude.{◌≡◌, ◌<◌, ◌≤◌, IfOk, IfErr, IfSome, IfNone, MatchResult, IsTrue, ◌↔◌, [], length};
 ghost use Rattle.model.specs.Archives.{nar, File, Link, Directory, AreSound, IsTree};
 ghost use Rattle.model.specs.declared.refusal.Refusal.TheVariants.{TooLarge, Memory};
+ghost use Rattle.std.specs.Arc.{arc_value};
 ghost use Rattle.nar.specs.NodeTrees.{tree_of, named_trees, as_entries};
 ghost use Rattle.nar.specs.Measuring.{AreMeasured, IsMeasuredTree};
 ghost use Rattle.nar.specs.Refusing.{IsNoTree};
@@ -26,11 +27,20 @@ pub(crate) const MAX_DEPTH: usize = 64;
 /// The names of a directory's entries ascend strictly by bytes; each has 1 to 255 bytes, no zero
 /// byte and no slash, and is neither `.` nor `..`. A tree is at most 64 deep, where the root has
 /// depth 1, and its archive has at most 64 MiB. So a recursion over a tree is at most 64 deep.
-#[derive(Drop)]
 pub struct Tree {
     pub(crate) node: Arc<Node>,
     pub(crate) depth: usize,
     pub(crate) nar_len: usize,
+}
+
+impl Drop for Tree {
+    fn drop(self) {
+        let Tree {
+            node: _,
+            depth: _,
+            nar_len: _,
+        } = self;
+    }
 }
 
 impl Model for Tree {
@@ -51,6 +61,18 @@ impl Model for Tree {
 }
 
 impl Tree {
+    // What it holds.
+    fn into_node(self) -> Arc<Node>
+        ensures { tree_of (arc_value result) ≡ self }
+    {
+        let Tree {
+            node,
+            depth: _,
+            nar_len: _,
+        } = self;
+        node
+    }
+
     /// A file with these bytes, executable or not. The bytes are not copied.
     ///
     /// # Errors
@@ -213,12 +235,7 @@ fn nodes_of(
 {
     let mut nodes = Vec::with_capacity(alloc, entries.len())?;
     for (name, tree) in entries {
-        let Tree {
-            node,
-            depth: _,
-            nar_len: _,
-        } = tree;
-        nodes.push((name, node))?;
+        nodes.push((name, tree.into_node()))?;
     }
     Ok(nodes)
 }

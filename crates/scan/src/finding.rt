@@ -18,9 +18,14 @@ use storepath::HashPart;
 
 /// Places in an archive or another text, ascending and at least 32 bytes apart: where each begins, in
 /// bytes from its beginning, and the hash part that stands there.
-#[derive(Drop)]
 pub struct Places {
     places: Vec<(usize, HashPart)>,
+}
+
+impl Drop for Places {
+    fn drop(self) {
+        let Places { places: _ } = self;
+    }
 }
 
 impl Model for Places {

@@ -31,9 +31,15 @@ pub fn is_name(text: &[u8]) -> bool
 
 /// A name of a store path: 1 to 211 ASCII letters, digits and `+-._?=`, the first no dot. A copy
 /// shares the bytes.
-#[derive(Debug, Drop)]
+#[derive(Debug)]
 pub struct Name {
     text: ArcSlice<u8>,
+}
+
+impl Drop for Name {
+    fn drop(self) {
+        let Name { text: _ } = self;
+    }
 }
 
 impl Model for Name {

@@ -29,9 +29,15 @@ const NAME: usize = 44;
 
 /// The text of a store path: `/nix/store/`, a hash part of 32 digits, `-` and a name, in all 45 to 255
 /// bytes. A copy shares the text.
-#[derive(Debug, Drop)]
+#[derive(Debug)]
 pub struct StorePath {
     text: ArcSlice<u8>,
+}
+
+impl Drop for StorePath {
+    fn drop(self) {
+        let StorePath { text: _ } = self;
+    }
 }
 
 impl Model for StorePath {

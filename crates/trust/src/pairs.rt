@@ -17,9 +17,14 @@ fn without(word: u64, place: usize) -> u64
 }
 
 /// Who trusts whom, among 64 users. A user is named by his place in the list of a run, from 0 on.
-#[derive(Drop)]
 pub struct Trust {
     rows: [u64; USERS],
+}
+
+impl Drop for Trust {
+    fn drop(self) {
+        let Trust { rows: _ } = self;
+    }
 }
 
 impl Model for Trust {
