@@ -1,6 +1,6 @@
 //! The records below a derivation.
 
-ghost use Rattle.std.specs.Prelude.{◌≡◌, ◌||◌, ℕ, List, MatchResult, bytes_eq};
+ghost use Rattle.std.specs.Prelude.{◌≡◌, ◌||◌, ◌&&◌, not, ℕ, List, [], ◌∷◌, ◌++◌, MatchResult, OnOk, IfErr, bytes_eq};
 ghost use Rattle.std.specs.List.{list_any};
 ghost use Rattle.model.specs.References.{is_class_of, is_input_class};
 ghost use Rattle.model.specs.Classes.{known_at};
@@ -21,6 +21,32 @@ use storepath::StorePath;
 struct Reached {
     marked: Vec<bool>,
     fresh: Vec<bool>,
+}
+
+impl Reached {
+    // No records. It takes no memory.
+    fn new(alloc: Global) -> Reached
+        ensures marked { result.marked.items ≡ [] }
+        ensures fresh { result.fresh.items ≡ [] }
+    {
+        Reached {
+            marked: Vec::new(alloc),
+            fresh: Vec::new(alloc),
+        }
+    }
+
+    // One record more.
+    fn push(&mut self, is_marked: bool, is_fresh: bool) -> Result<(), Refusal>
+        ensures marked { OnOk result
+            (self.new.marked.items ≡ self.old.marked.items ++ is_marked ∷ []) }
+        ensures fresh { OnOk result
+            (self.new.fresh.items ≡ self.old.fresh.items ++ is_fresh ∷ []) }
+        ensures memory { IfErr result (λ e. e ≡ Memory) }
+    {
+        self.marked.push(is_marked)?;
+        self.fresh.push(is_fresh)?;
+        Ok(())
+    }
 }
 
 // Whether a record was reached in the last step.
@@ -131,6 +157,24 @@ fn is_named(named: &IndexSet<(StorePath, StorePath)>, one: &Record) -> Result<bo
     Ok(named.contains(&pair))
 }
 
+// Whether a record is marked after one step more, and whether it is reached in that step.
+fn next_marks(
+    named: &IndexSet<(StorePath, StorePath)>,
+    one: &Record,
+    was_marked: bool,
+) -> Result<(bool, bool), Refusal>
+    ensures { let is_next = is_named named.now.keys one.now.path one.now.class.path in
+        MatchResult result
+        (λ marks. (marks.0 ≡ (was_marked || is_next)) × (marks.1 ≡ (not was_marked && is_next)))
+        (λ e. e ≡ Memory) }
+{
+    if was_marked {
+        return Ok((true, false));
+    }
+    let is_fresh = is_named(named, one)?;
+    Ok((is_fresh, is_fresh))
+}
+
 // What is reached in one step more.
 fn one_step(alloc: Global, records: &[Record], reached: &Reached) -> Result<Reached, Refusal>
     ensures { MatchResult result
@@ -138,14 +182,12 @@ fn one_step(alloc: Global, records: &[Record], reached: &Reached) -> Result<Reac
         (λ e. e ≡ Memory) }
 {
     let named = named_by(alloc, records, &reached.fresh)?;
-    let mut marked = Vec::new(alloc);
-    let mut fresh = Vec::new(alloc);
+    let mut next = Reached::new(alloc);
     for (record, was_marked) in records.iter().zip(&reached.marked) {
-        let is_fresh = !*was_marked && is_named(&named, record)?;
-        marked.push(*was_marked || is_fresh)?;
-        fresh.push(is_fresh)?;
+        let (is_marked, is_fresh) = next_marks(&named, record, *was_marked)?;
+        next.push(is_marked, is_fresh)?;
     }
-    Ok(Reached { marked, fresh })
+    Ok(next)
 }
 
 /// For each record of a desk, whether it is one for an input of the derivation, or is referred to

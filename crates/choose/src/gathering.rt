@@ -1,10 +1,10 @@
 //! Gathering what a closure needs.
 
-ghost use Rattle.std.specs.Prelude.{◌≡◌, [], ◌+◌, nat_lt, length, ◌<◌, MatchResult, slice_index_or};
+ghost use Rattle.std.specs.Prelude.{◌≡◌, [], ◌+◌, nat_lt, length, ◌<◌, MatchResult, slice_index_or, Some, false};
 ghost use Rattle.model.specs.Limits.{most_entries};
 ghost use Rattle.model.specs.declared.refusal.Refusal.TheVariants.{Memory};
 ghost use Rattle.choose.specs.Visible.{choose_in};
-ghost use Rattle.choose.specs.Gathering.{has_class, with_class, with_source, with_label, with_labels};
+ghost use Rattle.choose.specs.Gathering.{has_class, has_source, with_chosen, with_found, with_class, with_source, with_label, with_labels};
 
 use crate::choice::chosen;
 use crate::view::View;
@@ -22,12 +22,22 @@ const MOST_ENTRIES: usize = 1024;
 /// The records and the sources that have been found, each once, the first first. The two tables
 /// beside them tell what is there: the paths of classes and of sources. Their hashers have a fixed
 /// seed: one who finds paths that collide gains little, since gathering ends soon after 1,024.
-#[derive(Drop)]
 pub(crate) struct Gathering {
     classes: IndexSet<StorePath>,
     paths: IndexSet<StorePath>,
     records: Vec<Realisation>,
     sources: Vec<Source>,
+}
+
+impl Drop for Gathering {
+    fn drop(self) {
+        let Gathering {
+            classes: _,
+            paths: _,
+            records: _,
+            sources: _,
+        } = self;
+    }
 }
 
 impl Model for Gathering {
@@ -88,76 +98,78 @@ impl Gathering {
         Ok(self.records[index].clone()?)
     }
 
-    /// With what is chosen for a class, unless it is there. The one error is memory.
+    /// Adds what is chosen for a class, unless it is there. The one error is memory.
     pub(crate) fn add_class(
-        self,
+        &mut self,
         view: &View,
         pins: &Pins,
         class: &StorePath,
-    ) -> Result<Gathering, Refusal>
+    ) -> Result<(), Refusal>
         ensures { MatchResult result
-            (λ g. g ≡ with_class (choose_in view.now pins.now) class.now self)
+            (λ _. self.new ≡ with_class (choose_in view.now pins.now) class.now self.old)
             (λ e. e ≡ Memory) }
     {
         if self.classes.contains(class) {
-            return Ok(self);
+            return Ok(());
         }
-        let Some(realisation) = chosen(view, pins, class)? else {
-            return Ok(self);
-        };
-        let Gathering {
-            mut classes,
-            paths,
-            mut records,
-            sources,
-        } = self;
-        let _is_new = classes.insert(class.clone()?)?;
-        records.push(realisation)?;
-        Ok(Gathering {
-            classes,
-            paths,
-            records,
-            sources,
-        })
+        match chosen(view, pins, class)? {
+            Some(realisation) => self.push_record(class, realisation),
+            None => Ok(()),
+        }
     }
 
-    /// With the source at a path, unless it is there. The one error is memory.
-    pub(crate) fn add_source(self, view: &View, path: &StorePath) -> Result<Gathering, Refusal>
+    /// Adds the record of a class that has none. The one error is memory. Then nothing has changed.
+    fn push_record(&mut self, class: &StorePath, realisation: Realisation) -> Result<(), Refusal>
+        requires absent { has_class class.now self.old ≡ false }
+        requires own { realisation.class.path ≡ class.now }
         ensures { MatchResult result
-            (λ g. g ≡ with_source view.now path.now self)
+            (λ _. self.new ≡ with_chosen (Some realisation) self.old)
+            (λ e. e ≡ Memory) }
+    {
+        self.records.reserve(1)?;
+        let _is_new = self.classes.insert(class.clone()?)?;
+        self.records.push(realisation).unwrap();
+        Ok(())
+    }
+
+    /// Adds the source at a path, unless it is there. The one error is memory.
+    pub(crate) fn add_source(&mut self, view: &View, path: &StorePath) -> Result<(), Refusal>
+        ensures { MatchResult result
+            (λ _. self.new ≡ with_source view.now path.now self.old)
             (λ e. e ≡ Memory) }
     {
         if self.paths.contains(path) {
-            return Ok(self);
+            return Ok(());
         }
-        let Some(source) = view.source(path)? else {
-            return Ok(self);
-        };
-        let Gathering {
-            classes,
-            mut paths,
-            records,
-            mut sources,
-        } = self;
-        let _is_new = paths.insert(path.clone()?)?;
-        sources.push(source)?;
-        Ok(Gathering {
-            classes,
-            paths,
-            records,
-            sources,
-        })
+        match view.source(path)? {
+            Some(source) => self.push_source(path, source),
+            None => Ok(()),
+        }
     }
 
-    /// With what a label names. The one error is memory.
+    /// Adds the source of a path that has none. The one error is memory. Then nothing has changed.
+    fn push_source(&mut self, path: &StorePath, source: Source) -> Result<(), Refusal>
+        requires absent { has_source path.now self.old ≡ false }
+        requires own { source.path ≡ path.now }
+        ensures { MatchResult result
+            (λ _. self.new ≡ with_found (Some source) self.old)
+            (λ e. e ≡ Memory) }
+    {
+        self.sources.reserve(1)?;
+        let _is_new = self.paths.insert(path.clone()?)?;
+        self.sources.push(source).unwrap();
+        Ok(())
+    }
+
+    /// Adds what a label names. The one error is memory.
     pub(crate) fn add_label(
-        self,
+        &mut self,
         view: &View,
         pins: &Pins,
         label: &Label,
-    ) -> Result<Gathering, Refusal>
+    ) -> Result<(), Refusal>
         ensures { MatchResult result
-            (λ g. g ≡ with_label view.now (choose_in view.now pins.now) label.now self)
+            (λ _. self.new ≡ with_label view.now (choose_in view.now pins.now) label.now self.old)
             (λ e. e ≡ Memory) }
     {
         match label.class() {
@@ -166,22 +178,21 @@ impl Gathering {
         }
     }
 
-    /// With what labels name. The one error is memory.
+    /// Adds what labels name. The one error is memory.
     pub(crate) fn add_labels(
-        self,
+        &mut self,
         view: &View,
         pins: &Pins,
         labels: &[Label],
-    ) -> Result<Gathering, Refusal>
+    ) -> Result<(), Refusal>
         ensures { MatchResult result
-            (λ g. g ≡ with_labels view.now (choose_in view.now pins.now) labels.now self)
+            (λ _. self.new ≡ with_labels view.now (choose_in view.now pins.now) labels.now self.old)
             (λ e. e ≡ Memory) }
     {
-        let mut gathering = self;
         for label in labels {
-            gathering = gathering.add_label(view, pins, label)?;
+            self.add_label(view, pins, label)?;
         }
-        Ok(gathering)
+        Ok(())
     }
 
     /// What was found.

@@ -7,10 +7,18 @@ use closures::{Realisation, Source};
 use std::marker::Model;
 
 /// What a closure needs: the chosen records by rank and then class path, and the sources by path.
-#[derive(Drop)]
 pub struct Plan {
     pub(crate) records: Vec<Realisation>,
     pub(crate) sources: Vec<Source>,
+}
+
+impl Drop for Plan {
+    fn drop(self) {
+        let Plan {
+            records: _,
+            sources: _,
+        } = self;
+    }
 }
 
 impl Model for Plan {

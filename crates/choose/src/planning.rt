@@ -36,7 +36,7 @@ fn gather_classes(
 {
     let mut gathering = Gathering::new(alloc);
     for class in classes {
-        gathering = gathering.add_class(view, pins, class)?;
+        gathering.add_class(view, pins, class)?;
         if !gathering.has_class(class) {
             return Err(Refusal::NotRealised);
         }
@@ -44,48 +44,47 @@ fn gather_classes(
     Ok(gathering)
 }
 
-// With the sources asked for.
+// Adds the sources asked for.
 fn gather_sources(
     view: &View,
     sources: &[StorePath],
-    gathering: Gathering,
-) -> Result<Gathering, Refusal>
+    gathering: &mut Gathering,
+) -> Result<(), Refusal>
     ensures { (choice : List ℕ → Option RecordValue) (classes A : List (List ℕ)) → IsOfClass choice
-        → IsGathered view.now choice classes sources.now A [] [] gathering
+        → IsGathered view.now choice classes sources.now A [] [] gathering.old
         → MatchResult result
-        (λ g. IsGathered view.now choice classes sources.now A sources.now [] g)
+        (λ _. IsGathered view.now choice classes sources.now A sources.now [] gathering.new)
         (λ e. e ≡ Memory) }
 {
-    let mut gathering = gathering;
     for path in sources {
-        gathering = gathering.add_source(view, path)?;
+        gathering.add_source(view, path)?;
     }
-    Ok(gathering)
+    Ok(())
 }
 
-// With what is below each record, until there is no more, or more than a closure may have.
-fn gather_below(view: &View, pins: &Pins, gathering: Gathering) -> Result<Gathering, Refusal>
+// Adds what is below each record, until there is no more, or more than a closure may have.
+fn gather_below(view: &View, pins: &Pins, gathering: &mut Gathering) -> Result<(), Refusal>
     ensures { let choice = choose_in view.now pins.now in
+        let g = gathering.new in
         (classes sources A P : List (List ℕ))
-        → IsGathered view.now choice classes sources A P [] gathering → MatchResult result
-        (λ g. IsGathered view.now choice classes sources A P g.records g
+        → IsGathered view.now choice classes sources A P [] gathering.old → MatchResult result
+        (λ _. IsGathered view.now choice classes sources A P g.records g
         × (nat_lt most_entries (length g.records + length g.sources) ≡ false))
         (λ e. (e ≡ Memory) ⊎ ((e ≡ ClosureTooLarge) × IsTooMuch view.now choice classes sources)) }
 {
-    let mut gathering = gathering;
     let mut next = 0;
     while next < gathering.len() {
         if gathering.is_too_large() {
             return Err(Refusal::ClosureTooLarge);
         }
         let realisation = gathering.realisation(next)?;
-        gathering = gathering.add_labels(view, pins, realisation.labels())?;
+        gathering.add_labels(view, pins, realisation.labels())?;
         next += 1;
     }
     if gathering.is_too_large() {
         return Err(Refusal::ClosureTooLarge);
     }
-    Ok(gathering)
+    Ok(())
 }
 
 // Records by rank and then class path.
@@ -136,9 +135,9 @@ pub fn plan(
 {
     // What a view keeps of its desks holds of all that is planned.
     let _desks = &view.desks;
-    let gathering = gather_classes(alloc, view, pins, classes)?;
-    let gathering = gather_sources(view, sources, gathering)?;
-    let gathering = gather_below(view, pins, gathering)?;
+    let mut gathering = gather_classes(alloc, view, pins, classes)?;
+    gather_sources(view, sources, &mut gathering)?;
+    gather_below(view, pins, &mut gathering)?;
     let (found_records, found_sources) = gathering.into_parts();
     let records = sort_records(found_records)?;
     let sources = sort_sources(found_sources)?;

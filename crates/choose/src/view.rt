@@ -15,10 +15,15 @@ use storepath::StorePath;
 
 /// The desks that a user sees, in the order of the users, with the table that has their trees. What
 /// the labels of a desk's records name is on the desk.
-#[derive(Drop)]
 pub struct View<'a> {
     pub(crate) table: &'a Table,
     pub(crate) desks: Vec<&'a Desk>,
+}
+
+impl Drop for View<'_> {
+    fn drop(self) {
+        let View { table: _, desks: _ } = self;
+    }
 }
 
 impl<'a> Model for View<'a> {

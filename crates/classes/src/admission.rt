@@ -57,6 +57,28 @@ fn has_sources(known: &Known, sources: &[StorePath]) -> bool
     sources.iter().all(|path| known.has_source(path))
 }
 
+// Adds the sources that are no inputs to paths that are the inputs.
+fn add_others(
+    alloc: Global,
+    paths: &mut Vec<StorePath>,
+    inputs: &[StorePath],
+    sources: &[StorePath],
+) -> Result<(), Refusal>
+    requires { paths.old.items ≡ inputs.now }
+    ensures { MatchResult result
+        (λ _. paths.new.items
+        ≡ inputs.now ++ filter (λ path. not (is_one_of inputs.now path)) sources.now)
+        (λ e. e ≡ Memory) }
+{
+    let among_inputs = set_of(alloc, inputs)?;
+    for path in sources {
+        if !among_inputs.contains(path) {
+            paths.push(path.clone()?)?;
+        }
+    }
+    Ok(())
+}
+
 // The inputs, and the sources that are no inputs, in the order of bytes.
 fn references(
     alloc: Global,
@@ -69,12 +91,7 @@ fn references(
         (λ e. e ≡ Memory) }
 {
     let mut paths = copies(alloc, inputs)?;
-    let among_inputs = set_of(alloc, inputs)?;
-    for path in sources {
-        if !among_inputs.contains(path) {
-            paths.push(path.clone()?)?;
-        }
-    }
+    add_others(alloc, &mut paths, inputs, sources)?;
     paths.sort()?;
     Ok(paths)
 }

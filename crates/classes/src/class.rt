@@ -8,10 +8,15 @@ use std::marker::Model;
 use storepath::StorePath;
 
 /// An output class, known before anything is built: its path, and its rank of 1 to 64.
-#[derive(Drop)]
 pub struct Class {
     pub(crate) path: StorePath,
     pub(crate) rank: u8,
+}
+
+impl Drop for Class {
+    fn drop(self) {
+        let Class { path: _, rank: _ } = self;
+    }
 }
 
 impl Model for Class {
@@ -56,12 +61,22 @@ impl Clone for Class {
 }
 
 /// What is known of a derivation that was admitted.
-#[derive(Drop)]
 pub struct Admitted {
     pub(crate) derivation: Derivation,
     pub(crate) path: StorePath,
     pub(crate) class: Class,
     pub(crate) masked: [u8; 32],
+}
+
+impl Drop for Admitted {
+    fn drop(self) {
+        let Admitted {
+            derivation: _,
+            path: _,
+            class: _,
+            masked: _,
+        } = self;
+    }
 }
 
 impl Model for Admitted {

@@ -17,10 +17,18 @@ use storepath::StorePath;
 /// first.
 ///
 /// Looking a path up takes the same time however much is known. The hashers have a fixed seed: a desk is one user's own, and nobody else puts paths there.
-#[derive(Drop)]
 pub struct Known {
     derivations: IndexMap<StorePath, Admitted>,
     sources: IndexSet<StorePath>,
+}
+
+impl Drop for Known {
+    fn drop(self) {
+        let Known {
+            derivations: _,
+            sources: _,
+        } = self;
+    }
 }
 
 impl Model for Known {

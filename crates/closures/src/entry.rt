@@ -17,16 +17,29 @@ use std::sync::ArcSlice;
 use storepath::StorePath;
 
 /// What stands in an entry.
-#[derive(Drop)]
 enum Item {
     Record(Realisation),
     Source(Source),
 }
 
+impl Drop for Item {
+    fn drop(self) {
+        match self {
+            Item::Record(_) => {}
+            Item::Source(_) => {}
+        }
+    }
+}
+
 /// What a closure has at a path: a record, or a source, with its tree.
-#[derive(Drop)]
 pub struct Entry {
     item: Item,
+}
+
+impl Drop for Entry {
+    fn drop(self) {
+        let Entry { item: _ } = self;
+    }
 }
 
 impl Model for Entry {
@@ -115,9 +128,14 @@ impl Entry {
 }
 
 /// The entries of a closure. A copy shares them.
-#[derive(Drop)]
 pub struct Closure {
     entries: ArcSlice<Entry>,
+}
+
+impl Drop for Closure {
+    fn drop(self) {
+        let Closure { entries: _ } = self;
+    }
 }
 
 impl Model for Closure {

@@ -12,10 +12,15 @@ use std::marker::Model;
 use storepath::StorePath;
 
 /// A record with its tree. A copy shares both.
-#[derive(Drop)]
 pub struct Realisation {
     kept: Record,
     tree: Tree,
+}
+
+impl Drop for Realisation {
+    fn drop(self) {
+        let Realisation { kept: _, tree: _ } = self;
+    }
 }
 
 impl Model for Realisation {
@@ -89,10 +94,15 @@ impl Clone for Realisation {
 }
 
 /// A source with its tree. A copy shares both.
-#[derive(Drop)]
 pub struct Source {
     path: StorePath,
     tree: Tree,
+}
+
+impl Drop for Source {
+    fn drop(self) {
+        let Source { path: _, tree: _ } = self;
+    }
 }
 
 impl Model for Source {

@@ -12,11 +12,20 @@ use storepath::StorePath;
 
 /// What a derivation is built from: the closure of its inputs and its sources, the text that is
 /// built, and the path under which it is built. A copy shares all of it.
-#[derive(Drop)]
 pub struct Resolved {
     closure: Closure,
     text: ArcSlice<u8>,
     scratch: StorePath,
+}
+
+impl Drop for Resolved {
+    fn drop(self) {
+        let Resolved {
+            closure: _,
+            text: _,
+            scratch: _,
+        } = self;
+    }
 }
 
 impl Model for Resolved {

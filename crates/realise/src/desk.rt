@@ -1,11 +1,11 @@
 //! What one user has.
 
-ghost use Rattle.std.specs.Prelude.{◌≡◌, ◌+◌, ◌<◌, ◌≤◌, ◌^◌, [], ◌∷◌, ◌++◌, None, false, length, map, MatchResult};
+ghost use Rattle.std.specs.Prelude.{◌≡◌, ◌+◌, ◌<◌, ◌≤◌, ◌^◌, [], ◌∷◌, ◌++◌, None, false, length, map, MatchResult, IfOk, IfErr};
 ghost use Rattle.std.specs.List.{list_any};
 ghost use Rattle.std.specs.Option.{option_copied};
 ghost use Rattle.model.specs.Classes.{known_at, is_one_of};
 ghost use Rattle.model.specs.Worlds.{pinned, unpinned};
-ghost use Rattle.realise.specs.Held.{charged_beside, IsSetOf};
+ghost use Rattle.realise.specs.Held.{bytes_held, with_archives, charged_beside, IsSetOf};
 ghost use Rattle.realise.specs.Holdings.{same_recorded, records_of, paths_of, is_on, has_place, charged_more, holds_entry, holds_derivation, with_pins, entry_path, bare, IsClosed, IsClosedWithEntry, holds_each, charged_all, AreAbsent, AreCountable, IsGrown};
 ghost use Rattle.model.specs.declared.refusal.Refusal.TheVariants.{Memory};
 
@@ -28,12 +28,22 @@ use storepath::StorePath;
 /// bytes, which is what he is charged.
 ///
 /// What the labels of its records name is on it.
-#[derive(Drop)]
 pub struct Desk {
     known: Known,
     records: Records,
     pins: Pins,
     holding: Holding,
+}
+
+impl Drop for Desk {
+    fn drop(self) {
+        let Desk {
+            known: _,
+            records: _,
+            pins: _,
+            holding: _,
+        } = self;
+    }
 }
 
 impl Model for Desk {
@@ -46,6 +56,26 @@ impl Model for Desk {
     ghost view = { holdings_of };
 
     ghost invariant = { IsConsistent };
+}
+
+/// What is held and the records, with these records more, at paths with so many bytes of archives. Both
+/// are made beside the old ones. The one error is memory.
+fn with_more(
+    alloc: Global,
+    holding: &Holding,
+    records: &Records,
+    archives: Vec<(StorePath, u64)>,
+    added: &[Record],
+) -> Result<(Holding, Records), Refusal>
+    requires fits { bytes_held (with_archives archives.items holding.now.archives) < 2 ^ 64 }
+    ensures held { IfOk result (λ more.
+        more.0.archives ≡ with_archives archives.items holding.now.archives) }
+    ensures recorded { IfOk result (λ more. more.1 ≡ records.now ++ added.now) }
+    ensures memory { IfErr result (λ e. e ≡ Memory) }
+{
+    let holding = holding.with(alloc, archives)?;
+    let records = records.with(alloc, added)?;
+    Ok((holding, records))
 }
 
 impl Desk {
@@ -206,8 +236,13 @@ impl Desk {
             (λ e. (e ≡ Memory) × (self.new ≡ self.old)) }
     {
         let parts = parted(alloc, entries)?;
-        let holding = self.holding.with(alloc, parts.archives)?;
-        let records = self.records.with(alloc, &parts.records)?;
+        let (holding, records) = with_more(
+            alloc,
+            &self.holding,
+            &self.records,
+            parts.archives,
+            &parts.records,
+        )?;
         self.known.add_sources(parts.sources)?;
         self.records = records;
         self.holding = holding;
@@ -231,8 +266,7 @@ impl Desk {
             (λ grown. IsGrown self.now added.now archives.items grown)
             (λ e. e ≡ Memory) }
     {
-        let holding = self.holding.with(alloc, archives)?;
-        let records = self.records.with(alloc, added)?;
+        let (holding, records) = with_more(alloc, &self.holding, &self.records, archives, added)?;
         Ok(Grown { records, holding })
     }
 

@@ -1,7 +1,7 @@
 //! What is put on a desk.
 
-ghost use Rattle.std.specs.Prelude.{◌≡◌, MatchResult};
-ghost use Rattle.realise.specs.Holdings.{entry_path, AreParts};
+ghost use Rattle.std.specs.Prelude.{◌≡◌, [], ◌∷◌, ◌++◌, OnOk, IfErr, MatchResult};
+ghost use Rattle.realise.specs.Holdings.{entry_path, sources_in, records_in, AreParts};
 ghost use Rattle.model.specs.declared.refusal.Refusal.TheVariants.{Memory};
 
 use crate::record::Record;
@@ -39,25 +39,48 @@ pub(crate) struct Parts {
     pub(crate) archives: Vec<(StorePath, u64)>,
 }
 
+impl Parts {
+    /// No entries. It takes no memory.
+    fn new(alloc: Global) -> Parts
+        ensures sources { result.sources.items ≡ [] }
+        ensures records { result.records.items ≡ [] }
+        ensures archives { result.archives.items ≡ [] }
+    {
+        Parts {
+            sources: Vec::new(alloc),
+            records: Vec::new(alloc),
+            archives: Vec::new(alloc),
+        }
+    }
+
+    /// Adds an entry with the bytes of its archive. The one error is memory.
+    fn push(&mut self, entry: Entry, archive: u64) -> Result<(), Refusal>
+        ensures sources { OnOk result
+            (self.new.sources.items ≡ self.old.sources.items ++ sources_in (entry ∷ [])) }
+        ensures records { OnOk result
+            (self.new.records.items ≡ self.old.records.items ++ records_in (entry ∷ [])) }
+        ensures archives { OnOk result
+            (self.new.archives.items ≡ self.old.archives.items ++ (entry_path entry, archive) ∷ []) }
+        ensures memory { IfErr result (λ e. e ≡ Memory) }
+    {
+        self.archives.push((entry.path().clone()?, archive))?;
+        match entry {
+            Entry::Source(path) => self.sources.push(path)?,
+            Entry::Record(record) => self.records.push(record)?,
+        }
+        Ok(())
+    }
+}
+
 /// The parts of entries with the bytes of their archives. The one error is memory.
 pub(crate) fn parted(alloc: Global, entries: Vec<(Entry, u64)>) -> Result<Parts, Refusal>
     ensures { MatchResult result
         (λ p. AreParts entries.items p.sources.items p.records.items p.archives.items)
         (λ e. e ≡ Memory) }
 {
-    let mut sources = Vec::new(alloc);
-    let mut records = Vec::new(alloc);
-    let mut archives = Vec::new(alloc);
+    let mut parts = Parts::new(alloc);
     for (entry, archive) in entries {
-        archives.push((entry.path().clone()?, archive))?;
-        match entry {
-            Entry::Source(path) => sources.push(path)?,
-            Entry::Record(record) => records.push(record)?,
-        }
+        parts.push(entry, archive)?;
     }
-    Ok(Parts {
-        sources,
-        records,
-        archives,
-    })
+    Ok(parts)
 }

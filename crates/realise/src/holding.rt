@@ -20,10 +20,18 @@ use storepath::StorePath;
 ///
 /// Its hasher has keys that nobody outside knows, since whoever adds a source has a say in its path.
 /// Contracts see the paths with the lengths (`archives`), and for how many more there is room.
-#[derive(Drop)]
 pub struct Holding {
     archives: IndexMap<StorePath, u64, RandomState>,
     charge: u64,
+}
+
+impl Drop for Holding {
+    fn drop(self) {
+        let Holding {
+            archives: _,
+            charge: _,
+        } = self;
+    }
 }
 
 impl Model for Holding {

@@ -9,10 +9,15 @@ use std::marker::Model;
 use storepath::StorePath;
 
 /// A path that a tree refers to, with the class that it is an output of; a source has none.
-#[derive(Drop)]
 pub struct Label {
     path: StorePath,
     class: Option<Class>,
+}
+
+impl Drop for Label {
+    fn drop(self) {
+        let Label { path: _, class: _ } = self;
+    }
 }
 
 impl Model for Label {
@@ -35,7 +40,8 @@ impl Label {
     pub(crate) fn into_parts(self) -> (StorePath, Option<Class>)
         ensures { result ≡ (self.path, self.class) }
     {
-        (self.path, self.class)
+        let Label { path, class } = self;
+        (path, class)
     }
 
     /// The path.

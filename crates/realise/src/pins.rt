@@ -15,9 +15,14 @@ use storepath::StorePath;
 ///
 /// Looking a class up takes the same time however many pins there are. The hashers have a fixed
 /// seed: nobody else puts classes there.
-#[derive(Drop)]
 pub struct Pins {
     paths: IndexMap<StorePath, StorePath>,
+}
+
+impl Drop for Pins {
+    fn drop(self) {
+        let Pins { paths: _ } = self;
+    }
 }
 
 impl Model for Pins {

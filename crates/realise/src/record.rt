@@ -16,11 +16,20 @@ use storepath::StorePath;
 
 /// What was built for a class: its path, whose tree the path table has, and a label for each other
 /// path that the tree refers to, in the order of paths. A copy shares the labels.
-#[derive(Drop)]
 pub struct Record {
     class: Class,
     path: StorePath,
     labels: ArcSlice<Label>,
+}
+
+impl Drop for Record {
+    fn drop(self) {
+        let Record {
+            class: _,
+            path: _,
+            labels: _,
+        } = self;
+    }
 }
 
 impl Model for Record {

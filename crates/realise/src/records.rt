@@ -18,10 +18,18 @@ use storepath::StorePath;
 /// Those of one class are found at once, however many there are: a table has copies of them by
 /// their class, which share what they hold. Its hasher has keys that nobody outside knows, since
 /// records may come from others.
-#[derive(Drop)]
 pub struct Records {
     list: Vec<Record>,
     by_class: IndexMap<StorePath, Vec<Record>, RandomState>,
+}
+
+impl Drop for Records {
+    fn drop(self) {
+        let Records {
+            list: _,
+            by_class: _,
+        } = self;
+    }
 }
 
 impl Model for Records {

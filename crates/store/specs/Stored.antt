@@ -1,5 +1,5 @@
 -- What contracts see of the table.
-use Rattle.std.specs.Prelude.{◌≡◌, ◌≢◌, ℕ, List, [], ◌∷◌, ◌++◌, map, true, is_some, Some, None, All, if◌then◌else◌, refl}
+use Rattle.std.specs.Prelude.{◌≡◌, ◌≢◌, ◌⊎◌, ℕ, List, [], ◌∷◌, ◌++◌, map, true, is_some, Some, None, All, if◌then◌else◌, refl}
 use Rattle.std.specs.Coded.{Coded, code_by, coded×, coded_ℕ, coded_list}
 use Rattle.model.specs.Archives.{Tree, nar}
 use Rattle.model.specs.TreeCode.{tree_code}
@@ -48,6 +48,21 @@ pub record AreTaken (sources : List Source) (trees : List (List ℕ × Tree)) : 
   pub after : List (List ℕ × Tree)
   pub are : trees ≡ before ++ one ∷ after
   pub taken : IsTaken (put_all (sources_of before) sources) one.0 one.1
+
+-- a tree that is among all that are stored was not collected
+pub record IsFound (all : List Source) (e : List ℕ × Tree) (old new : List Source) (before after : List (List ℕ × Tree)) : Type 0 where
+  pub there : tree_at e.0 all ≡ Some e.1
+  pub kept : new ≡ old
+  pub same : after ≡ before
+
+-- a tree that is not among them was put into the table of those that are missing, and is the last of them
+pub record IsNew (all : List Source) (e : List ℕ × Tree) (old new : List Source) (before after : List (List ℕ × Tree)) : Type 0 where
+  pub absent : tree_at e.0 all ≡ None
+  pub put : new ≡ old ++ source_of e ∷ []
+  pub last : after ≡ before ++ e ∷ []
+
+abbrev pub IsCollected : List Source → List ℕ × Tree → List Source → List Source → List (List ℕ × Tree) → List (List ℕ × Tree) → Type 0
+IsCollected all e old new before after = IsFound all e old new before after ⊎ IsNew all e old new before after
 
 -- the table with these trees put there has each of them at its path
 abbrev pub AreThere : List Source → List (List ℕ × Tree) → Type 0

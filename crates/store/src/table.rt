@@ -4,7 +4,7 @@ ghost use Rattle.std.specs.Prelude.{◌≡◌, ◌<◌, ◌≤◌, ◌+◌, ◌+
 ghost use Rattle.std.specs.Option.{option_copied};
 ghost use Rattle.model.specs.Worlds.{tree_at};
 ghost use Rattle.model.specs.declared.refusal.Refusal.TheVariants.{Memory, Clash};
-ghost use Rattle.store.specs.Stored.{IsAdded, IsTaken, AreNew, AreTaken, AreThere, put_all, sources_of};
+ghost use Rattle.store.specs.Stored.{IsAdded, IsTaken, IsCollected, AreNew, AreTaken, AreThere, put_all, sources_of};
 
 use indexmap::IndexMap;
 use model::Refusal;
@@ -18,9 +18,14 @@ use storepath::StorePath;
 /// nobody outside knows, since whoever adds a source has a say in its path.
 ///
 /// Contracts see the paths with their trees (`sources`), and for how many more there is room.
-#[derive(Drop)]
 pub struct Table {
     trees: IndexMap<StorePath, Tree, RandomState>,
+}
+
+impl Drop for Table {
+    fn drop(self) {
+        let Table { trees: _ } = self;
+    }
 }
 
 impl Model for Table {
@@ -47,6 +52,27 @@ fn has_either(first: &Table, second: &Table, path: &StorePath, tree: &Tree) -> R
         return Ok(true);
     }
     second.has(path, tree)
+}
+
+/// Adds a tree to those that are missing, and a copy of it to the table of them, unless it is stored
+/// at its path in one of the tables already.
+fn collect(
+    stored: &Table,
+    added: &mut Table,
+    missing: &mut Vec<(StorePath, Tree)>,
+    path: StorePath,
+    tree: Tree,
+) -> Result<(), Refusal>
+    ensures collected { OnOk result (IsCollected (stored.now.sources ++ added.old.sources) (path, tree)
+        added.old.sources added.new.sources missing.old.items missing.new.items) }
+    ensures refused { IfErr result (λ e. (e ≡ Memory)
+        ⊎ ((e ≡ Clash) × IsTaken (stored.now.sources ++ added.old.sources) path tree)) }
+{
+    if !has_either(stored, added, &path, &tree)? {
+        added.put_copy(&path, &tree)?;
+        missing.push((path, tree))?;
+    }
+    Ok(())
 }
 
 impl Table {
@@ -106,6 +132,18 @@ impl Table {
         let _absent = self.trees.insert(path, tree).unwrap();
     }
 
+    /// Puts a copy of a tree at a path that has none yet. The one error is memory.
+    fn put_copy(&mut self, path: &StorePath, tree: &Tree) -> Result<(), Refusal>
+        requires absent { tree_at path.now self.old.sources ≡ None }
+        ensures put { OnOk result (self.new.sources
+            ≡ self.old.sources ++ record { path = path.now; tree = tree.now } ∷ []) }
+        ensures memory { IfErr result (λ e. e ≡ Memory) }
+    {
+        self.reserve(1)?;
+        self.put_reserved(path.clone()?, tree.clone()?);
+        Ok(())
+    }
+
     /// Puts trees at paths that have none yet, into room that was made by [`Table::reserve`].
     pub fn put_all_reserved(&mut self, trees: Vec<(StorePath, Tree)>)
         requires absent { AreNew self.old.sources (sources_of trees.items) }
@@ -142,11 +180,7 @@ impl Table {
         let mut added = Table::new(alloc, *self.trees.hasher());
         let mut missing = Vec::new(alloc);
         for (path, tree) in trees {
-            if !has_either(self, &added, &path, &tree)? {
-                added.reserve(1)?;
-                added.put_reserved(path.clone()?, tree.clone()?);
-                missing.push((path, tree))?;
-            }
+            collect(self, &mut added, &mut missing, path, tree)?;
         }
         Ok(missing)
     }

@@ -5,8 +5,8 @@ use Rattle.candidates.proofs.below.one_step.Given as goal
 
 abbrev pub invariant-loop-record : goal.invariant-loop-record
 invariant-loop-record l = record {
-  marked : l.marked.items ++ map (marked_next l.records l.reached) (pairs_left l.record-iterator)
+  marked : l.next.marked.items ++ map (marked_next l.records l.reached) (pairs_left l.record-iterator)
       ≡ map (marked_next l.records l.reached) (pairs_of l.records l.reached);
-  fresh : l.fresh.items ++ map (fresh_next l.records l.reached) (pairs_left l.record-iterator)
+  fresh : l.next.fresh.items ++ map (fresh_next l.records l.reached) (pairs_left l.record-iterator)
       ≡ map (fresh_next l.records l.reached) (pairs_of l.records l.reached);
 }

@@ -26,11 +26,11 @@ returns-then-is_too_large-2 c classes sources A P g =
 pub loop-next-preserved : goal.loop-next-preserved
 loop-next-preserved c =
     let p = c.loop-next.gathering in
-    let q = c.in_ok-gathering.gathering in
+    let q = c.add_labels.new.self in
     let r = c.in_ok-realisation.realisation in
     let k = c.loop-next.next in
     let lt : k < length p.records = omega arith in
-    let is : q ≡ with_labels c.args.view.now (choose_in c.args.view.now c.args.pins.now) r.labels p = c.in_ok-gathering.ensures
+    let is : q ≡ with_labels c.args.view.now (choose_in c.args.view.now c.args.pins.now) r.labels p = c.in_ok-add_labels.ensures
     ∙ ap (λ ls. with_labels c.args.view.now (choose_in c.args.view.now c.args.pins.now) ls p) c.labels.ensures.labels in
     record {
       within = below_within c.args.view.now (choose_in c.args.view.now c.args.pins.now) k r.labels p q lt is;

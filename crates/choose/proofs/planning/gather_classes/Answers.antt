@@ -12,17 +12,17 @@ returns-then-not-has_class c =
     inr (
       refl,
       class_missing c.args.view.now c.args.pins.now c.args.classes.now c.loop-class.class-index c.class-item.result c.loop-class.gathering
-          c.in_ok-gathering.gathering c.loop-class-test.true c.class-item.is c.in_ok-gathering.ensures (c.loop-class.invariant.gathered [])
+          c.add_class.new.self c.loop-class-test.true c.class-item.is c.in_ok-add_class.ensures (c.loop-class.invariant.gathered [])
           c.if-not-has_class.ensures,
     )
 
 pub loop-class-preserved : goal.loop-class-preserved
 loop-class-preserved c = record {
   realised = class_chosen c.args.view.now c.args.pins.now c.args.classes.now c.loop-class.class-index c.class-item.result c.loop-class.gathering
-      c.in_ok-gathering.gathering c.loop-class-test.true c.class-item.is c.in_ok-gathering.ensures (c.loop-class.invariant.gathered [])
+      c.add_class.new.self c.loop-class-test.true c.class-item.is c.in_ok-add_class.ensures (c.loop-class.invariant.gathered [])
       c.if-not-has_class.ensures c.loop-class.invariant.realised;
   gathered = λ sources. classes_step c.args.view.now c.args.pins.now c.args.classes.now sources c.loop-class.class-index c.class-item.result
-      c.loop-class.gathering c.in_ok-gathering.gathering c.loop-class-test.true c.class-item.is c.in_ok-gathering.ensures
+      c.loop-class.gathering c.add_class.new.self c.loop-class-test.true c.class-item.is c.in_ok-add_class.ensures
       (c.loop-class.invariant.gathered sources);
 }
 

@@ -7,7 +7,7 @@ use Rattle.choose.proofs.planning.gather_sources.Goals as goal
 pub loop-path-preserved : goal.loop-path-preserved
 loop-path-preserved c choice classes A own g =
     sources_step c.args.view.now choice own classes c.args.sources.now A c.loop-path.path-index c.path-item.result c.loop-path.gathering
-    c.in_ok-gathering.gathering c.loop-path-test.true c.path-item.is c.in_ok-gathering.ensures (c.loop-path.invariant choice classes A own g)
+    c.add_source.new.self c.loop-path-test.true c.path-item.is c.in_ok-add_source.ensures (c.loop-path.invariant choice classes A own g)
 
 pub returns : goal.returns
 returns c choice classes A own g =

@@ -17,25 +17,25 @@ returns-in_err-gathering-clause-planned c desks is =
     rw (p.1, p.2) (subst (λ v. (e ≡ Memory) ⊎ (plan_in v pins c.args.classes.now c.args.sources.now ≡ Err e)) (sym is)
     (plan_missing c.args.view.now pins c.args.classes.now c.args.sources.now e c.in_err-gathering.ensures))
 
-pub returns-in_err-gathering-2-clause-planned : goal.returns-in_err-gathering-2-clause-planned
-returns-in_err-gathering-2-clause-planned c desks is =
-    let p = err_from_is_err_and c.from_residual-in_err-gathering-2.result c.from_residual-in_err-gathering-2.ensures.1 in
+pub returns-in_err-gather_sources-clause-planned : goal.returns-in_err-gather_sources-clause-planned
+returns-in_err-gather_sources-clause-planned c desks is =
+    let p = err_from_is_err_and c.from_residual-in_err-gather_sources.result c.from_residual-in_err-gather_sources.ensures.1 in
     let choice = choose_in c.args.view.now c.args.pins.now in
-    rw (p.1, p.2) (inl (c.in_err-gathering-2.ensures choice c.args.classes.now c.args.classes.now (choose_own c.args.view.now.records c.args.pins.now)
+    rw (p.1, p.2) (inl (c.in_err-gather_sources.ensures choice c.args.classes.now c.args.classes.now (choose_own c.args.view.now.records c.args.pins.now)
     (c.in_ok-gathering.ensures.1 c.args.sources.now)))
 
-pub returns-in_err-gathering-3-clause-planned : goal.returns-in_err-gathering-3-clause-planned
-returns-in_err-gathering-3-clause-planned c desks is =
-    let p = err_from_is_err_and c.from_residual-in_err-gathering-3.result c.from_residual-in_err-gathering-3.ensures.1 in
+pub returns-in_err-gather_below-clause-planned : goal.returns-in_err-gather_below-clause-planned
+returns-in_err-gather_below-clause-planned c desks is =
+    let p = err_from_is_err_and c.from_residual-in_err-gather_below.result c.from_residual-in_err-gather_below.ensures.1 in
     let view = c.args.view.now in
     let pins = c.args.pins.now in
     let choice = choose_in view pins in
     let classes = c.args.classes.now in
     let sources = c.args.sources.now in
-    let e = c.in_err-gathering-3.field-0.0 in
-    let g = c.in_ok-gathering-2.ensures choice classes classes (choose_own view.records pins) (c.in_ok-gathering.ensures.1 sources) in
+    let e = c.in_err-gather_below.field-0.0 in
+    let g = c.in_ok-gather_sources.ensures choice classes classes (choose_own view.records pins) (c.in_ok-gathering.ensures.1 sources) in
     rw (p.1, p.2) (subst (λ v. (e ≡ Memory) ⊎ (plan_in v pins classes sources ≡ Err e)) (sym is)
-    (plan_too_large view pins classes sources e c.in_ok-gathering.ensures.0 (c.in_err-gathering-3.ensures classes sources classes sources g)))
+    (plan_too_large view pins classes sources e c.in_ok-gathering.ensures.0 (c.in_err-gather_below.ensures classes sources classes sources g)))
 
 pub invariant_of-result : goal.invariant_of-result
 invariant_of-result c =
@@ -44,10 +44,10 @@ invariant_of-result c =
     let choice = choose_in view pins in
     let classes = c.args.classes.now in
     let sources = c.args.sources.now in
-    let g = c.in_ok-gathering-2.ensures choice classes classes (choose_own view.records pins) (c.in_ok-gathering.ensures.1 sources) in
-    let h = c.in_ok-gathering-3.ensures classes sources classes sources g in
+    let g = c.in_ok-gather_sources.ensures choice classes classes (choose_own view.records pins) (c.in_ok-gathering.ensures.1 sources) in
+    let h = c.in_ok-gather_below.ensures classes sources classes sources g in
     let made : Plan = record { records = c.in_ok-records.records.items; sources = c.in_ok-sources.sources.items } in
-    plan_in_order view pins classes sources c.in_ok-gathering-3.gathering made h.0
+    plan_in_order view pins classes sources c.gather_below.new.gathering made h.0
     (subst (λ xs. IsPermutation xs c.in_ok-records.records.items) c.into_parts-found_records.ensures.records c.in_ok-records.ensures.0)
     c.in_ok-records.ensures.1
     (subst (λ xs. IsPermutation xs c.in_ok-sources.sources.items) c.into_parts-found_records.ensures.sources c.in_ok-sources.ensures.0)
@@ -60,11 +60,11 @@ returns-clause-planned c desks is =
     let choice = choose_in view pins in
     let classes = c.args.classes.now in
     let sources = c.args.sources.now in
-    let g = c.in_ok-gathering-2.ensures choice classes classes (choose_own view.records pins) (c.in_ok-gathering.ensures.1 sources) in
-    let h = c.in_ok-gathering-3.ensures classes sources classes sources g in
+    let g = c.in_ok-gather_sources.ensures choice classes classes (choose_own view.records pins) (c.in_ok-gathering.ensures.1 sources) in
+    let h = c.in_ok-gather_below.ensures classes sources classes sources g in
     let made : Plan = record { records = c.in_ok-records.records.items; sources = c.in_ok-sources.sources.items } in
     subst (λ v. plan_in v pins classes sources ≡ Ok made) (sym is)
-    (plan_found view pins classes sources c.in_ok-gathering-3.gathering made c.in_ok-gathering.ensures.0 h.0 h.1
+    (plan_found view pins classes sources c.gather_below.new.gathering made c.in_ok-gathering.ensures.0 h.0 h.1
     (subst (λ xs. IsPermutation xs c.in_ok-records.records.items) c.into_parts-found_records.ensures.records c.in_ok-records.ensures.0)
     c.in_ok-records.ensures.1
     (subst (λ xs. IsPermutation xs c.in_ok-sources.sources.items) c.into_parts-found_records.ensures.sources c.in_ok-sources.ensures.0)
@@ -77,10 +77,10 @@ returns-clause-seen c =
     let choice = choose_in view pins in
     let classes = c.args.classes.now in
     let sources = c.args.sources.now in
-    let g = c.in_ok-gathering-2.ensures choice classes classes (choose_own view.records pins) (c.in_ok-gathering.ensures.1 sources) in
-    let h = c.in_ok-gathering-3.ensures classes sources classes sources g in
+    let g = c.in_ok-gather_sources.ensures choice classes classes (choose_own view.records pins) (c.in_ok-gathering.ensures.1 sources) in
+    let h = c.in_ok-gather_below.ensures classes sources classes sources g in
     let moved = subst (λ xs. IsPermutation xs c.in_ok-records.records.items) c.into_parts-found_records.ensures.records c.in_ok-records.ensures.0 in
-    planned_sees view pins classes sources c.in_ok-gathering-3.gathering c.in_ok-records.records.items h.0 moved
+    planned_sees view pins classes sources c.gather_below.new.gathering c.in_ok-records.records.items h.0 moved
     (sees_in view c.view.inside.table.now.sources (desks_of c.view.inside.desks.items) c.view.view_is c.view.invariant.closed)
 
 pub returns-clause-closed : goal.returns-clause-closed

@@ -11,12 +11,12 @@ loop-label-preserved c =
     let k = c.loop-label.label-index in
     let choice = choose_in c.args.view.now c.args.pins.now in
     let step = drop_step labels k c.label-item.result c.loop-label-test.true c.label-item.is in
-    ap (with_labels c.args.view.now choice (drop (k + 1) labels)) c.in_ok-gathering.ensures
-    ∙ labels_next c.args.view.now choice c.label-item.result (drop (k + 1) labels) (drop k labels) c.loop-label.gathering step ∙ c.loop-label.invariant
+    ap (with_labels c.args.view.now choice (drop (k + 1) labels)) c.in_ok-add_label.ensures
+    ∙ labels_next c.args.view.now choice c.label-item.result (drop (k + 1) labels) (drop k labels) c.loop-label.self step ∙ c.loop-label.invariant
 
 pub returns : goal.returns
 returns c =
     let labels = c.args.labels.now in
     let k = c.loop-label.label-index in
-    sym (labels_end c.args.view.now (choose_in c.args.view.now c.args.pins.now) (drop k labels) c.loop-label.gathering
+    sym (labels_end c.args.view.now (choose_in c.args.view.now c.args.pins.now) (drop k labels) c.loop-label.self
     (drop_end labels k c.loop-label-test.false)) ∙ c.loop-label.invariant

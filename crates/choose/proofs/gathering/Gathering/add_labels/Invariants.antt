@@ -5,5 +5,4 @@ use Rattle.choose.proofs.gathering.Gathering.add_labels.Given as goal
 
 abbrev pub invariant-loop-label : goal.invariant-loop-label
 invariant-loop-label l =
-    with_labels l.view (choose_in l.view l.pins) (drop l.label-index l.labels) l.gathering ≡ with_labels l.view (choose_in l.view l.pins) l.labels
-    l.initial.gathering
+    with_labels l.view (choose_in l.view l.pins) (drop l.label-index l.labels) l.self ≡ with_labels l.view (choose_in l.view l.pins) l.labels l.fn.self

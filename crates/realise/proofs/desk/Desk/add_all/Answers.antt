@@ -9,8 +9,8 @@ use Rattle.realise.proofs.SeveralLemmas.{sources_new, made}
 use Rattle.realise.proofs.KeepingLemmas.{entries_bytes, entries_held}
 use Rattle.realise.proofs.desk.Desk.add_all.Goals as goal
 
-pub with-requires : goal.with-requires
-with-requires c =
+pub with_more-requires : goal.with_more-requires
+with_more-requires c =
     let entries : List (Entry × ℕ) = c.args.entries.items in
     let d : Holdings = holdings_of c.self.inside in
     let fits : d.charge + charged_all entries d < 2 ^ 64 =
@@ -38,15 +38,15 @@ module _ (c : goal.After-drop-parts-2) where
   archives = c.in_ok-holding.holding.archives
 
   abbrev after : Holdings
-  after = record before { known = c.add_sources.new.self; records = c.in_ok-records.records; charge = bytes_held archives }
+  after = record before { known = c.add_sources.new.self; records = c.in_ok-holding.records; charge = bytes_held archives }
 
   view : after ≡ holds_each entries before
   view =
       let parts = c.in_ok-parts.parts in
       let are = c.in_ok-parts.ensures in
-      let bytes = ap bytes_held c.in_ok-holding.ensures ∙ entries_bytes c.self.inside c.self.invariant entries parts.archives.items are.archives_are in
-      let records = c.in_ok-records.ensures ∙ ap (λ (rs : List Recorded). before.records ++ rs) c.deref.ensures.value in
-      made entries before c.add_sources.new.self parts.sources.items parts.records.items c.in_ok-records.records (bytes_held archives)
+      let bytes = ap bytes_held c.in_ok-holding.ensures.held ∙ entries_bytes c.self.inside c.self.invariant entries parts.archives.items are.archives_are in
+      let records = c.in_ok-holding.ensures.recorded ∙ ap (λ (rs : List Recorded). before.records ++ rs) c.deref.ensures.value in
+      made entries before c.add_sources.new.self parts.sources.items parts.records.items c.in_ok-holding.records (bytes_held archives)
       are.paths_are are.records_are c.in_ok-add_sources.ensures records bytes
 
 pub invariant_of-self-2 : goal.invariant_of-self-2
@@ -57,7 +57,7 @@ invariant_of-self-2 c =
     record {
       closed = subst IsClosed (sym (view c)) (subst (λ (h : Holdings). IsClosed (holds_each all h)) (sym c.self.view_is) c.requires.closed);
       held = subst (λ (h : Holdings). IsSetOf (paths_held (archives c)) (paths_of h)) (sym (view c))
-          (subst (λ found. IsSetOf (paths_held found) (paths_of (holds_each all (before c)))) (sym c.in_ok-holding.ensures) paths);
+          (subst (λ found. IsSetOf (paths_held found) (paths_of (holds_each all (before c)))) (sym c.in_ok-holding.ensures.held) paths);
     }
 
 pub returns : goal.returns
