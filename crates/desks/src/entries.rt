@@ -1,11 +1,12 @@
 //! Adding an entry with its tree.
 
-ghost use Rattle.std.specs.Prelude.{◌≡◌, false, ◌<◌, ◌≤◌, OnErr, OnOk, IfOk, Err, Some, None, if◌then◌else◌};
+ghost use Rattle.std.specs.Prelude.{◌≡◌, false, ◌+◌, ◌^◌, ◌<◌, ◌≤◌, length, OnErr, OnOk, IfOk, IfErr, Err, Some, None, if◌then◌else◌};
+ghost use Rattle.model.specs.Archives.{nar};
 ghost use Rattle.model.specs.Worlds.{tree_at};
 ghost use Rattle.model.specs.Replies.{is_refused};
-ghost use Rattle.model.specs.declared.refusal.Refusal.TheVariants.{Clash};
+ghost use Rattle.model.specs.declared.refusal.Refusal.TheVariants.{Clash, Memory};
 ghost use Rattle.store.specs.Stored.{IsTaken, IsAdded};
-ghost use Rattle.realise.specs.Holdings.{entry_path, is_roomy, IsClosedWithEntry};
+ghost use Rattle.realise.specs.Holdings.{entry_path, is_on, holds_entry, charged_more, is_roomy, IsClosedWithEntry};
 ghost use Rattle.desks.specs.Sound.{IsSound};
 ghost use Rattle.desks.specs.Supported.{GainsOnly};
 ghost use Rattle.events.specs.Terms.{reply_of};
@@ -40,9 +41,72 @@ fn has_room(desk: &Desk, limits: Limits, entry: &Entry, more: u64) -> bool
     desk.has_place_for(entry) && more <= limits.charge - desk.charge()
 }
 
+/// Puts an entry on a desk that has room for it, and its tree at its path, unless it is stored there
+/// already. All that needs memory comes before the first change; the one error is memory.
+fn put_entry(
+    alloc: Global,
+    table: &mut Table,
+    desk: &mut Desk,
+    is_stored: bool,
+    path: &StorePath,
+    entry: Entry,
+    tree: Tree,
+) -> Result<(), Refusal>
+    requires absent { is_on entry desk.old ≡ false }
+    requires fits { desk.old.charge
+        + charged_more (entry_path entry) (length (nar tree)) desk.old < 2 ^ 64 }
+    requires closed { IsClosedWithEntry desk.old entry }
+    requires stored { tree_at path.now table.old.sources
+        ≡ (if is_stored then Some tree else None) }
+    ensures desk { let more = charged_more (entry_path entry) (length (nar tree)) desk.old in
+        OnOk result (desk.new ≡ holds_entry entry more desk.old) }
+    ensures table { OnOk result (IsAdded path.now tree table.old.sources table.new.sources) }
+    ensures there { OnOk result (tree_at path.now table.new.sources ≡ Some tree) }
+    ensures kept { OnErr result (IsKept table.old.sources table.new.sources desk.old desk.new) }
+    ensures memory { IfErr result (λ e. e ≡ Memory) }
+{
+    let key = path.clone()?;
+    table.reserve(1)?;
+    desk.add(alloc, entry, tree.nar_len() as u64)?;
+    put_new(table, is_stored, key, tree);
+    Ok(())
+}
+
+/// Adds an entry at a path, which is not on the desk yet, with its tree, as [`add_entry`] does.
+fn add_new(
+    alloc: Global,
+    table: &mut Table,
+    desk: &mut Desk,
+    limits: Limits,
+    path: StorePath,
+    entry: Entry,
+    tree: Tree,
+) -> Result<Reply, Refusal>
+    requires path { path ≡ entry_path entry }
+    requires absent { is_on entry desk.old ≡ false }
+    requires sound { IsSound table.old.sources limits.charge desk.old }
+    requires closed { IsClosedWithEntry desk.old entry }
+    ensures adds { AddsEntry limits.charge table.old.sources desk.old
+        entry tree result table.new.sources desk.new }
+    ensures answered { IfOk result (λ r. is_refused (reply_of r) ≡ false) }
+    ensures stored { let path = entry_path entry in
+        OnOk result (IsAdded path tree table.old.sources table.new.sources) }
+    ensures sound { OnOk result (IsSound table.new.sources limits.charge desk.new) }
+    ensures gains { GainsOnly desk.old desk.new }
+    ensures kept { OnErr result (IsKept table.old.sources table.new.sources desk.old desk.new) }
+    ensures taken { result ≡ Err Clash → IsTaken table.old.sources (entry_path entry) tree }
+{
+    let is_stored = table.has(&path, &tree)?;
+    let more = desk.charged_for(&path, tree.nar_len() as u64);
+    if !has_room(desk, limits, &entry, more) {
+        return Err(Refusal::Quota);
+    }
+    put_entry(alloc, table, desk, is_stored, &path, entry, tree)?;
+    Ok(Reply::Path(path))
+}
+
 /// Adds an entry with its tree to a desk, unless it is there, and the tree to the table where its
-/// path is new there. What its labels name is on the desk. All that needs memory comes before the
-/// first change.
+/// path is new there. What its labels name is on the desk. Where it is refused, nothing has changed.
 pub(crate) fn add_entry(
     alloc: Global,
     table: &mut Table,
@@ -67,14 +131,5 @@ pub(crate) fn add_entry(
     if desk.has(&entry) {
         return Ok(Reply::Path(path));
     }
-    let is_stored = table.has(&path, &tree)?;
-    let more = desk.charged_for(&path, tree.nar_len() as u64);
-    if !has_room(desk, limits, &entry, more) {
-        return Err(Refusal::Quota);
-    }
-    let key = path.clone()?;
-    table.reserve(1)?;
-    desk.add(alloc, entry, tree.nar_len() as u64)?;
-    put_new(table, is_stored, key, tree);
-    Ok(Reply::Path(path))
+    add_new(alloc, table, desk, limits, path, entry, tree)
 }

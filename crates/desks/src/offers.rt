@@ -8,8 +8,11 @@ ghost use Rattle.model.specs.Settling.{hash_part_in};
 ghost use Rattle.model.specs.References.{paths_of_labels};
 ghost use Rattle.model.specs.Events.{Offer as OfferRequest};
 ghost use Rattle.model.specs.OfferRequests.{output_settled};
+ghost use Rattle.model.specs.declared.refusal.Refusal.TheVariants.{Memory};
+ghost use Rattle.realise.specs.Recorded.{AreInPathOrder};
 ghost use Rattle.desks.specs.Sound.{IsSound};
 ghost use Rattle.desks.specs.Handling.{IsHandledAtDesk};
+ghost use Rattle.desks.specs.Outputs.{IsRecordOf};
 ghost use Rattle.desks.specs.Offering.{IsOutput, IsNotSettled, IsNoOutput};
 
 use crate::entries::add_entry;
@@ -46,6 +49,22 @@ fn output_of(
     input.settle(alloc, &archive)
 }
 
+/// The record of an output that has its path, and its tree. The one error is memory.
+fn recorded(
+    alloc: Global,
+    admitted: &Admitted,
+    labels: &[Label],
+    named: &Named,
+) -> Result<(Record, Tree), Refusal>
+    requires in_order { AreInPathOrder labels.now }
+    ensures record { IfOk result (λ o. IsRecordOf labels.now admitted.now named.now o.0) }
+    ensures tree { IfOk result (λ o. o.1 ≡ named.now.tree) }
+    ensures memory { IfErr result (λ why. why ≡ Memory) }
+{
+    let record = record_of(alloc, admitted, labels, named)?;
+    Ok((record, named.tree(alloc)?))
+}
+
 /// The record of an output, and its tree.
 fn output_for(
     alloc: Global,
@@ -58,8 +77,7 @@ fn output_for(
 {
     let labels = candidates(alloc, desk.known(), admitted.derivation(), desk.records())?;
     let named = output_of(alloc, admitted, &labels, tree)?;
-    let record = record_of(alloc, admitted, &labels, &named)?;
-    Ok((record, named.tree(alloc)?))
+    recorded(alloc, admitted, &labels, &named)
 }
 
 /// Adds an output of the derivation in the file at a path to a desk: its tree with the path of its

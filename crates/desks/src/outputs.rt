@@ -44,11 +44,20 @@ fn name_for(alloc: Global, derivation: &Derivation) -> Result<Name, Refusal>
 
 /// What an output gets its path by, beside its tree: the path under which it was built, the paths
 /// that it may refer to, ascending, and its name.
-#[derive(Drop)]
 pub struct Input {
     own: StorePath,
     candidates: Vec<StorePath>,
     name: Name,
+}
+
+impl Drop for Input {
+    fn drop(self) {
+        let Input {
+            own: _,
+            candidates: _,
+            name: _,
+        } = self;
+    }
 }
 
 impl Input {

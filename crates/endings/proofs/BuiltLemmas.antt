@@ -14,14 +14,12 @@ use Rattle.model.specs.Classes.{Admission, Known, is_one_of}
 use Rattle.model.specs.Worlds.{Label, Record, Resolved, Goal}
 use Rattle.model.specs.Goals.{goal_at}
 use Rattle.model.specs.References.{paths_of_labels, labels_of}
-use Rattle.model.specs.Outputs.{record_for}
+use Rattle.model.specs.Outputs.{settled_under, record_for}
 use Rattle.model.specs.Endings.{labels_from, label_of_entry}
 use Rattle.model.specs.Results.{then_do, unless_rewrite_refused}
 use Rattle.realise.specs.Recorded.{Recorded}
 use Rattle.realise.specs.Holdings.{Holdings, with_tree}
-use Rattle.endings.specs.declared.settling.Settled.{Settled}
-use Rattle.desks.specs.Outputs.{input_settled}
-use Rattle.endings.specs.Built.{IsSettled, IsBuiltBy, IsOn, IsClosedBuilt, HasInput, HasInputFrom, HasInputOf, HaveInputs, built_at, all_built}
+use Rattle.endings.specs.Built.{built_of, record_under, IsOn, IsClosedBuilt, HasInput, HasInputFrom, HasInputOf, HaveInputs, built_at, all_built}
 use Rattle.desks.proofs.ClosedLemmas.{all_in_order}
 
 -- ---- what it refers to
@@ -38,11 +36,11 @@ one_closed d labels a (Ok s) b on is =
     let own : b.0.labels ≡ labels_of s.references labels = ap (λ (q : Record). q.labels) same in
     rw own (All-filter (λ l. is_one_of s.references l.path) (IsOn d) labels on)
 
-pub built_closed : (d : Holdings) (r : Resolved) (a : Admission) (labels : List Label) (s : Settled) (tree : Tree) (built : Result (Recorded × Tree) Refusal)
-    → labels ≡ labels_from r → IsBuiltBy labels a s built → IsSettled tree s → All (λ e. IsOn d (label_of_entry e)) r.closure → IsClosedBuilt d built
-built_closed d r a labels s tree (Err why) are by settled on = tt
-built_closed d r a labels s tree (Ok b) are by settled on =
-    one_closed d labels a (input_settled s.input tree) b (subst (All (IsOn d)) (sym are) (labels_on d r on)) (by tree settled)
+pub built_closed : (d : Holdings) (r : Resolved) (a : Admission) (path : List ℕ) (labels : List Label) (tree : Tree) (built : Result (Recorded × Tree) Refusal)
+    → labels ≡ labels_from r → built_of built ≡ record_under path labels a tree → All (λ e. IsOn d (label_of_entry e)) r.closure → IsClosedBuilt d built
+built_closed d r a path labels tree (Err why) are is on = tt
+built_closed d r a path labels tree (Ok b) are is on =
+    one_closed d labels a (settled_under path labels a tree) b (subst (All (IsOn d)) (sym are) (labels_on d r on)) is
 
 -- ---- what is hashed
 

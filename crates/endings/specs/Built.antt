@@ -12,7 +12,7 @@ use Rattle.model.specs.Worlds.{Source, Label, Record, Resolved, Goal, tree_at}
 use Rattle.model.specs.Goals.{goal_at}
 use Rattle.model.specs.Classes.{Admission, Known}
 use Rattle.model.specs.References.{paths_of_labels}
-use Rattle.model.specs.Outputs.{record_for}
+use Rattle.model.specs.Outputs.{settled_under, record_for}
 use Rattle.model.specs.Endings.{labels_from, label_of_entry, output_record}
 use Rattle.model.specs.Results.{then_do, ok_or, unless_rewrite_refused}
 use Rattle.realise.specs.Recorded.{Recorded}
@@ -46,6 +46,10 @@ IsLastFrom (Some tree) last = IsLastSettled tree last
 abbrev pub built_of : Result (Recorded × Tree) Refusal → Result Record Refusal
 built_of (Ok b) = Ok (with_tree b.1 b.0)
 built_of (Err why) = Err why
+
+-- the record of an output of a derivation that was built under a path and may refer to these
+abbrev pub record_under : List ℕ → List Label → Admission → Tree → Result Record Refusal
+record_under path labels a tree = then_do (unless_rewrite_refused (settled_under path labels a tree)) (λ settled. Ok (record_for labels a settled))
 
 -- it is the record of the tree that was settled
 abbrev pub IsBuiltBy : List Label → Admission → Settled → Result (Recorded × Tree) Refusal → Type 0

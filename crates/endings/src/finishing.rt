@@ -1,7 +1,7 @@
 //! The end of a job with an output: what all users hear of it is made beside everything, and then put in
 //! place.
 
-ghost use Rattle.std.specs.Prelude.{◌≡◌, ◌<◌, ◌≤◌, ◌⊎◌, All, IfOk, IfErr, true, is_some, length, map};
+ghost use Rattle.std.specs.Prelude.{◌≡◌, ◌<◌, ◌≤◌, ◌⊎◌, ◌++◌, ℕ, All, IfOk, IfErr, OnOk, OnErr, None, true, is_some, length, map, get_or};
 ghost use Rattle.std.specs.Option.{option_copied};
 ghost use Rattle.model.specs.declared.refusal.Refusal.TheVariants.{Memory};
 ghost use Rattle.model.specs.ArchiveReading.{tree_of_archive};
@@ -11,11 +11,14 @@ ghost use Rattle.model.specs.Goals.{goal_at};
 ghost use Rattle.model.specs.Events.{Finish as FinishRequest};
 ghost use Rattle.jobs.specs.States.{state_of};
 ghost use Rattle.trust.specs.Trusting.{trusts};
-ghost use Rattle.trust.specs.Naming.{IsWithin};
+ghost use Rattle.trust.specs.Naming.{IsWithin, name_at};
+ghost use Rattle.store.specs.Stored.{AreNew, sources_of};
 ghost use Rattle.desks.specs.Sound.{IsSound, AreGoalsSound};
 ghost use Rattle.desks.specs.Supported.{AreSupported};
 ghost use Rattle.desks.specs.Parts.{goals_of, parts};
-ghost use Rattle.endings.specs.Gaining.{last_state, state_at};
+ghost use Rattle.desks.specs.Viewing.{desk_at};
+ghost use Rattle.endings.specs.Gaining.{last_state, state_at, with_states, IsSettable};
+ghost use Rattle.endings.specs.Committing.{states_for, MayReplaceAll, grown_to};
 ghost use Rattle.endings.specs.Hearing.{AreAllBuiltOn, IsNotMade};
 ghost use Rattle.endings.specs.Finishing.{IsPrepared};
 ghost use Rattle.desks.specs.Handling.{IsHandledByAll};
@@ -119,6 +122,86 @@ fn prepare(
     })
 }
 
+/// What the job changes that the goal of a number of the user at a place leads, where it ended with
+/// this output.
+///
+/// # Errors
+///
+/// Those of [`prepare`].
+fn prepare_led(
+    alloc: Global,
+    users: &[User],
+    trust: &Trust,
+    table: &Table,
+    desks: &[Desk],
+    limits: Limits,
+    jobs: &Jobs,
+    place: usize,
+    number: u16,
+    output: &[u8],
+) -> Result<Ending, Refusal>
+    requires few { length desks.now ≤ 64 }
+    requires paired { length desks.now ≡ length users.now }
+    requires of_run { place < length users.now }
+    requires with_goals { length jobs.now.goals ≡ length users.now }
+    requires there { is_some (goal_at number (goals_of jobs.now.goals place)) ≡ true }
+    requires supported { AreSupported desks.now jobs.now.goals }
+    requires records { All (λ d. length d.records ≤ most_records) desks.now }
+    requires charge { All (λ d. d.charge ≤ limits.charge) desks.now }
+    ensures prepared { IfOk result (IsPrepared table.now.sources (tree_of_archive output.now)
+        (trusts trust.now) place limits.charge
+        (record { leader = name_at users.now place; number = number })
+        desks.now jobs.now.goals number) }
+    ensures refused { IfErr result (IsNotMade table.now.sources (tree_of_archive output.now)
+        (trusts trust.now) place (record { leader = name_at users.now place; number = number })
+        desks.now jobs.now.goals) }
+{
+    let job = Job::new(users[place].clone()?, number);
+    let archive = archive_in(alloc, output)?;
+    let archive = archive.as_ref();
+    let ending = prepare(
+        alloc, trust, table, desks, limits, jobs, place, &job, archive, number,
+    )?;
+    Ok(ending)
+}
+
+/// Puts what the end of a job changes in its place. Told is how far the goal of its leader is then. All
+/// that needs memory comes before the first change; the one error is memory.
+fn put_in_place(
+    jobs: &mut Jobs,
+    table: &mut Table,
+    desks: &mut [Desk],
+    ending: Ending,
+) -> Result<State, Refusal>
+    requires each { length ending.grown.items ≡ length desks.old }
+    requires may { MayReplaceAll desks.old ending.grown.items }
+    requires count { length ending.heard.items ≡ length jobs.old.goals }
+    requires settable { (place : ℕ) → place < length jobs.old.goals
+        → All (IsSettable (goals_of jobs.old.goals place)) (states_for ending.heard.items place) }
+    requires new { AreNew table.old.sources (sources_of ending.trees.items) }
+    ensures told { IfOk result (λ told. told ≡ ending.told) }
+    ensures table { OnOk result
+        (table.new.sources ≡ table.old.sources ++ sources_of ending.trees.items) }
+    ensures grown { OnOk result ((place : ℕ) → place < length desks.old → desk_at desks.new place
+        ≡ grown_to (get_or ending.grown.items place None) (desk_at desks.old place)) }
+    ensures states { OnOk result ((place : ℕ) → place < length jobs.old.goals
+        → goals_of jobs.new.goals place
+        ≡ with_states (states_for ending.heard.items place) (goals_of jobs.old.goals place)) }
+    ensures with_desks { length desks.new ≡ length desks.old }
+    ensures with_goals { length jobs.new.goals ≡ length jobs.old.goals }
+    ensures users { jobs.new.users ≡ jobs.old.users }
+    ensures kept { OnErr result (table.new.sources ≡ table.old.sources) }
+    ensures kept_desks { OnErr result (desks.new ≡ desks.old) }
+    ensures kept_jobs { OnErr result (jobs.new ≡ jobs.old) }
+    ensures memory { IfErr result (λ why. why ≡ Memory) }
+{
+    table.reserve(ending.trees.len())?;
+    replace_all(desks, ending.grown);
+    set_all(jobs, ending.heard);
+    table.put_all_reserved(ending.trees);
+    Ok(ending.told)
+}
+
 /// The job that the goal of a number of the user at a place leads has ended with an output. Each of its
 /// goals whose user reaches him is done, or has failed for itself, and the others wait. The reply is how
 /// far the leader's goal is then.
@@ -159,15 +242,9 @@ pub fn finish(
     ensures users { jobs.new.users ≡ jobs.old.users }
 {
     leads(users, jobs, place, number)?;
-    let job = Job::new(users[place].clone()?, number);
-    let archive = archive_in(alloc, output)?;
-    let archive = archive.as_ref();
-    let ending = prepare(
-        alloc, trust, table, desks, limits, jobs, place, &job, archive, number,
+    let ending = prepare_led(
+        alloc, users, trust, table, desks, limits, jobs, place, number, output,
     )?;
-    table.reserve(ending.trees.len())?;
-    replace_all(desks, ending.grown);
-    set_all(jobs, ending.heard);
-    table.put_all_reserved(ending.trees);
-    Ok(Reply::GoalState(ending.told))
+    let told = put_in_place(jobs, table, desks, ending)?;
+    Ok(Reply::GoalState(told))
 }

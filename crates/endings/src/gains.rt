@@ -1,13 +1,14 @@
 //! What the end of a job with an output makes of one user's desk and goals.
 
-ghost use Rattle.std.specs.Prelude.{◌≡◌, ◌<◌, ◌≤◌, ◌+◌, [], length, map, IfOk, IfErr};
+ghost use Rattle.std.specs.Prelude.{◌≡◌, ◌<◌, ◌≤◌, ◌+◌, ◌^◌, [], length, map, IfOk, IfErr};
 ghost use Rattle.model.specs.Classes.{is_one_of};
 ghost use Rattle.model.specs.Limits.{most_records};
+ghost use Rattle.model.specs.Worlds.{Done};
 ghost use Rattle.model.specs.declared.refusal.Refusal.TheVariants.{Memory};
 ghost use Rattle.realise.specs.Holdings.{charged_more};
 ghost use Rattle.jobs.specs.Owned.{goals_at};
 ghost use Rattle.jobs.specs.States.{state_of};
-ghost use Rattle.endings.specs.Gaining.{gains_in, with_gains, nothing, is_had, is_free, gains_with, state_with, gains_of, state_of_built, all_gains, all_states, state_at, waiting};
+ghost use Rattle.endings.specs.Gaining.{gains_in, with_gains, nothing, is_had, is_free, one_more, gains_with, state_with, gains_of, state_of_built, all_gains, all_states, state_at, waiting};
 ghost use Rattle.endings.specs.Hearing.{Hears};
 
 use crate::settling::Built;
@@ -32,11 +33,20 @@ fn has_path(records: &[Record], path: &StorePath) -> bool
 }
 
 /// What a desk gets: records, their trees with their paths, and the bytes that are charged for them.
-#[derive(Drop)]
 pub(crate) struct Gains {
     pub(super) records: Vec<Record>,
     pub(super) trees: Vec<(StorePath, Tree)>,
     pub(super) more: u64,
+}
+
+impl Drop for Gains {
+    fn drop(self) {
+        let Gains {
+            records: _,
+            trees: _,
+            more: _,
+        } = self;
+    }
 }
 
 impl Gains {
@@ -83,6 +93,28 @@ impl Gains {
             && more <= limits.charge - desk.charge() - self.more
     }
 
+    /// A desk gets a record at a path with its tree, for which so many bytes are charged. Told is that
+    /// its goal is done. The one error is memory.
+    fn put(
+        &mut self,
+        path: StorePath,
+        added: Record,
+        tree: Tree,
+        more: u64,
+    ) -> Result<State, Refusal>
+        requires path { path ≡ added.path }
+        requires fits { self.old.more + more < 2 ^ 64 }
+        ensures gains { IfOk result (λ _.
+            gains_in self.new ≡ one_more (added, tree) more (gains_in self.old)) }
+        ensures state { IfOk result (λ state. state_of state ≡ Done path) }
+        ensures memory { IfErr result (λ why. why ≡ Memory) }
+    {
+        self.trees.push((path.clone()?, tree))?;
+        self.records.push(added)?;
+        self.more += more;
+        Ok(State::Done(path))
+    }
+
     /// A desk gets a record with its tree, if it has it not and there is room. Told is how far its
     /// goal is then. The one error is memory.
     fn add(
@@ -109,10 +141,7 @@ impl Gains {
         if !self.has_room(desk, limits, more) {
             return Ok(State::Failed(Refusal::Quota));
         }
-        self.trees.push((path.clone()?, tree))?;
-        self.records.push(added)?;
-        self.more += more;
-        Ok(State::Done(path))
+        self.put(path, added, tree, more)
     }
 
     /// A desk gets what was built for a goal, if anything was. Told is how far the goal is then. The

@@ -120,7 +120,38 @@ fn build_at(
 }
 
 /// What is built for the goals in a job of each user who reaches its leader, in the order of users; for
-/// another user nothing. The one error is memory.
+/// another user nothing. What was settled last is used again where an output is settled by the same.
+/// The one error is memory.
+fn build_from(
+    alloc: Global,
+    trust: &Trust,
+    desks: &[Desk],
+    jobs: &Jobs,
+    leader: usize,
+    job: &Job,
+    archive: Option<&Nar>,
+    last: &mut Option<Settled>,
+) -> Result<Vec<Vec<(u16, Built)>>, Refusal>
+    requires few { length desks.now ≤ 64 }
+    requires of_run { leader < length desks.now }
+    requires with_goals { length jobs.now.goals ≡ length desks.now }
+    requires on_desks { AreAllBuiltOn job.now desks.now jobs.now.goals }
+    requires last { IsLastFrom (option_copied archive) last.old }
+    ensures built { IfOk result (λ built. AreBuiltFor (option_copied archive.entry)
+        (trusts trust.now) leader job.now desks.now jobs.now.goals built.items) }
+    ensures count { IfOk result (λ built. length built.items ≡ length desks.now) }
+    ensures memory { IfErr result (λ why. why ≡ Memory) }
+{
+    let mut all = Vec::new(alloc);
+    for place in 0..desks.len() {
+        let desk = &desks[place];
+        let built = build_at(alloc, trust, desk, jobs, leader, place, job, archive, last)?;
+        all.push(built)?;
+    }
+    Ok(all)
+}
+
+/// The same where nothing was settled yet.
 pub(crate) fn build_all(
     alloc: Global,
     trust: &Trust,
@@ -140,15 +171,7 @@ pub(crate) fn build_all(
     ensures memory { IfErr result (λ why. why ≡ Memory) }
 {
     let mut last = None;
-    let mut all = Vec::new(alloc);
-    for place in 0..desks.len() {
-        let desk = &desks[place];
-        let built = build_at(
-            alloc, trust, desk, jobs, leader, place, job, archive, &mut last,
-        )?;
-        all.push(built)?;
-    }
-    Ok(all)
+    build_from(alloc, trust, desks, jobs, leader, job, archive, &mut last)
 }
 
 /// What the user at a place hears of a job that ended with an output, of which this was built for his

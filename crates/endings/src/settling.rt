@@ -6,10 +6,14 @@ ghost use Rattle.jobs.specs.Owned.{goals_at};
 ghost use Rattle.model.specs.Goals.{goal_at};
 ghost use Rattle.model.specs.Worlds.{Goal as GoalValue};
 ghost use Rattle.model.specs.Endings.{label_of_entry, labels_from, output_record};
+ghost use Rattle.model.specs.Occurrences.{IsHashPart};
+ghost use Rattle.model.specs.Paths.{IsPath};
+ghost use Rattle.model.specs.References.{paths_of_labels};
+ghost use Rattle.model.specs.Settling.{hash_part_in};
 ghost use Rattle.model.specs.declared.refusal.Refusal.TheVariants.{Memory};
 ghost use Rattle.realise.specs.Recorded.{AreInPathOrder};
 ghost use Rattle.desks.specs.Outputs.{IsSameInput};
-ghost use Rattle.endings.specs.Built.{IsSettled, IsLastSettled, IsBuiltBy, IsBuiltOn, IsClosedBuilt, HasInput, HasInputFrom, IsLastFrom, IsBuiltAt, AreBuiltOn, built_at, built_of, built_output, all_built, numbered, HaveInputs};
+ghost use Rattle.endings.specs.Built.{IsSettled, IsLastSettled, IsBuiltBy, IsBuiltOn, IsClosedBuilt, HasInput, HasInputFrom, IsLastFrom, IsBuiltAt, AreBuiltOn, built_at, built_of, built_output, record_under, all_built, numbered, HaveInputs};
 
 use classes::Admitted;
 use closures::Resolved;
@@ -20,6 +24,7 @@ use nar::{Nar, Tree};
 use realise::{Desk, Label, Record, labels_in_order};
 use rewrite::Named;
 use std::alloc::{AllocError, Global};
+use storepath::StorePath;
 
 /// What was built for a goal: its record and its tree, or why it has none.
 pub(super) type Built = Result<(Record, Tree), Refusal>;
@@ -52,10 +57,18 @@ fn labels_from(alloc: Global, resolved: &Resolved) -> Result<Vec<Label>, Refusal
 
 /// What came of an output that was settled: its path with its references, and its tree, or why it has
 /// none.
-#[derive(Drop)]
 pub(crate) struct Settled {
     input: Input,
     outcome: Result<(Named, Tree), Refusal>,
+}
+
+impl Drop for Settled {
+    fn drop(self) {
+        let Settled {
+            input: _,
+            outcome: _,
+        } = self;
+    }
 }
 
 /// Settles an output. The one error is memory.
@@ -115,6 +128,33 @@ fn built_by(
     }
 }
 
+/// What is built for a derivation from a job's output, which was built under a path and may refer to
+/// these. What was settled last is used again where the output is settled by the same. The one error
+/// is memory.
+fn built_under(
+    alloc: Global,
+    admitted: &Admitted,
+    path: &StorePath,
+    labels: &[Label],
+    archive: &Nar,
+    last: &mut Option<Settled>,
+) -> Result<Built, Refusal>
+    requires in_order { AreInPathOrder labels.now }
+    requires last { IsLastSettled archive.now last.old }
+    ensures built { IfOk result (λ built.
+        built_of built ≡ record_under path.now labels.now admitted.now archive.now) }
+    ensures own { IfOk result (λ _. IsHashPart (hash_part_in path.now)) }
+    ensures paths { IfOk result (λ _. All IsPath (paths_of_labels labels.now)) }
+    ensures memory { IfErr result (λ why. why ≡ Memory) }
+    ensures last { IsLastSettled archive.now last.new }
+{
+    let input = Input::new(alloc, path, labels, admitted.derivation())?;
+    let settled = settle_once(alloc, last.take(), input, archive)?;
+    let built = built_by(alloc, admitted, labels, &settled)?;
+    *last = Some(settled);
+    Ok(built)
+}
+
 /// What is built for a goal on its user's desk from a job's output. What was settled last is used
 /// again where the output is settled by the same. The one error is memory.
 pub(crate) fn built_for(
@@ -141,10 +181,7 @@ pub(crate) fn built_for(
         return Ok(Err(Refusal::BadOutput));
     };
     let labels = labels_from(alloc, resolved)?;
-    let input = Input::new(alloc, resolved.scratch(), &labels, admitted.derivation())?;
-    let settled = settle_once(alloc, last.take(), input, archive)?;
-    let built = built_by(alloc, admitted, &labels, &settled)?;
-    *last = Some(settled);
+    let built = built_under(alloc, admitted, resolved.scratch(), &labels, archive, last)?;
     Ok(built)
 }
 

@@ -1,5 +1,7 @@
 //! What users ask.
 
+ghost use Rattle.std.specs.Prelude.{◌≡◌};
+
 use crate::output::Output;
 use derivation::Text;
 use nar::Tree;
@@ -53,10 +55,29 @@ pub enum Request {
 }
 
 /// A request, and the user who makes it.
-#[derive(Clone, Drop)]
+#[derive(Clone)]
 pub struct Event {
     /// Who asks, and gets the reply.
     pub actor: User,
     /// What he asks.
     pub request: Request,
+}
+
+impl Drop for Event {
+    fn drop(self) {
+        let Event {
+            actor: _,
+            request: _,
+        } = self;
+    }
+}
+
+impl Event {
+    /// Who asks, and what he asks.
+    pub fn into_parts(self) -> (User, Request)
+        ensures { result ≡ (self.actor, self.request) }
+    {
+        let Event { actor, request } = self;
+        (actor, request)
+    }
 }

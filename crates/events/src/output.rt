@@ -8,9 +8,14 @@ use std::sync::ArcSlice;
 
 /// What a builder wrote: any bytes, of which those are an output that are the archive of a tree. A
 /// copy shares them.
-#[derive(Drop)]
 pub struct Output {
     bytes: ArcSlice<u8>,
+}
+
+impl Drop for Output {
+    fn drop(self) {
+        let Output { bytes: _ } = self;
+    }
 }
 
 impl Model for Output {

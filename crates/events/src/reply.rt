@@ -1,5 +1,9 @@
 //! What users are answered.
 
+ghost use Rattle.std.specs.Prelude.{◌≡◌};
+ghost use Rattle.model.specs.Talk.{told_in};
+ghost use Rattle.events.specs.Terms.{reply_of};
+
 use closures::Closure;
 use jobs::State;
 use model::Refusal;
@@ -7,7 +11,7 @@ use nar::Tree;
 use storepath::StorePath;
 
 /// The answer to one event.
-#[derive(Clone, Drop)]
+#[derive(Clone)]
 pub enum Reply {
     /// It is done, and there is nothing to tell.
     Done,
@@ -30,4 +34,37 @@ pub enum Reply {
     GoalState(State),
     /// Why nothing was done.
     Refused(Refusal),
+}
+
+impl Drop for Reply {
+    fn drop(self) {
+        match self {
+            Reply::Done => {}
+            Reply::Path(_) => {}
+            Reply::Derivation { path: _, class: _ } => {}
+            Reply::Content(_) => {}
+            Reply::Entries(_) => {}
+            Reply::GoalNumber(_) => {}
+            Reply::GoalState(_) => {}
+            Reply::Refused(_) => {}
+        }
+    }
+}
+
+impl Reply {
+    /// The path that it tells, and the path of the class that it tells, if it does.
+    pub fn into_paths(self) -> (Option<StorePath>, Option<StorePath>)
+        ensures { record { path = result.0; class = result.1 } ≡ told_in (reply_of self) }
+    {
+        match self {
+            Reply::Path(path) | Reply::GoalState(State::Done(path)) => (Some(path), None),
+            Reply::Derivation { path, class } => (Some(path), Some(class)),
+            Reply::Done
+            | Reply::Content(_)
+            | Reply::Entries(_)
+            | Reply::GoalNumber(_)
+            | Reply::GoalState(_)
+            | Reply::Refused(_) => (None, None),
+        }
+    }
 }

@@ -1,6 +1,6 @@
 -- A goal that is started.
-use Rattle.std.proofs.Common.{◌≡◌, ℕ, zero, suc, ◌<◌, Bool, true, false, List, [], ◌∷◌, ◌++◌, length, length-set, refl, sym, ◌∙◌, ap, subst, arith, inl, ◌⊎◌, inr, rules, Option, Some, None, Result, Ok, Err}
-use Rattle.std.specs.Prelude.{All, ◌&&◌, if◌then◌else◌, is_some, map, filter, bytes_eq, nat_le, slice_get, slice_set}
+use Rattle.std.proofs.Common.{◌≡◌, ℕ, zero, suc, ◌<◌, Bool, true, false, List, [], ◌∷◌, ◌++◌, length, length-set, refl, sym, ◌∙◌, ap, subst, arith, inl, ◌⊎◌, inr, Option, Some, None, Result, Ok, Err}
+use Rattle.std.specs.Prelude.{All, MatchResult, ◌&&◌, if◌then◌else◌, is_some, map, filter, bytes_eq, nat_le, slice_get, slice_set}
 use Rattle.std.specs.List.{list_any}
 use Rattle.std.proofs.lemmas.Grind.{not_there}
 use Rattle.std.proofs.lemmas.Bool.Decides.{nat_tests}
@@ -37,7 +37,7 @@ use Rattle.desks.specs.Handling.{is_fault, RefusedAtOnce, IsHandledWithGoals}
 use Rattle.views.specs.Taking.{CopiesEntries}
 use Rattle.desks.specs.Viewing.{desk_at}
 use Rattle.goals.specs.Planning.{fails}
-use Rattle.goals.specs.Starting.{IsToStart}
+use Rattle.goals.specs.Starting.{IsToStart, IsNotToStart, uncopied_state}
 use Rattle.desks.proofs.GoalLemmas.{goals_sound_at}
 use Rattle.desks.proofs.SupportLemmas.{still_supported, idle_supported, supported_with, built_supported}
 use Rattle.views.proofs.ClosureLemmas.{world, his_desk, his_sound, left_there}
@@ -196,6 +196,39 @@ not_failing why f = cc
 not_quota : NotRealised ≡ Quota → ⊥
 not_quota same = cc
 
+-- a reply is no refusal
+no_refusal : (reply : Rust.Reply) (why : Refusal) → Ok reply ≡ Err why → ⊥
+no_refusal reply why same = cc
+
+-- ---- a goal that is put
+
+pub set_twice : {X : Type 0} (xs : List X) (k : ℕ) (a b : X) → slice_set (slice_set xs k a) k b ≡ slice_set xs k b
+set_twice [] k a b = refl
+set_twice (x ∷ xs) zero a b = refl
+set_twice (x ∷ xs) (suc k) a b = ap (λ rest. x ∷ rest) (set_twice xs k a b)
+
+get_set : {X : Type 0} (xs : List X) (k : ℕ) (a x : X) → slice_get xs k ≡ Some x → slice_get (slice_set xs k a) k ≡ Some a
+get_set [] k a x there = cc
+get_set (y ∷ ys) zero a x there = refl
+get_set (y ∷ ys) (suc k) a x there = get_set ys k a x there
+
+set_back : {X : Type 0} (xs : List X) (k : ℕ) (x : X) → slice_get xs k ≡ Some x → slice_set xs k x ≡ xs
+set_back [] k x there = refl
+set_back (y ∷ ys) zero x there = (let same : y ≡ x = cc in ap (λ z. z ∷ ys) (sym same))
+set_back (y ∷ ys) (suc k) x there = ap (λ rest. y ∷ rest) (set_back ys k x there)
+
+with_twice : (n : ℕ) (a b : Goal) (goals : List Goal) → with_goal_at n b (with_goal_at n a goals) ≡ with_goal_at n b goals
+with_twice zero a b goals = refl
+with_twice (suc n) a b goals = set_twice goals n a b
+
+pub goal_put : (n : ℕ) (a g : Goal) (goals : List Goal) → goal_at n goals ≡ Some g → goal_at n (with_goal_at n a goals) ≡ Some a
+goal_put zero a g goals there = cc
+goal_put (suc n) a g goals there = get_set goals n a g there
+
+with_back : (n : ℕ) (g : Goal) (goals : List Goal) → goal_at n goals ≡ Some g → with_goal_at n g goals ≡ goals
+with_back zero g goals there = refl
+with_back (suc n) g goals there = set_back goals n g there
+
 -- ---- the user at a place
 
 module _ (users : List (List ℕ)) (limit : ℕ) (trust : ℕ → ℕ → Bool) (goals : List (List Goal)) (old : List Source) (desks : List Holdings) (place n : ℕ)
@@ -230,19 +263,11 @@ module _ (users : List (List ℕ)) (limit : ℕ) (trust : ℕ → ℕ → Bool) 
       → Handles (Err why) own desk
   unfolding outcome
   refused why fits at_once no_clash = record {
-    handled = left_there users limit trust goals old desks actor place listed found paired within (events.Start n) (Err why) sound fits (search rules)
-        at_once no_clash
-        (search rules) (search rules);
+    handled = left_there users limit trust goals old desks actor place listed found paired within (events.Start n) (Err why) sound fits tt at_once no_clash tt tt;
     kept = refl;
     sound = own_sound;
     supported = λ was. was;
   }
-
-  -- the goal is none that is to be started
-  pub not_to_start : (why : Refusal) → ((setup : Setup) (s : Sight) → s.desk.goals ≡ own → start setup s n ≡ Err why) → Handles (Err why) own desk
-  not_to_start why tells =
-      let is : start setup s n ≡ Err why = tells setup s (ap (λ (d : Desk). d.goals) his) in
-      refused why (λ own. is) (λ other quick o. (let same : why ≡ other = (let two = sym is ∙ o in cc) in ap Err same)) (start_no_clash setup s n why is)
 
   module _ (r : Resolved) (it : IsToStart own n r) where
     his_goal : IsToStart s.desk.goals n r
@@ -308,17 +333,17 @@ module _ (users : List (List ℕ)) (limit : ℕ) (trust : ℕ → ℕ → Bool) 
               serves = done;
               answered = rw told refl;
               at_once = λ why quick o. absurd (not_quick why quick o);
-              kept = search rules;
+              kept = tt;
               sound = subst (λ t. IsSound t limit after) kept copies.sound;
               gains = copies.gains;
               grows = λ path there. refl;
               hashed = λ texts hashed inside. hashed;
-              taken = λ clash. cc;
-              clashes = λ clash. cc;
+              taken = λ clash. absurd (no_refusal reply Clash clash);
+              clashes = λ clash. absurd (no_refusal reply Clash clash);
               stored = refl;
               given = tt;
             };
-            kept = search rules;
+            kept = tt;
             sound = changed_sound (Building job);
             supported = λ was. supported_with after own n (in_state (Building job) it.goal) (still_supported desk after own copies.gains was)
                 (built_supported after (in_state (Building job) it.goal) r it.resolved copies.there);
@@ -345,17 +370,17 @@ module _ (users : List (List ℕ)) (limit : ℕ) (trust : ℕ → ℕ → Bool) 
               serves = done;
               answered = rw told refl;
               at_once = λ why quick o. absurd (not_quick why quick o);
-              kept = search rules;
+              kept = tt;
               sound = rw copies.kept.desk (his_sound users limit trust goals old desks actor place listed found paired within sound);
               gains = copies.gains;
               grows = λ path there. refl;
               hashed = λ texts hashed inside. hashed;
-              taken = λ clash. cc;
-              clashes = λ clash. cc;
+              taken = λ clash. absurd (no_refusal reply Clash clash);
+              clashes = λ clash. absurd (no_refusal reply Clash clash);
               stored = refl;
               given = tt;
             };
-            kept = search rules;
+            kept = tt;
             sound = changed_sound (Failed why);
             supported = λ was. supported_with after own n (in_state (Failed why) it.goal) (still_supported desk after own copies.gains was)
                 (idle_supported after (in_state (Failed why) it.goal) (λ job building. cc));
@@ -367,7 +392,7 @@ module _ (users : List (List ℕ)) (limit : ℕ) (trust : ℕ → ℕ → Bool) 
           no_fault y t clean = refl
 
       -- memory is refused for the copy
-      pub uncopied : (why : Refusal) → CopiesEntries limit old desk r.closure (Err why) new after → fails why ≡ false → Handles (Err why) own after
+      uncopied : (why : Refusal) → CopiesEntries limit old desk r.closure (Err why) new after → fails why ≡ false → Handles (Err why) own after
       uncopied why copies f = rw copies.kept.desk (elim (not_failing why f) [
         | inl memory ↦ subst (λ y. Handles (Err y) own desk) (sym memory) no_memory
         | inr unbuilt ↦
@@ -377,34 +402,22 @@ module _ (users : List (List ℕ)) (limit : ℕ) (trust : ℕ → ℕ → Bool) 
             absurd (not_quota parts.1)
       ])
 
+      -- nothing is copied
+      pub left : (why : Refusal) (result : Result Rust.Reply Refusal) → CopiesEntries limit old desk r.closure (Err why) new after
+          → MatchResult result (λ reply. (fails why ≡ true) × (reply_of reply ≡ events.GoalState (Failed why))) (λ e. (fails why ≡ false) × (e ≡ why))
+          → Handles result (with_goal_at n (in_state (uncopied_state why) it.goal) own) after
+      left why (Ok reply) copies told = rw told.0 (failed why reply copies told.0 told.1)
+      left why (Err e) copies told =
+          rw (told.0, told.1, (λ i. with_goal_at n (in_state (sym it.planned i) it.goal) own) ∙ with_back n it.goal own it.there) (uncopied why copies told.0)
+
+  -- the goal is none that is to be started, or memory is refused
+  pub not_to_start : (why : Refusal) → IsNotToStart own n why → Handles (Err why) own desk
+  not_to_start why (inl memory) = subst (λ y. Handles (Err y) own desk) (sym memory.0) (no_memory memory.1.resolved memory.1.is)
+  not_to_start why (inr tells) =
+      let is : start setup s n ≡ Err why = tells setup s (ap (λ (d : Desk). d.goals) his) in
+      refused why (λ own. is) (λ other quick o. (let same : why ≡ other = (let two = sym is ∙ o in cc) in ap Err same)) (start_no_clash setup s n why is)
+
 -- ---- all goals
-
-pub set_twice : {X : Type 0} (xs : List X) (k : ℕ) (a b : X) → slice_set (slice_set xs k a) k b ≡ slice_set xs k b
-set_twice [] k a b = refl
-set_twice (x ∷ xs) zero a b = refl
-set_twice (x ∷ xs) (suc k) a b = ap (λ rest. x ∷ rest) (set_twice xs k a b)
-
-get_set : {X : Type 0} (xs : List X) (k : ℕ) (a x : X) → slice_get xs k ≡ Some x → slice_get (slice_set xs k a) k ≡ Some a
-get_set [] k a x there = cc
-get_set (y ∷ ys) zero a x there = refl
-get_set (y ∷ ys) (suc k) a x there = get_set ys k a x there
-
-set_back : {X : Type 0} (xs : List X) (k : ℕ) (x : X) → slice_get xs k ≡ Some x → slice_set xs k x ≡ xs
-set_back [] k x there = refl
-set_back (y ∷ ys) zero x there = (let same : y ≡ x = cc in ap (λ z. z ∷ ys) (sym same))
-set_back (y ∷ ys) (suc k) x there = ap (λ rest. y ∷ rest) (set_back ys k x there)
-
-with_twice : (n : ℕ) (a b : Goal) (goals : List Goal) → with_goal_at n b (with_goal_at n a goals) ≡ with_goal_at n b goals
-with_twice zero a b goals = refl
-with_twice (suc n) a b goals = set_twice goals n a b
-
-pub goal_put : (n : ℕ) (a g : Goal) (goals : List Goal) → goal_at n goals ≡ Some g → goal_at n (with_goal_at n a goals) ≡ Some a
-goal_put zero a g goals there = cc
-goal_put (suc n) a g goals there = get_set goals n a g there
-
-with_back : (n : ℕ) (g : Goal) (goals : List Goal) → goal_at n goals ≡ Some g → with_goal_at n g goals ≡ goals
-with_back zero g goals there = refl
-with_back (suc n) g goals there = set_back goals n g there
 
 -- what a goal that is to be started is built from
 pub goal_closure : (old : List Source) (goals : List (List Goal)) (place n : ℕ) (r : Resolved) → All (AreGoalsSound old) goals
@@ -446,8 +459,3 @@ module _ (all entered : OwnedByAll) (place n : ℕ) (g : Goal) (job : Job) (ther
 
     pub changed_others : new ≡ with_goals_at place (goals_at place new) all
     changed_others = others_left all new place (with_goal_at n (in_state state g) (goals_at place all)) inside changed_so
-
-    -- it is put back
-    pub back : g.state ≡ state → goals_at place new ≡ goals_at place all
-    back same =
-        changed_goals ∙ ap (λ st. with_goal_at n (in_state st g) (goals_at place all)) (sym same) ∙ with_back n g (goals_at place all) there

@@ -1,21 +1,26 @@
 //! Starting a goal.
 
-ghost use Rattle.std.specs.Prelude.{◌≡◌, ℕ, ◌<◌, ◌≤◌, ◌==◌, ◌||◌, ◌&&◌, true, length, slice_set, All};
-ghost use Rattle.model.specs.Worlds.{are_users};
-ghost use Rattle.model.specs.Events.{Start as StartRequest};
+ghost use Rattle.std.specs.Prelude.{◌≡◌, ℕ, ◌<◌, ◌≤◌, ◌==◌, ◌||◌, ◌&&◌, true, false, length, slice_set, All, IfOk, IfErr, OnErr, MatchResult, is_some};
+ghost use Rattle.model.specs.declared.refusal.Refusal.TheVariants.{Memory};
+ghost use Rattle.model.specs.Worlds.{Building, Failed, are_users};
+ghost use Rattle.model.specs.Goals.{in_state};
+ghost use Rattle.model.specs.Events.{Start as StartRequest, GoalState};
 ghost use Rattle.trust.specs.Trusting.{holds, trusts};
 ghost use Rattle.trust.specs.Naming.{IsWithin};
-ghost use Rattle.jobs.specs.Owned.{goals_at, with_goals_at};
+ghost use Rattle.jobs.specs.Owned.{goals_at, with_goals_at, goal_of, ChangesGoal};
+ghost use Rattle.jobs.specs.States.{IsIdle};
+ghost use Rattle.events.specs.Terms.{reply_of};
 ghost use Rattle.desks.specs.Sound.{IsSound, AreGoalsSound};
 ghost use Rattle.desks.specs.Viewing.{desk_at};
 ghost use Rattle.desks.specs.Handling.{IsHandledAtPlace};
-ghost use Rattle.goals.specs.Starting.{TellsToStart, JoinsAll};
+ghost use Rattle.goals.specs.Planning.{fails};
+ghost use Rattle.goals.specs.Starting.{TellsToStart, JoinsAll, IsJoined, uncopied_state};
 
 use crate::planning::fails;
 use closures::Resolved;
 use desks::{Limits, has_place};
 use events::Reply;
-use jobs::{Jobs, State};
+use jobs::{Job, Jobs, State};
 use model::Refusal;
 use realise::Desk;
 use std::alloc::Global;
@@ -57,9 +62,10 @@ fn joined(trust: &Trust, place: usize, count: usize) -> u64
     joined
 }
 
-/// What a goal is built from that is to be started. A number without a goal is refused with 42
-/// `UnknownGoal`, and a goal that is not planned with 43 `WrongState`.
-fn resolved_to_start(jobs: &Jobs, place: usize, number: u16) -> Result<&Resolved, Refusal>
+/// A copy of what a goal is built from that is to be started. A number without a goal is refused with
+/// 42 `UnknownGoal`, and a goal that is not planned with 43 `WrongState`, whether there is memory for
+/// the copy or not.
+fn resolved_to_start(jobs: &Jobs, place: usize, number: u16) -> Result<Resolved, Refusal>
     requires { place < length jobs.now.goals }
     ensures { TellsToStart (goals_at place jobs.now) number result }
 {
@@ -67,8 +73,57 @@ fn resolved_to_start(jobs: &Jobs, place: usize, number: u16) -> Result<&Resolved
         return Err(Refusal::UnknownGoal);
     };
     match (goal.state(), goal.resolved()) {
-        (State::Planned, Some(resolved)) => Ok(resolved),
+        (State::Planned, Some(resolved)) => Ok(resolved.clone()?),
         _ => Err(Refusal::WrongState),
+    }
+}
+
+/// The goal of a number of the user at a place, one of so many, enters a job in which the same is
+/// built: of those that lead jobs, one whom he reaches and who reaches him, or else itself. The one
+/// error is memory, and changes nothing.
+fn enter_job(
+    alloc: Global,
+    trust: &Trust,
+    jobs: &mut Jobs,
+    place: usize,
+    count: usize,
+    number: u16,
+    resolved: &Resolved,
+) -> Result<Job, Refusal>
+    requires of_run { place < count }
+    requires few { count ≤ 64 }
+    requires with_goals { length jobs.old.goals ≡ count }
+    requires idle { IsIdle (goal_of place number jobs.old) }
+    ensures entered { IfOk result (λ job.
+        ChangesGoal place number (in_state (Building job)) jobs.old jobs.new) }
+    ensures joined { IfOk result (λ job.
+        IsJoined (trusts trust.now) place count number resolved.now jobs.old job) }
+    ensures kept { OnErr result (jobs.new ≡ jobs.old) }
+    ensures memory { IfErr result (λ e. e ≡ Memory) }
+{
+    let set = joined(trust, place, count);
+    let job = jobs.join(set, place, number, resolved)?;
+    let told = job.clone()?;
+    jobs.enter(alloc, place, number, job)?;
+    Ok(told)
+}
+
+/// A goal leaves its job, since its closure was not copied for this reason: it has failed, or is
+/// planned again, where it may be started once more. The reply is how far it is, if it has failed.
+fn leave_job(jobs: &mut Jobs, place: usize, number: u16, why: Refusal) -> Result<Reply, Refusal>
+    requires of_run { place < length jobs.old.goals }
+    requires there { is_some (goal_of place number jobs.old) ≡ true }
+    ensures left { ChangesGoal place number (in_state (uncopied_state why)) jobs.old jobs.new }
+    ensures told { MatchResult result
+        (λ reply. (fails why ≡ true) × (reply_of reply ≡ GoalState (Failed why)))
+        (λ e. (fails why ≡ false) × (e ≡ why)) }
+{
+    if fails(why) {
+        jobs.set_state(place, number, State::Failed(why));
+        Ok(Reply::GoalState(State::Failed(why)))
+    } else {
+        jobs.set_state(place, number, State::Planned);
+        Err(why)
     }
 }
 
@@ -107,20 +162,10 @@ pub fn start(
     ensures others_desks { desks.new ≡ slice_set desks.old place (desk_at desks.new place) }
     ensures table { table.new.sources ≡ table.old.sources }
 {
-    let resolved = resolved_to_start(jobs, place, number)?.clone()?;
-    let set = joined(trust, place, users.len());
-    let job = jobs.join(set, place, number, &resolved)?;
-    let told = job.clone()?;
-    jobs.enter(alloc, place, number, job)?;
+    let resolved = resolved_to_start(jobs, place, number)?;
+    let job = enter_job(alloc, trust, jobs, place, users.len(), number, &resolved)?;
     match copy_all(alloc, table, &mut desks[place], limits, resolved.closure()) {
-        Ok(()) => Ok(Reply::GoalState(State::Building(told))),
-        Err(why) if fails(why) => {
-            jobs.set_state(place, number, State::Failed(why));
-            Ok(Reply::GoalState(State::Failed(why)))
-        }
-        Err(why) => {
-            jobs.set_state(place, number, State::Planned);
-            Err(why)
-        }
+        Ok(()) => Ok(Reply::GoalState(State::Building(job))),
+        Err(why) => leave_job(jobs, place, number, why),
     }
 }

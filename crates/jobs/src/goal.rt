@@ -26,11 +26,20 @@ pub enum State {
 }
 
 /// One request to build.
-#[derive(Drop)]
 pub struct Goal {
     derivation: StorePath,
     resolved: Option<Resolved>,
     state: State,
+}
+
+impl Drop for Goal {
+    fn drop(self) {
+        let Goal {
+            derivation: _,
+            resolved: _,
+            state: _,
+        } = self;
+    }
 }
 
 impl Model for Goal {

@@ -26,11 +26,20 @@ use trust::User;
 pub const MOST_GOALS: usize = 65_535;
 
 /// The goals of one user, numbered from 1.
-#[derive(Drop)]
 pub(crate) struct Goals {
     owner: User,
     goals: Vec<Goal>,
     indexes: Indexes,
+}
+
+impl Drop for Goals {
+    fn drop(self) {
+        let Goals {
+            owner: _,
+            goals: _,
+            indexes: _,
+        } = self;
+    }
 }
 
 impl Model for Goals {

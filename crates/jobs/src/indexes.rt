@@ -19,10 +19,18 @@ use trust::User;
 
 /// The numbers of a user's goals: by the jobs in which they are built, and, of those that lead
 /// their own job, by the paths under which it is built. A list may be empty.
-#[derive(Drop)]
 pub(crate) struct Indexes {
     of_jobs: IndexMap<Job, Vec<u16>, RandomState>,
     of_paths: IndexMap<StorePath, Vec<u16>, RandomState>,
+}
+
+impl Drop for Indexes {
+    fn drop(self) {
+        let Indexes {
+            of_jobs: _,
+            of_paths: _,
+        } = self;
+    }
 }
 
 impl Indexes {

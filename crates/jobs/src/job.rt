@@ -11,10 +11,19 @@ use std::marker::Model;
 use trust::User;
 
 /// What is built for several goals at once, by the goal that leads them: its user, and its number.
-#[derive(Debug, Drop)]
+#[derive(Debug)]
 pub struct Job {
     leader: User,
     number: u16,
+}
+
+impl Drop for Job {
+    fn drop(self) {
+        let Job {
+            leader: _,
+            number: _,
+        } = self;
+    }
 }
 
 impl Model for Job {

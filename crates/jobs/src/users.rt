@@ -23,9 +23,14 @@ use trust::User;
 
 /// The goals of the users of a run, who are at most 64. A user is named by his place among them,
 /// and a goal of his by its number, from 1 on.
-#[derive(Drop)]
 pub struct Jobs {
     all: Vec<Goals>,
+}
+
+impl Drop for Jobs {
+    fn drop(self) {
+        let Jobs { all: _ } = self;
+    }
 }
 
 impl Model for Jobs {

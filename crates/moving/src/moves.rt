@@ -18,10 +18,15 @@ use std::marker::Model;
 use storepath::StorePath;
 
 /// A label, with the path by which what it names is served.
-#[derive(Drop)]
 pub(crate) struct Move {
     label: Label,
     path: StorePath,
+}
+
+impl Drop for Move {
+    fn drop(self) {
+        let Move { label: _, path: _ } = self;
+    }
 }
 
 impl Model for Move {

@@ -1,4 +1,6 @@
-use Rattle.std.proofs.Common.{List, rules}
+use Rattle.std.proofs.Common.{◌≡◌, List, Result, Ok, Err, rules}
+use Rattle.std.specs.Prelude.{IfOk}
+use Rattle.model.specs.declared.refusal.Refusal.{Refusal}
 use Rattle.std.proofs.lemmas.Result.{err_from_is_err_and}
 use Rattle.model.specs.Worlds.{Label}
 use Rattle.candidates.specs.Below.{AreCandidates}
@@ -14,18 +16,25 @@ returns-in_err-named-clause-refused c =
     let refused : IsNotSettled labels c.args.admitted.now c.args.tree.now p.0 = rw p.2 c.in_err-named.ensures.refused in
     rw p.1 (no_output c.args.desk.now c.args.admitted.now c.args.tree.now labels p.0 (are_labels c.args.desk.now c.args.admitted.now labels found) refused)
 
+-- what holds of a pair where two other things do
+if_both : {X : Type 0} (P Q R : X → Type 0) → ((x : X) → P x → Q x → R x) → (result : Result X Refusal) → IfOk result P → IfOk result Q → IfOk result R
+if_both P Q R both (Ok x) p q = both x p q
+if_both P Q R both (Err why) p q = tt
+
 pub returns-clause-output : goal.returns-clause-output
 returns-clause-output c =
     let labels : List Label = c.deref.result.now in
+    let same : c.deref-2.result.now ≡ labels = search rules in
     let found : AreCandidates c.args.desk.now.known c.args.admitted.now.derivation c.args.desk.now.records labels = search rules in
-    record {
+    if_both _ _ _
+    (λ o record_is tree_is. record {
       labels = labels;
       candidates = are_labels c.args.desk.now c.args.admitted.now labels found;
       settled = c.in_ok-named.named;
       is = c.in_ok-named.ensures.settled;
-      tree_is = search rules;
-      record_is = search rules;
+      tree_is = tree_is;
+      record_is = record_is;
       sound = c.in_ok-named.ensures.tree;
       own = c.in_ok-named.ensures.own;
       paths = c.in_ok-named.ensures.paths;
-    }
+    }) c.recorded.result (rw same at c.recorded.ensures.record) c.recorded.ensures.tree

@@ -3,7 +3,7 @@ use Rattle.std.specs.Option.{option_copied}
 use Rattle.trust.specs.Trusting.{trusts}
 use Rattle.endings.specs.Built.{IsLastFrom}
 use Rattle.endings.specs.Hearing.{AreBuiltFor}
-use Rattle.endings.proofs.hearing.build_all.Given as goal
+use Rattle.endings.proofs.hearing.build_from.Given as goal
 
 abbrev pub invariant-loop-place : goal.invariant-loop-place
 invariant-loop-place l = record {
