@@ -30,7 +30,6 @@ use std::sync::ledger::Share;
 /// Wherever no two texts that the history's events hash have one folded digest, its replies are
 /// those of private desks, and the core stands for the desks that the events reach. If memory is
 /// refused once the core has taken an event, the book is stopped: the core is not used any more.
-#[derive(Drop)]
 pub struct Book<J: Naming> {
     core: Core,
     history: Vec<Row>,
@@ -38,6 +37,19 @@ pub struct Book<J: Naming> {
     spare: Share<J>,
     log: Log<J>,
     stopped: bool,
+}
+
+impl<J: Naming> Drop for Book<J> {
+    fn drop(self) {
+        let Book {
+            core: _,
+            history: _,
+            calls: _,
+            spare: _,
+            log: _,
+            stopped: _,
+        } = self;
+    }
 }
 
 impl<J: Naming> Model for Book<J> {

@@ -22,9 +22,14 @@ use std::sync::{Mutex, Wait};
 
 /// A core with the history of its calls, under a lock. Threads share it by reference, and each
 /// calls it through a [`Pass`] of its own.
-#[derive(Drop)]
 pub struct Front<J: Naming> {
     book: Mutex<Book<J>>,
+}
+
+impl<J: Naming> Drop for Front<J> {
+    fn drop(self) {
+        let Front { book: _ } = self;
+    }
 }
 
 /// So many passes, each with a part of the count.

@@ -136,13 +136,18 @@ impl Join<View> for AddClaim {
 }
 
 /// The tokens of a new front, which has no name yet.
-#[derive(Drop)]
 pub struct Opened {
     pub table: Table<(), View, (), Law, Global>,
     seat: Seat<(), View>,
     ghost word: { table.shared.table_id.words ≡ 1 },
     ghost here: { seat.table_id ≡ table.shared.table_id },
     ghost empty: { seat.me ≡ (keeper nothing_recorded, []) },
+}
+
+impl Drop for Opened {
+    fn drop(self) {
+        let Opened { table: _, seat: _ } = self;
+    }
 }
 
 impl Opened {
@@ -191,11 +196,20 @@ impl Blank {
 }
 
 /// The one token that knows all that is recorded. Contracts see it as that.
-#[derive(Drop)]
 pub struct Log<J: Naming> {
     table: Table<(), View, (), Law, Global>,
     seat: Seat<(), View>,
     of: PhantomData<J>,
+}
+
+impl<J: Naming> Drop for Log<J> {
+    fn drop(self) {
+        let Log {
+            table: _,
+            seat: _,
+            of: _,
+        } = self;
+    }
 }
 
 impl<J: Naming> Model for Log<J> {
@@ -218,10 +232,15 @@ impl<J: Naming> Model for Log<J> {
 }
 
 /// The one token of a pass. Contracts see it as what the pass knows.
-#[derive(Drop)]
 pub struct Claim<J: Naming> {
     seat: Seat<(), View>,
     of: PhantomData<J>,
+}
+
+impl<J: Naming> Drop for Claim<J> {
+    fn drop(self) {
+        let Claim { seat: _, of: _ } = self;
+    }
 }
 
 impl<J: Naming> Model for Claim<J> {

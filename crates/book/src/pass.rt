@@ -13,11 +13,20 @@ use std::sync::ledger::Share;
 
 /// One caller of a front. It has a number of its own, its part of the count of all calls, and a
 /// claim of what it knows of the history.
-#[derive(Drop)]
 pub struct Pass<J: Naming> {
     number: u64,
     calls: Share<J>,
     claim: Claim<J>,
+}
+
+impl<J: Naming> Drop for Pass<J> {
+    fn drop(self) {
+        let Pass {
+            number: _,
+            calls: _,
+            claim: _,
+        } = self;
+    }
 }
 
 /// Contracts see a pass as its number, how many of its calls have a row, its sure rows, which are

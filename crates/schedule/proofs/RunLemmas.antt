@@ -23,7 +23,7 @@ use Rattle.schedule.specs.Standing.{world_of, setup_of, stored_in, HasHashed, Is
 use Rattle.events.specs.Terms.{event_of, reply_of, answer_of}
 use Rattle.desks.specs.Parts.{IsStep}
 use Rattle.schedule.specs.Stepping.{IsCoreStep}
-use Rattle.schedule.specs.Running.{events_served, without_memory, ArePrivate}
+use Rattle.schedule.specs.Running.{events_served, without_memory, ArePrivate, Reached, Going}
 use Rattle.desks.proofs.PuttingLemmas.{all_front}
 
 all_back : (P : List ℕ → Type 0) (xs ys : List (List ℕ)) → All P (xs ++ ys) → All P ys
@@ -64,25 +64,6 @@ unfolding world_after
 nothing_yet setup w = refl
 
 -- ---- how far a run has come
-
--- the core after some events is that of their world: their answers, with those to any later events, are the model's to all of these
-pub record Reached (setup : Setup) (texts : List (List ℕ)) (core : Core) (served : List ModelEvent) (told : List Answer) : Type 0 where
-  pub told_so : (later : List ModelEvent) → told ++ answers setup (world_of core) later ≡ answers setup nothing (served ++ later)
-  pub stored : HasHashed texts core
-  pub left : (later : List ModelEvent) → All (Contains texts) (hashed setup nothing (served ++ later))
-      → All (Contains texts) (hashed setup (world_of core) later)
-  pub world : world_of core ≡ world_after setup nothing served
-  pub good : GiveGoodClosures setup nothing served
-
--- a run on its way, with the events so far that were answered otherwise than with 90
-pub record Going (setup : Setup) (all : List Event) (core : Core) (given : List (User × Reply)) (rest : List Event) : Type 0 where
-  pub setup_is : setup_of core ≡ setup
-  pub actors : map (λ a. a.0) given ++ map (λ e. e.actor) rest ≡ map (λ e. e.actor) all
-  pub served : List ModelEvent
-  pub served_are : (tail : List Answer)
-      → events_served (map event_of all) (map answer_of given ++ tail) ≡ served ++ events_served (map event_of rest) tail
-  pub reached : (texts : List (List ℕ)) → NoClash texts → All (Contains texts) (hashed setup nothing served)
-      → Reached setup texts core served (without_memory (map answer_of given))
 
 map-push : {X Y : Type 0} (f : X → Y) (xs : List X) (x : X) (tail : List Y) → map f (xs ++ x ∷ []) ++ tail ≡ map f xs ++ (f x ∷ tail)
 map-push f [] x tail = refl

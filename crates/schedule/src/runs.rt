@@ -1,6 +1,6 @@
 //! Whole runs.
 
-ghost use Rattle.std.specs.Prelude.{◌≡◌, ◌≤◌, ◌⊎◌, true, false, ℕ, List, IfOk, IfErr, Err, map};
+ghost use Rattle.std.specs.Prelude.{◌≡◌, ◌≤◌, ◌⊎◌, true, false, ℕ, List, [], IfOk, IfErr, Err, map};
 ghost use Rattle.std.specs.List.{list_any};
 ghost use Rattle.model.specs.Paths.{NoClash};
 ghost use Rattle.model.specs.Worlds.{are_users, nothing};
@@ -11,10 +11,10 @@ ghost use Rattle.model.specs.HashedTexts.{hashed};
 ghost use Rattle.model.specs.GivenClosures.{GiveGoodClosures};
 ghost use Rattle.model.specs.Striking.{strike};
 ghost use Rattle.model.specs.declared.refusal.Refusal.TheVariants.{Memory, BadUsers};
-ghost use Rattle.schedule.specs.Standing.{setup_for, IsRefusedFor};
+ghost use Rattle.schedule.specs.Standing.{world_of, setup_of, setup_for, stored_in, IsRefusedFor};
 ghost use Rattle.events.specs.Terms.{event_of, reply_of, answer_of};
 ghost use Rattle.schedule.specs.Stepping.{IsCoreStep};
-ghost use Rattle.schedule.specs.Running.{HadMemory, events_served, without_memory, ArePrivate};
+ghost use Rattle.schedule.specs.Running.{HadMemory, events_served, without_memory, ArePrivate, Going};
 
 use crate::state::Core;
 use desks::Limits;
@@ -33,6 +33,25 @@ fn answer(alloc: Global, core: &mut Core, event: Event) -> Result<(User, Reply),
     let actor = event.actor.clone()?;
     let reply = core.step(alloc, event);
     Ok((actor, reply))
+}
+
+/// The answers of a new core to all these events, in order. The one error is 90 `Memory`.
+fn answers(
+    alloc: Global,
+    core: &mut Core,
+    events: Vec<Event>,
+) -> Result<Vec<(User, Reply)>, Refusal>
+    requires world { world_of core.old ≡ nothing }
+    requires stored { stored_in core.old ≡ [] }
+    ensures gone { IfOk result (λ given.
+        Going (setup_of core.old) events.items core.new given.items []) }
+    ensures memory { IfErr result (λ e. e ≡ Memory) }
+{
+    let mut given = Vec::with_capacity(alloc, events.len())?;
+    for event in events {
+        given.push(answer(alloc, core, event)?)?;
+    }
+    Ok(given)
 }
 
 /// The replies to all these events, in order, each with the user who gets it.
@@ -80,9 +99,5 @@ pub fn run(
 {
     isolation();
     let mut core = Core::new(alloc, hashing, users, limits)?;
-    let mut given = Vec::with_capacity(alloc, events.len())?;
-    for event in events {
-        given.push(answer(alloc, &mut core, event)?)?;
-    }
-    Ok(given)
+    answers(alloc, &mut core, events)
 }

@@ -17,7 +17,6 @@ use store::Table;
 use trust::{Trust, User};
 
 /// The store of one run. Whoever holds it may call [`Core::step`] for any user.
-#[derive(Drop)]
 pub struct Core {
     pub(crate) users: Vec<User>,
     pub(crate) trust: Trust,
@@ -33,4 +32,17 @@ pub struct Core {
     ghost with_goals: { length jobs.goals ≡ length users.items },
     ghost goals_sound: { All (AreGoalsSound table.sources) jobs.goals } by { Prim.hlevel (props, codes, tree_code) },
     ghost supported: { AreSupported desks.items jobs.goals } by { Prim.hlevel (props, codes) },
+}
+
+impl Drop for Core {
+    fn drop(self) {
+        let Core {
+            users: _,
+            trust: _,
+            jobs: _,
+            desks: _,
+            table: _,
+            limits: _,
+        } = self;
+    }
 }
