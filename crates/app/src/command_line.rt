@@ -57,17 +57,22 @@ fn strike_command<'a>(alloc: Global) -> Result<Command<'a>, AllocError> {
         .arg(file_argument(alloc))
 }
 
+/// The command `intstore`, with no subcommand yet.
+fn plain_command<'a>(alloc: Global) -> Result<Command<'a>, AllocError> {
+    let command = Command::new(alloc, "intstore").bin_name("intstore")?;
+    Ok(
+        command
+            .version("0.1.0")
+            .about("A store for users of one machine who do not trust one another")
+            .subcommand_required(true),
+    )
+}
+
 /// The command `intstore`, with its two subcommands.
 fn command<'a>(alloc: Global) -> Result<Command<'a>, AllocError> {
-    let replay = replay_command(alloc)?;
-    let strike = strike_command(alloc)?;
-    Command::new(alloc, "intstore")
-        .bin_name("intstore")?
-        .version("0.1.0")
-        .about("A store for users of one machine who do not trust one another")
-        .subcommand_required(true)
-        .subcommand(replay)?
-        .subcommand(strike)
+    plain_command(alloc)?
+        .subcommand(replay_command(alloc)?)?
+        .subcommand(strike_command(alloc)?)
 }
 
 /// The limit on the charge: as given, or the largest. The parser has refused every other number.

@@ -13,42 +13,49 @@ use crate::counted::Counted;
 use crate::fault::{COMMAND_LINE_FAULT, Fault, OUT_OF_MEMORY, report};
 use crate::settings::{Action, Options};
 use model::Refusal;
+use std::fs::File;
 use std::hash::RandomState;
 use std::io::{BufWriter, ErrorKind};
 use std::process::ExitCode;
 use std::sync::Wait;
 use std::{fs, io};
 
-/// Runs the file that the options name, says on standard error what went wrong, and gives the exit
-/// status. A file that cannot be opened ends like one that cannot be read.
-fn run_file(rt: &HostRuntime, wait: &impl Wait, options: &Options) -> io::Result<u8> {
-    let name = options.file.as_str();
-    let file = match fs::open(rt, name) {
-        Ok(file) => file,
-        Err(error) if error.kind() == ErrorKind::OutOfMemory => return Err(error),
-        Err(_) => return Ok(report(rt, &Err(Refusal::InputFault), name)),
-    };
-    let mut reader = Counted::new(file);
+/// Runs the lines of a file as the options say, says on standard error what went wrong, and gives the exit
+/// status.
+fn run_lines(
+    rt: &HostRuntime,
+    wait: &impl Wait,
+    options: &Options,
+    reader: &mut Counted<File>,
+) -> io::Result<u8> {
     let mut writer = Counted::new(BufWriter::new(rt.alloc(), io::writer(rt))?);
     let hashing = RandomState::new(rt)?;
     let alloc = rt.alloc();
     let ended = match &options.action {
-        Action::Replay => {
-            replay::replay(wait, alloc, hashing, options, &mut reader, &mut writer)
-        }
+        Action::Replay => replay::replay(wait, alloc, hashing, options, reader, &mut writer),
         Action::Strike(user) => {
             let user = user.as_bytes();
-            strike::strike(alloc, hashing, options, user, &mut reader, &mut writer)
+            strike::strike(alloc, hashing, options, user, reader, &mut writer)
         }
     };
-    Ok(report(rt, &ended, name))
+    Ok(report(rt, &ended, options.file.as_str()))
 }
 
-/// Does what the words of the command line say, and gives the exit status. What cannot be said on standard
+/// Opens the file that the options name, and runs its lines. A file that cannot be opened ends like one
+/// that cannot be read.
+fn run_file(rt: &HostRuntime, wait: &impl Wait, options: &Options) -> io::Result<u8> {
+    let name = options.file.as_str();
+    match fs::open(rt, name) {
+        Ok(file) => run_lines(rt, wait, options, &mut Counted::new(file)),
+        Err(error) if error.kind() == ErrorKind::OutOfMemory => Err(error),
+        Err(_) => Ok(report(rt, &Err(Refusal::InputFault), name)),
+    }
+}
+
+/// Does what the words of a command line say, and gives the exit status. What cannot be said on standard
 /// error is let go.
-fn run(rt: &HostRuntime, wait: &impl Wait) -> io::Result<u8> {
-    let words: Vec<String> = std::env::args(rt)?.collect(rt.alloc())?;
-    match command_line::options(rt.alloc(), words.as_slice()) {
+fn run_words(rt: &HostRuntime, wait: &impl Wait, words: &[String]) -> io::Result<u8> {
+    match command_line::options(rt.alloc(), words) {
         Ok(options) => run_file(rt, wait, &options),
         Err(error) if error.kind() == clap::error::ErrorKind::OutOfMemory => {
             Err(io::Error::from(ErrorKind::OutOfMemory))
@@ -58,6 +65,12 @@ fn run(rt: &HostRuntime, wait: &impl Wait) -> io::Result<u8> {
             Ok(COMMAND_LINE_FAULT)
         }
     }
+}
+
+/// Does what the words of the command line say, and gives the exit status.
+fn run(rt: &HostRuntime, wait: &impl Wait) -> io::Result<u8> {
+    let words: Vec<String> = std::env::args(rt)?.collect(rt.alloc())?;
+    run_words(rt, wait, words.as_slice())
 }
 
 fn main(rt: HostRuntime) -> io::Result<ExitCode> {

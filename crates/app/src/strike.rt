@@ -53,25 +53,47 @@ fn is_last_of(events: &[Event], before: usize, user: &User) -> bool {
     events.len() > before && events.last().is_some_and(|event| event.actor == *user)
 }
 
-/// Runs the lines of an input, and keeps what they ask.
-fn ask_all(alloc: Global, core: Core, input: &[u8], user: &User) -> Result<Asked, Refusal> {
+/// Runs a line. Whether it makes an event of the user.
+fn ask_line(
+    alloc: Global,
+    session: &mut Session,
+    recorder: &mut Recorder,
+    line: &[u8],
+    user: &User,
+) -> Result<bool, Refusal> {
+    let kept = recorder.events.len();
+    session.line(alloc, line, recorder)?;
+    if recorder.has_lost {
+        return Err(Refusal::Memory);
+    }
+    Ok(is_last_of(recorder.events.as_slice(), kept, user))
+}
+
+/// Runs the lines of an input. Gives the numbers of those that make an event of the user.
+fn ask_lines(
+    alloc: Global,
+    recorder: &mut Recorder,
+    input: &[u8],
+    user: &User,
+) -> Result<Vec<usize>, Refusal> {
     let mut session = Session::new(alloc, Mode::Service);
+    let mut numbers = Vec::new(alloc);
+    for (before, line) in input.split(|byte| *byte == b'\n').enumerate() {
+        if ask_line(alloc, &mut session, recorder, line, user)? {
+            numbers.push(before + 1)?;
+        }
+    }
+    Ok(numbers)
+}
+
+/// Runs the lines of an input by a core, and keeps what they ask.
+fn ask_all(alloc: Global, core: Core, input: &[u8], user: &User) -> Result<Asked, Refusal> {
     let mut recorder = Recorder {
         core,
         events: Vec::new(alloc),
         has_lost: false,
     };
-    let mut numbers = Vec::new(alloc);
-    for (before, line) in input.split(|byte| *byte == b'\n').enumerate() {
-        let kept = recorder.events.len();
-        session.line(alloc, line, &mut recorder)?;
-        if recorder.has_lost {
-            return Err(Refusal::Memory);
-        }
-        if is_last_of(recorder.events.as_slice(), kept, user) {
-            numbers.push(before + 1)?;
-        }
-    }
+    let numbers = ask_lines(alloc, &mut recorder, input, user)?;
     let Recorder { events, .. } = recorder;
     Ok(Asked { events, numbers })
 }
@@ -151,6 +173,36 @@ fn user_among(alloc: Global, users: &[User], name: &[u8]) -> Result<User, Refusa
     }
 }
 
+/// Runs the lines of an input in a new store, and keeps what they ask.
+fn ask_new_store(
+    alloc: Global,
+    hashing: RandomState,
+    users: Vec<User>,
+    limits: Limits,
+    user: &User,
+    input: &[u8],
+) -> Result<Asked, Refusal>
+    requires { limits.charge ≤ most_charge }
+{
+    let core = Core::new(alloc, hashing, users, limits)?;
+    ask_all(alloc, core, input, user)
+}
+
+/// The replies to those of some events that can reach a user, in a new store.
+fn replies_to(
+    alloc: Global,
+    hashing: RandomState,
+    users: Vec<User>,
+    limits: Limits,
+    user: &User,
+    events: Vec<Event>,
+) -> Result<Vec<(User, Reply)>, Refusal>
+    requires { limits.charge ≤ most_charge }
+{
+    let kept = schedule::strike(users.as_slice(), events, user)?;
+    run(alloc, hashing, users, limits, kept)
+}
+
 /// The replies to those of an input's events that can reach a user, in a new store, and the numbers of
 /// his lines.
 fn struck(
@@ -163,11 +215,49 @@ fn struck(
 ) -> Result<(Vec<(User, Reply)>, Vec<usize>), Refusal>
     requires { limits.charge ≤ most_charge }
 {
-    let core = Core::new(alloc, hashing, users.clone()?, limits)?;
-    let Asked { events, numbers } = ask_all(alloc, core, input, user)?;
-    let kept = schedule::strike(users.as_slice(), events, user)?;
-    let replies = run(alloc, hashing, users, limits, kept)?;
+    let Asked { events, numbers } = ask_new_store(
+        alloc,
+        hashing,
+        users.clone()?,
+        limits,
+        user,
+        input,
+    )?;
+    let replies = replies_to(alloc, hashing, users, limits, user, events)?;
     Ok((replies, numbers))
+}
+
+/// Prints the replies to those of an input's events that can reach a user, for his lines.
+fn print_struck<W: Write + Faults>(
+    alloc: Global,
+    hashing: RandomState,
+    users: Vec<User>,
+    limits: Limits,
+    user: &User,
+    input: &[u8],
+    writer: &mut W,
+) -> Result<(), Refusal>
+    requires { limits.charge ≤ most_charge }
+{
+    let (replies, numbers) = struck(alloc, hashing, users, limits, user, input)?;
+    print_replies(alloc, replies.as_slice(), user, numbers.as_slice(), writer)?;
+    flush_text(writer)
+}
+
+/// Runs the lines of an input, and prints what is struck for the user of a name.
+fn strike_input<W: Write + Faults>(
+    alloc: Global,
+    hashing: RandomState,
+    limits: Limits,
+    name: &[u8],
+    input: &[u8],
+    writer: &mut W,
+) -> Result<(), Refusal>
+    requires { limits.charge ≤ most_charge }
+{
+    let users = users_in(alloc, input)?;
+    let user = user_among(alloc, users.as_slice(), name)?;
+    print_struck(alloc, hashing, users, limits, &user, input, writer)
 }
 
 /// Runs the lines that a reader gives, and then, in a new store, those of their events that can reach a
@@ -189,12 +279,8 @@ pub(crate) fn strike<R: Read + Faults, W: Write + Faults>(
     writer: &mut W,
 ) -> Result<(), Refusal> {
     let input = read_whole(alloc, reader)?;
-    let users = users_in(alloc, input.as_slice())?;
-    let user = user_among(alloc, users.as_slice(), name)?;
     let limits = Limits {
         charge: options.charge,
     };
-    let (replies, numbers) = struck(alloc, hashing, users, limits, &user, input.as_slice())?;
-    print_replies(alloc, replies.as_slice(), &user, numbers.as_slice(), writer)?;
-    flush_text(writer)
+    strike_input(alloc, hashing, limits, name, input.as_slice(), writer)
 }

@@ -10,9 +10,14 @@ use std::alloc::{AllocError, Global};
 use std::marker::Model;
 
 /// A word of a line.
-#[derive(Drop)]
 pub(crate) struct Word<'a> {
     bytes: &'a [u8],
+}
+
+impl Drop for Word<'_> {
+    fn drop(self) {
+        let Word { bytes: _ } = self;
+    }
 }
 
 impl<'a> Model for Word<'a> {

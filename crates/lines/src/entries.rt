@@ -1,7 +1,9 @@
 //! The text of the entries of a closure.
 
-ghost use Rattle.std.specs.Prelude.{◌≡◌, ◌++◌, ◌∷◌, OnOk, IfErr, option_copied, flat_map};
+ghost use Rattle.std.specs.Prelude.{◌≡◌, ◌++◌, ◌∷◌, [], OnOk, IfErr, option_copied, flat_map, length, decimal};
 ghost use Rattle.model.specs.declared.refusal.Refusal.TheVariants.{Memory};
+ghost use Rattle.model.specs.Archives.{nar};
+ghost use Rattle.model.specs.Closures.{class_of_entry, labels_of_entry, tree_of_entry};
 ghost use Rattle.model.specs.Talk.{class_text, label_text, labels_text, entry_text};
 
 use classes::Class;
@@ -58,21 +60,39 @@ fn add_labels(text: &mut Vec<u8>, labels: &[Label]) -> Result<(), Refusal>
     add_more_labels(text, others)
 }
 
+/// Adds the class and the labels of an entry, behind an opening bracket.
+fn add_class_and_labels(text: &mut Vec<u8>, entry: &Entry) -> Result<(), Refusal>
+    ensures text { OnOk result (text.new.items ≡ text.old.items ++ 40 ∷
+        class_text (class_of_entry entry.now) ++ 59 ∷ labels_text (labels_of_entry entry.now)) }
+    ensures memory { IfErr result (λ why. why ≡ Memory) }
+{
+    text.push(b'(')?;
+    add_class(text, entry.class())?;
+    text.push(b';')?;
+    add_labels(text, entry.labels())
+}
+
+/// Adds the length of an entry's archive in bytes, before a closing bracket.
+fn add_length(alloc: Global, text: &mut Vec<u8>, entry: &Entry) -> Result<(), Refusal>
+    ensures text { OnOk result (text.new.items ≡ text.old.items ++ 59 ∷
+        decimal (length (nar (tree_of_entry entry.now))) ++ 41 ∷ []) }
+    ensures memory { IfErr result (λ why. why ≡ Memory) }
+{
+    let length = entry.tree().nar_len().to_string(alloc)?;
+    text.push(b';')?;
+    text.extend_from_slice(length.as_bytes())?;
+    text.push(b')')?;
+    Ok(())
+}
+
 /// Adds an entry: its path, its class, its labels, and the length of its archive in bytes.
 fn add_entry(alloc: Global, text: &mut Vec<u8>, entry: &Entry) -> Result<(), Refusal>
     ensures text { OnOk result (text.new.items ≡ text.old.items ++ entry_text entry.now) }
     ensures memory { IfErr result (λ why. why ≡ Memory) }
 {
-    let length = entry.tree().nar_len().to_string(alloc)?;
     text.extend_from_slice(entry.path().bytes())?;
-    text.push(b'(')?;
-    add_class(text, entry.class())?;
-    text.push(b';')?;
-    add_labels(text, entry.labels())?;
-    text.push(b';')?;
-    text.extend_from_slice(length.as_bytes())?;
-    text.push(b')')?;
-    Ok(())
+    add_class_and_labels(text, entry)?;
+    add_length(alloc, text, entry)
 }
 
 /// Adds entries, each behind a blank.

@@ -13,11 +13,20 @@ use storepath::StorePath;
 /// An expansion: `{p2}` stands for the path in the reply to line 2, and `{h2}` for the digits of
 /// its hash part, each of their bytes in base 16. `{c2}` and `{g2}` stand for the same of the class
 /// in that reply.
-#[derive(Drop)]
 struct Expansion<'a> {
     letter: u8,
     line: usize,
     rest: &'a [u8],
+}
+
+impl Drop for Expansion<'_> {
+    fn drop(self) {
+        let Expansion {
+            letter: _,
+            line: _,
+            rest: _,
+        } = self;
+    }
 }
 
 impl<'a> Model for Expansion<'a> {

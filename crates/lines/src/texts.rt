@@ -2,16 +2,19 @@
 
 ghost use Rattle.std.specs.Prelude.{◌≡◌, ◌++◌, ◌∷◌, [], OnOk, IfOk, IfErr};
 ghost use Rattle.model.specs.declared.refusal.Refusal.TheVariants.{Memory};
+ghost use Rattle.model.specs.Events as events;
 ghost use Rattle.model.specs.Talk.{job_text, state_text, reply_text, answer_text};
 ghost use Rattle.jobs.specs.States.{state_of};
 ghost use Rattle.events.specs.Terms.{reply_of};
 
 use crate::entries::add_entries;
+use closures::Entry;
 use events::Reply;
 use jobs::{Job, State};
 use model::Refusal;
-use nar::tree_text;
+use nar::{Tree, tree_text};
 use std::alloc::Global;
+use storepath::StorePath;
 
 /// Adds a word and what stands behind it.
 fn add(text: &mut Vec<u8>, word: &[u8], value: &[u8]) -> Result<(), Refusal>
@@ -56,6 +59,57 @@ fn add_state(alloc: Global, text: &mut Vec<u8>, state: &State) -> Result<(), Ref
     }
 }
 
+/// Adds the paths of a derivation and of its class.
+fn add_derivation(text: &mut Vec<u8>, path: &StorePath, class: &StorePath) -> Result<(), Refusal>
+    ensures text { OnOk result
+        (text.new.items ≡ text.old.items ++ reply_text (events.Derivation path.now class.now)) }
+    ensures memory { IfErr result (λ why. why ≡ Memory) }
+{
+    add(text, b"drv ", path.bytes())?;
+    add(text, b" class ", class.bytes())
+}
+
+/// Adds a tree.
+fn add_tree(alloc: Global, text: &mut Vec<u8>, tree: &Tree) -> Result<(), Refusal>
+    ensures text { OnOk result
+        (text.new.items ≡ text.old.items ++ reply_text (events.Content tree.now)) }
+    ensures memory { IfErr result (λ why. why ≡ Memory) }
+{
+    let words = tree_text(alloc, tree)?;
+    add(text, b"tree ", words.as_slice())
+}
+
+/// Adds how many entries a closure has, and the entries.
+fn add_closure(alloc: Global, text: &mut Vec<u8>, entries: &[Entry]) -> Result<(), Refusal>
+    ensures text { OnOk result
+        (text.new.items ≡ text.old.items ++ reply_text (events.Entries entries.now)) }
+    ensures memory { IfErr result (λ why. why ≡ Memory) }
+{
+    let count = entries.len().to_string(alloc)?;
+    add(text, b"closure ", count.as_bytes())?;
+    add_entries(alloc, text, entries)
+}
+
+/// Adds the number of a goal.
+fn add_goal_number(alloc: Global, text: &mut Vec<u8>, number: u16) -> Result<(), Refusal>
+    ensures text { OnOk result
+        (text.new.items ≡ text.old.items ++ reply_text (events.GoalNumber number)) }
+    ensures memory { IfErr result (λ why. why ≡ Memory) }
+{
+    let digits = number.to_string(alloc)?;
+    add(text, b"goal ", digits.as_bytes())
+}
+
+/// Adds why nothing was done.
+fn add_refusal(alloc: Global, text: &mut Vec<u8>, why: Refusal) -> Result<(), Refusal>
+    ensures text { OnOk result
+        (text.new.items ≡ text.old.items ++ reply_text (events.Refused why)) }
+    ensures memory { IfErr result (λ why. why ≡ Memory) }
+{
+    let words = why.to_string(alloc)?;
+    add(text, b"refused ", words.as_bytes())
+}
+
 /// Adds the text of a reply.
 fn add_reply(alloc: Global, text: &mut Vec<u8>, reply: &Reply) -> Result<(), Refusal>
     ensures text { OnOk result
@@ -65,28 +119,12 @@ fn add_reply(alloc: Global, text: &mut Vec<u8>, reply: &Reply) -> Result<(), Ref
     match reply {
         Reply::Done => add(text, b"ok", b""),
         Reply::Path(path) => add(text, b"path ", path.bytes()),
-        Reply::Derivation { path, class } => {
-            add(text, b"drv ", path.bytes())?;
-            add(text, b" class ", class.bytes())
-        }
-        Reply::Content(tree) => {
-            let words = tree_text(alloc, tree)?;
-            add(text, b"tree ", words.as_slice())
-        }
-        Reply::Entries(closure) => {
-            let count = closure.entries().len().to_string(alloc)?;
-            add(text, b"closure ", count.as_bytes())?;
-            add_entries(alloc, text, closure.entries())
-        }
-        Reply::GoalNumber(number) => {
-            let digits = number.to_string(alloc)?;
-            add(text, b"goal ", digits.as_bytes())
-        }
+        Reply::Derivation { path, class } => add_derivation(text, path, class),
+        Reply::Content(tree) => add_tree(alloc, text, tree),
+        Reply::Entries(closure) => add_closure(alloc, text, closure.entries()),
+        Reply::GoalNumber(number) => add_goal_number(alloc, text, *number),
         Reply::GoalState(state) => add_state(alloc, text, state),
-        Reply::Refused(why) => {
-            let words = why.to_string(alloc)?;
-            add(text, b"refused ", words.as_bytes())
-        }
+        Reply::Refused(why) => add_refusal(alloc, text, *why),
     }
 }
 

@@ -6,7 +6,6 @@ ghost use Rattle.model.specs.Talk.{told_in};
 ghost use Rattle.events.specs.Terms.{reply_of};
 
 use events::Reply;
-use jobs::State;
 use std::marker::Model;
 use storepath::StorePath;
 
@@ -41,20 +40,6 @@ impl Told {
 pub fn told_in(reply: Reply) -> Told
     ensures { result ≡ told_in (reply_of reply) }
 {
-    match reply {
-        Reply::Path(path) | Reply::GoalState(State::Done(path)) => Told {
-            path: Some(path),
-            class: None,
-        },
-        Reply::Derivation { path, class } => Told {
-            path: Some(path),
-            class: Some(class),
-        },
-        Reply::Done
-        | Reply::Content(_)
-        | Reply::Entries(_)
-        | Reply::GoalNumber(_)
-        | Reply::GoalState(_)
-        | Reply::Refused(_) => Told::nothing(),
-    }
+    let (path, class) = reply.into_paths();
+    Told { path, class }
 }

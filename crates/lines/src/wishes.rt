@@ -2,6 +2,8 @@
 
 ghost use Rattle.std.specs.Prelude.{◌≡◌, ◌∷◌, [], length, IfOk, IfErr, MatchResult, option_map};
 ghost use Rattle.model.specs.declared.refusal.Refusal.TheVariants.{Memory};
+ghost use Rattle.model.specs.declared.verb.Verb.TheVariants as verbs;
+ghost use Rattle.model.specs.declared.verb.WordKind.TheVariants as kinds;
 ghost use Rattle.model.specs.Verbs.{kinds_of};
 ghost use Rattle.model.specs.Forms.{is_text, words_by, wish_in};
 ghost use Rattle.lines.specs.Reading.{wish_of, IsRequestOfWish, IsNoRequest, IsEventOfWish, IsNoEvent};
@@ -15,10 +17,15 @@ use std::marker::Model;
 use storepath::{Name, read_path};
 
 /// A verb with its words, as many as it has kinds of them.
-#[derive(Drop)]
 pub(crate) struct Wish<'a> {
     verb: Verb,
     words: Vec<Word<'a>>,
+}
+
+impl Drop for Wish<'_> {
+    fn drop(self) {
+        let Wish { verb: _, words: _ } = self;
+    }
 }
 
 impl<'a> Model for Wish<'a> {
@@ -78,6 +85,22 @@ pub(crate) fn wish_in(alloc: Global, text: &[u8]) -> Result<Option<Wish<'_>>, Al
     Ok(Some(Wish { verb, words }))
 }
 
+/// The request of a verb with one word, which is a path.
+fn request_of_path(alloc: Global, verb: Verb, word: &[u8]) -> Result<Request, Refusal>
+    requires { kinds_of verb ≡ kinds.Path ∷ [] }
+    ensures { let wish = wish_of verb (word.now ∷ []) in
+        MatchResult result (IsRequestOfWish wish) (IsNoRequest wish) }
+{
+    match verb {
+        Verb::Fetch => Ok(Request::Fetch(read_path(alloc, word)?)),
+        Verb::Unpin => Ok(Request::Unpin(read_path(alloc, word)?)),
+        Verb::Closure => Ok(Request::Closure(read_path(alloc, word)?)),
+        Verb::Take => Ok(Request::Take(read_path(alloc, word)?)),
+        Verb::Build => Ok(Request::Build(read_path(alloc, word)?)),
+        _ => Err(Refusal::BadLine),
+    }
+}
+
 /// The request of a verb with one word.
 fn request_of_one(alloc: Global, verb: Verb, word: &[u8]) -> Result<Request, Refusal>
     requires { length (kinds_of verb) ≡ 1 }
@@ -86,18 +109,49 @@ fn request_of_one(alloc: Global, verb: Verb, word: &[u8]) -> Result<Request, Ref
 {
     match verb {
         Verb::Derivation => Ok(Request::AddDerivation(read_text(alloc, word)?)),
-        Verb::Fetch => Ok(Request::Fetch(read_path(alloc, word)?)),
         Verb::Trust => Ok(Request::Trust(read_user(alloc, word)?)),
         Verb::Distrust => Ok(Request::Distrust(read_user(alloc, word)?)),
-        Verb::Unpin => Ok(Request::Unpin(read_path(alloc, word)?)),
-        Verb::Closure => Ok(Request::Closure(read_path(alloc, word)?)),
-        Verb::Take => Ok(Request::Take(read_path(alloc, word)?)),
-        Verb::Build => Ok(Request::Build(read_path(alloc, word)?)),
         Verb::Status => Ok(Request::Status(read_number(word)?)),
         Verb::Plan => Ok(Request::Plan(read_number(word)?)),
         Verb::Start => Ok(Request::Start(read_number(word)?)),
-        _ => Err(Refusal::BadLine),
+        _ => request_of_path(alloc, verb, word),
     }
+}
+
+/// The request of the verb `source`.
+fn source_request(alloc: Global, first: &[u8], second: &[u8]) -> Result<Request, Refusal>
+    ensures { let wish = wish_of verbs.Source (first.now ∷ second.now ∷ []) in
+        MatchResult result (IsRequestOfWish wish) (IsNoRequest wish) }
+{
+    let name = Name::new(alloc, first)?;
+    Ok(Request::AddSource(name, read_tree(alloc, second)?))
+}
+
+/// The request of the verb `offer`.
+fn offer_request(alloc: Global, first: &[u8], second: &[u8]) -> Result<Request, Refusal>
+    ensures { let wish = wish_of verbs.Offer (first.now ∷ second.now ∷ []) in
+        MatchResult result (IsRequestOfWish wish) (IsNoRequest wish) }
+{
+    let path = read_path(alloc, first)?;
+    Ok(Request::Offer(path, read_tree(alloc, second)?))
+}
+
+/// The request of the verb `pin`.
+fn pin_request(alloc: Global, first: &[u8], second: &[u8]) -> Result<Request, Refusal>
+    ensures { let wish = wish_of verbs.Pin (first.now ∷ second.now ∷ []) in
+        MatchResult result (IsRequestOfWish wish) (IsNoRequest wish) }
+{
+    let class = read_path(alloc, first)?;
+    Ok(Request::Pin(class, read_path(alloc, second)?))
+}
+
+/// The request of the verb `finish`.
+fn finish_request(alloc: Global, first: &[u8], second: &[u8]) -> Result<Request, Refusal>
+    ensures { let wish = wish_of verbs.Finish (first.now ∷ second.now ∷ []) in
+        MatchResult result (IsRequestOfWish wish) (IsNoRequest wish) }
+{
+    let number = read_number(first)?;
+    Ok(Request::Finish(number, read_output(alloc, second)?))
 }
 
 /// The request of a verb with two words.
@@ -112,10 +166,10 @@ fn request_of_two(
         MatchResult result (IsRequestOfWish wish) (IsNoRequest wish) }
 {
     match verb {
-        Verb::Source => Ok(Request::AddSource(Name::new(alloc, first)?, read_tree(alloc, second)?)),
-        Verb::Offer => Ok(Request::Offer(read_path(alloc, first)?, read_tree(alloc, second)?)),
-        Verb::Pin => Ok(Request::Pin(read_path(alloc, first)?, read_path(alloc, second)?)),
-        Verb::Finish => Ok(Request::Finish(read_number(first)?, read_output(alloc, second)?)),
+        Verb::Source => source_request(alloc, first, second),
+        Verb::Offer => offer_request(alloc, first, second),
+        Verb::Pin => pin_request(alloc, first, second),
+        Verb::Finish => finish_request(alloc, first, second),
         Verb::Fail => Ok(Request::Fail(read_number(first)?, read_exit_status(second)?)),
         _ => Err(Refusal::BadLine),
     }

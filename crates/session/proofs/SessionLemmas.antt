@@ -1,5 +1,5 @@
 -- One line of a session.
-use Rattle.std.proofs.Common.{◌≡◌, ◌⊎◌, inl, inr, ℕ, ◌+◌, Bool, true, ◌||◌, List, [], ◌∷◌, ◌++◌, length, refl, ap, ◌∙◌, codes}
+use Rattle.std.proofs.Common.{◌≡◌, ◌⊎◌, inl, inr, ℕ, ◌+◌, Bool, true, ◌||◌, List, [], ◌∷◌, ◌++◌, length, refl, ap, ◌∙◌, codes, Result, Ok, Err, IfOk}
 use Rattle.std.specs.Global.{Vec}
 use Rattle.model.specs.declared.refusal.Refusal.{Refusal}
 use Rattle.model.specs.Events as events
@@ -11,7 +11,7 @@ use Rattle.events.specs.Terms.{event_of}
 use Rattle.lines.specs.declared.reading.Reading.{Reading}
 use Rattle.lines.specs.declared.reading.Reading.TheVariants as reading
 use Rattle.lines.specs.Reading.{IsRowOf, Becomes}
-use Rattle.session.specs.Serving.{Gives, StopsAt}
+use Rattle.session.specs.Serving.{Link, Gives, GivesRow, StopsAt}
 
 abbrev pub seen_by : Bool → Bool → List Told → Seen
 seen_by begun refused told = record { begun = begun; refused = refused; told = told }
@@ -23,47 +23,53 @@ row-gets form (reading.Names users) row b e = rw e b
 row-gets form (reading.Refuses why) row b e = rw e b
 row-gets form (reading.Asks event) row b e = rw e.1 (b e.0)
 
-module _ {A : Type 0} (R : A → events.Event → events.Reply → A → Type 0) (begun refused : Bool) (told told' : List Told) (text : List ℕ) (n : ℕ)
-    (r : Reading) where
-  pub gives-asked : (event : Event) (reply : events.Reply) (one : Told) (now next : A)
-      → r ≡ reading.Asks event → told' ≡ told ++ one ∷ [] → one ≡ told_in reply → n ≡ length told + 1 → text ≡ answer_text n event.actor reply
-      → R now (event_of event) reply next → Gives (IsRowOf r) R (seen_by begun refused told) (seen_by begun refused told') now next text
-  gives-asked event reply one now next is e₁ e₂ e₃ e₄ h = (
+-- a row with no event
+module _ (begun refused : Bool) (told told' : List Told) (n : ℕ) (one : Told) (e₁ : told' ≡ told ++ one ∷ []) (e₂ : one ≡ nothing_told)
+    (e₃ : n ≡ length told + 1) where
+  pub row-named : (result : Result (Vec ℕ) Refusal) → IfOk result (λ text. text.items ≡ answer_text n (codes "-") events.Done)
+      → IfOk result (λ text. (users : List (List ℕ))
+      → GivesRow (Names users) (seen_by begun refused told) (seen_by true refused told') text.items)
+  row-named (Ok text) e₄ = λ users. (
+    ap (seen_by true refused) (e₁ ∙ ap (λ x. told ++ x ∷ []) e₂),
+    e₄ ∙ ap (λ k. answer_text k (codes "-") events.Done) e₃,
+  )
+  row-named (Err why) e₄ = tt
+
+  pub row-refused : (why : Refusal) (refused' : Bool) (result : Result (Vec ℕ) Refusal) → refused' ≡ (is_bad_users why || refused)
+      → IfOk result (λ text. text.items ≡ answer_text n (codes "-") (events.Refused why))
+      → IfOk result (λ text. GivesRow (Refuses why) (seen_by begun refused told) (seen_by begun refused' told') text.items)
+  row-refused why refused' (Ok text) f e₄ = (
+    ap (λ x. seen_by begun x told') f ∙ ap (seen_by begun (is_bad_users why || refused)) (e₁ ∙ ap (λ x. told ++ x ∷ []) e₂),
+    e₄ ∙ ap (λ k. answer_text k (codes "-") (events.Refused why)) e₃,
+  )
+  row-refused why refused' (Err _) f e₄ = tt
+
+module _ {A : Type 0} (R : A → events.Event → events.Reply → A → Type 0) where
+  -- the row of an event
+  pub gives-asked : (begun refused : Bool) (told told' : List Told) (text : List ℕ) (n : ℕ) (event : Event) (reply : events.Reply) (one : Told)
+      (now next : A)
+      → told' ≡ told ++ one ∷ [] → one ≡ told_in reply → n ≡ length told + 1 → text ≡ answer_text n event.actor reply
+      → R now (event_of event) reply next
+      → Gives (IsRowOf (reading.Asks event)) R (seen_by begun refused told) (seen_by begun refused told') now next text
+  gives-asked begun refused told told' text n event reply one now next e₁ e₂ e₃ e₄ h = (
     Asks (event_of event) reply,
-    rw is (reply, refl),
+    (reply, refl),
     ap (seen_by begun refused) (e₁ ∙ ap (λ x. told ++ x ∷ []) e₂),
     e₄ ∙ ap (λ k. answer_text k event.actor reply) e₃,
     h,
   )
 
-  pub gives-named : (users : Vec (List ℕ)) (one : Told) (now : A)
-      → r ≡ reading.Names users → told' ≡ told ++ one ∷ [] → one ≡ nothing_told → n ≡ length told + 1 → text ≡ answer_text n (codes "-") events.Done
-      → Gives (IsRowOf r) R (seen_by begun refused told) (seen_by true refused told') now now text
-  gives-named users one now is e₁ e₂ e₃ e₄ = (
-    Names users.items,
-    rw is refl,
-    ap (seen_by true refused) (e₁ ∙ ap (λ x. told ++ x ∷ []) e₂),
-    e₄ ∙ ap (λ k. answer_text k (codes "-") events.Done) e₃,
-    refl,
-  )
+  -- a row with no event leaves the answer alone
+  pub gives-row : (r : Reading) (row : Row) (seen next : Seen) (now : A) (result : Result (Vec ℕ) Refusal) → IsRowOf r row → Link R now row now
+      → IfOk result (λ text. GivesRow row seen next text.items) → IfOk result (λ text. Gives (IsRowOf r) R seen next now now text.items)
+  gives-row r row seen next now (Ok text) is l h = (row, is, h.0, h.1, l)
+  gives-row r row seen next now (Err why) is l h = tt
 
-  pub gives-refused : (why : Refusal) (refused' : Bool) (one : Told) (now : A)
-      → r ≡ reading.Refuses why → refused' ≡ (is_bad_users why || refused) → told' ≡ told ++ one ∷ [] → one ≡ nothing_told → n ≡ length told + 1
-      → text ≡ answer_text n (codes "-") (events.Refused why) → Gives (IsRowOf r) R (seen_by begun refused told) (seen_by begun refused' told') now now text
-  gives-refused why refused' one now is f e₁ e₂ e₃ e₄ = (
-    Refuses why,
-    rw is refl,
-    ap (λ x. seen_by begun x told') f ∙ ap (seen_by begun (is_bad_users why || refused)) (e₁ ∙ ap (λ x. told ++ x ∷ []) e₂),
-    e₄ ∙ ap (λ k. answer_text k (codes "-") (events.Refused why)) e₃,
-    refl,
-  )
-
-module _ {A : Type 0} (R : A → events.Event → events.Reply → A → Type 0) where
-  pub gives-part : (r : Reading) (event : Event) (now next : A) → r ≡ reading.Asks event
-      → ((next ≡ now) ⊎ ((reply : events.Reply) × R now (event_of event) reply next)) → StopsAt (IsRowOf r) R now next
-  gives-part r event now next is d = elim d [
+  pub gives-part : (event : Event) (now next : A) → ((next ≡ now) ⊎ ((reply : events.Reply) × R now (event_of event) reply next))
+      → StopsAt (IsRowOf (reading.Asks event)) R now next
+  gives-part event now next d = elim d [
     | inl e ↦ inl e
-    | inr w ↦ inr (Asks (event_of event) w.0, rw is (w.0, refl), w.1)
+    | inr w ↦ inr (Asks (event_of event) w.0, (w.0, refl), w.1)
   ]
 
   -- from what a line comes to, to the line

@@ -106,6 +106,10 @@ abbrev pub EndsAtLast : {A : Type 0} → (A → Event → Reply → A → Type 0
 EndsAtLast {A} answers now next written written' seen held why = (first : A) (blank : Option (List ℕ)) (input : List ℕ)
     → Progress answers first now blank written input seen held → EndedEarly answers first next blank written' input ⊤ why
 
+-- what a line of that row gives: what is kept of it, and what is printed for it
+abbrev pub GivesRow : Row → (seen next : Seen) → List ℕ → Type 0
+GivesRow row seen next text = (next ≡ after seen row) × (text ≡ row_text (length seen.told + 1) row)
+
 -- what a line gives of which these may be the rows: a row, what is kept of it, what is printed for it, and what became of the answer
 abbrev pub Gives : {A : Type 0} → (Row → Type 0) → (A → Event → Reply → A → Type 0) → (seen next : Seen) (old new : A) → List ℕ → Type 0
 Gives Is answers seen next old new text =

@@ -1,9 +1,9 @@
 //! Reading ahead to the users of a session.
 
-ghost use Rattle.std.specs.Prelude.{◌≡◌, ◌++◌, [], true, false, ℕ, List, None, IfOk, IfErr, OnErr, option_map};
+ghost use Rattle.std.specs.Prelude.{◌≡◌, ◌++◌, [], true, false, ℕ, List, None, IfOk, IfErr, OnOk, OnErr, option_map};
 ghost use Rattle.std.specs.Io.KnownBytes.{Consumes, IsAtEnd};
 ghost use Rattle.model.specs.declared.refusal.Refusal.TheVariants.{Memory};
-ghost use Rattle.model.specs.Talk.{form_of};
+ghost use Rattle.model.specs.Talk.{fresh, form_of};
 ghost use Rattle.session.specs.Ahead.{IsLook, NoUsersSoFar, LooksAhead, SearchesOn, SearchesLast};
 ghost use Rattle.session.specs.Serving.{HasFailed};
 
@@ -28,6 +28,14 @@ pub struct Ahead {
     pub has_ended: bool,
     /// Whether the reader failed, and so not all was read.
     pub has_failed: bool,
+}
+
+/// What was found in all that was read: what [`Ahead`] says of it.
+#[derive(Drop)]
+struct Found {
+    users: Option<Vec<User>>,
+    has_ended: bool,
+    has_failed: bool,
 }
 
 /// What a line is to who looks for the users.
@@ -100,6 +108,69 @@ fn look_last(
     }
 }
 
+/// Looks for the users in what a reader gives, and keeps all that is read. The session has had no
+/// line.
+fn search<R: Read + Faults>(
+    alloc: Global,
+    session: &mut Session,
+    held: &mut Vec<u8>,
+    bytes: &mut Vec<u8>,
+    reader: &mut R,
+) -> Result<Found, Refusal>
+    requires { (session.old ≡ fresh) × (held.old.items ≡ []) × (bytes.old.items ≡ []) }
+    ensures read { OnOk result
+        (Consumes (R.remaining reader.old) (R.remaining reader.new) bytes.new.items) }
+    ensures ended { IfOk result (λ found.
+        found.has_ended ≡ true → IsAtEnd (R.remaining reader.new)) }
+    ensures failed { IfOk result (λ found.
+        found.has_failed ≡ true → HasFailed (R.failed reader.old) (R.failed reader.new)) }
+    ensures users { IfOk result (λ found. found.has_failed ≡ false
+        → (more : List ℕ) → (found.has_ended ≡ true → more ≡ [])
+        → LooksAhead (bytes.new.items ++ more) (option_map (λ u. u.items) found.users)) }
+    ensures no_users { IfOk result (λ found. found.has_failed ≡ true
+        → (found.users ≡ None) × NoUsersSoFar bytes.new.items) }
+    ensures err { OnErr result ((input : List ℕ)
+        × Consumes (R.remaining reader.old) (R.remaining reader.new) input) }
+    ensures memory { IfErr result (λ why. why ≡ Memory) }
+{
+    let before = reader.failures();
+    let mut chunk = [0u8; CHUNK];
+    for _ in 0..u64::MAX {
+        let n = match read_some(reader, before, &mut chunk) {
+            Ok(Some(n)) => n,
+            Ok(None) => continue,
+            Err(_) => {
+                return Ok(Found {
+                    users: None,
+                    has_ended: false,
+                    has_failed: true,
+                });
+            }
+        };
+        if n == 0 {
+            let users = look_last(alloc, session, held.as_slice())?;
+            return Ok(Found {
+                users,
+                has_ended: true,
+                has_failed: false,
+            });
+        }
+        let (piece, _) = chunk.split_at(n);
+        bytes.extend_from_slice(piece)?;
+        let users = match look_on(alloc, session, held, piece)? {
+            Look::Users(users) => Some(users),
+            Look::Refused => None,
+            Look::Other => continue,
+        };
+        return Ok(Found {
+            users,
+            has_ended: false,
+            has_failed: false,
+        });
+    }
+    Err(Refusal::Memory)
+}
+
 /// Reads an input up to its first line of users that is answered `ok`, or up to the line of users
 /// that is refused with 14, and finds the users. All bytes that are read are kept, so that
 /// [`Prefixed`](crate::Prefixed) can give them again.
@@ -132,46 +203,14 @@ pub fn read_ahead<R: Read + Faults>(
         × Consumes (R.remaining reader.old) (R.remaining reader.new) input) }
     ensures memory { IfErr result (λ why. why ≡ Memory) }
 {
-    let before = reader.failures();
     let mut session = Session::new(alloc, mode);
     let mut held = Vec::new(alloc);
     let mut bytes = Vec::new(alloc);
-    let mut chunk = [0u8; CHUNK];
-    for _ in 0..u64::MAX {
-        let n = match read_some(reader, before, &mut chunk) {
-            Ok(Some(n)) => n,
-            Ok(None) => continue,
-            Err(_) => {
-                return Ok(Ahead {
-                    bytes,
-                    users: None,
-                    has_ended: false,
-                    has_failed: true,
-                });
-            }
-        };
-        if n == 0 {
-            let users = look_last(alloc, &mut session, held.as_slice())?;
-            return Ok(Ahead {
-                bytes,
-                users,
-                has_ended: true,
-                has_failed: false,
-            });
-        }
-        let (piece, _) = chunk.split_at(n);
-        bytes.extend_from_slice(piece)?;
-        let users = match look_on(alloc, &mut session, &mut held, piece)? {
-            Look::Users(users) => Some(users),
-            Look::Refused => None,
-            Look::Other => continue,
-        };
-        return Ok(Ahead {
-            bytes,
-            users,
-            has_ended: false,
-            has_failed: false,
-        });
-    }
-    Err(Refusal::Memory)
+    let found = search(alloc, &mut session, &mut held, &mut bytes, reader)?;
+    Ok(Ahead {
+        bytes,
+        users: found.users,
+        has_ended: found.has_ended,
+        has_failed: found.has_failed,
+    })
 }

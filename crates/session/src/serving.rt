@@ -4,6 +4,7 @@ ghost use Rattle.std.specs.Prelude.{◌≡◌, ◌<◌, ◌⊎◌, ◌∷◌, []
 ghost use Rattle.std.specs.Io.KnownBytes.{Consumes, IsAtEnd};
 ghost use Rattle.model.specs.declared.refusal.Refusal.TheVariants.{InputFault, OutputFault};
 ghost use Rattle.model.specs.Lines.{lines_of};
+ghost use Rattle.model.specs.Talk.{fresh};
 ghost use Rattle.session.specs.Serving.{GoesOn, EndsIn, Finishes, EndsAtLast, AnsweredSoFar, EndedEarly, Finished, HoldsMore, IsOwn, MayBeFault};
 
 use crate::answer::{Answer, Faults};
@@ -117,6 +118,70 @@ fn finish<W: Write + Faults, A: Answer>(
     Ok(())
 }
 
+/// Answers a last line that lacks its newline, if there is one, and shows all that was written.
+fn close<W: Write + Faults, A: Answer>(
+    alloc: Global,
+    session: &mut Session,
+    held: &mut Vec<u8>,
+    writer: &mut W,
+    before: u64,
+    answer: &mut A,
+) -> Result<(), Refusal>
+    ensures ok { OnOk result (Finishes A.answers answer.old answer.new
+        (W.contents writer.old) (W.contents writer.new) session.old held.old.items) }
+    ensures err { IfErr result (EndsAtLast A.answers answer.old answer.new
+        (W.contents writer.old) (W.contents writer.new) session.old held.old.items) }
+    ensures errors { IfErr result IsOwn }
+    ensures fault { IfErr result (MayBeFault OutputFault before (W.failed writer.new)) }
+{
+    finish(alloc, session, held, writer, before, answer)?;
+    flush(writer, before)?;
+    Ok(())
+}
+
+/// Answers the lines of the reader by a session that has had no line, as [`serve`] does.
+fn serve_by<R: Read + Faults, W: Write + Faults, A: Answer>(
+    alloc: Global,
+    session: &mut Session,
+    held: &mut Vec<u8>,
+    reader: &mut R,
+    writer: &mut W,
+    answer: &mut A,
+) -> Result<(), Refusal>
+    requires { (session.old ≡ fresh) × (held.old.items ≡ []) }
+    ensures ok { OnOk result ((input : List ℕ)
+        × Consumes (R.remaining reader.old) (R.remaining reader.new) input
+        × IsAtEnd (R.remaining reader.new)
+        × Finished A.answers answer.old answer.new
+        (W.contents writer.old) (W.contents writer.new) (lines_of input)) }
+    ensures err { IfErr result (λ why. (input : List ℕ)
+        × Consumes (R.remaining reader.old) (R.remaining reader.new) input
+        × EndedEarly A.answers answer.old answer.new
+        (W.contents writer.old) (W.contents writer.new)
+        input (IsAtEnd (R.remaining reader.new)) why) }
+    ensures errors { IfErr result (λ why. (why ≡ InputFault) ⊎ IsOwn why) }
+    ensures input_fault { IfErr result
+        (MayBeFault InputFault (R.failed reader.old) (R.failed reader.new)) }
+    ensures output_fault { IfErr result
+        (MayBeFault OutputFault (W.failed writer.old) (W.failed writer.new)) }
+{
+    let reader_before = reader.failures();
+    let writer_before = writer.failures();
+    let mut chunk = [0u8; CHUNK];
+    for _ in 0..u64::MAX {
+        let Some(n) = read_some(reader, reader_before, &mut chunk)? else {
+            continue;
+        };
+        if n == 0 {
+            close(alloc, session, held, writer, writer_before, answer)?;
+            return Ok(());
+        }
+        let (piece, _) = chunk.split_at(n);
+        feed(alloc, session, held, piece, writer, writer_before, answer)?;
+    }
+    Err(Refusal::Memory)
+}
+
 /// Answers the lines of the reader to the input's end, and writes what is printed for them.
 ///
 /// A line of more than 268,435,456 bytes is skipped without being kept. A reader or writer that fails
@@ -155,39 +220,9 @@ pub fn serve<R: Read + Faults, W: Write + Faults, A: Answer>(
     ensures output_fault { IfErr result
         (MayBeFault OutputFault (W.failed writer.old) (W.failed writer.new)) }
 {
-    let reader_before = reader.failures();
-    let writer_before = writer.failures();
     let mut session = Session::new(alloc, mode);
     let mut held = Vec::new(alloc);
-    let mut chunk = [0u8; CHUNK];
-    for _ in 0..u64::MAX {
-        let Some(n) = read_some(reader, reader_before, &mut chunk)? else {
-            continue;
-        };
-        if n == 0 {
-            finish(
-                alloc,
-                &mut session,
-                &mut held,
-                writer,
-                writer_before,
-                answer,
-            )?;
-            flush(writer, writer_before)?;
-            return Ok(());
-        }
-        let (piece, _) = chunk.split_at(n);
-        feed(
-            alloc,
-            &mut session,
-            &mut held,
-            piece,
-            writer,
-            writer_before,
-            answer,
-        )?;
-    }
-    Err(Refusal::Memory)
+    serve_by(alloc, &mut session, &mut held, reader, writer, answer)
 }
 
 /// Answers the whole lines of some bytes of which more was to come, and writes what is printed for

@@ -1,12 +1,13 @@
 //! Sessions, a line at a time.
 
-ghost use Rattle.std.specs.Prelude.{◌≡◌, ◌⊎◌, IfOk, IfErr, OnErr};
+ghost use Rattle.std.specs.Prelude.{◌≡◌, ◌⊎◌, ℕ, List, IfOk, IfErr, OnErr};
 ghost use Rattle.model.specs.declared.refusal.Refusal.TheVariants.{Memory};
-ghost use Rattle.model.specs.Talk.{fresh, form_of, Gets, answer_text, told_in, is_bad_users};
+ghost use Rattle.model.specs.Talk.{Silent, Names, Refuses, fresh, form_of, Gets, answer_text, told_in, is_bad_users};
 ghost use Rattle.model.specs.Events as events;
 ghost use Rattle.events.specs.Terms.{event_of, reply_of};
+ghost use Rattle.lines.specs.declared.reading.Reading.TheVariants as readings;
 ghost use Rattle.lines.specs.Reading.{Becomes, IsRowOf};
-ghost use Rattle.session.specs.Serving.{Gives, StopsAt};
+ghost use Rattle.session.specs.Serving.{Gives, GivesRow, StopsAt};
 
 use crate::answer::Answer;
 use events::{Event, Reply};
@@ -14,6 +15,7 @@ use lines::{Reading, Told, answer_text, read_line, told_in};
 use model::Refusal;
 use std::alloc::Global;
 use std::marker::Model;
+use trust::User;
 
 /// Which lines a session knows.
 #[derive(Clone, Copy, Debug, PartialEq, Eq)]
@@ -23,11 +25,20 @@ pub enum Mode {
 }
 
 /// What is kept of the lines so far.
-#[derive(Drop)]
 pub struct Session {
     begun: bool,
     refused: bool,
     told: Vec<Told>,
+}
+
+impl Drop for Session {
+    fn drop(self) {
+        let Session {
+            begun: _,
+            refused: _,
+            told: _,
+        } = self;
+    }
 }
 
 impl Model for Session {
@@ -79,30 +90,62 @@ impl Session {
         ensures err { OnErr result
             (StopsAt (IsRowOf reading) A.answers answer.old answer.new) }
     {
-        let number = self.told.len() + 1;
         match reading {
-            Reading::Silent => {
-                self.told.push(Told::nothing())?;
-                Ok(Vec::new(alloc))
-            }
-            Reading::Names(_users) => {
-                self.told.push(Told::nothing())?;
-                self.begun = true;
-                let text = answer_text(alloc, number, b"-", &Reply::Done)?;
-                Ok(text)
-            }
-            Reading::Refuses(why) => {
-                self.told.push(Told::nothing())?;
-                self.refused = is_bad_users(why) | self.refused;
-                let text = answer_text(alloc, number, b"-", &Reply::Refused(why))?;
-                Ok(text)
-            }
-            Reading::Asks(event) => {
-                let (told, text) = ask(alloc, number, event, answer)?;
-                self.told.push(told)?;
-                Ok(text)
-            }
+            Reading::Silent => self.pass_over(alloc),
+            Reading::Names(_users) => self.begin(alloc),
+            Reading::Refuses(why) => self.refuse(alloc, why),
+            Reading::Asks(event) => self.ask(alloc, event, answer),
         }
+    }
+
+    /// Answers a line for which nothing is printed.
+    fn pass_over(&mut self, alloc: Global) -> Result<Vec<u8>, Refusal>
+        ensures ok { IfOk result (λ text. GivesRow Silent self.old self.new text.items) }
+        ensures memory { IfErr result (λ why. why ≡ Memory) }
+    {
+        self.told.push(Told::nothing())?;
+        Ok(Vec::new(alloc))
+    }
+
+    /// Answers the line that names the users, whoever they are.
+    fn begin(&mut self, alloc: Global) -> Result<Vec<u8>, Refusal>
+        ensures ok { IfOk result (λ text. (users : List (List ℕ))
+            → GivesRow (Names users) self.old self.new text.items) }
+        ensures memory { IfErr result (λ why. why ≡ Memory) }
+    {
+        let number = self.told.len() + 1;
+        self.told.push(Told::nothing())?;
+        self.begun = true;
+        answer_text(alloc, number, b"-", &Reply::Done)
+    }
+
+    /// Answers a line that is refused.
+    fn refuse(&mut self, alloc: Global, why: Refusal) -> Result<Vec<u8>, Refusal>
+        ensures ok { IfOk result (λ text. GivesRow (Refuses why) self.old self.new text.items) }
+        ensures memory { IfErr result (λ why. why ≡ Memory) }
+    {
+        let number = self.told.len() + 1;
+        self.told.push(Told::nothing())?;
+        self.refused = is_bad_users(why) | self.refused;
+        answer_text(alloc, number, b"-", &Reply::Refused(why))
+    }
+
+    /// Answers a line that makes this event.
+    fn ask<A: Answer>(
+        &mut self,
+        alloc: Global,
+        event: Event,
+        answer: &mut A,
+    ) -> Result<Vec<u8>, Refusal>
+        ensures ok { IfOk result (λ text. Gives (IsRowOf (readings.Asks event))
+            A.answers self.old self.new answer.old answer.new text.items) }
+        ensures memory { IfErr result (λ why. why ≡ Memory) }
+        ensures err { OnErr result
+            (StopsAt (IsRowOf (readings.Asks event)) A.answers answer.old answer.new) }
+    {
+        let (told, text) = ask(alloc, self.told.len() + 1, event, answer)?;
+        self.told.push(told)?;
+        Ok(text)
     }
 
     /// Answers the next line, which is given without its newline, and gives what is printed for it:
@@ -135,6 +178,40 @@ fn is_bad_users(why: Refusal) -> bool
     matches!(why, Refusal::BadUsers)
 }
 
+/// What a reply tells, and what is printed for it.
+fn told_and_text(
+    alloc: Global,
+    number: usize,
+    actor: &User,
+    reply: Reply,
+) -> Result<(Told, Vec<u8>), Refusal>
+    ensures ok { IfOk result (λ r. (r.0 ≡ told_in (reply_of reply))
+        × (r.1.items ≡ answer_text number actor.now (reply_of reply))) }
+    ensures memory { IfErr result (λ why. why ≡ Memory) }
+{
+    let text = answer_text(alloc, number, actor.bytes(), &reply)?;
+    Ok((told_in(reply), text))
+}
+
+/// Hands an actor's event on. Gives what its reply tells, and what is printed for it.
+fn ask_by<A: Answer>(
+    alloc: Global,
+    number: usize,
+    actor: &User,
+    event: Event,
+    answer: &mut A,
+) -> Result<(Told, Vec<u8>), Refusal>
+    ensures ok { IfOk result (λ r. (reply : events.Reply) × (r.0 ≡ told_in reply)
+        × (r.1.items ≡ answer_text number actor.now reply)
+        × A.answers answer.old (event_of event) reply answer.new) }
+    ensures memory { IfErr result (λ why. why ≡ Memory) }
+    ensures asked { (reply : events.Reply)
+        × A.answers answer.old (event_of event) reply answer.new }
+{
+    let reply = answer.call(alloc, event);
+    told_and_text(alloc, number, actor, reply)
+}
+
 /// Hands an event on. Gives what its reply tells, and what is printed for it.
 fn ask<A: Answer>(
     alloc: Global,
@@ -150,7 +227,5 @@ fn ask<A: Answer>(
         ⊎ ((reply : events.Reply) × A.answers answer.old (event_of event) reply answer.new)) }
 {
     let actor = event.actor.clone()?;
-    let reply = answer.call(alloc, event);
-    let text = answer_text(alloc, number, actor.bytes(), &reply)?;
-    Ok((told_in(reply), text))
+    ask_by(alloc, number, &actor, event, answer)
 }

@@ -1,7 +1,7 @@
 use Rattle.std.proofs.Common.{List, ℕ}
 use Rattle.std.specs.Io.KnownBytes.{Consumes}
 use Rattle.session.specs.Serving.{Progress}
-use Rattle.session.proofs.serving.serve.Given as goal
+use Rattle.session.proofs.serving.serve_by.Given as goal
 
 -- what was read so far, and how far the session has come with it
 abbrev pub invariant-loop : goal.invariant-loop

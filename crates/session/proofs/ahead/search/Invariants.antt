@@ -1,6 +1,6 @@
 use Rattle.std.specs.Io.KnownBytes.{Consumes}
 use Rattle.session.specs.Ahead.{Searched}
-use Rattle.session.proofs.ahead.read_ahead.Given as goal
+use Rattle.session.proofs.ahead.search.Given as goal
 
 -- what was read is kept, and its lines that have ended name no users
 abbrev pub invariant-loop : goal.invariant-loop

@@ -1,14 +1,32 @@
-use Rattle.std.proofs.Common.{sym, subst, refl, List, ℕ, ◌++◌}
+use Rattle.std.proofs.Common.{sym, subst, refl, List, [], ℕ, ◌++◌}
 use Rattle.std.proofs.lemmas.List.{append-nil}
 use Rattle.std.specs.Io.KnownBytes.{Consumes}
 use Rattle.session.specs.Ahead.{Searched}
 use Rattle.session.proofs.RowLemmas.{consumes-none, consumes-more, consumes-end, on_err}
 use Rattle.session.proofs.AheadLemmas.{searched-none}
-use Rattle.session.proofs.ahead.read_ahead.Goals as goal
-use Rattle.session.proofs.ahead.read_ahead.Goals.{in-Users, in-Refused}
+use Rattle.session.proofs.ahead.search.Goals as goal
+use Rattle.session.proofs.ahead.search.Goals.{in-Users, in-Refused}
 
 pub loop-init : goal.loop-init
-loop-init g c = rw (c.new-bytes.ensures.items, c.new-held.ensures.items, c.new-session.ensures) (consumes-none _, searched-none)
+loop-init g c = rw (c.requires.2, c.requires.1, c.requires.0) (consumes-none _, searched-none)
+
+pub loop-preserved-in-Ok-None : goal.loop-preserved-in-Ok-None
+loop-preserved-in-Ok-None g c =
+    let i = c.loop.invariant in
+    let s = rw c.in-Ok-None.field-0-is at c.in-Ok-None.ensures.ok in
+    (consumes-end _ _ _ c.loop.bytes.items [] 0 refl i.0 s, i.1)
+
+-- ---- what was read
+
+pub returns-in-Err-clause-read : goal.returns-in-Err-clause-read
+returns-in-Err-clause-read g c = consumes-end _ _ _ c.loop.bytes.items [] 0 refl c.loop.invariant.0 c.in-Err.ensures.err
+
+pub returns-then-n-eq0-clause-read : goal.returns-then-n-eq0-clause-read
+returns-then-n-eq0-clause-read g c =
+    let s = rw c.in-Ok-Some.field-0-is at c.in-Ok-Some.ensures.ok in
+    consumes-end _ _ _ c.loop.bytes.items _ c.in-Ok-Some.n c.if-n-eq0.true c.loop.invariant.0 s.1
+
+-- ---- the users
 
 pub returns-then-n-eq0-clause-users : goal.returns-then-n-eq0-clause-users
 returns-then-n-eq0-clause-users g c = λ f more e.

@@ -1,14 +1,13 @@
 use Rattle.std.proofs.Common.{refl, [], ◌++◌}
 use Rattle.session.proofs.RowLemmas.{err-is, consumes-none, consumes-more, consumes-end}
-use Rattle.session.proofs.ProgressLemmas.{progress-none, early-here, early-weakened, early-finished, finished-flushed, by_memory, by_input, by_output}
-use Rattle.model.specs.Lines.{lines_of}
-use Rattle.session.proofs.serving.serve.Goals as goal
+use Rattle.session.proofs.ProgressLemmas.{progress-none, early-here, early-weakened, by_memory, by_input}
+use Rattle.session.proofs.serving.serve_by.Goals as goal
 
 pub loop-init : goal.loop-init
 loop-init g c = (
   [],
   consumes-none _,
-  rw (c.new-held.ensures.items, c.new-session.ensures)
+  rw (c.requires.1, c.requires.0)
       (progress-none g.A.Answer.answers c.args.answer.now (g.W.Write.contents c.args.writer.now)),
 )
 
@@ -23,28 +22,15 @@ returns-in_err-n-clause-err g c =
           (by_input _ c.in_err-n.ensures.fault.0) i.2),
     )
 
-pub returns-in_err-finish-clause-err : goal.returns-in_err-finish-clause-err
-returns-in_err-finish-clause-err g c =
+pub returns-in_err-close-clause-err : goal.returns-in_err-close-clause-err
+returns-in_err-close-clause-err g c =
     let i = c.loop.invariant in
     let s = rw c.in-Some.is at c.in_ok-n.ensures.ok in
-    err-is _ _ _ c.from_residual-in_err-finish.ensures.1 (
+    err-is _ _ _ c.from_residual-in_err-close.ensures.1 (
       i.0,
       consumes-end _ _ _ i.0 _ c.in-Some.n c.if-n-eq0.true i.1 s.1,
       early-weakened _ _ _ _ _ _ _ _ _ (λ t. s.2 c.if-n-eq0.true)
-          (c.in_err-finish.ensures.err c.args.answer.now (g.W.Write.contents c.args.writer.now) i.0 i.2),
-    )
-
-pub returns-in_err-flush-clause-err : goal.returns-in_err-flush-clause-err
-returns-in_err-flush-clause-err g c =
-    let i = c.loop.invariant in
-    let s = rw c.in-Some.is at c.in_ok-n.ensures.ok in
-    err-is _ _ _ c.from_residual-in_err-flush.ensures.1 (
-      i.0,
-      consumes-end _ _ _ i.0 _ c.in-Some.n c.if-n-eq0.true i.1 s.1,
-      early-finished g.A.Answer.answers c.args.answer.now c.finish.new.answer (g.W.Write.contents c.args.writer.now)
-          (g.W.Write.contents c.finish.new.writer) (g.W.Write.contents c.flush.new.writer) i.0 _ c.in_err-flush.field-0.0 (s.2 c.if-n-eq0.true)
-          (by_output _ c.in_err-flush.ensures.errors)
-          (c.in_ok-finish.ensures.ok c.args.answer.now (g.W.Write.contents c.args.writer.now) i.0 i.2) c.in_err-flush.ensures.kept,
+          (c.in_err-close.ensures.err c.args.answer.now (g.W.Write.contents c.args.writer.now) i.0 i.2),
     )
 
 pub returns-then-n-eq0-clause-ok : goal.returns-then-n-eq0-clause-ok
@@ -54,9 +40,7 @@ returns-then-n-eq0-clause-ok g c =
       i.0,
       consumes-end _ _ _ i.0 _ c.in-Some.n c.if-n-eq0.true i.1 s.1,
       s.2 c.if-n-eq0.true,
-      finished-flushed g.A.Answer.answers c.args.answer.now c.finish.new.answer (g.W.Write.contents c.args.writer.now)
-          (g.W.Write.contents c.finish.new.writer) (g.W.Write.contents c.flush.new.writer) (lines_of i.0)
-          (c.in_ok-finish.ensures.ok c.args.answer.now (g.W.Write.contents c.args.writer.now) i.0 i.2) c.in_ok-flush.ensures.kept,
+      c.in_ok-close.ensures.ok c.args.answer.now (g.W.Write.contents c.args.writer.now) i.0 i.2,
     )
 
 pub returns-in_err-feed-clause-err : goal.returns-in_err-feed-clause-err
@@ -70,6 +54,12 @@ returns-in_err-feed-clause-err g c =
       early-weakened _ _ _ _ _ _ _ _ _ (λ b. absurd b)
           (c.in_err-feed.ensures.err c.args.answer.now (g.W.Write.contents c.args.writer.now) i.0 i.2),
     )
+
+pub loop-preserved-in_default : goal.loop-preserved-in_default
+loop-preserved-in_default g c =
+    let i = c.loop.invariant in
+    let s = rw c.in_default.is at c.in_ok-n.ensures.ok in
+    (i.0, consumes-end _ _ _ i.0 [] 0 refl i.1 s, i.2)
 
 pub loop-preserved : goal.loop-preserved
 loop-preserved g c =
