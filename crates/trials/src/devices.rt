@@ -1,7 +1,7 @@
 //! A reader and a writer whose calls are counted, and of which one call may fail.
 
 use crate::calls::number;
-use crate::fault::Fault;
+use model::Refusal;
 use session::Faults;
 use std::alloc::Global;
 use std::io;
@@ -17,7 +17,7 @@ pub(crate) struct Calls {
 }
 
 /// `STEP PART FAILS`, and what follows the blank behind them.
-pub(crate) fn calls_of(text: &str) -> Result<(Calls, &str), Fault> {
+pub(crate) fn calls_of(text: &str) -> Result<(Calls, &str), Refusal> {
     let (step, rest) = number(text)?;
     let (part, rest) = number(rest)?;
     let (fails, rest) = number(rest)?;

@@ -1,11 +1,11 @@
 //! Threads that share a front, and a front that is closed at once.
 
-ghost use Rattle.std.specs.Prelude.{◌≡◌};
+ghost use Rattle.std.specs.Prelude.{◌≡◌, ◌+◌, length, OnOk};
 ghost use Rattle.book.specs.Keeping.{IsNew};
 
-use crate::fault::Fault;
+use crate::answer::Answer;
 use crate::stores::{adding, fetching, new_core};
-use book::{Blank, Front, Naming, Pass};
+use book::{Blank, Front, Naming, Pass, Row};
 use model::Refusal;
 use schedule::{Core, Event};
 use std::alloc::Global;
@@ -34,6 +34,24 @@ fn call_of(alloc: Global, user: &[u8], number: u32) -> Result<Event, Refusal> {
     }
 }
 
+/// Makes the call of a number.
+fn call_once<J: Naming, R: Wait>(
+    rt: &R,
+    alloc: Global,
+    front: &Front<J>,
+    pass: &mut Pass<J>,
+    number: u32,
+) -> Result<(), Refusal> {
+    let user = if pass.number() == 0 {
+        b"alice".as_slice()
+    } else {
+        b"bob".as_slice()
+    };
+    let event = call_of(alloc, user, number)?;
+    let _reply = front.call(rt, alloc, pass, event);
+    Ok(())
+}
+
 /// Makes a hundred calls, each second of them to fetch.
 fn hundred<J: Naming, R: Wait>(caller: Caller<J, R>) -> Called<J> {
     let Caller {
@@ -42,14 +60,8 @@ fn hundred<J: Naming, R: Wait>(caller: Caller<J, R>) -> Called<J> {
         front,
         mut pass,
     } = caller;
-    let user = if pass.number() == 0 {
-        b"alice".as_slice()
-    } else {
-        b"bob".as_slice()
-    };
-    for i in 0..100 {
-        let event = call_of(alloc, user, i)?;
-        let _reply = front.call(rt, alloc, &mut pass, event);
+    for number in 0..100 {
+        call_once(rt, alloc, front, &mut pass, number)?;
     }
     Ok(pass)
 }
@@ -63,39 +75,65 @@ fn at_once<J: Naming + Send + Sync, R: Threads + Wait + Sync>(
     join(rt, || hundred(first), || hundred(second))
 }
 
+/// Lets both passes make a hundred calls each, by two threads.
+fn call_by_both<J: Naming + Send + Sync, R: Threads + Wait + Sync>(
+    rt: &R,
+    alloc: Global,
+    front: &Front<J>,
+    passes: &mut Vec<Pass<J>>,
+) -> Result<(), Refusal>
+    requires both { length passes.old.items ≡ 2 }
+    ensures both { OnOk result (length passes.new.items ≡ 2) }
+{
+    let second = passes.pop().unwrap();
+    let first = passes.pop().unwrap();
+    let first = Caller {
+        rt,
+        alloc,
+        front,
+        pass: first,
+    };
+    let second = Caller {
+        rt,
+        alloc,
+        front,
+        pass: second,
+    };
+    let (first, second) = at_once(rt, first, second);
+    put_back(passes, first)?;
+    put_back(passes, second)
+}
+
+/// Adds a pass whose calls were made.
+fn put_back<J: Naming>(passes: &mut Vec<Pass<J>>, called: Called<J>) -> Result<(), Refusal>
+    ensures more { OnOk result (length passes.new.items ≡ length passes.old.items + 1) }
+{
+    passes.push(called?)?;
+    Ok(())
+}
+
+/// How many rows there are, and how many of them are of the second pass.
+fn counted(rows: &[Row]) -> (usize, usize) {
+    let ones = rows.iter().filter(|row| row.pass == 1).count();
+    (rows.len(), ones)
+}
+
 /// How many rows the history of two such threads has, and how many of them are of the second pass.
 fn rows_of_two<J: Naming + Send + Sync, R: Threads + Wait + Sync>(
     rt: &R,
     alloc: Global,
     blank: Blank,
     core: Core,
-) -> Result<(usize, usize), Fault>
+) -> Result<(usize, usize), Refusal>
     requires blank { (blank.calls.name ≡ J.name) × (blank.calls.parts ≡ J.parts) }
     requires parts { blank.calls.parts ≡ 2 }
     requires log { blank.log.table.shared.table_id ≡ J.table }
     requires core { IsNew J.setup core }
 {
     let (front, mut passes) = Front::<J>::new(alloc, blank, core, 2)?;
-    let second = passes.pop().ok_or(Fault::NotUnderstood)?;
-    let first = passes.pop().ok_or(Fault::NotUnderstood)?;
-    let first = Caller {
-        rt,
-        alloc,
-        front: &front,
-        pass: first,
-    };
-    let second = Caller {
-        rt,
-        alloc,
-        front: &front,
-        pass: second,
-    };
-    let (first, second) = at_once(rt, first, second);
-    passes.push(first?)?;
-    passes.push(second?)?;
+    call_by_both(rt, alloc, &front, &mut passes)?;
     let history = front.close(passes);
-    let ones = history.rows.iter().filter(|row| row.pass == 1).count();
-    Ok((history.rows.len(), ones))
+    Ok(counted(&history.rows))
 }
 
 /// Two threads make a hundred calls each: how many rows there are, and how many of the second pass.
@@ -103,10 +141,15 @@ pub(crate) fn threads<R: Threads + Wait + Sync>(
     rt: &R,
     alloc: Global,
     hashing: RandomState,
-) -> Result<String, Fault> {
-    let core = new_core(alloc, hashing)?;
-    let (all, ones) = rows_of_two::<Brand, _>(rt, alloc, Blank::new(alloc, 2)?, core)?;
-    Ok(format!(in alloc; "{all} rows, {ones} of the second pass")?)
+    out: &mut Answer,
+) -> Result<(), Refusal> {
+    let blank = Blank::new(alloc, 2)?;
+    let (all, ones) = rows_of_two::<Brand, _>(rt, alloc, blank, new_core(alloc, hashing)?)?;
+    out.add(&all);
+    out.add_text(" rows, ");
+    out.add(&ones);
+    out.add_text(" of the second pass");
+    Ok(())
 }
 
 /// Whether passes have the numbers from 0 on.
@@ -126,7 +169,7 @@ fn closed_at_once<J: Naming>(
     alloc: Global,
     blank: Blank,
     core: Core,
-) -> Result<(bool, usize), Fault>
+) -> Result<(bool, usize), Refusal>
     requires blank { (blank.calls.name ≡ J.name) × (blank.calls.parts ≡ J.parts) }
     requires parts { blank.calls.parts ≡ 3 }
     requires log { blank.log.table.shared.table_id ≡ J.table }
@@ -138,9 +181,13 @@ fn closed_at_once<J: Naming>(
 }
 
 /// Three passes that make no call: whether their numbers are 0, 1 and 2, and how many rows there are.
-pub(crate) fn passes(alloc: Global, hashing: RandomState) -> Result<String, Fault> {
-    let core = new_core(alloc, hashing)?;
-    let (in_order, rows) = closed_at_once::<Brand>(alloc, Blank::new(alloc, 3)?, core)?;
+pub(crate) fn passes(alloc: Global, hashing: RandomState, out: &mut Answer) -> Result<(), Refusal> {
+    let blank = Blank::new(alloc, 3)?;
+    let (in_order, rows) = closed_at_once::<Brand>(alloc, blank, new_core(alloc, hashing)?)?;
     let order = if in_order { "in order" } else { "out of order" };
-    Ok(format!(in alloc; "{order}, {rows} rows")?)
+    out.add_text(order);
+    out.add_text(", ");
+    out.add(&rows);
+    out.add_text(" rows");
+    Ok(())
 }

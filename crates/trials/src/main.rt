@@ -5,24 +5,41 @@
 //! `tests/trials` computes it.
 #![tactic(auto)]
 
+mod answer;
 mod calls;
 mod devices;
-mod fault;
 mod fronts;
 mod sessions;
 mod stores;
 
-use crate::calls::answer_of_line;
-use anyhow::Context;
+use crate::answer::Answer;
+use crate::calls::answer_line;
+use anyhow::bail;
+use std::alloc::Global;
 use std::hash::RandomState;
+use std::sync::Wait;
+use std::thread::Threads;
 
 fn main(rt: HostRuntime) -> anyhow::Result<()> {
     let alloc = rt.alloc();
     let hashing = RandomState::new(&rt)?;
     for line in rt.lines(alloc) {
-        let line = line?;
-        let answer = answer_of_line(&rt, alloc, hashing, line.as_str()).context(line.as_str())?;
-        println!(rt; "{answer}")?;
+        print_answer(&rt, alloc, hashing, line?.as_str())?;
     }
+    Ok(())
+}
+
+/// Prints what a line gives.
+fn print_answer<R: Print + Threads + Wait + Sync>(
+    rt: &R,
+    alloc: Global,
+    hashing: RandomState,
+    line: &str,
+) -> anyhow::Result<()> {
+    let mut answer = Answer::new(alloc);
+    if let Err(refusal) = answer_line(rt, alloc, hashing, line, &mut answer) {
+        bail!("{line}: {refusal}");
+    }
+    println!(rt; "{}", answer.text())?;
     Ok(())
 }

@@ -1,14 +1,12 @@
 //! Sessions in pieces, over a reader and a writer that may fail.
 
-use crate::calls::{on_one_line, with_newlines};
-use crate::devices::{Sink, Source, calls_of};
-use crate::fault::Fault;
+use crate::answer::Answer;
+use crate::calls::with_newlines;
+use crate::devices::{Calls, Sink, Source, calls_of};
 use crate::stores::{new_core, store_of};
 use model::Refusal;
 use schedule::{Core, Event, Reply, User};
-use session::{
-    Ahead, Answer, Mode, NoUsers, Prefixed, Session, read_ahead, serve, serve_whole_lines,
-};
+use session::{Ahead, Mode, NoUsers, Prefixed, Session, read_ahead, serve, serve_whole_lines};
 use std::alloc::Global;
 use std::hash::RandomState;
 
@@ -18,7 +16,7 @@ struct Store {
     core: Core,
 }
 
-impl Answer for Store {
+impl session::Answer for Store {
     ghost answers = { λ old event reply new. Unit {0} };
 
     fn call(&mut self, alloc: Global, event: Event) -> Reply {
@@ -26,91 +24,140 @@ impl Answer for Store {
     }
 }
 
-/// `ok`, or the refusal.
-fn word_of(alloc: Global, ended: Result<(), Refusal>) -> Result<String, Fault> {
-    match ended {
-        Ok(()) => Ok("ok".to_owned(alloc)?),
-        Err(refusal) => Ok(refusal.to_string(alloc)?),
-    }
+/// A store of alice and bob.
+fn new_store(alloc: Global, hashing: RandomState) -> Result<Store, Refusal> {
+    Ok(Store {
+        core: new_core(alloc, hashing)?,
+    })
 }
 
-/// How a session ended, how often it read, wrote and flushed, how many bytes were flushed, and all that
-/// was written.
-fn told(
+/// Adds how often a session read, wrote and flushed, how many bytes were flushed, and all that was written.
+fn tell_devices(source: &Source, sink: &Sink, out: &mut Answer) {
+    out.add_text(", ");
+    out.add(&source.count.made);
+    out.add_text(" reads, ");
+    out.add(&sink.count.made);
+    out.add_text(" writes, ");
+    out.add(&sink.flushes);
+    out.add_text(" flushes, ");
+    out.add(&sink.shown);
+    out.add_text(" bytes: ");
+    out.add_bytes(&sink.bytes);
+}
+
+/// `CALLS CALLS INPUT`: serves the input to alice and bob, by a reader and a writer of these calls. Prints
+/// how that ended, and what was read and written.
+pub(crate) fn talk(
     alloc: Global,
-    ended: Result<(), Refusal>,
-    reads: usize,
-    sink: Sink,
-) -> Result<String, Fault> {
-    let Sink {
-        bytes,
-        shown,
-        flushes,
-        count,
-    } = sink;
-    let word = word_of(alloc, ended)?;
-    let text = on_one_line(bytes)?;
-    let writes = count.made;
-    Ok(format!(in alloc;
-        "{word}, {reads} reads, {writes} writes, {flushes} flushes, {shown} bytes: {text}"
-    )?)
-}
-
-/// `CALLS CALLS INPUT`: serves the input to alice and bob, by a reader and a writer of these calls.
-pub(crate) fn talk(alloc: Global, hashing: RandomState, argument: &str) -> Result<String, Fault> {
+    hashing: RandomState,
+    argument: &str,
+    out: &mut Answer,
+) -> Result<(), Refusal> {
     let (reads, rest) = calls_of(argument)?;
     let (writes, rest) = calls_of(rest)?;
     let mut source = Source::new(with_newlines(alloc, rest)?, reads);
+    let mut store = new_store(alloc, hashing)?;
+    tell_talk(alloc, &mut source, writes, &mut store, out);
+    Ok(())
+}
+
+/// Serves the input of a reader by a writer of these calls.
+fn tell_talk(
+    alloc: Global,
+    source: &mut Source,
+    writes: Calls,
+    store: &mut Store,
+    out: &mut Answer,
+) {
     let mut sink = Sink::new(alloc, writes);
-    let core = new_core(alloc, hashing)?;
-    let mut store = Store { core };
-    let ended = serve(alloc, Mode::Service, &mut source, &mut sink, &mut store);
-    told(alloc, ended, source.count.made, sink)
+    out.add_end(serve(alloc, Mode::Service, source, &mut sink, store));
+    tell_devices(source, &sink, out);
 }
 
 /// `INPUT`: answers the input to alice and bob a line at a time.
-pub(crate) fn lines(alloc: Global, hashing: RandomState, argument: &str) -> Result<String, Fault> {
-    let core = new_core(alloc, hashing)?;
-    let mut store = Store { core };
-    let mut session = Session::new(alloc, Mode::Service);
-    let mut text = Vec::new(alloc);
-    for line in argument.split(';') {
-        let answer = session.line(alloc, line.as_bytes(), &mut store)?;
-        text.extend_from_slice(&answer)?;
-    }
-    on_one_line(text)
+pub(crate) fn lines(
+    alloc: Global,
+    hashing: RandomState,
+    argument: &str,
+    out: &mut Answer,
+) -> Result<(), Refusal> {
+    let mut store = new_store(alloc, hashing)?;
+    tell_lines(alloc, argument, &mut store, out)
 }
 
-/// What the lines get that were read ahead of a reader, and the rest of it, in a store for these users.
-fn answered_by_store(
+/// Adds what lines get in a session.
+fn tell_lines(
+    alloc: Global,
+    lines: &str,
+    store: &mut Store,
+    out: &mut Answer,
+) -> Result<(), Refusal> {
+    let mut session = Session::new(alloc, Mode::Service);
+    for line in lines.split(';') {
+        tell_line(alloc, line, &mut session, store, out)?;
+    }
+    Ok(())
+}
+
+/// Adds what a line gets.
+fn tell_line(
+    alloc: Global,
+    line: &str,
+    session: &mut Session,
+    store: &mut Store,
+    out: &mut Answer,
+) -> Result<(), Refusal> {
+    out.add_bytes(&session.line(alloc, line.as_bytes(), store)?);
+    Ok(())
+}
+
+/// Adds what the lines get that were read ahead of a reader, and the rest of it, in a store for these
+/// users.
+fn answer_by_store(
     alloc: Global,
     hashing: RandomState,
     users: Vec<User>,
     bytes: Vec<u8>,
     source: Source,
-) -> Result<Vec<u8>, Fault> {
-    let core = store_of(alloc, hashing, users)?;
-    let mut store = Store { core };
+    out: &mut Answer,
+) -> Result<(), Refusal> {
     let mut reader = Prefixed::new(bytes, source);
-    let mut text = Vec::new(alloc);
-    serve(alloc, Mode::Service, &mut reader, &mut text, &mut store)?;
-    Ok(text)
+    let mut store = Store {
+        core: store_of(alloc, hashing, users)?,
+    };
+    tell_session(alloc, &mut reader, &mut store, out)
 }
 
-/// What the whole lines get of which more was to come, with nobody to answer.
-fn answered_by_nobody(alloc: Global, bytes: &[u8]) -> Result<Vec<u8>, Fault> {
+/// Adds what the lines of a reader get in a store.
+fn tell_session(
+    alloc: Global,
+    reader: &mut Prefixed<Source>,
+    store: &mut Store,
+    out: &mut Answer,
+) -> Result<(), Refusal> {
+    let mut text = Vec::new(alloc);
+    serve(alloc, Mode::Service, reader, &mut text, store)?;
+    out.add_bytes(&text);
+    Ok(())
+}
+
+/// Adds what the whole lines get of which more was to come, with nobody to answer.
+fn answer_by_nobody(alloc: Global, bytes: &[u8], out: &mut Answer) -> Result<(), Refusal> {
     let mut text = Vec::new(alloc);
     serve_whole_lines(alloc, Mode::Service, bytes, &mut text, &mut NoUsers)?;
-    Ok(text)
+    out.add_bytes(&text);
+    Ok(())
 }
 
-/// What the lines get that were read ahead: nothing where no users are named and the reader did not fail.
-fn answered(
+/// Adds what the lines get that were read ahead: nothing where no users are named and the reader did
+/// not fail.
+fn answer_ahead(
     alloc: Global,
     hashing: RandomState,
     ahead: Ahead,
     source: Source,
-) -> Result<Vec<u8>, Fault> {
+    out: &mut Answer,
+) -> Result<(), Refusal> {
     let Ahead {
         bytes,
         users,
@@ -118,16 +165,16 @@ fn answered(
         ..
     } = ahead;
     if let Some(users) = users {
-        return answered_by_store(alloc, hashing, users, bytes, source);
+        return answer_by_store(alloc, hashing, users, bytes, source, out);
     }
     if has_failed {
-        return answered_by_nobody(alloc, &bytes);
+        return answer_by_nobody(alloc, &bytes, out);
     }
-    Ok(Vec::new(alloc))
+    Ok(())
 }
 
-/// Whether there are users, whether the reader ended or failed, and what was read ahead.
-fn found(alloc: Global, ahead: &Ahead) -> Result<String, Fault> {
+/// Adds whether there are users, whether the reader ended or failed, and what was read ahead.
+fn tell_ahead(ahead: &Ahead, out: &mut Answer) {
     let names = if ahead.users.is_some() {
         "users"
     } else {
@@ -138,17 +185,25 @@ fn found(alloc: Global, ahead: &Ahead) -> Result<String, Fault> {
         (false, true) => "failed",
         (false, false) => "more",
     };
-    let read = on_one_line(Vec::from_slice(alloc, &ahead.bytes)?)?;
-    Ok(format!(in alloc; "{names}, {end}: {read}")?)
+    out.add_text(names);
+    out.add_text(", ");
+    out.add_text(end);
+    out.add_text(": ");
+    out.add_bytes(&ahead.bytes);
 }
 
 /// `CALLS INPUT`: reads ahead to the users, and then answers what was read and the rest. Prints what was
 /// found, and the answers.
-pub(crate) fn ahead(alloc: Global, hashing: RandomState, argument: &str) -> Result<String, Fault> {
+pub(crate) fn ahead(
+    alloc: Global,
+    hashing: RandomState,
+    argument: &str,
+    out: &mut Answer,
+) -> Result<(), Refusal> {
     let (reads, rest) = calls_of(argument)?;
     let mut source = Source::new(with_newlines(alloc, rest)?, reads);
     let ahead = read_ahead(alloc, Mode::Service, &mut source)?;
-    let found = found(alloc, &ahead)?;
-    let text = on_one_line(answered(alloc, hashing, ahead, source)?)?;
-    Ok(format!(in alloc; "{found} gets {text}")?)
+    tell_ahead(&ahead, out);
+    out.add_text(" gets ");
+    answer_ahead(alloc, hashing, ahead, source, out)
 }

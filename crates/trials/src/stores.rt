@@ -4,13 +4,12 @@ ghost use Rattle.std.specs.Prelude.{◌≡◌, [], IfOk};
 ghost use Rattle.model.specs.Worlds.{nothing};
 ghost use Rattle.schedule.specs.Standing.{world_of, stored_in};
 
-use crate::fault::Fault;
+use crate::answer::Answer;
 use model::Refusal;
 use nar::{Tree, tree_text};
 use schedule::{Core, Event, LARGEST_CHARGE, Limits, Reply, Request, User};
 use std::alloc::Global;
 use std::hash::RandomState;
-use std::str;
 use storepath::{Name, read_path};
 
 /// The path of an empty file named `a`.
@@ -46,76 +45,87 @@ pub(crate) fn store_of(
     Core::new(alloc, hashing, users, limits)
 }
 
-/// Alice and bob.
-fn alice_and_bob(alloc: Global) -> Result<Vec<User>, Refusal> {
+/// Users of these names, each as a copy.
+fn users_of(alloc: Global, names: &str) -> Result<Vec<User>, Refusal> {
     let mut users = Vec::new(alloc);
-    users.push(User::new(alloc, b"alice")?)?;
-    users.push(User::new(alloc, b"bob")?)?;
+    for name in names.split_whitespace() {
+        users.push(copied_user(alloc, name)?)?;
+    }
     Ok(users)
+}
+
+/// A copy of a user of this name.
+fn copied_user(alloc: Global, name: &str) -> Result<User, Refusal> {
+    Ok(User::new(alloc, name.as_bytes())?.clone()?)
 }
 
 /// A store of alice and bob.
 pub(crate) fn new_core(alloc: Global, hashing: RandomState) -> Result<Core, Refusal>
     ensures { IfOk result (λ core. (world_of core ≡ nothing) × (stored_in core ≡ [])) }
 {
-    store_of(alloc, hashing, alice_and_bob(alloc)?)
-}
-
-/// Users of these names, each as a copy.
-fn users_of(alloc: Global, names: &str) -> Result<Vec<User>, Fault> {
-    let mut users = Vec::new(alloc);
-    for name in names.split_whitespace() {
-        let user = User::new(alloc, name.as_bytes())?;
-        users.push(user.clone()?)?;
-    }
-    Ok(users)
+    store_of(alloc, hashing, users_of(alloc, "alice bob")?)
 }
 
 /// `NAME..`: how many of the names are well-formed, and whether there is a store of such users.
-pub(crate) fn users(alloc: Global, hashing: RandomState, names: &str) -> Result<String, Fault> {
+pub(crate) fn users(
+    alloc: Global,
+    hashing: RandomState,
+    names: &str,
+    out: &mut Answer,
+) -> Result<(), Refusal> {
     let users = users_of(alloc, names)?;
     let well_formed = users.iter().filter(|user| user.is_well_formed()).count();
+    out.add(&well_formed);
+    out.add_text(" well-formed: ");
     match store_of(alloc, hashing, users) {
-        Ok(_) => Ok(format!(in alloc; "{well_formed} well-formed: a store")?),
-        Err(refusal) => Ok(format!(in alloc; "{well_formed} well-formed: {refusal}")?),
+        Ok(_) => out.add_text("a store"),
+        Err(refusal) => out.add(&refusal),
     }
+    Ok(())
 }
 
-/// What a reply says, in the words of its line.
-fn said(alloc: Global, reply: &Reply) -> Result<String, Fault> {
+/// Adds what a reply says, in the words of its line.
+fn tell(alloc: Global, reply: &Reply, out: &mut Answer) -> Result<(), Refusal> {
     match reply {
-        Reply::Path(path) => Ok(path.to_string(alloc)?),
-        Reply::Content(tree) => Ok(String::from_utf8(tree_text(alloc, tree)?)?),
-        Reply::Refused(refusal) => Ok(refusal.to_string(alloc)?),
-        _ => Err(Fault::NotUnderstood),
+        Reply::Path(path) => out.add(path),
+        Reply::Content(tree) => out.add_bytes(&tree_text(alloc, tree)?),
+        Reply::Refused(refusal) => out.add(refusal),
+        _ => return Err(Refusal::BadLine),
     }
+    Ok(())
 }
 
-/// What is said to the answers of a run, each behind the name of its user.
-fn said_to(alloc: Global, answers: &[(User, Reply)]) -> Result<String, Fault> {
-    let mut text = String::new(alloc);
+/// Adds what is said to the answers of a run, each behind the name of its user.
+fn tell_all(alloc: Global, answers: &[(User, Reply)], out: &mut Answer) -> Result<(), Refusal> {
     for (user, reply) in answers {
-        let name = str::from_utf8(user.bytes())?;
-        let said = said(alloc, reply)?;
-        text.push_str(&format!(in alloc; "{name} {said};")?)?;
+        out.add_bytes(user.bytes());
+        out.add_text(" ");
+        tell(alloc, reply, out)?;
+        out.add_text(";");
     }
-    Ok(text)
+    Ok(())
 }
 
 /// Alice adds the file, and bob, alice and eve, who is no user, fetch it.
 fn first_path(alloc: Global) -> Result<Vec<Event>, Refusal> {
     let mut events = Vec::new(alloc);
-    events.push(adding(alloc, b"alice")?)?;
+    add_event(&mut events, adding(alloc, b"alice")?)?;
     for user in [b"bob".as_slice(), b"alice", b"eve"] {
-        events.push(fetching(alloc, user)?)?;
+        add_event(&mut events, fetching(alloc, user)?)?;
     }
     Ok(events)
 }
 
+/// Adds an event to those of a run.
+fn add_event(events: &mut Vec<Event>, event: Event) -> Result<(), Refusal> {
+    events.push(event)?;
+    Ok(())
+}
+
 /// A whole run of these events for alice and bob.
-pub(crate) fn run(alloc: Global, hashing: RandomState) -> Result<String, Fault> {
-    let users = alice_and_bob(alloc)?;
+pub(crate) fn run(alloc: Global, hashing: RandomState, out: &mut Answer) -> Result<(), Refusal> {
+    let users = users_of(alloc, "alice bob")?;
     let events = first_path(alloc)?;
     let answers = schedule::run(alloc, hashing, users, Limits::default(), events)?;
-    said_to(alloc, &answers)
+    tell_all(alloc, &answers, out)
 }

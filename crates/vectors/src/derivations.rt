@@ -1,80 +1,92 @@
 //! Derivations and their texts.
 
-use crate::fault::Fault;
+use crate::answer::Answer;
 use crate::lines::cut;
-use crate::paths::listed;
-use aterm::{Derivation, Text, parse, print, print_with_inputs};
+use aterm::{Derivation, Parts, Text, parse, print, print_with_inputs};
+use model::Refusal;
 use std::alloc::Global;
-use std::str;
 use storepath::read_path;
 
-/// The text of the derivation of a text.
-pub(crate) fn derivation(alloc: Global, text: &[u8]) -> Result<String, Fault> {
-    printed(alloc, &parse(alloc, text)?)
+/// What a call gives for the derivation of a text: its text, its text with `x` in place of its inputs, or
+/// its parts.
+pub(crate) fn of_text(
+    alloc: Global,
+    call: &str,
+    text: &[u8],
+    out: &mut Answer,
+) -> Result<(), Refusal> {
+    answer(alloc, call, &parse(alloc, text)?, out)
 }
 
-/// The text of a derivation.
-fn printed(alloc: Global, derivation: &Derivation) -> Result<String, Fault> {
-    Ok(String::from_utf8(print(alloc, derivation)?)?)
+/// Adds what a call gives for a derivation.
+fn answer(
+    alloc: Global,
+    call: &str,
+    derivation: &Derivation,
+    out: &mut Answer,
+) -> Result<(), Refusal> {
+    match call {
+        "derivation" => tell(alloc, derivation, out),
+        "masked" => tell_masked(alloc, derivation, out),
+        "parts" => tell_parts(derivation, out),
+        _ => Err(Refusal::BadLine),
+    }
 }
 
-/// The text of the derivation of a text, with `x` in place of its inputs.
-pub(crate) fn masked(alloc: Global, text: &[u8]) -> Result<String, Fault> {
-    let derivation = parse(alloc, text)?;
+/// Adds the text of a derivation.
+fn tell(alloc: Global, derivation: &Derivation, out: &mut Answer) -> Result<(), Refusal> {
+    out.add_bytes(&print(alloc, derivation)?);
+    Ok(())
+}
+
+/// Adds the text of a derivation, with `x` in place of its inputs.
+fn tell_masked(alloc: Global, derivation: &Derivation, out: &mut Answer) -> Result<(), Refusal> {
     let inputs = one_mask(alloc)?;
-    let text = print_with_inputs(alloc, &derivation, &inputs)?;
-    Ok(String::from_utf8(text)?)
+    out.add_bytes(&print_with_inputs(alloc, derivation, &inputs)?);
+    Ok(())
 }
 
 /// The one text `x`.
-fn one_mask(alloc: Global) -> Result<Vec<Text>, Fault> {
+fn one_mask(alloc: Global) -> Result<Vec<Text>, Refusal> {
     let mask = Text::new(Vec::from_slice(alloc, b"x")?)?;
     Ok(vec![in alloc; mask]?)
 }
 
 /// `PATH PATH TEXT`: the text of the derivation of a text, with one input and one source more.
-pub(crate) fn with_paths(alloc: Global, words: &[u8]) -> Result<String, Fault> {
-    let (input, rest) = cut(str::from_utf8(words)?);
+pub(crate) fn with_paths(alloc: Global, words: &str, out: &mut Answer) -> Result<(), Refusal> {
+    let (input, rest) = cut(words);
     let (source, text) = cut(rest);
     let mut parts = parse(alloc, text.as_bytes())?.into_parts();
+    add_paths(alloc, &mut parts, input, source)?;
+    tell(alloc, &Derivation::new(parts)?, out)
+}
+
+/// Adds an input and a source to the parts of a derivation.
+fn add_paths(alloc: Global, parts: &mut Parts, input: &str, source: &str) -> Result<(), Refusal> {
     parts.inputs.push(read_path(alloc, input.as_bytes())?)?;
     parts.sources.push(read_path(alloc, source.as_bytes())?)?;
-    printed(alloc, &Derivation::new(parts)?)
+    Ok(())
 }
 
-/// The name of the derivation of a text, its inputs, its sources, its platform, its builder and its
-/// arguments, these in base 16.
-pub(crate) fn parts(alloc: Global, text: &[u8]) -> Result<String, Fault> {
-    let derivation = parse(alloc, text)?;
-    let uses = told_uses(alloc, &derivation)?;
-    let program = told_program(alloc, &derivation)?;
-    Ok(format!(in alloc; "{uses} {program}")?)
-}
-
-/// The name of a derivation, its inputs and its sources.
-fn told_uses(alloc: Global, derivation: &Derivation) -> Result<String, Fault> {
+/// Adds the name of a derivation, its inputs, its sources, its platform, its builder and its arguments,
+/// these in base 16.
+fn tell_parts(derivation: &Derivation, out: &mut Answer) -> Result<(), Refusal> {
     let parts = derivation.parts();
-    let name = str::from_utf8(derivation.name())?;
-    let inputs = listed(alloc, &parts.inputs)?;
-    let sources = listed(alloc, &parts.sources)?;
-    Ok(format!(in alloc; "{name} [{inputs}] [{sources}]")?)
+    out.add_bytes(derivation.name());
+    out.add_list(&parts.inputs);
+    out.add_list(&parts.sources);
+    out.add_bytes(parts.platform.bytes());
+    out.add_bytes(parts.builder.bytes());
+    tell_arguments(&parts.arguments, out);
+    Ok(())
 }
 
-/// The platform of a derivation, its builder and its arguments.
-fn told_program(alloc: Global, derivation: &Derivation) -> Result<String, Fault> {
-    let parts = derivation.parts();
-    let platform = str::from_utf8(parts.platform.bytes())?;
-    let builder = str::from_utf8(parts.builder.bytes())?;
-    let arguments = in_base_16(alloc, &parts.arguments)?;
-    Ok(format!(in alloc; "{platform} {builder} [{arguments}]")?)
-}
-
-/// Texts in base 16, each with a comma behind it.
-fn in_base_16(alloc: Global, texts: &[Text]) -> Result<String, Fault> {
-    let mut list = String::new(alloc);
+/// Adds texts in base 16 in brackets, each with a comma behind it.
+fn tell_arguments(texts: &[Text], out: &mut Answer) {
+    out.add_text("[");
     for text in texts {
-        list.push_str(hex::encode(alloc, text.bytes())?.as_str())?;
-        list.push_str(",")?;
+        out.put_digits(text.bytes());
+        out.put_text(",");
     }
-    Ok(list)
+    out.put_text("]");
 }

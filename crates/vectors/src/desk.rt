@@ -1,59 +1,67 @@
 //! What a desk knows.
 
-use crate::fault::Fault;
+use crate::answer::Answer;
 use aterm::parse;
-use classes::{Admitted, Known, admit as admission};
+use classes::{Admitted, Known, admit as admission, path_of};
+use model::Refusal;
 use std::alloc::Global;
 use storepath::{StorePath, read_path};
 
 /// A desk that knows nothing.
-pub(crate) fn begin(alloc: Global, known: &mut Known) -> Result<String, Fault> {
+pub(crate) fn begin(alloc: Global, known: &mut Known, out: &mut Answer) -> Result<(), Refusal> {
     *known = Known::new(alloc);
-    Ok("desk".to_owned(alloc)?)
-}
-
-/// Adds a source that the desk does not know yet.
-pub(crate) fn add_source(alloc: Global, known: &mut Known, path: &str) -> Result<String, Fault> {
-    let path = read_path(alloc, path.as_bytes())?;
-    if known.has_source(&path) {
-        return Err(Fault::NotUnderstood);
-    }
-    known.add_source(path)?;
-    Ok(format!(in alloc; "{} sources", known.source_count())?)
-}
-
-/// Admits a derivation that the desk does not know yet and adds it: the path of its file, its class, its
-/// rank and the digest of its masked text.
-pub(crate) fn admit(alloc: Global, known: &mut Known, text: &str) -> Result<String, Fault> {
-    let admitted = admission(alloc, parse(alloc, text.as_bytes())?, known)?;
-    let path = admitted.path().clone()?;
-    let masked = *admitted.masked();
-    add_derivation(known, admitted)?;
-    told(alloc, known, &path, &masked)
-}
-
-/// Adds a derivation that the desk does not know yet.
-fn add_derivation(known: &mut Known, admitted: Admitted) -> Result<(), Fault> {
-    if known.derivation(admitted.path()).is_some() {
-        return Err(Fault::NotUnderstood);
-    }
-    known.add_derivation(admitted)?;
+    out.add_text("desk");
     Ok(())
 }
 
-/// The path of a derivation's file, the class and the rank that the desk knows of it, and the digest of
-/// its masked text.
-fn told(
+/// Adds a source that the desk does not know yet, and prints how many it knows.
+pub(crate) fn add_source(
     alloc: Global,
-    known: &Known,
-    path: &StorePath,
-    masked: &[u8; 32],
-) -> Result<String, Fault> {
+    known: &mut Known,
+    path: &str,
+    out: &mut Answer,
+) -> Result<(), Refusal> {
+    let path = read_path(alloc, path.as_bytes())?;
+    if known.has_source(&path) {
+        return Err(Refusal::BadLine);
+    }
+    known.add_source(path)?;
+    out.add(&known.source_count());
+    out.add_text("sources");
+    Ok(())
+}
+
+/// Admits a derivation that the desk does not know yet and adds it. Prints the path of its file, its class,
+/// its rank and the digest of its masked text.
+pub(crate) fn admit(
+    alloc: Global,
+    known: &mut Known,
+    text: &str,
+    out: &mut Answer,
+) -> Result<(), Refusal> {
+    let derivation = parse(alloc, text.as_bytes())?;
+    let path = path_of(alloc, &derivation)?;
+    add_derivation(known, admission(alloc, derivation, known)?)?;
+    tell(known, &path, out)
+}
+
+/// Adds a derivation that the desk does not know yet.
+fn add_derivation(known: &mut Known, admitted: Admitted) -> Result<(), Refusal> {
+    if known.derivation(admitted.path()).is_some() {
+        return Err(Refusal::BadLine);
+    }
+    known.add_derivation(admitted)
+}
+
+/// Adds the path of a derivation's file, and the class, the rank and the digest of the masked text that
+/// the desk knows of it.
+fn tell(known: &Known, path: &StorePath, out: &mut Answer) -> Result<(), Refusal> {
     let Some(found) = known.derivation(path) else {
-        return Err(Fault::NotUnderstood);
+        return Err(Refusal::BadLine);
     };
-    let masked = hex::encode(alloc, masked.as_slice())?;
-    let class = found.class().path();
-    let rank = found.class().rank();
-    Ok(format!(in alloc; "{path} {class} {rank} {masked}")?)
+    out.add(found.path());
+    out.add(found.class().path());
+    out.add(&found.class().rank());
+    out.add_digits(found.masked());
+    Ok(())
 }

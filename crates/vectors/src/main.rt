@@ -4,26 +4,45 @@
 //! lines should give comes from outside: `tests/vectors` computes it.
 #![tactic(auto)]
 
+mod answer;
 mod derivations;
 mod desk;
-mod fault;
 mod hash_parts;
 mod lines;
 mod paths;
 mod refusals;
 mod trees;
 
-use crate::lines::answer_of_line;
-use anyhow::Context;
+use crate::answer::Answer;
+use crate::lines::answer_line;
+use anyhow::bail;
 use classes::Known;
+use std::alloc::Global;
 
 fn main(rt: HostRuntime) -> anyhow::Result<()> {
-    let alloc = rt.alloc();
-    let mut known = Known::new(alloc);
+    let mut known = Known::new(rt.alloc());
+    print_answers(&rt, rt.alloc(), &mut known)
+}
+
+/// Prints what the lines of standard input give.
+fn print_answers<R: Input + Print>(rt: &R, alloc: Global, known: &mut Known) -> anyhow::Result<()> {
     for line in rt.lines(alloc) {
-        let line = line?;
-        let answer = answer_of_line(alloc, &mut known, line.as_str()).context(line.as_str())?;
-        println!(rt; "{answer}")?;
+        print_answer(rt, alloc, known, line?.as_str())?;
     }
+    Ok(())
+}
+
+/// Prints what a line gives.
+fn print_answer(
+    rt: &impl Print,
+    alloc: Global,
+    known: &mut Known,
+    line: &str,
+) -> anyhow::Result<()> {
+    let mut answer = Answer::new(alloc);
+    if let Err(refusal) = answer_line(alloc, known, line, &mut answer) {
+        bail!("{line}: {refusal}");
+    }
+    println!(rt; "{}", answer.text())?;
     Ok(())
 }
