@@ -8,6 +8,7 @@ use std::str;
 /// What a line prints, if all could be added: parts with a blank between them.
 #[derive(Drop)]
 pub(crate) struct Answer {
+    alloc: Global,
     text: String,
     added: Result<(), Refusal>,
 }
@@ -16,6 +17,7 @@ impl Answer {
     /// An empty one.
     pub(crate) fn new(alloc: Global) -> Answer {
         Answer {
+            alloc,
             text: String::new(alloc),
             added: Ok(()),
         }
@@ -53,9 +55,9 @@ impl Answer {
 
     /// Puts bytes in base 16 behind what was added.
     pub(crate) fn put_digits(&mut self, bytes: &[u8]) {
-        for byte in bytes {
-            let added = write!(self.text, "{byte:02x}");
-            self.note(added);
+        match hex::encode(self.alloc, bytes) {
+            Ok(digits) => self.put_text(digits.as_str()),
+            Err(error) => self.added = Err(Refusal::from(error)),
         }
     }
 
