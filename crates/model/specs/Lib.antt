@@ -42,6 +42,7 @@ pub mod GivenClosures
 pub mod Lines
 pub mod Words
 pub mod Verbs
+pub mod VerbGroups
 pub mod Forms
 pub mod Talk
 pub mod Laws

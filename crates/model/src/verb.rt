@@ -1,6 +1,7 @@
 //! The verbs of lines, each with the kinds of its words.
 
 ghost use Rattle.std.specs.Prelude.{◌≡◌};
+ghost use Rattle.model.specs.VerbGroups.{verb_from_trust, verb_from_closure, verb_from_plan};
 ghost use Rattle.model.specs.Verbs.{verb_of, kinds_of};
 
 /// What a word of a line is to be.
@@ -74,7 +75,16 @@ impl Verb {
             Some(Verb::Offer)
         } else if word == b"fetch".as_slice() {
             Some(Verb::Fetch)
-        } else if word == b"trust".as_slice() {
+        } else {
+            Verb::from_trust(word)
+        }
+    }
+
+    /// The verb that a word is, of those from `trust` on in their list.
+    fn from_trust(word: &[u8]) -> Option<Verb>
+        ensures { result ≡ verb_from_trust word.now }
+    {
+        if word == b"trust".as_slice() {
             Some(Verb::Trust)
         } else if word == b"distrust".as_slice() {
             Some(Verb::Distrust)
@@ -82,7 +92,16 @@ impl Verb {
             Some(Verb::Pin)
         } else if word == b"unpin".as_slice() {
             Some(Verb::Unpin)
-        } else if word == b"closure".as_slice() {
+        } else {
+            Verb::from_closure(word)
+        }
+    }
+
+    /// The verb that a word is, of those from `closure` on in their list.
+    fn from_closure(word: &[u8]) -> Option<Verb>
+        ensures { result ≡ verb_from_closure word.now }
+    {
+        if word == b"closure".as_slice() {
             Some(Verb::Closure)
         } else if word == b"take".as_slice() {
             Some(Verb::Take)
@@ -90,7 +109,16 @@ impl Verb {
             Some(Verb::Build)
         } else if word == b"status".as_slice() {
             Some(Verb::Status)
-        } else if word == b"plan".as_slice() {
+        } else {
+            Verb::from_plan(word)
+        }
+    }
+
+    /// The verb that a word is, of those from `plan` on in their list.
+    fn from_plan(word: &[u8]) -> Option<Verb>
+        ensures { result ≡ verb_from_plan word.now }
+    {
+        if word == b"plan".as_slice() {
             Some(Verb::Plan)
         } else if word == b"start".as_slice() {
             Some(Verb::Start)
