@@ -1,6 +1,6 @@
 -- What a desk answers to a derivation, case by case.
 use Rattle.std.proofs.Common.{◌≡◌, ℕ, ◌+◌, ◌<◌, ◌≤◌, ◌⊎◌, inl, inr, Bool, true, false, List, map, refl, ap, sym, ◌∙◌, arith}
-use Rattle.std.specs.Prelude.{is_some, nat_le, Ok, Err}
+use Rattle.std.specs.Prelude.{nat_le, Ok, Err}
 use Rattle.std.specs.List.{list_all}
 use Rattle.std.proofs.lemmas.Bool.Decides.{nat_tests}
 use Rattle.sha2.specs.Sha256.{sha256}
@@ -8,10 +8,8 @@ use Rattle.model.specs.declared.refusal.Refusal.{Refusal}
 use Rattle.model.specs.declared.refusal.Refusal.TheVariants.{MissingInput, RankTooHigh, Memory}
 use Rattle.model.specs.Paths.{OutputClass, store_path}
 use Rattle.model.specs.Derivations.{Derivation, name_of}
-use Rattle.model.specs.Classes.{Admission, Known, known_at, is_one_of, rank_at, greatest, derivation_path, masked_text, admission_of, admit}
-
-abbrev pub has_inputs : Known → List (List ℕ) → Bool
-has_inputs known inputs = list_all (λ path. is_some (known_at known path)) inputs
+use Rattle.classes.specs.Entries.{has_inputs}
+use Rattle.model.specs.Classes.{Admission, Known, is_one_of, rank_at, greatest, derivation_path, masked_text, admission_of, admit}
 
 abbrev pub has_sources : Known → List (List ℕ) → Bool
 has_sources known sources = list_all (is_one_of known.sources) sources

@@ -1,23 +1,35 @@
 //! Admitting a derivation.
 
-ghost use Rattle.std.specs.Prelude.{◌≡◌, ◌≤◌, ◌⊎◌, ◌++◌, MatchResult, is_some, map, filter, not, codes, true, false};
+ghost use Rattle.std.specs.Prelude.{◌≡◌, ◌≤◌, ◌⊎◌, ◌++◌, IfOk, MatchResult, is_some, map, filter, not, codes, true, false};
 ghost use Rattle.std.specs.List.{list_all};
+ghost use Rattle.hex.specs.Hex.{encode_lower};
+ghost use Rattle.sha2.specs.Sha256.{sha256};
+ghost use Rattle.classes.specs.Entries.{has_inputs, is_absent};
 ghost use Rattle.model.specs.Paths.{OutputClass, store_path};
 ghost use Rattle.model.specs.Derivations.{name_of};
-ghost use Rattle.model.specs.Classes.{known_at, is_one_of, mask_of, rank_at, greatest, sorted, derivation_path, admit};
+ghost use Rattle.model.specs.Classes.{known_at, is_one_of, mask_of, rank_at, greatest, sorted, derivation_path, masked_text, class_of, admission_of, admit};
 ghost use Rattle.model.specs.declared.refusal.Refusal.TheVariants.{MissingInput, Memory};
 
 use crate::class::{Admitted, Class};
 use crate::known::Known;
-use crate::paths::{copies, set_of};
+use crate::paths::set_of;
 use derivation::{Derivation, Text, print, print_with_inputs};
 use hashmod::sha256;
+use indexmap::IndexSet;
 use model::Refusal;
-use std::alloc::Global;
+use std::alloc::{AllocError, Global};
 use storepath::{Kind, Name, StorePath, make_path};
 
 /// The greatest rank.
 const GREATEST_RANK: u8 = 64;
+
+// The digest of an input's masked text, in base 16.
+fn mask(alloc: Global, admitted: &Admitted) -> Result<Text, AllocError>
+    ensures { IfOk result (λ mask. mask ≡ encode_lower admitted.now.masked) }
+{
+    let digits = hex::encode(alloc, admitted.masked().as_slice())?;
+    Text::new(digits.into_bytes())
+}
 
 // The digests of the inputs' masked texts, in base 16, in the order of the inputs.
 fn masks_of(alloc: Global, known: &Known, inputs: &[StorePath]) -> Result<Vec<Text>, Refusal>
@@ -31,8 +43,7 @@ fn masks_of(alloc: Global, known: &Known, inputs: &[StorePath]) -> Result<Vec<Te
         let Some(admitted) = known.derivation(path) else {
             return Err(Refusal::MissingInput);
         };
-        let digits = hex::encode(alloc, admitted.masked().as_slice())?;
-        masks.push(Text::new(digits.into_bytes())?)?;
+        masks.push(mask(alloc, admitted)?)?;
     }
     Ok(masks)
 }
@@ -51,32 +62,50 @@ fn greatest_of(known: &Known, inputs: &[StorePath]) -> u8
     greatest
 }
 
+// Whether all of the sources are known.
 fn has_sources(known: &Known, sources: &[StorePath]) -> bool
     ensures { result ≡ list_all (is_one_of known.now.sources) sources.now }
 {
-    sources.iter().all(|path| known.has_source(path))
+    for path in sources {
+        if !known.has_source(path) {
+            return false;
+        }
+    }
+    true
 }
 
-// Adds the sources that are no inputs to paths that are the inputs.
+// Adds the sources that are not in a set.
+fn add_absent(
+    paths: &mut Vec<StorePath>,
+    set: &IndexSet<StorePath>,
+    sources: &[StorePath],
+) -> Result<(), Refusal>
+    ensures { MatchResult result
+        (λ _. paths.new.items ≡ paths.old.items ++ filter (is_absent set.now.keys) sources.now)
+        (λ e. e ≡ Memory) }
+{
+    for path in sources {
+        if !set.contains(path) {
+            paths.push(path.clone()?)?;
+        }
+    }
+    Ok(())
+}
+
+// Adds the sources that are no inputs.
 fn add_others(
     alloc: Global,
     paths: &mut Vec<StorePath>,
     inputs: &[StorePath],
     sources: &[StorePath],
 ) -> Result<(), Refusal>
-    requires { paths.old.items ≡ inputs.now }
     ensures { MatchResult result
         (λ _. paths.new.items
-        ≡ inputs.now ++ filter (λ path. not (is_one_of inputs.now path)) sources.now)
+        ≡ paths.old.items ++ filter (λ path. not (is_one_of inputs.now path)) sources.now)
         (λ e. e ≡ Memory) }
 {
     let among_inputs = set_of(alloc, inputs)?;
-    for path in sources {
-        if !among_inputs.contains(path) {
-            paths.push(path.clone()?)?;
-        }
-    }
-    Ok(())
+    add_absent(paths, &among_inputs, sources)
 }
 
 // The inputs, and the sources that are no inputs, in the order of bytes.
@@ -90,7 +119,7 @@ fn references(
         ≡ sorted (inputs.now ++ filter (λ path. not (is_one_of inputs.now path)) sources.now))
         (λ e. e ≡ Memory) }
 {
-    let mut paths = copies(alloc, inputs)?;
+    let mut paths = inputs.to_vec(alloc)?;
     add_others(alloc, &mut paths, inputs, sources)?;
     paths.sort()?;
     Ok(paths)
@@ -119,10 +148,10 @@ pub fn path_of(alloc: Global, derivation: &Derivation) -> Result<StorePath, Refu
         (λ path. path ≡ derivation_path derivation.now)
         (λ e. e ≡ Memory) }
 {
-    let parts = derivation.parts();
-    let references = references(alloc, &parts.inputs, &parts.sources)?;
     let digest = sha256(&print(alloc, derivation)?);
     let name = file_name(alloc, derivation)?;
+    let parts = derivation.parts();
+    let references = references(alloc, &parts.inputs, &parts.sources)?;
     make_path(alloc, &Kind::DerivationFile(&references), &digest, &name)
 }
 
@@ -140,6 +169,37 @@ fn class_path(
     make_path(alloc, &Kind::OutputClass, masked, &name)
 }
 
+// The digest of a derivation's masked text.
+fn masked_digest(alloc: Global, derivation: &Derivation, known: &Known) -> Result<[u8; 32], Refusal>
+    ensures { let all = has_inputs known.now derivation.now.inputs in MatchResult result
+        (λ masked. (all ≡ true) × (masked ≡ sha256 (masked_text known.now derivation.now)))
+        (λ e. (e ≡ Memory) ⊎ ((e ≡ MissingInput) × (all ≡ false))) }
+{
+    let mut masks = masks_of(alloc, known, &derivation.parts().inputs)?;
+    masks.sort()?;
+    Ok(sha256(&print_with_inputs(alloc, derivation, &masks)?))
+}
+
+// The rank of the class of a derivation whose inputs are known.
+fn rank_for(derivation: &Derivation, known: &Known) -> Result<u8, Refusal>
+    requires inputs { has_inputs known.now derivation.now.inputs ≡ true }
+    ensures rank { IfOk result (λ rank. rank ≡ (class_of known.now derivation.now).rank) }
+    ensures most { IfOk result (λ rank. rank ≤ 64) }
+    ensures answer { MatchResult result
+        (λ _. admit known.now derivation.now ≡ Ok (admission_of known.now derivation.now))
+        (λ e. admit known.now derivation.now ≡ Err e) }
+{
+    let parts = derivation.parts();
+    if !has_sources(known, &parts.sources) {
+        return Err(Refusal::MissingInput);
+    }
+    let greatest = greatest_of(known, &parts.inputs);
+    if greatest >= GREATEST_RANK {
+        return Err(Refusal::RankTooHigh);
+    }
+    Ok(greatest + 1)
+}
+
 // The class of a derivation, and the digest of its masked text.
 fn class_for(
     alloc: Global,
@@ -155,22 +215,10 @@ fn class_for(
         }))
         (λ e. (e ≡ Memory) ⊎ (answer ≡ Err e)) }
 {
-    let parts = derivation.parts();
-    let mut masks = masks_of(alloc, known, &parts.inputs)?;
-    if !has_sources(known, &parts.sources) {
-        return Err(Refusal::MissingInput);
-    }
-    let greatest = greatest_of(known, &parts.inputs);
-    if greatest >= GREATEST_RANK {
-        return Err(Refusal::RankTooHigh);
-    }
-    masks.sort()?;
-    let masked = sha256(&print_with_inputs(alloc, derivation, &masks)?);
-    let class = Class {
-        path: class_path(alloc, derivation, &masked)?,
-        rank: greatest + 1,
-    };
-    Ok((class, masked))
+    let masked = masked_digest(alloc, derivation, known)?;
+    let rank = rank_for(derivation, known)?;
+    let path = class_path(alloc, derivation, &masked)?;
+    Ok((Class { path, rank }, masked))
 }
 
 /// What a desk will know of a derivation whose path is at hand, as [`admit`] tells it.

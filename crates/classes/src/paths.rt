@@ -1,13 +1,13 @@
 //! Lists of store paths.
 
-ghost use Rattle.std.specs.Prelude.{◌≡◌, IfOk, MatchResult, bytes_eq, ℕ, List};
+ghost use Rattle.std.specs.Prelude.{◌≡◌, MatchResult, bytes_eq, ℕ, List};
 ghost use Rattle.std.specs.List.{list_any};
 ghost use Rattle.model.specs.Classes.{is_one_of};
 ghost use Rattle.model.specs.declared.refusal.Refusal.TheVariants.{Memory};
 
 use indexmap::IndexSet;
 use model::Refusal;
-use std::alloc::{AllocError, Global};
+use std::alloc::Global;
 use storepath::StorePath;
 
 /// The paths, to be looked up among them.
@@ -20,20 +20,6 @@ pub fn set_of(alloc: Global, paths: &[StorePath]) -> Result<IndexSet<StorePath>,
         (λ set. (path : List ℕ) → list_any (bytes_eq path) set.keys ≡ is_one_of paths.now path)
         (λ e. e ≡ Memory) }
 {
-    let mut set = IndexSet::new(alloc);
-    for path in paths {
-        let _is_new = set.insert(path.clone()?)?;
-    }
-    Ok(set)
-}
-
-/// A copy of each path.
-pub(crate) fn copies(alloc: Global, paths: &[StorePath]) -> Result<Vec<StorePath>, AllocError>
-    ensures { IfOk result (λ copies. copies.items ≡ paths.now) }
-{
-    let mut copies = Vec::new(alloc);
-    for path in paths {
-        copies.push(path.clone()?)?;
-    }
-    Ok(copies)
+    let copies = paths.to_vec(alloc)?;
+    Ok(IndexSet::from_iter(alloc, copies)?)
 }

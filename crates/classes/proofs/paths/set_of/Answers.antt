@@ -1,25 +1,17 @@
-use Rattle.std.proofs.Common.{rules, ◌≡◌, ◌∙◌, ◌++◌, ◌∷◌, [], ◌+◌, ◌<◌, ap, sym, arith, length, take}
+use Rattle.std.proofs.Common.{◌≡◌, List, ℕ, sym, ap, ◌∙◌}
 use Rattle.std.specs.Prelude.{bytes_eq}
 use Rattle.std.specs.List.{list_any}
-use Rattle.std.proofs.lemmas.List.{take_all, take_more}
-use Rattle.indexmap.specs.IndexSet.{insert_key}
-use Rattle.classes.proofs.EntryLemmas.{one_of_keys, any_insert}
+use Rattle.std.proofs.lemmas.List.{map-id}
+use Rattle.std.proofs.lemmas.Iterator.{items_from_drains}
+use Rattle.std.proofs.lemmas.Iterator.Adapters.{YieldsList-from_vec}
+use Rattle.classes.proofs.EntryLemmas.{one_of_keys}
 use Rattle.classes.proofs.paths.set_of.Goals as goal
 
-pub loop-path-init : goal.loop-path-init
-loop-path-init c q = ap (list_any (bytes_eq q)) c.new-set.ensures.empty
-
-pub loop-path-preserved : goal.loop-path-preserved
-loop-path-preserved c q =
-    let paths = c.args.paths.now in
-    let earlier = take c.loop-path.path-index paths in
-    let path = c.path-item.result in
-    let lt : c.loop-path.path-index < length paths = omega arith in
-    let copy : c.in_ok-clone.field-0 ≡ path = search rules in
-    let more : take (c.loop-path.path-index + 1) paths ≡ earlier ++ path ∷ [] = take_more paths c.loop-path.path-index path lt ∙ ap (λ p. earlier ++ p ∷ []) (sym c.path-item.is) in
-    ap (list_any (bytes_eq q)) (c.in_ok-_is_new.ensures.keys ∙ ap (insert_key bytes_eq c.loop-path.set.keys) copy)
-    ∙ any_insert path c.loop-path.set.keys earlier c.loop-path.invariant q ∙ ap (list_any (bytes_eq q)) (sym more)
-
 pub returns : goal.returns
-returns c q =
-    c.loop-path.invariant q ∙ ap (list_any (bytes_eq q)) (take_all c.loop-path.path-index c.args.paths.now (omega arith)) ∙ one_of_keys q c.args.paths.now
+returns c path =
+    let paths : List (List ℕ) = c.args.paths.now in
+    let ran = c.in_ok-from_iter.ensures.ran in
+    let copied : c.in_ok-copies.copies.items ≡ paths = c.in_ok-copies.ensures.items_if_clones_equal (λ x y same. same) in
+    let all = items_from_drains ran.1 ran.3 (YieldsList-from_vec paths (ran.2.0 ∙ copied) (ran.2.1 ∙ c.in_ok-copies.ensures.len)) in
+    let taken : ran.1 ≡ paths = sym (map-id ran.1) ∙ all in
+    ran.4.1.0 path ∙ ap (list_any (bytes_eq path)) taken ∙ one_of_keys path paths
