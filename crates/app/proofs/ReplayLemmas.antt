@@ -7,8 +7,8 @@ use Rattle.model.specs.Events.{Event, Reply}
 use Rattle.model.specs.Talk as talk
 use Rattle.model.specs.Talk.{Silent, Names, Refuses, Asks, asked_in}
 use Rattle.session.specs.Serving.{Link, Chain}
-use Rattle.book.specs.declared.history.Row.{Row}
-use Rattle.book.specs.Callers.{Caller}
+use Rattle.passes.specs.declared.row.Row.{Row}
+use Rattle.passes.specs.Callers.{Caller}
 use Rattle.book.specs.Histories.{IsLegal}
 use Rattle.model.specs.Replies.{is_unrecorded}
 use Rattle.book.specs.Answering.{IsOnlyAnswer}

@@ -13,9 +13,9 @@ use Rattle.events.specs.Terms.{reply_of}
 use Rattle.session.specs.Serving.{Finished, EndedEarly}
 use Rattle.session.specs.declared.ahead.Ahead.{Ahead}
 use Rattle.session.specs.Ahead.{NoUsersSoFar, LooksAhead}
-use Rattle.book.specs.declared.history.Row.{Row}
+use Rattle.passes.specs.declared.row.Row.{Row}
 use Rattle.book.specs.Histories.{event_in, IsLegal}
-use Rattle.book.specs.Callers.{Caller}
+use Rattle.passes.specs.Callers.{Caller}
 use Rattle.model.specs.Replies.{is_unrecorded}
 use Rattle.book.specs.Answering.{IsOnlyAnswer}
 

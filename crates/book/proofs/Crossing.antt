@@ -31,22 +31,22 @@ use Rattle.jobs.specs.contracts.users.Jobs as Jobs
 use Rattle.schedule.specs.contracts.state.Core as Core
 use Rattle.events.specs.contracts.event.Event as Event
 use Rattle.events.specs.contracts.reply.Reply as Reply
-use Rattle.book.specs.contracts.history.Row as Row
+use Rattle.passes.specs.contracts.row.Row as Row
 use Rattle.book.specs.contracts.front.Front as Front
 use Rattle.book.specs.contracts.book.Book as Book
 use Rattle.book.specs.contracts.book.Book.TheInside as Inside
-use Rattle.book.specs.contracts.pass.Pass as Pass
-use Rattle.book.specs.contracts.pass.Pass.TheInside as PassInside
-use Rattle.book.specs.contracts.log.Log as Log
-use Rattle.book.specs.contracts.log.Log.TheInside as LogInside
-use Rattle.book.specs.contracts.log.Claim as Claim
-use Rattle.book.specs.contracts.log.Claim.TheInside as ClaimInside
+use Rattle.passes.specs.contracts.pass.Pass as Pass
+use Rattle.passes.specs.contracts.pass.Pass.TheInside as PassInside
+use Rattle.passes.specs.contracts.log.Log as Log
+use Rattle.passes.specs.contracts.log.Log.TheInside as LogInside
+use Rattle.passes.specs.contracts.log.Claim as Claim
+use Rattle.passes.specs.contracts.log.Claim.TheInside as ClaimInside
 use Rattle.atomic_table.proofs.shared.Seat.TheSendSync.{the_send as seats}
 use Rattle.atomic_table.proofs.shared.Shared.TheSendSync.{the_send as tables}
 use Rattle.atomic_table.proofs.send_lease.SendLease.TheSendSync.{the_send as leases}
 use Rattle.std.proofs.sync.ledger.Book.TheSendSync.{the_send as ledger_send}
 use Rattle.std.proofs.sync.ledger.Share.TheSendSync.{the_send as ledger_share_send}
-use Rattle.book.specs.declared.naming.Naming as Naming
+use Rattle.passes.specs.declared.naming.Naming as Naming
 use Rattle.std.specs.declared.sync.ledger.Ledger as Ledger
 
 pub tree_send : IsSend Tree.the_row

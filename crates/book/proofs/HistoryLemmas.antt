@@ -8,7 +8,7 @@ use Rattle.model.specs.Events.{Event, Answer}
 use Rattle.model.specs.Steps.{world_after, answers, after, reply_to, replies_to}
 use Rattle.model.specs.HashedTexts.{hashed, texts_of_event}
 use Rattle.model.specs.GivenClosures.{GiveGoodClosures}
-use Rattle.book.specs.declared.history.Row.{Row}
+use Rattle.passes.specs.declared.row.Row.{Row}
 use Rattle.book.specs.Histories.{event_in, answer_in, events_of, answers_of, gave_up, IsLegal}
 
 pub all_front : (P : List ℕ → Type 0) (xs ys : List (List ℕ)) → All P (xs ++ ys) → All P xs

@@ -1,5 +1,6 @@
 -- What a book keeps, through each of its calls.
-use Rattle.std.proofs.Common.{◌≡◌, ℕ, Bool, true, false, List, [], ◌∷◌, ◌++◌, refl, sym, ap, ◌∙◌, subst}
+use Rattle.std.proofs.Common.{◌≡◌, ℕ, Bool, true, false, List, [], ◌∷◌, ◌++◌, length, refl, sym, ap, ◌∙◌, subst}
+use mathlib.Core.List.{IsPrefix}
 use Rattle.std.specs.Prelude.{All, Contains}
 use Rattle.std.proofs.lemmas.List.Elements.{All-nil, All-push, All-contains_itself}
 use Rattle.model.specs.Paths.{NoClash}
@@ -17,7 +18,8 @@ use Rattle.desks.specs.Sound.{IsHashed}
 use Rattle.schedule.specs.Standing.{world_of, setup_of, stored_in, HasHashed, IsUnchanged}
 use Rattle.events.specs.Terms.{reply_of}
 use Rattle.schedule.proofs.RunLemmas.{good_push}
-use Rattle.book.specs.declared.history.Row.{Row}
+use Rattle.passes.specs.declared.row.Row.{Row}
+use Rattle.passes.proofs.Prefixes.{prefix_whole}
 use Rattle.book.specs.Histories.{event_in, events_of, answers_of, gave_up, IsLegal}
 use Rattle.book.specs.Keeping.{Kept, HasReached, Steps, IsModelReply}
 use Rattle.book.proofs.HistoryLemmas.{all_front, all_back, world_after_push, answers_push, hashed_push, events_push, rows_push}
@@ -153,3 +155,10 @@ is_legal setup core stopped rows kept isolated =
       isolated = λ clean u. ap (replies_to u) (same clean) ∙ isolated setup (events_of rows) u;
       good = λ clean. kept.good (hashed setup nothing (events_of rows)) clean (All-contains_itself (hashed setup nothing (events_of rows)));
     }
+
+-- ---- the only pass
+
+-- a pass whose rows are as many as all calls is sure of all rows
+pub sure_of_all : (sure kept recorded rows : List Row) (total : ℕ) → IsPrefix sure recorded → recorded ≡ rows → kept ≡ sure → length kept ≡ total → length rows ≡ total → sure ≡ rows
+sure_of_all sure kept recorded rows total begins same stays counted all =
+    prefix_whole sure rows (subst (λ (all : List Row). IsPrefix sure all) same begins) (ap length (sym stays) ∙ (counted ∙ sym all))

@@ -12,7 +12,7 @@ use Rattle.events.specs.declared.reply.Reply.{Reply}
 use Rattle.schedule.specs.Standing.{world_of, setup_of, stored_in, HasHashed, IsUnchanged}
 use Rattle.events.specs.Terms.{event_of, reply_of}
 use Rattle.schedule.specs.Stepping.{IsCoreStep}
-use Rattle.book.specs.declared.history.Row.{Row}
+use Rattle.passes.specs.declared.row.Row.{Row}
 use Rattle.book.specs.Histories.{events_of, answers_of, gave_up}
 
 -- a book as contracts see it: its core, its rows, and whether it is stopped

@@ -1,5 +1,3 @@
-pub mod Callers
 pub mod Histories
 pub mod Keeping
 pub mod Answering
-pub mod Tokens

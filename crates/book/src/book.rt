@@ -10,15 +10,13 @@ ghost use Rattle.model.specs.declared.refusal.Refusal.TheVariants.{Memory, Stopp
 ghost use Rattle.schedule.specs.Standing.{world_of, setup_of, stored_in, IsUnchanged};
 ghost use Rattle.events.specs.Terms.{reply_of};
 ghost use Rattle.events.specs.declared.reply.Reply.TheVariants.{Refused};
-ghost use Rattle.book.specs.Callers.{answered, told_stopped, Matches};
+ghost use Rattle.passes.specs.Callers.{answered, told_stopped, Matches};
 ghost use Rattle.book.specs.Keeping.{IsNew, Steps, TookEvent, Stops, KeepsCore, IsModelReply, StandsFor};
 ghost use Rattle.book.specs.Histories.{row, gave_up, IsLegal};
 
-use crate::history::{History, Row};
-use crate::log::Log;
-use crate::naming::Naming;
-use crate::pass::Pass;
+use crate::history::History;
 use model::{Refusal, isolation};
+use passes::{Log, Naming, Pass, Row};
 use schedule::{Core, Event, Reply};
 use std::alloc::{AllocError, Global};
 use std::marker::Model;

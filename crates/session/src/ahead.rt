@@ -7,10 +7,11 @@ ghost use Rattle.model.specs.Talk.{fresh, form_of};
 ghost use Rattle.session.specs.Ahead.{IsLook, NoUsersSoFar, LooksAhead, SearchesOn, SearchesLast};
 ghost use Rattle.session.specs.Serving.{HasFailed};
 
-use crate::answer::{Faults, NoUsers};
+use crate::faults::Faults;
 use crate::serving::{CHUNK, hold, is_begun};
 use crate::session::{Mode, Session};
 use crate::streams::read_some;
+use answering::NoUsers;
 use lines::{Reading, cut};
 use model::Refusal;
 use std::alloc::Global;

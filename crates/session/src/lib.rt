@@ -12,14 +12,15 @@
 #![tactic(auto)]
 
 mod ahead;
-mod answer;
+mod faults;
 mod prefixed;
 mod serving;
 mod session;
 mod streams;
 
 pub use ahead::{Ahead, read_ahead};
-pub use answer::{Answer, Faults, NoUsers};
+pub use answering::{Answer, NoUsers};
+pub use faults::Faults;
 pub use lines::answer_text;
 pub use prefixed::Prefixed;
 pub use serving::{serve, serve_whole_lines};

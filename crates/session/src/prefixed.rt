@@ -3,7 +3,7 @@
 ghost use Rattle.std.specs.Prelude.{◌≡◌, ◌≢◌, [], min, length, Ok};
 ghost use Rattle.session.specs.Prefixed.{shorter};
 
-use crate::answer::Faults;
+use crate::faults::Faults;
 use std::io;
 use std::io::Read;
 use std::marker::Model;

@@ -7,9 +7,10 @@ ghost use Rattle.model.specs.Lines.{lines_of};
 ghost use Rattle.model.specs.Talk.{fresh};
 ghost use Rattle.session.specs.Serving.{GoesOn, EndsIn, Finishes, EndsAtLast, AnsweredSoFar, EndedEarly, Finished, HoldsMore, IsOwn, MayBeFault};
 
-use crate::answer::{Answer, Faults};
+use crate::faults::Faults;
 use crate::session::{Mode, Session};
 use crate::streams::{flush, read_some, write_whole};
+use answering::Answer;
 use lines::{LONGEST_LINE, cut};
 use model::Refusal;
 use std::alloc::{AllocError, Global};

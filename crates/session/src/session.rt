@@ -2,20 +2,17 @@
 
 ghost use Rattle.std.specs.Prelude.{◌≡◌, ◌⊎◌, ℕ, List, IfOk, IfErr, OnErr};
 ghost use Rattle.model.specs.declared.refusal.Refusal.TheVariants.{Memory};
-ghost use Rattle.model.specs.Talk.{Silent, Names, Refuses, fresh, form_of, Gets, answer_text, told_in, is_bad_users};
-ghost use Rattle.model.specs.Events as events;
-ghost use Rattle.events.specs.Terms.{event_of, reply_of};
+ghost use Rattle.model.specs.Talk.{Silent, Names, Refuses, fresh, form_of, Gets, is_bad_users};
 ghost use Rattle.lines.specs.declared.reading.Reading.TheVariants as readings;
 ghost use Rattle.lines.specs.Reading.{Becomes, IsRowOf};
 ghost use Rattle.session.specs.Serving.{Gives, GivesRow, StopsAt};
 
-use crate::answer::Answer;
+use answering::{Answer, ask};
 use events::{Event, Reply};
-use lines::{Reading, Told, answer_text, read_line, told_in};
+use lines::{Reading, Told, answer_text, read_line};
 use model::Refusal;
 use std::alloc::Global;
 use std::marker::Model;
-use trust::User;
 
 /// Which lines a session knows.
 #[derive(Clone, Copy, Debug, PartialEq, Eq)]
@@ -176,56 +173,4 @@ fn is_bad_users(why: Refusal) -> bool
     ensures { result ≡ is_bad_users why }
 {
     matches!(why, Refusal::BadUsers)
-}
-
-/// What a reply tells, and what is printed for it.
-fn told_and_text(
-    alloc: Global,
-    number: usize,
-    actor: &User,
-    reply: Reply,
-) -> Result<(Told, Vec<u8>), Refusal>
-    ensures ok { IfOk result (λ r. (r.0 ≡ told_in (reply_of reply))
-        × (r.1.items ≡ answer_text number actor.now (reply_of reply))) }
-    ensures memory { IfErr result (λ why. why ≡ Memory) }
-{
-    let text = answer_text(alloc, number, actor.bytes(), &reply)?;
-    Ok((told_in(reply), text))
-}
-
-/// Hands an actor's event on. Gives what its reply tells, and what is printed for it.
-fn ask_by<A: Answer>(
-    alloc: Global,
-    number: usize,
-    actor: &User,
-    event: Event,
-    answer: &mut A,
-) -> Result<(Told, Vec<u8>), Refusal>
-    ensures ok { IfOk result (λ r. (reply : events.Reply) × (r.0 ≡ told_in reply)
-        × (r.1.items ≡ answer_text number actor.now reply)
-        × A.answers answer.old (event_of event) reply answer.new) }
-    ensures memory { IfErr result (λ why. why ≡ Memory) }
-    ensures asked { (reply : events.Reply)
-        × A.answers answer.old (event_of event) reply answer.new }
-{
-    let reply = answer.call(alloc, event);
-    told_and_text(alloc, number, actor, reply)
-}
-
-/// Hands an event on. Gives what its reply tells, and what is printed for it.
-fn ask<A: Answer>(
-    alloc: Global,
-    number: usize,
-    event: Event,
-    answer: &mut A,
-) -> Result<(Told, Vec<u8>), Refusal>
-    ensures ok { IfOk result (λ r. (reply : events.Reply) × (r.0 ≡ told_in reply)
-        × (r.1.items ≡ answer_text number event.actor reply)
-        × A.answers answer.old (event_of event) reply answer.new) }
-    ensures memory { IfErr result (λ why. why ≡ Memory) }
-    ensures err { OnErr result ((answer.new ≡ answer.old)
-        ⊎ ((reply : events.Reply) × A.answers answer.old (event_of event) reply answer.new)) }
-{
-    let actor = event.actor.clone()?;
-    ask_by(alloc, number, &actor, event, answer)
 }

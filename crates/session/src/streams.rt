@@ -5,7 +5,7 @@ ghost use Rattle.std.specs.Io.KnownBytes.{Appends, Consumes};
 ghost use Rattle.model.specs.declared.refusal.Refusal.TheVariants.{InputFault, OutputFault, Memory};
 ghost use Rattle.session.specs.Serving.{HasFailed, IsFault, MayBeFault, HasRead, HasWritten};
 
-use crate::answer::Faults;
+use crate::faults::Faults;
 use model::Refusal;
 use std::io::{Read, Write};
 

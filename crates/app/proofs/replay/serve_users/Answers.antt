@@ -1,6 +1,6 @@
 use Rattle.std.proofs.Common.{[], refl, inl, inr}
 use Rattle.session.proofs.RowLemmas.{err-is, consumes-none}
-use Rattle.book.specs.Callers.{newcomer}
+use Rattle.passes.specs.Callers.{newcomer}
 use Rattle.app.proofs.InputLemmas.{nothing_answered, by_memory}
 use Rattle.app.proofs.replay.serve_users.Goals as goal
 

@@ -2,7 +2,7 @@ use Rattle.std.proofs.Common.{◌≡◌, ℕ, ◌+◌, List, [], ◌∷◌, ◌+
 use Rattle.std.proofs.lemmas.List.{map_push}
 use Rattle.std.proofs.lemmas.List.Sums.{sum_by-append, sum_by-cons}
 use Rattle.std.proofs.lemmas.List.Elements.{All-push}
-use Rattle.book.specs.Callers.{Caller, Matches}
+use Rattle.passes.specs.Callers.{Caller, Matches}
 use Rattle.book.proofs.book.merged.Goals as goal
 
 -- the sum of a list with one number more

@@ -1,5 +1,5 @@
 use Rattle.std.specs.Prelude.{◌≡◌, ◌+◌, map, sum, length, All}
-use Rattle.book.specs.Callers.{Matches}
+use Rattle.passes.specs.Callers.{Matches}
 use Rattle.book.proofs.book.merged.Given as goal
 
 abbrev pub invariant-loop-pass : goal.invariant-loop-pass

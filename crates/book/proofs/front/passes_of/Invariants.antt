@@ -1,5 +1,5 @@
 use Rattle.std.specs.Prelude.{◌≡◌, ◌+◌, map, [], false}
-use Rattle.book.specs.Callers.{newcomer, below}
+use Rattle.passes.specs.Callers.{newcomer, below}
 use Rattle.book.proofs.front.passes_of.Given as goal
 
 abbrev pub invariant-loop-number : goal.invariant-loop-number

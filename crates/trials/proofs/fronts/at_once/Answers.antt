@@ -4,7 +4,7 @@ use denote.Param.Send.{IsSend, IsSync, arg_send, param_send, struct_send, record
 use denote.Param.SendFields.{declared_send, as_row_send}
 use Rattle.std.proofs.Crossing.{send}
 use Rattle.std.specs.declared.sync.ledger.Ledger as Ledger
-use Rattle.book.specs.declared.naming.Naming as Naming
+use Rattle.passes.specs.declared.naming.Naming as Naming
 use Rattle.trials.specs.contracts.fronts.Caller as Caller
 use Rattle.book.proofs.Crossing.{front_sync, pass_send}
 use Rattle.trials.proofs.fronts.at_once.Goals as goal

@@ -1,10 +1,10 @@
 use Rattle.std.proofs.Common.{◌≡◌, ap, sym, ◌∙◌, subst, false, List, [], ◌∷◌, ◌++◌, length, arith}
 use Rattle.std.proofs.lemmas.List.{length_push}
-use Rattle.book.specs.declared.history.Row.{Row}
-use Rattle.book.specs.declared.log.Recorded.{Recorded}
+use Rattle.passes.specs.declared.row.Row.{Row}
+use Rattle.passes.specs.declared.log.Recorded.{Recorded}
 use Rattle.book.specs.Histories.{row, gave_up}
 use Rattle.book.specs.Keeping.{Contents, Kept, Steps, IsModelReply}
-use Rattle.book.proofs.KeepingLemmas.{goes_on, stops, stays, replied, is_legal}
+use Rattle.book.proofs.KeepingLemmas.{goes_on, stops, stays, replied, is_legal, sure_of_all}
 use Rattle.book.proofs.book.Book.apply.Given.{Over}
 use Rattle.book.proofs.book.Book.apply.Goals as goal
 
@@ -88,3 +88,30 @@ returns-clause-reply g c some =
 
 pub returns-clause-legal : goal.returns-clause-legal
 returns-clause-legal g c = rw (rows_now g c) (is_legal g.J.Naming.setup c.step.new.core false (c.self.inside.history.items ++ c.in-Some.row ∷ []) (kept_now g c) c.isolation.ensures)
+
+-- ---- the only pass
+
+pub returns-then-stopped-clause-alone : goal.returns-then-stopped-clause-alone
+returns-then-stopped-clause-alone g c = λ one.
+    sure_of_all c.args.pass.now.sure c.compare.new.self.sure c.self.inside.log.rows c.self.inside.history.items _ c.compare.ensures.matches.sure c.self.invariant.4
+    c.compare.ensures.sure (c.audit.ensures.alone one).0 c.self.invariant.1 ∙ ap (λ (b : Contents). b.rows) c.self.view_is
+
+pub returns-in_default-clause-alone : goal.returns-in_default-clause-alone
+returns-in_default-clause-alone g c = λ one.
+    sure_of_all c.args.pass.now.sure c.compare.new.self.sure c.self.inside.log.rows c.self.inside.history.items _ c.compare.ensures.matches.sure c.self.invariant.4
+    c.compare.ensures.sure (c.audit.ensures.alone one).0 c.self.invariant.1 ∙ ap (λ (b : Contents). b.rows) c.self.view_is
+
+pub returns-in-Err-clause-alone : goal.returns-in-Err-clause-alone
+returns-in-Err-clause-alone g c = λ one.
+    sure_of_all c.args.pass.now.sure c.compare.new.self.sure c.self.inside.log.rows c.self.inside.history.items _ c.compare.ensures.matches.sure c.self.invariant.4
+    c.compare.ensures.sure (c.audit.ensures.alone one).0 c.self.invariant.1 ∙ ap (λ (b : Contents). b.rows) c.self.view_is
+
+pub returns-in_default-answered-clause-alone : goal.returns-in_default-answered-clause-alone
+returns-in_default-answered-clause-alone g c = λ one.
+    sure_of_all c.args.pass.now.sure c.compare.new.self.sure c.self.inside.log.rows c.self.inside.history.items _ c.compare.ensures.matches.sure c.self.invariant.4
+    c.compare.ensures.sure (c.audit.ensures.alone one).0 c.self.invariant.1 ∙ ap (λ (b : Contents). b.rows) c.self.view_is
+
+pub returns-clause-alone : goal.returns-clause-alone
+returns-clause-alone g c = λ one.
+    sure_of_all c.args.pass.now.sure c.compare.new.self.sure c.self.inside.log.rows c.self.inside.history.items _ c.compare.ensures.matches.sure c.self.invariant.4
+    c.compare.ensures.sure (c.audit.ensures.alone one).0 c.self.invariant.1 ∙ ap (λ (b : Contents). b.rows) c.self.view_is

@@ -1,0 +1,15 @@
+use Rattle.std.proofs.Common.{◌+◌, ap, ◌∙◌, arith}
+use Rattle.passes.specs.declared.log.Recorded.{Recorded}
+use Rattle.book.proofs.PassLemmas.{newcomers_next}
+use Rattle.book.proofs.front.passes_of.Goals as goal
+
+pub loop-number-preserved : goal.loop-number-preserved
+loop-number-preserved g c =
+    let i = c.loop-number.invariant in (
+      omega (arith, i.0, c.split_off-calls.ensures.parts_left),
+      omega (arith, i.1, c.split_off-calls.ensures.amount_left),
+      newcomers_next c.loop-number.number c.loop-number.passes.items c.push.new.self.items c.new.result i.2 c.in_ok-push.ensures.items c.new.ensures,
+      ap (λ (log : Recorded). log.rows) c.next_claim.ensures.log ∙ i.3,
+      ap (λ (log : Recorded). log.next) c.next_claim.ensures.log ∙ ap (λ n. n + 1) i.4,
+      ap (λ (log : Recorded). log.stopped) c.next_claim.ensures.log ∙ i.5,
+    )

@@ -1,5 +1,0 @@
-use Rattle.std.specs.Prelude.{◌++◌, ◌∷◌, []}
-use Rattle.book.proofs.log.Log.grow.Given as goal
-
-abbrev pub ghosts-grow_to : goal.ghosts-grow_to
-ghosts-grow_to g a = record { rows = a.self.now.rows ++ a.row.now ∷ [] }

@@ -1,0 +1,15 @@
+//! The callers of a front, and what they know of its history.
+//!
+//! A [`Pass`] is one caller. What it knows of the history, and what is recorded there, are tokens,
+//! which have no bytes: the [`Log`] lies under the lock, and each pass has a claim.
+#![tactic(auto)]
+
+mod log;
+mod naming;
+mod pass;
+mod row;
+
+pub use log::{Blank, Claim, Log, Opened};
+pub use naming::Naming;
+pub use pass::Pass;
+pub use row::Row;
