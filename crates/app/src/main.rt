@@ -4,8 +4,6 @@
 mod command_line;
 mod counted;
 mod fault;
-mod one_pass;
-mod replay;
 mod settings;
 mod strike;
 
@@ -13,6 +11,8 @@ use crate::counted::Counted;
 use crate::fault::{COMMAND_LINE_FAULT, Fault, OUT_OF_MEMORY, report};
 use crate::settings::{Action, Options};
 use model::Refusal;
+use replaying::replay;
+use schedule::Limits;
 use std::fs::File;
 use std::hash::RandomState;
 use std::io::{BufWriter, ErrorKind};
@@ -31,11 +31,14 @@ fn run_lines(
     let mut writer = Counted::new(BufWriter::new(rt.alloc(), io::writer(rt))?);
     let hashing = RandomState::new(rt)?;
     let alloc = rt.alloc();
+    let limits = Limits {
+        charge: options.charge,
+    };
     let ended = match &options.action {
-        Action::Replay => replay::replay(wait, alloc, hashing, options, reader, &mut writer),
+        Action::Replay => replay(wait, alloc, hashing, limits, reader, &mut writer),
         Action::Strike(user) => {
             let user = user.as_bytes();
-            strike::strike(alloc, hashing, options, user, reader, &mut writer)
+            strike::strike(alloc, hashing, limits, user, reader, &mut writer)
         }
     };
     Ok(report(rt, &ended, options.file.as_str()))

@@ -4,7 +4,6 @@ ghost use Rattle.std.specs.Prelude.{OnOk, ◌≤◌};
 ghost use Rattle.model.specs.Limits.{most_charge};
 ghost use Rattle.std.specs.Io.KnownBytes.{Appends};
 
-use crate::settings::Options;
 use model::Refusal;
 use schedule::{Core, Event, Limits, Reply, User, run};
 use session::{Ahead, Answer, Faults, Mode, NoUsers, Session, answer_text, read_ahead, serve};
@@ -273,14 +272,13 @@ fn strike_input<W: Write + Faults>(
 pub(crate) fn strike<R: Read + Faults, W: Write + Faults>(
     alloc: Global,
     hashing: RandomState,
-    options: &Options,
+    limits: Limits,
     name: &[u8],
     reader: &mut R,
     writer: &mut W,
-) -> Result<(), Refusal> {
+) -> Result<(), Refusal>
+    requires { limits.charge ≤ most_charge }
+{
     let input = read_whole(alloc, reader)?;
-    let limits = Limits {
-        charge: options.charge,
-    };
     strike_input(alloc, hashing, limits, name, input.as_slice(), writer)
 }

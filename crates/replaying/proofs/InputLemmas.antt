@@ -17,8 +17,8 @@ use Rattle.session.specs.Ahead.{NoUsersSoFar, LooksAhead}
 use Rattle.session.proofs.LineLemmas.{lines-newline, HasNoNewline-append}
 use Rattle.session.proofs.RowLemmas.{appends-none, appends-flushed}
 use Rattle.book.specs.Answering.{IsOnlyAnswer}
-use Rattle.app.specs.Replaying.{recorded_in, IsOneHistory, AreAnswered, Served, ServedInPart, IsReadAhead, Replayed, ReplayedInPart}
-use Rattle.app.proofs.ReplayLemmas.{one_history}
+use Rattle.replaying.specs.Replaying.{recorded_in, IsOneHistory, AreAnswered, Served, ServedInPart, IsReadAhead, Replayed, ReplayedInPart}
+use Rattle.replaying.proofs.ReplayLemmas.{one_history}
 
 -- ---- whole lines
 

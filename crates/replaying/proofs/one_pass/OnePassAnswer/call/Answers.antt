@@ -1,5 +1,5 @@
 use Rattle.book.proofs.AnsweringLemmas.{only_answer}
-use Rattle.app.proofs.one_pass.OnePassAnswer.call.Goals as goal
+use Rattle.replaying.proofs.one_pass.OnePassAnswer.call.Goals as goal
 
 pub returns : goal.returns
 returns g c =

@@ -1,7 +1,7 @@
 use Rattle.session.proofs.RowLemmas.{err-is, appends-kept}
-use Rattle.app.specs.Replaying.{IsReadAhead}
-use Rattle.app.proofs.InputLemmas.{on_ok, if_err, consumed, found_ahead, nothing_replayed, flushed, flushed_in_part, not_flushed, other_fault, either_way, by_memory, by_output}
-use Rattle.app.proofs.replay.replay.Goals as goal
+use Rattle.replaying.specs.Replaying.{IsReadAhead}
+use Rattle.replaying.proofs.InputLemmas.{on_ok, if_err, consumed, found_ahead, nothing_replayed, flushed, flushed_in_part, not_flushed, other_fault, either_way, by_memory, by_output}
+use Rattle.replaying.proofs.input.replay.Goals as goal
 
 pub returns-in_err-ahead-clause-err : goal.returns-in_err-ahead-clause-err
 returns-in_err-ahead-clause-err g c = err-is _ _ _ c.from_residual.ensures.1 (λ all known. nothing_replayed _ _ _ _ (by_memory _ c.in_err-ahead.ensures.memory))

@@ -1,8 +1,8 @@
 use Rattle.std.proofs.Common.{[], refl, inl, inr}
 use Rattle.session.proofs.RowLemmas.{err-is, consumes-none}
 use Rattle.passes.specs.Callers.{newcomer}
-use Rattle.app.proofs.InputLemmas.{nothing_answered, by_memory}
-use Rattle.app.proofs.replay.serve_users.Goals as goal
+use Rattle.replaying.proofs.InputLemmas.{nothing_answered, by_memory}
+use Rattle.replaying.proofs.input.serve_users.Goals as goal
 
 pub returns-in_err-core-clause-err : goal.returns-in_err-core-clause-err
 returns-in_err-core-clause-err g c = err-is _ _ _ c.from_residual.ensures.1 (λ are. record {

@@ -1,14 +1,15 @@
 //! Running the lines of one input.
 
-ghost use Rattle.std.specs.Prelude.{◌≡◌, ◌≤◌, ℕ, List, [], Some, true, OnOk, IfErr};
+ghost use Rattle.std.specs.Prelude.{◌≡◌, ◌≤◌, ◌⊎◌, ℕ, List, [], Some, true, OnOk, IfErr};
 ghost use Rattle.model.specs.Lines.{lines_of};
 ghost use Rattle.model.specs.Limits.{most_charge};
 ghost use Rattle.model.specs.Worlds.{are_users, nothing};
 ghost use Rattle.schedule.specs.Standing.{setup_for, setup_of, world_of, stored_in};
-ghost use Rattle.app.specs.Replaying.{Served, ServedInPart, IsReadAhead, Replayed, ReplayedInPart};
+ghost use Rattle.model.specs.declared.refusal.Refusal.TheVariants.{InputFault};
+ghost use Rattle.session.specs.Serving.{IsOwn};
+ghost use Rattle.replaying.specs.Replaying.{Served, ServedInPart, IsReadAhead, Replayed, ReplayedInPart};
 
 use crate::one_pass::OnePass;
-use crate::settings::Options;
 use book::{Blank, Front, Naming};
 use model::Refusal;
 use schedule::{Core, Limits, User};
@@ -36,6 +37,7 @@ fn serve_core<J: Naming, H: Wait, R: Read + Faults, W: Write + Faults>(
     ensures ok { OnOk result (Served J.setup (R.remaining reader.old) (R.remaining reader.new) (W.contents writer.old) (W.contents writer.new)) }
     ensures err { IfErr result
         (ServedInPart J.setup (R.remaining reader.old) (R.remaining reader.new) (W.contents writer.old) (W.contents writer.new)) }
+    ensures errors { IfErr result (λ why. (why ≡ InputFault) ⊎ IsOwn why) }
 {
     let (front, mut passes) = Front::<J>::new(alloc, blank, core, 1)?;
     let pass = passes.pop().unwrap();
@@ -60,6 +62,7 @@ fn serve_users<H: Wait, R: Read + Faults, W: Write + Faults>(
         (Served (setup_for users limits) (R.remaining reader.old) (R.remaining reader.new) (W.contents writer.old) (W.contents writer.new)) }
     ensures err { IfErr result (λ why. are_users users.items ≡ true →
         ServedInPart (setup_for users limits) (R.remaining reader.old) (R.remaining reader.new) (W.contents writer.old) (W.contents writer.new) why) }
+    ensures errors { IfErr result (λ why. (why ≡ InputFault) ⊎ IsOwn why) }
 {
     let core = Core::new(alloc, hashing, users, limits)?;
     let blank = Blank::new(alloc, 1)?;
@@ -72,15 +75,17 @@ fn answer_lines<H: Wait, R: Read + Faults, W: Write + Faults>(
     rt: &H,
     alloc: Global,
     hashing: RandomState,
-    options: &Options,
+    limits: Limits,
     ahead: Ahead,
     reader: &mut R,
     writer: &mut W,
 ) -> Result<(), Refusal>
+    requires { limits.charge ≤ most_charge }
     ensures ok { OnOk result ((all left : List ℕ) → R.remaining reader.old ≡ Some left → IsReadAhead all left ahead
-        → Replayed options.now.charge (W.contents writer.old) (W.contents writer.new) (lines_of all)) }
+        → Replayed limits.charge (W.contents writer.old) (W.contents writer.new) (lines_of all)) }
     ensures err { IfErr result (λ why. (all left : List ℕ) → R.remaining reader.old ≡ Some left → IsReadAhead all left ahead
-        → ReplayedInPart options.now.charge (W.contents writer.old) (W.contents writer.new) (lines_of all) why) }
+        → ReplayedInPart limits.charge (W.contents writer.old) (W.contents writer.new) (lines_of all) why) }
+    ensures errors { IfErr result (λ why. (why ≡ InputFault) ⊎ IsOwn why) }
 {
     if ahead.has_failed {
         let bytes = ahead.bytes.as_slice();
@@ -91,14 +96,11 @@ fn answer_lines<H: Wait, R: Read + Faults, W: Write + Faults>(
     let Some(users) = ahead.users else {
         return serve(alloc, Mode::Service, &mut reader, writer, &mut NoUsers);
     };
-    let limits = Limits {
-        charge: options.charge,
-    };
     serve_users(rt, alloc, hashing, users, limits, &mut reader, writer)
 }
 
-/// Answers the lines that a reader gives, in a store for the users whom they name first and under the
-/// charge of the options, and writes the replies. What is written is flushed, whatever the end.
+/// Answers the lines that a reader gives, in a store for the users whom they name first and under
+/// these limits, and writes the replies. What is written is flushed, whatever the end.
 ///
 /// # Errors
 ///
@@ -108,23 +110,25 @@ fn answer_lines<H: Wait, R: Read + Faults, W: Write + Faults>(
 /// - `InputFault` where the reader failed.
 /// - `OutputFault` where the writer failed.
 /// - `Memory` where memory was refused and no event can be answered for it.
-pub(crate) fn replay<H: Wait, R: Read + Faults, W: Write + Faults>(
+pub fn replay<H: Wait, R: Read + Faults, W: Write + Faults>(
     rt: &H,
     alloc: Global,
     hashing: RandomState,
-    options: &Options,
+    limits: Limits,
     reader: &mut R,
     writer: &mut W,
 ) -> Result<(), Refusal>
+    requires { limits.charge ≤ most_charge }
     // What a reader gives all of whose bytes are known, is answered to its end.
     ensures ok { OnOk result ((all : List ℕ) → R.remaining reader.old ≡ Some all
-        → Replayed options.now.charge (W.contents writer.old) (W.contents writer.new) (lines_of all)) }
+        → Replayed limits.charge (W.contents writer.old) (W.contents writer.new) (lines_of all)) }
     // Else its first lines are.
     ensures err { IfErr result (λ why. (all : List ℕ) → R.remaining reader.old ≡ Some all
-        → ReplayedInPart options.now.charge (W.contents writer.old) (W.contents writer.new) (lines_of all) why) }
+        → ReplayedInPart limits.charge (W.contents writer.old) (W.contents writer.new) (lines_of all) why) }
+    ensures errors { IfErr result (λ why. (why ≡ InputFault) ⊎ IsOwn why) }
 {
     let ahead = read_ahead(alloc, Mode::Service, reader)?;
-    let ended = answer_lines(rt, alloc, hashing, options, ahead, reader, writer);
+    let ended = answer_lines(rt, alloc, hashing, limits, ahead, reader, writer);
     match writer.flush() {
         Ok(()) => ended,
         Err(_) => Err(Refusal::OutputFault),

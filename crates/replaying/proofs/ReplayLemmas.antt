@@ -13,7 +13,7 @@ use Rattle.book.specs.Histories.{IsLegal}
 use Rattle.model.specs.Replies.{is_unrecorded}
 use Rattle.book.specs.Answering.{IsOnlyAnswer}
 use Rattle.book.proofs.HistoryLemmas.{legal_none}
-use Rattle.app.specs.Replaying.{recorded_in, pair_of, IsOneHistory}
+use Rattle.replaying.specs.Replaying.{recorded_in, pair_of, IsOneHistory}
 
 -- what one row has of recorded events
 abbrev recorded_of : talk.Row → List (Event × Reply)
