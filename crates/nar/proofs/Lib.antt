@@ -9,6 +9,8 @@ pub mod TextCompleteness
 pub mod LowerDigits
 pub mod ArchiveBytes
 pub mod EntrySteps
+pub mod EntryComparison
+pub mod WrittenEntries
 pub mod TextLengths
 pub mod ReadingSteps
 pub mod ArchiveSoundness

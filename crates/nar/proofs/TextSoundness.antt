@@ -11,7 +11,7 @@ use Rattle.model.specs.ArchiveReading.{Reader, ◌>>=◌, split_at, prefix_at, i
 use Rattle.model.specs.TreeTexts.{tree_text_of, entries_text_of, file_mark, separator}
 use Rattle.model.specs.Words.{IsWellFormed}
 use Rattle.model.proofs.BoolLemmas.{same_bytes, both_parts}
-use Rattle.nar.specs.TextReading.{is_lower_digit, digits_in_front, digits_at, closes, item_at, items_at, listed_at, kind_at, text_at, whole_at}
+use Rattle.nar.specs.TextReading.{is_lower_digit, digits_in_front, digits_at, closes, name_at, item_at, items_at, listed_at, leaf_of, leaf_at, kind_at, text_at, whole_at}
 use Rattle.nar.proofs.LowerDigits.{front_is, take_while-list_all, encode_lower-decode_of}
 use Rattle.nar.proofs.ReadingSteps.{bind_some, if_true, if_either, some_same, split_sound, prefix_sound, empty}
 use Rattle.nar.proofs.TextCompleteness.{item_grouped}
@@ -75,30 +75,49 @@ record AreItemsRead (most : ℕ) (first : Bool) (last whole : List ℕ) (entries
 abbrev ReadsTexts : ℕ → Reader → Type 0
 ReadsTexts depth node = (bytes : List ℕ) (r : Tree × List ℕ) → node bytes ≡ Some r → IsTextRead depth bytes r.0 r.1
 
+-- a name was read from these bytes, after that one
+record IsNameRead (last whole name rest : List ℕ) : Type 0 where
+  pub same : whole ≡ encode_lower name ++ (codes "=" ++ rest)
+  pub is_name : is_entry_name name ≡ true
+  pub in_order : bytes_before last name ≡ true
+  pub bytes : AreBytes name
+
+name_sound : (last bytes : List ℕ) (r : List ℕ × List ℕ) → name_at last bytes ≡ Some r → IsNameRead last bytes r.0 r.1
+unfolding name_at
+name_sound last bytes r h =
+    let Read : List ℕ × List ℕ → Type 0 = λ p. IsNameRead last bytes p.0 p.1 in
+    bind_some (digits_at bytes) _ r h
+    (λ n name h. bind_some (prefix_at (codes "=") n.1) _ r h
+    (λ rest sign h.
+    let named = digits_sound bytes n name in
+    let test = if_true (is_entry_name n.0 && bytes_before last n.0) (Some (n.0, rest)) r h in
+    let tests = both_parts _ _ test.0 in
+    subst Read (some_same _ _ test.1) (record {
+      same = named.same ∙ ap (λ s. encode_lower n.0 ++ s) (prefix_sound (codes "=") n.1 rest sign);
+      is_name = tests.0;
+      in_order = tests.1;
+      bytes = named.bytes;
+    })))
+
 item_sound : (depth : ℕ) (node : Reader) → ReadsTexts depth node → (last bytes : List ℕ) (r : (List ℕ × Tree) × List ℕ)
     → item_at node last bytes ≡ Some r → IsItemRead depth last bytes r.0.0 r.0.1 r.1
 unfolding item_at
 item_sound depth node reads last bytes r h =
     let Read : (List ℕ × Tree) × List ℕ → Type 0 = λ p. IsItemRead depth last bytes p.0.0 p.0.1 p.1 in
-    bind_some (digits_at bytes) _ r h
-    (λ n name h. bind_some (prefix_at (codes "=") n.1) _ r h
-    (λ rest sign h.
-    let named = digits_sound bytes n name in
-    let test = if_true (is_entry_name n.0 && bytes_before last n.0) (node rest >>= λ t. Some ((n.0, t.0), t.1)) r h in
-    let tests = both_parts _ _ test.0 in
-    bind_some (node rest) (λ t. Some ((n.0, t.0), t.1)) r test.1
+    bind_some (name_at last bytes) (λ n. node n.1 >>= λ t. Some ((n.0, t.0), t.1)) r h
+    (λ n name h. bind_some (node n.1) (λ t. Some ((n.0, t.0), t.1)) r h
     (λ t tree h.
-    let read = reads rest t tree in
-    let inner : n.1 ≡ codes "=" ++ (tree_text_of t.0 ++ t.1) = prefix_sound (codes "=") n.1 rest sign ∙ ap (λ s. codes "=" ++ s) read.same in
+    let named = name_sound last bytes n name in
+    let read = reads n.1 t tree in
     subst Read (some_same _ _ h) (record {
-      same = named.same ∙ ap (λ s. encode_lower n.0 ++ s) inner;
-      is_name = tests.0;
-      in_order = tests.1;
+      same = named.same ∙ ap (λ s. encode_lower n.0 ++ (codes "=" ++ s)) read.same;
+      is_name = named.is_name;
+      in_order = named.in_order;
       name_bytes = named.bytes;
       bytes = read.bytes;
       sound = read.sound;
       depth = read.depth;
-    }))))
+    })))
 
 items_sound : (depth : ℕ) (node : Reader) → ReadsTexts depth node → (n : ℕ) (first : Bool) (last bytes : List ℕ) (r : Entries × List ℕ)
     → items_at node n first last bytes ≡ Some r → AreItemsRead depth first last bytes r.0 r.1
@@ -145,45 +164,50 @@ listed_sound depth node reads bytes r h =
     subst (Follows (suc depth) (codes "d(") bytes) (some_same _ _ h)
     (record { same = ap (λ s. codes "d(" ++ s) all ∙ grouped; bytes = read.bytes; sound = read.sound; depth = omega (arith, read.depth) })))
 
-file_sound : (depth : ℕ) (executable : Bool) (bytes : List ℕ) (r : Tree × List ℕ)
-    → (digits_at bytes >>= λ decoded. Some (File executable decoded.0, decoded.1)) ≡ Some r → Follows (suc depth) (file_mark executable) bytes r
-file_sound depth executable bytes r h =
-    bind_some (digits_at bytes) (λ decoded. Some (File executable decoded.0, decoded.1)) r h
-    (λ text digits h.
-    let read = digits_sound bytes text digits in
-    let same = ap (λ s. file_mark executable ++ s) read.same ∙ sym (append_assoc (file_mark executable) (encode_lower text.0) text.1) in
-    subst (Follows (suc depth) (file_mark executable) bytes) (some_same _ _ h) (record { same = same; bytes = read.bytes; sound = tt; depth = omega arith }))
+file_sound : (depth : ℕ) (executable : Bool) (bytes text rest : List ℕ) → AreDigitsRead bytes text rest
+    → Follows (suc depth) (file_mark executable) bytes (File executable text, rest)
+file_sound depth executable bytes text rest read =
+    let same = ap (λ s. file_mark executable ++ s) read.same ∙ sym (append_assoc (file_mark executable) (encode_lower text) rest) in
+    record { same = same; bytes = read.bytes; sound = tt; depth = omega arith }
 
-link_sound : (depth : ℕ) (bytes : List ℕ) (r : Tree × List ℕ) → (digits_at bytes >>= λ decoded. Some (Link decoded.0, decoded.1)) ≡ Some r
-    → Follows (suc depth) (codes "l:") bytes r
-link_sound depth bytes r h =
-    bind_some (digits_at bytes) (λ decoded. Some (Link decoded.0, decoded.1)) r h
-    (λ text digits h.
-    let read = digits_sound bytes text digits in
-    let same = ap (λ s. codes "l:" ++ s) read.same ∙ sym (append_assoc (codes "l:") (encode_lower text.0) text.1) in
-    subst (Follows (suc depth) (codes "l:") bytes) (some_same _ _ h) (record { same = same; bytes = read.bytes; sound = tt; depth = omega arith }))
+link_sound : (depth : ℕ) (bytes text rest : List ℕ) → AreDigitsRead bytes text rest → Follows (suc depth) (codes "l:") bytes (Link text, rest)
+link_sound depth bytes text rest read =
+    let same = ap (λ s. codes "l:" ++ s) read.same ∙ sym (append_assoc (codes "l:") (encode_lower text) rest) in
+    record { same = same; bytes = read.bytes; sound = tt; depth = omega arith }
+
+leaf_of_sound : (depth : ℕ) (kind bytes text rest : List ℕ) (tree : Tree) → AreDigitsRead bytes text rest → leaf_of kind text ≡ Some tree
+    → Follows (suc depth) kind bytes (tree, rest)
+leaf_of_sound depth kind bytes text rest tree read h =
+    let Read : List ℕ → Tree → Type 0 = λ k t. Follows (suc depth) k bytes (t, rest) in
+    let links : Option Tree = cond (bytes_eq kind (codes "l:")) (Some (Link text)) None in
+    let executables : Option Tree = cond (bytes_eq kind (codes "x:")) (Some (File true text)) links in
+    elim (if_either (bytes_eq kind (codes "f:")) (Some (File false text)) executables tree h) [
+      | inl e ↦ subst (Read kind) (some_same _ _ e.1) (subst (λ k. Read k (File false text)) (sym (same_bytes _ _ e.0)) (file_sound depth false bytes text rest read))
+      | inr e ↦ elim (if_either (bytes_eq kind (codes "x:")) (Some (File true text)) links tree e.1) [
+        | inl e ↦ subst (Read kind) (some_same _ _ e.1) (subst (λ k. Read k (File true text)) (sym (same_bytes _ _ e.0)) (file_sound depth true bytes text rest read))
+        | inr e ↦
+            let is = if_true (bytes_eq kind (codes "l:")) (Some (Link text)) tree e.1 in
+            subst (Read kind) (some_same _ _ is.1) (subst (λ k. Read k (Link text)) (sym (same_bytes _ _ is.0)) (link_sound depth bytes text rest read))
+      ]
+    ]
+
+leaf_sound : (depth : ℕ) (kind bytes : List ℕ) (r : Tree × List ℕ) → leaf_at kind bytes ≡ Some r → Follows (suc depth) kind bytes r
+unfolding leaf_at
+leaf_sound depth kind bytes r h =
+    bind_some (digits_at bytes) (λ decoded. leaf_of kind decoded.0 >>= λ tree. Some (tree, decoded.1)) r h
+    (λ decoded digits h. bind_some (leaf_of kind decoded.0) (λ tree. Some (tree, decoded.1)) r h
+    (λ tree leaf h.
+    subst (Follows (suc depth) kind bytes) (some_same _ _ h)
+    (leaf_of_sound depth kind bytes decoded.0 decoded.1 tree (digits_sound bytes decoded digits) leaf)))
 
 kind_sound : (depth : ℕ) (node : Reader) → ReadsTexts depth node → (kind bytes : List ℕ) (r : Tree × List ℕ) → kind_at node kind bytes ≡ Some r
     → Follows (suc depth) kind bytes r
 unfolding kind_at
 kind_sound depth node reads kind bytes r h =
     let Read : List ℕ → Type 0 = λ k. Follows (suc depth) k bytes r in
-    let file : Bool → Option (Tree × List ℕ) = λ executable. digits_at bytes >>= λ decoded. Some (File executable decoded.0, decoded.1) in
-    let link : Option (Tree × List ℕ) = digits_at bytes >>= λ decoded. Some (Link decoded.0, decoded.1) in
-    let directory : Option (Tree × List ℕ) = cond (bytes_eq kind (codes "d(")) (listed_at node bytes) None in
-    let links : Option (Tree × List ℕ) = cond (bytes_eq kind (codes "l:")) link directory in
-    let executables : Option (Tree × List ℕ) = cond (bytes_eq kind (codes "x:")) (file true) links in
-    elim (if_either (bytes_eq kind (codes "f:")) (file false) executables r h) [
-      | inl e ↦ subst Read (sym (same_bytes _ _ e.0)) (file_sound depth false bytes r e.1)
-      | inr e ↦ elim (if_either (bytes_eq kind (codes "x:")) (file true) links r e.1) [
-        | inl e ↦ subst Read (sym (same_bytes _ _ e.0)) (file_sound depth true bytes r e.1)
-        | inr e ↦ elim (if_either (bytes_eq kind (codes "l:")) link directory r e.1) [
-          | inl e ↦ subst Read (sym (same_bytes _ _ e.0)) (link_sound depth bytes r e.1)
-          | inr e ↦
-              let is = if_true (bytes_eq kind (codes "d(")) (listed_at node bytes) r e.1 in
-              subst Read (sym (same_bytes _ _ is.0)) (listed_sound depth node reads bytes r is.1)
-        ]
-      ]
+    elim (if_either (bytes_eq kind (codes "d(")) (listed_at node bytes) (leaf_at kind bytes) r h) [
+      | inl e ↦ subst Read (sym (same_bytes _ _ e.0)) (listed_sound depth node reads bytes r e.1)
+      | inr e ↦ leaf_sound depth kind bytes r e.1
     ]
 
 text_sound : (depth : ℕ) → ReadsTexts depth (text_at depth)

@@ -1,5 +1,6 @@
 -- What a reader returned, against what reading gives.
-use Rattle.std.specs.Prelude.{◌≡◌, Option, Some, None, Result, Ok, Err}
+use Rattle.std.specs.Prelude.{◌≡◌, ℕ, List, length, nat_eq, Option, Some, None, Result, Ok, Err, if◌then◌else◌}
+use Rattle.model.specs.Archives.{Tree}
 use Rattle.nar.specs.declared.reading.ReadError.{ReadError}
 use Rattle.nar.specs.declared.reading.ReadError.TheVariants.{Memory, Malformed}
 
@@ -12,3 +13,7 @@ Fails Malformed read = read ≡ None
 abbrev pub Gives : {X Y : Type 0} → (X → Y) → Result X ReadError → Option Y → Type 0
 Gives view (Ok x) read = read ≡ Some (view x)
 Gives view (Err why) read = Fails why read
+
+-- a tree that nothing follows
+abbrev pub alone : Tree → List ℕ → Option Tree
+alone tree rest = if nat_eq (length rest) 0 then Some tree else None

@@ -1,17 +1,19 @@
 //! Reading an archive.
 
 ghost use Rattle.std.specs.Prelude.{◌≡◌, ◌⊎◌, IfOk, IfErr, MatchResult, Some, None, length, []};
+ghost use Rattle.std.specs.Arc.{arc_value};
 ghost use Rattle.model.specs.Archives.{nar, IsTree};
-ghost use Rattle.model.specs.ArchiveReading.{executable_at, head_at, closed_at, file_at, link_at, name_at, entry_at, entries_at, directory_at, body_at, node_at, tree_at, tree_of_archive};
+ghost use Rattle.model.specs.ArchiveReading.{executable_at, head_at, closed_at, file_at, link_at, name_at, entries_at, directory_at, node_at, tree_at, tree_of_archive};
 ghost use Rattle.model.specs.declared.refusal.Refusal.TheVariants.{Memory};
-ghost use Rattle.nar.specs.NodeTrees.{tree_of, entries_of};
+ghost use Rattle.nar.specs.NodeTrees.{tree_of, entries_of, last_name_of};
+ghost use Rattle.nar.specs.ArchiveSteps.{leaf_at, next_is_entry, next_name_at, next_entry_at};
 ghost use Rattle.nar.specs.Outcomes.{Gives};
 ghost use Rattle.nar.specs.Refusing.{IsNoArchive};
 
 use crate::measures::node_depth;
 use crate::names::{comes_before, is_name};
-use crate::node::{Node, shared};
-use crate::reading::ReadError;
+use crate::node::{Node, last_name, named};
+use crate::reading::{ReadError, alone};
 use crate::strings::{read_string, skip_string};
 use crate::tree::{MAX_DEPTH, MAX_NAR_LEN, Tree};
 use model::Refusal;
@@ -50,16 +52,12 @@ pub fn decode(alloc: Global, bytes: &[u8]) -> Result<Tree, Refusal>
 }
 
 // The node of a whole text.
-#[tactic(auto, unfolding(model::specs::ArchiveReading::tree_at))]
 fn read_whole(alloc: Global, bytes: &[u8]) -> Result<Node, ReadError>
     ensures { Gives tree_of result (tree_at bytes.now) }
 {
     let rest = skip_string(bytes, b"nix-archive-1")?;
     let (node, rest) = read_node(alloc, rest, MAX_DEPTH)?;
-    match rest {
-        [] => Ok(node),
-        _ => Err(ReadError::Malformed),
-    }
+    alone(node, rest)
 }
 
 // A node of at most this depth.
@@ -72,7 +70,10 @@ fn read_node(alloc: Global, bytes: &[u8], depth: usize) -> Result<(Node, &[u8]),
         return Err(ReadError::Malformed);
     }
     let (kind, rest) = read_head(bytes)?;
-    read_body(alloc, kind, rest, depth - 1)
+    if kind == b"directory".as_slice() {
+        return read_directory(alloc, rest, depth - 1);
+    }
+    read_leaf(alloc, kind, rest)
 }
 
 // The beginning of a node, with the name of its kind.
@@ -86,26 +87,16 @@ fn read_head(bytes: &[u8]) -> Result<(&[u8], &[u8]), ReadError>
     Ok((kind, rest))
 }
 
-// A node of a kind, behind the kind's name.
-#[cycle(read)]
-#[tactic(auto, unfolding(model::specs::ArchiveReading::body_at))]
-fn read_body<'a>(
-    alloc: Global,
-    kind: &[u8],
-    bytes: &'a [u8],
-    depth: usize,
-) -> Result<(Node, &'a [u8]), ReadError>
-    ensures { Gives (λ r. (tree_of r.0, r.1.now)) result
-        (body_at (node_at depth) kind.now bytes.now) }
+// A file or a link, behind the name of its kind.
+#[tactic(auto, unfolding(crate::specs::ArchiveSteps::leaf_at))]
+fn read_leaf<'a>(alloc: Global, kind: &[u8], bytes: &'a [u8]) -> Result<(Node, &'a [u8]), ReadError>
+    ensures { Gives (λ r. (tree_of r.0, r.1.now)) result (leaf_at kind.now bytes.now) }
 {
     if kind == b"regular".as_slice() {
         return read_file(alloc, bytes);
     }
     if kind == b"symlink".as_slice() {
         return read_link(alloc, bytes);
-    }
-    if kind == b"directory".as_slice() {
-        return read_directory(alloc, bytes, depth);
     }
     Err(ReadError::Malformed)
 }
@@ -188,45 +179,61 @@ fn read_entries(
         (entries_at (node_at depth) (length bytes.now) [] bytes.now) }
 {
     let mut entries = Vec::new(alloc);
-    let mut last = b"".as_slice();
     let mut rest = bytes;
     for _ in 0..bytes.len() {
-        let (tag, _after) = read_string(rest)?;
-        if tag != b"entry".as_slice() {
+        let comes = entry_comes(rest)?;
+        if !comes {
             return Ok((entries, rest));
         }
-        let ((name, node), after) = read_entry(alloc, last, rest, depth)?;
-        let kept = Vec::from_slice(alloc, name)?;
-        let node = shared(alloc, node)?;
-        entries.push((kept, node))?;
-        last = name;
+        let (entry, after) = read_entry(alloc, &entries, rest, depth)?;
+        entries.push(entry)?;
         rest = after;
     }
     Ok((entries, rest))
 }
 
-// One entry of a directory, whose name comes after the last one.
+// Whether an entry comes next.
+#[tactic(auto, unfolding(crate::specs::ArchiveSteps::next_is_entry))]
+fn entry_comes(bytes: &[u8]) -> Result<bool, ReadError>
+    ensures { Gives (λ comes. comes) result (next_is_entry bytes.now) }
+{
+    let (tag, _rest) = read_string(bytes)?;
+    Ok(tag == b"entry".as_slice())
+}
+
+// One entry of a directory, whose name comes after those before it.
 #[cycle(read)]
-#[tactic(auto, unfolding(model::specs::ArchiveReading::entry_at))]
+#[tactic(auto, unfolding(crate::specs::ArchiveSteps::next_entry_at))]
 fn read_entry<'a>(
     alloc: Global,
-    last: &[u8],
+    before: &[(Vec<u8>, Arc<Node>)],
     bytes: &'a [u8],
     depth: usize,
-) -> Result<((&'a [u8], Node), &'a [u8]), ReadError>
-    ensures { Gives (λ r. ((r.0.0.now, tree_of r.0.1), r.1.now)) result
-        (entry_at (node_at depth) last.now bytes.now) }
+) -> Result<((Vec<u8>, Arc<Node>), &'a [u8]), ReadError>
+    ensures { Gives (λ r. ((r.0.0.items, tree_of (arc_value r.0.1)), r.1.now)) result
+        (next_entry_at (node_at depth) (last_name_of before.now) bytes.now) }
+{
+    let (name, rest) = read_next_name(last_name(before), bytes)?;
+    let (node, rest) = read_node(alloc, rest, depth)?;
+    let rest = skip_string(rest, b")")?;
+    let entry = named(alloc, name, node)?;
+    Ok((entry, rest))
+}
+
+// The beginning of an entry, whose name comes after the last one.
+#[tactic(auto, unfolding(crate::specs::ArchiveSteps::next_name_at))]
+fn read_next_name<'a>(last: &[u8], bytes: &'a [u8]) -> Result<(&'a [u8], &'a [u8]), ReadError>
+    ensures { Gives (λ r. (r.0.now, r.1.now)) result (next_name_at last.now bytes.now) }
 {
     let (name, rest) = read_name(bytes)?;
     if is_name(name) && comes_before(last, name) {
-        let (node, rest) = read_node(alloc, rest, depth)?;
-        let rest = skip_string(rest, b")")?;
-        Ok(((name, node), rest))
+        Ok((name, rest))
     } else {
         Err(ReadError::Malformed)
     }
 }
 
+// The beginning of an entry, with its name.
 #[tactic(auto, unfolding(model::specs::ArchiveReading::name_at))]
 fn read_name(bytes: &[u8]) -> Result<(&[u8], &[u8]), ReadError>
     ensures { Gives (λ r. (r.0.now, r.1.now)) result (name_at bytes.now) }

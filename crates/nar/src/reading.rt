@@ -1,12 +1,14 @@
 //! What the readers of archives and of tree texts share.
 
 ghost use Rattle.model.specs.ArchiveReading.{split_at, prefix_at};
-ghost use Rattle.nar.specs.Outcomes.{Gives};
+ghost use Rattle.nar.specs.NodeTrees.{tree_of};
+ghost use Rattle.nar.specs.Outcomes.{Gives, alone};
 
+use crate::node::Node;
 use std::alloc::{AllocError, AllocFailed};
 
 // Why nothing was read.
-#[derive(Debug, Drop)]
+#[derive(Drop)]
 pub(crate) enum ReadError {
     // No text begins so.
     Malformed,
@@ -57,4 +59,14 @@ pub(crate) fn skip_prefix<'a>(bytes: &'a [u8], prefix: &[u8]) -> Result<&'a [u8]
         return Err(ReadError::Malformed);
     }
     Ok(rest)
+}
+
+// A node that nothing follows.
+pub(crate) fn alone(node: Node, rest: &[u8]) -> Result<Node, ReadError>
+    ensures { Gives tree_of result (alone (tree_of node) rest.now) }
+{
+    if !rest.is_empty() {
+        return Err(ReadError::Malformed);
+    }
+    Ok(node)
 }

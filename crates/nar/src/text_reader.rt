@@ -1,6 +1,7 @@
 //! Reading the text of a tree.
 
 ghost use Rattle.std.specs.Prelude.{◌≡◌, IfOk, IfErr, length, true, []};
+ghost use Rattle.std.specs.Arc.{arc_value};
 ghost use Rattle.std.specs.List.{list_all};
 ghost use Rattle.std.specs.Result.{result_ok};
 ghost use Rattle.hex.specs.Hex.{decode_of};
@@ -8,14 +9,14 @@ ghost use Rattle.model.specs.Archives.{IsTree};
 ghost use Rattle.model.specs.TreeTexts.{tree_text_of, separator};
 ghost use Rattle.nar.specs.NodeTrees.{tree_of, entries_of, last_name_of};
 ghost use Rattle.model.specs.ArchiveReading.{prefix_at};
-ghost use Rattle.nar.specs.TextReading.{is_lower_digit, digits_in_front, digits_at, closes, item_at, items_at, listed_at, kind_at, text_at, whole_at};
+ghost use Rattle.nar.specs.TextReading.{is_lower_digit, digits_in_front, digits_at, closes, name_at, item_at, items_at, listed_at, leaf_of, leaf_at, text_at, whole_at};
 ghost use Rattle.nar.specs.Outcomes.{Gives};
 ghost use Rattle.nar.specs.Refusing.{IsNoText};
 
 use crate::measures::{node_depth, node_len};
 use crate::names::{comes_before, is_name};
-use crate::node::{Node, shared};
-use crate::reading::{ReadError, skip_prefix, split};
+use crate::node::{Node, last_name, shared};
+use crate::reading::{ReadError, alone, skip_prefix, split};
 use crate::text_writer::separator_before;
 use crate::tree::{MAX_DEPTH, MAX_NAR_LEN, Tree};
 use hex::FromHexError;
@@ -62,10 +63,7 @@ fn read_whole_text(alloc: Global, bytes: &[u8]) -> Result<Node, ReadError>
     ensures { Gives tree_of result (whole_at bytes.now) }
 {
     let (node, rest) = read_text(alloc, bytes, MAX_DEPTH)?;
-    match rest {
-        [] => Ok(node),
-        _ => Err(ReadError::Malformed),
-    }
+    alone(node, rest)
 }
 
 // The text of a tree of at most this depth.
@@ -78,47 +76,40 @@ fn read_text(alloc: Global, bytes: &[u8], depth: usize) -> Result<(Node, &[u8]),
         return Err(ReadError::Malformed);
     }
     let (kind, rest) = split(bytes, 2)?;
-    read_kind(alloc, kind, rest, depth - 1)
+    if kind == b"d(".as_slice() {
+        return read_listed(alloc, rest, depth - 1);
+    }
+    read_leaf(alloc, kind, rest)
 }
 
-// A tree of a kind, behind the kind's mark.
-#[cycle(parse)]
-#[tactic(auto, unfolding(crate::specs::TextReading::kind_at))]
-fn read_kind<'a>(
-    alloc: Global,
-    kind: &[u8],
-    bytes: &'a [u8],
-    depth: usize,
-) -> Result<(Node, &'a [u8]), ReadError>
-    ensures { Gives (λ r. (tree_of r.0, r.1.now)) result
-        (kind_at (text_at depth) kind.now bytes.now) }
+// A file or a link, behind the kind's mark.
+#[tactic(auto, unfolding(crate::specs::TextReading::leaf_at))]
+fn read_leaf<'a>(alloc: Global, kind: &[u8], bytes: &'a [u8]) -> Result<(Node, &'a [u8]), ReadError>
+    ensures { Gives (λ r. (tree_of r.0, r.1.now)) result (leaf_at kind.now bytes.now) }
+{
+    let (decoded, rest) = read_digits(alloc, bytes)?;
+    let node = leaf(kind, decoded)?;
+    Ok((node, rest))
+}
+
+// The file or the link of a kind that has these bytes.
+fn leaf(kind: &[u8], bytes: Vec<u8>) -> Result<Node, ReadError>
+    ensures { Gives tree_of result (leaf_of kind.now bytes.items) }
 {
     if kind == b"f:".as_slice() {
-        let (decoded, rest) = read_digits(alloc, bytes)?;
-        return Ok((
-            Node::File {
-                executable: false,
-                bytes: decoded,
-            },
-            rest,
-        ));
+        return Ok(Node::File {
+            executable: false,
+            bytes,
+        });
     }
     if kind == b"x:".as_slice() {
-        let (decoded, rest) = read_digits(alloc, bytes)?;
-        return Ok((
-            Node::File {
-                executable: true,
-                bytes: decoded,
-            },
-            rest,
-        ));
+        return Ok(Node::File {
+            executable: true,
+            bytes,
+        });
     }
     if kind == b"l:".as_slice() {
-        let (decoded, rest) = read_digits(alloc, bytes)?;
-        return Ok((Node::Link { target: decoded }, rest));
-    }
-    if kind == b"d(".as_slice() {
-        return read_listed(alloc, bytes, depth);
+        return Ok(Node::Link { target: bytes });
     }
     Err(ReadError::Malformed)
 }
@@ -153,23 +144,12 @@ fn read_items(
             return Ok((entries, rest));
         }
         let start = skip_separator(rest, first)?;
-        let ((name, node), after) = read_item(alloc, last_name(&entries), start, depth)?;
-        let node = shared(alloc, node)?;
-        entries.push((name, node))?;
+        let (entry, after) = read_item(alloc, &entries, start, depth)?;
+        entries.push(entry)?;
         first = false;
         rest = after;
     }
     Ok((entries, rest))
-}
-
-// The name of the last entry, or nothing.
-fn last_name(entries: &[(Vec<u8>, Arc<Node>)]) -> &[u8]
-    ensures { result.now ≡ last_name_of entries.now }
-{
-    match entries {
-        [] => b"",
-        [.., last] => last.0.as_slice(),
-    }
 }
 
 // Whether a closing bracket comes next.
@@ -189,23 +169,37 @@ fn skip_separator(bytes: &[u8], first: bool) -> Result<&[u8], ReadError>
     skip_prefix(bytes, separator_before(first))
 }
 
-// An entry whose name comes after the last one.
+// An entry, whose name comes after those before it.
 #[cycle(parse)]
 #[tactic(auto, unfolding(crate::specs::TextReading::item_at))]
 fn read_item<'a>(
     alloc: Global,
-    last: &[u8],
+    before: &[(Vec<u8>, Arc<Node>)],
     bytes: &'a [u8],
     depth: usize,
-) -> Result<((Vec<u8>, Node), &'a [u8]), ReadError>
-    ensures { Gives (λ r. ((r.0.0.items, tree_of r.0.1), r.1.now)) result
-        (item_at (text_at depth) last.now bytes.now) }
+) -> Result<((Vec<u8>, Arc<Node>), &'a [u8]), ReadError>
+    ensures { Gives (λ r. ((r.0.0.items, tree_of (arc_value r.0.1)), r.1.now)) result
+        (item_at (text_at depth) (last_name_of before.now) bytes.now) }
+{
+    let (name, rest) = read_next_name(alloc, last_name(before), bytes)?;
+    let (node, rest) = read_text(alloc, rest, depth)?;
+    let node = shared(alloc, node)?;
+    Ok(((name, node), rest))
+}
+
+// The name of an entry, which comes after the last one.
+#[tactic(auto, unfolding(crate::specs::TextReading::name_at))]
+fn read_next_name<'a>(
+    alloc: Global,
+    last: &[u8],
+    bytes: &'a [u8],
+) -> Result<(Vec<u8>, &'a [u8]), ReadError>
+    ensures { Gives (λ r. (r.0.items, r.1.now)) result (name_at last.now bytes.now) }
 {
     let (name, rest) = read_digits(alloc, bytes)?;
     let rest = skip_prefix(rest, b"=")?;
     if is_name(&name) && comes_before(last, &name) {
-        let (node, rest) = read_text(alloc, rest, depth)?;
-        Ok(((name, node), rest))
+        Ok((name, rest))
     } else {
         Err(ReadError::Malformed)
     }

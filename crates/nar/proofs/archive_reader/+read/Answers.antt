@@ -1,56 +1,65 @@
-use Rattle.std.proofs.Common.{rules, ◌≡◌, ◌++◌, ◌-◌, ◌<◌, ◌+◌, ℕ, List, ◌∷◌, [], length, true, false, codes, arith, subst, sym, ap, ◌∙◌}
+use Rattle.std.proofs.Common.{rules, ◌≡◌, ◌++◌, ◌-◌, ◌<◌, ◌+◌, List, ◌∷◌, [], length, true, false, codes, arith, subst, sym, ap, ◌∙◌}
 use Rattle.std.proofs.lemmas.Result.{err_from_is_err_and}
 use Rattle.std.specs.Prelude.{Some}
 use Rattle.std.specs.Str.{bytes_eq}
-use Rattle.model.specs.Archives.{Tree}
-use Rattle.model.specs.ArchiveReading.{entry_at, entries_at, node_at}
-use Rattle.nar.specs.NodeTrees.{tree_of, NamedNode}
-use Rattle.nar.proofs.ReadEntries.{behind, entries_at-no_string, entries_at-other_string, entries_at-bad_entry, fails_on, entries_at-push}
+use Rattle.model.specs.ArchiveReading.{entries_at, node_at}
+use Rattle.nar.specs.ArchiveSteps.{next_is_entry, next_entry_at}
+use Rattle.nar.specs.NodeTrees.{last_name_of, NamedNode}
+use Rattle.nar.proofs.ReadEntries.{behind, fails_on, node_at-directory, node_at-leaf, entries_at-none, entries_at-end, entries_at-refused, entries_at-push}
 use Rattle.nar.proofs.archive_reader.+read.Goals as goal
 
-pub read_entries-returns-in_err-tag : goal.read_entries-returns-in_err-tag
-read_entries-returns-in_err-tag t c =
+pub read_node-returns-then-eq : goal.read_node-returns-then-eq
+read_node-returns-then-eq t c =
+    let some : 0 < c.args.depth = omega arith in
+    let is : bytes_eq c.in_ok-kind.kind.now (codes "directory") ≡ true = search rules in
+    rw (node_at-directory c.args.depth c.args.bytes.now c.in_ok-kind.kind.now c.in_ok-kind.rest.now some c.in_ok-kind.ensures is) c.read_directory.ensures
+
+pub read_node-returns : goal.read_node-returns
+read_node-returns t c =
+    let some : 0 < c.args.depth = omega arith in
+    let is : bytes_eq c.in_ok-kind.kind.now (codes "directory") ≡ false = search rules in
+    rw (node_at-leaf c.args.depth c.args.bytes.now c.in_ok-kind.kind.now c.in_ok-kind.rest.now some c.in_ok-kind.ensures is) c.read_leaf.ensures
+
+pub read_entries-returns-in_err-comes : goal.read_entries-returns-in_err-comes
+read_entries-returns-in_err-comes t c =
     let p = err_from_is_err_and c.from_residual.result c.from_residual.ensures.1 in
     let room : 0 < length c.args.bytes.now - c.loop.counter = omega arith in
-    rw (p.1, p.2) (fails_on _ _ _ (λ e. c.loop.invariant ∙ ap (behind c.loop.entries.items) (entries_at-no_string _ _ _ _ room e)) c.in_err-tag.ensures)
+    rw (p.1, p.2) (fails_on _ _ _ (λ e. c.loop.invariant ∙ ap (behind c.loop.entries.items) (entries_at-none _ _ _ _ room e)) c.in_err-comes.ensures)
 
-pub read_entries-returns-in_err-name : goal.read_entries-returns-in_err-name
-read_entries-returns-in_err-name t c =
-    let p = err_from_is_err_and c.from_residual-in_err-name.result c.from_residual-in_err-name.ensures.1 in
+pub read_entries-returns-in_err-entry : goal.read_entries-returns-in_err-entry
+read_entries-returns-in_err-entry t c =
+    let p = err_from_is_err_and c.from_residual-in_err-entry.result c.from_residual-in_err-entry.ensures.1 in
     let room : 0 < length c.args.bytes.now - c.loop.counter = omega arith in
-    let here : bytes_eq c.in_ok-tag.tag.now (codes "entry") ≡ true = search rules in
+    let here : next_is_entry c.loop.rest.now ≡ Some true = c.in_ok-comes.ensures ∙ ap Some c.if-not-comes.false in
+    let same = ap (λ es. next_entry_at (node_at c.args.depth) (last_name_of es) c.loop.rest.now) (sym c.deref.ensures.value) in
     rw (p.1, p.2)
-    (fails_on _ _ _ (λ e. c.loop.invariant ∙ ap (behind c.loop.entries.items) (entries_at-bad_entry _ _ _ _ _ room c.in_ok-tag.ensures here e)) c.in_err-name.ensures)
+    (fails_on _ _ _ (λ e. c.loop.invariant ∙ ap (behind c.loop.entries.items) (entries_at-refused _ _ _ _ room here (same ∙ e))) c.in_err-entry.ensures)
 
-pub read_entries-returns-then-ne : goal.read_entries-returns-then-ne
-read_entries-returns-then-ne t c =
+pub read_entries-returns-then-not-comes : goal.read_entries-returns-then-not-comes
+read_entries-returns-then-not-comes t c =
     let room : 0 < length c.args.bytes.now - c.loop.counter = omega arith in
-    let here : bytes_eq c.in_ok-tag.tag.now (codes "entry") ≡ false = search rules in
-    c.loop.invariant ∙ ap (behind c.loop.entries.items) (entries_at-other_string _ _ _ _ _ room c.in_ok-tag.ensures here)
+    let here : next_is_entry c.loop.rest.now ≡ Some false = c.in_ok-comes.ensures ∙ ap Some c.if-not-comes.true in
+    c.loop.invariant ∙ ap (behind c.loop.entries.items) (entries_at-end _ _ _ _ room here)
 
 pub read_entries-returns : goal.read_entries-returns
 unfolding entries_at
 read_entries-returns t c =
     let spent : length c.args.bytes.now - c.loop.counter ≡ 0 = omega arith in
-    c.loop.invariant ∙ ap (λ m. behind c.loop.entries.items (entries_at (node_at c.args.depth) m c.loop.last.now c.loop.rest.now)) spent
+    let es = c.loop.entries.items in
+    c.loop.invariant ∙ ap (λ m. behind es (entries_at (node_at c.args.depth) m (last_name_of es) c.loop.rest.now)) spent
 
 pub read_entries-loop-preserved : goal.read_entries-loop-preserved
 read_entries-loop-preserved t c =
-    let e : NamedNode = (c.in_ok-kept.kept, c.in_ok-node.node) in
-    let tree : tree_of c.in_ok-name.node ≡ tree_of e.1.value = ap tree_of (sym c.in_ok-node.ensures) in
+    let e : NamedNode = c.in_ok-entry.entry in
     let es = c.loop.entries.items in
     let pushed : c.push.new.self.items ≡ es ++ e ∷ [] = search rules in
-    let kept : c.in_ok-kept.kept.items ≡ c.in_ok-name.name.now = search rules in
-    let here : bytes_eq c.in_ok-tag.tag.now (codes "entry") ≡ true = search rules in
+    let here : next_is_entry c.loop.rest.now ≡ Some true = c.in_ok-comes.ensures ∙ ap Some c.if-not-comes.false in
     let lt : c.loop.counter < length c.args.bytes.now = omega arith in
     let bytes = c.args.bytes.now in
-    let rest = c.loop.rest.now in
-    let after = c.in_ok-name.after.now in
+    let after = c.in_ok-entry.after.now in
     let node = node_at c.args.depth in
-    let Read : Tree → List ℕ → Type 0 = λ t n. entry_at node c.loop.last.now rest ≡ Some ((n, t), after) in
-    let read = subst (λ t. Read t e.0.items) tree (subst (Read (tree_of c.in_ok-name.node)) (sym kept) c.in_ok-name.ensures) in
-    let More : List NamedNode → List ℕ → Type 0 = λ xs n.
-    entries_at node (length bytes) [] bytes ≡ behind xs (entries_at node (length bytes - (c.loop.counter + 1)) n after) in
-    subst (λ xs. More xs c.in_ok-name.name.now) (sym pushed)
-    (subst (More (es ++ e ∷ [])) kept
-    (entries_at-push node (length bytes) c.loop.counter bytes c.loop.last.now rest _ es e after lt c.in_ok-tag.ensures here read c.loop.invariant))
+    let same = ap (λ xs. next_entry_at node (last_name_of xs) c.loop.rest.now) (sym c.deref.ensures.value) in
+    let More : List NamedNode → Type 0 = λ xs.
+    entries_at node (length bytes) [] bytes ≡ behind xs (entries_at node (length bytes - (c.loop.counter + 1)) (last_name_of xs) after) in
+    let read = same ∙ c.in_ok-entry.ensures in
+    subst More (sym pushed) (entries_at-push node (length bytes) c.loop.counter bytes c.loop.rest.now after es e lt here read c.loop.invariant)
