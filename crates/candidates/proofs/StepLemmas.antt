@@ -11,7 +11,7 @@ use Rattle.model.specs.References.{is_of_class, is_label_of, refers_to, is_input
 use Rattle.realise.specs.Recorded.{Recorded, without_tree}
 use Rattle.realise.specs.Ordered.{source_label, marked_labels}
 use Rattle.candidates.specs.Below.{AreBelow, AreCandidates}
-use Rattle.candidates.specs.Reaching.{is_fresh, AreReached, is_for, is_label_for, is_named_by, is_next, marked_next, fresh_next, pairs_of, IsNext}
+use Rattle.candidates.specs.Reaching.{is_fresh, AreReached, is_for, is_label_for, is_named_by, is_next, marked_by, fresh_by, pairs_of, IsNext}
 use Rattle.candidates.specs.declared.below.Reached.{Reached}
 use Rattle.model.proofs.BoolLemmas.{either}
 use Rattle.realise.proofs.LoopLemmas.{or_false}
@@ -118,9 +118,9 @@ next_reached records inputs k reached next at step whole e =
     λ r. ap (λ b. is_below whole inputs k r || b) (named r) ∙ sym (one_more whole inputs k r) in
     let new : (r : Record) → (not (is_below whole inputs k r) && is_next records reached (without_tree r)) ≡ is_fresh whole inputs (suc k) r =
     λ r. new_only (is_below whole inputs k r) (is_next records reached (without_tree r)) ∙ ap (λ b. b && not (is_below whole inputs k r)) (more r) in (
-      step.marked ∙ ap (map (marked_next records reached)) pairs ∙ map_pairs (marked_next records reached) (is_below whole inputs k) whole
+      step.marked ∙ ap (map (marked_by (is_next records reached))) pairs ∙ map_pairs (marked_by (is_next records reached)) (is_below whole inputs k) whole
           ∙ ap (λ (f : Record → Bool). map f whole) (λ i r. more r i),
-      step.fresh ∙ ap (map (fresh_next records reached)) pairs ∙ map_pairs (fresh_next records reached) (is_below whole inputs k) whole
+      step.fresh ∙ ap (map (fresh_by (is_next records reached))) pairs ∙ map_pairs (fresh_by (is_next records reached)) (is_below whole inputs k) whole
           ∙ ap (λ (f : Record → Bool). map f whole) (λ i r. new r i),
     )
 

@@ -36,6 +36,10 @@ is_label_for path class l = bytes_eq l.path path && is_for class l.class
 abbrev pub is_named : List (List ℕ × List ℕ) → List ℕ → List ℕ → Bool
 is_named pairs path class = list_any (λ pair. bytes_eq path pair.0 && bytes_eq class pair.1) pairs
 
+-- whether a record is named by pairs of a path and a class
+abbrev pub is_record_named : List (List ℕ × List ℕ) → Recorded → Bool
+is_record_named pairs r = is_named pairs r.path r.class.path
+
 -- whether a marked record has a label of this path and this class
 abbrev pub is_among_labels : List (Recorded × Bool) → List ℕ → List ℕ → Bool
 is_among_labels pairs path class = list_any (λ m. m.1 && list_any (is_label_for path class) m.0.labels) pairs
@@ -51,13 +55,17 @@ is_next records reached r = is_named_by records reached.fresh.items r.path r.cla
 abbrev pub pairs_of : List Recorded → Reached → List (Recorded × Bool)
 pairs_of records reached = zip records reached.marked.items
 
--- the marks of a record after one step more
-abbrev pub marked_next : List Recorded → Reached → Recorded × Bool → Bool
-marked_next records reached m = m.1 || is_next records reached m.0
+-- the marks of a record after a step in which those that pass a test are reached
+abbrev pub marked_by : (Recorded → Bool) → Recorded × Bool → Bool
+marked_by test m = m.1 || test m.0
 
-abbrev pub fresh_next : List Recorded → Reached → Recorded × Bool → Bool
-fresh_next records reached m = not m.1 && is_next records reached m.0
+abbrev pub fresh_by : (Recorded → Bool) → Recorded × Bool → Bool
+fresh_by test m = not m.1 && test m.0
 
-pub record IsNext (records : List Recorded) (reached next : Reached) : Type 0 where
-  pub marked : next.marked.items ≡ map (marked_next records reached) (pairs_of records reached)
-  pub fresh : next.fresh.items ≡ map (fresh_next records reached) (pairs_of records reached)
+-- the marks after a step in which the records that pass a test are reached
+pub record IsStep (test : Recorded → Bool) (pairs : List (Recorded × Bool)) (next : Reached) : Type 0 where
+  pub marked : next.marked.items ≡ map (marked_by test) pairs
+  pub fresh : next.fresh.items ≡ map (fresh_by test) pairs
+
+abbrev pub IsNext : List Recorded → Reached → Reached → Type 0
+IsNext records reached next = IsStep (is_next records reached) (pairs_of records reached) next

@@ -1,14 +1,13 @@
 //! The records below a derivation.
 
-ghost use Rattle.std.specs.Prelude.{◌≡◌, ◌||◌, ◌&&◌, not, ℕ, List, [], ◌∷◌, ◌++◌, MatchResult, OnOk, IfErr, bytes_eq};
+ghost use Rattle.std.specs.Prelude.{◌≡◌, ◌||◌, ◌&&◌, not, ℕ, List, [], ◌∷◌, ◌++◌, MatchResult, OnOk, IfErr, zip};
 ghost use Rattle.std.specs.List.{list_any};
-ghost use Rattle.model.specs.References.{is_class_of, is_input_class};
-ghost use Rattle.model.specs.Classes.{known_at};
+ghost use Rattle.model.specs.References.{is_input_class};
 ghost use Rattle.model.specs.declared.refusal.Refusal.TheVariants.{Memory};
 ghost use Rattle.candidates.specs.Below.{AreBelow};
-ghost use Rattle.candidates.specs.Reaching.{AreReached, IsNext, is_label_for, is_named, is_named_by, has_class};
+ghost use Rattle.candidates.specs.Reaching.{AreReached, IsNext, IsStep, is_record_named, is_label_for, is_named, is_named_by, has_class};
 
-use classes::Known;
+use classes::{Known, input_classes, set_of};
 use derivation::Derivation;
 use indexmap::IndexSet;
 use model::Refusal;
@@ -17,10 +16,18 @@ use std::alloc::Global;
 use storepath::StorePath;
 
 /// For each record, whether it was reached so far, and whether it was reached in the last step.
-#[derive(Drop)]
 struct Reached {
     marked: Vec<bool>,
     fresh: Vec<bool>,
+}
+
+impl Drop for Reached {
+    fn drop(self) {
+        let Reached {
+            marked: _,
+            fresh: _,
+        } = self;
+    }
 }
 
 impl Reached {
@@ -47,33 +54,21 @@ impl Reached {
         self.fresh.push(is_fresh)?;
         Ok(())
     }
+
+    // The marks of what was reached so far.
+    fn into_marked(self) -> Vec<bool>
+        ensures { result.items ≡ self.marked.items }
+    {
+        let Reached { marked, fresh: _ } = self;
+        marked
+    }
 }
 
 // Whether a record was reached in the last step.
 fn has_fresh(reached: &Reached) -> bool
     ensures { result ≡ list_any (λ b. b) reached.now.fresh.items }
 {
-    reached.fresh.iter().any(|is_fresh| *is_fresh)
-}
-
-// The paths of the inputs' classes.
-fn input_classes(
-    alloc: Global,
-    known: &Known,
-    inputs: &[StorePath],
-) -> Result<IndexSet<StorePath>, Refusal>
-    ensures { MatchResult result
-        (λ set. (class : List ℕ) → list_any (bytes_eq class) set.keys
-        ≡ list_any (λ path. is_class_of class (known_at known.now path)) inputs.now)
-        (λ e. e ≡ Memory) }
-{
-    let mut classes = IndexSet::new(alloc);
-    for path in inputs {
-        if let Some(admitted) = known.derivation(path) {
-            let _is_new = classes.insert(admitted.class().path().clone()?)?;
-        }
-    }
-    Ok(classes)
+    reached.fresh.contains(&true)
 }
 
 // The records of these classes.
@@ -107,7 +102,7 @@ fn records_of_inputs(
         (λ reached. AreReached records.now (is_input_class known.now derivation.now) 0 reached)
         (λ e. e ≡ Memory) }
 {
-    let classes = input_classes(alloc, known, &derivation.parts().inputs)?;
+    let classes = set_of(alloc, &input_classes(alloc, known, derivation)?)?;
     records_of(alloc, &classes, records)
 }
 
@@ -175,6 +170,25 @@ fn next_marks(
     Ok((is_fresh, is_fresh))
 }
 
+// The marks of each record after one step more, in which those that are named are reached.
+fn step_to(
+    alloc: Global,
+    named: &IndexSet<(StorePath, StorePath)>,
+    records: &[Record],
+    marked: &[bool],
+) -> Result<Reached, Refusal>
+    ensures { MatchResult result
+        (λ next. IsStep (is_record_named named.now.keys) (zip records.now marked.now) next)
+        (λ e. e ≡ Memory) }
+{
+    let mut next = Reached::new(alloc);
+    for (record, was_marked) in records.iter().zip(marked) {
+        let (is_marked, is_fresh) = next_marks(named, record, *was_marked)?;
+        next.push(is_marked, is_fresh)?;
+    }
+    Ok(next)
+}
+
 // What is reached in one step more.
 fn one_step(alloc: Global, records: &[Record], reached: &Reached) -> Result<Reached, Refusal>
     ensures { MatchResult result
@@ -182,12 +196,7 @@ fn one_step(alloc: Global, records: &[Record], reached: &Reached) -> Result<Reac
         (λ e. e ≡ Memory) }
 {
     let named = named_by(alloc, records, &reached.fresh)?;
-    let mut next = Reached::new(alloc);
-    for (record, was_marked) in records.iter().zip(&reached.marked) {
-        let (is_marked, is_fresh) = next_marks(&named, record, *was_marked)?;
-        next.push(is_marked, is_fresh)?;
-    }
-    Ok(next)
+    step_to(alloc, &named, records, &reached.marked)
 }
 
 /// For each record of a desk, whether it is one for an input of the derivation, or is referred to
@@ -209,9 +218,9 @@ pub fn records_below(
     let mut reached = records_of_inputs(alloc, known, derivation, records)?;
     for _step in 0..records.len() {
         if !has_fresh(&reached) {
-            return Ok(reached.marked);
+            return Ok(reached.into_marked());
         }
         reached = one_step(alloc, records, &reached)?;
     }
-    Ok(reached.marked)
+    Ok(reached.into_marked())
 }

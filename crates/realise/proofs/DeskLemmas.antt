@@ -1,12 +1,15 @@
--- Looking a record up in the group of its class.
-use Rattle.std.proofs.Common.{◌≡◌, Bool, true, inl, inr, List, [], ◌∷◌, refl}
-use Rattle.std.specs.Prelude.{filter, bytes_eq, ◌&&◌}
+-- Records in the groups of their classes.
+use Rattle.std.proofs.Common.{◌≡◌, ℕ, Bool, true, inl, inr, List, [], ◌∷◌, ◌++◌, append-nil, refl, sym, ap, ◌∙◌}
+use Rattle.std.specs.Prelude.{filter, bytes_eq, ◌&&◌, if◌then◌else◌}
 use Rattle.std.specs.List.{list_any}
 use Rattle.std.specs.Cmp.Lexicographic.{pointwise}
+use Rattle.std.specs.Global.{Vec}
+use Rattle.std.proofs.lemmas.List.Elements.{filter-append}
 use Rattle.model.specs.Worlds.{same_label}
 use Rattle.model.proofs.BoolLemmas.{either, both_parts}
 use Rattle.realise.specs.Recorded.{Recorded}
 use Rattle.realise.specs.Holdings.{same_recorded, is_record_of}
+use Rattle.realise.specs.Indexed.{IsIndexed, IsGrouped}
 
 -- what passes one test only where it passes another is sought among those that pass the other
 found_among : (test group : Recorded → Bool) (records : List Recorded) → ((q : Recorded) → test q ≡ true → group q ≡ true)
@@ -25,3 +28,21 @@ pub found_in_group : (r : Recorded) (records : List Recorded)
 found_in_group r records =
     found_among (λ q. same_recorded q r) (is_record_of r.class.path) records
     (λ q same. (both_parts (bytes_eq q.class.path r.class.path) (bytes_eq q.path r.path && pointwise same_label q.labels r.labels) same).0)
+
+-- ---- groups
+
+-- a record more is in the group of its class
+filter_last : (class : List ℕ) (records : List Recorded) (r : Recorded)
+    → (if is_record_of class r then filter (is_record_of class) records ++ r ∷ [] else filter (is_record_of class) records)
+    ≡ filter (is_record_of class) (records ++ r ∷ [])
+filter_last class records r =
+    let all = filter-append (is_record_of class) records (r ∷ []) in
+    elim (either (is_record_of class r)) [
+      | inl t ↦ rw t (sym (all ∙ rw t refl))
+      | inr f ↦ rw f (sym (all ∙ rw f (append-nil (filter (is_record_of class) records))))
+    ]
+
+pub indexed_more : (old new : List (List ℕ × Vec Recorded)) (records : List Recorded) (r : Recorded) → IsIndexed old records → IsGrouped old r new
+    → IsIndexed new (records ++ r ∷ [])
+indexed_more old new records r is put class =
+    put class ∙ ap (λ (group : List Recorded). if is_record_of class r then group ++ r ∷ [] else group) (is class) ∙ filter_last class records r

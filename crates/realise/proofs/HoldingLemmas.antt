@@ -1,50 +1,20 @@
 -- What a desk holds, with more paths.
-use Rattle.std.proofs.Common.{◌≡◌, ℕ, ◌+◌, ◌≤◌, ◌<◌, ◌^◌, false, inl, inr, ◌||◌, List, [], ◌∷◌, ◌++◌, map, length, get_or, refl, sym, ap, ◌∙◌, append_assoc, append-nil, arith, Option, None, Some}
+use Rattle.std.proofs.Common.{◌≡◌, ℕ, ◌+◌, ◌≤◌, ◌<◌, ◌^◌, false, inl, inr, ◌||◌, List, [], ◌∷◌, ◌++◌, map, refl, sym, ap, ◌∙◌, append_assoc, append-nil, arith, Option, None, Some}
 use Rattle.std.specs.Prelude.{bytes_eq, is_some, sum_by, if◌then◌else◌}
-use Rattle.std.specs.List.{list_any, IsDistinct}
+use Rattle.std.specs.List.{list_any}
 use Rattle.std.specs.Map.{lookup}
-use Rattle.std.proofs.lemmas.List.{get_or_append_left, get_or_push, length-append, length-map, map-append}
+use Rattle.std.proofs.lemmas.List.{map-append}
 use Rattle.std.proofs.lemmas.List.Folds.{list_any-append}
 use Rattle.std.proofs.lemmas.List.Sums.{sum_by-append, sum_by-cons}
-use Rattle.std.proofs.lemmas.Map.Keys.{apart_from_distinct}
 use Rattle.std.proofs.lemmas.Map.Made.{is_some-lookup}
-use Rattle.indexmap.specs.IndexMap.{insert_entry}
 use Rattle.indexmap.specs.IndexSet.{insert_key}
-use Rattle.indexmap.proofs.SortedLemmas.{absent_pushes}
 use Rattle.model.specs.Classes.{is_one_of}
 use Rattle.model.proofs.BoolLemmas.{either}
 use Rattle.classes.proofs.EntryLemmas.{one_of_keys, any_insert}
 use Rattle.realise.specs.declared.entry.Entry.{Entry}
 use Rattle.realise.specs.Held.{paths_held, bytes_held, with_archive, with_archives, charged_beside, IsSetOf}
 use Rattle.realise.specs.Holdings.{Holdings, paths_of, entry_path, archive_of, holds_entry, holds_each, charged_more, charged_all}
-use Rattle.realise.proofs.PinLemmas.{bytes_eq_sym}
 use Rattle.realise.proofs.ChargingLemmas.{paths_more}
-
--- ---- copies
-
--- the next entry of a map goes to the end of a copy of those before it
-pub copied_next : (done rest all : List (List ℕ × ℕ)) (e : List ℕ × ℕ) → IsDistinct bytes_eq (paths_held all) → done ++ e ∷ rest ≡ all
-    → insert_entry bytes_eq done e.0 e.1 ≡ done ++ e ∷ []
-copied_next done rest all e distinct are =
-    let path = λ (a : List ℕ × ℕ). a.0 in
-    let keys : List (List ℕ) = map path done in
-    let is : (keys ++ e.0 ∷ []) ++ map path rest ≡ map path all =
-    append_assoc keys (e.0 ∷ []) (map path rest) ∙ sym (map-append path done (e ∷ rest)) ∙ ap (map path) are in
-    let count = length-map done path in
-    let pushed : length (keys ++ e.0 ∷ []) ≡ length keys + 1 = length-append keys (e.0 ∷ []) in
-    let total : length (map path all) ≡ length (keys ++ e.0 ∷ []) + length (map path rest) =
-    sym (ap length is) ∙ length-append (keys ++ e.0 ∷ []) (map path rest) in
-    let left : (i : ℕ) (d : List ℕ) → i < length keys + 1 → get_or (map path all) i d ≡ get_or (keys ++ e.0 ∷ []) i d =
-    λ i d less. sym (ap (λ ks. get_or ks i d) is) ∙ get_or_append_left (keys ++ e.0 ∷ []) (map path rest) d i (omega (arith, less, pushed)) in
-    let apart : (j : ℕ) (d : List ℕ) → j < length done → bytes_eq e.0 (get_or keys j d) ≡ false =
-    λ j d less.
-    let before : j < length keys = omega (arith, less, count) in
-    let at_j : get_or (map path all) j d ≡ get_or keys j d =
-    left j d (omega (arith, before)) ∙ get_or_append_left keys (e.0 ∷ []) d j before in
-    let at_e : get_or (map path all) (length keys) d ≡ e.0 = left (length keys) d (omega arith) ∙ get_or_push keys e.0 d (length keys) refl in
-    bytes_eq_sym e.0 (get_or keys j d) ∙ (λ k. bytes_eq (sym at_j k) (sym at_e k))
-    ∙ apart_from_distinct bytes_eq (map path all) j (length keys) d distinct before (omega (arith, total, pushed)) in
-    absent_pushes bytes_eq e.0 e.1 done apart
 
 -- ---- one path more
 

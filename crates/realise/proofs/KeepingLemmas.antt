@@ -1,5 +1,5 @@
 -- What a desk's type keeps, while the desk changes.
-use Rattle.std.proofs.Common.{◌≡◌, ℕ, true, Option, None, Some, ◌+◌, List, [], ◌∷◌, ◌++◌, map, refl, sym, ap, ◌∙◌, subst, Result, Ok, Err, MatchResult}
+use Rattle.std.proofs.Common.{◌≡◌, ℕ, true, false, Option, None, Some, ◌+◌, List, [], ◌∷◌, ◌++◌, map, refl, sym, ap, ◌∙◌, subst, Result, Ok, Err, MatchResult}
 use Rattle.std.specs.Prelude.{bytes_eq}
 use Rattle.std.specs.List.{list_any}
 use Rattle.std.proofs.lemmas.List.Elements.{All-push, All-weaker}
@@ -13,7 +13,7 @@ use Rattle.realise.specs.declared.entry.Entry.{Entry}
 use Rattle.realise.specs.declared.entry.Entry.TheVariants as entry
 use Rattle.realise.specs.declared.desk.Desk.TheInside.{Inside}
 use Rattle.realise.specs.Held.{Held, paths_held, bytes_held, with_archive, with_archives, charged_beside, IsSetOf}
-use Rattle.realise.specs.Holdings.{Holdings, paths_of, entry_path, archive_of, holds_entry, holds_each, charged_more, charged_all, is_at, has_labelled, IsClosed, IsClosedWith, IsClosedWithEntry}
+use Rattle.realise.specs.Holdings.{Holdings, paths_of, entry_path, archive_of, is_on, known_with, records_with, IsNewSource, holds_entry, holds_each, charged_more, charged_all, is_at, has_labelled, IsClosed, IsClosedWith, IsClosedWithEntry}
 use Rattle.realise.specs.Kept.{holdings_of, IsConsistent}
 use Rattle.realise.proofs.HoldingLemmas.{bytes_with, held_with, bytes_beside, held_beside, charged_entries, held_entries}
 use Rattle.realise.proofs.ChargingLemmas.{paths_more}
@@ -44,12 +44,12 @@ kept d known records holding known_is records_are archives_are is =
 
 -- a desk with an entry more among its sources or its records
 abbrev pub has_entry : Entry → Held → Inside → Inside
-has_entry (entry.Source path) held d = record d { known = record d.known { sources = d.known.sources ++ path ∷ [] }; holding = held }
-has_entry (entry.Record r) held d = record d { records = d.records ++ r ∷ []; holding = held }
+has_entry e held d = record d { known = known_with e d.known; records = records_with e d.records; holding = held }
 
-pub entry_holding : (e : Entry) (held : Held) (d : Inside) → (has_entry e held d).holding ≡ held
-entry_holding (entry.Source path) held d = refl
-entry_holding (entry.Record r) held d = refl
+-- a source that is not on a desk is not known there
+pub new_source : (e : Entry) (d : Holdings) → is_on e d ≡ false → IsNewSource e d.known
+new_source (entry.Source path) d absent = absent
+new_source (entry.Record r) d absent = tt
 
 module _ (d : Inside) (is : IsConsistent d) (e : Entry) (archive : ℕ) where
   abbrev before : Holdings

@@ -1,6 +1,5 @@
 pub mod OrderLemmas
 pub mod PathOrderLemmas
-pub mod Filtering
 pub mod LoopLemmas
 pub mod PinLemmas
 pub mod DeskLemmas

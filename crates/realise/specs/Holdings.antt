@@ -70,6 +70,20 @@ abbrev pub holds_entry : Entry → ℕ → Holdings → Holdings
 holds_entry (entry.Source path) more d = record d { known = record d.known { sources = d.known.sources ++ path ∷ [] }; charge = d.charge + more }
 holds_entry (entry.Record r) more d = record d { records = d.records ++ r ∷ []; charge = d.charge + more }
 
+-- what is known, and the records, with one entry more
+abbrev pub known_with : Entry → Known → Known
+known_with (entry.Source path) known = record known { sources = known.sources ++ path ∷ [] }
+known_with (entry.Record r) known = known
+
+abbrev pub records_with : Entry → List Recorded → List Recorded
+records_with (entry.Source path) records = records
+records_with (entry.Record r) records = records ++ r ∷ []
+
+-- a source that is not known yet; of a record nothing is asked
+abbrev pub IsNewSource : Entry → Known → Type 0
+IsNewSource (entry.Source path) known = is_one_of known.sources path ≡ false
+IsNewSource (entry.Record r) known = Unit {0}
+
 -- whether a desk may have one such entry more
 abbrev pub has_place : Entry → Holdings → Bool
 has_place (entry.Source path) d = nat_lt (length d.known.sources) most_sources

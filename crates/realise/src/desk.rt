@@ -6,7 +6,7 @@ ghost use Rattle.std.specs.Option.{option_copied};
 ghost use Rattle.model.specs.Classes.{known_at, is_one_of};
 ghost use Rattle.model.specs.Worlds.{pinned, unpinned};
 ghost use Rattle.realise.specs.Held.{bytes_held, with_archives, charged_beside, IsSetOf};
-ghost use Rattle.realise.specs.Holdings.{same_recorded, records_of, paths_of, is_on, has_place, charged_more, holds_entry, holds_derivation, with_pins, entry_path, bare, IsClosed, IsClosedWithEntry, holds_each, charged_all, AreAbsent, AreCountable, IsGrown};
+ghost use Rattle.realise.specs.Holdings.{same_recorded, known_with, records_with, IsNewSource, records_of, paths_of, is_on, has_place, charged_more, holds_entry, holds_derivation, with_pins, entry_path, bare, IsClosed, IsClosedWithEntry, holds_each, charged_all, AreAbsent, AreCountable, IsGrown};
 ghost use Rattle.model.specs.declared.refusal.Refusal.TheVariants.{Memory};
 
 use crate::entry::{Entry, parted};
@@ -58,6 +58,26 @@ impl Model for Desk {
     ghost invariant = { IsConsistent };
 }
 
+/// Puts an entry that is not there yet with the sources or with the records. The one error is memory,
+/// and changes nothing.
+fn put_entry(
+    alloc: Global,
+    known: &mut Known,
+    records: &mut Records,
+    entry: Entry,
+) -> Result<(), Refusal>
+    requires absent { IsNewSource entry known.old }
+    ensures { MatchResult result
+        (λ _. (known.new ≡ known_with entry known.old)
+        × (records.new ≡ records_with entry records.old))
+        (λ e. (e ≡ Memory) × (known.new ≡ known.old) × (records.new ≡ records.old)) }
+{
+    match entry {
+        Entry::Source(source) => known.add_source(source),
+        Entry::Record(record) => records.push(alloc, record),
+    }
+}
+
 /// What is held and the records, with these records more, at paths with so many bytes of archives. Both
 /// are made beside the old ones. The one error is memory.
 fn with_more(
@@ -73,7 +93,7 @@ fn with_more(
     ensures recorded { IfOk result (λ more. more.1 ≡ records.now ++ added.now) }
     ensures memory { IfErr result (λ e. e ≡ Memory) }
 {
-    let holding = holding.with(alloc, archives)?;
+    let holding = holding.with(archives)?;
     let records = records.with(alloc, added)?;
     Ok((holding, records))
 }
@@ -195,12 +215,9 @@ impl Desk {
             (λ _. self.new ≡ holds_entry entry more self.old)
             (λ e. (e ≡ Memory) × (self.new ≡ self.old)) }
     {
-        let path = entry.path().clone()?;
         self.holding.reserve(1)?;
-        match entry {
-            Entry::Source(source) => self.known.add_source(source)?,
-            Entry::Record(record) => self.records.push(alloc, record)?,
-        }
+        let path = entry.path().clone()?;
+        put_entry(alloc, &mut self.known, &mut self.records, entry)?;
         self.holding.put_reserved(path, archive);
         Ok(())
     }
@@ -278,8 +295,9 @@ impl Desk {
         ensures { self.new ≡
             record self.old { records = grown.records; charge = grown.charge } }
     {
-        self.records = grown.records;
-        self.holding = grown.holding;
+        let (records, holding) = grown.into_parts();
+        self.records = records;
+        self.holding = holding;
     }
 
     /// Adds a derivation that is not there yet.

@@ -71,6 +71,31 @@ impl Holding {
         self.archives.contains_key(path)
     }
 
+    /// As [`Holding::charged_for_all`], with an empty set to which the paths that are charged are
+    /// added. The one error is memory.
+    fn charged_beside(
+        &self,
+        counted: &mut IndexSet<StorePath, RandomState>,
+        entries: &[(Entry, u64)],
+    ) -> Result<u64, Refusal>
+        requires countable { AreCountable entries.now }
+        requires fresh { counted.old.keys ≡ [] }
+        ensures { let archives = map archive_of entries.now in MatchResult result
+            (λ more. more ≡ charged_beside archives (paths_held self.now.archives))
+            (λ e. e ≡ Memory) }
+    {
+        let mut more = 0;
+        for entry in entries {
+            if self.has(entry.0.path()) {
+                continue;
+            }
+            if counted.insert(entry.0.path().clone()?)? {
+                more += entry.1;
+            }
+        }
+        Ok(more)
+    }
+
     /// What is charged more for entries whose archives have so many bytes: each path once, and nothing
     /// for one that is held. The one error is memory.
     pub(crate) fn charged_for_all(
@@ -84,16 +109,7 @@ impl Holding {
             (λ e. e ≡ Memory) }
     {
         let mut counted = IndexSet::with_hasher(alloc, *self.archives.hasher());
-        let mut more = 0;
-        for entry in entries {
-            if self.has(entry.0.path()) {
-                continue;
-            }
-            if counted.insert(entry.0.path().clone()?)? {
-                more += entry.1;
-            }
-        }
-        Ok(more)
+        self.charged_beside(&mut counted, entries)
     }
 
     /// Makes room for so many paths more. What is held stays.
@@ -120,15 +136,12 @@ impl Holding {
     }
 
     /// A copy, with room for so many paths more. The one error is memory.
-    fn copy(&self, alloc: Global, additional: usize) -> Result<Holding, Refusal>
+    fn copy(&self, additional: usize) -> Result<Holding, Refusal>
         ensures copied { IfOk result (λ copy. copy.archives ≡ self.now.archives) }
         ensures room { IfOk result (λ copy. additional ≤ copy.room) }
         ensures memory { IfErr result (λ why. why ≡ Memory) }
     {
-        let mut archives = IndexMap::with_hasher(alloc, *self.archives.hasher());
-        for (path, archive) in self.archives.iter() {
-            let _absent = archives.insert(path.clone()?, *archive)?;
-        }
+        let mut archives = self.archives.clone()?;
         archives.reserve(additional)?;
         Ok(Holding {
             archives,
@@ -139,17 +152,13 @@ impl Holding {
     /// What is held, and each of these paths with the length of its archive, beside it. The one error
     /// is memory.
     #[tactic(auto, unfolding(crate::specs::Held::with_archives))]
-    pub(crate) fn with(
-        &self,
-        alloc: Global,
-        added: Vec<(StorePath, u64)>,
-    ) -> Result<Holding, Refusal>
+    pub(crate) fn with(&self, added: Vec<(StorePath, u64)>) -> Result<Holding, Refusal>
         requires fits { bytes_held (with_archives added.items self.now.archives) < 2 ^ 64 }
         ensures { MatchResult result
             (λ more. more.archives ≡ with_archives added.items self.now.archives)
             (λ e. e ≡ Memory) }
     {
-        let mut more = self.copy(alloc, added.len())?;
+        let mut more = self.copy(added.len())?;
         for (path, archive) in added {
             more.put_reserved(path, archive);
         }

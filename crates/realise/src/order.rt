@@ -1,6 +1,7 @@
 //! Labels in the order of their paths.
 
-ghost use Rattle.std.specs.Prelude.{◌≡◌, IfOk, MatchResult, option_copied};
+ghost use Rattle.std.specs.Prelude.{◌≡◌, IfOk, MatchResult, filter, option_copied, bytes_eq};
+ghost use Rattle.std.specs.List.{list_any};
 ghost use Rattle.model.specs.References.{class_before, with_label, labels_in_order, labels_of};
 ghost use Rattle.model.specs.declared.refusal.Refusal.TheVariants.{Memory};
 ghost use Rattle.realise.specs.Ordered.{least_class, labels_at};
@@ -8,6 +9,7 @@ ghost use Rattle.realise.specs.Recorded.{AreInPathOrder};
 
 use crate::label::Label;
 use classes::{Class, set_of};
+use indexmap::IndexSet;
 use model::Refusal;
 use std::alloc::Global;
 use std::collections::BTreeMap;
@@ -90,6 +92,25 @@ pub fn labels_in_order(alloc: Global, labels: Vec<Label>) -> Result<Vec<Label>, 
     labels_at(alloc, ordered)
 }
 
+// The labels whose paths are in a set, in the order in which they were.
+fn labels_among(
+    alloc: Global,
+    set: &IndexSet<StorePath>,
+    labels: &[Label],
+) -> Result<Vec<Label>, Refusal>
+    ensures { MatchResult result
+        (λ chosen. chosen.items ≡ filter (λ l. list_any (bytes_eq l.path) set.now.keys) labels.now)
+        (λ e. e ≡ Memory) }
+{
+    let mut chosen = Vec::new(alloc);
+    for label in labels {
+        if set.contains(label.path()) {
+            chosen.push(label.clone()?)?;
+        }
+    }
+    Ok(chosen)
+}
+
 /// The labels of these paths, in the order in which they were.
 ///
 /// # Errors
@@ -106,11 +127,5 @@ pub fn labels_of(
     ensures in_order { AreInPathOrder labels.now → IfOk result (λ chosen. AreInPathOrder chosen.items) }
 {
     let among = set_of(alloc, paths)?;
-    let mut chosen = Vec::new(alloc);
-    for label in labels {
-        if among.contains(label.path()) {
-            chosen.push(label.clone()?)?;
-        }
-    }
-    Ok(chosen)
+    labels_among(alloc, &among, labels)
 }

@@ -53,18 +53,6 @@ fn push_reserved(records: &mut Vec<Record>, added: Record)
     records.push(added).unwrap();
 }
 
-/// Puts copies of records behind others. The one error is memory.
-fn push_copies(records: &mut Vec<Record>, added: &[Record]) -> Result<(), Refusal>
-    ensures { MatchResult result
-        (λ _. records.new.items ≡ records.old.items ++ added.now)
-        (λ e. e ≡ Memory) }
-{
-    for record in added {
-        records.push(record.clone()?)?;
-    }
-    Ok(())
-}
-
 impl Records {
     /// No records. `hashing` has the keys of the hasher for classes. It takes no memory.
     pub(crate) fn new(alloc: Global, hashing: RandomState) -> Records
@@ -118,10 +106,9 @@ impl Records {
             (λ records. records ≡ self.now ++ added.now)
             (λ e. e ≡ Memory) }
     {
+        let mut list = self.as_slice().to_vec(alloc)?;
+        list.extend_from_slice(added)?;
         let by_class = grouped(alloc, self.hashing(), self.as_slice(), added)?;
-        let mut list = Vec::new(alloc);
-        push_copies(&mut list, self.as_slice())?;
-        push_copies(&mut list, added)?;
         Ok(Records { list, by_class })
     }
 }

@@ -19,11 +19,11 @@ returns-then-not-has_fresh c whole e =
     let long = as_long whole c.args.records.now e in
     let none : list_any (λ b. b) c.loop-step.reached.fresh.items ≡ false = search rules in
     let none_of : list_any (λ b. b) (map (is_fresh whole inputs c.loop-step._step) whole) ≡ false = ap (list_any (λ b. b)) (sym (c.loop-step.invariant whole e).1) ∙ none in
-    (c.loop-step.invariant whole e).0
+    c.into_marked.ensures ∙ (c.loop-step.invariant whole e).0
     ∙ ap (λ (p : Record → Bool). map p whole) (sym (stays whole inputs c.loop-step._step none_of (length whole) (omega arith)))
 
 pub returns : goal.returns
 returns c whole e =
     let inputs = is_input_class c.args.known.now c.args.derivation.now in
     let all : c.loop-step._step ≡ length whole = omega (arith, as_long whole c.args.records.now e) in
-    (c.loop-step.invariant whole e).0 ∙ ap (λ k. map (is_below whole inputs k) whole) all
+    c.into_marked-2.ensures ∙ (c.loop-step.invariant whole e).0 ∙ ap (λ k. map (is_below whole inputs k) whole) all

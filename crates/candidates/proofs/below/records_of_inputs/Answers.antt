@@ -1,19 +1,33 @@
-use Rattle.std.proofs.Common.{◌≡◌, ◌∙◌, ap, subst}
-use Rattle.std.specs.Prelude.{bytes_eq, List, ℕ, Bool, MatchResult}
-use Rattle.model.specs.declared.refusal.Refusal.TheVariants.{Memory}
+use Rattle.std.proofs.Common.{◌≡◌, ◌||◌, [], ◌∷◌, refl, ◌∙◌, ap, subst}
+use Rattle.std.specs.Prelude.{bytes_eq, filter_map, Some, None, Option, List, ℕ, Bool, MatchResult}
 use Rattle.std.specs.List.{list_any}
-use Rattle.model.specs.Derivations.{Derivation}
-use Rattle.model.specs.Classes.{known_at}
+use Rattle.model.specs.declared.refusal.Refusal.TheVariants.{Memory}
+use Rattle.model.specs.Classes.{Admission, Known, known_at, is_one_of}
 use Rattle.model.specs.References.{is_class_of, is_input_class}
+use Rattle.model.specs.Resolutions.{class_at}
 use Rattle.candidates.specs.Reaching.{AreReached}
 use Rattle.candidates.proofs.below.records_of_inputs.Goals as goal
+
+-- one input more
+among_more : (known : Known) (path : List ℕ) (inputs : List (List ℕ)) (class : List ℕ) (found : Option Admission) → known_at known path ≡ found
+    → is_one_of (filter_map (class_at known) inputs) class ≡ list_any (λ p. is_class_of class (known_at known p)) inputs
+    → is_one_of (filter_map (class_at known) (path ∷ inputs)) class ≡ list_any (λ p. is_class_of class (known_at known p)) (path ∷ inputs)
+among_more known path inputs class None is rest = rw is rest
+among_more known path inputs class (Some a) is rest = rw is (ap (λ b. bytes_eq a.class.path class || b) rest)
+
+-- a class is among those of the inputs where an input is of this class
+among_classes : (known : Known) (inputs : List (List ℕ)) (class : List ℕ)
+    → is_one_of (filter_map (class_at known) inputs) class ≡ list_any (λ p. is_class_of class (known_at known p)) inputs
+among_classes known [] class = refl
+among_classes known (path ∷ inputs) class = among_more known path inputs class (known_at known path) refl (among_classes known inputs class)
 
 pub returns : goal.returns
 returns c =
     let known = c.args.known.now in
-    let same : (class : List ℕ) → list_any (bytes_eq class) c.in_ok-classes.classes.keys ≡ is_input_class known c.args.derivation.now class =
-    λ class. c.in_ok-classes.ensures class ∙ ap (list_any (λ path. is_class_of class (known_at known path))) c.deref.ensures.value
-    ∙ ap (λ (x : Derivation). is_input_class known x class) c.parts.ensures.parts in
+    let d = c.args.derivation.now in
+    let classes = c.deref.ensures.value ∙ c.in_ok-input_classes.ensures in
+    let same : (class : List ℕ) → list_any (bytes_eq class) c.in_ok-classes.classes.keys ≡ is_input_class known d class =
+    λ class. c.in_ok-classes.ensures class ∙ ap (λ cs. is_one_of cs class) classes ∙ among_classes known d.inputs class in
     let Reaches : (List ℕ → Bool) → Type 0 =
     λ tests. MatchResult c.records_of.result (λ reached. AreReached c.args.records.now tests 0 reached) (λ e. e ≡ Memory) in
     subst Reaches (λ i class. same class i) c.records_of.ensures

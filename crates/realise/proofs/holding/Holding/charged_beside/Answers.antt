@@ -7,8 +7,8 @@ use Rattle.realise.specs.declared.entry.Entry.{Entry}
 use Rattle.realise.specs.Held.{paths_held, charged_beside}
 use Rattle.realise.specs.Holdings.{entry_path, archive_of}
 use Rattle.realise.proofs.ChargingLemmas.{among, beside, counted_again, counted_first, counted_fits}
-use Rattle.realise.proofs.holding.Holding.charged_for_all.Goals.{then-branch, else-branch}
-use Rattle.realise.proofs.holding.Holding.charged_for_all.Goals as goal
+use Rattle.realise.proofs.holding.Holding.charged_beside.Goals.{then-branch, else-branch}
+use Rattle.realise.proofs.holding.Holding.charged_beside.Goals as goal
 
 pub loop-entry-preserved-then-has : goal.loop-entry-preserved-then-has
 loop-entry-preserved-then-has c =
@@ -29,7 +29,7 @@ overflow_add-more c =
     let new : list_any (bytes_eq c.in_ok-clone.field-0) counted ≡ false = not-true _ (sym c.in_ok-insert.ensures.added ∙ c.if-branch.true) in
     let both = beside (bytes_eq (entry_path e.0)) held counted absent ∙ ap (λ p. list_any (bytes_eq p) counted) (sym copy) ∙ new in
     let fits = counted_fits held counted c.args.entries.now c.loop-entry.entry-index c.loop-entry.more e (omega arith) c.entry-item.is c.loop-entry.invariant in
-    omega (arith, fits both c.requires)
+    omega (arith, fits both c.requires.countable)
 
 pub loop-entry-preserved : goal.loop-entry-preserved
 loop-entry-preserved c =

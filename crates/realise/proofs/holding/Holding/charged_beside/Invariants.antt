@@ -1,7 +1,7 @@
 use Rattle.std.proofs.Common.{◌≡◌, ◌+◌, ◌++◌, drop, map}
 use Rattle.realise.specs.Held.{paths_held, charged_beside}
 use Rattle.realise.specs.Holdings.{archive_of}
-use Rattle.realise.proofs.holding.Holding.charged_for_all.Given as goal
+use Rattle.realise.proofs.holding.Holding.charged_beside.Given as goal
 
 abbrev pub invariant-loop-entry : goal.invariant-loop-entry
 invariant-loop-entry l =
