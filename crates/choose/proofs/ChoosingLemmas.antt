@@ -13,7 +13,7 @@ use Rattle.model.proofs.ClosureLemmas.{least_from_in}
 use Rattle.model.proofs.MemberLemmas.{In, in_right, in_map, from_filter, from_flat_map}
 use Rattle.realise.specs.Recorded.{Recorded}
 use Rattle.realise.specs.Holdings.{Holdings, paths_of, is_record_of}
-use Rattle.choose.specs.Visible.{Visible, seen, desks_of, IsStored, IsDeskStored, AreStored, recorded_before, is_recorded_at, records_on, is_recorded_pinned, choose_recorded, choose_in}
+use Rattle.choose.specs.Visible.{Visible, seen, desks_of, IsStored, IsDeskStored, AreStored, recorded_before, is_recorded_at, is_any_or_at, those_at, records_on, is_recorded_pinned, choose_recorded, choose_in}
 use Rattle.closures.specs.Trees.{record_at}
 
 -- ---- the least
@@ -47,11 +47,6 @@ pub least_end : {X : Type 0} (before : X → X → Bool) (best : Option X) (xs :
 unfolding least_from
 least_end before best xs e = ap (least_from before best) e
 
-pub least_next : {X : Type 0} (before : X → X → Bool) (best : Option X) (x : X) (xs ys : List X) → ys ≡ x ∷ xs
-    → least_from before (Some (lesser before best x)) xs ≡ least_from before best ys
-unfolding least_from
-least_next before best x xs ys e = ap (least_from before best) (sym e)
-
 filter-append : {X : Type 0} (p : X → Bool) (xs ys : List X) → filter p (xs ++ ys) ≡ filter p xs ++ filter p ys
 filter-append p [] ys = refl
 filter-append p (x ∷ xs) ys = elim (either (p x)) [ inl t ↦ rw t (ap (λ rest. x ∷ rest) (filter-append p xs ys)) | inr f ↦ rw f (filter-append p xs ys) ]
@@ -60,30 +55,43 @@ map-append : {X Y : Type 0} (f : X → Y) (xs ys : List X) → map f (xs ++ ys) 
 map-append f [] ys = refl
 map-append f (x ∷ xs) ys = ap (λ rest. f x ∷ rest) (map-append f xs ys)
 
--- one record more that passes, or not
-pub least_passed : (p : Recorded → Bool) (best : Option Recorded) (x : Recorded) (xs ys : List Recorded) → ys ≡ x ∷ xs → p x ≡ true
-    → least_from recorded_before (Some (lesser recorded_before best x)) (filter p xs) ≡ least_from recorded_before best (filter p ys)
+-- one record more
+pub least_next : (p : Recorded → Bool) (best : Option Recorded) (x : Recorded) (xs ys : List Recorded) → ys ≡ x ∷ xs
+    → least_from recorded_before (least_from recorded_before best (filter p (x ∷ []))) (filter p xs) ≡ least_from recorded_before best (filter p ys)
 unfolding least_from
-least_passed p best x xs ys e t = rw (e, t) refl
+least_next p best x xs ys e = elim (either (p x)) [ inl t ↦ rw (e, t) refl | inr f ↦ rw (e, f) refl ]
 
-pub least_skipped : (p : Recorded → Bool) (best : Option Recorded) (x : Recorded) (xs ys : List Recorded) → ys ≡ x ∷ xs → p x ≡ false
-    → least_from recorded_before best (filter p xs) ≡ least_from recorded_before best (filter p ys)
-least_skipped p best x xs ys e f = rw (e, f) refl
+-- one that is not at the path that is given, and one that is, or where none is
+pub lesser_none : (path : Option (List ℕ)) (best : Option Recorded) (x : Recorded) → is_any_or_at path x ≡ false
+    → best ≡ least_from recorded_before best (those_at path (x ∷ []))
+unfolding least_from
+lesser_none path best x f = rw f refl
+
+pub lesser_some : (path : Option (List ℕ)) (best : Option Recorded) (x : Recorded) → is_any_or_at path x ≡ true
+    → Some (lesser recorded_before best x) ≡ least_from recorded_before best (those_at path (x ∷ []))
+unfolding least_from
+lesser_some path best x t = rw t refl
 
 -- one desk more
-pub least_desk : (best : Option Recorded) (c : List ℕ) (d : Bor Holdings) (ds es : List (Bor Holdings)) → es ≡ d ∷ ds
-    → least_from recorded_before (least_from recorded_before best (filter (is_record_of c) d.now.records)) (records_on c (desks_of ds)) ≡ least_from
-    recorded_before best (records_on c (desks_of es))
-least_desk best c d ds es e = rw e (sym (least_from_append recorded_before best (filter (is_record_of c) d.now.records) (records_on c (desks_of ds))))
-
-pub least_desk_at : (best : Option Recorded) (c path : List ℕ) (d : Bor Holdings) (ds es : List (Bor Holdings)) → es ≡ d ∷ ds
-    → least_from recorded_before (least_from recorded_before best (filter (is_recorded_at path) (filter (is_record_of c) d.now.records)))
-    (filter (is_recorded_at path) (records_on c (desks_of ds))) ≡ least_from recorded_before best
-    (filter (is_recorded_at path) (records_on c (desks_of es)))
-least_desk_at best c path d ds es e =
+pub least_desk : (p : Recorded → Bool) (best : Option Recorded) (c : List ℕ) (d : Bor Holdings) (ds es : List (Bor Holdings)) → es ≡ d ∷ ds
+    → least_from recorded_before (least_from recorded_before best (filter p (filter (is_record_of c) d.now.records))) (filter p (records_on c (desks_of ds)))
+    ≡ least_from recorded_before best (filter p (records_on c (desks_of es)))
+least_desk p best c d ds es e =
     let here = filter (is_record_of c) d.now.records in
-    rw (e, filter-append (is_recorded_at path) here (records_on c (desks_of ds)))
-    (sym (least_from_append recorded_before best (filter (is_recorded_at path) here) (filter (is_recorded_at path) (records_on c (desks_of ds)))))
+    rw (e, filter-append p here (records_on c (desks_of ds)))
+    (sym (least_from_append recorded_before best (filter p here) (filter p (records_on c (desks_of ds)))))
+
+-- all where no path is given
+pub all_there : (rs : List Recorded) → those_at None rs ≡ rs
+all_there [] = refl
+all_there (r ∷ rs) = ap (λ rest. r ∷ rest) (all_there rs)
+
+pub those_pinned : (path : List ℕ) (rs : List Recorded) → those_at (Some path) rs ≡ filter (is_recorded_pinned (Some path)) rs
+those_pinned path [] = refl
+those_pinned path (r ∷ rs) = elim (either (is_recorded_at path r)) [
+  | inl t ↦ rw t (ap (λ rest. r ∷ rest) (those_pinned path rs))
+  | inr f ↦ rw f (those_pinned path rs)
+]
 
 -- ---- records with their trees
 

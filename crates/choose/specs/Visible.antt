@@ -98,9 +98,14 @@ abbrev pub is_recorded_pinned : Option (List ℕ) → Recorded → Bool
 is_recorded_pinned None r = false
 is_recorded_pinned (Some path) r = is_recorded_at path r
 
--- those at a path, those with the pinned path, and those of a class on desks
-abbrev pub at_path : List ℕ → List Recorded → List Recorded
-at_path path rs = filter (is_recorded_at path) rs
+-- whether a record is at a path, if one is given
+abbrev pub is_any_or_at : Option (List ℕ) → Recorded → Bool
+is_any_or_at None r = true
+is_any_or_at (Some path) r = is_recorded_at path r
+
+-- those at a path, if one is given, those with the pinned path, and those of a class on desks
+abbrev pub those_at : Option (List ℕ) → List Recorded → List Recorded
+those_at path rs = filter (is_any_or_at path) rs
 
 abbrev pub pinned_at : Option (List ℕ) → List Recorded → List Recorded
 pinned_at pin rs = filter (is_recorded_pinned pin) rs

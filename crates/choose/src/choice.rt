@@ -1,13 +1,13 @@
 //! Which record of a class is chosen.
 
-ghost use Rattle.std.specs.Prelude.{◌≡◌, option_copied, MatchResult};
+ghost use Rattle.std.specs.Prelude.{◌≡◌, [], ◌∷◌, option_copied, MatchResult};
 ghost use Rattle.model.specs.Worlds.{pin_of};
 ghost use Rattle.model.specs.Orders.{lesser, least_from, least};
 ghost use Rattle.model.specs.declared.refusal.Refusal.TheVariants.{Memory};
-ghost use Rattle.choose.specs.Visible.{recorded_before, at_path, pinned_at, of_class, choose_recorded, choose_in};
+ghost use Rattle.choose.specs.Visible.{recorded_before, those_at, pinned_at, of_class, choose_recorded, choose_in};
 
 use crate::order::is_record_before;
-use crate::view::View;
+use crate::view::{View, tree_in};
 use closures::Realisation;
 use model::Refusal;
 use realise::{Desk, Pins, Record};
@@ -23,55 +23,54 @@ fn lesser<'a>(best: Option<&'a Record>, one: &'a Record) -> &'a Record
     }
 }
 
-// The best so far, or the first of these records that stand before it and before all others.
-fn least_from<'a>(best: Option<&'a Record>, records: &'a [Record]) -> Option<&'a Record>
-    ensures { option_copied result
-        ≡ least_from recorded_before (option_copied best.entry) records.now }
+// The same of a record only where it has the path, if one is given.
+fn lesser_at<'a>(
+    best: Option<&'a Record>,
+    one: &'a Record,
+    path: Option<&StorePath>,
+) -> Option<&'a Record>
+    ensures { option_copied result ≡ least_from recorded_before (option_copied best.entry)
+        (those_at (option_copied path.entry) (one.now ∷ [])) }
 {
-    let mut best = best;
-    for candidate in records {
-        best = Some(lesser(best, candidate));
+    let Some(path) = path else {
+        return Some(lesser(best, one));
+    };
+    if one.path() == path {
+        Some(lesser(best, one))
+    } else {
+        best
     }
-    best
 }
 
-// The same of those with a path alone.
-fn least_at<'a>(
+// The best so far, or the first of these records that stand before it and before all others: of
+// those with the path, if one is given.
+fn least_from<'a>(
     best: Option<&'a Record>,
     records: &'a [Record],
-    path: &StorePath,
+    path: Option<&StorePath>,
 ) -> Option<&'a Record>
-    ensures { option_copied result
-        ≡ least_from recorded_before (option_copied best.entry) (at_path path.now records.now) }
+    ensures { option_copied result ≡ least_from recorded_before (option_copied best.entry)
+        (those_at (option_copied path.entry) records.now) }
 {
     let mut best = best;
     for candidate in records {
-        if candidate.path() == path {
-            best = Some(lesser(best, candidate));
-        }
+        best = lesser_at(best, candidate, path);
     }
     best
 }
 
-// The least record of a class.
-fn least_of<'a>(desks: &[&'a Desk], class: &StorePath) -> Option<&'a Record>
-    ensures { option_copied result ≡ least recorded_before (of_class class.now desks.now) }
+// The least record of a class: of those with the path, if one is given.
+fn least_of<'a>(
+    desks: &[&'a Desk],
+    class: &StorePath,
+    path: Option<&StorePath>,
+) -> Option<&'a Record>
+    ensures { option_copied result ≡ least recorded_before
+        (those_at (option_copied path.entry) (of_class class.now desks.now)) }
 {
     let mut best = None;
     for desk in desks {
-        best = least_from(best, desk.records_of(class));
-    }
-    best
-}
-
-// The least record of a class with a path.
-fn least_of_path<'a>(desks: &[&'a Desk], class: &StorePath, path: &StorePath) -> Option<&'a Record>
-    ensures { option_copied result
-        ≡ least recorded_before (at_path path.now (of_class class.now desks.now)) }
-{
-    let mut best = None;
-    for desk in desks {
-        best = least_at(best, desk.records_of(class), path);
+        best = least_from(best, desk.records_of(class), path);
     }
     best
 }
@@ -82,7 +81,7 @@ fn pinned_choice<'a>(desks: &[&'a Desk], pins: &Pins, class: &StorePath) -> Opti
         (pinned_at (pin_of pins.now class.now) (of_class class.now desks.now)) }
 {
     match pins.get(class) {
-        Some(path) => least_of_path(desks, class, path),
+        Some(path) => least_of(desks, class, Some(path)),
         None => None,
     }
 }
@@ -94,7 +93,7 @@ fn choice<'a>(desks: &[&'a Desk], pins: &Pins, class: &StorePath) -> Option<&'a 
 {
     match pinned_choice(desks, pins, class) {
         Some(pinned) => Some(pinned),
-        None => least_of(desks, class),
+        None => least_of(desks, class, None),
     }
 }
 
@@ -111,8 +110,6 @@ pub(crate) fn chosen(
     let Some(kept) = choice(&view.desks, pins, class) else {
         return Ok(None);
     };
-    let Some(tree) = view.table.get(kept.path()) else {
-        unreachable!()
-    };
-    Ok(Some(Realisation::new(kept.clone()?, tree.clone()?)))
+    let tree = tree_in(view.table, kept.path())?;
+    Ok(Some(Realisation::new(kept.clone()?, tree)))
 }

@@ -1,6 +1,7 @@
 //! Gathering what a closure needs.
 
-ghost use Rattle.std.specs.Prelude.{◌≡◌, [], ◌+◌, nat_lt, length, ◌<◌, MatchResult, slice_index_or, Some, false};
+ghost use Rattle.std.specs.Prelude.{◌≡◌, [], ◌+◌, nat_lt, length, ◌<◌, bytes_eq, MatchResult, OnOk, OnErr, slice_index_or, Some, false};
+ghost use Rattle.indexmap.specs.IndexSet.{insert_key};
 ghost use Rattle.model.specs.Limits.{most_entries};
 ghost use Rattle.model.specs.declared.refusal.Refusal.TheVariants.{Memory};
 ghost use Rattle.choose.specs.Visible.{choose_in};
@@ -12,7 +13,7 @@ use closures::{Realisation, Source};
 use indexmap::IndexSet;
 use model::Refusal;
 use realise::{Label, Pins};
-use std::alloc::Global;
+use std::alloc::{AllocError, Global};
 use std::marker::Model;
 use storepath::StorePath;
 
@@ -52,6 +53,15 @@ impl Model for Gathering {
     ghost view = { λ g. record { records = g.records.items; sources = g.sources.items } };
 
     ghost invariant = { λ g. AreKeys g.classes.keys g.paths.keys g.records.items g.sources.items };
+}
+
+/// Puts a path into a table. The one error is memory. Then nothing has changed.
+fn put_path(table: &mut IndexSet<StorePath>, path: &StorePath) -> Result<(), AllocError>
+    ensures put { OnOk result (table.new.keys ≡ insert_key bytes_eq table.old.keys path.now) }
+    ensures unchanged { OnErr result (table.new.keys ≡ table.old.keys) }
+{
+    let _is_new = table.insert(path.clone()?)?;
+    Ok(())
 }
 
 impl Gathering {
@@ -127,8 +137,8 @@ impl Gathering {
             (λ e. e ≡ Memory) }
     {
         self.records.reserve(1)?;
-        let _is_new = self.classes.insert(class.clone()?)?;
-        self.records.push(realisation).unwrap();
+        put_path(&mut self.classes, class)?;
+        self.records.push_reserved(realisation);
         Ok(())
     }
 
@@ -156,8 +166,8 @@ impl Gathering {
             (λ e. e ≡ Memory) }
     {
         self.sources.reserve(1)?;
-        let _is_new = self.paths.insert(path.clone()?)?;
-        self.sources.push(source).unwrap();
+        put_path(&mut self.paths, path)?;
+        self.sources.push_reserved(source);
         Ok(())
     }
 

@@ -14,8 +14,13 @@ use std::cmp::Ordering;
 fn is_label_before(one: &Label, other: &Label) -> bool
     ensures { result ≡ label_before one.now other.now }
 {
-    one.path() < other.path()
-        || (!(other.path() < one.path()) && is_class_before(one.class(), other.class()))
+    if one.path() < other.path() {
+        return true;
+    }
+    if other.path() < one.path() {
+        return false;
+    }
+    is_class_before(one.class(), other.class())
 }
 
 // Whether labels go before others, one after another.
@@ -41,8 +46,13 @@ fn are_labels_before(one: &[Label], other: &[Label]) -> bool
 pub(crate) fn is_record_before(one: &Record, other: &Record) -> bool
     ensures { result ≡ recorded_before one.now other.now }
 {
-    one.path() < other.path()
-        || (!(other.path() < one.path()) && are_labels_before(one.labels(), other.labels()))
+    if one.path() < other.path() {
+        return true;
+    }
+    if other.path() < one.path() {
+        return false;
+    }
+    are_labels_before(one.labels(), other.labels())
 }
 
 /// The order of records of several classes: by rank, and then by class path.

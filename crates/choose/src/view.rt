@@ -1,14 +1,17 @@
 //! What a user sees: the desks of all whom he reaches.
 
-ghost use Rattle.std.specs.Prelude.{◌≡◌, All, MatchResult};
+ghost use Rattle.std.specs.Prelude.{◌≡◌, All, Some, IfOk, MatchResult};
 ghost use Rattle.std.specs.List.{list_any};
 ghost use Rattle.model.specs.declared.refusal.Refusal.TheVariants.{Memory};
+ghost use Rattle.model.specs.Worlds.{tree_at};
 ghost use Rattle.realise.specs.Holdings.{IsClosed};
-ghost use Rattle.choose.specs.Visible.{seen, desks_of, AreStored, is_source_on, source_in};
+ghost use Rattle.choose.specs.Visible.{seen, desks_of, IsStored, AreStored, is_source_on, source_in};
 
 use closures::Source;
 use model::Refusal;
+use nar::Tree;
 use realise::Desk;
+use std::alloc::AllocError;
 use std::marker::Model;
 use store::Table;
 use storepath::StorePath;
@@ -58,10 +61,19 @@ impl<'a> View<'a> {
         if !is_source(&self.desks, path) {
             return Ok(None);
         }
-        let Some(tree) = self.table.get(path) else {
-            unreachable!()
-        };
-        Ok(Some(Source::new(path.clone()?, tree.clone()?)))
+        let tree = tree_in(self.table, path)?;
+        Ok(Some(Source::new(path.clone()?, tree)))
+    }
+}
+
+/// The tree at a path that a table has.
+pub(crate) fn tree_in(table: &Table, path: &StorePath) -> Result<Tree, AllocError>
+    requires { IsStored table.now.sources path.now }
+    ensures { IfOk result (λ tree. Some tree ≡ tree_at path.now table.now.sources) }
+{
+    match table.get(path) {
+        Some(tree) => tree.clone(),
+        None => unreachable!(),
     }
 }
 

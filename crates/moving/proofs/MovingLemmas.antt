@@ -1,5 +1,5 @@
 -- How the labels of a record move.
-use Rattle.std.proofs.Common.{◌≡◌, ℕ, ◌+◌, ◌<◌, true, false, inl, inr, refl, sym, ◌∙◌, ap, subst, List, [], ◌∷◌, length, get_or, take, None, Result, Ok, Err}
+use Rattle.std.proofs.Common.{◌≡◌, ◌⊎◌, ℕ, ◌+◌, ◌<◌, true, false, inl, inr, refl, sym, ◌∙◌, ap, subst, List, [], ◌∷◌, length, get_or, take, None, Result, Ok, Err}
 use Rattle.std.specs.Prelude.{All, MatchResult, IfOk, IfErr}
 use Rattle.std.specs.List.{list_any}
 use Rattle.std.proofs.lemmas.List.{map_push}
@@ -12,13 +12,13 @@ use Rattle.model.specs.Archives.{Tree}
 use Rattle.model.specs.Paths.{IsPath}
 use Rattle.model.specs.Occurrences.{among, fault}
 use Rattle.model.specs.Substitutions.{Images, keys_of, put, is_true_put}
-use Rattle.model.specs.Settling.{hash_part_in}
+use Rattle.model.specs.Settling.{Settled, hash_part_in}
 use Rattle.model.specs.Worlds.{Label, Record}
 use Rattle.model.specs.References.{paths_of_labels}
-use Rattle.model.specs.Repairs.{Move, is_replaced, is_replaced_by, images_of, put_unless, substituted, rewritten, repaired, moved}
+use Rattle.model.specs.Repairs.{Move, is_replaced, is_replaced_by, images_of, put_unless, substituted, rewritten, moved_labels, resettled, repaired, moved}
 use Rattle.scan.specs.Refusing.{IsFault}
 use Rattle.rewrite.specs.Refusing.{IsAccident}
-use Rattle.moving.specs.Moving.{IsRefused, IsRewritten, IsNotRewritten}
+use Rattle.moving.specs.Moving.{IsRefused, IsRewritten, IsNotRewritten, resettled_with, settled_as}
 use Rattle.moving.proofs.TurnLemmas.{take_step}
 
 -- ---- labels
@@ -83,6 +83,15 @@ rewritten_fault r moves images tree keys why i t k is =
     (substituted_fault images tree why (subst (λ ks. IsFault (fault (among ks) tree) why) k is))
 
 -- ---- a record whose labels move
+
+-- which is repaired by what its tree was rewritten to and then settled as
+pub repaired_by : (r : Record) (moves : List Move) (labels : List Label) (tree : Tree) (s : Settled) (o : Result Record Refusal) → rewritten r moves ≡ Ok tree
+    → labels ≡ moved_labels moves → resettled_with r labels tree ≡ Ok s → MatchResult o (λ made. made ≡ settled_as r labels s) (λ e. e ≡ Memory)
+    → MatchResult o (λ made. repaired r moves ≡ Ok made) (λ e. (e ≡ Memory) ⊎ (repaired r moves ≡ Err e))
+repaired_by r moves labels tree s (Ok made) new are settled is =
+    let done : resettled r moves tree ≡ Ok s = ap (λ ls. resettled_with r ls tree) (sym are) ∙ settled in
+    rw (new, done) (ap Ok (sym (is ∙ ap (λ ls. settled_as r ls s) are)))
+repaired_by r moves labels tree s (Err e) new are settled is = inl is
 
 pub moved_not : (r copy : Record) (moves : List Move) → false ≡ list_any is_replaced moves → copy ≡ r → moved r moves ≡ Ok copy
 unfolding moved

@@ -82,14 +82,24 @@ impl Move {
 pub(crate) fn is_any_replaced(moves: &[Move]) -> bool
     ensures { result ≡ list_any is_replaced moves.now }
 {
-    moves.iter().any(|one| one.is_replaced())
+    for one in moves {
+        if one.is_replaced() {
+            return true;
+        }
+    }
+    false
 }
 
 /// Whether this path stands in the place of another.
 pub(crate) fn is_any_replaced_by(path: &StorePath, moves: &[Move]) -> bool
     ensures { result ≡ list_any (is_replaced_by path.now) moves.now }
 {
-    moves.iter().any(|one| one.is_replaced_by(path))
+    for one in moves {
+        if one.is_replaced_by(path) {
+            return true;
+        }
+    }
+    false
 }
 
 // What serves a class, where its rank is lower.

@@ -6,7 +6,8 @@ ghost use Rattle.model.specs.Settling.{name_in};
 ghost use Rattle.model.specs.References.{paths_of_labels};
 ghost use Rattle.model.specs.Repairs.{moved, repaired};
 ghost use Rattle.model.specs.declared.refusal.Refusal.TheVariants.{Memory};
-ghost use Rattle.moving.specs.Moving.{IsRewritten, IsNotRewritten, IsResettled, IsNotResettled};
+ghost use Rattle.moving.specs.Moving.{IsRewritten, IsNotRewritten, IsResettled, IsNotResettled, settled_as};
+ghost use Rattle.realise.specs.Recorded.{AreInPathOrder};
 ghost use Rattle.moving.specs.Served.{served_from};
 ghost use Rattle.closures.specs.Sound.{IsSoundRecord};
 
@@ -70,6 +71,24 @@ fn resettled(
     settle(alloc, archive, &own, &paths, &name)
 }
 
+// A record of the same class with these labels, at the path of a settled tree. The one error is
+// memory.
+fn settled_as(
+    alloc: Global,
+    chosen: &Realisation,
+    labels: Vec<Label>,
+    named: &Named,
+) -> Result<Realisation, Refusal>
+    requires { AreInPathOrder labels.items }
+    ensures { MatchResult result
+        (λ made. made ≡ settled_as chosen.now labels.items named.now)
+        (λ e. e ≡ Memory) }
+{
+    let tree = named.tree(alloc)?;
+    let record = Record::new(chosen.class().clone()?, named.path().clone()?, labels)?;
+    Ok(Realisation::new(record, tree))
+}
+
 // The record with its labels moved, at the path of its new tree.
 fn repaired(alloc: Global, chosen: &Realisation, moves: &[Move]) -> Result<Realisation, Refusal>
     ensures { let answer = repaired chosen.now moves.now in MatchResult result
@@ -79,9 +98,7 @@ fn repaired(alloc: Global, chosen: &Realisation, moves: &[Move]) -> Result<Reali
     let archive = rewritten(alloc, chosen, moves)?;
     let labels = moved_labels(alloc, moves)?;
     let named = resettled(alloc, chosen, &labels, &archive)?;
-    let tree = named.tree(alloc)?;
-    let record = Record::new(chosen.class().clone()?, named.path().clone()?, labels)?;
-    Ok(Realisation::new(record, tree))
+    settled_as(alloc, chosen, labels, &named)
 }
 
 /// A record as it is where no path is replaced, and else with its labels moved, at the path of its

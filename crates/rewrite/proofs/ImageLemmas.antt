@@ -1,6 +1,6 @@
 -- Keys and their images, and the table by which they are looked up.
-use Rattle.std.proofs.Common.{◌≡◌, ℕ, ◌+◌, ◌<◌, length, take, get_or, filter, append-nil, inl, inr, Bool, true, false, List, [], ◌∷◌, ◌++◌, refl, ap, sym, ◌∙◌, Option, Some, None}
-use Rattle.std.specs.Prelude.{is_some, unwrap_or, not, ◌||◌, if◌then◌else◌}
+use Rattle.std.proofs.Common.{◌≡◌, ℕ, ◌+◌, ◌<◌, length, take, get_or, inl, inr, Bool, true, false, List, [], ◌∷◌, ◌++◌, refl, ap, sym, ◌∙◌, Option, Some, None}
+use Rattle.std.specs.Prelude.{is_some, unwrap_or, not, ◌||◌}
 use Rattle.std.specs.List.{list_any}
 use Rattle.std.specs.Str.{bytes_eq}
 use Rattle.std.specs.Map.{lookup}
@@ -9,10 +9,9 @@ use Rattle.std.proofs.lemmas.Bool.Decides.{same_from_decides}
 use Rattle.std.proofs.lemmas.Slice.Eq.{bytes_eq-Decides}
 use Rattle.model.specs.Occurrences.{IsHashPart, Place, among}
 use Rattle.model.specs.Substitutions.{Images, AreImages, image_of, keys_of, is_replaced}
-use Rattle.model.specs.Settling.{stands_in, hash_part_in, references_of}
+use Rattle.model.specs.Settling.{stands_in}
 use Rattle.indexmap.specs.IndexSet.{insert_key}
 use Rattle.std.proofs.lemmas.List.{take_more}
-use Rattle.std.proofs.lemmas.List.Elements.{filter-append}
 use Rattle.std.proofs.lemmas.List.Folds.{list_any-append}
 use Rattle.rewrite.specs.Settled.{HasPartsOf}
 use Rattle.rewrite.specs.Tables.{first_image, with_first, IsTable}
@@ -119,7 +118,7 @@ said_already true b h = refl
 said_already false true h = (let no = h refl in cc)
 said_already false false h = refl
 
--- ---- the hash parts at places, and the candidates among them
+-- ---- the hash parts at places
 
 pub parts_more : (parts : List (List ℕ)) (places : List Place) (i : ℕ) (p : Place) → i < length places → p ≡ get_or places i p
     → HasPartsOf (take i places) parts
@@ -133,28 +132,6 @@ parts_more parts places i p inside here has part =
           (λ t. (let e = (bytes_eq-Decides part p.1).0 t in sym (has part) ∙ ap (λ x. list_any (bytes_eq x) parts) e ∙ there)) ∙ sym more)
       | inr new ↦ rw new (list_any-append (bytes_eq part) parts (p.1 ∷ []) ∙ ap (λ b. b || (bytes_eq part p.1 || false)) (has part) ∙ sym more)
     ]
-
-references_more : (candidates : List (List ℕ)) (places : List Place) (i : ℕ) (path : List ℕ) (b : Bool) → i < length candidates
-    → path ≡ get_or candidates i path → stands_in places (hash_part_in path) ≡ b
-    → references_of (take (i + 1) candidates) places ≡ references_of (take i candidates) places ++ (if b then path ∷ [] else [])
-references_more candidates places i path b inside here is =
-    let test : List ℕ → Bool = λ c. stands_in places (hash_part_in c) in
-    let last : filter test (get_or candidates i path ∷ []) ≡ (if b then path ∷ [] else []) = ap (λ c. filter test (c ∷ [])) (sym here)
-    ∙ ap (λ t. if t then path ∷ [] else []) is in
-    ap (filter test) (take_more candidates i path inside) ∙ filter-append test (take i candidates) (get_or candidates i path ∷ [])
-    ∙ ap (λ rest. references_of (take i candidates) places ++ rest) last
-
-pub reference_taken : (candidates : List (List ℕ)) (places : List Place) (i : ℕ) (path : List ℕ) (paths : List (List ℕ)) → i < length candidates
-    → path ≡ get_or candidates i path → stands_in places (hash_part_in path) ≡ true
-    → paths ≡ references_of (take i candidates) places → paths ++ path ∷ [] ≡ references_of (take (i + 1) candidates) places
-reference_taken candidates places i path paths inside here is before = ap (λ ps. ps ++ path ∷ []) before
-    ∙ sym (references_more candidates places i path true inside here is)
-
-pub reference_passed : (candidates : List (List ℕ)) (places : List Place) (i : ℕ) (path : List ℕ) (paths : List (List ℕ)) → i < length candidates
-    → path ≡ get_or candidates i path → stands_in places (hash_part_in path) ≡ false
-    → paths ≡ references_of (take i candidates) places → paths ≡ references_of (take (i + 1) candidates) places
-reference_passed candidates places i path paths inside here is before = before ∙ sym (append-nil (references_of (take i candidates) places))
-    ∙ sym (references_more candidates places i path false inside here is)
 
 pub none_there : (o : Option (List ℕ)) → is_some o ≡ false → o ≡ None
 none_there None h = refl

@@ -1,9 +1,10 @@
 use Rattle.std.proofs.Common.{◌≡◌, drop}
 use Rattle.std.specs.Prelude.{option_copied}
 use Rattle.model.specs.Orders.{least_from}
-use Rattle.choose.specs.Visible.{recorded_before}
+use Rattle.choose.specs.Visible.{recorded_before, those_at}
 use Rattle.choose.proofs.choice.least_from.Given as goal
 
 abbrev pub invariant-loop-candidate : goal.invariant-loop-candidate
-invariant-loop-candidate l = least_from recorded_before (option_copied l.best) (drop l.candidate-index l.records) ≡ least_from recorded_before
-    (option_copied l.initial.best) l.records
+invariant-loop-candidate l =
+    least_from recorded_before (option_copied l.best) (those_at (option_copied l.path) (drop l.candidate-index l.records)) ≡ least_from recorded_before
+    (option_copied l.initial.best) (those_at (option_copied l.path) l.records)

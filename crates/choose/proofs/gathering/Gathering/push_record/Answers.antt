@@ -1,4 +1,4 @@
-use Rattle.std.proofs.Common.{rules, ◌≡◌, ◌++◌, ◌∷◌, [], List, sym, ◌∙◌, ap, refl, false}
+use Rattle.std.proofs.Common.{◌≡◌, ◌++◌, ◌∷◌, [], List, sym, ◌∙◌, ap, refl, false}
 use Rattle.std.specs.Prelude.{bytes_eq}
 use Rattle.std.specs.List.{list_any}
 use Rattle.model.specs.Worlds.{Record}
@@ -14,10 +14,11 @@ invariant_of-self-2 c =
     let absent : false ≡ list_any (bytes_eq class) keys =
     sym c.requires.absent ∙ ap (has_class class) (sym c.self.view_is)
     ∙ keyed (λ (r : Record). r.class.path) (list_any (bytes_eq class) keys) class keys records c.self.invariant.of_records refl in
-    let pushed : c.push.new.self.items ≡ records ++ c.args.realisation ∷ [] = search rules in
+    let pushed : c.push_reserved.new.self.items ≡ records ++ c.args.realisation ∷ [] = c.push_reserved.ensures.items
+    ∙ ap (λ items. items ++ c.args.realisation ∷ []) c.in_ok-reserve.ensures.items in
     record {
       of_records =
-          keys_pushed (λ (r : Record). r.class.path) class c.in_ok-clone.field-0 keys c.insert.new.self.keys records c.push.new.self.items c.args.realisation
-          c.self.invariant.of_records absent c.in_ok-clone.ensures.cases c.requires.own c.in_ok-_is_new.ensures.keys pushed;
+          keys_pushed (λ (r : Record). r.class.path) class class keys c.put_path.new.table.keys records c.push_reserved.new.self.items c.args.realisation
+          c.self.invariant.of_records absent refl c.requires.own c.in_ok-put_path.ensures.put pushed;
       of_sources = c.self.invariant.of_sources;
     }

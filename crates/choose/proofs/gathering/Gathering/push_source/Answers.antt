@@ -1,4 +1,4 @@
-use Rattle.std.proofs.Common.{rules, ◌≡◌, ◌++◌, ◌∷◌, [], List, sym, ◌∙◌, ap, refl, false}
+use Rattle.std.proofs.Common.{◌≡◌, ◌++◌, ◌∷◌, [], List, sym, ◌∙◌, ap, refl, false}
 use Rattle.std.specs.Prelude.{bytes_eq}
 use Rattle.std.specs.List.{list_any}
 use Rattle.model.specs.Worlds.{Source}
@@ -14,10 +14,11 @@ invariant_of-self-2 c =
     let absent : false ≡ list_any (bytes_eq path) keys =
     sym c.requires.absent ∙ ap (has_source path) (sym c.self.view_is)
     ∙ keyed (λ (s : Source). s.path) (list_any (bytes_eq path) keys) path keys sources c.self.invariant.of_sources refl in
-    let pushed : c.push.new.self.items ≡ sources ++ c.args.source ∷ [] = search rules in
+    let pushed : c.push_reserved.new.self.items ≡ sources ++ c.args.source ∷ [] = c.push_reserved.ensures.items
+    ∙ ap (λ items. items ++ c.args.source ∷ []) c.in_ok-reserve.ensures.items in
     record {
       of_records = c.self.invariant.of_records;
       of_sources =
-          keys_pushed (λ (s : Source). s.path) path c.in_ok-clone.field-0 keys c.insert.new.self.keys sources c.push.new.self.items c.args.source
-          c.self.invariant.of_sources absent c.in_ok-clone.ensures.cases c.requires.own c.in_ok-_is_new.ensures.keys pushed;
+          keys_pushed (λ (s : Source). s.path) path path keys c.put_path.new.table.keys sources c.push_reserved.new.self.items c.args.source
+          c.self.invariant.of_sources absent refl c.requires.own c.in_ok-put_path.ensures.put pushed;
     }
