@@ -23,7 +23,7 @@ use Rattle.closures.specs.contracts.realisation.Source as Source
 use Rattle.closures.specs.contracts.entry.Entry as Entry
 use Rattle.closures.specs.contracts.entry.Closure as Closure
 use Rattle.closures.specs.contracts.resolved.Resolved as Resolved
-use Rattle.jobs.specs.contracts.job.Job as Job
+use Rattle.states.specs.contracts.job.Job as Job
 use Rattle.jobs.specs.contracts.goal.Goal as Goal
 use Rattle.jobs.specs.contracts.indexes.Indexes as Indexes
 use Rattle.jobs.specs.contracts.goals.Goals as Goals

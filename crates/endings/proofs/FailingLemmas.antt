@@ -14,7 +14,7 @@ use Rattle.model.proofs.BoolLemmas.{either}
 use Rattle.model.proofs.ReachLemmas.{leads-IsLeast}
 use Rattle.trust.specs.Naming.{place_of, name_at, trusted_at, IsWithin}
 use Rattle.trust.proofs.PlaceLemmas.{name_found}
-use Rattle.jobs.specs.declared.goal.State.TheVariants as states
+use Rattle.states.specs.declared.state.State.TheVariants as states
 use Rattle.jobs.specs.Owned.{OwnedByAll, with_goals_at}
 use Rattle.realise.specs.Holdings.{Holdings}
 use Rattle.events.specs.declared.reply.Reply.TheVariants as reply

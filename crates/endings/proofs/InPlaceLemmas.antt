@@ -17,7 +17,8 @@ use Rattle.model.specs.EndRequests.{told_of}
 use Rattle.model.proofs.BoolLemmas.{either}
 use Rattle.trust.specs.Naming.{place_of, trusted_at, IsWithin}
 use Rattle.trust.proofs.PlaceLemmas.{name_found}
-use Rattle.jobs.specs.States.{state_of, is_building}
+use Rattle.states.specs.States.{state_of}
+use Rattle.jobs.specs.States.{is_building}
 use Rattle.realise.specs.Holdings.{Holdings}
 use Rattle.store.specs.Stored.{Extends, put_all, sources_of}
 use Rattle.endings.specs.declared.finishing.Ending.{Ending}

@@ -3,7 +3,7 @@ use Rattle.std.specs.Prelude.{◌≡◌, ℕ, ◌+◌, ◌^◌, ◌<◌, List, [
 use Rattle.std.specs.Global.{Vec}
 use Rattle.model.specs.Archives.{Tree}
 use Rattle.model.specs.Worlds.{State}
-use Rattle.jobs.specs.declared.goal.State as jobs
+use Rattle.states.specs.declared.state.State as jobs
 use Rattle.realise.specs.Held.{IsSetOf}
 use Rattle.realise.specs.Holdings.{Holdings, Growth, IsGrown, paths_of, IsClosed}
 use Rattle.desks.specs.Supported.{desk_at}

@@ -4,7 +4,7 @@ use Rattle.model.specs.Archives.{Tree}
 use Rattle.model.specs.Worlds.{Source, Goal, Job}
 use Rattle.model.specs.Goals.{goal_at}
 use Rattle.realise.specs.Holdings.{Holdings}
-use Rattle.jobs.specs.States.{state_of}
+use Rattle.states.specs.States.{state_of}
 use Rattle.store.specs.Stored.{put_all, sources_of, AreNew, AreThere}
 use Rattle.endings.specs.declared.finishing.Ending.{Ending}
 use Rattle.desks.specs.Parts.{goals_of}

@@ -6,8 +6,9 @@ use Rattle.model.specs.Archives.{Tree, nar}
 use Rattle.model.specs.Limits.{most_records}
 use Rattle.model.specs.Worlds.{Source, State, Waiting, Done, Failed, Goal, tree_at}
 use Rattle.model.specs.Goals.{goal_at, with_goal_at, in_state}
-use Rattle.jobs.specs.declared.goal.State as jobs
-use Rattle.jobs.specs.States.{state_of, is_building}
+use Rattle.states.specs.declared.state.State as jobs
+use Rattle.states.specs.States.{state_of}
+use Rattle.jobs.specs.States.{is_building}
 use Rattle.realise.specs.Recorded.{Recorded}
 use Rattle.realise.specs.declared.entry.Entry.TheVariants as entry
 use Rattle.realise.specs.Held.{charged_beside}

@@ -15,7 +15,7 @@ use Rattle.trust.specs.Trusting.{IsReach}
 use Rattle.desks.specs.Parts.{goals_of}
 use Rattle.desks.specs.Viewing.{desk_at}
 use Rattle.endings.specs.Built.{all_built, numbered, AreBuiltOn, IsClosedBuilt, HaveInputs, IsStoredBuilt}
-use Rattle.jobs.specs.declared.goal.State as jobs
+use Rattle.states.specs.declared.state.State as jobs
 use Rattle.endings.specs.declared.gains.Gains as Rust
 use Rattle.endings.specs.Gaining.{Output, Gains, gains_in, ArePaired, IsCounted, with_gains, with_states, state_at, IsSettable, IsTreeIn}
 

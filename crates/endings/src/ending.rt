@@ -5,7 +5,7 @@ ghost use Rattle.model.specs.Worlds.{are_users};
 ghost use Rattle.model.specs.Goals.{goal_at};
 ghost use Rattle.model.specs.Events.{Fail as FailRequest};
 ghost use Rattle.jobs.specs.Owned.{with_goals_at};
-ghost use Rattle.jobs.specs.States.{state_of};
+ghost use Rattle.states.specs.States.{state_of};
 ghost use Rattle.trust.specs.Trusting.{trusts};
 ghost use Rattle.trust.specs.Naming.{name_at};
 ghost use Rattle.desks.specs.Parts.{goals_of};

@@ -7,7 +7,7 @@ ghost use Rattle.model.specs.Worlds.{Done};
 ghost use Rattle.model.specs.declared.refusal.Refusal.TheVariants.{Memory};
 ghost use Rattle.realise.specs.Holdings.{charged_more};
 ghost use Rattle.jobs.specs.Owned.{goals_at};
-ghost use Rattle.jobs.specs.States.{state_of};
+ghost use Rattle.states.specs.States.{state_of};
 ghost use Rattle.endings.specs.Gaining.{gains_in, with_gains, nothing, is_had, is_free, one_more, gains_with, state_with, gains_of, state_of_built, all_gains, all_states, state_at, waiting};
 ghost use Rattle.endings.specs.Hearing.{Hears};
 

@@ -5,9 +5,9 @@ ghost use Rattle.model.specs.Talk.{told_in};
 ghost use Rattle.events.specs.Terms.{reply_of};
 
 use closures::Closure;
-use jobs::State;
 use model::Refusal;
 use nar::Tree;
+use states::State;
 use storepath::StorePath;
 
 /// The answer to one event.

@@ -8,7 +8,7 @@ ghost use Rattle.model.specs.Events.{Build as BuildRequest, Status as StatusRequ
 ghost use Rattle.trust.specs.Trusting.{holds, trusts};
 ghost use Rattle.trust.specs.Naming.{names, IsWithin};
 ghost use Rattle.jobs.specs.Owned.{goals_at, with_goals_at};
-ghost use Rattle.jobs.specs.States.{state_of};
+ghost use Rattle.states.specs.States.{state_of};
 ghost use Rattle.realise.specs.Holdings.{Holdings};
 ghost use Rattle.desks.specs.Handling.{IsHandledByGoals, IsReadAtPlace};
 

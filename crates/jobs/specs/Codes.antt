@@ -7,10 +7,8 @@ use Rattle.model.specs.declared.refusal.Refusal.TheVariants.{UnknownUser, Quota,
 use Rattle.model.specs.declared.refusal.RewriteFault.TheVariants.{InName, Overlap, Accidental}
 use Rattle.model.specs.Worlds.{Resolved, Job, State, Waiting, Planned, Building, Done, Failed, Goal}
 use Rattle.closures.specs.Codes.{resolved_code}
+use Rattle.states.specs.Codes.{job_code}
 use Rattle.jobs.specs.Owned.{Owned, OwnedByAll}
-
-abbrev pub job_code : Coded Job
-job_code = code_by (List ℕ × ℕ) (coded× (coded_list coded_ℕ) coded_ℕ) (λ j. (j.leader, j.number)) (λ p. record { leader = p.0; number = p.1 }) (λ _. refl)
 
 abbrev pub refusal_code : Coded Refusal
 refusal_code = code_by ℕ coded_ℕ place_of refusal_at refused_back

@@ -1,16 +1,6 @@
 -- How far goals are.
 use Rattle.std.specs.Prelude.{◌≡◌, Bool, false, Option, None, Some, is_some}
 use Rattle.model.specs.Worlds as model
-use Rattle.jobs.specs.declared.goal.State.{State}
-use Rattle.jobs.specs.declared.goal.State.TheVariants.{Waiting, Planned, Building, Done, Failed}
-
--- what contracts see of a state
-abbrev pub state_of : State → model.State
-state_of Waiting = model.Waiting
-state_of Planned = model.Planned
-state_of (Building job) = model.Building job
-state_of (Done path) = model.Done path
-state_of (Failed why) = model.Failed why
 
 -- the job in which a goal is built
 abbrev pub job_in : model.State → Option model.Job

@@ -2,28 +2,13 @@
 
 ghost use Rattle.std.specs.Prelude.{◌≡◌, None, Some, option_copied};
 ghost use Rattle.model.specs.Goals.{in_state, new_goal};
-ghost use Rattle.jobs.specs.States.{state_of, job_in, planned_with};
+ghost use Rattle.states.specs.States.{state_of};
+ghost use Rattle.jobs.specs.States.{job_in, planned_with};
 
-use crate::job::Job;
 use closures::Resolved;
-use model::Refusal;
+use states::{Job, State};
 use std::marker::Model;
 use storepath::StorePath;
-
-/// How far a goal is.
-#[derive(Clone, Debug, Drop)]
-pub enum State {
-    /// It is to be planned.
-    Waiting,
-    /// It can start.
-    Planned,
-    /// It is built in a job.
-    Building(Job),
-    /// It was built, and its output is at that path.
-    Done(StorePath),
-    /// It came to nothing.
-    Failed(Refusal),
-}
 
 /// One request to build.
 pub struct Goal {
@@ -50,7 +35,7 @@ impl Model for Goal {
 
     ghost coded = { goal_code };
 
-    ghost use Rattle.jobs.specs.States.{state_of};
+    ghost use Rattle.states.specs.States.{state_of};
 
     ghost view = { λ g.
         record { derivation = g.derivation; resolved = g.resolved; state = state_of g.state } };

@@ -5,17 +5,18 @@ ghost use Rattle.model.specs.declared.refusal.Refusal.TheVariants.{Memory, Quota
 ghost use Rattle.model.specs.Limits.{most_goals};
 ghost use Rattle.model.specs.Worlds.{Building};
 ghost use Rattle.model.specs.Goals.{goal_at, in_state, new_goal, members, led_by};
-ghost use Rattle.jobs.specs.Joining.{job_with, least_with};
+ghost use Rattle.jobs.specs.Joining.{job_with, least_with, lesser_of};
 ghost use Rattle.jobs.specs.Owned.{with_goals, ChangesOwn};
 ghost use Rattle.jobs.specs.Numbers.{numbers, leads_at};
-ghost use Rattle.jobs.specs.States.{state_of, is_building, planned_with, IsIdle};
+ghost use Rattle.states.specs.States.{state_of};
+ghost use Rattle.jobs.specs.States.{is_building, planned_with, IsIdle};
 
-use crate::goal::{Goal, State};
+use crate::goal::Goal;
 use crate::indexes::Indexes;
-use crate::job::{Job, lesser};
 use crate::same::same_resolved;
 use closures::Resolved;
 use model::Refusal;
+use states::{Job, State};
 use std::alloc::Global;
 use std::hash::RandomState;
 use std::marker::Model;
@@ -57,6 +58,18 @@ impl Model for Goals {
 
     ghost invariant = { λ g. (length g.goals.items ≤ most_goals)
         × IsIndexed g.owner g.goals.items g.indexes.of_jobs.entries g.indexes.of_paths.entries };
+}
+
+/// The best so far, or another job, if there is one, that goes before it.
+fn lesser<'a>(best: Option<&'a Job>, other: Option<&'a Job>) -> Option<&'a Job>
+    ensures { option_copied result
+        ≡ lesser_of (option_copied best.entry) (option_copied other.entry) }
+{
+    match (best, other) {
+        (Some(first), Some(second)) => { if second.is_before(first) { other } else { best } }
+        (None, _) => other,
+        (_, None) => best,
+    }
 }
 
 impl Goals {

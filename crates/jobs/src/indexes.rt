@@ -9,9 +9,9 @@ ghost use Rattle.jobs.specs.States.{is_building};
 
 use crate::goal::Goal;
 use crate::index::{insert_at, numbers_at, remove_at};
-use crate::job::Job;
 use indexmap::IndexMap;
 use model::Refusal;
+use states::Job;
 use std::alloc::Global;
 use std::hash::RandomState;
 use storepath::StorePath;

@@ -6,11 +6,10 @@ mod goal;
 mod goals;
 mod index;
 mod indexes;
-mod job;
 mod same;
 mod users;
 
-pub use goal::{Goal, State};
+pub use goal::Goal;
 pub use goals::MOST_GOALS;
-pub use job::Job;
+pub use states::{Job, State};
 pub use users::Jobs;

@@ -7,14 +7,15 @@ ghost use Rattle.model.specs.Worlds.{Building};
 ghost use Rattle.model.specs.Goals.{in_state, new_goal, members};
 ghost use Rattle.trust.specs.Trusting.{holds};
 ghost use Rattle.jobs.specs.Owned.{goals_at, with_goals_at, goal_of, ChangesGoal};
-ghost use Rattle.jobs.specs.States.{state_of, is_building, planned_with, IsIdle};
+ghost use Rattle.states.specs.States.{state_of};
+ghost use Rattle.jobs.specs.States.{is_building, planned_with, IsIdle};
 ghost use Rattle.jobs.specs.Joining.{running_at, least_with, joined};
 
-use crate::goal::{Goal, State};
+use crate::goal::Goal;
 use crate::goals::Goals;
-use crate::job::Job;
 use closures::Resolved;
 use model::Refusal;
+use states::{Job, State};
 use std::alloc::Global;
 use std::hash::RandomState;
 use std::marker::Model;

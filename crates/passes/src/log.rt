@@ -137,6 +137,7 @@ impl Join<View> for AddClaim {
 
 /// The tokens of a new front, which has no name yet.
 pub struct Opened {
+    /// The table of the tokens.
     pub table: Table<(), View, (), Law, Global>,
     seat: Seat<(), View>,
     ghost word: { table.shared.table_id.words ≡ 1 },
@@ -174,7 +175,9 @@ impl Opened {
 /// What a new front needs, under no name yet: its ledger, and its tokens.
 #[derive(Drop)]
 pub struct Blank {
+    /// The ledger that counts its calls.
     pub calls: ledger::Blank,
+    /// Its tokens.
     pub log: Opened,
 }
 

@@ -1,7 +1,7 @@
 use Rattle.std.proofs.Common.{sym, ◌∙◌, ap, subst}
 use Rattle.std.specs.Prelude.{All, map}
 use Rattle.std.specs.Vec.Iter.{into_iter_items}
-use Rattle.jobs.specs.States.{state_of}
+use Rattle.states.specs.States.{state_of}
 use Rattle.std.proofs.lemmas.List.Elements.{All-head}
 use Rattle.desks.specs.Supported.{goals_of}
 use Rattle.endings.specs.Gaining.{with_states, state_at, IsSettable}

@@ -1,5 +1,5 @@
 use Rattle.std.proofs.Common.{◌≡◌, drop, map}
-use Rattle.jobs.specs.States.{state_of}
+use Rattle.states.specs.States.{state_of}
 use Rattle.endings.specs.Gaining.{last_state, state_at}
 use Rattle.endings.proofs.finishing.state_then.Given as goal
 

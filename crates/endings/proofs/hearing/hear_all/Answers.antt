@@ -6,7 +6,7 @@ use Rattle.std.proofs.lemmas.List.{length-append}
 use Rattle.model.specs.declared.refusal.Refusal.{Refusal}
 use Rattle.realise.specs.Holdings.{Holdings}
 use Rattle.jobs.specs.Owned.{goals_at}
-use Rattle.jobs.specs.declared.goal.State as jobs
+use Rattle.states.specs.declared.state.State as jobs
 use Rattle.trust.specs.Trusting.{trusts}
 use Rattle.endings.specs.declared.gains.Gains as Rust
 use Rattle.desks.specs.Parts.{goals_of}

@@ -3,7 +3,7 @@ use Rattle.std.specs.Prelude.{is_some}
 use Rattle.model.specs.Worlds.{Goal}
 use Rattle.model.specs.Goals.{goal_at, in_state}
 use Rattle.jobs.specs.Owned.{Owned}
-use Rattle.jobs.specs.States.{state_of}
+use Rattle.states.specs.States.{state_of}
 use Rattle.jobs.proofs.NumberLemmas.{found, changed}
 use Rattle.jobs.proofs.IndexedLemmas.{indexed_left}
 use Rattle.jobs.proofs.goals.Goals.set_state.Goals as goal

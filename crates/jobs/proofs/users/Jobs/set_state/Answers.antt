@@ -1,6 +1,6 @@
 use Rattle.std.proofs.Common.{◌≡◌, Some, ap, sym, ◌∙◌}
 use Rattle.model.specs.Goals.{goal_at, with_goal_at, in_state}
-use Rattle.jobs.specs.States.{state_of}
+use Rattle.states.specs.States.{state_of}
 use Rattle.jobs.proofs.UserLemmas.{goals_read, goals_written}
 use Rattle.jobs.proofs.users.Jobs.set_state.Goals as goal
 

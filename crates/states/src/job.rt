@@ -1,7 +1,6 @@
 //! What is built for several goals at once.
 
-ghost use Rattle.std.specs.Prelude.{◌≡◌, option_copied};
-ghost use Rattle.jobs.specs.Joining.{lesser_of};
+ghost use Rattle.std.specs.Prelude.{◌≡◌};
 ghost use Rattle.model.specs.Archives.{bytes_before};
 ghost use Rattle.model.specs.Goals.{job_before, same_job};
 
@@ -28,7 +27,7 @@ impl Drop for Job {
 
 impl Model for Job {
     ghost use Rattle.model.specs.Worlds.{Job as JobValue};
-    ghost use Rattle.jobs.specs.Codes.{job_code};
+    ghost use Rattle.states.specs.Codes.{job_code};
 
     ghost Value = { JobValue };
 
@@ -74,25 +73,13 @@ impl Job {
     }
 
     /// Whether it stands before another: by the names of the leaders, then by number.
-    pub(crate) fn is_before(&self, other: &Job) -> bool
+    pub fn is_before(&self, other: &Job) -> bool
         ensures { result ≡ job_before self.now other.now }
     {
         let leader = self.leader.bytes();
         let other_leader = other.leader.bytes();
         comes_before(leader, other_leader)
             || (!comes_before(other_leader, leader) && self.number < other.number)
-    }
-}
-
-/// The best so far, or another job, if there is one, that goes before it.
-pub(crate) fn lesser<'a>(best: Option<&'a Job>, other: Option<&'a Job>) -> Option<&'a Job>
-    ensures { option_copied result
-        ≡ lesser_of (option_copied best.entry) (option_copied other.entry) }
-{
-    match (best, other) {
-        (Some(first), Some(second)) => { if second.is_before(first) { other } else { best } }
-        (None, _) => other,
-        (_, None) => best,
     }
 }
 
