@@ -153,7 +153,7 @@ impl Drop for Opened {
 
 impl Opened {
     /// Those of a book that has recorded nothing.
-    pub fn new(alloc: Global) -> Result<Opened, AllocError> {
+    pub(crate) fn new(alloc: Global) -> Result<Opened, AllocError> {
         let (table, seat) = Table::of_words(alloc, &[0], &())?;
         Ok(Opened { table, seat })
     }
