@@ -12,7 +12,7 @@ use Rattle.nar.specs.contracts.tree.Tree as Tree
 use Rattle.model.specs.contracts.refusal.Refusal as Refusal
 use Rattle.storepath.specs.contracts.path.StorePath as StorePath
 use Rattle.derivation.specs.contracts.derivation.Derivation as Derivation
-use Rattle.classes.specs.contracts.known.Known as Known
+use Rattle.admitted.specs.contracts.known.Known as Known
 use Rattle.realise.specs.contracts.label.Label as Label
 use Rattle.realise.specs.contracts.record.Record as Record
 use Rattle.realise.specs.contracts.pins.Pins as Pins

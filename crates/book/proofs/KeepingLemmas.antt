@@ -14,7 +14,7 @@ use Rattle.model.specs.GivenClosures.{GivesGoodClosure, KeepsGoodClosure, GiveGo
 use Rattle.events.specs.declared.reply.Reply.{Reply}
 use Rattle.events.specs.declared.reply.Reply.TheVariants.{Refused}
 use Rattle.schedule.specs.declared.state.Core.{Core}
-use Rattle.desks.specs.Sound.{IsHashed}
+use Rattle.handling.specs.Sound.{IsHashed}
 use Rattle.schedule.specs.Standing.{world_of, setup_of, stored_in, HasHashed, IsUnchanged}
 use Rattle.events.specs.Terms.{reply_of}
 use Rattle.schedule.proofs.RunLemmas.{good_push}

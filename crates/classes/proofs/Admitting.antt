@@ -8,7 +8,7 @@ use Rattle.model.specs.declared.refusal.Refusal.{Refusal}
 use Rattle.model.specs.declared.refusal.Refusal.TheVariants.{MissingInput, RankTooHigh, Memory}
 use Rattle.model.specs.Paths.{OutputClass, store_path}
 use Rattle.model.specs.Derivations.{Derivation, name_of}
-use Rattle.classes.specs.Entries.{has_inputs}
+use Rattle.classes.specs.Inputs.{has_inputs}
 use Rattle.model.specs.Classes.{Admission, Known, is_one_of, rank_at, greatest, derivation_path, masked_text, admission_of, admit}
 
 abbrev pub has_sources : Known → List (List ℕ) → Bool

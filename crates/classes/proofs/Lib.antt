@@ -1,4 +1,3 @@
 pub mod Order
 pub mod Names
-pub mod EntryLemmas
 pub mod Admitting

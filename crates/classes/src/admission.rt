@@ -4,15 +4,13 @@ ghost use Rattle.std.specs.Prelude.{◌≡◌, ◌≤◌, ◌⊎◌, ◌++◌, I
 ghost use Rattle.std.specs.List.{list_all};
 ghost use Rattle.hex.specs.Hex.{encode_lower};
 ghost use Rattle.sha2.specs.Sha256.{sha256};
-ghost use Rattle.classes.specs.Entries.{has_inputs, is_absent};
+ghost use Rattle.classes.specs.Inputs.{has_inputs, is_absent};
 ghost use Rattle.model.specs.Paths.{OutputClass, store_path};
 ghost use Rattle.model.specs.Derivations.{name_of};
 ghost use Rattle.model.specs.Classes.{known_at, is_one_of, mask_of, rank_at, greatest, sorted, derivation_path, masked_text, class_of, admission_of, admit};
 ghost use Rattle.model.specs.declared.refusal.Refusal.TheVariants.{MissingInput, Memory};
 
-use crate::class::{Admitted, Class};
-use crate::known::Known;
-use crate::paths::set_of;
+use admitted::{Admitted, Class, Known, set_of};
 use derivation::{Derivation, Text, print, print_with_inputs};
 use hashmod::sha256;
 use indexmap::IndexSet;
@@ -218,7 +216,8 @@ fn class_for(
     let masked = masked_digest(alloc, derivation, known)?;
     let rank = rank_for(derivation, known)?;
     let path = class_path(alloc, derivation, &masked)?;
-    Ok((Class { path, rank }, masked))
+    let class = Class::new(path, rank);
+    Ok((class, masked))
 }
 
 /// What a desk will know of a derivation whose path is at hand, as [`admit`] tells it.
@@ -238,12 +237,7 @@ pub fn admit_at(
         (λ e. (e ≡ Memory) ⊎ (answer ≡ Err e)) }
 {
     let (class, masked) = class_for(alloc, &derivation, known)?;
-    Ok(Admitted {
-        derivation,
-        path,
-        class,
-        masked,
-    })
+    Ok(Admitted::new(derivation, path, class, masked))
 }
 
 /// What a desk will know of a derivation: itself, the path of its file, its class, and the digest of

@@ -1,14 +1,9 @@
-//! What a user's desk knows of its derivations: their paths, their output classes and their ranks (Dolstra 2006, chapter 6).
+//! The output classes of derivations, and their ranks (Dolstra 2006, chapter 6).
 #![tactic(auto)]
 
 mod admission;
-mod class;
 mod inputs;
-mod known;
-mod paths;
 
 pub use admission::{admit, admit_at, path_of};
-pub use class::{Admitted, Class};
+pub use admitted::{Admitted, Class, Known, set_of};
 pub use inputs::input_classes;
-pub use known::Known;
-pub use paths::set_of;

@@ -7,7 +7,7 @@ ghost use Rattle.model.specs.Closures.{class_of_entry, labels_of_entry, tree_of_
 ghost use Rattle.realise.specs.Holdings.{entry_with};
 
 use crate::realisation::{Realisation, Source};
-use classes::Class;
+use admitted::Class;
 use model::Refusal;
 use nar::Tree;
 use realise::Label;

@@ -4,7 +4,7 @@ ghost use Rattle.std.specs.Prelude.{◌≡◌};
 ghost use Rattle.realise.specs.Holdings.{with_tree};
 ghost use Rattle.realise.specs.Recorded.{AreInPathOrder, without_tree};
 
-use classes::Class;
+use admitted::Class;
 use nar::Tree;
 use realise::{Label, Record};
 use std::alloc::AllocError;

@@ -23,15 +23,15 @@ use Rattle.events.specs.declared.reply.Reply as Rust
 use Rattle.realise.specs.declared.entry.Entry.TheVariants as entry
 use Rattle.store.specs.Stored.{IsAdded, IsTaken}
 use Rattle.realise.specs.Holdings.{Holdings, with_tree, entry_with}
-use Rattle.desks.specs.Stored.{settled_source, output_stored}
-use Rattle.desks.specs.Sound.{desk_of, IsSound, IsHashed, Beside}
-use Rattle.desks.specs.Supported.{GainsOnly}
+use Rattle.handling.specs.Stored.{settled_source, output_stored}
+use Rattle.handling.specs.Sound.{desk_of, IsSound, IsHashed, Beside}
+use Rattle.handling.specs.Supported.{GainsOnly}
 use Rattle.events.specs.Terms.{reply_of}
 use Rattle.desks.specs.Offering.{AreLabels, IsOutput, IsNotSettled, IsNoOutput}
-use Rattle.desks.specs.Handling.{Fits, IsKept, IsHandledBeside, AddsEntry}
-use Rattle.desks.proofs.DeskLemmas.{known_of-desk_of, records_without}
-use Rattle.desks.proofs.StepLemmas.{offer_at_once}
-use Rattle.desks.proofs.HandlingLemmas.{left, entry_handled}
+use Rattle.handling.specs.Handling.{Fits, IsKept, IsHandledBeside, AddsEntry}
+use Rattle.handling.proofs.DeskLemmas.{known_of-desk_of, records_without}
+use Rattle.handling.proofs.StepLemmas.{offer_at_once}
+use Rattle.handling.proofs.HandlingLemmas.{left, entry_handled}
 
 -- it has its path by texts that were hashed
 pub output_hashed : (texts : List (List ℕ)) (beside : Beside) (table : List Source) (d : Holdings) (a : Admission) (tree new : Tree) (r : Recorded) (path : List ℕ)

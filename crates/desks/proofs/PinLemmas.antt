@@ -16,13 +16,13 @@ use Rattle.model.proofs.PinRequestLemmas.{pin_cases}
 use Rattle.realise.specs.Holdings.{Holdings, with_pins}
 use Rattle.events.specs.declared.reply.Reply as Rust
 use Rattle.events.specs.declared.reply.Reply.TheVariants.{Done}
-use Rattle.desks.specs.Stored.{stored_by}
-use Rattle.desks.specs.Sound.{sources_at, records_at, desk_of, IsSound, Beside}
-use Rattle.desks.specs.Given.{HasSoundPlan}
-use Rattle.desks.specs.Handling.{RefusedAtOnce, ServesAtOnce, IsHandledBeside}
-use Rattle.desks.proofs.DeskLemmas.{length-sources_at, length-records_at}
-use Rattle.desks.proofs.SupportLemmas.{gains_same}
-use Rattle.desks.proofs.HandlingLemmas.{left}
+use Rattle.handling.specs.Stored.{stored_by}
+use Rattle.handling.specs.Sound.{sources_at, records_at, desk_of, IsSound, Beside}
+use Rattle.handling.specs.Given.{HasSoundPlan}
+use Rattle.handling.specs.Handling.{RefusedAtOnce, ServesAtOnce, IsHandledBeside}
+use Rattle.handling.proofs.DeskLemmas.{length-sources_at, length-records_at}
+use Rattle.handling.proofs.SupportLemmas.{gains_same}
+use Rattle.handling.proofs.HandlingLemmas.{left}
 
 -- ---- how many there are
 

@@ -14,8 +14,8 @@ use Rattle.model.specs.OfferRequests.{output_settled}
 use Rattle.model.specs.Results.{unless_rewrite_refused}
 use Rattle.realise.specs.Recorded.{Recorded}
 use Rattle.realise.specs.Holdings.{Holdings}
-use Rattle.desks.specs.Outputs.{IsRecordOf}
-use Rattle.desks.specs.Sound.{desk_of, Beside}
+use Rattle.outputs.specs.Outputs.{IsRecordOf}
+use Rattle.handling.specs.Sound.{desk_of, Beside}
 
 -- the labels are what an output of a derivation may refer to on a desk
 abbrev pub AreLabels : Holdings → Derivation → List Label → Type 0

@@ -7,13 +7,13 @@ ghost use Rattle.model.specs.Replies.{is_refused};
 ghost use Rattle.model.specs.declared.refusal.Refusal.TheVariants.{Clash, Memory};
 ghost use Rattle.store.specs.Stored.{IsTaken, IsAdded};
 ghost use Rattle.realise.specs.Holdings.{entry_path, is_on, holds_entry, charged_more, is_roomy, IsClosedWithEntry};
-ghost use Rattle.desks.specs.Sound.{IsSound};
-ghost use Rattle.desks.specs.Supported.{GainsOnly};
+ghost use Rattle.handling.specs.Sound.{IsSound};
+ghost use Rattle.handling.specs.Supported.{GainsOnly};
 ghost use Rattle.events.specs.Terms.{reply_of};
-ghost use Rattle.desks.specs.Handling.{IsKept, AddsEntry};
+ghost use Rattle.handling.specs.Handling.{IsKept, AddsEntry};
 
-use crate::limits::Limits;
 use events::Reply;
+use handling::Limits;
 use model::Refusal;
 use nar::Tree;
 use realise::{Desk, Entry};

@@ -9,13 +9,13 @@ ghost use Rattle.model.specs.Worlds.{tree_at};
 ghost use Rattle.model.specs.Events.{AddSource as AddSourceRequest, Fetch as FetchRequest, Content};
 ghost use Rattle.model.specs.declared.refusal.Refusal.TheVariants.{Memory};
 ghost use Rattle.realise.specs.Holdings.{paths_of};
-ghost use Rattle.desks.specs.Sound.{IsSound};
+ghost use Rattle.handling.specs.Sound.{IsSound};
 ghost use Rattle.events.specs.Terms.{reply_of};
-ghost use Rattle.desks.specs.Handling.{IsHandledAtDesk, IsHandledByDesk};
+ghost use Rattle.handling.specs.Handling.{IsHandledAtDesk, IsHandledByDesk};
 
 use crate::entries::add_entry;
-use crate::limits::Limits;
 use events::Reply;
+use handling::Limits;
 use model::Refusal;
 use nar::{Tree, encode};
 use realise::{Desk, Entry};

@@ -20,7 +20,7 @@ use Rattle.model.specs.Results.{then_do, unless_rewrite_refused}
 use Rattle.realise.specs.Recorded.{Recorded}
 use Rattle.realise.specs.Holdings.{Holdings, with_tree}
 use Rattle.endings.specs.Built.{built_of, record_under, IsOn, IsClosedBuilt, HasInput, HasInputFrom, HasInputOf, HaveInputs, built_at, all_built}
-use Rattle.desks.proofs.ClosedLemmas.{all_in_order}
+use Rattle.handling.proofs.ClosedLemmas.{all_in_order}
 
 -- ---- what it refers to
 

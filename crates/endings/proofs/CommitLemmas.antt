@@ -12,11 +12,11 @@ use Rattle.jobs.specs.Owned.{OwnedByAll, with_goals_at}
 use Rattle.realise.specs.Recorded.{Recorded}
 use Rattle.realise.specs.Held.{paths_held, IsSetOf}
 use Rattle.realise.specs.Holdings.{Holdings, Growth, paths_of, IsClosed}
-use Rattle.desks.specs.Supported.{desk_at, goals_of, bare}
+use Rattle.handling.specs.Supported.{desk_at, goals_of, bare}
 use Rattle.endings.specs.Gaining.{Gains, gains_in, nothing, archive_of_tree, with_gains, with_state, with_states, IsSettable}
 use Rattle.endings.specs.Committing.{Heard, gains_heard, gains_at, states_heard, states_for, trees_gained, MayGain, IsGrownWith, MayReplace, MayReplaceAll, grown_to}
 use Rattle.endings.proofs.MadeLemmas.{drop_head, held_paths}
-use Rattle.desks.proofs.ViewLemmas.{any_default}
+use Rattle.handling.proofs.ViewLemmas.{any_default}
 use Rattle.endings.proofs.FailingLemmas.{IsChangedAt, changed_again}
 
 -- ---- one place after another

@@ -24,19 +24,19 @@ use Rattle.realise.specs.Holdings.{Holdings}
 use Rattle.jobs.specs.States.{is_building}
 use Rattle.store.specs.Stored.{Extends}
 use Rattle.events.specs.declared.reply.Reply as replies
-use Rattle.desks.specs.Handling.{is_fault, RefusedAtOnce, IsHandled}
-use Rattle.desks.specs.Stored.{IsTakenFor}
-use Rattle.desks.specs.Sound.{IsResolvedIn, AreGoalsSound, IsSound, IsHashed, Clashes}
+use Rattle.handling.specs.Handling.{is_fault, RefusedAtOnce, IsHandled}
+use Rattle.handling.specs.Stored.{IsTakenFor}
+use Rattle.handling.specs.Sound.{IsResolvedIn, AreGoalsSound, IsSound, IsHashed, Clashes}
 use Rattle.events.specs.Terms.{reply_of}
-use Rattle.desks.specs.Parts.{goals_of, Parts, parts, world_in, stored_after, IsStep}
-use Rattle.desks.specs.Given.{HasSoundPlan}
-use Rattle.desks.specs.Viewing.{desk_at}
-use Rattle.desks.specs.Supported.{IsSupported, AreSupported, GainsOnly}
+use Rattle.handling.specs.Parts.{goals_of, Parts, parts, world_in, stored_after, IsStep}
+use Rattle.handling.specs.Given.{HasSoundPlan}
+use Rattle.handling.specs.Viewing.{desk_at}
+use Rattle.handling.specs.Supported.{IsSupported, AreSupported, GainsOnly}
 use Rattle.endings.specs.Ending.{desk_in, reaches_in, AllHear, EndsJob, leading}
-use Rattle.desks.proofs.GoalLemmas.{goals_kept, goals_sound_at}
-use Rattle.desks.proofs.WorldLemmas.{place_found, place_is_among, same_world}
-use Rattle.desks.proofs.HandlingLemmas.{all_left}
-use Rattle.desks.proofs.SupportLemmas.{still_supported}
+use Rattle.handling.proofs.GoalLemmas.{goals_kept, goals_sound_at}
+use Rattle.handling.proofs.WorldLemmas.{place_found, place_is_among, same_world}
+use Rattle.handling.proofs.HandlingLemmas.{all_left}
+use Rattle.handling.proofs.SupportLemmas.{still_supported}
 use Rattle.endings.proofs.PlaceLemmas.{nobody_there, desk_there}
 
 pub finish_ends : (n : ℕ) (bytes : List ℕ) → EndsJob (Finish n bytes) n (Output bytes)

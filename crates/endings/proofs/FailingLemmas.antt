@@ -18,13 +18,13 @@ use Rattle.states.specs.declared.state.State.TheVariants as states
 use Rattle.jobs.specs.Owned.{OwnedByAll, with_goals_at}
 use Rattle.realise.specs.Holdings.{Holdings}
 use Rattle.events.specs.declared.reply.Reply.TheVariants as reply
-use Rattle.desks.specs.Sound.{desk_of, IsSound, AreGoalsSound}
-use Rattle.desks.specs.Parts.{goals_of, Parts, parts, world_in}
-use Rattle.desks.specs.Viewing.{desk_at}
-use Rattle.desks.specs.Handling.{IsHandled}
+use Rattle.handling.specs.Sound.{desk_of, IsSound, AreGoalsSound}
+use Rattle.handling.specs.Parts.{goals_of, Parts, parts, world_in}
+use Rattle.handling.specs.Viewing.{desk_at}
+use Rattle.handling.specs.Handling.{IsHandled}
 use Rattle.endings.specs.Ending.{desk_in, reaches_in, AllHear, leading, state_failed, HearsFailure, AllHearByTrust}
-use Rattle.desks.proofs.TrustLemmas.{distinct_users}
-use Rattle.desks.proofs.SupportLemmas.{gains_nothing}
+use Rattle.handling.proofs.TrustLemmas.{distinct_users}
+use Rattle.handling.proofs.SupportLemmas.{gains_nothing}
 use Rattle.endings.proofs.PlaceLemmas.{reach_there}
 use Rattle.endings.proofs.LeaderLemmas.{leader_fails}
 use Rattle.endings.proofs.EndingLemmas.{fail_ends, leads_goal, end_refused, end_fault, ended_handled}

@@ -19,24 +19,24 @@ use Rattle.realise.specs.Holdings.{Holdings}
 use Rattle.store.specs.Stored.{source_of, sources_of, put_all}
 use Rattle.events.specs.declared.reply.Reply.TheVariants as reply
 use Rattle.endings.specs.declared.finishing.Ending.{Ending}
-use Rattle.desks.specs.Stored.{gained, AreTaken}
-use Rattle.desks.specs.Sound.{IsSound, AreGoalsSound, IsHashed}
-use Rattle.desks.specs.Parts.{goals_of, beside_at, Parts, parts, world_in, stored_after, IsStep}
-use Rattle.desks.specs.Viewing.{desk_at}
+use Rattle.handling.specs.Stored.{gained, AreTaken}
+use Rattle.handling.specs.Sound.{IsSound, AreGoalsSound, IsHashed}
+use Rattle.handling.specs.Parts.{goals_of, beside_at, Parts, parts, world_in, stored_after, IsStep}
+use Rattle.handling.specs.Viewing.{desk_at}
 use Rattle.endings.specs.Gaining.{with_gains, with_states, IsSettable}
 use Rattle.endings.specs.Hearing.{all_trees, IsTakenBeside, IsNotMade}
 use Rattle.endings.specs.Committing.{Heard, gains_at, states_for, trees_gained, MayGain}
 use Rattle.endings.specs.Finishing.{IsPrepared}
-use Rattle.desks.specs.Handling.{IsHandled}
+use Rattle.handling.specs.Handling.{IsHandled}
 use Rattle.endings.specs.Ending.{desk_in, AllHear, leading}
-use Rattle.desks.proofs.WorldLemmas.{place_found, place_is_among}
-use Rattle.desks.proofs.TrustLemmas.{distinct_users}
-use Rattle.desks.proofs.PuttingLemmas.{taken_clash}
-use Rattle.desks.proofs.PuttingLemmas.{put_all-All}
+use Rattle.handling.proofs.WorldLemmas.{place_found, place_is_among}
+use Rattle.handling.proofs.TrustLemmas.{distinct_users}
+use Rattle.handling.proofs.PuttingLemmas.{taken_clash}
+use Rattle.handling.proofs.PuttingLemmas.{put_all-All}
 use Rattle.endings.proofs.PlaceLemmas.{desk_there, desk_named}
 use Rattle.endings.proofs.EndingLemmas.{finish_ends, leads_goal, ends_job, end_refused, end_fault, end_left, ended_handled}
 use Rattle.endings.proofs.HearLemmas.{gained_is}
-use Rattle.desks.proofs.PuttingLemmas.{unmapped}
+use Rattle.handling.proofs.PuttingLemmas.{unmapped}
 use Rattle.endings.proofs.AllBuiltLemmas.{gained_among}
 use Rattle.endings.proofs.TriedLemmas.{tried_is, built_hashed}
 use Rattle.endings.proofs.StoredLemmas.{all_gained_is, tried_taken}

@@ -15,11 +15,11 @@ use Rattle.model.proofs.BoolLemmas.{either, or_left}
 use Rattle.realise.specs.Recorded.{Recorded}
 use Rattle.realise.specs.declared.entry.Entry.TheVariants as entry
 use Rattle.realise.specs.Holdings.{Holdings, with_tree, is_at, has_labelled, holds_entry, IsClosedWith}
-use Rattle.desks.specs.Sound.{Beside, desk_of, IsSound}
+use Rattle.handling.specs.Sound.{Beside, desk_of, IsSound}
 use Rattle.endings.specs.Built.{built_of, built_at, all_built, numbered, IsClosedBuilt, IsStoredBuilt}
 use Rattle.endings.specs.Gaining.{Output, Gains, nothing, with_gains, is_had, is_free, charged_with, state_with, one_more, gains_with, state_of_built, gains_of, all_gains, all_states, with_state, with_states}
-use Rattle.desks.proofs.DeskLemmas.{known_of-desk_of}
-use Rattle.desks.proofs.AddingLemmas.{has_entry-is_on, is_within-entry, desk_of-entry, sound-entry}
+use Rattle.handling.proofs.DeskLemmas.{known_of-desk_of}
+use Rattle.handling.proofs.AddingLemmas.{has_entry-is_on, is_within-entry, desk_of-entry, sound-entry}
 
 -- ---- what was built, one after another
 

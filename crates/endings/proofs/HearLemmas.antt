@@ -18,13 +18,13 @@ use Rattle.realise.specs.Held.{paths_held, charged_beside}
 use Rattle.realise.specs.Holdings.{paths_of, Holdings, paths_of}
 use Rattle.closures.specs.Trees.{record_at}
 use Rattle.store.specs.Stored.{Extends, sources_of}
-use Rattle.desks.specs.Stored.{gained}
-use Rattle.desks.specs.Sound.{Beside, sources_at, records_at, desk_of, IsSound}
+use Rattle.handling.specs.Stored.{gained}
+use Rattle.handling.specs.Sound.{Beside, sources_at, records_at, desk_of, IsSound}
 use Rattle.endings.specs.Built.{built_at, built_output, all_built, numbered, IsClosedBuilt, IsStoredBuilt}
 use Rattle.endings.specs.Gaining.{ArePaired, IsCounted, archive_of_tree, Output, Gains, nothing, with_gains, is_had, is_free, charged_with, one_more, state_of_built, gains_of, all_gains, all_states, with_state, with_states, waiting, IsSettable, IsTreeIn}
 use Rattle.endings.specs.Hearing.{tree_built, trees_built, Hears}
-use Rattle.desks.proofs.PuttingLemmas.{unmapped}
-use Rattle.desks.proofs.DeskLemmas.{IsKnown, sources_known, records_known, desk_kept, sound_kept, trees_at, length-records_at}
+use Rattle.handling.proofs.PuttingLemmas.{unmapped}
+use Rattle.handling.proofs.DeskLemmas.{IsKnown, sources_known, records_known, desk_kept, sound_kept, trees_at, length-records_at}
 use Rattle.endings.proofs.GainLemmas.{with_nothing, all_goals}
 use Rattle.endings.proofs.MadeLemmas.{held_paths, all_left, all_right, trees_stored}
 

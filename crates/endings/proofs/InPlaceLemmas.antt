@@ -22,20 +22,20 @@ use Rattle.jobs.specs.States.{is_building}
 use Rattle.realise.specs.Holdings.{Holdings}
 use Rattle.store.specs.Stored.{Extends, put_all, sources_of}
 use Rattle.endings.specs.declared.finishing.Ending.{Ending}
-use Rattle.desks.specs.Sound.{Beside, desk_of, IsSound}
-use Rattle.desks.specs.Parts.{goals_of, Parts, parts, world_in}
-use Rattle.desks.specs.Viewing.{bare, desk_at}
-use Rattle.desks.specs.Supported.{GainsOnly}
+use Rattle.handling.specs.Sound.{Beside, desk_of, IsSound}
+use Rattle.handling.specs.Parts.{goals_of, Parts, parts, world_in}
+use Rattle.handling.specs.Viewing.{bare, desk_at}
+use Rattle.handling.specs.Supported.{GainsOnly}
 use Rattle.endings.specs.Built.{IsStoredBuilt}
 use Rattle.endings.specs.Gaining.{Output, Gains, with_gains, with_state, with_states, last_state, IsTreeIn, IsSettable}
 use Rattle.endings.specs.Hearing.{AreEach, all_trees, built_for_place, IsBuiltFor, IsBuiltAtPlace, IsHeardAtPlace, IsMadeBeside}
 use Rattle.endings.specs.Committing.{Heard, gains_heard, gains_at, states_heard, states_for, trees_gained, MayCharge, MayGain}
 use Rattle.endings.specs.Finishing.{IsPrepared}
 use Rattle.endings.specs.Ending.{desk_in, reaches_in, AllHear, leading}
-use Rattle.desks.proofs.TrustLemmas.{distinct_users}
+use Rattle.handling.proofs.TrustLemmas.{distinct_users}
 use Rattle.endings.proofs.PlaceLemmas.{reach_there}
-use Rattle.desks.proofs.PuttingLemmas.{put_all-Extends}
-use Rattle.desks.proofs.SupportLemmas.{gains_nothing}
+use Rattle.handling.proofs.PuttingLemmas.{put_all-Extends}
+use Rattle.handling.proofs.SupportLemmas.{gains_nothing}
 use Rattle.endings.proofs.GainLemmas.{still_there}
 use Rattle.endings.proofs.MadeLemmas.{all_left, all_right, same_reach}
 use Rattle.endings.proofs.EndingLemmas.{leads_goal}

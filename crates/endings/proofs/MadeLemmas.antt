@@ -12,7 +12,7 @@ use Rattle.store.proofs.PuttingLemmas.{found_first, found_second}
 use Rattle.trust.specs.Trusting.{IsReach}
 use Rattle.realise.specs.Held.{paths_held}
 use Rattle.realise.specs.Holdings.{Holdings}
-use Rattle.desks.specs.Viewing.{desk_at}
+use Rattle.handling.specs.Viewing.{desk_at}
 use Rattle.endings.specs.Built.{IsStoredBuilt}
 use Rattle.endings.specs.Gaining.{Output, IsTreeIn, archive_of_tree}
 use Rattle.endings.specs.Hearing.{tree_built, trees_built, all_trees, AreStored, AreEach}

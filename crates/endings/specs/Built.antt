@@ -18,7 +18,7 @@ use Rattle.model.specs.Results.{then_do, ok_or, unless_rewrite_refused}
 use Rattle.realise.specs.Recorded.{Recorded}
 use Rattle.realise.specs.Holdings.{Holdings, with_tree, has_labelled, IsClosedWith}
 use Rattle.endings.specs.declared.settling.Settled.{Settled}
-use Rattle.desks.specs.Outputs.{input_settled}
+use Rattle.outputs.specs.Outputs.{input_settled}
 
 -- ---- settling
 

@@ -6,7 +6,7 @@ use Rattle.model.specs.Worlds.{State}
 use Rattle.states.specs.declared.state.State as jobs
 use Rattle.realise.specs.Held.{IsSetOf}
 use Rattle.realise.specs.Holdings.{Holdings, Growth, IsGrown, paths_of, IsClosed}
-use Rattle.desks.specs.Supported.{desk_at}
+use Rattle.handling.specs.Supported.{desk_at}
 use Rattle.endings.specs.declared.gains.Gains as Rust
 use Rattle.endings.specs.Gaining.{Gains, gains_in, nothing, ArePaired, IsCounted, archive_of_tree, with_gains, state_at}
 

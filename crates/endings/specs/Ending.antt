@@ -12,9 +12,9 @@ use Rattle.model.specs.EndRequests.{end_job}
 use Rattle.trust.specs.Trusting.{IsReach}
 use Rattle.trust.specs.Naming.{name_at}
 use Rattle.realise.specs.Holdings.{Holdings}
-use Rattle.desks.specs.Sound.{desk_of}
-use Rattle.desks.specs.Parts.{goals_of, beside_at, Parts, world_in}
-use Rattle.desks.specs.Viewing.{desk_at}
+use Rattle.handling.specs.Sound.{desk_of}
+use Rattle.handling.specs.Parts.{goals_of, beside_at, Parts, world_in}
+use Rattle.handling.specs.Viewing.{desk_at}
 
 -- the desk of the user at a place
 abbrev pub desk_in : Parts → ℕ → Desk

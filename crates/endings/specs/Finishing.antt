@@ -7,7 +7,7 @@ use Rattle.realise.specs.Holdings.{Holdings}
 use Rattle.states.specs.States.{state_of}
 use Rattle.store.specs.Stored.{put_all, sources_of, AreNew, AreThere}
 use Rattle.endings.specs.declared.finishing.Ending.{Ending}
-use Rattle.desks.specs.Parts.{goals_of}
+use Rattle.handling.specs.Parts.{goals_of}
 use Rattle.endings.specs.Gaining.{last_state}
 use Rattle.endings.specs.Hearing.{IsMadeBeside}
 use Rattle.endings.specs.Committing.{trees_gained, states_for, AreGrown}

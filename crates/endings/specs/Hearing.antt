@@ -10,10 +10,10 @@ use Rattle.model.specs.Goals.{members}
 use Rattle.model.specs.Endings.{Output as WithOutput, ended_goals}
 use Rattle.realise.specs.Holdings.{Holdings}
 use Rattle.store.specs.Stored.{Extends, put_all, sources_of, AreTaken}
-use Rattle.desks.specs.Sound.{Beside, desk_of, IsSound}
+use Rattle.handling.specs.Sound.{Beside, desk_of, IsSound}
 use Rattle.trust.specs.Trusting.{IsReach}
-use Rattle.desks.specs.Parts.{goals_of}
-use Rattle.desks.specs.Viewing.{desk_at}
+use Rattle.handling.specs.Parts.{goals_of}
+use Rattle.handling.specs.Viewing.{desk_at}
 use Rattle.endings.specs.Built.{all_built, numbered, AreBuiltOn, IsClosedBuilt, HaveInputs, IsStoredBuilt}
 use Rattle.states.specs.declared.state.State as jobs
 use Rattle.endings.specs.declared.gains.Gains as Rust

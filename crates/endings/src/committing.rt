@@ -3,7 +3,7 @@
 ghost use Rattle.std.specs.Prelude.{◌≡◌, ◌<◌, ◌++◌, ℕ, All, length, map, get_or, None, MatchResult, IfOk, IfErr};
 ghost use Rattle.model.specs.declared.refusal.Refusal.TheVariants.{Memory};
 ghost use Rattle.jobs.specs.Owned.{with_goals_at};
-ghost use Rattle.desks.specs.Supported.{goals_of, desk_at};
+ghost use Rattle.handling.specs.Supported.{goals_of, desk_at};
 ghost use Rattle.endings.specs.Gaining.{gains_in, archive_of_tree, with_states, state_at, IsSettable};
 ghost use Rattle.endings.specs.Committing.{trees_gained, gains_at, states_for, MayCharge, IsGrownWith, AreGrown, MayReplace, MayReplaceAll, grown_to};
 

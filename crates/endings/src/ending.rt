@@ -8,12 +8,12 @@ ghost use Rattle.jobs.specs.Owned.{with_goals_at};
 ghost use Rattle.states.specs.States.{state_of};
 ghost use Rattle.trust.specs.Trusting.{trusts};
 ghost use Rattle.trust.specs.Naming.{name_at};
-ghost use Rattle.desks.specs.Parts.{goals_of};
+ghost use Rattle.handling.specs.Parts.{goals_of};
 ghost use Rattle.endings.specs.Ending.{leading, state_failed, HearsFailure, AllHearByTrust};
-ghost use Rattle.desks.specs.Handling.{IsHandledByAllGoals};
+ghost use Rattle.handling.specs.Handling.{IsHandledByAllGoals};
 
-use desks::has_place;
 use events::Reply;
+use handling::has_place;
 use jobs::{Job, Jobs, State};
 use model::Refusal;
 use trust::{Trust, User};

@@ -12,7 +12,7 @@ ghost use Rattle.endings.specs.Gaining.{gains_in, with_gains, nothing, is_had, i
 ghost use Rattle.endings.specs.Hearing.{Hears};
 
 use crate::settling::Built;
-use desks::Limits;
+use handling::Limits;
 use jobs::{Job, Jobs, State};
 use model::Refusal;
 use nar::Tree;

@@ -14,7 +14,7 @@ ghost use Rattle.endings.specs.Hearing.{trees_built, tree_built, all_trees, AreS
 
 use crate::gains::{Gains, hear};
 use crate::settling::{Built, Settled, built_on};
-use desks::{Limits, has_place};
+use handling::{Limits, has_place};
 use jobs::{Job, Jobs, State};
 use model::Refusal;
 use nar::{Nar, Tree};

@@ -12,15 +12,15 @@ ghost use Rattle.model.specs.References.{paths_of_labels};
 ghost use Rattle.model.specs.Settling.{hash_part_in};
 ghost use Rattle.model.specs.declared.refusal.Refusal.TheVariants.{Memory};
 ghost use Rattle.realise.specs.Recorded.{AreInPathOrder};
-ghost use Rattle.desks.specs.Outputs.{IsSameInput};
+ghost use Rattle.outputs.specs.Outputs.{IsSameInput};
 ghost use Rattle.endings.specs.Built.{IsSettled, IsLastSettled, IsBuiltBy, IsBuiltOn, IsClosedBuilt, HasInput, HasInputFrom, IsLastFrom, IsBuiltAt, AreBuiltOn, built_at, built_of, built_output, record_under, all_built, numbered, HaveInputs};
 
-use classes::Admitted;
+use admitted::Admitted;
 use closures::Resolved;
-use desks::{Input, record_of};
 use jobs::{Goal, Jobs};
 use model::Refusal;
 use nar::{Nar, Tree};
+use outputs::{Input, record_of};
 use realise::{Desk, Label, Record, labels_in_order};
 use rewrite::Named;
 use std::alloc::{AllocError, Global};

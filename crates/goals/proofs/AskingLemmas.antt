@@ -18,21 +18,21 @@ use Rattle.trust.specs.Trusting.{IsReach}
 use Rattle.trust.specs.Naming.{place_of, names, trusted_at, IsWithin}
 use Rattle.events.specs.declared.reply.Reply as Rust
 use Rattle.realise.specs.Holdings.{Holdings}
-use Rattle.desks.specs.Stored.{stored_by}
-use Rattle.desks.specs.Sound.{Beside, desk_of, IsSound, AreGoalsSound}
-use Rattle.desks.specs.Parts.{goals_of, beside_at}
+use Rattle.handling.specs.Stored.{stored_by}
+use Rattle.handling.specs.Sound.{Beside, desk_of, IsSound, AreGoalsSound}
+use Rattle.handling.specs.Parts.{goals_of, beside_at}
 use Rattle.events.specs.Terms.{reply_of}
-use Rattle.desks.specs.Viewing.{desk_at}
-use Rattle.desks.specs.Given.{HasSoundPlan}
-use Rattle.desks.specs.Supported.{AreSupportedOn}
-use Rattle.desks.specs.Handling.{Fits, RefusedAtOnce, IsHandledWithGoals, IsHandledByGoals, IsReadAtPlace}
-use Rattle.desks.proofs.DeskLemmas.{known_of-desk_of}
-use Rattle.desks.proofs.GoalLemmas.{goals_sound_at, goals_more}
-use Rattle.desks.proofs.SupportLemmas.{gains_nothing, supported_more}
-use Rattle.desks.proofs.StepLemmas.{on_ok_any, on_err_any}
-use Rattle.desks.proofs.HandlingLemmas.{is_left}
-use Rattle.desks.proofs.TrustLemmas.{distinct_users}
-use Rattle.desks.proofs.ViewLemmas.{reach_of}
+use Rattle.handling.specs.Viewing.{desk_at}
+use Rattle.handling.specs.Given.{HasSoundPlan}
+use Rattle.handling.specs.Supported.{AreSupportedOn}
+use Rattle.handling.specs.Handling.{Fits, RefusedAtOnce, IsHandledWithGoals, IsHandledByGoals, IsReadAtPlace}
+use Rattle.handling.proofs.DeskLemmas.{known_of-desk_of}
+use Rattle.handling.proofs.GoalLemmas.{goals_sound_at, goals_more}
+use Rattle.handling.proofs.SupportLemmas.{gains_nothing, supported_more}
+use Rattle.handling.proofs.StepLemmas.{on_ok_any, on_err_any}
+use Rattle.handling.proofs.HandlingLemmas.{is_left}
+use Rattle.handling.proofs.TrustLemmas.{distinct_users}
+use Rattle.handling.proofs.ViewLemmas.{reach_of}
 use Rattle.views.proofs.ClosureLemmas.{world, his_desk, his_sound}
 
 -- a request of goals that stores nothing

@@ -30,24 +30,24 @@ use Rattle.trust.specs.Trusting.{IsReach}
 use Rattle.trust.proofs.PlaceLemmas.{name_found, place_found}
 use Rattle.trust.proofs.NameLemmas.{reached_names}
 use Rattle.events.specs.declared.reply.Reply as Rust
-use Rattle.desks.specs.Stored.{stored_by, source_of_entry, resolved_sources, AreTaken}
-use Rattle.desks.specs.Sound.{Beside, desk_of, IsSound, IsClosure, IsStored, IsResolvedIn, AreGoalsSound, IsHashed}
+use Rattle.handling.specs.Stored.{stored_by, source_of_entry, resolved_sources, AreTaken}
+use Rattle.handling.specs.Sound.{Beside, desk_of, IsSound, IsClosure, IsStored, IsResolvedIn, AreGoalsSound, IsHashed}
 use Rattle.events.specs.Terms.{reply_of}
-use Rattle.desks.specs.Parts.{goals_of, beside_at}
-use Rattle.desks.specs.Given.{HasSoundPlan, HasSoundPlanOf}
-use Rattle.desks.specs.Handling.{is_fault, RefusedAtOnce, IsHandledWithGoals}
-use Rattle.desks.specs.Viewing.{bare, desk_at}
+use Rattle.handling.specs.Parts.{goals_of, beside_at}
+use Rattle.handling.specs.Given.{HasSoundPlan, HasSoundPlanOf}
+use Rattle.handling.specs.Handling.{is_fault, RefusedAtOnce, IsHandledWithGoals}
+use Rattle.handling.specs.Viewing.{bare, desk_at}
 use Rattle.views.specs.Taking.{tree_with_path}
 use Rattle.goals.specs.Planning.{IsResolvedFor, IsNotResolvedFor, IsToPlan, TellsToPlan, fails, IsNotKept}
-use Rattle.desks.proofs.DeskLemmas.{desk_kept, sound_kept, known_of-desk_of}
-use Rattle.desks.proofs.GoalLemmas.{goals_kept, goals_sound_at}
+use Rattle.handling.proofs.DeskLemmas.{desk_kept, sound_kept, known_of-desk_of}
+use Rattle.handling.proofs.GoalLemmas.{goals_kept, goals_sound_at}
 use Rattle.goals.proofs.ResolveLemmas.{resolved_closure}
-use Rattle.desks.proofs.PuttingLemmas.{put_all-Extends, put_all-All, all_front}
-use Rattle.desks.proofs.SupportLemmas.{gains_nothing, idle_supported, supported_with}
+use Rattle.handling.proofs.PuttingLemmas.{put_all-Extends, put_all-All, all_front}
+use Rattle.handling.proofs.SupportLemmas.{gains_nothing, idle_supported, supported_with}
 use Rattle.views.proofs.ClosureLemmas.{world, his_desk, his_sound, left_there}
-use Rattle.desks.proofs.TrustLemmas.{distinct_users}
+use Rattle.handling.proofs.TrustLemmas.{distinct_users}
 use Rattle.views.proofs.CopyLemmas.{uncopied}
-use Rattle.desks.proofs.PuttingLemmas.{taken_clash}
+use Rattle.handling.proofs.PuttingLemmas.{taken_clash}
 use Rattle.views.proofs.TakeLemmas.{entries_hashed}
 
 -- ---- sound goals

@@ -16,11 +16,11 @@ use Rattle.model.proofs.ServedLemmas.{then_ok}
 use Rattle.realise.specs.Holdings.{Holdings, IsClosed}
 use Rattle.choose.specs.Visible.{visible_on, seen}
 use Rattle.closures.specs.Sound.{IsSoundPlan}
-use Rattle.desks.specs.Sound.{IsClosure}
-use Rattle.desks.specs.Parts.{beside_at}
-use Rattle.desks.specs.Viewing.{desk_at, IsView}
+use Rattle.handling.specs.Sound.{IsClosure}
+use Rattle.handling.specs.Parts.{beside_at}
+use Rattle.handling.specs.Viewing.{desk_at, IsView}
 use Rattle.goals.specs.Planning.{IsResolvedAt}
-use Rattle.desks.proofs.DeskLemmas.{known_of-desk_of}
+use Rattle.handling.proofs.DeskLemmas.{known_of-desk_of}
 use Rattle.views.proofs.ClosureLemmas.{world, his_desk, visible, is_closure}
 
 -- what a derivation is resolved to has the closure of its inputs and its sources

@@ -29,17 +29,17 @@ use Rattle.jobs.specs.Owned.{OwnedByAll, goals_at, with_goals_at}
 use Rattle.realise.specs.Holdings.{Holdings}
 use Rattle.trust.specs.Naming.{place_of, trusted_at, IsWithin}
 use Rattle.events.specs.declared.reply.Reply as Rust
-use Rattle.desks.specs.Stored.{source_of_entry, AreTaken}
-use Rattle.desks.specs.Sound.{Beside, desk_of, IsSound, IsClosure, IsStored, AreGoalsSound}
+use Rattle.handling.specs.Stored.{source_of_entry, AreTaken}
+use Rattle.handling.specs.Sound.{Beside, desk_of, IsSound, IsClosure, IsStored, AreGoalsSound}
 use Rattle.events.specs.Terms.{reply_of}
-use Rattle.desks.specs.Parts.{goals_of, beside_at}
-use Rattle.desks.specs.Handling.{is_fault, RefusedAtOnce, IsHandledWithGoals}
+use Rattle.handling.specs.Parts.{goals_of, beside_at}
+use Rattle.handling.specs.Handling.{is_fault, RefusedAtOnce, IsHandledWithGoals}
 use Rattle.views.specs.Taking.{CopiesEntries}
-use Rattle.desks.specs.Viewing.{desk_at}
+use Rattle.handling.specs.Viewing.{desk_at}
 use Rattle.goals.specs.Planning.{fails}
 use Rattle.goals.specs.Starting.{IsToStart, IsNotToStart, uncopied_state}
-use Rattle.desks.proofs.GoalLemmas.{goals_sound_at}
-use Rattle.desks.proofs.SupportLemmas.{still_supported, idle_supported, supported_with, built_supported}
+use Rattle.handling.proofs.GoalLemmas.{goals_sound_at}
+use Rattle.handling.proofs.SupportLemmas.{still_supported, idle_supported, supported_with, built_supported}
 use Rattle.views.proofs.ClosureLemmas.{world, his_desk, his_sound, left_there}
 use Rattle.goals.proofs.PlanLemmas.{resolved_there, sound_with, put_there, others_left}
 

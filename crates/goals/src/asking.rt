@@ -10,10 +10,10 @@ ghost use Rattle.trust.specs.Naming.{names, IsWithin};
 ghost use Rattle.jobs.specs.Owned.{goals_at, with_goals_at};
 ghost use Rattle.states.specs.States.{state_of};
 ghost use Rattle.realise.specs.Holdings.{Holdings};
-ghost use Rattle.desks.specs.Handling.{IsHandledByGoals, IsReadAtPlace};
+ghost use Rattle.handling.specs.Handling.{IsHandledByGoals, IsReadAtPlace};
 
-use desks::{has_place, place_of};
 use events::Reply;
+use handling::{has_place, place_of};
 use jobs::{Jobs, State};
 use model::Refusal;
 use realise::Desk;

@@ -14,8 +14,8 @@ use Rattle.model.specs.Events as events
 use Rattle.events.specs.declared.event.Event.{Event}
 use Rattle.events.specs.declared.event.Request.{Request}
 use Rattle.events.specs.Terms.{event_of, request_of}
-use Rattle.lines.specs.declared.reading.Reading.{Reading}
-use Rattle.lines.specs.declared.reading.Reading.TheVariants as reading
+use Rattle.lines.specs.declared.line.Reading.{Reading}
+use Rattle.lines.specs.declared.line.Reading.TheVariants as reading
 
 -- the number of a numeral that writes at most that
 abbrev pub numeral_up_to : ℕ → List ℕ → Option ℕ

@@ -6,7 +6,7 @@ ghost use Rattle.model.specs.Archives.{nar};
 ghost use Rattle.model.specs.Closures.{class_of_entry, labels_of_entry, tree_of_entry};
 ghost use Rattle.model.specs.Talk.{class_text, label_text, labels_text, entry_text};
 
-use classes::Class;
+use admitted::Class;
 use closures::Entry;
 use model::Refusal;
 use realise::Label;

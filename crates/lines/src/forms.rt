@@ -9,7 +9,7 @@ ghost use Rattle.lines.specs.Reading.{Becomes, BecomesOfWish};
 
 use crate::cutting::{Word, cut, first_words, has_empty_word};
 use crate::expand::fill;
-use crate::reading::Reading;
+use crate::line::Reading;
 use crate::told::Told;
 use crate::wishes::{read_event, wish_in};
 use crate::words::read_users;

@@ -8,8 +8,8 @@ mod cutting;
 mod entries;
 mod expand;
 mod forms;
+mod line;
 mod numbers;
-mod reading;
 mod texts;
 mod told;
 mod wishes;
@@ -17,6 +17,6 @@ mod words;
 
 pub use cutting::cut;
 pub use forms::{LONGEST_LINE, read_line};
-pub use reading::Reading;
+pub use line::Reading;
 pub use texts::answer_text;
 pub use told::{Told, told_in};

@@ -7,12 +7,14 @@ use Rattle.nar.specs.NodeTrees.{tree_of, named_trees, chained, last_name_of, Nam
 use Rattle.model.specs.ArchiveReading.{Reader, ◌>>=◌, string_at, tag_at, head_at, name_at, entry_at, entries_at, in_front}
 use Rattle.model.specs.ArchiveReading.{directory_at, body_at, node_at, tree_at}
 use Rattle.model.proofs.BoolLemmas.{same_bytes}
-use Rattle.nar.specs.ArchiveSteps.{leaf_at, next_is_entry, next_name_at, next_entry_at}
+use Rattle.reading.specs.Steps.{next_is_entry, next_name_at}
+use Rattle.nar.specs.ArchiveSteps.{leaf_at, next_entry_at}
 use Rattle.nar.proofs.EntrySteps.{last_name_of-push}
 use Rattle.std.specs.Str.{bytes_eq}
-use Rattle.nar.specs.Outcomes.{Fails, alone}
-use Rattle.nar.specs.declared.reading.ReadError.{ReadError}
-use Rattle.nar.specs.declared.reading.ReadError.TheVariants.{Memory, Malformed}
+use Rattle.reading.specs.Outcomes.{Fails}
+use Rattle.nar.specs.Whole.{alone}
+use Rattle.reading.specs.declared.steps.ReadError.{ReadError}
+use Rattle.reading.specs.declared.steps.ReadError.TheVariants.{Memory, Malformed}
 
 -- what was read, behind entries
 abbrev pub behind : List NamedNode → Option (Entries × List ℕ) → Option (Entries × List ℕ)

@@ -7,7 +7,7 @@ use Rattle.std.proofs.lemmas.List.Folds.{list_any-append}
 use Rattle.std.proofs.lemmas.List.Sums.{sum_by-cons}
 use Rattle.indexmap.specs.IndexSet.{insert_key}
 use Rattle.model.specs.Classes.{is_one_of}
-use Rattle.classes.proofs.EntryLemmas.{one_of_keys, any_insert}
+use Rattle.admitted.proofs.EntryLemmas.{one_of_keys, any_insert}
 use Rattle.realise.specs.Recorded.{Recorded}
 use Rattle.realise.specs.declared.entry.Entry.{Entry}
 use Rattle.realise.specs.declared.entry.Entry.TheVariants as entry

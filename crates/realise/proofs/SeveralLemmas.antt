@@ -8,7 +8,7 @@ use Rattle.model.specs.Classes.{Known, is_one_of}
 use Rattle.model.specs.Reach.{is_among}
 use Rattle.model.specs.Worlds.{are_distinct}
 use Rattle.model.proofs.BoolLemmas.{both_parts}
-use Rattle.classes.specs.Entries.{AreNew}
+use Rattle.admitted.specs.Entries.{AreNew}
 use Rattle.realise.specs.Recorded.{Recorded}
 use Rattle.realise.specs.declared.entry.Entry.{Entry}
 use Rattle.realise.specs.declared.entry.Entry.TheVariants as entry

@@ -16,7 +16,7 @@ use crate::limits::{MOST_RECORDS, MOST_SOURCES};
 use crate::pins::Pins;
 use crate::record::Record;
 use crate::records::Records;
-use classes::{Admitted, Known};
+use admitted::{Admitted, Known};
 use model::Refusal;
 use std::alloc::Global;
 use std::hash::RandomState;

@@ -8,7 +8,7 @@ ghost use Rattle.realise.specs.Ordered.{least_class, labels_at};
 ghost use Rattle.realise.specs.Recorded.{AreInPathOrder};
 
 use crate::label::Label;
-use classes::{Class, set_of};
+use admitted::{Class, set_of};
 use indexmap::IndexSet;
 use model::Refusal;
 use std::alloc::Global;

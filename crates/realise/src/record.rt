@@ -7,7 +7,7 @@ ghost use Rattle.realise.specs.Holdings.{same_recorded};
 ghost use Rattle.model.specs.declared.refusal.Refusal.TheVariants.{Memory};
 
 use crate::label::Label;
-use classes::Class;
+use admitted::Class;
 use model::Refusal;
 use std::alloc::AllocError;
 use std::marker::Model;

@@ -46,11 +46,11 @@ use Rattle.serving.proofs.KeptLemmas.{served_parts, served_for}
 use Rattle.serving.proofs.MadeLemmas.{served_are_made}
 use Rattle.serving.proofs.OrderedLemmas.{closures_keep_no_replaced}
 use Rattle.goals.proofs.ResolveLemmas.{resolved_closure}
-use Rattle.desks.specs.Sound.{Beside, IsSound, IsHashed}
-use Rattle.desks.specs.Parts.{beside_at, Parts, world_in, desk_among}
-use Rattle.desks.specs.Viewing.{bare}
-use Rattle.desks.specs.Given.{HasSoundPlan, HasSoundGoalPlan}
-use Rattle.desks.proofs.PuttingLemmas.{all_front}
+use Rattle.handling.specs.Sound.{Beside, IsSound, IsHashed}
+use Rattle.handling.specs.Parts.{beside_at, Parts, world_in, desk_among}
+use Rattle.handling.specs.Viewing.{bare}
+use Rattle.handling.specs.Given.{HasSoundPlan, HasSoundGoalPlan}
+use Rattle.handling.proofs.PuttingLemmas.{all_front}
 use Rattle.schedule.proofs.ApartLemmas.{IsPrinted, made_printed, one_path}
 
 -- ---- desks of users

@@ -18,13 +18,13 @@ use Rattle.trust.specs.declared.user.User.{User}
 use Rattle.events.specs.declared.event.Event.{Event}
 use Rattle.events.specs.declared.reply.Reply.{Reply}
 use Rattle.schedule.specs.declared.state.Core.{Core}
-use Rattle.desks.specs.Sound.{IsHashed}
+use Rattle.handling.specs.Sound.{IsHashed}
 use Rattle.schedule.specs.Standing.{world_of, setup_of, stored_in, HasHashed, IsUnchanged}
 use Rattle.events.specs.Terms.{event_of, reply_of, answer_of}
-use Rattle.desks.specs.Parts.{IsStep}
+use Rattle.handling.specs.Parts.{IsStep}
 use Rattle.schedule.specs.Stepping.{IsCoreStep}
 use Rattle.schedule.specs.Running.{events_served, without_memory, ArePrivate, Reached, Going}
-use Rattle.desks.proofs.PuttingLemmas.{all_front}
+use Rattle.handling.proofs.PuttingLemmas.{all_front}
 
 all_back : (P : List ℕ → Type 0) (xs ys : List (List ℕ)) → All P (xs ++ ys) → All P ys
 all_back P [] ys h = h

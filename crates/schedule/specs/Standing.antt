@@ -7,9 +7,9 @@ use Rattle.model.specs.Worlds.{Source, Setup, Goal, Resolved, are_users, tree_at
 use Rattle.model.specs.Goals.{goal_at}
 use Rattle.model.specs.Worlds as worlds
 use Rattle.trust.specs.Trusting.{trusts}
-use Rattle.desks.specs.declared.limits.Limits.{Limits}
-use Rattle.desks.specs.Sound.{IsHashed, IsStored}
-use Rattle.desks.specs.Parts.{Parts, parts, desk_among, beside_at}
+use Rattle.handling.specs.declared.limits.Limits.{Limits}
+use Rattle.handling.specs.Sound.{IsHashed, IsStored}
+use Rattle.handling.specs.Parts.{Parts, parts, desk_among, beside_at}
 use Rattle.schedule.specs.declared.state.Core.{Core}
 
 abbrev pub parts_of : Core → Parts

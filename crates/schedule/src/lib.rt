@@ -10,8 +10,8 @@ mod state;
 mod step;
 mod striking;
 
-pub use desks::{LARGEST_CHARGE, Limits};
 pub use events::{Event, Output, Reply, Request};
+pub use handling::{LARGEST_CHARGE, Limits};
 pub use runs::run;
 pub use state::Core;
 pub use striking::strike;

@@ -4,19 +4,18 @@ ghost use Rattle.std.specs.Prelude.{◌≡◌, ◌<◌, true, length, position, 
 ghost use Rattle.model.specs.Worlds.{are_users};
 ghost use Rattle.trust.specs.Trusting.{trusts};
 ghost use Rattle.trust.specs.Naming.{IsWithin};
-ghost use Rattle.desks.specs.Sound.{IsSound, AreGoalsSound};
-ghost use Rattle.desks.specs.Supported.{AreSupported};
+ghost use Rattle.handling.specs.Sound.{IsSound, AreGoalsSound};
+ghost use Rattle.handling.specs.Supported.{AreSupported};
 ghost use Rattle.events.specs.Terms.{request_of, event_of};
-ghost use Rattle.desks.specs.Parts.{parts};
-ghost use Rattle.desks.specs.Handling.{IsHandled, IsHandledAtDesk, IsHandledByAll};
+ghost use Rattle.handling.specs.Parts.{parts};
+ghost use Rattle.handling.specs.Handling.{IsHandled, IsHandledAtDesk, IsHandledByAll};
 ghost use Rattle.schedule.specs.Requests.{is_of_desk};
 
-use desks::{
-    Limits, add_derivation, add_source, add_trust, fetch, offer, pin, place_of, remove_trust, unpin,
-};
+use desks::{add_derivation, add_source, add_trust, fetch, offer, pin, remove_trust, unpin};
 use endings::{fail, finish};
 use events::{Event, Reply, Request};
 use goals::{build, plan, start, status};
+use handling::{Limits, place_of};
 use jobs::Jobs;
 use model::Refusal;
 use realise::Desk;

@@ -17,8 +17,8 @@ ghost use Rattle.schedule.specs.Stepping.{IsCoreStep};
 ghost use Rattle.schedule.specs.Running.{HadMemory, events_served, without_memory, ArePrivate, Going};
 
 use crate::state::Core;
-use desks::Limits;
 use events::{Event, Reply};
+use handling::Limits;
 use model::{Refusal, isolation};
 use std::alloc::Global;
 use std::hash::RandomState;

@@ -7,10 +7,10 @@ ghost use Rattle.model.specs.TreeCode.{tree_code};
 ghost use Rattle.model.specs.Worlds.{are_users};
 ghost use Rattle.trust.specs.Trusting.{trusts};
 ghost use Rattle.trust.specs.Naming.{IsWithin};
-ghost use Rattle.desks.specs.Sound.{IsSound, AreGoalsSound};
-ghost use Rattle.desks.specs.Supported.{AreSupported};
+ghost use Rattle.handling.specs.Sound.{IsSound, AreGoalsSound};
+ghost use Rattle.handling.specs.Supported.{AreSupported};
 
-use desks::Limits;
+use handling::Limits;
 use jobs::Jobs;
 use realise::Desk;
 use store::Table;

@@ -8,8 +8,8 @@ use Rattle.model.specs.Forms.{Form}
 use Rattle.model.specs.Talk.{Row, Names, Refuses, Asks, Seen, form_of, Gets, answer_text, told_in, is_bad_users}
 use Rattle.events.specs.declared.event.Event.{Event}
 use Rattle.events.specs.Terms.{event_of}
-use Rattle.lines.specs.declared.reading.Reading.{Reading}
-use Rattle.lines.specs.declared.reading.Reading.TheVariants as reading
+use Rattle.lines.specs.declared.line.Reading.{Reading}
+use Rattle.lines.specs.declared.line.Reading.TheVariants as reading
 use Rattle.lines.specs.Reading.{IsRowOf, Becomes}
 use Rattle.session.specs.Serving.{Link, Gives, GivesRow, StopsAt}
 

@@ -3,7 +3,7 @@
 ghost use Rattle.std.specs.Prelude.{◌≡◌, ◌⊎◌, ℕ, List, IfOk, IfErr, OnErr};
 ghost use Rattle.model.specs.declared.refusal.Refusal.TheVariants.{Memory};
 ghost use Rattle.model.specs.Talk.{Silent, Names, Refuses, fresh, form_of, Gets, is_bad_users};
-ghost use Rattle.lines.specs.declared.reading.Reading.TheVariants as readings;
+ghost use Rattle.lines.specs.declared.line.Reading.TheVariants as readings;
 ghost use Rattle.lines.specs.Reading.{Becomes, IsRowOf};
 ghost use Rattle.session.specs.Serving.{Gives, GivesRow, StopsAt};
 

@@ -36,17 +36,17 @@ use Rattle.closures.specs.Sound.{IsSoundPlan}
 use Rattle.trust.specs.Naming.{place_of, IsWithin}
 use Rattle.trust.proofs.PlaceLemmas.{name_found}
 use Rattle.events.specs.declared.reply.Reply as Rust
-use Rattle.desks.specs.Stored.{stored_by}
-use Rattle.desks.specs.Sound.{desk_of, IsSound, IsClosure}
+use Rattle.handling.specs.Stored.{stored_by}
+use Rattle.handling.specs.Sound.{desk_of, IsSound, IsClosure}
 use Rattle.events.specs.Terms.{reply_of}
-use Rattle.desks.specs.Parts.{beside_at, desk_among}
-use Rattle.desks.specs.Given.{HasSoundPlan}
+use Rattle.handling.specs.Parts.{beside_at, desk_among}
+use Rattle.handling.specs.Given.{HasSoundPlan}
 use Rattle.views.specs.Serving.{AreServed, AreNotServed, AtPlace, IsServedAt}
-use Rattle.desks.specs.Handling.{Fits, RefusedAtOnce, IsHandledIn, IsHandledBySight}
-use Rattle.desks.specs.Viewing.{bare, desk_at, IsView}
-use Rattle.desks.proofs.WorldLemmas.{place_found, desk_found}
-use Rattle.desks.proofs.HandlingLemmas.{place_there, sound_at, is_left}
-use Rattle.desks.proofs.SupportLemmas.{gains_nothing}
+use Rattle.handling.specs.Handling.{Fits, RefusedAtOnce, IsHandledIn, IsHandledBySight}
+use Rattle.handling.specs.Viewing.{bare, desk_at, IsView}
+use Rattle.handling.proofs.WorldLemmas.{place_found, desk_found}
+use Rattle.handling.proofs.HandlingLemmas.{place_there, sound_at, is_left}
+use Rattle.handling.proofs.SupportLemmas.{gains_nothing}
 
 -- ---- the user at a place
 

@@ -24,16 +24,16 @@ use Rattle.realise.specs.declared.entry.Entry.{Entry}
 use Rattle.realise.specs.Holdings.{Holdings, bare, paths_of, same_recorded, entry_path, entry_with, is_on, holds_entry, holds_all, holds_each, charged_more, charged_all, sources_in, records_in, is_at, has_labelled, IsClosed, IsClosedWith}
 use Rattle.realise.proofs.SeveralLemmas.{with_parts, all_parts, all_is_each}
 use Rattle.store.specs.Stored.{Extends, put_all, source_of, sources_of, AreThere, AreTaken as AreTakenOf}
-use Rattle.desks.specs.Stored.{source_of_entry}
-use Rattle.desks.specs.Sound.{IsClosure, sources_at, records_at, desk_of, IsSound, Beside}
+use Rattle.handling.specs.Stored.{source_of_entry}
+use Rattle.handling.specs.Sound.{IsClosure, sources_at, records_at, desk_of, IsSound, Beside}
 use Rattle.views.specs.Taking.{tree_with_path, entry_without, counted, missing_on, are_roomy, copied, CopiesEntries}
-use Rattle.desks.specs.Supported.{IsEntryOn, GainsOnly}
+use Rattle.handling.specs.Supported.{IsEntryOn, GainsOnly}
 use Rattle.views.proofs.MissingLemmas.{bare_entries, is_not}
-use Rattle.desks.proofs.PuttingLemmas.{put_all-Extends, unmapped}
-use Rattle.desks.proofs.AddingLemmas.{has_entry-is_on, charge_of-entry, sources_at-push, records_at-push, known-entry, charge_is}
-use Rattle.desks.proofs.ClosedLemmas.{still_labelled}
-use Rattle.desks.proofs.DeskLemmas.{IsKnown, desk_kept, known_kept, length-sources_at, length-records_at}
-use Rattle.desks.proofs.SupportLemmas.{gains_nothing}
+use Rattle.handling.proofs.PuttingLemmas.{put_all-Extends, unmapped}
+use Rattle.handling.proofs.AddingLemmas.{has_entry-is_on, charge_of-entry, sources_at-push, records_at-push, known-entry, charge_is}
+use Rattle.handling.proofs.ClosedLemmas.{still_labelled}
+use Rattle.handling.proofs.DeskLemmas.{IsKnown, desk_kept, known_kept, length-sources_at, length-records_at}
+use Rattle.handling.proofs.SupportLemmas.{gains_nothing}
 
 -- ---- one entry
 

@@ -14,7 +14,7 @@ use Rattle.choose.proofs.SetLemmas.{irreflexive, clash}
 use Rattle.choose.proofs.OrderLemmas.{entry_before-Weak}
 use Rattle.realise.specs.declared.entry.Entry.{Entry}
 use Rattle.realise.specs.Holdings.{bare, Holdings, is_on, sources_in, AreCountable, AreAbsent}
-use Rattle.desks.specs.Sound.{IsClosure}
+use Rattle.handling.specs.Sound.{IsClosure}
 use Rattle.views.specs.Taking.{entry_without, counted, missing_on}
 
 pub is_not : (b : Bool) → b ≡ false → not b ≡ true

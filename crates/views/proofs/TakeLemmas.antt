@@ -29,19 +29,19 @@ use Rattle.realise.specs.Holdings.{Holdings}
 use Rattle.closures.specs.Trees.{source_at, record_at}
 use Rattle.serving.specs.RepairLaws.{IsServedEntry, ServedAreMade}
 use Rattle.events.specs.declared.reply.Reply as Rust
-use Rattle.desks.specs.Stored.{source_of_entry, taken_sources, AreTaken}
-use Rattle.desks.specs.Sound.{Beside, desk_of, IsSound, IsHashed}
+use Rattle.handling.specs.Stored.{source_of_entry, taken_sources, AreTaken}
+use Rattle.handling.specs.Sound.{Beside, desk_of, IsSound, IsHashed}
 use Rattle.events.specs.Terms.{reply_of}
-use Rattle.desks.specs.Parts.{beside_at, desk_among}
-use Rattle.desks.specs.Given.{HasSoundPlanOf}
+use Rattle.handling.specs.Parts.{beside_at, desk_among}
+use Rattle.handling.specs.Given.{HasSoundPlanOf}
 use Rattle.views.specs.Serving.{AreServed, AreNotServed, AtPlace}
-use Rattle.desks.specs.Handling.{RefusedAtOnce, IsHandledBySight}
+use Rattle.handling.specs.Handling.{RefusedAtOnce, IsHandledBySight}
 use Rattle.views.specs.Taking.{CopiesEntries}
-use Rattle.desks.specs.Viewing.{bare, desk_at}
-use Rattle.desks.proofs.DeskLemmas.{IsKnown, sources_known, records_known, some_of}
-use Rattle.desks.proofs.PuttingLemmas.{put_all-Extends, put_all-All, taken_clash}
-use Rattle.desks.proofs.StepLemmas.{kept_sound, kept_later}
-use Rattle.desks.proofs.ViewLemmas.{any_default}
+use Rattle.handling.specs.Viewing.{bare, desk_at}
+use Rattle.handling.proofs.DeskLemmas.{IsKnown, sources_known, records_known, some_of}
+use Rattle.handling.proofs.PuttingLemmas.{put_all-Extends, put_all-All, taken_clash}
+use Rattle.handling.proofs.StepLemmas.{kept_sound, kept_later}
+use Rattle.handling.proofs.ViewLemmas.{any_default}
 use Rattle.views.proofs.ClosureLemmas.{world, his_desk, his_sound, left_there, unserved_no_clash}
 
 -- ---- two trees with one path

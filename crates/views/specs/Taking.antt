@@ -14,10 +14,10 @@ use Rattle.realise.specs.Recorded.{without_tree}
 use Rattle.realise.specs.declared.entry.Entry.{Entry}
 use Rattle.realise.specs.declared.entry.Entry.TheVariants as entry
 use Rattle.realise.specs.Holdings.{Holdings, is_on, sources_in, records_in}
-use Rattle.desks.specs.Stored.{source_of_entry, AreTaken}
-use Rattle.desks.specs.Sound.{Beside, desk_of, IsSound}
-use Rattle.desks.specs.Handling.{is_fault, IsKept}
-use Rattle.desks.specs.Supported.{IsEntryOn, GainsOnly}
+use Rattle.handling.specs.Stored.{source_of_entry, AreTaken}
+use Rattle.handling.specs.Sound.{Beside, desk_of, IsSound}
+use Rattle.handling.specs.Handling.{is_fault, IsKept}
+use Rattle.handling.specs.Supported.{IsEntryOn, GainsOnly}
 
 -- ---- entries of a closure
 

@@ -4,15 +4,15 @@ ghost use Rattle.std.specs.Prelude.{◌≡◌, ◌<◌, ◌≤◌, ℕ, IfOk, le
 ghost use Rattle.model.specs.Events.{Closure as ClosureRequest};
 ghost use Rattle.choose.specs.Visible.{IsComplete};
 ghost use Rattle.trust.specs.Trusting.{trusts};
-ghost use Rattle.desks.specs.Viewing.{desk_at};
+ghost use Rattle.handling.specs.Viewing.{desk_at};
 ghost use Rattle.views.specs.Serving.{IsServedAt};
-ghost use Rattle.desks.specs.Handling.{IsHandledBySight};
-ghost use Rattle.desks.specs.Sound.{IsClosure};
+ghost use Rattle.handling.specs.Handling.{IsHandledBySight};
+ghost use Rattle.handling.specs.Sound.{IsClosure};
 
 use choose::View;
 use closures::{Closure, Entry};
-use desks::desks_in_view;
 use events::Reply;
+use handling::desks_in_view;
 use model::{Refusal, closures_are_whole};
 use realise::Desk;
 use std::alloc::Global;

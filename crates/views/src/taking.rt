@@ -7,14 +7,14 @@ ghost use Rattle.model.specs.Closures.{path_for};
 ghost use Rattle.model.specs.declared.refusal.Refusal.TheVariants.{Memory, NotRealised};
 ghost use Rattle.realise.specs.Holdings.{bare, sources_in, records_in};
 ghost use Rattle.trust.specs.Trusting.{trusts};
-ghost use Rattle.desks.specs.Sound.{IsSound, IsClosure};
-ghost use Rattle.desks.specs.Viewing.{desk_at};
-ghost use Rattle.desks.specs.Handling.{IsHandledBySight};
+ghost use Rattle.handling.specs.Sound.{IsSound, IsClosure};
+ghost use Rattle.handling.specs.Viewing.{desk_at};
+ghost use Rattle.handling.specs.Handling.{IsHandledBySight};
 ghost use Rattle.views.specs.Taking.{tree_with_path, counted, missing_on, are_roomy, CopiesEntries};
 
 use crate::given::entries_for;
-use desks::Limits;
 use events::Reply;
+use handling::Limits;
 use model::Refusal;
 use nar::Tree;
 use realise::{Desk, Entry, MOST_RECORDS, MOST_SOURCES};

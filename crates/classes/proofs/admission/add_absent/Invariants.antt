@@ -1,6 +1,6 @@
 use Rattle.std.proofs.Common.{◌≡◌, ◌++◌, drop}
 use Rattle.std.specs.Prelude.{filter}
-use Rattle.classes.specs.Entries.{is_absent}
+use Rattle.classes.specs.Inputs.{is_absent}
 use Rattle.classes.proofs.admission.add_absent.Given as goal
 
 abbrev pub invariant-loop-path : goal.invariant-loop-path

@@ -3,7 +3,7 @@ use Rattle.std.specs.Prelude.{filter}
 use Rattle.std.proofs.lemmas.List.Elements.{filter_agree}
 use Rattle.std.proofs.lemmas.Result.{MatchResult-weaker}
 use Rattle.model.specs.Classes.{is_one_of}
-use Rattle.classes.specs.Entries.{is_absent}
+use Rattle.classes.specs.Inputs.{is_absent}
 use Rattle.classes.proofs.admission.add_others.Goals as goal
 
 pub returns : goal.returns

@@ -11,6 +11,6 @@ returns-in_err-masked c =
 
 pub returns : goal.returns
 returns c =
-    c.in_ok-rank.ensures.answer
+    rw c.new-class.ensures (c.in_ok-rank.ensures.answer
     ∙ ap Ok (is_admission c.args.known.now c.args.derivation.now c.in_ok-path.path c.in_ok-rank.rank c.in_ok-masked.masked
-    c.in_ok-masked.ensures.1 c.in_ok-path.ensures c.in_ok-rank.ensures.rank)
+    c.in_ok-masked.ensures.1 c.in_ok-path.ensures c.in_ok-rank.ensures.rank))

@@ -2,7 +2,7 @@ use Rattle.std.proofs.Common.{◌≡◌, ℕ, List, map, sym, ap, ◌∙◌}
 use Rattle.sha2.specs.Sha256.{sha256}
 use Rattle.model.specs.Derivations.{Derivation, derivation_text}
 use Rattle.model.specs.Classes.{mask_of, sorted, masked_text}
-use Rattle.classes.specs.Entries.{has_inputs}
+use Rattle.classes.specs.Inputs.{has_inputs}
 use Rattle.classes.proofs.Order.{sort_gives}
 use Rattle.classes.proofs.admission.masked_digest.Goals as goal
 

@@ -10,14 +10,14 @@ use Rattle.model.specs.Outcomes.{becomes}
 use Rattle.model.specs.DerivationRequests.{told_of}
 use Rattle.model.specs.Classes.{Admission, Known, known_at, derivation_path, admit}
 use Rattle.model.specs.Worlds.{Source}
-use Rattle.desks.specs.Sound.{desk_of, IsSound, Beside}
-use Rattle.desks.specs.Handling.{is_fault}
+use Rattle.handling.specs.Sound.{desk_of, IsSound, Beside}
+use Rattle.handling.specs.Handling.{is_fault}
 use Rattle.realise.specs.Holdings.{Holdings, holds_derivation}
-use Rattle.desks.proofs.DeskLemmas.{sound-derivation}
+use Rattle.handling.proofs.DeskLemmas.{sound-derivation}
 use Rattle.model.specs.Limits.{most_derivations}
 use Rattle.model.specs.Replies.{is_clash_refusal}
 use Rattle.model.proofs.DerivationRequestLemmas.{admit_refusals}
-use Rattle.desks.proofs.DerivationLemmas.{new_outcome, admitted_path, refused_fits, over_fits, added_fits}
+use Rattle.handling.proofs.DerivationLemmas.{new_outcome, admitted_path, refused_fits, over_fits, added_fits}
 use Rattle.desks.proofs.derivations.add_new.Goals as goal
 
 pub returns-in_err-admitted-clause-adds : goal.returns-in_err-admitted-clause-adds

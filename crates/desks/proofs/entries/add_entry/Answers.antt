@@ -4,8 +4,8 @@ use Rattle.model.specs.Events.{Path}
 use Rattle.model.specs.Outcomes.{becomes}
 use Rattle.model.specs.Worlds.{tree_at}
 use Rattle.realise.specs.Holdings.{entry_path, is_on}
-use Rattle.desks.specs.Sound.{desk_of}
-use Rattle.desks.proofs.AddingLemmas.{entry_known, entry_had}
+use Rattle.handling.specs.Sound.{desk_of}
+use Rattle.handling.proofs.AddingLemmas.{entry_known, entry_had}
 use Rattle.desks.proofs.entries.add_entry.Goals as goal
 
 pub returns-then-has-clause-adds : goal.returns-then-has-clause-adds

@@ -6,9 +6,9 @@ use Rattle.model.specs.Outcomes.{becomes}
 use Rattle.model.specs.Worlds.{Source, tree_at}
 use Rattle.store.specs.Stored.{Extends}
 use Rattle.realise.specs.Holdings.{entry_path, charged_more, is_roomy}
-use Rattle.desks.specs.Sound.{desk_of}
+use Rattle.handling.specs.Sound.{desk_of}
 use Rattle.store.proofs.TableLemmas.{put_once-Extends}
-use Rattle.desks.proofs.AddingLemmas.{IsThere, there_if_stored, entry_refused, entry_new, desk_of-entry, sound-entry}
+use Rattle.handling.proofs.AddingLemmas.{IsThere, there_if_stored, entry_refused, entry_new, desk_of-entry, sound-entry}
 use Rattle.desks.proofs.entries.add_new.Goals as goal
 
 pub returns-then-not-has_room-clause-adds : goal.returns-then-not-has_room-clause-adds

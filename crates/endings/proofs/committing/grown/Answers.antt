@@ -1,7 +1,7 @@
 use Rattle.std.proofs.Common.{◌≡◌, ◌<◌, length, arith, rules, sym, subst}
 use Rattle.std.specs.Prelude.{get_or}
 use Rattle.realise.specs.Holdings.{Holdings}
-use Rattle.desks.specs.Supported.{desk_at}
+use Rattle.handling.specs.Supported.{desk_at}
 use Rattle.endings.specs.Gaining.{Gains, gains_in}
 use Rattle.endings.specs.Committing.{gains_at, MayCharge, IsGrownWith}
 use Rattle.endings.proofs.MadeLemmas.{at_place}

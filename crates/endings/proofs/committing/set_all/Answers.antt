@@ -3,7 +3,7 @@ use Rattle.std.specs.Prelude.{All, map, slice_set}
 use Rattle.std.specs.Vec.Iter.{into_iter_items}
 use Rattle.model.specs.Worlds.{Goal}
 use Rattle.jobs.specs.Owned.{OwnedByAll}
-use Rattle.desks.specs.Supported.{goals_of}
+use Rattle.handling.specs.Supported.{goals_of}
 use Rattle.endings.specs.Gaining.{with_states, state_at, IsSettable}
 use Rattle.endings.specs.Committing.{states_heard, states_for}
 use Rattle.endings.proofs.MadeLemmas.{drop_head}

@@ -1,6 +1,6 @@
 use Rattle.std.proofs.Common.{◌≡◌, ℕ, ◌+◌, ◌<◌, ◌≤◌, length, drop}
 use Rattle.std.specs.Vec.Iter.{into_iter_items, into_iter_len}
-use Rattle.desks.specs.Supported.{goals_of}
+use Rattle.handling.specs.Supported.{goals_of}
 use Rattle.endings.specs.Gaining.{with_states}
 use Rattle.endings.specs.Committing.{states_for}
 use Rattle.endings.proofs.committing.set_all.Given as goal

@@ -3,7 +3,7 @@ use Rattle.std.specs.Prelude.{All, map}
 use Rattle.std.specs.Vec.Iter.{into_iter_items}
 use Rattle.states.specs.States.{state_of}
 use Rattle.std.proofs.lemmas.List.Elements.{All-head}
-use Rattle.desks.specs.Supported.{goals_of}
+use Rattle.handling.specs.Supported.{goals_of}
 use Rattle.endings.specs.Gaining.{with_states, state_at, IsSettable}
 use Rattle.endings.proofs.CommitLemmas.{states_next}
 use Rattle.endings.proofs.committing.set_states.Goals as goal

@@ -2,7 +2,7 @@ use Rattle.std.proofs.Common.{◌≡◌, All}
 use Rattle.std.specs.Prelude.{map}
 use Rattle.std.specs.Vec.Iter.{into_iter_items}
 use Rattle.jobs.specs.Owned.{with_goals_at}
-use Rattle.desks.specs.Supported.{goals_of}
+use Rattle.handling.specs.Supported.{goals_of}
 use Rattle.endings.specs.Gaining.{with_states, state_at, IsSettable}
 use Rattle.endings.proofs.committing.set_states.Given as goal
 

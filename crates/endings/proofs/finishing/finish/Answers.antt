@@ -5,10 +5,10 @@ use Rattle.model.specs.ArchiveReading.{tree_of_archive}
 use Rattle.trust.specs.Trusting.{trusts}
 use Rattle.trust.specs.Naming.{name_at}
 use Rattle.trust.proofs.PlaceLemmas.{place_found}
-use Rattle.desks.specs.Viewing.{desk_at}
+use Rattle.handling.specs.Viewing.{desk_at}
 use Rattle.endings.specs.Gaining.{with_gains}
 use Rattle.endings.specs.Committing.{Heard, gains_at}
-use Rattle.desks.proofs.TrustLemmas.{few_users, distinct_users}
+use Rattle.handling.proofs.TrustLemmas.{few_users, distinct_users}
 use Rattle.endings.proofs.CommitLemmas.{may_replace, grown_has}
 use Rattle.endings.proofs.FinishLemmas.{finish_refused, finish_fault, finish_not_made, may_gain, may_be_set, finish_handled}
 use Rattle.endings.proofs.finishing.finish.Goals as goal

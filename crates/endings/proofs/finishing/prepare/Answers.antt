@@ -8,7 +8,7 @@ use Rattle.trust.specs.Trusting.{trusts}
 use Rattle.store.specs.Stored.{put_all, sources_of, AreThere}
 use Rattle.endings.specs.Gaining.{last_state, state_at}
 use Rattle.endings.specs.Committing.{Heard, trees_gained, states_for, states_heard, gains_at, MayCharge, AreGrown}
-use Rattle.desks.specs.Supported.{desk_at}
+use Rattle.handling.specs.Supported.{desk_at}
 use Rattle.endings.proofs.CommitLemmas.{states_there}
 use Rattle.endings.proofs.InPlaceLemmas.{may_charge}
 use Rattle.endings.proofs.AllBuiltLemmas.{only_memory}

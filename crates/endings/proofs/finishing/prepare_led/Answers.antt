@@ -7,7 +7,7 @@ use Rattle.trust.specs.Trusting.{trusts}
 use Rattle.trust.specs.Naming.{name_at}
 use Rattle.endings.specs.Hearing.{IsNotMade}
 use Rattle.endings.specs.Finishing.{IsPrepared}
-use Rattle.desks.proofs.ViewLemmas.{job_made}
+use Rattle.handling.proofs.ViewLemmas.{job_made}
 use Rattle.endings.proofs.AllBuiltLemmas.{all_built_on}
 use Rattle.endings.proofs.finishing.prepare_led.Goals as goal
 

@@ -7,8 +7,8 @@ use Rattle.model.specs.Goals.{members}
 use Rattle.realise.specs.Holdings.{Holdings}
 use Rattle.jobs.specs.Owned.{goals_at}
 use Rattle.trust.specs.Trusting.{trusts}
-use Rattle.desks.specs.Parts.{goals_of}
-use Rattle.desks.specs.Viewing.{desk_at}
+use Rattle.handling.specs.Parts.{goals_of}
+use Rattle.handling.specs.Viewing.{desk_at}
 use Rattle.endings.specs.Gaining.{Output}
 use Rattle.endings.specs.Built.{AreBuiltOn}
 use Rattle.endings.specs.Hearing.{IsBuiltAtPlace}

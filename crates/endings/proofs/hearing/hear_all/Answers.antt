@@ -9,8 +9,8 @@ use Rattle.jobs.specs.Owned.{goals_at}
 use Rattle.states.specs.declared.state.State as jobs
 use Rattle.trust.specs.Trusting.{trusts}
 use Rattle.endings.specs.declared.gains.Gains as Rust
-use Rattle.desks.specs.Parts.{goals_of}
-use Rattle.desks.specs.Viewing.{desk_at}
+use Rattle.handling.specs.Parts.{goals_of}
+use Rattle.handling.specs.Viewing.{desk_at}
 use Rattle.endings.specs.Gaining.{Output, gains_in, state_at}
 use Rattle.endings.specs.Hearing.{IsHeardAtPlace, built_for_place}
 use Rattle.endings.proofs.MadeLemmas.{each_pushed, each_none, at_place, drop_head}

@@ -3,8 +3,8 @@ use Rattle.std.specs.Prelude.{All, map}
 use Rattle.std.proofs.lemmas.Result.{err_from_is_err_and}
 use Rattle.model.specs.Worlds.{Source}
 use Rattle.store.specs.Stored.{put_all, sources_of}
-use Rattle.desks.specs.Stored.{source_of_entry}
-use Rattle.desks.specs.Sound.{IsStored}
+use Rattle.handling.specs.Stored.{source_of_entry}
+use Rattle.handling.specs.Sound.{IsStored}
 use Rattle.views.specs.Taking.{tree_with_path}
 use Rattle.views.proofs.CopyLemmas.{sources_are, all_there}
 use Rattle.goals.proofs.PlanLemmas.{unkept}

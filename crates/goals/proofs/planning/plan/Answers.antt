@@ -9,10 +9,10 @@ use Rattle.trust.specs.Naming.{names}
 use Rattle.realise.specs.Holdings.{Holdings}
 use Rattle.jobs.specs.Owned.{goals_at}
 use Rattle.jobs.specs.States.{planned_with}
-use Rattle.desks.specs.Sound.{IsStored}
-use Rattle.desks.specs.Viewing.{bare, desk_at}
+use Rattle.handling.specs.Sound.{IsStored}
+use Rattle.handling.specs.Viewing.{bare, desk_at}
 use Rattle.goals.specs.Planning.{TellsToPlan}
-use Rattle.desks.proofs.TrustLemmas.{few_users}
+use Rattle.handling.proofs.TrustLemmas.{few_users}
 use Rattle.goals.proofs.PlanLemmas.{told_of_him, own_there, not_to_plan, not_kept, not_resolved, failed, planned, goal_there, goal_to_plan, put_there, others_left}
 use Rattle.goals.proofs.planning.plan.Goals as goal
 

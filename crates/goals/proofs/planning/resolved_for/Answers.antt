@@ -13,7 +13,7 @@ use Rattle.realise.specs.Holdings.{Holdings}
 use Rattle.closures.specs.Sound.{IsSoundPlan}
 use Rattle.trust.specs.Trusting.{trusts}
 use Rattle.choose.specs.Visible.{desks_of}
-use Rattle.desks.specs.Viewing.{bare, desk_at}
+use Rattle.handling.specs.Viewing.{bare, desk_at}
 use Rattle.views.proofs.ClosureLemmas.{view_complete}
 use Rattle.goals.proofs.ResolveLemmas.{IsAnswer, by_plan, not_planned, resolved_at, closure_if_resolved}
 use Rattle.goals.proofs.planning.resolved_for.Goals as goal

@@ -6,9 +6,9 @@ use Rattle.model.specs.Goals.{job_of}
 use Rattle.trust.specs.Trusting.{trusts}
 use Rattle.trust.specs.Naming.{name_at}
 use Rattle.trust.proofs.PlaceLemmas.{name_found}
-use Rattle.desks.specs.Viewing.{desk_at}
+use Rattle.handling.specs.Viewing.{desk_at}
 use Rattle.goals.specs.Starting.{uncopied_state}
-use Rattle.desks.proofs.TrustLemmas.{few_users}
+use Rattle.handling.proofs.TrustLemmas.{few_users}
 use Rattle.views.proofs.TakeLemmas.{copied_at}
 use Rattle.goals.proofs.StartLemmas.{put_stored, not_to_start, no_memory, entered, left, goal_closure, entered_goals, entered_goal, entered_there, entered_inside, changed_goals, changed_others}
 use Rattle.goals.proofs.PlanLemmas.{others_left}

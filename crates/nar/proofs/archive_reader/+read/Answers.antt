@@ -3,7 +3,8 @@ use Rattle.std.proofs.lemmas.Result.{err_from_is_err_and}
 use Rattle.std.specs.Prelude.{Some}
 use Rattle.std.specs.Str.{bytes_eq}
 use Rattle.model.specs.ArchiveReading.{entries_at, node_at}
-use Rattle.nar.specs.ArchiveSteps.{next_is_entry, next_entry_at}
+use Rattle.reading.specs.Steps.{next_is_entry}
+use Rattle.nar.specs.ArchiveSteps.{next_entry_at}
 use Rattle.nar.specs.NodeTrees.{last_name_of, NamedNode}
 use Rattle.nar.proofs.ReadEntries.{behind, fails_on, node_at-directory, node_at-leaf, entries_at-none, entries_at-end, entries_at-refused, entries_at-push}
 use Rattle.nar.proofs.archive_reader.+read.Goals as goal
@@ -12,25 +13,25 @@ pub read_node-returns-then-eq : goal.read_node-returns-then-eq
 read_node-returns-then-eq t c =
     let some : 0 < c.args.depth = omega arith in
     let is : bytes_eq c.in_ok-kind.kind.now (codes "directory") ≡ true = search rules in
-    rw (node_at-directory c.args.depth c.args.bytes.now c.in_ok-kind.kind.now c.in_ok-kind.rest.now some c.in_ok-kind.ensures is) c.read_directory.ensures
+    rw (node_at-directory c.args.depth c.args.bytes.now c.in_ok-kind.kind.now c.in_ok-kind.rest.now some c.in_ok-kind.ensures.read is) c.read_directory.ensures
 
 pub read_node-returns : goal.read_node-returns
 read_node-returns t c =
     let some : 0 < c.args.depth = omega arith in
     let is : bytes_eq c.in_ok-kind.kind.now (codes "directory") ≡ false = search rules in
-    rw (node_at-leaf c.args.depth c.args.bytes.now c.in_ok-kind.kind.now c.in_ok-kind.rest.now some c.in_ok-kind.ensures is) c.read_leaf.ensures
+    rw (node_at-leaf c.args.depth c.args.bytes.now c.in_ok-kind.kind.now c.in_ok-kind.rest.now some c.in_ok-kind.ensures.read is) c.read_leaf.ensures
 
 pub read_entries-returns-in_err-comes : goal.read_entries-returns-in_err-comes
 read_entries-returns-in_err-comes t c =
     let p = err_from_is_err_and c.from_residual.result c.from_residual.ensures.1 in
     let room : 0 < length c.args.bytes.now - c.loop.counter = omega arith in
-    rw (p.1, p.2) (fails_on _ _ _ (λ e. c.loop.invariant ∙ ap (behind c.loop.entries.items) (entries_at-none _ _ _ _ room e)) c.in_err-comes.ensures)
+    rw (p.1, p.2) (fails_on _ _ _ (λ e. c.loop.invariant ∙ ap (behind c.loop.entries.items) (entries_at-none _ _ _ _ room e)) c.in_err-comes.ensures.read)
 
 pub read_entries-returns-in_err-entry : goal.read_entries-returns-in_err-entry
 read_entries-returns-in_err-entry t c =
     let p = err_from_is_err_and c.from_residual-in_err-entry.result c.from_residual-in_err-entry.ensures.1 in
     let room : 0 < length c.args.bytes.now - c.loop.counter = omega arith in
-    let here : next_is_entry c.loop.rest.now ≡ Some true = c.in_ok-comes.ensures ∙ ap Some c.if-not-comes.false in
+    let here : next_is_entry c.loop.rest.now ≡ Some true = c.in_ok-comes.ensures.read ∙ ap Some c.if-not-comes.false in
     let same = ap (λ es. next_entry_at (node_at c.args.depth) (last_name_of es) c.loop.rest.now) (sym c.deref.ensures.value) in
     rw (p.1, p.2)
     (fails_on _ _ _ (λ e. c.loop.invariant ∙ ap (behind c.loop.entries.items) (entries_at-refused _ _ _ _ room here (same ∙ e))) c.in_err-entry.ensures)
@@ -38,7 +39,7 @@ read_entries-returns-in_err-entry t c =
 pub read_entries-returns-then-not-comes : goal.read_entries-returns-then-not-comes
 read_entries-returns-then-not-comes t c =
     let room : 0 < length c.args.bytes.now - c.loop.counter = omega arith in
-    let here : next_is_entry c.loop.rest.now ≡ Some false = c.in_ok-comes.ensures ∙ ap Some c.if-not-comes.true in
+    let here : next_is_entry c.loop.rest.now ≡ Some false = c.in_ok-comes.ensures.read ∙ ap Some c.if-not-comes.true in
     c.loop.invariant ∙ ap (behind c.loop.entries.items) (entries_at-end _ _ _ _ room here)
 
 pub read_entries-returns : goal.read_entries-returns
@@ -53,7 +54,7 @@ read_entries-loop-preserved t c =
     let e : NamedNode = c.in_ok-entry.entry in
     let es = c.loop.entries.items in
     let pushed : c.push.new.self.items ≡ es ++ e ∷ [] = search rules in
-    let here : next_is_entry c.loop.rest.now ≡ Some true = c.in_ok-comes.ensures ∙ ap Some c.if-not-comes.false in
+    let here : next_is_entry c.loop.rest.now ≡ Some true = c.in_ok-comes.ensures.read ∙ ap Some c.if-not-comes.false in
     let lt : c.loop.counter < length c.args.bytes.now = omega arith in
     let bytes = c.args.bytes.now in
     let after = c.in_ok-entry.after.now in

@@ -11,13 +11,13 @@ pub read_text-returns-then-eq : goal.read_text-returns-then-eq
 read_text-returns-then-eq t c =
     let some : 0 < c.args.depth = omega arith in
     let is : bytes_eq c.in_ok-kind.kind.now (codes "d(") ≡ true = search rules in
-    rw (text_at-listed c.args.depth c.args.bytes.now c.in_ok-kind.kind.now c.in_ok-kind.rest.now some c.in_ok-kind.ensures is) c.read_listed.ensures
+    rw (text_at-listed c.args.depth c.args.bytes.now c.in_ok-kind.kind.now c.in_ok-kind.rest.now some c.in_ok-kind.ensures.read is) c.read_listed.ensures
 
 pub read_text-returns : goal.read_text-returns
 read_text-returns t c =
     let some : 0 < c.args.depth = omega arith in
     let is : bytes_eq c.in_ok-kind.kind.now (codes "d(") ≡ false = search rules in
-    rw (text_at-leaf c.args.depth c.args.bytes.now c.in_ok-kind.kind.now c.in_ok-kind.rest.now some c.in_ok-kind.ensures is) c.read_leaf.ensures
+    rw (text_at-leaf c.args.depth c.args.bytes.now c.in_ok-kind.kind.now c.in_ok-kind.rest.now some c.in_ok-kind.ensures.read is) c.read_leaf.ensures
 
 pub read_items-returns-then-is_closed : goal.read_items-returns-then-is_closed
 read_items-returns-then-is_closed t c =

@@ -6,12 +6,12 @@ use Rattle.model.specs.Worlds.{Goal}
 use Rattle.jobs.specs.Owned.{OwnedByAll, goals_at}
 use Rattle.realise.specs.Holdings.{Holdings}
 use Rattle.events.specs.Terms.{request_of}
-use Rattle.desks.specs.Parts.{parts}
-use Rattle.desks.specs.Viewing.{bare, desk_at}
-use Rattle.desks.specs.Handling.{IsHandled}
-use Rattle.desks.proofs.TrustLemmas.{few_users}
+use Rattle.handling.specs.Parts.{parts}
+use Rattle.handling.specs.Viewing.{bare, desk_at}
+use Rattle.handling.specs.Handling.{IsHandled}
+use Rattle.handling.proofs.TrustLemmas.{few_users}
 use Rattle.views.proofs.ClosureLemmas.{all_complete}
-use Rattle.desks.proofs.HandlingLemmas.{asking, at_desk, by_sight, by_goals, by_reading, at_place}
+use Rattle.handling.proofs.HandlingLemmas.{asking, at_desk, by_sight, by_goals, by_reading, at_place}
 use Rattle.schedule.proofs.requests.handle_at.Goals as goal
 
 pub returns-in-Trust-clause-handled : goal.returns-in-Trust-clause-handled

@@ -5,7 +5,7 @@ use Rattle.model.specs.declared.refusal.Refusal.TheVariants.{Memory, NotRealised
 use Rattle.model.specs.Closures.{path_for}
 use Rattle.model.specs.Worlds.{Entry}
 use Rattle.trust.specs.Trusting.{trusts}
-use Rattle.desks.specs.Viewing.{desk_at}
+use Rattle.handling.specs.Viewing.{desk_at}
 use Rattle.views.proofs.ClosureLemmas.{all_complete}
 use Rattle.views.proofs.TakeLemmas.{copied_at, take_unserved, take_unnamed, take_done, take_refused}
 use Rattle.views.proofs.taking.take.Goals as goal

@@ -1,5 +1,5 @@
 use Rattle.std.proofs.Common.{◌≡◌, ◌+◌, ◌++◌, ◌<◌, ◌^◌, ℕ, List, sym, ap, subst, ◌∙◌, arith}
-use Rattle.classes.specs.Entries.{AreNew}
+use Rattle.admitted.specs.Entries.{AreNew}
 use Rattle.realise.specs.Recorded.{Recorded}
 use Rattle.realise.specs.declared.entry.Entry.{Entry}
 use Rattle.realise.specs.Held.{paths_held, bytes_held, IsSetOf}

@@ -1,0 +1,18 @@
+-- The entries of a desk's tables, as lists of plain data.
+use Rattle.std.specs.Prelude.{◌≡◌, ℕ, false, List, [], ◌∷◌, ◌++◌, map, All}
+use Rattle.model.specs.Classes.{Admission, is_one_of}
+
+-- an entry's key is its derivation's path
+abbrev pub IsKeyed : List ℕ × Admission → Type 0
+IsKeyed e = e.0 ≡ e.1.path
+
+abbrev pub AreKeyed : List (List ℕ × Admission) → Type 0
+AreKeyed entries = All IsKeyed entries
+
+abbrev pub admissions_of : List (List ℕ × Admission) → List Admission
+admissions_of entries = map (λ e. e.1) entries
+
+-- none of paths is among these, or comes twice
+abbrev pub AreNew : List (List ℕ) → List (List ℕ) → Type 0
+AreNew known [] = Unit {0}
+AreNew known (path ∷ paths) = (is_one_of known path ≡ false) × AreNew (known ++ path ∷ []) paths

@@ -1,0 +1,148 @@
+//! What a desk knows.
+
+ghost use Rattle.std.specs.Prelude.{◌≡◌, ◌≤◌, None, false, [], ◌∷◌, ◌++◌, MatchResult, option_copied, length};
+ghost use Rattle.indexmap.specs.IndexSet.{spare};
+ghost use Rattle.admitted.specs.Entries.{AreNew};
+ghost use Rattle.model.specs.Classes.{known_at, is_one_of};
+ghost use Rattle.model.specs.declared.refusal.Refusal.TheVariants.{Memory};
+
+use crate::class::Admitted;
+use indexmap::{IndexMap, IndexSet};
+use model::Refusal;
+use std::alloc::Global;
+use std::marker::Model;
+use storepath::StorePath;
+
+/// What one desk knows: its derivations by their paths, and the paths of its sources, the oldest
+/// first.
+///
+/// Looking a path up takes the same time however much is known. The hashers have a fixed seed: a desk is one user's own, and nobody else puts paths there.
+pub struct Known {
+    derivations: IndexMap<StorePath, Admitted>,
+    sources: IndexSet<StorePath>,
+}
+
+impl Drop for Known {
+    fn drop(self) {
+        let Known {
+            derivations: _,
+            sources: _,
+        } = self;
+    }
+}
+
+impl Model for Known {
+    ghost use Rattle.model.specs.Classes.{Known as KnownValue};
+    ghost use Rattle.admitted.specs.Entries.{AreKeyed, admissions_of};
+
+    ghost Value = { KnownValue };
+
+    ghost view = { λ a. record { derivations = admissions_of a.derivations.entries; sources = a.sources.keys } };
+
+    ghost invariant = { λ a. AreKeyed a.derivations.entries };
+}
+
+/// Puts paths that are not there yet into a set that has room for them.
+fn put_reserved(set: &mut IndexSet<StorePath>, paths: Vec<StorePath>)
+    requires absent { AreNew set.old.keys paths.items }
+    requires room { length paths.items ≤ spare set.old }
+    ensures { set.new.keys ≡ set.old.keys ++ paths.items }
+{
+    for path in paths {
+        let _is_new = set.insert(path).unwrap();
+    }
+}
+
+impl Known {
+    /// Nothing is known. It takes no memory.
+    pub fn new(alloc: Global) -> Known
+        ensures { result ≡ record { derivations = []; sources = [] } }
+    {
+        Known {
+            derivations: IndexMap::new(alloc),
+            sources: IndexSet::new(alloc),
+        }
+    }
+
+    /// How many derivations there are.
+    pub fn derivation_count(&self) -> usize
+        ensures { result ≡ length self.now.derivations }
+    {
+        self.derivations.len()
+    }
+
+    /// How many sources there are.
+    pub fn source_count(&self) -> usize
+        ensures { result ≡ length self.now.sources }
+    {
+        self.sources.len()
+    }
+
+    /// One derivation more, whose path is not known yet.
+    ///
+    /// # Errors
+    ///
+    /// - `Memory` only where memory was refused. Then nothing has changed.
+    pub fn add_derivation(&mut self, admitted: Admitted) -> Result<(), Refusal>
+        requires absent { known_at self.old admitted.path ≡ None }
+        ensures { MatchResult result
+            (λ _. self.new ≡ record self.old { derivations = self.old.derivations ++ admitted ∷ [] })
+            (λ e. (e ≡ Memory) × (self.new ≡ self.old)) }
+    {
+        let path = admitted.path().clone()?;
+        let _none = self.derivations.insert(path, admitted)?;
+        Ok(())
+    }
+
+    /// One source more, whose path is not known yet.
+    ///
+    /// # Errors
+    ///
+    /// - `Memory` only where memory was refused. Then nothing has changed.
+    pub fn add_source(&mut self, path: StorePath) -> Result<(), Refusal>
+        requires absent { is_one_of self.old.sources path ≡ false }
+        ensures { MatchResult result
+            (λ _. self.new ≡ record self.old { sources = self.old.sources ++ path ∷ [] })
+            (λ e. (e ≡ Memory) × (self.new ≡ self.old)) }
+    {
+        let _is_new = self.sources.insert(path)?;
+        Ok(())
+    }
+
+    /// These sources more, all of them or none: no path is known yet, and none comes twice.
+    ///
+    /// # Errors
+    ///
+    /// - `Memory` only where memory was refused. Then nothing has changed.
+    pub fn add_sources(&mut self, paths: Vec<StorePath>) -> Result<(), Refusal>
+        requires absent { AreNew self.old.sources paths.items }
+        ensures { MatchResult result
+            (λ _. self.new ≡ record self.old { sources = self.old.sources ++ paths.items })
+            (λ e. (e ≡ Memory) × (self.new ≡ self.old)) }
+    {
+        self.sources.reserve(paths.len())?;
+        put_reserved(&mut self.sources, paths);
+        Ok(())
+    }
+
+    /// What is known of the derivation of a path.
+    pub fn derivation(&self, path: &StorePath) -> Option<&Admitted>
+        ensures { option_copied result ≡ known_at self.now path.now }
+    {
+        self.derivations.get(path)
+    }
+
+    /// The paths of the sources, the oldest first.
+    pub fn sources(&self) -> &[StorePath]
+        ensures { result.now ≡ self.now.sources }
+    {
+        self.sources.as_slice()
+    }
+
+    /// Whether the path is a source's.
+    pub fn has_source(&self, path: &StorePath) -> bool
+        ensures { result ≡ is_one_of self.now.sources path.now }
+    {
+        self.sources.contains(path)
+    }
+}

@@ -1,0 +1,13 @@
+pub mod ChargeLemmas
+pub mod DeskLemmas
+pub mod AddingLemmas
+pub mod DerivationLemmas
+pub mod GoalLemmas
+pub mod SupportLemmas
+pub mod WorldLemmas
+pub mod StepLemmas
+pub mod HandlingLemmas
+pub mod TrustLemmas
+pub mod ViewLemmas
+pub mod PuttingLemmas
+pub mod ClosedLemmas
