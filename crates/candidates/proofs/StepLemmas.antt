@@ -8,13 +8,13 @@ use Rattle.model.specs.Derivations.{Derivation}
 use Rattle.model.specs.Classes.{Class, Known}
 use Rattle.model.specs.Worlds.{Source, Label, Record}
 use Rattle.model.specs.References.{is_of_class, is_label_of, refers_to, is_input_class, is_below, label_of_source, label_of_record, labels_in_order, candidates}
-use Rattle.realise.specs.Recorded.{Recorded, without_tree}
-use Rattle.realise.specs.Ordered.{source_label, marked_labels}
+use Rattle.records.specs.Recorded.{Recorded, without_tree}
+use Rattle.records.specs.Ordered.{source_label, marked_labels}
 use Rattle.candidates.specs.Below.{AreBelow, AreCandidates}
 use Rattle.candidates.specs.Reaching.{is_fresh, AreReached, is_for, is_label_for, is_named_by, is_next, marked_by, fresh_by, pairs_of, IsNext}
 use Rattle.candidates.specs.declared.below.Reached.{Reached}
 use Rattle.model.proofs.BoolLemmas.{either}
-use Rattle.realise.proofs.LoopLemmas.{or_false}
+use Rattle.records.proofs.LoopLemmas.{or_false}
 
 neither : (a b : Bool) → (a || b) ≡ false → (a ≡ false) × (b ≡ false)
 neither true b h = cc

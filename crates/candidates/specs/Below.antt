@@ -4,7 +4,7 @@ use Rattle.model.specs.Derivations.{Derivation}
 use Rattle.model.specs.Classes.{Known}
 use Rattle.model.specs.Worlds.{Label, Record, Desk, known_of}
 use Rattle.model.specs.References.{is_input_class, is_below, candidates}
-use Rattle.realise.specs.Recorded.{Recorded, without_tree}
+use Rattle.records.specs.Recorded.{Recorded, without_tree}
 
 -- each record is marked where it is below the derivation
 abbrev pub AreBelow : Known → Derivation → List Recorded → List Bool → Type 0

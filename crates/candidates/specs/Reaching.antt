@@ -4,7 +4,7 @@ use Rattle.std.specs.List.{list_any}
 use Rattle.model.specs.Classes.{Class}
 use Rattle.model.specs.Worlds.{Label, Record}
 use Rattle.model.specs.References.{is_below}
-use Rattle.realise.specs.Recorded.{Recorded, without_tree}
+use Rattle.records.specs.Recorded.{Recorded, without_tree}
 use Rattle.candidates.specs.declared.below.Reached.{Reached}
 
 -- whether a record is reached in this step, and in none before

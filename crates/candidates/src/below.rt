@@ -11,7 +11,7 @@ use classes::{Known, input_classes, set_of};
 use derivation::Derivation;
 use indexmap::IndexSet;
 use model::Refusal;
-use realise::{Label, Record};
+use records::{Label, Record};
 use std::alloc::Global;
 use storepath::StorePath;
 

@@ -3,14 +3,14 @@
 ghost use Rattle.std.specs.Prelude.{◌≡◌, ◌++◌, IfOk, MatchResult, map, filter, zip};
 ghost use Rattle.model.specs.declared.refusal.Refusal.TheVariants.{Memory};
 ghost use Rattle.candidates.specs.Below.{AreCandidates};
-ghost use Rattle.realise.specs.Ordered.{source_label, marked_labels};
-ghost use Rattle.realise.specs.Recorded.{AreInPathOrder};
+ghost use Rattle.records.specs.Ordered.{source_label, marked_labels};
+ghost use Rattle.records.specs.Recorded.{AreInPathOrder};
 
 use crate::below::records_below;
 use classes::Known;
 use derivation::Derivation;
 use model::Refusal;
-use realise::{Label, Record, labels_in_order};
+use records::{Label, Record, labels_in_order};
 use std::alloc::Global;
 use storepath::StorePath;
 

@@ -11,7 +11,7 @@ use Rattle.model.specs.Choices.{record_before, is_of, is_pinned, choose_of, choo
 use Rattle.model.proofs.BoolLemmas.{either}
 use Rattle.model.proofs.ClosureLemmas.{least_from_in}
 use Rattle.model.proofs.MemberLemmas.{In, in_right, in_map, from_filter, from_flat_map}
-use Rattle.realise.specs.Recorded.{Recorded}
+use Rattle.records.specs.Recorded.{Recorded}
 use Rattle.realise.specs.Holdings.{Holdings, paths_of, is_record_of}
 use Rattle.choose.specs.Visible.{Visible, seen, desks_of, IsStored, IsDeskStored, AreStored, recorded_before, is_recorded_at, is_any_or_at, those_at, records_on, is_recorded_pinned, choose_recorded, choose_in}
 use Rattle.closures.specs.Trees.{record_at}

@@ -10,7 +10,8 @@ use crate::order::is_record_before;
 use crate::view::{View, tree_in};
 use closures::Realisation;
 use model::Refusal;
-use realise::{Desk, Pins, Record};
+use realise::{Desk, Pins};
+use records::Record;
 use storepath::StorePath;
 
 // The best so far, or a record where that stands before it.

@@ -2,8 +2,7 @@
 use Rattle.std.specs.Prelude.{ℕ, List, [], unwrap_or}
 use Rattle.model.specs.Archives.{Tree, Link}
 use Rattle.model.specs.Worlds.{Source, Record, tree_at}
-use Rattle.realise.specs.Recorded.{Recorded}
-use Rattle.realise.specs.Holdings.{with_tree}
+use Rattle.records.specs.Recorded.{Recorded, with_tree}
 
 -- the tree that a table has at a path
 abbrev pub tree_in : List Source → List ℕ → Tree

@@ -4,13 +4,13 @@ ghost use Rattle.std.specs.Prelude.{◌≡◌, option_copied, IfOk, MatchResult}
 ghost use Rattle.model.specs.declared.refusal.Refusal.TheVariants.{Memory};
 ghost use Rattle.model.specs.Worlds.{OfSource, OfRecord, path_of_entry};
 ghost use Rattle.model.specs.Closures.{class_of_entry, labels_of_entry, tree_of_entry};
-ghost use Rattle.realise.specs.Holdings.{entry_with};
+ghost use Rattle.records.specs.Entries.{entry_with};
 
 use crate::realisation::{Realisation, Source};
 use admitted::Class;
 use model::Refusal;
 use nar::Tree;
-use realise::Label;
+use records::Label;
 use std::alloc::AllocError;
 use std::marker::Model;
 use std::sync::ArcSlice;
@@ -107,12 +107,12 @@ impl Entry {
 
     /// The entry without its tree, as it is put on a desk. The copy shares the labels. The one error
     /// is memory.
-    pub fn without_tree(&self) -> Result<realise::Entry, AllocError>
+    pub fn without_tree(&self) -> Result<records::Entry, AllocError>
         ensures { IfOk result (λ entry. entry_with (tree_of_entry self.now) entry ≡ self.now) }
     {
         match &self.item {
-            Item::Record(record) => Ok(realise::Entry::Record(record.record().clone()?)),
-            Item::Source(source) => Ok(realise::Entry::Source(source.path().clone()?)),
+            Item::Record(record) => Ok(records::Entry::Record(record.record().clone()?)),
+            Item::Source(source) => Ok(records::Entry::Source(source.path().clone()?)),
         }
     }
 

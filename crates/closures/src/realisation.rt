@@ -1,12 +1,11 @@
 //! Records and sources with their trees.
 
 ghost use Rattle.std.specs.Prelude.{◌≡◌};
-ghost use Rattle.realise.specs.Holdings.{with_tree};
-ghost use Rattle.realise.specs.Recorded.{AreInPathOrder, without_tree};
+ghost use Rattle.records.specs.Recorded.{with_tree, AreInPathOrder, without_tree};
 
 use admitted::Class;
 use nar::Tree;
-use realise::{Label, Record};
+use records::{Label, Record};
 use std::alloc::AllocError;
 use std::marker::Model;
 use storepath::StorePath;
@@ -26,7 +25,7 @@ impl Drop for Realisation {
 impl Model for Realisation {
     ghost use Rattle.closures.specs.Codes.{record_code};
     ghost use Rattle.model.specs.Worlds.{Record as RecordValue};
-    ghost use Rattle.realise.specs.Holdings.{with_tree};
+    ghost use Rattle.records.specs.Recorded.{with_tree};
 
     ghost Value = { RecordValue };
 

@@ -1,7 +1,7 @@
 //! Writing a derivation's text.
 
-ghost use Rattle.std.specs.Prelude.{◌≡◌, ◌++◌, MatchResult, OnOk, [], map, codes};
-ghost use Rattle.model.specs.Derivations.{character_text, quoted, list_text, variable_text, derivation_text};
+ghost use Rattle.std.specs.Prelude.{◌≡◌, ◌++◌, MatchResult, OnOk, [], map};
+ghost use Rattle.model.specs.Derivations.{character_text, quoted, listed, variable_text, derivation_text};
 ghost use Rattle.model.specs.declared.refusal.Refusal.TheVariants.{Memory};
 ghost use Rattle.derivation.specs.Parts.{derivation_of};
 ghost use Rattle.derivation.specs.Writing.{between, rest_text};
@@ -12,8 +12,11 @@ use model::Refusal;
 use std::alloc::{AllocError, Global};
 use storepath::StorePath;
 
-// What stands before the list of inputs.
-const HEAD: &[u8] = b"Derive([(\"out\",\"\",\"\",\"\")],";
+// What stands before the inputs.
+const HEAD: &[u8] = b"Derive([(\"out\",\"\",\"\",\"\")],[";
+
+// What stands before each further list.
+const NEXT_LIST: &[u8] = b",[";
 
 // What stands before and behind an input's path.
 const BEFORE_INPUT: &[u8] = b"(";
@@ -62,19 +65,20 @@ fn put_member(
     out.extend_from_slice(closing)
 }
 
-// A list of paths, each between two tags.
-#[tactic(auto, unfolding(model::specs::Derivations::list_text, model::specs::Derivations::listed))]
+// The rest of a list whose head has its opening bracket: paths, each between two tags.
+#[tactic(auto, unfolding(model::specs::Derivations::listed))]
 fn put_paths(
     out: &mut Vec<u8>,
+    head: &[u8],
     opening: &[u8],
     paths: &[StorePath],
     closing: &[u8],
 ) -> Result<(), AllocError>
     ensures { OnOk result (out.new.items
-        ≡ out.old.items ++ list_text (map (between opening.now closing.now) paths.now)) }
+        ≡ out.old.items ++ head.now ++ listed [] (map (between opening.now closing.now) paths.now)) }
 {
     let mut separator = b"".as_slice();
-    out.extend_from_slice(b"[")?;
+    out.extend_from_slice(head)?;
     for path in paths {
         put_member(out, separator, opening, path.bytes(), closing)?;
         separator = b",";
@@ -82,19 +86,20 @@ fn put_paths(
     out.extend_from_slice(b"]")
 }
 
-// A list of strings, each between two tags.
-#[tactic(auto, unfolding(model::specs::Derivations::list_text, model::specs::Derivations::listed))]
+// The same of strings.
+#[tactic(auto, unfolding(model::specs::Derivations::listed))]
 fn put_texts(
     out: &mut Vec<u8>,
+    head: &[u8],
     opening: &[u8],
     texts: &[Text],
     closing: &[u8],
 ) -> Result<(), AllocError>
     ensures { OnOk result (out.new.items
-        ≡ out.old.items ++ list_text (map (between opening.now closing.now) texts.now)) }
+        ≡ out.old.items ++ head.now ++ listed [] (map (between opening.now closing.now) texts.now)) }
 {
     let mut separator = b"".as_slice();
-    out.extend_from_slice(b"[")?;
+    out.extend_from_slice(head)?;
     for text in texts {
         put_member(out, separator, opening, text.bytes(), closing)?;
         separator = b",";
@@ -113,14 +118,18 @@ fn put_variable(out: &mut Vec<u8>, key: &[u8], value: &[u8]) -> Result<(), Alloc
     out.extend_from_slice(b")")
 }
 
-// A list of variables.
-#[tactic(auto, unfolding(model::specs::Derivations::list_text, model::specs::Derivations::listed))]
-fn put_variables(out: &mut Vec<u8>, environment: &[(Text, Text)]) -> Result<(), AllocError>
+// The same of variables.
+#[tactic(auto, unfolding(model::specs::Derivations::listed))]
+fn put_variables(
+    out: &mut Vec<u8>,
+    head: &[u8],
+    environment: &[(Text, Text)],
+) -> Result<(), AllocError>
     ensures { OnOk result (out.new.items
-        ≡ out.old.items ++ list_text (map variable_text environment.now)) }
+        ≡ out.old.items ++ head.now ++ listed [] (map variable_text environment.now)) }
 {
     let mut separator = b"".as_slice();
-    out.extend_from_slice(b"[")?;
+    out.extend_from_slice(head)?;
     for (key, value) in environment {
         out.extend_from_slice(separator)?;
         put_variable(out, key.bytes(), value.bytes())?;
@@ -134,16 +143,11 @@ fn put_rest(out: &mut Vec<u8>, parts: &Parts) -> Result<(), AllocError>
     ensures { OnOk result (out.new.items
         ≡ out.old.items ++ rest_text (derivation_of parts.now)) }
 {
-    out.extend_from_slice(b",")?;
-    put_paths(out, b"", &parts.sources, b"")?;
-    out.extend_from_slice(b",")?;
-    put_string(out, parts.platform.bytes())?;
-    out.extend_from_slice(b",")?;
-    put_string(out, parts.builder.bytes())?;
-    out.extend_from_slice(b",")?;
-    put_texts(out, b"", &parts.arguments, b"")?;
-    out.extend_from_slice(b",")?;
-    put_variables(out, &parts.environment)?;
+    put_paths(out, NEXT_LIST, b"", &parts.sources, b"")?;
+    put_member(out, b",", b"", parts.platform.bytes(), b"")?;
+    put_member(out, b",", b"", parts.builder.bytes(), b"")?;
+    put_texts(out, NEXT_LIST, b"", &parts.arguments, b"")?;
+    put_variables(out, NEXT_LIST, &parts.environment)?;
     out.extend_from_slice(b")")
 }
 
@@ -158,8 +162,7 @@ pub fn print_parts(alloc: Global, parts: &Parts) -> Result<Vec<u8>, Refusal>
         (λ e. e ≡ Memory) }
 {
     let mut out = Vec::new(alloc);
-    out.extend_from_slice(HEAD)?;
-    put_paths(&mut out, BEFORE_INPUT, &parts.inputs, BEHIND_INPUT)?;
+    put_paths(&mut out, HEAD, BEFORE_INPUT, &parts.inputs, BEHIND_INPUT)?;
     put_rest(&mut out, parts)?;
     Ok(out)
 }
@@ -193,8 +196,7 @@ pub fn print_with_inputs(
 {
     let parts = derivation.parts();
     let mut out = Vec::new(alloc);
-    out.extend_from_slice(HEAD)?;
-    put_texts(&mut out, BEFORE_INPUT, inputs, BEHIND_INPUT)?;
+    put_texts(&mut out, HEAD, BEFORE_INPUT, inputs, BEHIND_INPUT)?;
     put_rest(&mut out, parts)?;
     Ok(out)
 }

@@ -9,12 +9,13 @@ use Rattle.model.specs.Settling.{Settled}
 use Rattle.model.specs.Worlds.{Source, Label, Record, Desk}
 use Rattle.model.specs.References.{labels_of, label_of_source, label_of_record, records_below, candidates}
 use Rattle.model.proofs.BoolLemmas.{or_left, or_right, both, bytes_same}
-use Rattle.realise.specs.Recorded.{Recorded}
+use Rattle.records.specs.Recorded.{Recorded}
 use Rattle.realise.specs.Holdings.{Holdings, is_at, IsClosedWith}
 use Rattle.closures.specs.Trees.{source_at, record_at}
 use Rattle.outputs.specs.Outputs.{IsRecordOf}
 use Rattle.handling.specs.Sound.{Beside, desk_of}
-use Rattle.handling.proofs.ClosedLemmas.{IsLabelled, all_in_order}
+use Rattle.handling.proofs.ClosedLemmas.{IsLabelled}
+use Rattle.records.proofs.LabelLemmas.{all_in_order}
 use Rattle.desks.specs.Offering.{AreLabels}
 
 -- ---- candidates

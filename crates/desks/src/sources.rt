@@ -15,10 +15,10 @@ ghost use Rattle.handling.specs.Handling.{IsHandledAtDesk, IsHandledByDesk};
 
 use crate::entries::add_entry;
 use events::Reply;
-use handling::Limits;
 use model::Refusal;
 use nar::{Tree, encode};
-use realise::{Desk, Entry};
+use realise::{Desk, Limits};
+use records::Entry;
 use std::alloc::Global;
 use store::Table;
 use storepath::{Kind, Name, StorePath, make_path};

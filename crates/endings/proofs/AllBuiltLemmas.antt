@@ -12,8 +12,8 @@ use Rattle.model.specs.Endings.{label_of_entry}
 use Rattle.realise.specs.Holdings.{Holdings}
 use Rattle.store.specs.Stored.{put_all, sources_of, AreTaken}
 use Rattle.handling.specs.Supported.{desk_at, goals_of, IsEntryOn, IsSupported, AreSupportedOn, AreSupported}
-use Rattle.endings.specs.Built.{IsOn, IsBuiltOn, IsBuiltAt}
-use Rattle.endings.specs.Gaining.{Output, gains_in, state_at, IsTreeIn}
+use Rattle.building.specs.Built.{IsOn, IsBuiltOn, IsBuiltAt}
+use Rattle.building.specs.Gaining.{Output, gains_in, state_at, IsTreeIn}
 use Rattle.endings.specs.Hearing.{trees_built, all_trees, AreEach, AreAllBuiltOn, built_for_place, IsHeardAtPlace, AreHeard, IsMadeBeside}
 use Rattle.endings.specs.Committing.{Heard, trees_gained}
 use Rattle.handling.proofs.PuttingLemmas.{put_all-Extends}

@@ -9,11 +9,11 @@ use Rattle.model.specs.Archives.{Tree}
 use Rattle.model.specs.Worlds.{State, Goal}
 use Rattle.model.specs.Goals.{goal_at, with_goal_at, in_state}
 use Rattle.jobs.specs.Owned.{OwnedByAll, with_goals_at}
-use Rattle.realise.specs.Recorded.{Recorded}
+use Rattle.records.specs.Recorded.{Recorded}
 use Rattle.realise.specs.Held.{paths_held, IsSetOf}
 use Rattle.realise.specs.Holdings.{Holdings, Growth, paths_of, IsClosed}
 use Rattle.handling.specs.Supported.{desk_at, goals_of, bare}
-use Rattle.endings.specs.Gaining.{Gains, gains_in, nothing, archive_of_tree, with_gains, with_state, with_states, IsSettable}
+use Rattle.building.specs.Gaining.{Gains, gains_in, nothing, archive_of_tree, with_gains, with_state, with_states, IsSettable}
 use Rattle.endings.specs.Committing.{Heard, gains_heard, gains_at, states_heard, states_for, trees_gained, MayGain, IsGrownWith, MayReplace, MayReplaceAll, grown_to}
 use Rattle.endings.proofs.MadeLemmas.{drop_head, held_paths}
 use Rattle.handling.proofs.ViewLemmas.{any_default}

@@ -13,19 +13,19 @@ use Rattle.model.specs.Goals.{goal_at, is_in, members}
 use Rattle.model.specs.Endings.{End, Output as WithOutput, ended_goal, ended_goals}
 use Rattle.model.proofs.BoolLemmas.{either}
 use Rattle.jobs.specs.States.{is_building}
-use Rattle.realise.specs.Recorded.{Recorded}
+use Rattle.records.specs.Recorded.{Recorded}
 use Rattle.realise.specs.Held.{paths_held, charged_beside}
 use Rattle.realise.specs.Holdings.{paths_of, Holdings, paths_of}
 use Rattle.closures.specs.Trees.{record_at}
 use Rattle.store.specs.Stored.{Extends, sources_of}
 use Rattle.handling.specs.Stored.{gained}
 use Rattle.handling.specs.Sound.{Beside, sources_at, records_at, desk_of, IsSound}
-use Rattle.endings.specs.Built.{built_at, built_output, all_built, numbered, IsClosedBuilt, IsStoredBuilt}
-use Rattle.endings.specs.Gaining.{ArePaired, IsCounted, archive_of_tree, Output, Gains, nothing, with_gains, is_had, is_free, charged_with, one_more, state_of_built, gains_of, all_gains, all_states, with_state, with_states, waiting, IsSettable, IsTreeIn}
+use Rattle.building.specs.Built.{built_at, built_output, all_built, numbered, IsClosedBuilt, IsStoredBuilt}
+use Rattle.building.specs.Gaining.{ArePaired, IsCounted, archive_of_tree, Output, Gains, nothing, with_gains, is_had, is_free, charged_with, one_more, state_of_built, gains_of, all_gains, all_states, with_state, with_states, waiting, IsSettable, IsTreeIn}
 use Rattle.endings.specs.Hearing.{tree_built, trees_built, Hears}
 use Rattle.handling.proofs.PuttingLemmas.{unmapped}
 use Rattle.handling.proofs.DeskLemmas.{IsKnown, sources_known, records_known, desk_kept, sound_kept, trees_at, length-records_at}
-use Rattle.endings.proofs.GainLemmas.{with_nothing, all_goals}
+use Rattle.endings.proofs.OutputLemmas.{with_nothing, all_goals}
 use Rattle.endings.proofs.MadeLemmas.{held_paths, all_left, all_right, trees_stored}
 
 -- ---- what is got

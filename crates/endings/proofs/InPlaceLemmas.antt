@@ -26,17 +26,18 @@ use Rattle.handling.specs.Sound.{Beside, desk_of, IsSound}
 use Rattle.handling.specs.Parts.{goals_of, Parts, parts, world_in}
 use Rattle.handling.specs.Viewing.{bare, desk_at}
 use Rattle.handling.specs.Supported.{GainsOnly}
-use Rattle.endings.specs.Built.{IsStoredBuilt}
-use Rattle.endings.specs.Gaining.{Output, Gains, with_gains, with_state, with_states, last_state, IsTreeIn, IsSettable}
+use Rattle.building.specs.Built.{IsStoredBuilt}
+use Rattle.building.specs.Gaining.{Output, Gains, with_gains, with_state, with_states, last_state, IsTreeIn, IsSettable}
 use Rattle.endings.specs.Hearing.{AreEach, all_trees, built_for_place, IsBuiltFor, IsBuiltAtPlace, IsHeardAtPlace, IsMadeBeside}
 use Rattle.endings.specs.Committing.{Heard, gains_heard, gains_at, states_heard, states_for, trees_gained, MayCharge, MayGain}
 use Rattle.endings.specs.Finishing.{IsPrepared}
-use Rattle.endings.specs.Ending.{desk_in, reaches_in, AllHear, leading}
+use Rattle.endings.specs.Ending.{desk_in, reaches_in, AllHear}
+use Rattle.leading.specs.Leading.{leading}
 use Rattle.handling.proofs.TrustLemmas.{distinct_users}
 use Rattle.endings.proofs.PlaceLemmas.{reach_there}
 use Rattle.handling.proofs.PuttingLemmas.{put_all-Extends}
 use Rattle.handling.proofs.SupportLemmas.{gains_nothing}
-use Rattle.endings.proofs.GainLemmas.{still_there}
+use Rattle.endings.proofs.OutputLemmas.{still_there}
 use Rattle.endings.proofs.MadeLemmas.{all_left, all_right, same_reach}
 use Rattle.endings.proofs.EndingLemmas.{leads_goal}
 use Rattle.endings.proofs.LeaderLemmas.{leader_ended, set_there, set_elsewhere}

@@ -13,8 +13,8 @@ use Rattle.trust.specs.Trusting.{IsReach}
 use Rattle.realise.specs.Held.{paths_held}
 use Rattle.realise.specs.Holdings.{Holdings}
 use Rattle.handling.specs.Viewing.{desk_at}
-use Rattle.endings.specs.Built.{IsStoredBuilt}
-use Rattle.endings.specs.Gaining.{Output, IsTreeIn, archive_of_tree}
+use Rattle.building.specs.Built.{IsStoredBuilt}
+use Rattle.building.specs.Gaining.{Output, IsTreeIn, archive_of_tree}
 use Rattle.endings.specs.Hearing.{tree_built, trees_built, all_trees, AreStored, AreEach}
 
 -- the paths of trees are those of their archives

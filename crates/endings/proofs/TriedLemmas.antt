@@ -28,14 +28,14 @@ use Rattle.model.proofs.ServedLemmas.{then_ok}
 use Rattle.trust.specs.Naming.{place_of, name_at, IsWithin}
 use Rattle.trust.proofs.PlaceLemmas.{name_found}
 use Rattle.store.specs.Stored.{source_of, sources_of}
-use Rattle.realise.specs.Holdings.{with_tree}
+use Rattle.records.specs.Recorded.{with_tree}
 use Rattle.handling.specs.Stored.{record_tried, goal_tried, desk_tried, job_tried}
 use Rattle.handling.specs.Sound.{IsHashed}
 use Rattle.handling.specs.Parts.{goals_of, beside_at, Parts, world_in}
 use Rattle.handling.specs.Viewing.{desk_at}
 use Rattle.endings.specs.Ending.{desk_in, reaches_in}
-use Rattle.endings.specs.Built.{HasInput, HasInputOf, HaveInputs, built_of, built_at, all_built, numbered}
-use Rattle.endings.specs.Gaining.{Output}
+use Rattle.building.specs.Built.{HasInput, HasInputOf, HaveInputs, built_of, built_at, all_built, numbered}
+use Rattle.building.specs.Gaining.{Output}
 use Rattle.endings.specs.Hearing.{tree_built, trees_built, all_trees, AreEach, IsBuiltAtPlace, AreBuiltFor}
 use Rattle.handling.proofs.DeskLemmas.{known_of-desk_of}
 use Rattle.endings.proofs.MadeLemmas.{all_left, all_right}

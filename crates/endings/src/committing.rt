@@ -4,10 +4,10 @@ ghost use Rattle.std.specs.Prelude.{◌≡◌, ◌<◌, ◌++◌, ℕ, All, leng
 ghost use Rattle.model.specs.declared.refusal.Refusal.TheVariants.{Memory};
 ghost use Rattle.jobs.specs.Owned.{with_goals_at};
 ghost use Rattle.handling.specs.Supported.{goals_of, desk_at};
-ghost use Rattle.endings.specs.Gaining.{gains_in, archive_of_tree, with_states, state_at, IsSettable};
+ghost use Rattle.building.specs.Gaining.{gains_in, archive_of_tree, with_states, state_at, IsSettable};
 ghost use Rattle.endings.specs.Committing.{trees_gained, gains_at, states_for, MayCharge, IsGrownWith, AreGrown, MayReplace, MayReplaceAll, grown_to};
 
-use crate::gains::Gains;
+use building::Gains;
 use jobs::{Jobs, State};
 use model::Refusal;
 use nar::Tree;
@@ -121,7 +121,7 @@ pub(crate) fn replace_all(desks: &mut [Desk], grown: Vec<Option<Grown>>)
 }
 
 /// Goals of the user at a place get these states, one after another.
-#[tactic(auto, unfolding(crate::specs::Gaining::with_states))]
+#[tactic(auto, unfolding(building::specs::Gaining::with_states))]
 fn set_states(jobs: &mut Jobs, place: usize, states: Vec<(u16, State)>)
     requires of_run { place < length jobs.old.goals }
     requires settable { All (IsSettable (goals_of jobs.old.goals place)) (map state_at states.items) }

@@ -17,22 +17,21 @@ ghost use Rattle.handling.specs.Sound.{IsSound, AreGoalsSound};
 ghost use Rattle.handling.specs.Supported.{AreSupported};
 ghost use Rattle.handling.specs.Parts.{goals_of, parts};
 ghost use Rattle.handling.specs.Viewing.{desk_at};
-ghost use Rattle.endings.specs.Gaining.{last_state, state_at, with_states, IsSettable};
+ghost use Rattle.building.specs.Gaining.{last_state, state_at, with_states, IsSettable};
 ghost use Rattle.endings.specs.Committing.{states_for, MayReplaceAll, grown_to};
 ghost use Rattle.endings.specs.Hearing.{AreAllBuiltOn, IsNotMade};
 ghost use Rattle.endings.specs.Finishing.{IsPrepared};
 ghost use Rattle.handling.specs.Handling.{IsHandledByAll};
 
 use crate::committing::{gained_by_all, grown, replace_all, set_all};
-use crate::ending::leads;
-use crate::gains::Gains;
 use crate::hearing::heard_by_all;
+use building::Gains;
 use events::Reply;
-use handling::Limits;
 use jobs::{Job, Jobs, State};
+use leading::leads;
 use model::Refusal;
 use nar::{Nar, Tree, decode, encode};
-use realise::{Desk, Grown};
+use realise::{Desk, Grown, Limits};
 use std::alloc::{AllocError, Global};
 use store::Table;
 use storepath::StorePath;
@@ -52,7 +51,7 @@ fn archive_in(alloc: Global, output: &[u8]) -> Result<Option<Nar>, Refusal>
 
 /// How far the goal of a number, which was this far, is once goals have got these states. The one error
 /// is memory.
-#[tactic(auto, unfolding(crate::specs::Gaining::last_state))]
+#[tactic(auto, unfolding(building::specs::Gaining::last_state))]
 fn state_then(state: &State, number: u16, states: &[(u16, State)]) -> Result<State, AllocError>
     ensures { IfOk result (λ then. state_of then
         ≡ last_state number (state_of state.now) (map state_at states.now)) }

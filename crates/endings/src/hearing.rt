@@ -1,28 +1,27 @@
 //! The end of a job with an output.
 
-ghost use Rattle.std.specs.Prelude.{◌≡◌, ◌<◌, ◌≤◌, ◌⊎◌, ◌++◌, length, map, All, OnOk, IfOk, IfErr, MatchResult};
+ghost use Rattle.std.specs.Prelude.{◌≡◌, ◌+◌, ◌<◌, ◌≤◌, ◌⊎◌, ◌++◌, length, map, All, OnOk, IfOk, IfErr, MatchResult};
 ghost use Rattle.model.specs.declared.refusal.Refusal.TheVariants.{Memory, Clash};
 ghost use Rattle.store.specs.Stored.{AreTaken, put_all, sources_of};
 ghost use Rattle.model.specs.Goals.{members};
 ghost use Rattle.model.specs.Limits.{most_records};
-ghost use Rattle.endings.specs.Gaining.{gains_in, state_at};
+ghost use Rattle.building.specs.Gaining.{gains_in, state_at};
 ghost use Rattle.std.specs.Option.{option_copied};
 ghost use Rattle.jobs.specs.Owned.{goals_at};
 ghost use Rattle.trust.specs.Trusting.{trusts};
-ghost use Rattle.endings.specs.Built.{AreBuiltOn, IsLastFrom};
-ghost use Rattle.endings.specs.Hearing.{trees_built, tree_built, all_trees, AreStored, IsBuiltAtPlace, AreAllBuiltOn, AreBuiltFor, IsHeardAtPlace, AreHeard, IsMadeBeside, IsNotMade};
+ghost use Rattle.building.specs.Built.{AreBuiltOn, IsLastFrom};
+ghost use Rattle.endings.specs.Hearing.{Hears, trees_built, tree_built, all_trees, AreStored, IsBuiltAtPlace, AreAllBuiltOn, AreBuiltFor, IsHeardAtPlace, AreHeard, IsMadeBeside, IsNotMade};
 
-use crate::gains::{Gains, hear};
-use crate::settling::{Built, Settled, built_on};
-use handling::{Limits, has_place};
+use building::{Built, Gains, Settled, built_on, gains_for, waiting};
 use jobs::{Job, Jobs, State};
+use leading::members_reached;
 use model::Refusal;
 use nar::{Nar, Tree};
-use realise::Desk;
+use realise::{Desk, Limits};
 use std::alloc::Global;
 use store::Table;
 use storepath::StorePath;
-use trust::Trust;
+use trust::{Trust, has_place};
 
 /// Puts the tree of what was built for a goal, with its path, behind others. The one error is memory.
 fn put_tree(built: &Built, trees: &mut Vec<(StorePath, Tree)>) -> Result<(), Refusal>
@@ -103,19 +102,8 @@ fn build_at(
     ensures memory { IfErr result (λ why. why ≡ Memory) }
     ensures last { IsLastFrom (option_copied archive.entry) last.new }
 {
-    let reached = has_place(trust.closure(place), leader);
-    if !reached {
-        return Ok(Vec::new(alloc));
-    }
-    let built = built_on(
-        alloc,
-        desk,
-        jobs,
-        place,
-        jobs.members(place, job),
-        archive,
-        last,
-    )?;
+    let numbers = members_reached(trust, jobs, leader, place, job);
+    let built = built_on(alloc, desk, jobs, place, numbers, archive, last)?;
     Ok(built)
 }
 
@@ -172,6 +160,33 @@ pub(crate) fn build_all(
 {
     let mut last = None;
     build_from(alloc, trust, desks, jobs, leader, job, archive, &mut last)
+}
+
+/// What a user hears of a job that ended with an output, where he reaches its leader or not: what his
+/// desk gets, and how far each of his goals in the job is then. The one error is memory.
+fn hear(
+    alloc: Global,
+    desk: &Desk,
+    limits: Limits,
+    jobs: &Jobs,
+    place: usize,
+    job: &Job,
+    reached: bool,
+    built: Vec<(u16, Built)>,
+) -> Result<(Gains, Vec<(u16, State)>), Refusal>
+    requires of_run { place < length jobs.now.goals }
+    requires records { length desk.now.records ≤ most_records }
+    requires charge { desk.now.charge ≤ limits.charge }
+    ensures hears { IfOk result (λ r. Hears limits.charge desk.now (goals_at place jobs.now) job.now
+        reached built.items (gains_in r.0) (map state_at r.1.items)) }
+    ensures charge { IfOk result (λ r. desk.now.charge + r.0.more ≤ limits.charge) }
+    ensures memory { IfErr result (λ why. why ≡ Memory) }
+{
+    if reached {
+        return gains_for(alloc, desk, limits, built);
+    }
+    let states = waiting(alloc, jobs.members(place, job))?;
+    Ok((Gains::new(alloc), states))
 }
 
 /// What the user at a place hears of a job that ended with an output, of which this was built for his

@@ -13,11 +13,12 @@ use Rattle.model.specs.Events.{Path}
 use Rattle.model.specs.Outcomes.{becomes, add_entry}
 use Rattle.model.specs.declared.refusal.Refusal.TheVariants.{Quota}
 use Rattle.model.proofs.BoolLemmas.{either, same_bytes, or_cases, or_left, or_right, both_parts}
-use Rattle.realise.specs.Recorded.{Recorded}
-use Rattle.realise.specs.declared.entry.Entry.{Entry}
-use Rattle.realise.specs.declared.entry.Entry.TheVariants as entry
+use Rattle.records.specs.Recorded.{Recorded, with_tree, same_recorded}
+use Rattle.records.specs.declared.entry.Entry.{Entry}
+use Rattle.records.specs.declared.entry.Entry.TheVariants as entry
 use Rattle.store.specs.Stored.{Extends}
-use Rattle.realise.specs.Holdings.{Holdings, with_tree, same_recorded, paths_of, entry_path, entry_with, is_on, holds_entry, has_place, charged_more, is_roomy, IsClosedWithEntry}
+use Rattle.records.specs.Entries.{entry_path, entry_with}
+use Rattle.realise.specs.Holdings.{Holdings, paths_of, is_on, holds_entry, has_place, charged_more, is_roomy, IsClosedWithEntry}
 use Rattle.handling.specs.Sound.{sources_at, records_at, desk_of, IsSound, Beside}
 use Rattle.handling.proofs.ChargeLemmas.{weight, AgreeAt, weight-between}
 use Rattle.handling.proofs.ClosedLemmas.{stays_closed}

@@ -1,39 +1,16 @@
 -- What the labels on a desk name is on it: also with one entry more.
-use Rattle.std.proofs.Common.{◌≡◌, ℕ, Bool, true, false, List, [], ◌∷◌, ◌++◌, ◌∙◌, Option, Some, None}
-use Rattle.std.specs.Prelude.{All, bytes_eq, if◌then◌else◌}
+use Rattle.std.proofs.Common.{◌≡◌, ℕ, Bool, true, List, [], ◌∷◌, ◌++◌, ◌∙◌, Option, Some, None}
+use Rattle.std.specs.Prelude.{All, bytes_eq}
 use Rattle.std.specs.List.{list_any}
-use Rattle.std.proofs.lemmas.List.Elements.{All-nil, All-cons, All-head, All-tail, All-weaker, All-push}
+use Rattle.std.proofs.lemmas.List.Elements.{All-weaker, All-push}
 use Rattle.std.proofs.lemmas.List.Folds.{list_any-append}
-use Rattle.model.specs.Archives.{bytes_before}
 use Rattle.model.specs.Classes.{Class}
 use Rattle.model.specs.Worlds.{Label}
-use Rattle.model.specs.References.{class_before, least_label, with_label, labels_in_order}
 use Rattle.model.proofs.BoolLemmas.{or_left}
-use Rattle.realise.specs.Recorded.{Recorded}
-use Rattle.realise.specs.declared.entry.Entry.{Entry}
-use Rattle.realise.specs.declared.entry.Entry.TheVariants as entry
+use Rattle.records.specs.Recorded.{Recorded}
+use Rattle.records.specs.declared.entry.Entry.{Entry}
+use Rattle.records.specs.declared.entry.Entry.TheVariants as entry
 use Rattle.realise.specs.Holdings.{Holdings, is_at, has_labelled, holds_entry, IsClosedWith, IsClosedWithEntry, IsClosed}
-
--- ---- labels in order
-
-whichever : {X : Type 0} (P : X → Type 0) (b : Bool) (x y : X) → P x → P y → P (if b then x else y)
-whichever P true x y p q = p
-whichever P false x y p q = q
-
-module _ (P : Label → Type 0) where
-  all_with : (l : Label) (ls : List Label) → P l → All P ls → All P (with_label l ls)
-  all_with l [] one all = All-cons P l [] one all
-  all_with l (first ∷ others) one all =
-      let front : P first = All-head P first others all in
-      let back : All P others = All-tail P first others all in
-      whichever (All P) (bytes_before first.path l.path) (first ∷ with_label l others) _
-      (All-cons P first (with_label l others) front (all_with l others one back))
-      (whichever (All P) (bytes_eq first.path l.path) (least_label first l ∷ others) (l ∷ first ∷ others)
-      (All-cons P (least_label first l) others (whichever P (class_before l.class first.class) l first one front) back) (All-cons P l (first ∷ others) one all))
-
-  pub all_in_order : (ls : List Label) → All P ls → All P (labels_in_order ls)
-  all_in_order [] all = All-nil P
-  all_in_order (l ∷ ls) all = all_with l (labels_in_order ls) (All-head P l ls all) (all_in_order ls (All-tail P l ls all))
 
 -- ---- one entry more
 

@@ -10,7 +10,7 @@ use Rattle.model.specs.Classes.{Known, Admission}
 use Rattle.model.specs.Limits.{most_sources, most_derivations, most_records, most_pins}
 use Rattle.model.specs.Worlds.{Source, tree_at, tree_of_record, held, held_at, one_of_each, charge_of, is_within, known_of, with_derivation}
 use Rattle.model.proofs.BoolLemmas.{either, same_bytes}
-use Rattle.realise.specs.Recorded.{Recorded, without_tree}
+use Rattle.records.specs.Recorded.{Recorded, without_tree}
 use Rattle.store.specs.Stored.{Extends}
 use Rattle.realise.specs.Holdings.{Holdings, paths_of, holds_derivation, IsClosedWith}
 use Rattle.closures.specs.Trees.{source_at}

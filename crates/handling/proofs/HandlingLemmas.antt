@@ -20,11 +20,12 @@ use Rattle.model.specs.SourceRequests.{fetch}
 use Rattle.model.specs.Replies.{is_clash_refusal, is_refused}
 use Rattle.model.specs.Steps.{outcome, outcome_of}
 use Rattle.events.specs.declared.reply.Reply as Rust
-use Rattle.realise.specs.declared.entry.Entry.{Entry}
-use Rattle.realise.specs.declared.entry.Entry.TheVariants as entry
+use Rattle.records.specs.declared.entry.Entry.{Entry}
+use Rattle.records.specs.declared.entry.Entry.TheVariants as entry
 use Rattle.trust.specs.Naming.{place_of, trusted_at, IsWithin}
 use Rattle.store.specs.Stored.{IsAdded, IsTaken, Extends}
-use Rattle.realise.specs.Holdings.{Holdings, entry_path, entry_with}
+use Rattle.records.specs.Entries.{entry_path, entry_with}
+use Rattle.realise.specs.Holdings.{Holdings}
 use Rattle.handling.specs.Stored.{stored_by, tried_by}
 use Rattle.handling.specs.Sound.{Beside, desk_of, IsSound, AreGoalsSound, IsHashed}
 use Rattle.events.specs.Terms.{reply_of}

@@ -9,7 +9,7 @@ use Rattle.model.specs.Reach.{is_among}
 use Rattle.model.specs.Classes.{Known}
 use Rattle.model.specs.Worlds.{Source, Pin, Desk, World, Goal, empty_desk, tree_at, held_at}
 use Rattle.model.proofs.BoolLemmas.{either, same_bytes}
-use Rattle.realise.specs.Recorded.{Recorded}
+use Rattle.records.specs.Recorded.{Recorded}
 use Rattle.store.specs.Stored.{Extends}
 use Rattle.realise.specs.Holdings.{Holdings, paths_of}
 use Rattle.handling.specs.Sound.{Beside, sources_at, records_at, desk_of, IsSound, IsEmpty, IsResolvedIn, AreGoalsSound}

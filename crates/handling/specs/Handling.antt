@@ -14,9 +14,10 @@ use Rattle.model.specs.Steps.{outcome, outcome_of}
 use Rattle.model.specs.HashedTexts.{texts_of, texts_of_event}
 use Rattle.events.specs.declared.reply.Reply.{Reply}
 use Rattle.trust.specs.Naming.{place_of, trusted_at, IsWithin}
-use Rattle.realise.specs.declared.entry.Entry.{Entry}
+use Rattle.records.specs.declared.entry.Entry.{Entry}
 use Rattle.store.specs.Stored.{put_all, Extends}
-use Rattle.realise.specs.Holdings.{Holdings, entry_with}
+use Rattle.records.specs.Entries.{entry_with}
+use Rattle.realise.specs.Holdings.{Holdings}
 use Rattle.handling.specs.Stored.{stored_by, IsTakenFor}
 use Rattle.handling.specs.Sound.{Beside, desk_of, IsSound, AreGoalsSound, IsHashed, Clashes}
 use Rattle.events.specs.Terms.{reply_of}

@@ -5,7 +5,7 @@ use Rattle.model.specs.Limits.{most_sources, most_derivations, most_records, mos
 use Rattle.model.specs.Settling.{Settled, IsMade}
 use Rattle.model.specs.Worlds.{Source, Record, Desk, Entry, path_of_entry, Resolved, Goal, tree_at, charge_of}
 use Rattle.model.specs.Closures.{tree_of_entry, entry_before, IsWhole}
-use Rattle.realise.specs.Recorded.{Recorded}
+use Rattle.records.specs.Recorded.{Recorded}
 use Rattle.closures.specs.Ordered.{Ascends}
 use Rattle.closures.specs.Trees.{source_at, record_at}
 use Rattle.realise.specs.Holdings.{Holdings, paths_of, IsClosed}

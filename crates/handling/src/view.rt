@@ -6,15 +6,7 @@ ghost use Rattle.handling.specs.Viewing.{places_of, desk_at, desks_of, IsView};
 
 use realise::Desk;
 use std::alloc::{AllocError, Global};
-use trust::Trust;
-
-/// Whether a place is in a word of places.
-pub fn has_place(word: u64, place: usize) -> bool
-    requires { place < 64 }
-    ensures { result ≡ holds word place }
-{
-    (word >> place) & 1 == 1
-}
+use trust::{Trust, has_place};
 
 /// The desks at the places of a word, in order.
 fn desks_at<'a>(alloc: Global, word: u64, desks: &'a [Desk]) -> Result<Vec<&'a Desk>, AllocError>

@@ -20,7 +20,7 @@ use std::alloc::Global;
 use std::hash::RandomState;
 use std::marker::Model;
 use storepath::StorePath;
-use trust::User;
+use trust::{User, has_place};
 
 /// The goals of the users of a run, who are at most 64. A user is named by his place among them,
 /// and a goal of his by its number, from 1 on.
@@ -46,14 +46,6 @@ impl Model for Jobs {
     ghost view = { λ j. all_of j.all.items };
 
     ghost invariant = { λ j. length j.all.items ≤ 64 };
-}
-
-/// Whether a place is in a word of places.
-fn has_place(set: u64, place: usize) -> bool
-    requires { place < 64 }
-    ensures { result ≡ holds set place }
-{
-    (set >> place) & 1 == 1
 }
 
 impl Jobs {

@@ -10,6 +10,7 @@ mod expand;
 mod forms;
 mod line;
 mod numbers;
+mod pieces;
 mod texts;
 mod told;
 mod wishes;

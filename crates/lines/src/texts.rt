@@ -1,6 +1,6 @@
 //! The text of replies.
 
-ghost use Rattle.std.specs.Prelude.{◌≡◌, ◌++◌, ◌∷◌, [], OnOk, IfOk, IfErr};
+ghost use Rattle.std.specs.Prelude.{◌≡◌, ◌++◌, ◌∷◌, [], OnOk, IfOk, IfErr, codes};
 ghost use Rattle.model.specs.declared.refusal.Refusal.TheVariants.{Memory};
 ghost use Rattle.model.specs.Events as events;
 ghost use Rattle.model.specs.Talk.{job_text, state_text, reply_text, answer_text};
@@ -8,124 +8,105 @@ ghost use Rattle.states.specs.States.{state_of};
 ghost use Rattle.events.specs.Terms.{reply_of};
 
 use crate::entries::add_entries;
+use crate::pieces::{add, add_number};
 use closures::Entry;
 use events::Reply;
 use model::Refusal;
 use nar::{Tree, tree_text};
 use states::{Job, State};
-use std::alloc::Global;
+use std::alloc::{AllocError, Global};
 use storepath::StorePath;
 
-/// Adds a word and what stands behind it.
-fn add(text: &mut Vec<u8>, word: &[u8], value: &[u8]) -> Result<(), Refusal>
-    ensures text { OnOk result (text.new.items ≡ text.old.items ++ word.now ++ value.now) }
-    ensures memory { IfErr result (λ why. why ≡ Memory) }
+/// Adds that a goal is built, and its job, by its leader and the number of his goal.
+fn add_job(alloc: Global, text: &mut Vec<u8>, job: &Job) -> Result<(), AllocError>
+    ensures { OnOk result
+        (text.new.items ≡ text.old.items ++ codes "building " ++ job_text job.now) }
 {
-    text.extend_from_slice(word)?;
-    text.extend_from_slice(value)?;
-    Ok(())
-}
-
-/// Adds a job, by its leader and the number of his goal.
-fn add_job(alloc: Global, text: &mut Vec<u8>, job: &Job) -> Result<(), Refusal>
-    ensures text { OnOk result (text.new.items ≡ text.old.items ++ job_text job.now) }
-    ensures memory { IfErr result (λ why. why ≡ Memory) }
-{
-    let digits = job.number().to_string(alloc)?;
-    text.extend_from_slice(job.leader().bytes())?;
-    text.push(b' ')?;
-    text.extend_from_slice(digits.as_bytes())?;
-    Ok(())
+    add(text, b"building ", job.leader().bytes())?;
+    add_number(alloc, text, b" ", usize::from(job.number()))
 }
 
 /// Adds how far a goal is.
-fn add_state(alloc: Global, text: &mut Vec<u8>, state: &State) -> Result<(), Refusal>
-    ensures text { OnOk result
-        (text.new.items ≡ text.old.items ++ state_text (state_of state.now)) }
-    ensures memory { IfErr result (λ why. why ≡ Memory) }
+fn add_state(alloc: Global, text: &mut Vec<u8>, state: &State) -> Result<(), AllocError>
+    ensures { OnOk result (text.new.items ≡ text.old.items ++ state_text (state_of state.now)) }
 {
     match state {
-        State::Waiting => add(text, b"waiting", b""),
-        State::Planned => add(text, b"planned", b""),
-        State::Building(job) => {
-            text.extend_from_slice(b"building ")?;
-            add_job(alloc, text, job)
-        }
+        State::Waiting => text.extend_from_slice(b"waiting"),
+        State::Planned => text.extend_from_slice(b"planned"),
+        State::Building(job) => add_job(alloc, text, job),
         State::Done(path) => add(text, b"done ", path.bytes()),
-        State::Failed(why) => {
-            let digits = why.number().to_string(alloc)?;
-            add(text, b"failed ", digits.as_bytes())
-        }
+        State::Failed(why) => add_number(alloc, text, b"failed ", usize::from(why.number())),
     }
 }
 
 /// Adds the paths of a derivation and of its class.
-fn add_derivation(text: &mut Vec<u8>, path: &StorePath, class: &StorePath) -> Result<(), Refusal>
-    ensures text { OnOk result
+fn add_derivation(text: &mut Vec<u8>, path: &StorePath, class: &StorePath) -> Result<(), AllocError>
+    ensures { OnOk result
         (text.new.items ≡ text.old.items ++ reply_text (events.Derivation path.now class.now)) }
-    ensures memory { IfErr result (λ why. why ≡ Memory) }
 {
     add(text, b"drv ", path.bytes())?;
     add(text, b" class ", class.bytes())
 }
 
 /// Adds a tree.
-fn add_tree(alloc: Global, text: &mut Vec<u8>, tree: &Tree) -> Result<(), Refusal>
-    ensures text { OnOk result
+fn add_tree(alloc: Global, text: &mut Vec<u8>, tree: &Tree) -> Result<(), AllocError>
+    ensures { OnOk result
         (text.new.items ≡ text.old.items ++ reply_text (events.Content tree.now)) }
-    ensures memory { IfErr result (λ why. why ≡ Memory) }
 {
-    let words = tree_text(alloc, tree)?;
-    add(text, b"tree ", words.as_slice())
+    match tree_text(alloc, tree) {
+        Ok(words) => add(text, b"tree ", words.as_slice()),
+        Err(_) => Err(AllocError),
+    }
 }
 
 /// Adds how many entries a closure has, and the entries.
-fn add_closure(alloc: Global, text: &mut Vec<u8>, entries: &[Entry]) -> Result<(), Refusal>
-    ensures text { OnOk result
+fn add_closure(alloc: Global, text: &mut Vec<u8>, entries: &[Entry]) -> Result<(), AllocError>
+    ensures { OnOk result
         (text.new.items ≡ text.old.items ++ reply_text (events.Entries entries.now)) }
-    ensures memory { IfErr result (λ why. why ≡ Memory) }
 {
-    let count = entries.len().to_string(alloc)?;
-    add(text, b"closure ", count.as_bytes())?;
+    add_number(alloc, text, b"closure ", entries.len())?;
     add_entries(alloc, text, entries)
 }
 
-/// Adds the number of a goal.
-fn add_goal_number(alloc: Global, text: &mut Vec<u8>, number: u16) -> Result<(), Refusal>
-    ensures text { OnOk result
-        (text.new.items ≡ text.old.items ++ reply_text (events.GoalNumber number)) }
-    ensures memory { IfErr result (λ why. why ≡ Memory) }
-{
-    let digits = number.to_string(alloc)?;
-    add(text, b"goal ", digits.as_bytes())
-}
-
 /// Adds why nothing was done.
-fn add_refusal(alloc: Global, text: &mut Vec<u8>, why: Refusal) -> Result<(), Refusal>
-    ensures text { OnOk result
+fn add_refusal(alloc: Global, text: &mut Vec<u8>, why: Refusal) -> Result<(), AllocError>
+    ensures { OnOk result
         (text.new.items ≡ text.old.items ++ reply_text (events.Refused why)) }
-    ensures memory { IfErr result (λ why. why ≡ Memory) }
 {
     let words = why.to_string(alloc)?;
     add(text, b"refused ", words.as_bytes())
 }
 
 /// Adds the text of a reply.
-fn add_reply(alloc: Global, text: &mut Vec<u8>, reply: &Reply) -> Result<(), Refusal>
-    ensures text { OnOk result
-        (text.new.items ≡ text.old.items ++ reply_text (reply_of reply.now)) }
-    ensures memory { IfErr result (λ why. why ≡ Memory) }
+fn add_reply(alloc: Global, text: &mut Vec<u8>, reply: &Reply) -> Result<(), AllocError>
+    ensures { OnOk result (text.new.items ≡ text.old.items ++ reply_text (reply_of reply.now)) }
 {
     match reply {
-        Reply::Done => add(text, b"ok", b""),
+        Reply::Done => text.extend_from_slice(b"ok"),
         Reply::Path(path) => add(text, b"path ", path.bytes()),
         Reply::Derivation { path, class } => add_derivation(text, path, class),
         Reply::Content(tree) => add_tree(alloc, text, tree),
         Reply::Entries(closure) => add_closure(alloc, text, closure.entries()),
-        Reply::GoalNumber(number) => add_goal_number(alloc, text, *number),
+        Reply::GoalNumber(number) => add_number(alloc, text, b"goal ", usize::from(*number)),
         Reply::GoalState(state) => add_state(alloc, text, state),
         Reply::Refused(why) => add_refusal(alloc, text, *why),
     }
+}
+
+/// Adds what stands behind the number of a line: the actor and the reply.
+fn add_answer(
+    alloc: Global,
+    text: &mut Vec<u8>,
+    actor: &[u8],
+    reply: &Reply,
+) -> Result<(), AllocError>
+    ensures { OnOk result (text.new.items ≡ text.old.items ++ 32 ∷ actor.now ++ 32 ∷
+        reply_text (reply_of reply.now) ++ 10 ∷ []) }
+{
+    add(text, b" ", actor)?;
+    text.extend_from_slice(b" ")?;
+    add_reply(alloc, text, reply)?;
+    text.extend_from_slice(b"\n")
 }
 
 /// What is printed for a line: its number, the actor and the reply.
@@ -143,12 +124,7 @@ pub fn answer_text(
         text.items ≡ answer_text number actor.now (reply_of reply.now)) }
     ensures memory { IfErr result (λ why. why ≡ Memory) }
 {
-    let digits = number.to_string(alloc)?;
-    let mut text = Vec::from_slice(alloc, digits.as_bytes())?;
-    text.push(b' ')?;
-    text.extend_from_slice(actor)?;
-    text.push(b' ')?;
-    add_reply(alloc, &mut text, reply)?;
-    text.push(b'\n')?;
+    let mut text = number.to_string(alloc)?.into_bytes();
+    add_answer(alloc, &mut text, actor, reply)?;
     Ok(text)
 }

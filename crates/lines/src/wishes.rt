@@ -91,12 +91,28 @@ fn request_of_path(alloc: Global, verb: Verb, word: &[u8]) -> Result<Request, Re
     ensures { let wish = wish_of verb (word.now ∷ []) in
         MatchResult result (IsRequestOfWish wish) (IsNoRequest wish) }
 {
+    let path = read_path(alloc, word)?;
     match verb {
-        Verb::Fetch => Ok(Request::Fetch(read_path(alloc, word)?)),
-        Verb::Unpin => Ok(Request::Unpin(read_path(alloc, word)?)),
-        Verb::Closure => Ok(Request::Closure(read_path(alloc, word)?)),
-        Verb::Take => Ok(Request::Take(read_path(alloc, word)?)),
-        Verb::Build => Ok(Request::Build(read_path(alloc, word)?)),
+        Verb::Fetch => Ok(Request::Fetch(path)),
+        Verb::Unpin => Ok(Request::Unpin(path)),
+        Verb::Closure => Ok(Request::Closure(path)),
+        Verb::Take => Ok(Request::Take(path)),
+        Verb::Build => Ok(Request::Build(path)),
+        _ => Err(Refusal::BadLine),
+    }
+}
+
+/// The request of a verb with one word, which is the number of a goal.
+fn request_of_number(verb: Verb, word: &[u8]) -> Result<Request, Refusal>
+    requires { kinds_of verb ≡ kinds.Number ∷ [] }
+    ensures { let wish = wish_of verb (word.now ∷ []) in
+        MatchResult result (IsRequestOfWish wish) (IsNoRequest wish) }
+{
+    let number = read_number(word)?;
+    match verb {
+        Verb::Status => Ok(Request::Status(number)),
+        Verb::Plan => Ok(Request::Plan(number)),
+        Verb::Start => Ok(Request::Start(number)),
         _ => Err(Refusal::BadLine),
     }
 }
@@ -111,9 +127,7 @@ fn request_of_one(alloc: Global, verb: Verb, word: &[u8]) -> Result<Request, Ref
         Verb::Derivation => Ok(Request::AddDerivation(read_text(alloc, word)?)),
         Verb::Trust => Ok(Request::Trust(read_user(alloc, word)?)),
         Verb::Distrust => Ok(Request::Distrust(read_user(alloc, word)?)),
-        Verb::Status => Ok(Request::Status(read_number(word)?)),
-        Verb::Plan => Ok(Request::Plan(read_number(word)?)),
-        Verb::Start => Ok(Request::Start(read_number(word)?)),
+        Verb::Status | Verb::Plan | Verb::Start => request_of_number(verb, word),
         _ => request_of_path(alloc, verb, word),
     }
 }

@@ -7,7 +7,7 @@ ghost use Rattle.model.specs.References.{paths_of_labels};
 ghost use Rattle.model.specs.Repairs.{moved, repaired};
 ghost use Rattle.model.specs.declared.refusal.Refusal.TheVariants.{Memory};
 ghost use Rattle.moving.specs.Moving.{IsRewritten, IsNotRewritten, IsResettled, IsNotResettled, settled_as};
-ghost use Rattle.realise.specs.Recorded.{AreInPathOrder};
+ghost use Rattle.records.specs.Recorded.{AreInPathOrder};
 ghost use Rattle.moving.specs.Served.{served_from};
 ghost use Rattle.closures.specs.Sound.{IsSoundRecord};
 
@@ -17,7 +17,7 @@ use closures::Realisation;
 use indexmap::IndexMap;
 use model::{Refusal, RewriteFault};
 use nar::{Nar, encode};
-use realise::{Label, Record};
+use records::{Label, Record};
 use rewrite::{Named, settle, substitute};
 use scan::occurrences;
 use std::alloc::{AllocError, Global};

@@ -8,12 +8,13 @@ use Rattle.std.proofs.lemmas.List.Sums.{sum_by-cons}
 use Rattle.indexmap.specs.IndexSet.{insert_key}
 use Rattle.model.specs.Classes.{is_one_of}
 use Rattle.admitted.proofs.EntryLemmas.{one_of_keys, any_insert}
-use Rattle.realise.specs.Recorded.{Recorded}
-use Rattle.realise.specs.declared.entry.Entry.{Entry}
-use Rattle.realise.specs.declared.entry.Entry.TheVariants as entry
+use Rattle.records.specs.Recorded.{Recorded}
+use Rattle.records.specs.declared.entry.Entry.{Entry}
+use Rattle.records.specs.declared.entry.Entry.TheVariants as entry
 use Rattle.realise.specs.Held.{charged_beside, IsSetOf}
-use Rattle.realise.specs.Holdings.{Holdings, paths_of, entry_path, archive_of, holds_entry}
-use Rattle.realise.proofs.LoopLemmas.{drop_next}
+use Rattle.records.specs.Entries.{entry_path}
+use Rattle.realise.specs.Holdings.{Holdings, paths_of, archive_of, holds_entry}
+use Rattle.records.proofs.LoopLemmas.{drop_next}
 
 counted_or_not : (b : Bool) (n rest total : ℕ) → rest ≤ total → (if b then 0 else n) + rest ≤ n + total
 counted_or_not true n rest total h = omega arith

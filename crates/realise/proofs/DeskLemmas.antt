@@ -7,8 +7,8 @@ use Rattle.std.specs.Global.{Vec}
 use Rattle.std.proofs.lemmas.List.Elements.{filter-append}
 use Rattle.model.specs.Worlds.{same_label}
 use Rattle.model.proofs.BoolLemmas.{either, both_parts}
-use Rattle.realise.specs.Recorded.{Recorded}
-use Rattle.realise.specs.Holdings.{same_recorded, is_record_of}
+use Rattle.records.specs.Recorded.{Recorded, same_recorded}
+use Rattle.realise.specs.Holdings.{is_record_of}
 use Rattle.realise.specs.Indexed.{IsIndexed, IsGrouped}
 
 -- what passes one test only where it passes another is sought among those that pass the other

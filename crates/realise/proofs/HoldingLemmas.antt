@@ -11,9 +11,10 @@ use Rattle.indexmap.specs.IndexSet.{insert_key}
 use Rattle.model.specs.Classes.{is_one_of}
 use Rattle.model.proofs.BoolLemmas.{either}
 use Rattle.admitted.proofs.EntryLemmas.{one_of_keys, any_insert}
-use Rattle.realise.specs.declared.entry.Entry.{Entry}
+use Rattle.records.specs.declared.entry.Entry.{Entry}
 use Rattle.realise.specs.Held.{paths_held, bytes_held, with_archive, with_archives, charged_beside, IsSetOf}
-use Rattle.realise.specs.Holdings.{Holdings, paths_of, entry_path, archive_of, holds_entry, holds_each, charged_more, charged_all}
+use Rattle.records.specs.Entries.{entry_path}
+use Rattle.realise.specs.Holdings.{Holdings, paths_of, archive_of, holds_entry, holds_each, charged_more, charged_all}
 use Rattle.realise.proofs.ChargingLemmas.{paths_more}
 
 -- ---- one path more

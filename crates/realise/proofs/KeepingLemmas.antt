@@ -8,12 +8,13 @@ use Rattle.model.specs.declared.refusal.Refusal.{Refusal}
 use Rattle.model.specs.declared.refusal.Refusal.TheVariants.{Memory}
 use Rattle.model.specs.Classes.{Known, Admission, Class}
 use Rattle.model.specs.Worlds.{Label}
-use Rattle.realise.specs.Recorded.{Recorded}
-use Rattle.realise.specs.declared.entry.Entry.{Entry}
-use Rattle.realise.specs.declared.entry.Entry.TheVariants as entry
+use Rattle.records.specs.Recorded.{Recorded}
+use Rattle.records.specs.declared.entry.Entry.{Entry}
+use Rattle.records.specs.declared.entry.Entry.TheVariants as entry
 use Rattle.realise.specs.declared.desk.Desk.TheInside.{Inside}
 use Rattle.realise.specs.Held.{Held, paths_held, bytes_held, with_archive, with_archives, charged_beside, IsSetOf}
-use Rattle.realise.specs.Holdings.{Holdings, paths_of, entry_path, archive_of, is_on, known_with, records_with, IsNewSource, holds_entry, holds_each, charged_more, charged_all, is_at, has_labelled, IsClosed, IsClosedWith, IsClosedWithEntry}
+use Rattle.records.specs.Entries.{entry_path}
+use Rattle.realise.specs.Holdings.{Holdings, paths_of, archive_of, is_on, known_with, records_with, IsNewSource, holds_entry, holds_each, charged_more, charged_all, is_at, has_labelled, IsClosed, IsClosedWith, IsClosedWithEntry}
 use Rattle.realise.specs.Kept.{holdings_of, IsConsistent}
 use Rattle.realise.proofs.HoldingLemmas.{bytes_with, held_with, bytes_beside, held_beside, charged_entries, held_entries}
 use Rattle.realise.proofs.ChargingLemmas.{paths_more}

@@ -1,6 +1,3 @@
-pub mod OrderLemmas
-pub mod PathOrderLemmas
-pub mod LoopLemmas
 pub mod PinLemmas
 pub mod DeskLemmas
 pub mod ChargingLemmas

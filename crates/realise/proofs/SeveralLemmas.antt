@@ -9,10 +9,11 @@ use Rattle.model.specs.Reach.{is_among}
 use Rattle.model.specs.Worlds.{are_distinct}
 use Rattle.model.proofs.BoolLemmas.{both_parts}
 use Rattle.admitted.specs.Entries.{AreNew}
-use Rattle.realise.specs.Recorded.{Recorded}
-use Rattle.realise.specs.declared.entry.Entry.{Entry}
-use Rattle.realise.specs.declared.entry.Entry.TheVariants as entry
-use Rattle.realise.specs.Holdings.{Holdings, entry_path, is_on, holds_entry, holds_all, holds_each, charged_more, charged_all, bare, sources_in, records_in, AreAbsent}
+use Rattle.records.specs.Recorded.{Recorded}
+use Rattle.records.specs.declared.entry.Entry.{Entry}
+use Rattle.records.specs.declared.entry.Entry.TheVariants as entry
+use Rattle.records.specs.Entries.{entry_path}
+use Rattle.realise.specs.Holdings.{Holdings, is_on, holds_entry, holds_all, holds_each, charged_more, charged_all, bare, sources_in, records_in, AreAbsent}
 use Rattle.realise.proofs.PinLemmas.{bytes_eq_sym}
 
 -- ---- what is on the desk then

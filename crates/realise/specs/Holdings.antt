@@ -1,16 +1,14 @@
 -- What contracts see of a desk, and of what is put on it.
 use Rattle.std.specs.Prelude.{◌≡◌, ℕ, ◌<◌, ◌^◌, Bool, true, false, ◌&&◌, List, [], ◌∷◌, ◌++◌, ◌+◌, nat_lt, nat_le, length, map, filter, sum_by, bytes_eq, All, Option, Some, None, if◌then◌else◌}
 use Rattle.std.specs.List.{list_any}
-use Rattle.std.specs.Cmp.Lexicographic.{pointwise}
-use Rattle.model.specs.Archives.{Tree}
 use Rattle.model.specs.Classes.{Class, Admission, Known, is_one_of}
-use Rattle.model.specs.Worlds.{Label, Pin, same_label, are_distinct}
-use Rattle.model.specs.Worlds as worlds
+use Rattle.model.specs.Worlds.{Pin, are_distinct}
 use Rattle.model.specs.Limits.{most_sources, most_records}
-use Rattle.realise.specs.Recorded.{Recorded}
+use Rattle.records.specs.Recorded.{Recorded, same_recorded}
+use Rattle.records.specs.Entries.{entry_path}
+use Rattle.records.specs.declared.entry.Entry.{Entry}
+use Rattle.records.specs.declared.entry.Entry.TheVariants as entry
 use Rattle.realise.specs.Held.{paths_held, charged_beside, IsSetOf}
-use Rattle.realise.specs.declared.entry.Entry.{Entry}
-use Rattle.realise.specs.declared.entry.Entry.TheVariants as entry
 
 -- ---- desks
 
@@ -24,14 +22,6 @@ pub record Holdings : Type 0 where
 -- the paths that a desk holds, those of its sources and of its records
 abbrev pub paths_of : Holdings → List (List ℕ)
 paths_of d = d.known.sources ++ map (λ r. r.path) d.records
-
--- a record with its tree
-abbrev pub with_tree : Tree → Recorded → worlds.Record
-with_tree tree r = record { class = r.class; path = r.path; tree = tree; labels = r.labels }
-
--- records of one class at one path, with the same labels
-abbrev pub same_recorded : Recorded → Recorded → Bool
-same_recorded q r = bytes_eq q.class.path r.class.path && (bytes_eq q.path r.path && pointwise same_label q.labels r.labels)
 
 -- whether a record is of a class
 abbrev pub is_record_of : List ℕ → Recorded → Bool
@@ -50,15 +40,6 @@ abbrev pub with_pins : List Pin → Holdings → Holdings
 with_pins pins d = record d { pins = pins }
 
 -- ---- entries
-
-abbrev pub entry_path : Entry → List ℕ
-entry_path (entry.Source path) = path
-entry_path (entry.Record r) = r.path
-
--- an entry with its tree
-abbrev pub entry_with : Tree → Entry → worlds.Entry
-entry_with tree (entry.Source path) = worlds.OfSource (record { path = path; tree = tree })
-entry_with tree (entry.Record r) = worlds.OfRecord (with_tree tree r)
 
 -- whether an entry is on a desk
 abbrev pub is_on : Entry → Holdings → Bool

@@ -1,6 +1,3 @@
-pub mod Recorded
-pub mod LabelLaws
-pub mod Ordered
 pub mod Held
 pub mod Holdings
 pub mod Indexed

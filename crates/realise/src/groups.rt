@@ -4,9 +4,9 @@ ghost use Rattle.std.specs.Prelude.{◌≡◌, ◌++◌, ◌∷◌, [], MatchRes
 ghost use Rattle.realise.specs.Indexed.{IsGrouped, HasSameGroups, IsIndexed, AddsRecords};
 ghost use Rattle.model.specs.declared.refusal.Refusal.TheVariants.{Memory};
 
-use crate::record::Record;
 use indexmap::IndexMap;
 use model::Refusal;
+use records::Record;
 use std::alloc::Global;
 use std::hash::RandomState;
 use storepath::StorePath;

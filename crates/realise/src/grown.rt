@@ -3,8 +3,8 @@
 ghost use Rattle.std.specs.Prelude.{◌≡◌};
 ghost use Rattle.realise.specs.Held.{paths_held, bytes_held};
 
+use crate::by_class::Records;
 use crate::holding::Holding;
-use crate::records::Records;
 use std::marker::Model;
 
 /// The records of a desk and what it holds, with some more. [`crate::Desk::replace`] puts them in the

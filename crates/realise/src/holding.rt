@@ -7,9 +7,9 @@ ghost use Rattle.realise.specs.Held.{paths_held, bytes_held, with_archive, with_
 ghost use Rattle.realise.specs.Holdings.{archive_of, AreCountable};
 ghost use Rattle.model.specs.declared.refusal.Refusal.TheVariants.{Memory};
 
-use crate::entry::Entry;
 use indexmap::{IndexMap, IndexSet};
 use model::Refusal;
+use records::Entry;
 use std::alloc::{AllocError, Global};
 use std::hash::RandomState;
 use std::marker::Model;

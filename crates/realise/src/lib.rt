@@ -1,23 +1,17 @@
-//! What one user has: his desk, and what was built for its classes (Dolstra 2006, section 6.2).
+//! What one user has: his desk, with his records and pins (Dolstra 2006, section 6.2).
 #![tactic(auto)]
 
+mod by_class;
 mod desk;
-mod entry;
 mod groups;
 mod grown;
 mod holding;
-mod label;
 mod limits;
-mod order;
+mod parts;
 mod pins;
-mod record;
-mod records;
 
 pub use desk::Desk;
-pub use entry::Entry;
 pub use grown::Grown;
-pub use label::Label;
-pub use limits::{MOST_DERIVATIONS, MOST_PINS, MOST_RECORDS, MOST_SOURCES};
-pub use order::{is_class_before, labels_in_order, labels_of};
+pub use limits::{LARGEST_CHARGE, Limits, MOST_DERIVATIONS, MOST_PINS, MOST_RECORDS, MOST_SOURCES};
 pub use pins::Pins;
-pub use record::Record;
+pub use records::{Entry, Label, Record, is_class_before, labels_in_order, labels_of};

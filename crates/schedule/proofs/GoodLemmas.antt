@@ -31,7 +31,7 @@ use Rattle.model.proofs.MemberLemmas.{In, in_of, contains_of, in_left, in_right,
 use Rattle.model.proofs.ServedLemmas.{find_in, option_cases}
 use Rattle.model.proofs.ClosureLemmas.{plan_visible}
 use Rattle.model.proofs.WholeLemmas.{closures_whole}
-use Rattle.realise.specs.Recorded.{Recorded}
+use Rattle.records.specs.Recorded.{Recorded}
 use Rattle.realise.specs.Holdings.{Holdings, paths_of, IsClosed, IsClosedWith}
 use Rattle.choose.specs.Visible.{Visible, visible_on, seen, IsStored, IsDeskStored}
 use Rattle.closures.specs.Trees.{source_at, record_at}

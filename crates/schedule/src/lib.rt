@@ -11,7 +11,7 @@ mod step;
 mod striking;
 
 pub use events::{Event, Output, Reply, Request};
-pub use handling::{LARGEST_CHARGE, Limits};
+pub use realise::{LARGEST_CHARGE, Limits};
 pub use runs::run;
 pub use state::Core;
 pub use striking::strike;

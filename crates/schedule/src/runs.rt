@@ -18,8 +18,8 @@ ghost use Rattle.schedule.specs.Running.{HadMemory, events_served, without_memor
 
 use crate::state::Core;
 use events::{Event, Reply};
-use handling::Limits;
 use model::{Refusal, isolation};
+use realise::Limits;
 use std::alloc::Global;
 use std::hash::RandomState;
 use trust::User;

@@ -19,9 +19,10 @@ use Rattle.model.specs.Closures.{class_of_entry, tree_of_entry, path_of_class, I
 use Rattle.model.proofs.BoolLemmas.{either, bytes_same, or_cases, or_left, or_right, both, both_parts}
 use Rattle.model.proofs.MemberLemmas.{In, in_of, contains_of, from_filter, in_filter}
 use Rattle.choose.proofs.SetLemmas.{clash}
-use Rattle.realise.specs.Recorded.{Recorded, without_tree}
-use Rattle.realise.specs.declared.entry.Entry.{Entry}
-use Rattle.realise.specs.Holdings.{Holdings, bare, paths_of, same_recorded, entry_path, entry_with, is_on, holds_entry, holds_all, holds_each, charged_more, charged_all, sources_in, records_in, is_at, has_labelled, IsClosed, IsClosedWith}
+use Rattle.records.specs.Recorded.{Recorded, without_tree, same_recorded}
+use Rattle.records.specs.declared.entry.Entry.{Entry}
+use Rattle.records.specs.Entries.{entry_path, entry_with}
+use Rattle.realise.specs.Holdings.{Holdings, bare, paths_of, is_on, holds_entry, holds_all, holds_each, charged_more, charged_all, sources_in, records_in, is_at, has_labelled, IsClosed, IsClosedWith}
 use Rattle.realise.proofs.SeveralLemmas.{with_parts, all_parts, all_is_each}
 use Rattle.store.specs.Stored.{Extends, put_all, source_of, sources_of, AreThere, AreTaken as AreTakenOf}
 use Rattle.handling.specs.Stored.{source_of_entry}

@@ -12,7 +12,7 @@ use Rattle.model.proofs.MemberLemmas.{In, from_filter}
 use Rattle.closures.specs.Ordered.{Ascends}
 use Rattle.choose.proofs.SetLemmas.{irreflexive, clash}
 use Rattle.choose.proofs.OrderLemmas.{entry_before-Weak}
-use Rattle.realise.specs.declared.entry.Entry.{Entry}
+use Rattle.records.specs.declared.entry.Entry.{Entry}
 use Rattle.realise.specs.Holdings.{bare, Holdings, is_on, sources_in, AreCountable, AreAbsent}
 use Rattle.handling.specs.Sound.{IsClosure}
 use Rattle.views.specs.Taking.{entry_without, counted, missing_on}

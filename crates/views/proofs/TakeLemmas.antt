@@ -24,7 +24,7 @@ use Rattle.model.proofs.ClosureLemmas.{plan_visible}
 use Rattle.model.proofs.ClosureRequestLemmas.{take_cases}
 use Rattle.store.specs.Stored.{put_all}
 use Rattle.store.proofs.TableLemmas.{found_holds}
-use Rattle.realise.specs.Recorded.{Recorded}
+use Rattle.records.specs.Recorded.{Recorded}
 use Rattle.realise.specs.Holdings.{Holdings}
 use Rattle.closures.specs.Trees.{source_at, record_at}
 use Rattle.serving.specs.RepairLaws.{IsServedEntry, ServedAreMade}

@@ -14,10 +14,10 @@ ghost use Rattle.views.specs.Taking.{tree_with_path, counted, missing_on, are_ro
 
 use crate::given::entries_for;
 use events::Reply;
-use handling::Limits;
 use model::Refusal;
 use nar::Tree;
-use realise::{Desk, Entry, MOST_RECORDS, MOST_SOURCES};
+use realise::{Desk, Limits, MOST_RECORDS, MOST_SOURCES};
+use records::Entry;
 use serving::served_are_made;
 use std::alloc::Global;
 use store::Table;

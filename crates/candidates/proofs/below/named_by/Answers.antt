@@ -1,6 +1,6 @@
 use Rattle.std.proofs.Common.{◌||◌, ap, sym, ◌∙◌}
 use Rattle.candidates.specs.Reaching.{is_named, is_among_labels}
-use Rattle.realise.proofs.LoopLemmas.{or_false}
+use Rattle.records.proofs.LoopLemmas.{or_false}
 use Rattle.candidates.proofs.ZipLemmas.{pairs_done}
 use Rattle.candidates.proofs.below.named_by.Goals as goal
 

@@ -1,7 +1,7 @@
 use Rattle.std.proofs.Common.{◌≡◌, Bool, List, ap, subst, ◌∙◌}
 use Rattle.std.specs.Prelude.{zip}
 use Rattle.std.proofs.lemmas.Result.{MatchResult-weaker}
-use Rattle.realise.specs.Recorded.{Recorded}
+use Rattle.records.specs.Recorded.{Recorded}
 use Rattle.candidates.specs.Reaching.{is_record_named, is_named_by, is_next, IsStep}
 use Rattle.candidates.proofs.below.one_step.Goals as goal
 

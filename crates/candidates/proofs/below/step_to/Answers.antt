@@ -1,8 +1,8 @@
 use Rattle.std.proofs.Common.{Bool, ◌++◌, map, ap, sym, ◌∙◌, append-nil}
 use Rattle.std.specs.Prelude.{zip}
-use Rattle.realise.specs.Recorded.{Recorded}
+use Rattle.records.specs.Recorded.{Recorded}
 use Rattle.candidates.specs.Reaching.{is_record_named, marked_by, fresh_by}
-use Rattle.realise.proofs.LoopLemmas.{pushed_next}
+use Rattle.records.proofs.LoopLemmas.{pushed_next}
 use Rattle.candidates.proofs.ZipLemmas.{pairs_left, pairs_next, pairs_done}
 use Rattle.candidates.proofs.below.step_to.Goals as goal
 

@@ -1,7 +1,7 @@
 use Rattle.std.proofs.Common.{◌≡◌, List, ◌++◌, map, ap, ◌∙◌}
 use Rattle.std.proofs.lemmas.Result.{MatchResult-weaker}
 use Rattle.model.specs.Worlds.{Label}
-use Rattle.realise.specs.Ordered.{source_label, marked_labels}
+use Rattle.records.specs.Ordered.{source_label, marked_labels}
 use Rattle.candidates.proofs.StepLemmas.{are_candidates}
 use Rattle.candidates.proofs.candidate.candidates.Goals as goal
 

@@ -1,5 +1,5 @@
 use Rattle.std.proofs.Common.{◌++◌, ap, sym, ◌∙◌, append-nil}
-use Rattle.realise.specs.Ordered.{labels_of_marked}
+use Rattle.records.specs.Ordered.{labels_of_marked}
 use Rattle.candidates.proofs.ZipLemmas.{pairs_done}
 use Rattle.candidates.proofs.candidate.push_marked.Goals as goal
 

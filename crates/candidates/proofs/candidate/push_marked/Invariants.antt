@@ -1,5 +1,5 @@
 use Rattle.std.proofs.Common.{◌≡◌, ◌++◌}
-use Rattle.realise.specs.Ordered.{labels_of_marked, marked_labels}
+use Rattle.records.specs.Ordered.{labels_of_marked, marked_labels}
 use Rattle.candidates.proofs.ZipLemmas.{pairs_left}
 use Rattle.candidates.proofs.candidate.push_marked.Given as goal
 

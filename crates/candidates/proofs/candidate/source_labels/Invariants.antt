@@ -1,5 +1,5 @@
 use Rattle.std.proofs.Common.{◌≡◌, map, take}
-use Rattle.realise.specs.Ordered.{source_label}
+use Rattle.records.specs.Ordered.{source_label}
 use Rattle.candidates.proofs.candidate.source_labels.Given as goal
 
 abbrev pub invariant-loop-path : goal.invariant-loop-path

@@ -1,5 +1,5 @@
-use Rattle.std.proofs.Common.{rules, ◌≡◌, ◌++◌, codes, map, ap, ◌∙◌}
-use Rattle.model.specs.Derivations.{list_text}
+use Rattle.std.proofs.Common.{rules, ◌≡◌, [], ◌++◌, codes, map, ap, ◌∙◌}
+use Rattle.model.specs.Derivations.{listed}
 use Rattle.derivation.specs.Parts.{derivation_of}
 use Rattle.derivation.specs.Writing.{between, rest_text}
 use Rattle.derivation.proofs.Written.{all_written}
@@ -9,5 +9,5 @@ pub returns : goal.returns
 returns c =
     let d = derivation_of c.args.parts.now in
     let inputs = c.args.parts.now.inputs.items in
-    let front : c.put_paths.new.out.items ≡ codes "Derive([(\"out\",\"\",\"\",\"\")]," ++ list_text (map (between (codes "(") (codes ",[\"out\"])")) inputs) = search rules in
+    let front : c.put_paths.new.out.items ≡ codes "Derive([(\"out\",\"\",\"\",\"\")],[" ++ listed [] (map (between (codes "(") (codes ",[\"out\"])")) inputs) = search rules in
     c.in_ok-put_rest.ensures ∙ ap (λ out. out ++ rest_text d) front ∙ all_written d inputs

@@ -1,5 +1,5 @@
-use Rattle.std.proofs.Common.{rules, ◌≡◌, ◌++◌, codes, map, ap, ◌∙◌}
-use Rattle.model.specs.Derivations.{list_text, derivation_text}
+use Rattle.std.proofs.Common.{rules, ◌≡◌, [], ◌++◌, codes, map, ap, ◌∙◌}
+use Rattle.model.specs.Derivations.{listed, derivation_text}
 use Rattle.derivation.specs.Parts.{derivation_of}
 use Rattle.derivation.specs.Writing.{between, rest_text}
 use Rattle.derivation.proofs.Written.{all_written}
@@ -9,5 +9,5 @@ pub returns : goal.returns
 returns c =
     let d = derivation_of c.parts-parts.result.now in
     let inputs = c.args.inputs.now in
-    let front : c.put_texts.new.out.items ≡ codes "Derive([(\"out\",\"\",\"\",\"\")]," ++ list_text (map (between (codes "(") (codes ",[\"out\"])")) inputs) = search rules in
+    let front : c.put_texts.new.out.items ≡ codes "Derive([(\"out\",\"\",\"\",\"\")],[" ++ listed [] (map (between (codes "(") (codes ",[\"out\"])")) inputs) = search rules in
     c.in_ok-put_rest.ensures ∙ ap (λ out. out ++ rest_text d) front ∙ all_written d inputs ∙ ap (λ x. derivation_text (record x { inputs = inputs })) c.parts-parts.ensures.parts

@@ -5,4 +5,4 @@ use Rattle.derivation.proofs.Written.{rest_written}
 use Rattle.derivation.proofs.write.put_rest.Goals as goal
 
 pub returns : goal.returns
-returns c = IfOk-equal c.extend_from_slice-6.result c.extend_from_slice-6.new.self.items _ _ (search rules) (rest_written (derivation_of c.args.parts.now) c.args.out.now.items)
+returns c = IfOk-equal c.extend_from_slice.result c.extend_from_slice.new.self.items _ _ (search rules) (rest_written (derivation_of c.args.parts.now) c.args.out.now.items)

@@ -3,7 +3,8 @@ use Rattle.std.specs.Prelude.{is_some}
 use Rattle.model.specs.Events.{Path}
 use Rattle.model.specs.Outcomes.{becomes}
 use Rattle.model.specs.Worlds.{tree_at}
-use Rattle.realise.specs.Holdings.{entry_path, is_on}
+use Rattle.records.specs.Entries.{entry_path}
+use Rattle.realise.specs.Holdings.{is_on}
 use Rattle.handling.specs.Sound.{desk_of}
 use Rattle.handling.proofs.AddingLemmas.{entry_known, entry_had}
 use Rattle.desks.proofs.entries.add_entry.Goals as goal

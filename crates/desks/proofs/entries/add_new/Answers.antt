@@ -5,7 +5,8 @@ use Rattle.model.specs.Events.{Path}
 use Rattle.model.specs.Outcomes.{becomes}
 use Rattle.model.specs.Worlds.{Source, tree_at}
 use Rattle.store.specs.Stored.{Extends}
-use Rattle.realise.specs.Holdings.{entry_path, charged_more, is_roomy}
+use Rattle.records.specs.Entries.{entry_path}
+use Rattle.realise.specs.Holdings.{charged_more, is_roomy}
 use Rattle.handling.specs.Sound.{desk_of}
 use Rattle.store.proofs.TableLemmas.{put_once-Extends}
 use Rattle.handling.proofs.AddingLemmas.{IsThere, there_if_stored, entry_refused, entry_new, desk_of-entry, sound-entry}

@@ -2,7 +2,7 @@ use Rattle.std.proofs.Common.{◌≡◌, ◌<◌, length, arith, rules, sym, sub
 use Rattle.std.specs.Prelude.{get_or}
 use Rattle.realise.specs.Holdings.{Holdings}
 use Rattle.handling.specs.Supported.{desk_at}
-use Rattle.endings.specs.Gaining.{Gains, gains_in}
+use Rattle.building.specs.Gaining.{Gains, gains_in}
 use Rattle.endings.specs.Committing.{gains_at, MayCharge, IsGrownWith}
 use Rattle.endings.proofs.MadeLemmas.{at_place}
 use Rattle.endings.proofs.CommitLemmas.{grown_next, gains_there}

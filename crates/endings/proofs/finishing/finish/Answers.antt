@@ -6,7 +6,7 @@ use Rattle.trust.specs.Trusting.{trusts}
 use Rattle.trust.specs.Naming.{name_at}
 use Rattle.trust.proofs.PlaceLemmas.{place_found}
 use Rattle.handling.specs.Viewing.{desk_at}
-use Rattle.endings.specs.Gaining.{with_gains}
+use Rattle.building.specs.Gaining.{with_gains}
 use Rattle.endings.specs.Committing.{Heard, gains_at}
 use Rattle.handling.proofs.TrustLemmas.{few_users, distinct_users}
 use Rattle.endings.proofs.CommitLemmas.{may_replace, grown_has}

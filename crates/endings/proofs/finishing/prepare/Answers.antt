@@ -6,7 +6,7 @@ use Rattle.model.specs.Worlds.{Goal, State}
 use Rattle.states.specs.States.{state_of}
 use Rattle.trust.specs.Trusting.{trusts}
 use Rattle.store.specs.Stored.{put_all, sources_of, AreThere}
-use Rattle.endings.specs.Gaining.{last_state, state_at}
+use Rattle.building.specs.Gaining.{last_state, state_at}
 use Rattle.endings.specs.Committing.{Heard, trees_gained, states_for, states_heard, gains_at, MayCharge, AreGrown}
 use Rattle.handling.specs.Supported.{desk_at}
 use Rattle.endings.proofs.CommitLemmas.{states_there}

@@ -1,7 +1,7 @@
 use Rattle.std.proofs.Common.{Option, Some, None}
 use Rattle.std.specs.Option.{option_copied}
 use Rattle.model.specs.Archives.{Tree}
-use Rattle.endings.specs.Built.{IsLastFrom}
+use Rattle.building.specs.Built.{IsLastFrom}
 use Rattle.endings.proofs.hearing.build_all.Goals as goal
 
 none_settled : (output : Option Tree) → IsLastFrom output None

@@ -9,8 +9,8 @@ use Rattle.jobs.specs.Owned.{goals_at}
 use Rattle.trust.specs.Trusting.{trusts}
 use Rattle.handling.specs.Parts.{goals_of}
 use Rattle.handling.specs.Viewing.{desk_at}
-use Rattle.endings.specs.Gaining.{Output}
-use Rattle.endings.specs.Built.{AreBuiltOn}
+use Rattle.building.specs.Gaining.{Output}
+use Rattle.building.specs.Built.{AreBuiltOn}
 use Rattle.endings.specs.Hearing.{IsBuiltAtPlace}
 use Rattle.endings.proofs.MadeLemmas.{each_pushed, each_none, at_place}
 use Rattle.endings.proofs.hearing.build_from.Goals as goal

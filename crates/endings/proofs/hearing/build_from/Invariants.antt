@@ -1,7 +1,7 @@
 use Rattle.std.proofs.Common.{◌≡◌, length}
 use Rattle.std.specs.Option.{option_copied}
 use Rattle.trust.specs.Trusting.{trusts}
-use Rattle.endings.specs.Built.{IsLastFrom}
+use Rattle.building.specs.Built.{IsLastFrom}
 use Rattle.endings.specs.Hearing.{AreBuiltFor}
 use Rattle.endings.proofs.hearing.build_from.Given as goal
 

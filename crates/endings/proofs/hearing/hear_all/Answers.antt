@@ -8,10 +8,10 @@ use Rattle.realise.specs.Holdings.{Holdings}
 use Rattle.jobs.specs.Owned.{goals_at}
 use Rattle.states.specs.declared.state.State as jobs
 use Rattle.trust.specs.Trusting.{trusts}
-use Rattle.endings.specs.declared.gains.Gains as Rust
+use Rattle.building.specs.declared.gains.Gains as Rust
 use Rattle.handling.specs.Parts.{goals_of}
 use Rattle.handling.specs.Viewing.{desk_at}
-use Rattle.endings.specs.Gaining.{Output, gains_in, state_at}
+use Rattle.building.specs.Gaining.{Output, gains_in, state_at}
 use Rattle.endings.specs.Hearing.{IsHeardAtPlace, built_for_place}
 use Rattle.endings.proofs.MadeLemmas.{each_pushed, each_none, at_place, drop_head}
 use Rattle.endings.proofs.hearing.hear_all.Goals as goal

@@ -4,7 +4,7 @@ use Rattle.std.specs.Prelude.{get_or}
 use Rattle.std.proofs.lemmas.List.{drop_more}
 use Rattle.model.specs.declared.refusal.Refusal.{Refusal}
 use Rattle.model.specs.Archives.{Tree}
-use Rattle.endings.specs.Gaining.{Output}
+use Rattle.building.specs.Gaining.{Output}
 use Rattle.endings.specs.Hearing.{trees_built, all_trees}
 use Rattle.endings.proofs.hearing.trees_of.Goals as goal
 

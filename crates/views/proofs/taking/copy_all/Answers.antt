@@ -2,7 +2,7 @@ use Rattle.std.proofs.Common.{◌≡◌, true, false, ◌++◌, rules, sym, ◌�
 use Rattle.std.proofs.lemmas.Result.{err_from_is_err_and}
 use Rattle.model.specs.Worlds.{Source}
 use Rattle.store.specs.Stored.{put_all, sources_of}
-use Rattle.realise.specs.declared.entry.Entry.{Entry}
+use Rattle.records.specs.declared.entry.Entry.{Entry}
 use Rattle.realise.specs.Holdings.{bare, AreAbsent, AreCountable, charged_all, holds_each}
 use Rattle.views.specs.Taking.{are_roomy}
 use Rattle.views.proofs.MissingLemmas.{are_countable, are_absent}

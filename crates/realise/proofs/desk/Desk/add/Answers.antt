@@ -1,9 +1,10 @@
 use Rattle.std.proofs.Common.{◌≡◌, ◌+◌, ◌<◌, ◌^◌, ℕ, List, ap, refl, sym, ◌∙◌, subst, arith}
 use Rattle.model.specs.Classes.{Known}
-use Rattle.realise.specs.Recorded.{Recorded}
+use Rattle.records.specs.Recorded.{Recorded}
 use Rattle.realise.specs.declared.desk.Desk.TheInside.{Inside}
 use Rattle.realise.specs.Held.{Held, bytes_held, with_archive}
-use Rattle.realise.specs.Holdings.{Holdings, entry_path, charged_more, holds_entry, known_with, IsNewSource, IsClosedWithEntry}
+use Rattle.records.specs.Entries.{entry_path}
+use Rattle.realise.specs.Holdings.{Holdings, charged_more, holds_entry, known_with, IsNewSource, IsClosedWithEntry}
 use Rattle.realise.specs.Kept.{holdings_of, IsConsistent}
 use Rattle.realise.proofs.KeepingLemmas.{kept, new_source, entry_bytes, entry_view, entry_kept}
 use Rattle.realise.proofs.desk.Desk.add.Goals as goal

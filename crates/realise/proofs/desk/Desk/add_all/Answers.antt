@@ -1,7 +1,7 @@
 use Rattle.std.proofs.Common.{◌≡◌, ◌+◌, ◌++◌, ◌<◌, ◌^◌, ℕ, List, sym, ap, subst, ◌∙◌, arith}
 use Rattle.admitted.specs.Entries.{AreNew}
-use Rattle.realise.specs.Recorded.{Recorded}
-use Rattle.realise.specs.declared.entry.Entry.{Entry}
+use Rattle.records.specs.Recorded.{Recorded}
+use Rattle.records.specs.declared.entry.Entry.{Entry}
 use Rattle.realise.specs.Held.{paths_held, bytes_held, IsSetOf}
 use Rattle.realise.specs.Holdings.{Holdings, paths_of, bare, holds_each, charged_all, sources_in, IsClosed}
 use Rattle.realise.specs.Kept.{holdings_of}

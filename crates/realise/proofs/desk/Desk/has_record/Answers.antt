@@ -1,6 +1,7 @@
 use Rattle.std.proofs.Common.{ℕ, List, ap, ◌∙◌}
 use Rattle.std.specs.List.{list_any}
-use Rattle.realise.specs.Holdings.{same_recorded, records_of}
+use Rattle.records.specs.Recorded.{same_recorded}
+use Rattle.realise.specs.Holdings.{records_of}
 use Rattle.realise.proofs.DeskLemmas.{found_in_group}
 use Rattle.realise.proofs.desk.Desk.has_record.Goals as goal
 

@@ -1,5 +1,5 @@
 use Rattle.std.proofs.Common.{List, ℕ, sym, subst}
-use Rattle.realise.specs.Recorded.{Recorded}
+use Rattle.records.specs.Recorded.{Recorded}
 use Rattle.realise.specs.Held.{paths_held, IsSetOf}
 use Rattle.realise.specs.Holdings.{Holdings, paths_of, IsClosed}
 use Rattle.realise.specs.Kept.{holdings_of}

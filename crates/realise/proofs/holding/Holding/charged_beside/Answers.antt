@@ -3,9 +3,10 @@ use Rattle.std.specs.Prelude.{bytes_eq}
 use Rattle.std.specs.List.{list_any}
 use Rattle.std.proofs.lemmas.Bool.{not-true, not-false}
 use Rattle.indexmap.specs.IndexSet.{insert_key}
-use Rattle.realise.specs.declared.entry.Entry.{Entry}
+use Rattle.records.specs.declared.entry.Entry.{Entry}
 use Rattle.realise.specs.Held.{paths_held, charged_beside}
-use Rattle.realise.specs.Holdings.{entry_path, archive_of}
+use Rattle.records.specs.Entries.{entry_path}
+use Rattle.realise.specs.Holdings.{archive_of}
 use Rattle.realise.proofs.ChargingLemmas.{among, beside, counted_again, counted_first, counted_fits}
 use Rattle.realise.proofs.holding.Holding.charged_beside.Goals.{then-branch, else-branch}
 use Rattle.realise.proofs.holding.Holding.charged_beside.Goals as goal

@@ -1,0 +1,9 @@
+//! Who ends a job, and who hears of its output: the goal that leads a job, and the goals in the job of
+//! those who reach its leader.
+#![tactic(auto)]
+
+mod leader;
+mod members;
+
+pub use leader::leads;
+pub use members::members_reached;

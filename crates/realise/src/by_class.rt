@@ -1,0 +1,114 @@
+//! The records of one user.
+
+ghost use Rattle.std.specs.Prelude.{◌≡◌, ◌<◌, [], ◌∷◌, ◌++◌, filter, vec_len, vec_capacity, MatchResult};
+ghost use Rattle.realise.specs.Holdings.{is_record_of};
+ghost use Rattle.model.specs.declared.refusal.Refusal.TheVariants.{Memory};
+
+use crate::groups::{grouped, put_in_group};
+use indexmap::IndexMap;
+use model::Refusal;
+use records::Record;
+use std::alloc::Global;
+use std::hash::RandomState;
+use std::marker::Model;
+use storepath::StorePath;
+
+/// The records of one user, the oldest first.
+///
+/// Those of one class are found at once, however many there are: a table has copies of them by
+/// their class, which share what they hold. Its hasher has keys that nobody outside knows, since
+/// records may come from others.
+pub struct Records {
+    list: Vec<Record>,
+    by_class: IndexMap<StorePath, Vec<Record>, RandomState>,
+}
+
+impl Drop for Records {
+    fn drop(self) {
+        let Records {
+            list: _,
+            by_class: _,
+        } = self;
+    }
+}
+
+impl Model for Records {
+    ghost use Rattle.std.specs.Prelude.{List};
+    ghost use Rattle.records.specs.Recorded.{Recorded};
+
+    ghost Value = { List Recorded };
+
+    ghost use Rattle.realise.specs.Indexed.{IsIndexed};
+
+    ghost view = { λ r. r.list.items };
+
+    ghost invariant = { λ r. IsIndexed r.by_class.entries r.list.items };
+}
+
+/// Puts a record for which there is room.
+fn push_reserved(records: &mut Vec<Record>, added: Record)
+    requires room { vec_len records.old < vec_capacity records.old }
+    ensures { records.new.items ≡ records.old.items ++ added ∷ [] }
+{
+    records.push(added).unwrap();
+}
+
+impl Records {
+    /// No records. `hashing` has the keys of the hasher for classes. It takes no memory.
+    pub(crate) fn new(alloc: Global, hashing: RandomState) -> Records
+        ensures { result ≡ [] }
+    {
+        Records {
+            list: Vec::new(alloc),
+            by_class: IndexMap::with_hasher(alloc, hashing),
+        }
+    }
+
+    /// All of them, the oldest first.
+    pub(crate) fn as_slice(&self) -> &[Record]
+        ensures { result.now ≡ self.now }
+    {
+        self.list.as_slice()
+    }
+
+    /// Those of a class, the oldest first.
+    pub(crate) fn of_class(&self, class: &StorePath) -> &[Record]
+        ensures { result.now ≡ filter (is_record_of class.now) self.now }
+    {
+        match self.by_class.get(class) {
+            Some(group) => group.as_slice(),
+            None => &[],
+        }
+    }
+
+    /// The keys of the hasher for classes.
+    pub(crate) fn hashing(&self) -> RandomState {
+        *self.by_class.hasher()
+    }
+
+    /// Adds a record as the last. The one error is memory, and changes nothing: all that needs
+    /// memory comes before the first change.
+    pub(crate) fn push(&mut self, alloc: Global, added: Record) -> Result<(), Refusal>
+        ensures { MatchResult result
+            (λ _. self.new ≡ self.old ++ added ∷ [])
+            (λ e. (e ≡ Memory) × (self.new ≡ self.old)) }
+    {
+        let copy = added.clone()?;
+        self.list.reserve(1)?;
+        put_in_group(alloc, &mut self.by_class, copy)?;
+        push_reserved(&mut self.list, added);
+        Ok(())
+    }
+
+    /// Copies of these records, and of the added ones behind them. The one error is memory.
+    pub(crate) fn with(&self, alloc: Global, added: &[Record]) -> Result<Records, Refusal>
+        ensures { MatchResult result
+            (λ records. records ≡ self.now ++ added.now)
+            (λ e. e ≡ Memory) }
+    {
+        let mut list = self.as_slice().to_vec(alloc)?;
+        list.extend_from_slice(added)?;
+        let by_class = grouped(alloc, self.hashing(), self.as_slice(), added)?;
+        Ok(Records { list, by_class })
+    }
+}

@@ -1,0 +1,4 @@
+pub mod LoopLemmas
+pub mod OrderLemmas
+pub mod PathOrderLemmas
+pub mod LabelLemmas

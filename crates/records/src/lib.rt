@@ -1,0 +1,13 @@
+//! What was built for classes (Dolstra 2006, section 6.2): records, the labels of what they refer to,
+//! and entries, which are put on desks.
+#![tactic(auto)]
+
+mod entry;
+mod label;
+mod order;
+mod record;
+
+pub use entry::Entry;
+pub use label::Label;
+pub use order::{is_class_before, labels_in_order, labels_of};
+pub use record::Record;

@@ -1,0 +1,133 @@
+//! Records: what was built for a class.
+
+ghost use Rattle.std.specs.Prelude.{◌≡◌, MatchResult};
+ghost use Rattle.std.specs.List.{list_any};
+ghost use Rattle.records.specs.Recorded.{IsSame, AreInPathOrder, same_recorded};
+ghost use Rattle.model.specs.declared.refusal.Refusal.TheVariants.{Memory};
+
+use crate::label::Label;
+use admitted::Class;
+use model::Refusal;
+use std::alloc::AllocError;
+use std::marker::Model;
+use std::sync::ArcSlice;
+use storepath::StorePath;
+
+/// What was built for a class: its path, whose tree the path table has, and a label for each other
+/// path that the tree refers to, in the order of paths. A copy shares the labels.
+pub struct Record {
+    class: Class,
+    path: StorePath,
+    labels: ArcSlice<Label>,
+}
+
+impl Drop for Record {
+    fn drop(self) {
+        let Record {
+            class: _,
+            path: _,
+            labels: _,
+        } = self;
+    }
+}
+
+impl Model for Record {
+    ghost use Rattle.std.specs.Arc.{arc_slice_items};
+    ghost use Rattle.records.specs.Recorded.{Recorded, AreInPathOrder};
+
+    ghost Value = { Recorded };
+
+    ghost view = { λ r. record { class = r.class; path = r.path; labels = arc_slice_items r.labels } };
+
+    ghost invariant = { λ r. AreInPathOrder (arc_slice_items r.labels) };
+}
+
+/// Whether two records are for one class at one path, with the same labels, whatever their trees are.
+fn is_same(one: &Record, other: &Record) -> bool
+    ensures { result ≡ same_recorded one.now other.now }
+{
+    one.same(other)
+}
+
+impl Record {
+    /// A record of its parts. The labels are in the order of paths, one for each.
+    ///
+    /// # Errors
+    ///
+    /// - `Memory` only where memory was refused.
+    pub fn new(class: Class, path: StorePath, labels: Vec<Label>) -> Result<Record, Refusal>
+        requires in_order { AreInPathOrder labels.items }
+        ensures { MatchResult result
+            (λ made. made ≡ record { class = class; path = path; labels = labels.items })
+            (λ e. e ≡ Memory) }
+    {
+        let labels = ArcSlice::from_vec(labels)?;
+        Ok(Record {
+            class,
+            path,
+            labels,
+        })
+    }
+
+    /// The class that it was built for.
+    pub fn class(&self) -> &Class
+        ensures { result.now ≡ self.now.class }
+    {
+        &self.class
+    }
+
+    /// Where its tree is.
+    pub fn path(&self) -> &StorePath
+        ensures { result.now ≡ self.now.path }
+    {
+        &self.path
+    }
+
+    /// A label for each other path that its tree refers to, in the order of paths.
+    pub fn labels(&self) -> &[Label]
+        ensures labels { result.now ≡ self.now.labels }
+        ensures in_order { AreInPathOrder self.now.labels }
+    {
+        self.labels.as_slice()
+    }
+
+    /// Whether two records are for one class at one path, with the same labels.
+    pub fn same(&self, other: &Record) -> bool
+        ensures { IsSame self.now other.now result }
+    {
+        self.class.path() == other.class.path()
+            && self.path == other.path
+            && self.labels() == other.labels()
+    }
+
+    /// Whether the record is among others: one of them is for the same class at the same path, with the
+    /// same labels. Each of them is looked at.
+    pub fn is_among(&self, others: &[Record]) -> bool
+        ensures { result ≡ list_any (λ r. same_recorded r self.now) others.now }
+    {
+        for other in others {
+            if is_same(other, self) {
+                return true;
+            }
+        }
+        false
+    }
+}
+
+/// The copy is equal, and shares the labels. It fails only where memory is refused.
+impl Clone for Record {
+    ghost use Rattle.std.specs.Prelude.{◌≡◌};
+
+    ghost is_clone = { λ original copy. copy ≡ original };
+
+    fn clone(&self) -> Result<Record, AllocError> {
+        let class = self.class.clone()?;
+        let path = self.path.clone()?;
+        let labels = self.labels.clone()?;
+        Ok(Record {
+            class,
+            path,
+            labels,
+        })
+    }
+}
