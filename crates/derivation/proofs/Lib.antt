@@ -1,2 +1,3 @@
+pub mod ListTexts
 pub mod Tests
 pub mod Written

@@ -1,10 +1,10 @@
 //! Writing a derivation's text.
 
-ghost use Rattle.std.specs.Prelude.{◌≡◌, ◌++◌, MatchResult, OnOk, [], map};
+ghost use Rattle.std.specs.Prelude.{◌≡◌, ◌++◌, MatchResult, OnOk, [], map, codes};
 ghost use Rattle.model.specs.Derivations.{character_text, quoted, listed, variable_text, derivation_text};
 ghost use Rattle.model.specs.declared.refusal.Refusal.TheVariants.{Memory};
 ghost use Rattle.derivation.specs.Parts.{derivation_of};
-ghost use Rattle.derivation.specs.Writing.{between, rest_text};
+ghost use Rattle.derivation.specs.Writing.{between, members, rest_text};
 
 use crate::derivation::{Derivation, Parts};
 use crate::text::Text;
@@ -14,9 +14,6 @@ use storepath::StorePath;
 
 // What stands before the inputs.
 const HEAD: &[u8] = b"Derive([(\"out\",\"\",\"\",\"\")],[";
-
-// What stands before each further list.
-const NEXT_LIST: &[u8] = b",[";
 
 // What stands before and behind an input's path.
 const BEFORE_INPUT: &[u8] = b"(";
@@ -65,7 +62,7 @@ fn put_member(
     out.extend_from_slice(closing)
 }
 
-// The rest of a list whose head has its opening bracket: paths, each between two tags.
+// A list of paths, each between two tags, behind a head that ends in the list's bracket.
 #[tactic(auto, unfolding(model::specs::Derivations::listed))]
 fn put_paths(
     out: &mut Vec<u8>,
@@ -75,7 +72,7 @@ fn put_paths(
     closing: &[u8],
 ) -> Result<(), AllocError>
     ensures { OnOk result (out.new.items
-        ≡ out.old.items ++ head.now ++ listed [] (map (between opening.now closing.now) paths.now)) }
+        ≡ out.old.items ++ head.now ++ members opening.now closing.now paths.now) }
 {
     let mut separator = b"".as_slice();
     out.extend_from_slice(head)?;
@@ -86,7 +83,7 @@ fn put_paths(
     out.extend_from_slice(b"]")
 }
 
-// The same of strings.
+// A list of strings, each between two tags, behind a head that ends in the list's bracket.
 #[tactic(auto, unfolding(model::specs::Derivations::listed))]
 fn put_texts(
     out: &mut Vec<u8>,
@@ -96,7 +93,7 @@ fn put_texts(
     closing: &[u8],
 ) -> Result<(), AllocError>
     ensures { OnOk result (out.new.items
-        ≡ out.old.items ++ head.now ++ listed [] (map (between opening.now closing.now) texts.now)) }
+        ≡ out.old.items ++ head.now ++ members opening.now closing.now texts.now) }
 {
     let mut separator = b"".as_slice();
     out.extend_from_slice(head)?;
@@ -107,18 +104,22 @@ fn put_texts(
     out.extend_from_slice(b"]")
 }
 
+// A variable, behind a separator.
 #[tactic(auto, unfolding(model::specs::Derivations::variable_text))]
-fn put_variable(out: &mut Vec<u8>, key: &[u8], value: &[u8]) -> Result<(), AllocError>
-    ensures { OnOk result (out.new.items ≡ out.old.items ++ variable_text (key.now, value.now)) }
+fn put_variable(
+    out: &mut Vec<u8>,
+    separator: &[u8],
+    key: &[u8],
+    value: &[u8],
+) -> Result<(), AllocError>
+    ensures { OnOk result (out.new.items
+        ≡ out.old.items ++ separator.now ++ variable_text (key.now, value.now)) }
 {
-    out.extend_from_slice(b"(")?;
-    put_string(out, key)?;
-    out.extend_from_slice(b",")?;
-    put_string(out, value)?;
-    out.extend_from_slice(b")")
+    put_member(out, separator, b"(", key, b",")?;
+    put_member(out, b"", b"", value, b")")
 }
 
-// The same of variables.
+// A list of variables, behind a head that ends in the list's bracket.
 #[tactic(auto, unfolding(model::specs::Derivations::listed))]
 fn put_variables(
     out: &mut Vec<u8>,
@@ -131,8 +132,7 @@ fn put_variables(
     let mut separator = b"".as_slice();
     out.extend_from_slice(head)?;
     for (key, value) in environment {
-        out.extend_from_slice(separator)?;
-        put_variable(out, key.bytes(), value.bytes())?;
+        put_variable(out, separator, key.bytes(), value.bytes())?;
         separator = b",";
     }
     out.extend_from_slice(b"]")
@@ -143,11 +143,11 @@ fn put_rest(out: &mut Vec<u8>, parts: &Parts) -> Result<(), AllocError>
     ensures { OnOk result (out.new.items
         ≡ out.old.items ++ rest_text (derivation_of parts.now)) }
 {
-    put_paths(out, NEXT_LIST, b"", &parts.sources, b"")?;
+    put_paths(out, b",[", b"", &parts.sources, b"")?;
     put_member(out, b",", b"", parts.platform.bytes(), b"")?;
     put_member(out, b",", b"", parts.builder.bytes(), b"")?;
-    put_texts(out, NEXT_LIST, b"", &parts.arguments, b"")?;
-    put_variables(out, NEXT_LIST, &parts.environment)?;
+    put_texts(out, b",[", b"", &parts.arguments, b"")?;
+    put_variables(out, b",[", &parts.environment)?;
     out.extend_from_slice(b")")
 }
 

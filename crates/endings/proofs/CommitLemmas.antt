@@ -2,10 +2,9 @@
 use Rattle.std.proofs.Common.{◌≡◌, ℕ, zero, suc, ◌+◌, ◌<◌, ◌≤◌, true, ◌⊎◌, inl, inr, List, [], ◌∷◌, ◌++◌, length, map, drop, refl, sym, ◌∙◌, ap, subst, append_assoc, arith, Option, Some, None}
 use Rattle.std.specs.Prelude.{All, get_or, is_some, slice_get, slice_set, nat_lt}
 use Rattle.std.proofs.lemmas.Bool.Decides.{nat_tests}
-use Rattle.std.proofs.lemmas.List.{drop_more, map-append, get_or-map, get_or_append_left, get_or_push, get_or-set_same, get_or-set_other}
+use Rattle.std.proofs.lemmas.List.{map-append, get_or-map, get_or_append_left, get_or_push, get_or-set_same, get_or-set_other}
 use Rattle.std.proofs.lemmas.List.Elements.{All-head, All-tail, All-weaker}
 use Rattle.model.proofs.BoolLemmas.{either}
-use Rattle.model.specs.Archives.{Tree}
 use Rattle.model.specs.Worlds.{State, Goal}
 use Rattle.model.specs.Goals.{goal_at, with_goal_at, in_state}
 use Rattle.jobs.specs.Owned.{OwnedByAll, with_goals_at}
@@ -14,7 +13,7 @@ use Rattle.realise.specs.Held.{paths_held, IsSetOf}
 use Rattle.realise.specs.Holdings.{Holdings, Growth, paths_of, IsClosed}
 use Rattle.handling.specs.Supported.{desk_at, goals_of, bare}
 use Rattle.building.specs.Gaining.{Gains, gains_in, nothing, archive_of_tree, with_gains, with_state, with_states, IsSettable}
-use Rattle.endings.specs.Committing.{Heard, gains_heard, gains_at, states_heard, states_for, trees_gained, MayGain, IsGrownWith, MayReplace, MayReplaceAll, grown_to}
+use Rattle.endings.specs.Committing.{Heard, gains_heard, gains_at, states_heard, states_for, MayGain, IsGrownWith, MayReplace, MayReplaceAll, grown_to}
 use Rattle.endings.proofs.MadeLemmas.{drop_head, held_paths}
 use Rattle.handling.proofs.ViewLemmas.{any_default}
 use Rattle.endings.proofs.FailingLemmas.{IsChangedAt, changed_again}
@@ -33,16 +32,6 @@ gains_there heard place e below = sym (get_or-map gains_heard heard place e noth
 -- how far the goals of the user at a place are, of which he hears
 pub states_there : (heard : List Heard) (place : ℕ) (e : Heard) → place < length heard → states_heard (get_or heard place e) ≡ states_for heard place
 states_there heard place e below = sym (get_or-map states_heard heard place e [] below)
-
--- the trees that all desks get, one desk's behind another's
-pub gained_next : (heard : List Heard) (i : ℕ) (d : Heard) (front new whole : List (List ℕ × Tree)) → i < length heard
-    → new ≡ front ++ (get_or heard i d).0.trees.items → front ++ trees_gained (drop i heard) ≡ whole
-    → new ++ trees_gained (drop (i + 1) heard) ≡ whole
-unfolding trees_gained
-gained_next heard i d front new whole below is before =
-    let own : List (List ℕ × Tree) = (get_or heard i d).0.trees.items in
-    let rest : List (List ℕ × Tree) = trees_gained (drop (i + 1) heard) in
-    ap (λ ts. ts ++ rest) is ∙ append_assoc front own rest ∙ ap (λ hs. front ++ trees_gained hs) (sym (drop_more heard i d below)) ∙ before
 
 -- ---- records made beside the desks
 

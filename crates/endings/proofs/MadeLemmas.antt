@@ -2,10 +2,11 @@
 use Rattle.std.proofs.Common.{◌≡◌, ℕ, zero, suc, ◌+◌, ◌<◌, ◌⊎◌, length, drop, map, get_or, arith, Bool, true, false, inl, inr, List, [], ◌∷◌, ◌++◌, refl, sym, ◌∙◌, ap, subst, Option, Some, None, Result, Ok, Err}
 use Rattle.std.specs.Prelude.{All, is_some, bytes_eq}
 use Rattle.std.specs.Global.{Vec}
-use Rattle.std.proofs.lemmas.List.Elements.{All-nil, All-cons, All-head, All-tail, All-append}
+use Rattle.std.proofs.lemmas.List.Elements.{All-nil, All-cons, All-head, All-tail, All-append, All-get_or}
 use Rattle.model.specs.declared.refusal.Refusal.{Refusal}
+use Rattle.model.specs.declared.refusal.Refusal.TheVariants.{Memory, Clash}
 use Rattle.model.specs.Archives.{Tree, nar}
-use Rattle.model.specs.Worlds.{Source, tree_at}
+use Rattle.model.specs.Worlds.{Source, Goal, Job, tree_at}
 use Rattle.model.proofs.BoolLemmas.{either, same_bytes}
 use Rattle.store.specs.Stored.{Extends, put_once, put_all, source_of, sources_of, AreTaken}
 use Rattle.store.proofs.PuttingLemmas.{found_first, found_second}
@@ -15,7 +16,7 @@ use Rattle.realise.specs.Holdings.{Holdings}
 use Rattle.handling.specs.Viewing.{desk_at}
 use Rattle.building.specs.Built.{IsStoredBuilt}
 use Rattle.building.specs.Gaining.{Output, IsTreeIn, archive_of_tree}
-use Rattle.endings.specs.Hearing.{tree_built, trees_built, all_trees, AreStored, AreEach}
+use Rattle.endings.specs.Hearing.{tree_built, trees_built, all_trees, AreStored, AreEach, AreBuiltFor, IsNotMade}
 
 -- the paths of trees are those of their archives
 pub held_paths : (trees : List (List ℕ × Tree)) → paths_held (map archive_of_tree trees) ≡ map (λ t. t.0) trees
@@ -143,11 +144,24 @@ module _ {X : Type 0} (P : ℕ → X → Type 0) where
   unfolding AreEach
   each_none n xs none = rw none tt
 
+-- nothing is made where memory is refused, or another tree is at the path of one that was built
+pub not_made : (sources : List Source) (output : Option Tree) (trust : ℕ → ℕ → Bool) (leader : ℕ) (job : Job) (desks : List Holdings)
+    (goals : List (List Goal)) (built same : List (Vec (ℕ × Result Output Refusal))) (why : Refusal) → same ≡ built
+    → AreBuiltFor output trust leader job desks goals built → length built ≡ length desks
+    → (why ≡ Memory) ⊎ ((why ≡ Clash) × AreTaken sources (all_trees same)) → IsNotMade sources output trust leader job desks goals why
+not_made sources output trust leader job desks goals built same why are is count (inl memory) = inl memory
+not_made sources output trust leader job desks goals built same why are is count (inr taken) =
+    inr (taken.0, record { built = built; is = is; count = count; taken = subst (λ bs. AreTaken sources (all_trees bs)) are taken.1 })
+
 -- the desk at a place of the list
 pub at_place : (desks : List Holdings) (place : ℕ) (d : Holdings) → place < length desks → d ≡ get_or desks place d → d ≡ desk_at desks place
 at_place [] place d below is = absurd (omega arith)
 at_place (x ∷ desks) zero d below is = is
 at_place (x ∷ desks) (suc place) d below is = at_place desks place d (omega arith) is
+
+-- what holds of all desks holds of that one
+pub holds_at : (P : Holdings → Type 0) (desks : List Holdings) (place : ℕ) (d : Holdings) → place < length desks → d ≡ get_or desks place d → All P desks → P d
+holds_at P desks place d below is all = subst P (sym is) (All-get_or P desks place d below all)
 
 -- the first of those from a place on
 pub drop_head : {X Y : Type 0} (f : X → Y) (d : Y) (xs rest : List X) (n : ℕ) (x : X) → drop n xs ≡ x ∷ rest

@@ -36,7 +36,6 @@ fn put_tree(built: &Built, trees: &mut Vec<(StorePath, Tree)>) -> Result<(), Ref
 }
 
 /// The same of what was built for the goals of one user.
-#[tactic(auto, unfolding(crate::specs::Hearing::trees_built))]
 fn put_trees(built: &[(u16, Built)], trees: &mut Vec<(StorePath, Tree)>) -> Result<(), Refusal>
     ensures { MatchResult result
         (λ _. trees.new.items ≡ trees.old.items ++ trees_built built.now)
@@ -49,7 +48,6 @@ fn put_trees(built: &[(u16, Built)], trees: &mut Vec<(StorePath, Tree)>) -> Resu
 }
 
 /// The trees of all that was built, with their paths. The one error is memory.
-#[tactic(auto, unfolding(crate::specs::Hearing::all_trees))]
 fn trees_of(alloc: Global, built: &[Vec<(u16, Built)>]) -> Result<Vec<(StorePath, Tree)>, Refusal>
     ensures { MatchResult result
         (λ trees. trees.items ≡ all_trees built.now)

@@ -1,6 +1,6 @@
 //! Cutting a text at a byte.
 
-ghost use Rattle.std.specs.Prelude.{◌≡◌, ◌<◌, ◌∷◌, ◌++◌, [], IfOk, OnOk, MatchOption, length, take};
+ghost use Rattle.std.specs.Prelude.{◌≡◌, ◌<◌, ◌∷◌, [], IfOk, MatchOption, length, take};
 ghost use Rattle.std.specs.List.{list_any};
 ghost use Rattle.model.specs.Lines.{cut_at, split};
 ghost use Rattle.model.specs.Forms.{is_empty_word};
@@ -37,20 +37,12 @@ impl<'a> Word<'a> {
     }
 }
 
-/// Adds a word to others.
-fn push_word<'a>(words: &mut Vec<Word<'a>>, bytes: &'a [u8]) -> Result<(), AllocError>
-    ensures { OnOk result (words.new.items ≡ words.old.items ++ bytes.now ∷ []) }
-{
-    words.push(Word { bytes })?;
-    Ok(())
-}
-
 /// A whole text as one word.
 pub(crate) fn one_word(alloc: Global, text: &[u8]) -> Result<Vec<Word<'_>>, AllocError>
     ensures { IfOk result (λ words. words.items ≡ text.now ∷ []) }
 {
     let mut words = Vec::new(alloc);
-    push_word(&mut words, text)?;
+    words.push(Word { bytes: text })?;
     Ok(words)
 }
 
@@ -92,10 +84,10 @@ pub(crate) fn first_words<'a>(
     let mut rest = text;
     for _word in 0..most {
         let Some((word, others)) = cut(b' ', rest) else {
-            push_word(&mut words, rest)?;
+            words.push(Word { bytes: rest })?;
             return Ok(words);
         };
-        push_word(&mut words, word)?;
+        words.push(Word { bytes: word })?;
         rest = others;
     }
     Ok(words)

@@ -1,11 +1,10 @@
 //! The expansions of a line.
 
 ghost use Rattle.std.specs.Prelude.{◌≡◌, ◌∷◌, ◌++◌, [], IfOk, OnOk, MatchOption, if◌then◌else◌, option_map, slice_index_or};
-ghost use Rattle.model.specs.Lines.{named_line, is_letter, expansion_in, nothing_told, told_by, part_by, expanded, piece_text, pieces_text, split, joined, filled};
+ghost use Rattle.model.specs.Lines.{named_line, is_letter, expansion_in, nothing_told, told_by, part_by, expanded, piece_text, joined, filled};
 
 use crate::cutting::cut;
 use crate::numbers::numeral_up_to;
-use crate::pieces::add;
 use crate::told::Told;
 use std::alloc::{AllocError, Global};
 use std::marker::Model;
@@ -71,13 +70,14 @@ fn expansion_in(count: usize, text: &[u8]) -> Option<Expansion<'_>>
     })
 }
 
-/// The path that an expansion by a letter is of, where the reply to its line has one.
-fn named_path(told: &[Told], letter: u8, line: usize) -> Option<&StorePath>
-    ensures { let named = told_by letter (slice_index_or told.now line nothing_told) in
+/// The path that an expansion is of, where the reply to its line has one.
+fn named_path<'a>(told: &'a [Told], expansion: &Expansion<'_>) -> Option<&'a StorePath>
+    ensures { let told = slice_index_or told.now expansion.now.line nothing_told in
+        let named = told_by expansion.now.letter told in
         MatchOption result (named ≡ None) (λ path. named ≡ Some path.now) }
 {
-    let told = told.get(line)?;
-    if letter == b'c' || letter == b'g' {
+    let told = told.get(expansion.line)?;
+    if expansion.letter == b'c' || expansion.letter == b'g' {
         told.class.as_ref()
     } else {
         told.path.as_ref()
@@ -100,25 +100,6 @@ fn add_part(
     text.extend_from_slice(digits.as_bytes())
 }
 
-/// Adds what an expansion stands for, and what stands behind it. Whether it stands for something.
-fn add_expansion(
-    alloc: Global,
-    text: &mut Vec<u8>,
-    told: &[Told],
-    expansion: &Expansion<'_>,
-) -> Result<bool, AllocError>
-    ensures { IfOk result (λ whole. (if whole then Some text.new.items else None)
-        ≡ joined (Some text.old.items) (expanded told.now [] (Some expansion.now))) }
-{
-    let letter = expansion.letter;
-    let Some(path) = named_path(told, letter, expansion.line) else {
-        return Ok(false);
-    };
-    add_part(alloc, text, letter, path)?;
-    text.extend_from_slice(expansion.rest)?;
-    Ok(true)
-}
-
 /// Adds what a text behind an opening brace comes to. Whether it comes to something.
 fn add_piece(
     alloc: Global,
@@ -129,33 +110,17 @@ fn add_piece(
     ensures { IfOk result (λ whole. (if whole then Some text.new.items else None)
         ≡ joined (Some text.old.items) (piece_text told.now piece.now)) }
 {
-    match expansion_in(told.len(), piece) {
-        Some(expansion) => add_expansion(alloc, text, told, &expansion),
-        None => {
-            add(text, b"{", piece)?;
-            Ok(true)
-        }
-    }
-}
-
-/// Adds what the texts behind opening braces come to. Whether each comes to something.
-fn add_pieces(
-    alloc: Global,
-    text: &mut Vec<u8>,
-    told: &[Told],
-    pieces: &[u8],
-) -> Result<bool, AllocError>
-    ensures { IfOk result (λ whole. (if whole then Some text.new.items else None)
-        ≡ joined (Some text.old.items) (pieces_text told.now (split 123 pieces.now))) }
-{
-    let mut rest = pieces;
-    while let Some((piece, others)) = cut(b'{', rest) {
-        if !add_piece(alloc, text, told, piece)? {
-            return Ok(false);
-        }
-        rest = others;
-    }
-    add_piece(alloc, text, told, rest)
+    let Some(expansion) = expansion_in(told.len(), piece) else {
+        text.push(b'{')?;
+        text.extend_from_slice(piece)?;
+        return Ok(true);
+    };
+    let Some(path) = named_path(told, &expansion) else {
+        return Ok(false);
+    };
+    add_part(alloc, text, expansion.letter, path)?;
+    text.extend_from_slice(expansion.rest)?;
+    Ok(true)
 }
 
 /// A line with its expansions made, or nothing where one names what its reply has not.
@@ -166,7 +131,14 @@ pub(crate) fn fill(alloc: Global, told: &[Told], line: &[u8]) -> Result<Option<V
         return Ok(Some(Vec::from_slice(alloc, line)?));
     };
     let mut text = Vec::from_slice(alloc, first)?;
-    if add_pieces(alloc, &mut text, told, pieces)? {
+    let mut rest = pieces;
+    while let Some((piece, others)) = cut(b'{', rest) {
+        if !add_piece(alloc, &mut text, told, piece)? {
+            return Ok(None);
+        }
+        rest = others;
+    }
+    if add_piece(alloc, &mut text, told, rest)? {
         Ok(Some(text))
     } else {
         Ok(None)

@@ -1,6 +1,6 @@
 //! Reading the words of a line.
 
-ghost use Rattle.std.specs.Prelude.{◌≡◌, ◌⊎◌, ◌∷◌, ◌++◌, [], true, false, codes, IfOk, OnOk, IfErr, MatchOption, MatchResult};
+ghost use Rattle.std.specs.Prelude.{◌≡◌, ◌⊎◌, ◌∷◌, ◌++◌, [], true, false, codes, IfOk, IfErr, MatchOption, MatchResult};
 ghost use Rattle.std.specs.List.{list_all};
 ghost use Rattle.model.specs.declared.refusal.Refusal.TheVariants.{Memory, BadLine};
 ghost use Rattle.model.specs.declared.verb.WordKind.TheVariants as kind;
@@ -133,15 +133,6 @@ pub(crate) fn read_output(alloc: Global, word: &[u8]) -> Result<Output, Refusal>
     Ok(output)
 }
 
-/// Adds the user of a word to others.
-fn push_user(alloc: Global, users: &mut Vec<User>, word: &[u8]) -> Result<(), Refusal>
-    ensures users { OnOk result (users.new.items ≡ users.old.items ++ word.now ∷ []) }
-    ensures memory { IfErr result (λ why. why ≡ Memory) }
-{
-    users.push(User::new(alloc, word)?)?;
-    Ok(())
-}
-
 /// The users of these words, where they are a list of users.
 pub(crate) fn read_users(alloc: Global, words: &[Word<'_>]) -> Result<Option<Vec<User>>, Refusal>
     ensures read { IfOk result (λ users. MatchOption users (are_users words.now ≡ false)
@@ -153,7 +144,7 @@ pub(crate) fn read_users(alloc: Global, words: &[Word<'_>]) -> Result<Option<Vec
         if word.bytes().len() > LONGEST_USER {
             return Ok(None);
         }
-        push_user(alloc, &mut users, word.bytes())?;
+        users.push(User::new(alloc, word.bytes())?)?;
     }
     if are_users(users.as_slice()) {
         Ok(Some(users))

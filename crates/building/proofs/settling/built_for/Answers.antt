@@ -7,6 +7,7 @@ use Rattle.model.specs.Endings.{labels_from}
 use Rattle.model.specs.Classes.{Admission, known_at}
 use Rattle.building.specs.Built.{IsBuiltOn, record_under}
 use Rattle.building.proofs.BuiltLemmas.{built_closed, has_input}
+use Rattle.std.proofs.lemmas.Result.{err_from_is_err_and}
 use Rattle.building.proofs.settling.built_for.Goals as goal
 
 pub returns-clause-built : goal.returns-clause-built
@@ -34,3 +35,13 @@ returns-clause-input c =
     let is : c.args.goal.now.resolved ≡ Some r = search rules in
     let paths : All IsPath (paths_of_labels (labels_from r)) = search rules in
     rw is (has_input c.args.archive.now r c.in_ok-built.built (search rules) (search rules) paths)
+
+pub returns-in_err-labels : goal.returns-in_err-labels
+returns-in_err-labels c =
+    let p = err_from_is_err_and c.from_residual.result c.from_residual.ensures.1 in
+    rw (p.1, p.2) (record { built = tt; closed = tt; input = tt; memory = c.in_err-labels.ensures.memory; last = c.requires.last })
+
+pub returns-in_err-built : goal.returns-in_err-built
+returns-in_err-built c =
+    let p = err_from_is_err_and c.from_residual-in_err-built.result c.from_residual-in_err-built.ensures.1 in
+    rw (p.1, p.2) (record { built = tt; closed = tt; input = tt; memory = c.in_err-built.ensures.memory; last = c.in_err-built.ensures.last })

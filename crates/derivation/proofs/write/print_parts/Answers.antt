@@ -1,7 +1,6 @@
-use Rattle.std.proofs.Common.{rules, ◌≡◌, [], ◌++◌, codes, map, ap, ◌∙◌}
-use Rattle.model.specs.Derivations.{listed}
+use Rattle.std.proofs.Common.{rules, ◌≡◌, ◌++◌, codes, ◌∙◌}
 use Rattle.derivation.specs.Parts.{derivation_of}
-use Rattle.derivation.specs.Writing.{between, rest_text}
+use Rattle.derivation.specs.Writing.{members}
 use Rattle.derivation.proofs.Written.{all_written}
 use Rattle.derivation.proofs.write.print_parts.Goals as goal
 
@@ -9,5 +8,5 @@ pub returns : goal.returns
 returns c =
     let d = derivation_of c.args.parts.now in
     let inputs = c.args.parts.now.inputs.items in
-    let front : c.put_paths.new.out.items ≡ codes "Derive([(\"out\",\"\",\"\",\"\")],[" ++ listed [] (map (between (codes "(") (codes ",[\"out\"])")) inputs) = search rules in
-    c.in_ok-put_rest.ensures ∙ ap (λ out. out ++ rest_text d) front ∙ all_written d inputs
+    let front : c.put_paths.new.out.items ≡ codes "Derive([(\"out\",\"\",\"\",\"\")],[" ++ members (codes "(") (codes ",[\"out\"])") inputs = search rules in
+    c.in_ok-put_rest.ensures ∙ all_written d inputs _ front

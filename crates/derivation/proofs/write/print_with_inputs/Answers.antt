@@ -1,7 +1,7 @@
-use Rattle.std.proofs.Common.{rules, ◌≡◌, [], ◌++◌, codes, map, ap, ◌∙◌}
-use Rattle.model.specs.Derivations.{listed, derivation_text}
+use Rattle.std.proofs.Common.{rules, ◌≡◌, ◌++◌, codes, ap, ◌∙◌}
+use Rattle.model.specs.Derivations.{derivation_text}
 use Rattle.derivation.specs.Parts.{derivation_of}
-use Rattle.derivation.specs.Writing.{between, rest_text}
+use Rattle.derivation.specs.Writing.{members}
 use Rattle.derivation.proofs.Written.{all_written}
 use Rattle.derivation.proofs.write.print_with_inputs.Goals as goal
 
@@ -9,5 +9,5 @@ pub returns : goal.returns
 returns c =
     let d = derivation_of c.parts-parts.result.now in
     let inputs = c.args.inputs.now in
-    let front : c.put_texts.new.out.items ≡ codes "Derive([(\"out\",\"\",\"\",\"\")],[" ++ listed [] (map (between (codes "(") (codes ",[\"out\"])")) inputs) = search rules in
-    c.in_ok-put_rest.ensures ∙ ap (λ out. out ++ rest_text d) front ∙ all_written d inputs ∙ ap (λ x. derivation_text (record x { inputs = inputs })) c.parts-parts.ensures.parts
+    let front : c.put_texts.new.out.items ≡ codes "Derive([(\"out\",\"\",\"\",\"\")],[" ++ members (codes "(") (codes ",[\"out\"])") inputs = search rules in
+    c.in_ok-put_rest.ensures ∙ all_written d inputs _ front ∙ ap (λ x. derivation_text (record x { inputs = inputs })) c.parts-parts.ensures.parts

@@ -1,4 +1,4 @@
-use Rattle.std.proofs.Common.{◌≡◌, ◌<◌, List, length, Some, inl, arith, rules, sym, ◌∙◌, ap, subst}
+use Rattle.std.proofs.Common.{◌≡◌, ◌<◌, List, length, Some, inl, arith, refl, rules, sym, ◌∙◌, ap, subst}
 use Rattle.std.specs.Prelude.{map}
 use Rattle.std.specs.Option.{option_copied}
 use Rattle.std.proofs.lemmas.Result.{err_from_is_err_and}
@@ -13,6 +13,16 @@ use Rattle.endings.proofs.CommitLemmas.{states_there}
 use Rattle.endings.proofs.InPlaceLemmas.{may_charge}
 use Rattle.endings.proofs.AllBuiltLemmas.{only_memory}
 use Rattle.endings.proofs.finishing.prepare.Goals as goal
+
+pub returns-in_err-heard : goal.returns-in_err-heard
+returns-in_err-heard c =
+    let p = err_from_is_err_and c.from_residual.result c.from_residual.ensures.1 in
+    rw (p.1, p.2) (record { prepared = tt; refused = c.in_err-heard.ensures.refused })
+
+pub returns-in_err-gained_by_all : goal.returns-in_err-gained_by_all
+returns-in_err-gained_by_all c =
+    let p = err_from_is_err_and c.from_residual-in_err-gained_by_all.result c.from_residual-in_err-gained_by_all.ensures.1 in
+    rw (p.1, p.2) (record { prepared = tt; refused = inl c.in_err-gained_by_all.ensures })
 
 pub returns-in_err-trees-clause-refused : goal.returns-in_err-trees-clause-refused
 returns-in_err-trees-clause-refused c =
@@ -29,6 +39,16 @@ grown-requires-clause-may c p below =
     (may_charge c.args.table.now.sources (option_copied c.args.archive) (trusts c.args.trust.now) c.args.place c.args.limits.charge c.args.job.now
     c.args.desks.now c.args.jobs.now.goals c.in_ok-heard.heard.items c.in_ok-heard.ensures.heard (search rules) p
     (let count = c.in_ok-heard.ensures.count in omega (arith, count, below)))
+
+pub returns-in_err-grown : goal.returns-in_err-grown
+returns-in_err-grown c =
+    let p = err_from_is_err_and c.from_residual-in_err-grown.result c.from_residual-in_err-grown.ensures.1 in
+    rw (p.1, p.2) (record { prepared = tt; refused = inl c.in_err-grown.ensures.memory })
+
+pub returns-in_err-told : goal.returns-in_err-told
+returns-in_err-told c =
+    let p = err_from_is_err_and c.from_residual-in_err-told.result c.from_residual-in_err-told.ensures.1 in
+    rw (p.1, p.2) (record { prepared = tt; refused = inl refl })
 
 pub returns-clause-prepared : goal.returns-clause-prepared
 returns-clause-prepared c =

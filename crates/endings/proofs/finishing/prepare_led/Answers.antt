@@ -1,4 +1,4 @@
-use Rattle.std.proofs.Common.{◌≡◌, ℕ, List, Option, rules, subst}
+use Rattle.std.proofs.Common.{◌≡◌, ℕ, List, Option, rules, subst, inl, refl}
 use Rattle.std.proofs.lemmas.Result.{err_from_is_err_and}
 use Rattle.model.specs.Archives.{Tree}
 use Rattle.model.specs.ArchiveReading.{tree_of_archive}
@@ -36,3 +36,13 @@ returns-clause-prepared c =
     moved (λ o j. IsPrepared c.args.table.now.sources o (trusts c.args.trust.now) c.args.place c.args.limits.charge j c.args.desks.now c.args.jobs.now.goals
     c.args.number c.in_ok-ending.ending) _ (tree_of_archive c.args.output.now) c.new-job.result
     (record { leader = name_at users c.args.place; number = c.args.number }) (search rules) job c.in_ok-ending.ensures.prepared
+
+pub returns-in_err-clone : goal.returns-in_err-clone
+returns-in_err-clone c =
+    let p = err_from_is_err_and c.from_residual.result c.from_residual.ensures.1 in
+    rw (p.1, p.2) (record { prepared = tt; refused = inl refl })
+
+pub returns-in_err-archive : goal.returns-in_err-archive
+returns-in_err-archive c =
+    let p = err_from_is_err_and c.from_residual-in_err-archive.result c.from_residual-in_err-archive.ensures.1 in
+    rw (p.1, p.2) (record { prepared = tt; refused = inl c.in_err-archive.ensures.memory })

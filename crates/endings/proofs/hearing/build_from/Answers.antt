@@ -1,4 +1,4 @@
-use Rattle.std.proofs.Common.{◌≡◌, ◌<◌, ℕ, length, rules, sym, subst}
+use Rattle.std.proofs.Common.{◌≡◌, ◌<◌, ℕ, length, rules, sym, subst, refl}
 use Rattle.std.specs.Global.{Vec}
 use Rattle.std.specs.Prelude.{Result}
 use Rattle.std.specs.Option.{option_copied}
@@ -13,6 +13,7 @@ use Rattle.building.specs.Gaining.{Output}
 use Rattle.building.specs.Built.{AreBuiltOn}
 use Rattle.endings.specs.Hearing.{IsBuiltAtPlace}
 use Rattle.endings.proofs.MadeLemmas.{each_pushed, each_none, at_place}
+use Rattle.std.proofs.lemmas.Result.{err_from_is_err_and}
 use Rattle.endings.proofs.hearing.build_from.Goals as goal
 
 pub loop-place-init : goal.loop-place-init
@@ -47,3 +48,13 @@ loop-place-preserved c =
       count = search rules;
       last = search rules;
     }
+
+pub returns-in_err-built : goal.returns-in_err-built
+returns-in_err-built c =
+    let p = err_from_is_err_and c.from_residual.result c.from_residual.ensures.1 in
+    rw (p.1, p.2) (record { built = tt; count = tt; memory = c.in_err-built.ensures.memory })
+
+pub returns-in_err-push : goal.returns-in_err-push
+returns-in_err-push c =
+    let p = err_from_is_err_and c.from_residual-in_err-push.result c.from_residual-in_err-push.ensures.1 in
+    rw (p.1, p.2) (record { built = tt; count = tt; memory = refl })
