@@ -1,15 +1,13 @@
 //! The program `intstore`: it runs files of lines, one event a line.
 #![tactic(auto)]
 
-mod command_line;
 mod counted;
 mod fault;
-mod settings;
 mod strike;
 
 use crate::counted::Counted;
 use crate::fault::{COMMAND_LINE_FAULT, Fault, OUT_OF_MEMORY, report};
-use crate::settings::{Action, Options};
+use command_line::{Action, Options, options};
 use model::Refusal;
 use replaying::replay;
 use schedule::Limits;
@@ -58,7 +56,7 @@ fn run_file(rt: &HostRuntime, wait: &impl Wait, options: &Options) -> io::Result
 /// Does what the words of a command line say, and gives the exit status. What cannot be said on standard
 /// error is let go.
 fn run_words(rt: &HostRuntime, wait: &impl Wait, words: &[String]) -> io::Result<u8> {
-    match command_line::options(rt.alloc(), words) {
+    match options(rt.alloc(), words) {
         Ok(options) => run_file(rt, wait, &options),
         Err(error) if error.kind() == clap::error::ErrorKind::OutOfMemory => {
             Err(io::Error::from(ErrorKind::OutOfMemory))

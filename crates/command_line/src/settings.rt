@@ -4,8 +4,8 @@ ghost use Rattle.std.specs.Prelude.{◌≤◌};
 ghost use Rattle.model.specs.Limits.{most_charge};
 
 /// What is done with a file.
-#[derive(Debug, Drop)]
-pub(crate) enum Action {
+#[derive(Drop)]
+pub enum Action {
     /// All its lines are run, and their replies are printed.
     Replay,
     /// Those of its events that can reach the user of that name are run, and his replies are printed.
@@ -13,13 +13,13 @@ pub(crate) enum Action {
 }
 
 /// What the program is to do.
-#[derive(Debug, Drop)]
-pub(crate) struct Options {
+#[derive(Drop)]
+pub struct Options {
     /// What is done with the file.
-    pub(crate) action: Action,
+    pub action: Action,
     /// The limit on each user's charge, in bytes: 1 to 1,073,741,824.
-    pub(crate) charge: u64,
+    pub charge: u64,
     /// The file whose lines are run.
-    pub(crate) file: String,
+    pub file: String,
     ghost in_range: { (1 ≤ charge) × (charge ≤ most_charge) },
 }

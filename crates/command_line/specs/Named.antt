@@ -4,7 +4,7 @@ use Rattle.std.specs.Str.Parse.{IsNumeral, digits_value, without_leading_plus}
 use Rattle.model.specs.Limits.{most_charge}
 use Rattle.clap.specs.Words.{first_value, found_of, one_text}
 use Rattle.clap.specs.declared.parser.matches.ArgMatches.{ArgMatches}
-use Rattle.app.specs.declared.settings.Options.{Options}
+use Rattle.command_line.specs.declared.settings.Options.{Options}
 
 -- the number that the digits of a text make
 abbrev pub number_of : List ℕ → ℕ

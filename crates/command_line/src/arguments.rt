@@ -1,13 +1,13 @@
-//! The command line.
+//! The arguments of the command line, and what they name.
 
 ghost use Rattle.std.specs.Prelude.{◌≤◌, IfOk};
 ghost use Rattle.model.specs.Limits.{most_charge};
-ghost use Rattle.app.specs.CommandLine.{AreOptionsOf, NamesCharge};
+ghost use Rattle.command_line.specs.Named.{AreOptionsOf, NamesCharge};
 
 use crate::settings::{Action, Options};
 use clap::error::ErrorKind;
 use clap::{Arg, ArgAction, ArgMatches, Command, Error, value_parser};
-use schedule::LARGEST_CHARGE;
+use realise::LARGEST_CHARGE;
 use std::alloc::{AllocError, Global};
 
 /// The option `--charge`.
@@ -42,37 +42,40 @@ fn user_argument<'a>(alloc: Global) -> Arg<'a> {
 
 /// The subcommand `replay`.
 fn replay_command<'a>(alloc: Global) -> Result<Command<'a>, AllocError> {
+    let arguments = vec![in alloc; charge_argument(alloc), file_argument(alloc)]?;
     Command::new(alloc, "replay")
         .about("Runs the lines of FILE one after another, and prints their replies")
-        .arg(charge_argument(alloc))?
-        .arg(file_argument(alloc))
+        .args(arguments)
 }
 
 /// The subcommand `strike`.
 fn strike_command<'a>(alloc: Global) -> Result<Command<'a>, AllocError> {
+    let arguments = vec![in alloc;
+        user_argument(alloc),
+        charge_argument(alloc),
+        file_argument(alloc),
+    ]?;
     Command::new(alloc, "strike")
         .about("Runs the events of FILE that can reach a user, and prints their replies to him")
-        .arg(user_argument(alloc))?
-        .arg(charge_argument(alloc))?
-        .arg(file_argument(alloc))
+        .args(arguments)
 }
 
-/// The command `intstore`, with no subcommand yet.
-fn plain_command<'a>(alloc: Global) -> Result<Command<'a>, AllocError> {
-    let command = Command::new(alloc, "intstore").bin_name("intstore")?;
-    Ok(
-        command
-            .version("0.1.0")
-            .about("A store for users of one machine who do not trust one another")
-            .subcommand_required(true),
-    )
+/// The two subcommands.
+fn subcommands<'a>(alloc: Global) -> Result<Vec<Command<'a>>, AllocError> {
+    let replay = replay_command(alloc)?;
+    let strike = strike_command(alloc)?;
+    Ok(vec![in alloc; replay, strike]?)
 }
 
 /// The command `intstore`, with its two subcommands.
 fn command<'a>(alloc: Global) -> Result<Command<'a>, AllocError> {
-    plain_command(alloc)?
-        .subcommand(replay_command(alloc)?)?
-        .subcommand(strike_command(alloc)?)
+    let subcommands = subcommands(alloc)?;
+    Command::new(alloc, "intstore")
+        .version("0.1.0")
+        .about("A store for users of one machine who do not trust one another")
+        .subcommand_required(true)
+        .subcommands(subcommands)?
+        .bin_name("intstore")
 }
 
 /// The limit on the charge: as given, or the largest. The parser has refused every other number.
@@ -145,8 +148,11 @@ fn options_by<'a>(
 
 /// The options that the words of a command line give, of which the first names the program.
 ///
-/// The error has the words that are to be printed, also where help is asked for.
-pub(crate) fn options(alloc: Global, words: &[String]) -> Result<Options, Error> {
+/// # Errors
+///
+/// An error of the kind `OutOfMemory` where memory was refused. Else one that has the words which are to be
+/// printed: where the command line is at fault, and where help or the version is asked for.
+pub fn options(alloc: Global, words: &[String]) -> Result<Options, Error> {
     let mut command = command(alloc)?;
     options_by(alloc, &mut command, words)
 }
