@@ -1,20 +1,126 @@
-use Rattle.std.proofs.Common.{◌≡◌, ap, sym, ◌∙◌, subst, false, List, [], ◌∷◌, ◌++◌, length, arith}
+use Rattle.std.proofs.Common.{◌≡◌, Bool, true, false, true≢false, List, [], ◌∷◌, ◌++◌, length, refl, ap, sym, ◌∙◌, subst, arith}
 use Rattle.std.proofs.lemmas.List.{length_push}
+use Rattle.model.specs.declared.refusal.Refusal.{Refusal}
+use Rattle.model.specs.declared.refusal.Refusal.TheVariants.{Memory, Stopped}
+use Rattle.events.specs.declared.reply.Reply.{Reply}
+use Rattle.events.specs.declared.reply.Reply.TheVariants.{Refused}
+use Rattle.schedule.specs.declared.state.Core.{Core}
+use Rattle.schedule.specs.Standing.{world_of, setup_of, stored_in, IsUnchanged}
 use Rattle.passes.specs.declared.row.Row.{Row}
 use Rattle.passes.specs.declared.log.Recorded.{Recorded}
-use Rattle.book.specs.Histories.{row, gave_up}
-use Rattle.book.specs.Keeping.{Contents, Kept, Steps, IsModelReply}
+use Rattle.passes.specs.Callers.{Caller, answered, Matches}
+use Rattle.book.specs.Histories.{row, gave_up, IsLegal}
+use Rattle.book.specs.Keeping.{Contents, Kept, Steps, IsModelReply, TookEvent}
 use Rattle.book.proofs.KeepingLemmas.{goes_on, stops, stays, replied, is_legal, sure_of_all}
 use Rattle.book.proofs.book.Book.apply.Given.{Over}
+use Rattle.book.proofs.book.Book.apply.Goals.{After-audit}
 use Rattle.book.proofs.book.Book.apply.Goals as goal
 
-pub returns-then-stopped-clause-legal : goal.returns-then-stopped-clause-legal
-returns-then-stopped-clause-legal g c =
-    is_legal g.J.Naming.setup c.self.inside.core c.self.inside.stopped c.self.inside.history.items c.self.invariant.0 c.isolation.ensures
+-- ---- replies
 
-pub returns-in_default-clause-legal : goal.returns-in_default-clause-legal
-returns-in_default-clause-legal g c =
-    rw c.hold.ensures.rows (is_legal g.J.Naming.setup c.self.inside.core c.self.inside.stopped c.self.inside.history.items c.self.invariant.0 c.isolation.ensures)
+-- a refusal that has no row
+has_none : (reply : Reply) (why : Refusal) → reply ≡ Refused why → gave_up (Refused why) ≡ true → gave_up reply ≡ false → ⊥
+has_none reply why is gave some = true≢false (sym gave ∙ (sym (ap gave_up is) ∙ some))
+
+not_both : (reply : Reply) → reply ≡ Refused Memory → reply ≡ Refused Stopped → ⊥
+not_both reply memory stopped = cc
+
+-- ---- the book and the pass at the call
+
+is_unchanged : (old new : Core) → new ≡ old → IsUnchanged old new
+is_unchanged old new same = record { setup = ap setup_of same; world = ap world_of same; stored = ap stored_in same }
+
+core_then : (g : Over) (c : After-audit g) → c.self.inside.core ≡ c.args.self.now.core
+core_then g c = ap (λ (b : Contents). b.core) c.self.view_is
+
+rows_then : (g : Over) (c : After-audit g) → c.self.inside.history.items ≡ c.args.self.now.rows
+rows_then g c = ap (λ (b : Contents). b.rows) c.self.view_is
+
+stopped_then : (g : Over) (c : After-audit g) → c.self.inside.stopped ≡ c.args.self.now.stopped
+stopped_then g c = ap (λ (b : Contents). b.stopped) c.self.view_is
+
+matching : (g : Over) (c : After-audit g) → Matches c.args.self.now.rows c.args.self.now.stopped c.args.pass.now
+matching g c = subst (λ (b : Contents). Matches b.rows b.stopped c.args.pass.now)
+    (λ i. record { core = c.args.self.now.core; rows = (c.self.invariant.4 ∙ rows_then g c) i; stopped = (c.self.invariant.5 ∙ stopped_then g c) i })
+    c.compare.ensures.matches
+
+-- the only pass
+only_pass : (g : Over) (c : After-audit g) → g.J.Ledger.parts ≡ 1 → c.args.pass.now.sure ≡ c.args.self.now.rows
+only_pass g c one =
+    let inside = c.self.inside in
+    sure_of_all c.args.pass.now.sure c.compare.new.self.sure inside.log.rows inside.history.items _ c.compare.ensures.matches.sure
+    c.self.invariant.4 c.compare.ensures.sure (c.audit.ensures.alone one).0 c.self.invariant.1 ∙ rows_then g c
+
+legal_then : (g : Over) (c : After-audit g) → IsLegal g.J.Naming.setup c.self.inside.history.items
+legal_then g c =
+    let inside = c.self.inside in
+    is_legal g.J.Naming.setup inside.core inside.stopped inside.history.items c.self.invariant.0 c.isolation.ensures
+
+-- ---- where the book was stopped before
+
+pub returns-then-stopped : goal.returns-then-stopped
+returns-then-stopped g c =
+    let then = (goal.at.returns-then-stopped g c).After-audit in
+    let was : c.args.self.now.stopped ≡ true = sym (stopped_then g then) ∙ c.if-stopped.true in
+    let none : gave_up c.refuse.result ≡ false → ⊥ = has_none _ Stopped c.refuse.ensures refl in
+    record {
+      row = λ some. absurd (none some);
+      step = λ some. absurd (none some);
+      reply = λ some. absurd (none some);
+      counted = λ some. absurd (none some);
+      matches = matching g then;
+      alone = only_pass g then;
+      no_row = λ _. rows_then g then;
+      memory = λ memory. absurd (not_both _ memory c.refuse.ensures);
+      unchanged = λ _ _. is_unchanged _ _ (core_then g then);
+      stopped = λ _. c.refuse.ensures;
+      stays = λ _. c.self.view_is;
+      only_then = λ _. was;
+      told = λ _. c.audit.ensures.same.0 ∙ c.compare.ensures.stopped (c.self.invariant.5 ∙ c.if-stopped.true);
+      stops = λ stops. absurd (true≢false (sym was ∙ stops.0));
+      taken = λ stops. absurd (true≢false (sym was ∙ stops.0));
+      legal = legal_then g then;
+    }
+
+-- ---- where it went on
+
+not_stopped : (g : Over) (c : After-audit g) → c.self.inside.stopped ≡ false → c.args.self.now.stopped ≡ true → ⊥
+not_stopped g c going stopped = true≢false (sym stopped ∙ (sym (stopped_then g c) ∙ going))
+
+-- a mark that stays
+not_true : {stopped : Bool} → stopped ≡ false → stopped ≡ true → ⊥
+not_true going stopped = true≢false (sym stopped ∙ going)
+
+pass_then : (g : Over) (c : After-audit g) → c.self.inside.stopped ≡ false → c.audit.new.self ≡ c.args.pass.now
+pass_then g c going = c.audit.ensures.same.0 ∙ c.compare.ensures.going (c.self.invariant.5 ∙ going)
+
+-- ---- where no room is made for a row
+
+pub returns-in_default : goal.returns-in_default
+returns-in_default g c =
+    let then = (goal.at.returns-in_default g c).After-audit in
+    let none : gave_up c.refuse-in_default.result ≡ false → ⊥ = has_none _ Memory c.refuse-in_default.ensures refl in
+    let goes : c.args.self.now.stopped ≡ true → ⊥ = not_stopped g then c.if-stopped.false in
+    record {
+      row = λ some. absurd (none some);
+      step = λ some. absurd (none some);
+      reply = λ some. absurd (none some);
+      counted = λ some. absurd (none some);
+      matches = matching g then;
+      alone = only_pass g then;
+      no_row = λ _. c.hold.ensures.rows ∙ rows_then g then;
+      memory = λ _. pass_then g then c.if-stopped.false;
+      unchanged = λ _ _. is_unchanged _ _ (core_then g then);
+      stopped = λ stopped. absurd (goes stopped);
+      stays = λ stopped. absurd (goes stopped);
+      only_then = λ stopped. absurd (not_both _ c.refuse-in_default.ensures stopped);
+      told = λ stopped. absurd (not_both _ c.refuse-in_default.ensures stopped);
+      stops = λ _. c.refuse-in_default.ensures;
+      taken = λ stops. absurd (not_true c.if-stopped.false stops.1);
+      legal = rw c.hold.ensures.rows (legal_then g then);
+    }
+
+-- ---- where memory is refused before the core takes the event
 
 pub invariant_of-self-in-Err : goal.invariant_of-self-in-Err
 invariant_of-self-in-Err g c =
@@ -27,9 +133,32 @@ invariant_of-self-in-Err g c =
       ap (λ (log : Recorded). log.stopped) c.compare.ensures.same ∙ c.self.invariant.5,
     )
 
-pub returns-in-Err-clause-legal : goal.returns-in-Err-clause-legal
-returns-in-Err-clause-legal g c =
-    rw c.hold.ensures.rows (is_legal g.J.Naming.setup c.self.inside.core c.self.inside.stopped c.self.inside.history.items c.self.invariant.0 c.isolation.ensures)
+pub returns-in-Err : goal.returns-in-Err
+returns-in-Err g c =
+    let then = (goal.at.returns-in-Err g c).After-audit in
+    let memory : Refused c.in-Err.why ≡ Refused Memory = ap (λ (why : Refusal). Refused why) c.in-Err.ensures.memory in
+    let none : gave_up (Refused c.in-Err.why) ≡ false → ⊥ = has_none (Refused c.in-Err.why) Memory memory refl in
+    let goes : c.args.self.now.stopped ≡ true → ⊥ = not_stopped g then c.if-stopped.false in
+    record {
+      row = λ some. absurd (none some);
+      step = λ some. absurd (none some);
+      reply = λ some. absurd (none some);
+      counted = λ some. absurd (none some);
+      matches = matching g then;
+      alone = only_pass g then;
+      no_row = λ _. c.hold.ensures.rows ∙ rows_then g then;
+      memory = λ _. pass_then g then c.if-stopped.false;
+      unchanged = λ _ _. subst (λ (core : Core). IsUnchanged core c.step.new.core) (core_then g then) c.in-Err.ensures.refused;
+      stopped = λ stopped. absurd (goes stopped);
+      stays = λ stopped. absurd (goes stopped);
+      only_then = λ stopped. absurd (not_both _ memory stopped);
+      told = λ stopped. absurd (not_both _ memory stopped);
+      stops = λ _. memory;
+      taken = λ stops. absurd (not_true c.if-stopped.false stops.1);
+      legal = rw c.hold.ensures.rows (legal_then g then);
+    }
+
+-- ---- where memory is refused after that
 
 pub invariant_of-self-in_default-answered : goal.invariant_of-self-in_default-answered
 invariant_of-self-in_default-answered g c =
@@ -38,15 +167,50 @@ invariant_of-self-in_default-answered g c =
       ap (λ (rows : List Row). length rows) c.hold.ensures.rows ∙ (c.self.invariant.1 ∙ sym c.audit.ensures.same.1),
       c.self.invariant.2,
       c.self.invariant.3,
-      ap (λ (log : Recorded). log.rows) c.stop.ensures ∙ (ap (λ (log : Recorded). log.rows) c.compare.ensures.same ∙ (c.self.invariant.4 ∙ sym c.hold.ensures.rows)),
+      ap (λ (log : Recorded). log.rows) c.stop.ensures
+      ∙ (ap (λ (log : Recorded). log.rows) c.compare.ensures.same ∙ (c.self.invariant.4 ∙ sym c.hold.ensures.rows)),
       ap (λ (log : Recorded). log.stopped) c.stop.ensures,
     )
 
-pub returns-in_default-answered-clause-legal : goal.returns-in_default-answered-clause-legal
-returns-in_default-answered-clause-legal g c =
-    rw c.hold.ensures.rows (is_legal g.J.Naming.setup c.self.inside.core c.self.inside.stopped c.self.inside.history.items c.self.invariant.0 c.isolation.ensures)
+pub returns-in_default-answered : goal.returns-in_default-answered
+returns-in_default-answered g c =
+    let then = (goal.at.returns-in_default-answered g c).After-audit in
+    let taken : TookEvent c.self.inside.core c.args.event c.step.new.core = rw c.in_default-answered.is at c.in-Ok-step.ensures.lost in
+    let goes : c.args.self.now.stopped ≡ true → ⊥ = not_stopped g then c.if-stopped.false in
+    record {
+      row = λ some. absurd (true≢false some);
+      step = λ some. absurd (true≢false some);
+      reply = λ some. absurd (true≢false some);
+      counted = λ some. absurd (true≢false some);
+      matches = matching g then;
+      alone = only_pass g then;
+      no_row = λ _. c.hold.ensures.rows ∙ rows_then g then;
+      memory = λ _. pass_then g then c.if-stopped.false;
+      unchanged = λ _ same. absurd (goes (sym same));
+      stopped = λ stopped. absurd (goes stopped);
+      stays = λ stopped. absurd (goes stopped);
+      only_then = λ stopped. absurd (not_both _ refl stopped);
+      told = λ stopped. absurd (not_both _ refl stopped);
+      stops = λ _. refl;
+      taken = λ _. subst (λ (core : Core). TookEvent core c.args.event c.step.new.core) (core_then g then) taken;
+      legal = rw c.hold.ensures.rows (legal_then g then);
+    }
 
 -- ---- where the call has a row
+
+pub add_row-requires : goal.add_row-requires
+add_row-requires g c =
+    let then = (goal.at.add_row-requires g c).After-audit in
+    let last : c.in-Some.row ≡ row c.number.result c.args.event c.in-Some.reply = rw c.in-Some.is at c.in-Ok-step.ensures.row in
+    let log : c.compare.new.log ≡ c.self.inside.log = c.compare.ensures.same in
+    let pass : c.audit.new.self ≡ c.args.pass.now = pass_then g then c.if-stopped.false in
+    let rows : length c.compare.new.log.rows ≡ c.self.inside.calls.total =
+        ap (λ (l : Recorded). length l.rows) log ∙ (ap (λ (rows : List Row). length rows) c.self.invariant.4 ∙ c.self.invariant.1) in
+    record {
+      mine = ap (λ (r : Row). r.pass) last ∙ c.number.ensures;
+      matches = subst (λ (x : Recorded × Caller). Matches x.0.rows x.0.stopped x.1) (λ i. (sym log i, sym pass i)) c.compare.ensures.matches;
+      alone = λ one. rows ∙ (sym (c.audit.ensures.alone one).1 ∙ ap (λ (p : Caller). p.calls) (sym c.audit.ensures.same.0));
+    }
 
 going : (g : Over) (c : goal.After-push g) → Kept g.J.Naming.setup c.self.inside.core false c.self.inside.history.items
 going g c = rw c.if-stopped.false at c.self.invariant.0
@@ -72,46 +236,42 @@ invariant_of-self-2 g c =
     let r : Row = c.in-Some.row in
     let log : c.compare.new.log.rows ≡ old.history.items = ap (λ (l : Recorded). l.rows) c.compare.ensures.same ∙ c.self.invariant.4 in (
       rw (c.if-stopped.false, rows_now g c) (kept_now g c),
-      ap (λ (rows : List Row). length rows) (rows_now g c) ∙ omega (arith, length_push old.history.items r, c.self.invariant.1, c.audit.ensures.same.1, c.add_row.ensures.calls),
+      ap (λ (rows : List Row). length rows) (rows_now g c)
+      ∙ omega (arith, length_push old.history.items r, c.self.invariant.1, c.audit.ensures.same.1, c.add_row.ensures.calls),
       c.self.invariant.2,
       c.self.invariant.3,
       ap (λ (l : Recorded). l.rows) c.add_row.ensures.log ∙ (ap (λ (rows : List Row). rows ++ r ∷ []) log ∙ sym (rows_now g c)),
       ap (λ (l : Recorded). l.stopped) c.add_row.ensures.log ∙ (ap (λ (l : Recorded). l.stopped) c.compare.ensures.same ∙ c.self.invariant.5),
     )
 
-pub returns-clause-reply : goal.returns-clause-reply
-returns-clause-reply g c some =
+pub returns : goal.returns
+returns g c =
+    let then = (goal.at.returns g c).After-audit in
     let old = c.self.inside in
-    let rows : old.history.items ≡ c.args.self.now.rows = ap (λ (b : Contents). b.rows) c.self.view_is in
-    subst (λ (x : List Row × Row). IsModelReply g.J.Naming.setup x.0 x.1.event x.1.reply) (λ i. (rows i, last_row g c i))
-    (replied g.J.Naming.setup old.core c.step.new.core old.history.items c.in-Some.row (going g c) (some_row g c) (step_of g c))
-
-pub returns-clause-legal : goal.returns-clause-legal
-returns-clause-legal g c = rw (rows_now g c) (is_legal g.J.Naming.setup c.step.new.core false (c.self.inside.history.items ++ c.in-Some.row ∷ []) (kept_now g c) c.isolation.ensures)
-
--- ---- the only pass
-
-pub returns-then-stopped-clause-alone : goal.returns-then-stopped-clause-alone
-returns-then-stopped-clause-alone g c = λ one.
-    sure_of_all c.args.pass.now.sure c.compare.new.self.sure c.self.inside.log.rows c.self.inside.history.items _ c.compare.ensures.matches.sure c.self.invariant.4
-    c.compare.ensures.sure (c.audit.ensures.alone one).0 c.self.invariant.1 ∙ ap (λ (b : Contents). b.rows) c.self.view_is
-
-pub returns-in_default-clause-alone : goal.returns-in_default-clause-alone
-returns-in_default-clause-alone g c = λ one.
-    sure_of_all c.args.pass.now.sure c.compare.new.self.sure c.self.inside.log.rows c.self.inside.history.items _ c.compare.ensures.matches.sure c.self.invariant.4
-    c.compare.ensures.sure (c.audit.ensures.alone one).0 c.self.invariant.1 ∙ ap (λ (b : Contents). b.rows) c.self.view_is
-
-pub returns-in-Err-clause-alone : goal.returns-in-Err-clause-alone
-returns-in-Err-clause-alone g c = λ one.
-    sure_of_all c.args.pass.now.sure c.compare.new.self.sure c.self.inside.log.rows c.self.inside.history.items _ c.compare.ensures.matches.sure c.self.invariant.4
-    c.compare.ensures.sure (c.audit.ensures.alone one).0 c.self.invariant.1 ∙ ap (λ (b : Contents). b.rows) c.self.view_is
-
-pub returns-in_default-answered-clause-alone : goal.returns-in_default-answered-clause-alone
-returns-in_default-answered-clause-alone g c = λ one.
-    sure_of_all c.args.pass.now.sure c.compare.new.self.sure c.self.inside.log.rows c.self.inside.history.items _ c.compare.ensures.matches.sure c.self.invariant.4
-    c.compare.ensures.sure (c.audit.ensures.alone one).0 c.self.invariant.1 ∙ ap (λ (b : Contents). b.rows) c.self.view_is
-
-pub returns-clause-alone : goal.returns-clause-alone
-returns-clause-alone g c = λ one.
-    sure_of_all c.args.pass.now.sure c.compare.new.self.sure c.self.inside.log.rows c.self.inside.history.items _ c.compare.ensures.matches.sure c.self.invariant.4
-    c.compare.ensures.sure (c.audit.ensures.alone one).0 c.self.invariant.1 ∙ ap (λ (b : Contents). b.rows) c.self.view_is
+    let some : gave_up c.in-Some.reply ≡ false = rw c.in-Some.is at c.in-Ok-step.ensures.some in
+    let none : gave_up c.in-Some.reply ≡ true → ⊥ = not_true some in
+    let stepped : Steps old.core c.args.event c.in-Some.reply c.step.new.core = rw c.in-Some.is at c.in-Ok-step.ensures.step in
+    let goes : c.args.self.now.stopped ≡ true → ⊥ = not_stopped g then c.if-stopped.false in
+    let pass : c.audit.new.self ≡ c.args.pass.now = pass_then g then c.if-stopped.false in
+    let number : c.number.result ≡ c.args.pass.now.number = c.number.ensures ∙ ap (λ (p : Caller). p.number) pass in
+    let log : c.compare.new.log.rows ≡ old.history.items = ap (λ (l : Recorded). l.rows) c.compare.ensures.same ∙ c.self.invariant.4 in
+    record {
+      row = λ _. rows_now g c ∙ (λ i. rows_then g then i ++ (last_row g c ∙ ap (λ n. row n c.args.event c.in-Some.reply) number) i ∷ []);
+      step = λ _. subst (λ (core : Core). Steps core c.args.event c.in-Some.reply c.step.new.core) (core_then g then) stepped;
+      reply = λ _.
+          subst (λ (x : List Row × Row). IsModelReply g.J.Naming.setup x.0 x.1.event x.1.reply) (λ i. (rows_then g then i, last_row g c i))
+          (replied g.J.Naming.setup old.core c.step.new.core old.history.items c.in-Some.row (going g c) (some_row g c) (step_of g c));
+      counted = λ _. c.add_row.ensures.pass ∙ (λ i. answered (pass i) ((ap (λ (rows : List Row). rows ++ c.in-Some.row ∷ []) log ∙ sym (rows_now g c)) i));
+      matches = matching g then;
+      alone = only_pass g then;
+      no_row = λ gave. absurd (none gave);
+      memory = λ memory. absurd (has_none _ Memory memory refl some);
+      unchanged = λ gave. absurd (none gave);
+      stopped = λ stopped. absurd (goes stopped);
+      stays = λ stopped. absurd (goes stopped);
+      only_then = λ stopped. absurd (has_none _ Stopped stopped refl some);
+      told = λ stopped. absurd (has_none _ Stopped stopped refl some);
+      stops = λ stops. absurd (not_true c.if-stopped.false stops.1);
+      taken = λ stops. absurd (not_true c.if-stopped.false stops.1);
+      legal = rw (rows_now g c) (is_legal g.J.Naming.setup c.step.new.core false _ (kept_now g c) c.isolation.ensures);
+    }
