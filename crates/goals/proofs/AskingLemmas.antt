@@ -1,5 +1,5 @@
 -- Asking for a goal, and how far it is.
-use Rattle.std.proofs.Common.{◌≡◌, ℕ, suc, ◌+◌, ◌≤◌, Bool, true, false, ◌⊎◌, inl, inr, List, [], ◌∷◌, ◌++◌, length, refl, sym, ◌∙◌, ap, subst, arith, rules, Some, None, Result, Ok, Err}
+use Rattle.std.proofs.Common.{◌≡◌, ℕ, suc, ◌+◌, ◌≤◌, Bool, true, false, true≢false, ◌⊎◌, inl, inr, List, [], ◌∷◌, ◌++◌, length, refl, sym, ◌∙◌, ap, subst, arith, rules, Some, None, Result, Ok, Err}
 use Rattle.std.specs.Prelude.{All, IfOk, IfErr, OnErr, Option, is_some, nat_lt}
 use Rattle.std.proofs.lemmas.Bool.Decides.{nat_tests}
 use Rattle.model.specs.declared.refusal.Refusal.{Refusal}
@@ -171,7 +171,7 @@ module _ (users : List (List ℕ)) (trust : ℕ → ℕ → Bool) (goals : List 
     status_unmade limit table desks paired sound goals_sound within actor found =
         let present : goal_at n (w limit table desks paired sound goals_sound within actor found actor).goals ≡ Some g =
         ap (goal_at n) (his_goals limit table desks paired sound goals_sound within actor found) ∙ there in
-        told_there limit table desks paired sound goals_sound within actor found (Err Memory) (λ fault. cc) (search rules)
+        told_there limit table desks paired sound goals_sound within actor found (Err Memory) (λ fault. absurd (true≢false fault)) (search rules)
         (λ why quick o. (let is = rw present at o in cc)) refl
 
     -- it is told

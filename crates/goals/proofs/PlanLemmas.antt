@@ -1,9 +1,9 @@
 -- A goal that is planned.
-use Rattle.std.proofs.Common.{◌≡◌, ◌≢◌, ℕ, zero, suc, ◌<◌, Bool, true, false, List, [], ◌∷◌, length, get_or, refl, sym, ◌∙◌, ap, subst, ◌⊎◌, inl, inr, rules, Some, Result, Ok, Err}
+use Rattle.std.proofs.Common.{◌≡◌, ◌≢◌, ℕ, zero, suc, ◌<◌, Bool, true, false, true≢false, List, [], ◌∷◌, length, get_or, refl, sym, ◌∙◌, ap, subst, ◌⊎◌, inl, inr, rules, Some, Result, Ok, Err}
 use Rattle.std.specs.Borrow.{Bor}
 use Rattle.std.specs.Prelude.{All, Contains, MatchResult, map, is_some}
 use Rattle.std.proofs.lemmas.Grind.{merely}
-use Rattle.std.proofs.lemmas.List.{get_or-set_same}
+use Rattle.std.proofs.lemmas.List.{get_or-set_same, set-get_or}
 use Rattle.std.proofs.lemmas.List.Elements.{All-nil, All-get_or, All-set}
 use Rattle.std.proofs.lemmas.Option.{slice_get_within, get_or_from_slice_get}
 use Rattle.model.specs.declared.refusal.Refusal.{Refusal}
@@ -91,6 +91,21 @@ failing : (s : Sight) (n : ℕ) (g : Goal) (why : Refusal) → fails why ≡ tru
 failing s n g NotRealised t = cc
 failing s n g Memory t = cc
 failing s n g why t = refl
+
+-- an answer is no refusal
+pub no_refusal : {X : Type 0} (x : X) (why : Refusal) → Ok x ≡ Err why → ⊥
+no_refusal x why same = cc
+
+-- what is planned is refused by none that needs no memory
+not_planned_at_once : (s : Sight) (n : ℕ) (g : Goal) (result : Result Resolved Refusal) (other : Refusal) → needs_no_memory other ≡ true
+    → plan_resolved s n g result ≡ Err other → ⊥
+not_planned_at_once s n g (Ok r) other quick e = no_refusal _ other e
+not_planned_at_once s n g (Err NotRealised) other quick e = (let same : NotRealised ≡ other = cc in let no = rw (sym same) at quick in cc)
+not_planned_at_once s n g (Err why) other quick e = no_refusal _ other e
+
+-- no state is another one
+pub not_building : (why : Refusal) (job : Job) → Failed why ≢ Building job
+not_building why job same = cc
 
 module _ (setup : Setup) (w : World) (u : List ℕ) (n : ℕ) (d : Derivation) (it : IsToPlan (sight_of setup w u) n d) where
   abbrev its : Sight
@@ -236,22 +251,18 @@ module _ (users : List (List ℕ)) (limit : ℕ) (trust : ℕ → ℕ → Bool) 
     ]
       where
         no_quick : (other : Refusal) → needs_no_memory other ≡ true → plan s n ≡ Err other → ⊥
-        no_quick other quick o = at (resolve_for s d) (sym (planned_so setup w actor n d it (resolve_for s d) refl) ∙ o)
-          where
-            at : (result : Result Resolved Refusal) → plan_resolved s n it.goal result ≡ Err other → ⊥
-            at (Ok r) e = cc
-            at (Err NotRealised) e = (let same : NotRealised ≡ other = cc in let no = rw (sym same) at quick in cc)
-            at (Err why) e = cc
+        no_quick other quick o =
+            not_planned_at_once s n it.goal (resolve_for s d) other quick (sym (planned_so setup w actor n d it (resolve_for s d) refl) ∙ o)
 
     -- it fails
     pub failed : (why : Refusal) (reply : Rust.Reply) → IsNotResolvedFor setup w actor d why → fails why ≡ true → reply_of reply ≡ events.GoalState (Failed why)
         → Handles (Ok reply) (with_goal_at n (in_state (Failed why) it.goal) own) old
-    failed why reply (inl memory) t told = absurd (let no = rw memory at t in cc)
+    failed why reply (inl memory) t told = absurd (true≢false (sym t ∙ ap fails memory))
     failed why reply (inr is) t told =
         becomes_so reply (in_state (Failed why) it.goal) (Failed why) [] told (planned_so setup w actor n d it (Err why) is ∙ failing s n it.goal why t)
         (resolved_there old own n it.goal own_sound (own_there d it)) (λ texts all inside. All-nil (IsHashed texts))
         (stored_so setup w actor n d it (Err why) is)
-        (given_so setup w actor n d it (λ r two. absurd (let no = sym is ∙ two in cc))) (λ job building. cc)
+        (given_so setup w actor n d it (λ r two. absurd (no_refusal r why (sym two ∙ is)))) (not_building why)
 
     module _ (law : ServedAreMade) (r : Resolved) (resolved : IsResolvedFor setup w actor d r) where
       closure_hashed : (texts : List (List ℕ)) → All (IsHashed texts) old → All (Contains texts) (plan_texts s n)
@@ -348,6 +359,11 @@ put_there all new place changed below is = ap (goals_at place) is ∙ get_or-set
 pub others_left : (all new : OwnedByAll) (place : ℕ) (changed : List Goal) → place < length all.goals → new ≡ with_goals_at place changed all
     → new ≡ with_goals_at place (goals_at place new) all
 others_left all new place changed below is = is ∙ ap (λ own. with_goals_at place own all) (sym (put_there all new place changed below is))
+
+-- nor does a goal change
+pub others_kept : (all new : OwnedByAll) (place : ℕ) → new ≡ all → new ≡ with_goals_at place (goals_at place new) all
+others_kept all new place is =
+    is ∙ ap (λ gs. record all { goals = gs }) (sym (set-get_or all.goals place [])) ∙ ap (λ x. with_goals_at place (goals_at place x) all) (sym is)
 
 -- a goal that is not kept is so for this reason
 pub unkept : (old : List Source) (r : Resolved) (trees : List (List ℕ × Tree)) (why : Refusal) → trees ≡ map tree_with_path r.closure

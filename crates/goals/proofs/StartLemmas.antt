@@ -1,5 +1,5 @@
 -- A goal that is started.
-use Rattle.std.proofs.Common.{◌≡◌, ℕ, zero, suc, ◌<◌, Bool, true, false, List, [], ◌∷◌, ◌++◌, length, length-set, refl, sym, ◌∙◌, ap, subst, arith, inl, ◌⊎◌, inr, Option, Some, None, Result, Ok, Err}
+use Rattle.std.proofs.Common.{◌≡◌, ℕ, zero, suc, ◌<◌, Bool, true, false, true≢false, List, [], ◌∷◌, ◌++◌, length, length-set, refl, sym, ◌∙◌, ap, subst, arith, inl, ◌⊎◌, inr, Option, Some, None, Result, Ok, Err}
 use Rattle.std.specs.Prelude.{All, MatchResult, ◌&&◌, if◌then◌else◌, is_some, map, filter, bytes_eq, nat_le, slice_get, slice_set}
 use Rattle.std.specs.List.{list_any}
 use Rattle.std.proofs.lemmas.Grind.{not_there}
@@ -41,7 +41,7 @@ use Rattle.goals.specs.Starting.{IsToStart, IsNotToStart, uncopied_state}
 use Rattle.handling.proofs.GoalLemmas.{goals_sound_at}
 use Rattle.handling.proofs.SupportLemmas.{still_supported, idle_supported, supported_with, built_supported}
 use Rattle.views.proofs.ClosureLemmas.{world, his_desk, his_sound, left_there}
-use Rattle.goals.proofs.PlanLemmas.{resolved_there, sound_with, put_there, others_left}
+use Rattle.goals.proofs.PlanLemmas.{no_refusal, not_building, resolved_there, sound_with, put_there, others_left}
 
 -- ---- a closure that is there
 
@@ -196,9 +196,11 @@ not_failing why f = cc
 not_quota : NotRealised ≡ Quota → ⊥
 not_quota same = cc
 
--- a reply is no refusal
-no_refusal : (reply : Rust.Reply) (why : Refusal) → Ok reply ≡ Err why → ⊥
-no_refusal reply why same = cc
+-- no fault, where no clash is one
+no_fault : (why : Refusal) → fails why ≡ true → (why ≡ Clash → ⊥) → is_fault why ≡ false
+no_fault Memory t clean = absurd (true≢false (sym t))
+no_fault Clash t clean = absurd (clean refl)
+no_fault why t clean = refl
 
 -- ---- a goal that is put
 
@@ -298,8 +300,8 @@ module _ (users : List (List ℕ)) (limit : ℕ) (trust : ℕ → ℕ → Bool) 
         at : (b : Bool)
             → (if b then turns s (with_entries r.closure s.desk) n (in_state (Building (job_of s.running (own_job s n) r)) it.goal)
             else turns s s.desk n (in_state (Failed Quota) it.goal)) ≡ Err other → ⊥
-        at true e = cc
-        at false e = cc
+        at true e = no_refusal _ other e
+        at false e = no_refusal _ other e
 
     -- memory is refused
     pub no_memory : Handles (Err Memory) own desk
@@ -383,13 +385,8 @@ module _ (users : List (List ℕ)) (limit : ℕ) (trust : ℕ → ℕ → Bool) 
             kept = tt;
             sound = changed_sound (Failed why);
             supported = λ was. supported_with after own n (in_state (Failed why) it.goal) (still_supported desk after own copies.gains was)
-                (idle_supported after (in_state (Failed why) it.goal) (λ job building. cc));
+                (idle_supported after (in_state (Failed why) it.goal) (not_building why));
           }
-        where
-          no_fault : (y : Refusal) → fails y ≡ true → (y ≡ Clash → ⊥) → is_fault y ≡ false
-          no_fault Memory t clean = cc
-          no_fault Clash t clean = absurd (clean refl)
-          no_fault y t clean = refl
 
       -- memory is refused for the copy
       uncopied : (why : Refusal) → CopiesEntries limit old desk r.closure (Err why) new after → fails why ≡ false → Handles (Err why) own after

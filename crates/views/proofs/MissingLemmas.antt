@@ -1,18 +1,26 @@
 -- Entries of a closure that are not on a desk: what is asked of them before they are added.
-use Rattle.std.proofs.Common.{◌≡◌, ℕ, ◌≤◌, Bool, true, false, inl, inr, List, [], ◌∷◌, length, refl, ◌∙◌, ap, subst, arith}
-use Rattle.std.specs.Prelude.{All, map, filter, bytes_eq, not}
-use Rattle.std.proofs.lemmas.List.Elements.{All-nil, All-cons, All-head, All-tail}
+use Rattle.std.proofs.Common.{◌≡◌, ℕ, ◌+◌, ◌<◌, ◌≤◌, Bool, true, false, cond, inl, inr, List, [], ◌∷◌, ◌++◌, length, get_or}
+use Rattle.std.proofs.Common.{drop, refl, sym, ◌∙◌, ap, subst, append_assoc, arith, Result, Ok, Err}
+use Rattle.std.specs.Prelude.{All, map, filter, bytes_eq, not, IfErr}
+use Rattle.std.specs.Result.{IsErrAnd}
+use Rattle.std.proofs.lemmas.List.{drop_all, append-nil}
+use Rattle.std.proofs.lemmas.List.Elements.{All-nil, All-cons, All-head, All-tail, All-push}
 use Rattle.std.proofs.lemmas.List.Sums.{sum_by-le}
 use Rattle.model.specs.Reach.{is_among}
 use Rattle.model.specs.Worlds.{Source, Record, Desk, OfSource, OfRecord, path_of_entry, tree_at, are_distinct, charge_of, is_within, has_entry, with_entry, with_all, missing, with_entries}
 use Rattle.model.specs.Worlds as worlds
-use Rattle.model.specs.Closures.{entry_before}
+use Rattle.model.specs.Archives.{nar}
+use Rattle.model.specs.Closures.{entry_before, tree_of_entry}
 use Rattle.model.proofs.BoolLemmas.{either, same_bytes, both}
 use Rattle.model.proofs.MemberLemmas.{In, from_filter}
 use Rattle.closures.specs.Ordered.{Ascends}
 use Rattle.choose.proofs.SetLemmas.{irreflexive, clash}
 use Rattle.choose.proofs.OrderLemmas.{entry_before-Weak}
 use Rattle.records.specs.declared.entry.Entry.{Entry}
+use Rattle.records.specs.declared.entry.Entry.TheVariants as entry
+use Rattle.records.specs.Recorded.{with_tree, without_tree}
+use Rattle.records.specs.Entries.{entry_with}
+use Rattle.records.proofs.LoopLemmas.{drop_next}
 use Rattle.realise.specs.Holdings.{bare, Holdings, is_on, sources_in, AreCountable, AreAbsent}
 use Rattle.handling.specs.Sound.{IsClosure}
 use Rattle.views.specs.Taking.{entry_without, counted, missing_on}
@@ -94,3 +102,55 @@ are_countable d entries found closure is small =
     omega (arith, few, same, closure.few)) in
     let sum = sum_by-le (λ (e : Entry × ℕ). e.1) 67108864 found small in
     omega (arith, sum, count)
+
+-- what holds of an error
+pub if_err : {T E : Type 0} (r : Result T E) (P : E → Type 0) → IsErrAnd r P → IfErr r P
+if_err (Ok x) P is = tt
+if_err (Err why) P is = is
+
+-- what is put on a desk for an entry
+its_missing : (e : worlds.Entry) (missing : Entry) → entry_with (tree_of_entry e) missing ≡ e → entry_without e ≡ missing
+its_missing (OfSource s) (entry.Source path) is = cc
+its_missing (OfSource s) (entry.Record r) is = cc
+its_missing (OfRecord r) (entry.Source path) is = cc
+its_missing (OfRecord r) (entry.Record q) is = (let same : with_tree r.tree q ≡ r = cc in ap (λ x. entry.Record (without_tree x)) (sym same))
+
+-- an entry is found exactly where it is not on the desk
+missing_one : (d : Holdings) (e : worlds.Entry) (rest : List worlds.Entry) (old : List (Entry × ℕ)) (b : Bool) (missing : Entry) → entry_without e ≡ missing
+    → is_on missing d ≡ b
+    → cond b old (old ++ (missing, length (nar (tree_of_entry e))) ∷ []) ++ map counted (missing_on d rest) ≡ old ++ map counted (missing_on d (e ∷ rest))
+missing_one d e rest old true missing put is = let on : is_on (entry_without e) d ≡ true = ap (λ m. is_on m d) put ∙ is in rw on refl
+missing_one d e rest old false missing put is =
+    let off : is_on (entry_without e) d ≡ false = ap (λ m. is_on m d) put ∙ is in
+    rw off (append_assoc old ((missing, length (nar (tree_of_entry e))) ∷ []) (map counted (missing_on d rest))
+    ∙ ap (λ m. old ++ (m, length (nar (tree_of_entry e))) ∷ map counted (missing_on d rest)) (sym put))
+
+-- the bytes of each stay small
+small_next : (old new : List (Entry × ℕ)) (b : Bool) (missing : Entry) (bytes : ℕ) → new ≡ cond b old (old ++ (missing, bytes) ∷ []) → bytes ≤ 67108864
+    → All (λ e. e.1 ≤ 67108864) old → All (λ e. e.1 ≤ 67108864) new
+small_next old new true missing bytes now small was = subst (All (λ (e : Entry × ℕ). e.1 ≤ 67108864)) (sym now) was
+small_next old new false missing bytes now small was =
+    subst (All (λ (e : Entry × ℕ). e.1 ≤ 67108864)) (sym now) (All-push (λ (e : Entry × ℕ). e.1 ≤ 67108864) old (missing, bytes) was small)
+
+-- one turn of the loop that finds them
+pub missing_next : (d : Holdings) (es : List worlds.Entry) (i : ℕ) (e : worlds.Entry) (missing : Entry) (old new all : List (Entry × ℕ)) → i < length es
+    → e ≡ get_or es i e → entry_with (tree_of_entry e) missing ≡ e
+    → new ≡ cond (is_on missing d) old (old ++ (missing, length (nar (tree_of_entry e))) ∷ [])
+    → length (nar (tree_of_entry e)) ≤ 67108864
+    → old ++ map counted (missing_on d (drop i es)) ≡ all → All (λ (e : Entry × ℕ). e.1 ≤ 67108864) old
+    → record { found : new ++ map counted (missing_on d (drop (i + 1) es)) ≡ all; small : All (λ (e : Entry × ℕ). e.1 ≤ 67108864) new }
+missing_next d es i e missing old new all below here is now bytes was small =
+    let put = its_missing e missing is in
+    let rest : List worlds.Entry = drop (i + 1) es in
+    record {
+      found = ap (λ xs. xs ++ map counted (missing_on d rest)) now
+          ∙ missing_one d e rest old (is_on missing d) missing put refl
+          ∙ ap (λ xs. old ++ map counted (missing_on d xs)) (sym (drop_next es i e below here)) ∙ was;
+      small = small_next old new (is_on missing d) missing (length (nar (tree_of_entry e))) now bytes small;
+    }
+
+-- and its end
+pub missing_done : (d : Holdings) (es : List worlds.Entry) (i : ℕ) (found all : List (Entry × ℕ)) → length es ≤ i
+    → found ++ map counted (missing_on d (drop i es)) ≡ all → found ≡ all
+missing_done d es i found all over was =
+    sym (append-nil found) ∙ ap (λ xs. found ++ map counted (missing_on d xs)) (sym (drop_all i es over)) ∙ was

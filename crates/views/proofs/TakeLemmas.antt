@@ -2,7 +2,7 @@
 use Rattle.std.proofs.Common.{◌≡◌, ℕ, suc, ◌+◌, ◌<◌, get_or, ◌⊎◌, Bool, List, [], ◌∷◌, refl, sym, ◌∙◌, ap, subst, inl, inr, rules, Some, None, Result, Ok, Err}
 use Rattle.std.specs.Prelude.{All, Contains, slice_set, map, flat_map, filter_map, bytes_eq, unwrap_or, length, nat_lt, is_none}
 use Rattle.std.specs.List.{list_any}
-use Rattle.std.proofs.lemmas.List.{get_or-set_same}
+use Rattle.std.proofs.lemmas.List.{get_or-set_same, set-get_or}
 use Rattle.std.proofs.lemmas.List.Elements.{All-nil, All-cons, All-head, All-tail, All-contains}
 use Rattle.model.specs.declared.refusal.Refusal.{Refusal}
 use Rattle.model.specs.declared.refusal.Refusal.TheVariants.{Memory, Clash, NotRealised}
@@ -155,6 +155,15 @@ module _ (law : ServedAreMade) (users : List (List ℕ)) (limit : ℕ) (trust : 
       all_hashed texts p hashed planned.1 entries (λ e h. law p entries texts (plans p planned.1) planned.2 here e (contains_of entries e h))
 
 -- ---- taking
+
+-- no desk is another one
+pub others_same : (desks : List Holdings) (place : ℕ) → desks ≡ slice_set desks place (desk_at desks place)
+others_same desks place = sym (set-get_or desks place bare)
+
+-- only the desk at a place is
+pub others_stay : (desks : List Holdings) (place : ℕ) (after : Holdings) → place < length desks
+    → slice_set desks place after ≡ slice_set desks place (desk_at (slice_set desks place after) place)
+others_stay desks place after below = ap (slice_set desks place) (sym (get_or-set_same desks place after bare below))
 
 -- what is copied to the desk at a place
 pub copied_at : (limit : ℕ) (old : List Source) (desks : List Holdings) (place : ℕ) (any : Holdings) (entries copies : List Entry) (result : Result (Unit {0}) Refusal)

@@ -71,8 +71,9 @@ fn missing_on(
     let mut found = Vec::new(alloc);
     for entry in entries {
         let missing = entry.without_tree()?;
+        let bytes = entry.tree().nar_len() as u64;
         if !desk.has(&missing) {
-            found.push((missing, entry.tree().nar_len() as u64))?;
+            found.push((missing, bytes))?;
         }
     }
     Ok(found)
