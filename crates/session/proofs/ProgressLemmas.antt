@@ -10,7 +10,7 @@ use Rattle.model.specs.Events.{Event, Reply}
 use Rattle.model.specs.Forms.{longest_line}
 use Rattle.model.specs.Lines.{lines_of}
 use Rattle.model.specs.Talk.{Row, Seen, fresh, Gets, after, after_all, Talks, form_of, text_from, row_text}
-use Rattle.session.specs.Serving.{Link, Progress, EndedEarly, Finished, HasNoNewline, HoldsMore, Gives, StopsAt}
+use Rattle.session.specs.Serving.{Link, Progress, EndedEarly, Finished, HasNoNewline, HoldsMore, Gives, StopsAt, IsOwn, MayBeFault}
 use Rattle.session.proofs.LineLemmas.{nothing-held, lines-newline, lines-last}
 use Rattle.session.proofs.RowLemmas.{chain-more, length-after_all, text-more, appends-none, appends-more, appends-flushed, take-seam}
 use Rattle.session.proofs.WholeLinesLemmas.{no_lines, line-grown, ended-cut, held-gets, ended-talks, line-ended, seen-more, refused-same}
@@ -214,6 +214,35 @@ by_input why e f = cc
 
 pub by_output : (why : Refusal) → (why ≡ OutputFault) ⊎ (why ≡ Memory) → why ≡ BadUsers → ⊥
 by_output why d f = elim d [ inl e ↦ cc | inr e ↦ by_memory why e f ]
+
+-- what may end it while it answers
+pub own_memory : (why : Refusal) → why ≡ Memory → IsOwn why
+own_memory why e = inr (inl e)
+
+pub own_output : (why : Refusal) → (why ≡ OutputFault) ⊎ (why ≡ Memory) → IsOwn why
+own_output why d = elim d [ inl e ↦ inl e | inr e ↦ own_memory why e ]
+
+-- one fault is not another
+pub memory_not_input : (old new : ℕ) (why : Refusal) → why ≡ Memory → MayBeFault InputFault old new why
+memory_not_input old new why e f = cc
+
+pub memory_not_output : (old new : ℕ) (why : Refusal) → why ≡ Memory → MayBeFault OutputFault old new why
+memory_not_output old new why e f = cc
+
+pub users_not_output : (old new : ℕ) (why : Refusal) → why ≡ BadUsers → MayBeFault OutputFault old new why
+users_not_output old new why e f = cc
+
+pub input_not_output : (old new : ℕ) (why : Refusal) → why ≡ InputFault → MayBeFault OutputFault old new why
+input_not_output old new why e f = cc
+
+pub own_not_input : (old new : ℕ) (why : Refusal) → IsOwn why → MayBeFault InputFault old new why
+own_not_input old new why d f = elim d [
+  | inl e ↦ cc
+  | inr d' ↦ elim d' [
+    | inl e ↦ cc
+    | inr e ↦ cc
+  ]
+]
 
 -- by another fact that says where the input is at its end
 pub early-weakened : {A : Type 0} (R : A → Event → Reply → A

@@ -1,9 +1,10 @@
-use Rattle.std.proofs.Common.{◌∙◌, subst, sym, [], ◌∷◌, ◌++◌}
+use Rattle.std.proofs.Common.{inr, refl, ◌∙◌, subst, sym, [], ◌∷◌, ◌++◌}
 use Rattle.model.specs.Talk.{form_of}
 use Rattle.session.specs.Serving.{Progress}
 use Rattle.session.proofs.RowLemmas.{err-is, appends-flushed, written-flushed}
 use Rattle.session.proofs.SessionLemmas.{part-gets, line-gives}
 use Rattle.session.proofs.ProgressLemmas.{early-here, early-memory, early-write, early-refused, progress-write, by_memory, by_output}
+use Rattle.session.proofs.ProgressLemmas.{own_memory, own_output, memory_not_output, users_not_output}
 use Rattle.session.proofs.serving.end_line.Goals as goal
 
 pub returns-in_err-reading-clause-err : goal.returns-in_err-reading-clause-err
@@ -58,3 +59,35 @@ returns-clause-ok g c = λ first blank input p.
     (line-gives g.A.Answer.answers c.args.session.now c.as_slice.result.now c.in_ok-reading.reading c.args.answer.now c.answer.new.self
     c.answer.new.answer c.in_ok-text.text.items c.in_ok-reading.ensures.read c.in_ok-text.ensures.ok)
     p c.in_ok-write_whole.ensures.ok (sym c.is_refused.ensures ∙ c.if-is_refused.false))
+
+-- ---- which errors there are, and the faults that they come of
+
+pub returns-in_err-reading-clause-errors : goal.returns-in_err-reading-clause-errors
+returns-in_err-reading-clause-errors g c = err-is _ _ _ c.from_residual.ensures.1 (own_memory _ c.in_err-reading.ensures.memory)
+
+pub returns-in_err-reading-clause-fault : goal.returns-in_err-reading-clause-fault
+returns-in_err-reading-clause-fault g c = err-is _ _ _ c.from_residual.ensures.1 (memory_not_output _ _ _ c.in_err-reading.ensures.memory)
+
+pub returns-in_err-text-clause-errors : goal.returns-in_err-text-clause-errors
+returns-in_err-text-clause-errors g c = err-is _ _ _ c.from_residual-in_err-text.ensures.1 (own_memory _ c.in_err-text.ensures.memory)
+
+pub returns-in_err-text-clause-fault : goal.returns-in_err-text-clause-fault
+returns-in_err-text-clause-fault g c = err-is _ _ _ c.from_residual-in_err-text.ensures.1 (memory_not_output _ _ _ c.in_err-text.ensures.memory)
+
+pub returns-in_err-write_whole-clause-errors : goal.returns-in_err-write_whole-clause-errors
+returns-in_err-write_whole-clause-errors g c = err-is _ _ _ c.from_residual-in_err-write_whole.ensures.1 (own_output _ c.in_err-write_whole.ensures.errors)
+
+pub returns-in_err-write_whole-clause-fault : goal.returns-in_err-write_whole-clause-fault
+returns-in_err-write_whole-clause-fault g c = err-is _ _ _ c.from_residual-in_err-write_whole.ensures.1 c.in_err-write_whole.ensures.fault
+
+pub returns-in_err-flush-clause-errors : goal.returns-in_err-flush-clause-errors
+returns-in_err-flush-clause-errors g c = err-is _ _ _ c.from_residual-in_err-flush.ensures.1 (own_output _ c.in_err-flush.ensures.errors)
+
+pub returns-in_err-flush-clause-fault : goal.returns-in_err-flush-clause-fault
+returns-in_err-flush-clause-fault g c = err-is _ _ _ c.from_residual-in_err-flush.ensures.1 c.in_err-flush.ensures.fault
+
+pub returns-then-is_refused-clause-errors : goal.returns-then-is_refused-clause-errors
+returns-then-is_refused-clause-errors g c = inr (inr refl)
+
+pub returns-then-is_refused-clause-fault : goal.returns-then-is_refused-clause-fault
+returns-then-is_refused-clause-fault g c = users_not_output _ _ _ refl

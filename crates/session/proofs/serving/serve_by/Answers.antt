@@ -1,6 +1,7 @@
-use Rattle.std.proofs.Common.{refl, [], ◌++◌}
+use Rattle.std.proofs.Common.{inl, inr, refl, [], ◌++◌}
 use Rattle.session.proofs.RowLemmas.{err-is, consumes-none, consumes-more, consumes-end}
 use Rattle.session.proofs.ProgressLemmas.{progress-none, early-here, early-weakened, by_memory, by_input}
+use Rattle.session.proofs.ProgressLemmas.{own_memory, memory_not_input, memory_not_output, input_not_output, own_not_input}
 use Rattle.session.proofs.serving.serve_by.Goals as goal
 
 pub loop-init : goal.loop-init
@@ -79,3 +80,43 @@ returns-clause-err g c =
       early-weakened _ _ _ _ _ _ _ _ _ (λ b. absurd b)
           (early-here g.A.Answer.answers c.args.answer.now (g.W.Write.contents c.args.writer.now) _ _ i.0 _ _ [] _ (by_memory _ refl) i.2),
     )
+
+-- ---- which errors there are, and the faults that they come of
+
+pub returns-in_err-n-clause-errors : goal.returns-in_err-n-clause-errors
+returns-in_err-n-clause-errors g c = err-is _ _ _ c.from_residual.ensures.1 (inl c.in_err-n.ensures.fault.0)
+
+pub returns-in_err-n-clause-input_fault : goal.returns-in_err-n-clause-input_fault
+returns-in_err-n-clause-input_fault g c = err-is _ _ _ c.from_residual.ensures.1 (λ e. rw (← c.failures-reader_before.ensures) c.in_err-n.ensures.fault.1)
+
+pub returns-in_err-n-clause-output_fault : goal.returns-in_err-n-clause-output_fault
+returns-in_err-n-clause-output_fault g c = err-is _ _ _ c.from_residual.ensures.1 (input_not_output _ _ _ c.in_err-n.ensures.fault.0)
+
+pub returns-in_err-close-clause-errors : goal.returns-in_err-close-clause-errors
+returns-in_err-close-clause-errors g c = err-is _ _ _ c.from_residual-in_err-close.ensures.1 (inr c.in_err-close.ensures.errors)
+
+pub returns-in_err-close-clause-input_fault : goal.returns-in_err-close-clause-input_fault
+returns-in_err-close-clause-input_fault g c = err-is _ _ _ c.from_residual-in_err-close.ensures.1 (own_not_input _ _ _ c.in_err-close.ensures.errors)
+
+pub returns-in_err-close-clause-output_fault : goal.returns-in_err-close-clause-output_fault
+returns-in_err-close-clause-output_fault g c =
+    err-is _ _ _ c.from_residual-in_err-close.ensures.1 (λ e. rw (← c.failures-writer_before.ensures) (c.in_err-close.ensures.fault e))
+
+pub returns-in_err-feed-clause-errors : goal.returns-in_err-feed-clause-errors
+returns-in_err-feed-clause-errors g c = err-is _ _ _ c.from_residual-in_err-feed.ensures.1 (inr c.in_err-feed.ensures.errors)
+
+pub returns-in_err-feed-clause-input_fault : goal.returns-in_err-feed-clause-input_fault
+returns-in_err-feed-clause-input_fault g c = err-is _ _ _ c.from_residual-in_err-feed.ensures.1 (own_not_input _ _ _ c.in_err-feed.ensures.errors)
+
+pub returns-in_err-feed-clause-output_fault : goal.returns-in_err-feed-clause-output_fault
+returns-in_err-feed-clause-output_fault g c =
+    err-is _ _ _ c.from_residual-in_err-feed.ensures.1 (λ e. rw (← c.failures-writer_before.ensures) (c.in_err-feed.ensures.fault e))
+
+pub returns-clause-errors : goal.returns-clause-errors
+returns-clause-errors g c = inr (own_memory _ refl)
+
+pub returns-clause-input_fault : goal.returns-clause-input_fault
+returns-clause-input_fault g c = memory_not_input _ _ _ refl
+
+pub returns-clause-output_fault : goal.returns-clause-output_fault
+returns-clause-output_fault g c = memory_not_output _ _ _ refl
