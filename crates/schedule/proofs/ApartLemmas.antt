@@ -1,8 +1,7 @@
 -- Two paths that were made by texts without clash and have one hash part are one path.
-use Rattle.std.proofs.Common.{◌≡◌, ℕ, inl, inr, Bool, true, false, cond, List, [], ◌∷◌, ◌++◌, length, refl, ap, sym, ◌∙◌, subst, arith, append_assoc, Option, Some, None, Result, Ok, Err}
+use Rattle.std.proofs.Common.{◌≡◌, ℕ, inl, inr, Bool, true, false, true≢false, eqb-true, cond, List, [], ◌∷◌, ◌++◌, length, refl, ap, sym, ◌∙◌, subst, append_assoc, Option, Some, None, Result, Ok, Err}
 use Rattle.std.specs.Prelude.{All, Contains, codes, not, nat_lt, nat_le, ◌&&◌, ◌==◌, if◌then◌else◌}
 use Rattle.std.specs.List.{list_all}
-use Rattle.std.proofs.lemmas.Bool.Decides.{nat_tests}
 use Rattle.std.proofs.lemmas.List.Elements.{All-head, All-tail}
 use Rattle.sha2.specs.Sha256.{sha256}
 use Rattle.model.specs.declared.refusal.RewriteFault.{RewriteFault}
@@ -84,9 +83,8 @@ behind_colon best (c ∷ cs) = if c == 58 then behind_colon cs cs else behind_co
 no_colon : (c : ℕ) → is_name_byte c ≡ true → (c == 58) ≡ false
 no_colon c h = elim (either (c == 58)) [
   | inl t ↦
-      let is : c ≡ 58 = grind (arith, nat_tests) in
-      let named : is_name_byte 58 ≡ true = subst (λ b. is_name_byte b ≡ true) is h in
-      absurd (cc)
+      let named : is_name_byte 58 ≡ true = subst (λ b. is_name_byte b ≡ true) (eqb-true c 58 t) h in
+      absurd (true≢false (sym named))
   | inr f ↦ f
 ]
 
@@ -116,7 +114,8 @@ ends_in_colon : codes ":/nix/store:" ≡ codes ":/nix/store" ++ 58 ∷ []
 ends_in_colon = refl
 
 regrouped : (front two name : List ℕ) → (front ++ (two ++ (58 ∷ []))) ++ name ≡ (front ++ two) ++ (58 ∷ name)
-regrouped front two name = simp append_assoc
+regrouped front two name =
+    append_assoc front (two ++ 58 ∷ []) name ∙ ap (λ rest. front ++ rest) (append_assoc two (58 ∷ []) name) ∙ sym (append_assoc front two (58 ∷ name))
 
 behind_print : (front name : List ℕ) → is_name name ≡ true → behind_colon [] ((front ++ codes ":/nix/store:") ++ name) ≡ name
 behind_print front name h =

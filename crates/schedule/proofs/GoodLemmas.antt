@@ -1,6 +1,6 @@
 -- The closure that a user is given is whole, and keeps no path that is replaced.
-use Rattle.std.proofs.Common.{◌≡◌, ℕ, zero, suc, ◌<◌, true, false, inl, inr, refl, sym, ◌∙◌, ap, subst, List, [], ◌∷◌, length, length-set, Contains, Some, Result, Ok, Err}
-use Rattle.std.specs.Prelude.{All, slice_set, map, filter, flat_map, find, bytes_eq, is_some, if◌then◌else◌}
+use Rattle.std.proofs.Common.{◌≡◌, ℕ, zero, suc, ◌<◌, Bool, true, false, true≢false, inl, inr, refl, sym, ◌∙◌, ap, subst, List, [], ◌∷◌, length, length-set, Contains, Option, Some, None, Result, Ok, Err}
+use Rattle.std.specs.Prelude.{All, slice_set, map, filter, flat_map, find, bytes_eq, is_some, option_map, if◌then◌else◌}
 use Rattle.std.proofs.lemmas.List.{get_or-set_same}
 use Rattle.std.proofs.lemmas.Option.{slice_get_within, slice_get-get_or}
 use Rattle.std.proofs.lemmas.List.Elements.{All-nil, All-head, All-tail, All-contains, All-cons, All-weaker}
@@ -9,26 +9,26 @@ use Rattle.model.specs.declared.refusal.Refusal.TheVariants.{UnknownUser, Unknow
 use Rattle.model.specs.Results.{then_do}
 use Rattle.model.specs.Paths.{IsPath, NoClash}
 use Rattle.model.specs.Classes.{Admission, known_at}
-use Rattle.model.specs.Worlds.{Source, Setup, Desk, World, Resolved, Planned, Goal, known_of, Label, Record, Pin, Entry, OfSource, OfRecord, tree_at, is_user}
+use Rattle.model.specs.Worlds.{Source, Setup, Desk, World, Resolved, Planned, Failed, Goal, known_of, Label, Record, Pin, Entry, OfSource, OfRecord, tree_at, is_user}
 use Rattle.model.specs.References.{paths_of_labels}
 use Rattle.model.specs.Choices.{Plan, plan}
 use Rattle.model.specs.Repairs.{serving_texts}
-use Rattle.model.specs.Closures.{served_plan, closure_texts, IsWhole, KeepsNoReplaced}
+use Rattle.model.specs.Closures.{served_plan, texts_of_plan, closure_texts, IsWhole, KeepsNoReplaced}
 use Rattle.model.specs.Closures as closures
 use Rattle.model.specs.ClosureRequests.{closure_for}
 use Rattle.model.specs.Goals.{goal_at, with_goal_at, with_goal, as_seen, is_waiting}
 use Rattle.model.specs.Resolutions.{input_classes, scratch_texts, resolving_texts}
-use Rattle.model.specs.GoalRequests.{turns, resolve_for, plan_resolved, plan_goal, plan_texts}
+use Rattle.model.specs.GoalRequests.{turns, resolve_for, plan_resolved, plan_goal, known_texts, goal_texts, plan_texts}
 use Rattle.model.specs.GoalRequests as requests
-use Rattle.model.specs.Events.{Closure, Plan as AskPlan, Event, Reply, Entries, GoalState}
+use Rattle.model.specs.Events.{Closure, Plan as AskPlan, Event, Request, Reply, Entries, GoalState, Refused}
 use Rattle.model.specs.Outcomes.{Sight, sight_of, view_of, reaches, Outcome, becomes, check, reply_of, desk_after}
 use Rattle.model.specs.Steps.{outcome, outcome_of, reply_to, after}
-use Rattle.model.specs.HashedTexts.{texts_of_event}
+use Rattle.model.specs.HashedTexts.{texts_of, texts_of_event}
 use Rattle.model.specs.GivenClosures.{GivesGoodClosure, KeepsGoodClosure}
 use Rattle.model.proofs.BoolLemmas.{either, same_bytes, bytes_same}
 use Rattle.model.proofs.OutcomeLemmas.{checked, needed}
 use Rattle.model.proofs.MemberLemmas.{In, in_of, contains_of, in_left, in_right, in_map, in_append, from_map, from_flat_map}
-use Rattle.model.proofs.ServedLemmas.{find_in, option_cases}
+use Rattle.model.proofs.ServedLemmas.{find_in, option_cases, some_same}
 use Rattle.model.proofs.ClosureLemmas.{plan_visible}
 use Rattle.model.proofs.WholeLemmas.{closures_whole}
 use Rattle.records.specs.Recorded.{Recorded}
@@ -95,10 +95,16 @@ each_held P none names desks all (u ∷ users) =
 
 -- ---- paths of what is stored
 
+-- what is not found is not stored
+not_found : (table : List Source) (path : List ℕ) → find (λ (s : Source). bytes_eq s.path path) table ≡ None → IsStored table path → ⊥
+not_found table path none there =
+    let no : is_some (tree_at path table) ≡ false = ap (λ (o : Option Source). is_some (option_map (λ (s : Source). s.tree) o)) none in
+    true≢false (sym there ∙ no)
+
 module _ (texts : List (List ℕ)) (table : List Source) (hashed : All (IsHashed texts) table) where
   stored_printed : (path : List ℕ) → IsStored table path → IsPrinted texts path
   stored_printed path there = elim (option_cases (find (λ (s : Source). bytes_eq s.path path) table)) [
-    | inl none ↦ (let no : is_some (tree_at path table) ≡ false = rw none refl in absurd (cc))
+    | inl none ↦ absurd (not_found table path none there)
     | inr w ↦
         let found = find_in (λ (s : Source). bytes_eq s.path path) table w.0 w.1 in
         let is : IsHashed texts w.0 = All-contains (IsHashed texts) table w.0 hashed (contains_of table w.0 found.0) in
@@ -200,7 +206,8 @@ module _ (texts : List (List ℕ)) (table : List Source) (hashed : All (IsHashed
 
   is_good : NoClash texts → IsWhole entries × KeepsNoReplaced p entries
   is_good clean =
-      let made : closures.closure view pins classes sources ≡ Ok entries = rw planned served in (
+      let made : closures.closure view pins classes sources ≡ Ok entries =
+      subst (λ (o : Result Plan Refusal). then_do o served_plan ≡ Ok entries) (sym planned) served in (
         closures_whole view pins classes sources entries (view_sees_sources view (seen table desks) sees (sees_in (seen table desks) table desks refl closed)) made,
         closures_keep_no_replaced view pins classes sources p entries planned sound (tell_apart clean) served,
       )
@@ -212,13 +219,30 @@ replied : (d : Desk) (o : Result (List Entry) Refusal) (entries : List Entry) �
 replied d (Ok given) entries h = cc
 replied d (Err why) entries h = cc
 
+-- no refusal is a closure
+not_entries : (why : Refusal) (entries : List Entry) → Refused why ≡ Entries entries → ⊥
+not_entries why entries e = cc
+
+-- what comes of the request of a user of the run, and what anyone else is told
+asked_outcome : (setup : Setup) (w : World) (e : Event) (request : Request) → is_user setup e.actor ≡ true → e.request ≡ request
+    → outcome_of setup w e ≡ outcome setup (sight_of setup w e.actor) request
+asked_outcome setup w e request user asked =
+    ap (λ (b : Bool). check UnknownUser b (outcome setup (sight_of setup w e.actor) e.request)) user ∙ ap (outcome setup (sight_of setup w e.actor)) asked
+
+no_user : (setup : Setup) (w : World) (e : Event) → is_user setup e.actor ≡ false → reply_to setup w e ≡ Refused UnknownUser
+no_user setup w e none = ap (λ (b : Bool). reply_of (check UnknownUser b (outcome setup (sight_of setup w e.actor) e.request))) none
+
 -- where a closure is given, it is that of a user of the run
 entries_given : (setup : Setup) (w : World) (e : Event) (class : List ℕ) (entries : List Entry) → e.request ≡ Closure class → reply_to setup w e ≡ Entries entries
     → (is_user setup e.actor ≡ true) × (closure_for (sight_of setup w e.actor) class ≡ Ok entries)
 unfolding outcome
 entries_given setup w e class entries asked told = elim (either (is_user setup e.actor)) [
-  | inl t ↦ (t, replied (w e.actor) (closure_for (sight_of setup w e.actor) class) entries (rw (t, asked) at told))
-  | inr f ↦ let no : reply_of (Err UnknownUser) ≡ Entries entries = rw f at told in absurd (cc)
+  | inl t ↦ (
+    t,
+    replied (w e.actor) (closure_for (sight_of setup w e.actor) class) entries
+        (sym (ap reply_of (asked_outcome setup w e (Closure class) t asked)) ∙ told),
+  )
+  | inr f ↦ absurd (not_entries UnknownUser entries (sym (no_user setup w e f) ∙ told))
 ]
 
 stored_bare : (table : List Source) → IsDeskStored table bare
@@ -246,6 +270,24 @@ good_plan texts clean parts u classes sources p entries sound hashed planned pla
     (desks_seen table w (held_by setup.users parts.desks) (held_records beside table setup.users parts.desks) (held_sources beside table setup.users parts.desks) users)
     (w u).pins classes sources p planned plans entries served serving clean
 
+-- what the event of a user of the run hashes
+asked_texts : (texts : List (List ℕ)) (setup : Setup) (w : World) (e : Event) (request : Request) → is_user setup e.actor ≡ true → e.request ≡ request
+    → All (Contains texts) (texts_of_event setup w e) → All (Contains texts) (texts_of setup w e.actor request)
+asked_texts texts setup w e request user asked inside =
+    subst (λ (q : Request). All (Contains texts) (texts_of setup w e.actor q)) asked
+    (subst (λ (b : Bool). All (Contains texts) (if b then texts_of setup w e.actor e.request else [])) user inside)
+
+-- the closure of what was planned, and what it hashes
+closure_served : (view : List Desk) (pins : List Pin) (classes sources : List (List ℕ)) (p : Plan) (entries : List Entry)
+    → plan view pins classes sources ≡ Ok p → closures.closure view pins classes sources ≡ Ok entries → served_plan p ≡ Ok entries
+closure_served view pins classes sources p entries planned closed =
+    subst (λ (o : Result Plan Refusal). then_do o served_plan ≡ Ok entries) planned closed
+
+closure_hashes : (texts : List (List ℕ)) (view : List Desk) (pins : List Pin) (classes sources : List (List ℕ)) (p : Plan)
+    → plan view pins classes sources ≡ Ok p → All (Contains texts) (closure_texts view pins classes sources) → All (Contains texts) (serving_texts p.records)
+closure_hashes texts view pins classes sources p planned inside =
+    subst (λ (o : Result Plan Refusal). All (Contains texts) (texts_of_plan o)) planned inside
+
 -- so is the closure that a user is given
 pub gives_good : (texts : List (List ℕ)) → NoClash texts → (parts : Parts) (event : Event) → All (IsSound parts.table parts.setup.charge) parts.desks
     → All (IsHashed texts) parts.table → All (Contains texts) (texts_of_event parts.setup (world_in parts) event)
@@ -254,9 +296,11 @@ gives_good texts clean parts event sound hashed inside has class entries asked t
     let setup : Setup = parts.setup in
     let w : World = world_in parts in
     let known = entries_given setup w event class entries asked told in
-    let served : served_plan p ≡ Ok entries = rw planned at known.1 in
-    let serving : All (Contains texts) (serving_texts p.records) = rw (known.0, asked, planned) at inside in
-    let plans : HasSoundPlan setup w event.actor (Closure class) = rw asked at has in
+    let s : Sight = sight_of setup w event.actor in
+    let served = closure_served s.view s.desk.pins (class ∷ []) [] p entries planned known.1 in
+    let serving =
+    closure_hashes texts s.view s.desk.pins (class ∷ []) [] p planned (asked_texts texts setup w event (Closure class) known.0 asked inside) in
+    let plans : HasSoundPlan setup w event.actor (Closure class) = subst (HasSoundPlan setup w event.actor) asked has in
     good_plan texts clean parts event.actor (class ∷ []) [] p entries sound hashed planned (plans p planned) served serving
 
 -- ---- what a goal is built from
@@ -275,12 +319,19 @@ record IsPlanned (s : Sight) (n : ℕ) (o : Outcome) : Type 0 where
 abbrev TellsPlanned : Sight → ℕ → Outcome → Type 0
 TellsPlanned s n o = reply_of o ≡ GoalState Planned → IsPlanned s n o
 
+-- neither a refusal nor a goal that failed is planned
+refused_not_planned : (why : Refusal) → Refused why ≡ GoalState Planned → ⊥
+refused_not_planned why e = cc
+
+failed_not_planned : (why : Refusal) → GoalState (Failed why) ≡ GoalState Planned → ⊥
+failed_not_planned why e = cc
+
 module _ (s : Sight) (n : ℕ) (g : Goal) (a : Admission) (there : goal_at n s.desk.goals ≡ Some g) (waits : is_waiting (as_seen s.reach g.state) ≡ true)
     (known : known_at (known_of s.desk) g.derivation ≡ Some a) where
   resolved_so : (o : Result Resolved Refusal) → resolve_for s a.derivation ≡ o → TellsPlanned s n (plan_resolved s n g o)
   resolved_so (Ok r) is told = record { goal = g; admission = a; resolved = r; there = there; waits = waits; known = known; is = is; outcome_is = refl }
-  resolved_so (Err NotRealised) is told = absurd (cc)
-  resolved_so (Err why) is told = absurd (cc)
+  resolved_so (Err NotRealised) is told = absurd (refused_not_planned NotRealised told)
+  resolved_so (Err why) is told = absurd (failed_not_planned why told)
 
 -- a goal that is planned after it was asked for was resolved
 planned_so : (s : Sight) (n : ℕ) → TellsPlanned s n (requests.plan s n)
@@ -289,8 +340,9 @@ planned_so s n =
     needed P UnknownGoal (goal_at n s.desk.goals) (λ g. check WrongState (is_waiting (as_seen s.reach g.state)) (plan_goal s n g))
     (λ g there. checked P WrongState (is_waiting (as_seen s.reach g.state)) (plan_goal s n g)
     (λ waits. needed P UnknownDerivation (known_at (known_of s.desk) g.derivation) (λ a. plan_resolved s n g (resolve_for s a.derivation))
-    (λ a known. resolved_so s n g a there waits known (resolve_for s a.derivation) refl) (λ none told. absurd (cc))) (λ begun told. absurd (cc)))
-    (λ none told. absurd (cc))
+    (λ a known. resolved_so s n g a there waits known (resolve_for s a.derivation) refl) (λ none told. absurd (refused_not_planned UnknownDerivation told)))
+    (λ begun told. absurd (refused_not_planned WrongState told)))
+    (λ none told. absurd (refused_not_planned UnknownGoal told))
 
 -- the goal of a number that was put there
 put_there : (n : ℕ) (g h : Goal) (goals : List Goal) → goal_at n goals ≡ Some h → goal_at n (with_goal_at n g goals) ≡ Some g
@@ -304,7 +356,7 @@ goal_after : (setup : Setup) (w : World) (e : Event) (n : ℕ) (d : Desk) (reply
     → goal_at n (after setup w e e.actor).goals ≡ goal_at n d.goals
 goal_after setup w e n d reply o =
     ap (λ p. goal_at n (desk_after setup e.actor p e.actor (reaches setup w e.actor e.actor) (w e.actor)).goals) o
-    ∙ rw (bytes_same e.actor) refl
+    ∙ ap (λ (b : Bool). goal_at n (if b then d else w e.actor).goals) (bytes_same e.actor)
 
 -- a goal of a user of the run is planned
 goal_planned : (setup : Setup) (w : World) (e : Event) (n : ℕ) → e.request ≡ AskPlan n → reply_to setup w e ≡ GoalState Planned
@@ -312,10 +364,19 @@ goal_planned : (setup : Setup) (w : World) (e : Event) (n : ℕ) → e.request �
 unfolding outcome
 goal_planned setup w e n asked told = elim (either (is_user setup e.actor)) [
   | inl t ↦
-      let o : outcome_of setup w e ≡ requests.plan (sight_of setup w e.actor) n = rw (t, asked) refl in
+      let o : outcome_of setup w e ≡ requests.plan (sight_of setup w e.actor) n = asked_outcome setup w e (AskPlan n) t asked in
       (t, subst (IsPlanned (sight_of setup w e.actor) n) (sym o) (planned_so (sight_of setup w e.actor) n (sym (ap reply_of o) ∙ told)))
-  | inr f ↦ let no : reply_of (Err UnknownUser) ≡ GoalState Planned = rw f at told in absurd (cc)
+  | inr f ↦ absurd (refused_not_planned UnknownUser (sym (no_user setup w e f) ∙ told))
 ]
+
+-- what planning a goal that waits hashes
+goal_hashes : (texts : List (List ℕ)) (s : Sight) (n : ℕ) (g : Goal) (a : Admission) → goal_at n s.desk.goals ≡ Some g
+    → is_waiting (as_seen s.reach g.state) ≡ true → known_at (known_of s.desk) g.derivation ≡ Some a → All (Contains texts) (plan_texts s n)
+    → All (Contains texts) (resolving_texts s.view s.desk.pins (known_of s.desk) a.derivation)
+goal_hashes texts s n g a there waits known inside =
+    subst (λ (o : Option Admission). All (Contains texts) (known_texts s o)) known
+    (subst (λ (b : Bool). All (Contains texts) (if b then known_texts s (known_at (known_of s.desk) g.derivation) else [])) waits
+    (subst (λ (o : Option Goal). All (Contains texts) (goal_texts s o)) there inside))
 
 -- the closure that a goal is built from is good if its plan is sound
 pub keeps_good : (texts : List (List ℕ)) → NoClash texts → (parts : Parts) (event : Event) → All (IsSound parts.table parts.setup.charge) parts.desks
@@ -330,24 +391,21 @@ keeps_good texts clean parts event sound hashed inside has n g a r asked told th
     let new : Goal = record { derivation = it.goal.derivation; resolved = Some it.resolved; state = Planned } in
     let now : goal_at n (with_goal_at n new s.desk.goals) ≡ Some g =
     sym (goal_after setup w event n (with_goal n new s.desk) (GoalState Planned) it.outcome_is) ∙ there in
-    let same : new ≡ g = (let put = sym (put_there n new it.goal s.desk.goals it.there) ∙ now in cc) in
-    let same_resolved : it.resolved ≡ r = (let two : Some it.resolved ≡ Some r = ap (λ (x : Goal). x.resolved) same ∙ resolved in cc) in
+    let same : new ≡ g = some_same new g (sym (put_there n new it.goal s.desk.goals it.there) ∙ now) in
+    let same_resolved : it.resolved ≡ r = some_same it.resolved r (ap (λ (x : Goal). x.resolved) same ∙ resolved) in
     let same_path : it.goal.derivation ≡ g.derivation = ap (λ (x : Goal). x.derivation) same in
-    let same_known : it.admission ≡ a =
-    (let two : Some it.admission ≡ Some a = sym it.known ∙ ap (known_at (known_of s.desk)) same_path ∙ known in cc) in
+    let same_known : it.admission ≡ a = some_same it.admission a (sym it.known ∙ ap (known_at (known_of s.desk)) same_path ∙ known) in
     let classes : List (List ℕ) = input_classes (known_of s.desk) a.derivation in
     let is : resolve_for s a.derivation ≡ Ok r = subst (λ (x : Admission). resolve_for s x.derivation ≡ Ok r) same_known (it.is ∙ ap Ok same_resolved) in
-    let closed : closures.closure s.view s.desk.pins classes a.derivation.sources ≡ Ok r.closure =
-    resolved_closure s.view s.desk.pins (known_of s.desk) a.derivation r is in
-    let served : served_plan p ≡ Ok r.closure = rw planned at closed in
-    let hashes : All (Contains texts) (plan_texts s n) = rw (done.0, asked) at inside in
+    let served = closure_served s.view s.desk.pins classes a.derivation.sources p r.closure planned
+    (resolved_closure s.view s.desk.pins (known_of s.desk) a.derivation r is) in
+    let hashes : All (Contains texts) (plan_texts s n) = asked_texts texts setup w event (AskPlan n) done.0 asked inside in
     let here : All (Contains texts) (resolving_texts s.view s.desk.pins (known_of s.desk) a.derivation) =
-    subst (λ (x : Admission). All (Contains texts) (resolving_texts s.view s.desk.pins (known_of s.desk) x.derivation)) same_known
-    (rw (it.there, it.waits, it.known) at hashes) in
+    goal_hashes texts s n it.goal a it.there it.waits (it.known ∙ ap Some same_known) hashes in
     let first : All (Contains texts) (closure_texts s.view s.desk.pins classes a.derivation.sources) =
     all_front (Contains texts) (closure_texts s.view s.desk.pins classes a.derivation.sources) (scratch_texts a.derivation (resolve_for s a.derivation)) here in
-    let serving : All (Contains texts) (serving_texts p.records) = rw planned at first in
-    let plans : HasSoundGoalPlan setup w event.actor n = rw asked at has in
+    let serving = closure_hashes texts s.view s.desk.pins classes a.derivation.sources p planned first in
+    let plans : HasSoundGoalPlan setup w event.actor n = subst (HasSoundPlan setup w event.actor) asked has in
     let own : known_at (known_of s.desk) it.goal.derivation ≡ Some a = it.known ∙ ap Some same_known in
     good_plan texts clean parts event.actor classes a.derivation.sources p r.closure sound hashed planned
     (plans it.goal a r it.there own is p planned) served serving
