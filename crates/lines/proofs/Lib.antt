@@ -1,5 +1,7 @@
 pub mod CutLemmas
 pub mod NumberLemmas
 pub mod WordLemmas
+pub mod EntryLemmas
 pub mod FillLemmas
 pub mod OutputLemmas
+pub mod WishLemmas

@@ -1,9 +1,9 @@
 -- Names of users, and how many words of a line are read.
-use Rattle.std.proofs.Common.{cond, not, ◌||◌, ◌==◌, Option, Some, None, ◌≡◌, ℕ, zero, suc, ◌-◌, ◌<◌, Bool, true, false, ◌&&◌, leb, ltb, List, [], ◌∷◌, get_or, take, length, length-take, refl, sym, ap, ◌∙◌, arith, inl, inr}
+use Rattle.std.proofs.Common.{cond, not, ◌||◌, ◌==◌, Option, Some, None, ◌≡◌, ℕ, zero, suc, ◌-◌, ◌<◌, Bool, true, false, ◌&&◌, leb, ltb, List, [], ◌∷◌, ◌++◌, ◌+◌, get_or, take, length, length-take, refl, sym, ap, ◌∙◌, arith, inl, inr}
 use Rattle.std.specs.Prelude.{option_map}
 use Rattle.std.specs.Global.{Vec}
 use Rattle.std.specs.List.{list_all, list_any}
-use Rattle.std.proofs.lemmas.List.{take_all}
+use Rattle.std.proofs.lemmas.List.{take_all, take_more}
 use Rattle.std.proofs.lemmas.Bool.{cases_lt, eqb-true}
 use Rattle.model.specs.declared.refusal.Refusal.TheVariants.{BadUsers}
 use Rattle.model.specs.Worlds.{is_user_name, are_users, begins_with_letter}
@@ -83,3 +83,9 @@ pub words_by-length : (kinds kinds' : List WordKind) (text : List ℕ) (words : 
     → option_map (λ w. w.items) words ≡ words_by kinds text → words ≡ Some ws → kinds ≡ kinds' → length ws.items ≡ length kinds'
 words_by-length kinds kinds' text words ws h e k =
     by-text (is_text kinds) kinds text ws.items refl (sym h ∙ ap (option_map (λ w. w.items)) e) ∙ ap length k
+
+-- the first words and the next one
+pub taken_next : (words : List (List ℕ)) (i : ℕ) (word user : List ℕ) (old new : List (List ℕ)) → i < length words → word ≡ get_or words i word → user ≡ word
+    → new ≡ old ++ user ∷ [] → old ≡ take i words → new ≡ take (i + 1) words
+taken_next words i word user old new lt here same made all =
+    made ∙ (ap (λ (t : List (List ℕ)). t ++ user ∷ []) all ∙ (ap (λ (u : List ℕ). take i words ++ u ∷ []) (same ∙ here) ∙ sym (take_more words i word lt)))
