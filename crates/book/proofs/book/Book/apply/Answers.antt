@@ -168,7 +168,7 @@ invariant_of-self-in_default-answered g c =
       c.self.invariant.2,
       c.self.invariant.3,
       ap (λ (log : Recorded). log.rows) c.stop.ensures
-      ∙ (ap (λ (log : Recorded). log.rows) c.compare.ensures.same ∙ (c.self.invariant.4 ∙ sym c.hold.ensures.rows)),
+          ∙ (ap (λ (log : Recorded). log.rows) c.compare.ensures.same ∙ (c.self.invariant.4 ∙ sym c.hold.ensures.rows)),
       ap (λ (log : Recorded). log.stopped) c.stop.ensures,
     )
 
@@ -205,7 +205,7 @@ add_row-requires g c =
     let log : c.compare.new.log ≡ c.self.inside.log = c.compare.ensures.same in
     let pass : c.audit.new.self ≡ c.args.pass.now = pass_then g then c.if-stopped.false in
     let rows : length c.compare.new.log.rows ≡ c.self.inside.calls.total =
-        ap (λ (l : Recorded). length l.rows) log ∙ (ap (λ (rows : List Row). length rows) c.self.invariant.4 ∙ c.self.invariant.1) in
+    ap (λ (l : Recorded). length l.rows) log ∙ (ap (λ (rows : List Row). length rows) c.self.invariant.4 ∙ c.self.invariant.1) in
     record {
       mine = ap (λ (r : Row). r.pass) last ∙ c.number.ensures;
       matches = subst (λ (x : Recorded × Caller). Matches x.0.rows x.0.stopped x.1) (λ i. (sym log i, sym pass i)) c.compare.ensures.matches;
@@ -237,7 +237,7 @@ invariant_of-self-2 g c =
     let log : c.compare.new.log.rows ≡ old.history.items = ap (λ (l : Recorded). l.rows) c.compare.ensures.same ∙ c.self.invariant.4 in (
       rw (c.if-stopped.false, rows_now g c) (kept_now g c),
       ap (λ (rows : List Row). length rows) (rows_now g c)
-      ∙ omega (arith, length_push old.history.items r, c.self.invariant.1, c.audit.ensures.same.1, c.add_row.ensures.calls),
+          ∙ omega (arith, length_push old.history.items r, c.self.invariant.1, c.audit.ensures.same.1, c.add_row.ensures.calls),
       c.self.invariant.2,
       c.self.invariant.3,
       ap (λ (l : Recorded). l.rows) c.add_row.ensures.log ∙ (ap (λ (rows : List Row). rows ++ r ∷ []) log ∙ sym (rows_now g c)),
