@@ -15,7 +15,8 @@ ghost use Rattle.book.specs.Keeping.{IsNew, Steps, TookEvent, Stops, KeepsCore, 
 ghost use Rattle.book.specs.Histories.{row, gave_up, IsLegal};
 
 use crate::history::History;
-use model::{Refusal, isolation};
+use laws::isolation;
+use model::Refusal;
 use passes::{Log, Naming, Pass, Row};
 use schedule::{Core, Event, Reply};
 use std::alloc::{AllocError, Global};

@@ -9,8 +9,8 @@ use Rattle.model.specs.Worlds.{Source, Record, Pin, pin_of, tree_at}
 use Rattle.model.specs.Orders.{lesser, least_from, least}
 use Rattle.model.specs.Choices.{record_before, is_of, is_pinned, choose_of, choose_among}
 use Rattle.model.proofs.BoolLemmas.{either}
-use Rattle.model.proofs.ClosureLemmas.{least_from_in}
-use Rattle.model.proofs.MemberLemmas.{In, in_right, in_map, from_filter, from_flat_map}
+use Rattle.laws.proofs.ClosureLemmas.{least_from_in}
+use Rattle.laws.proofs.MemberLemmas.{In, in_right, in_map, from_filter, from_flat_map}
 use Rattle.records.specs.Recorded.{Recorded}
 use Rattle.realise.specs.Holdings.{Holdings, paths_of, is_record_of}
 use Rattle.choose.specs.Visible.{Visible, seen, desks_of, IsStored, IsDeskStored, AreStored, recorded_before, is_recorded_at, is_any_or_at, those_at, records_on, is_recorded_pinned, choose_recorded, choose_in}

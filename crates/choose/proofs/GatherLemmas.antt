@@ -6,8 +6,8 @@ use Rattle.model.specs.Worlds.{Source, Label, Record}
 use Rattle.model.specs.Classes.{Class}
 use Rattle.model.specs.Choices.{rank_before, source_before, is_of, class_path_of, classes_below, source_path_of, sources_below, reached, Plan}
 use Rattle.model.proofs.BoolLemmas.{either, same_bytes, bytes_same}
-use Rattle.model.proofs.MemberLemmas.{In, in_left, in_right, in_append, in_filter_map, from_filter_map}
-use Rattle.model.proofs.ClosureLemmas.{some_same, IsOfClass}
+use Rattle.laws.proofs.MemberLemmas.{In, in_left, in_right, in_append, in_filter_map, from_filter_map}
+use Rattle.laws.proofs.ClosureLemmas.{some_same, IsOfClass}
 use Rattle.choose.specs.Visible.{Visible, source_in}
 use Rattle.choose.specs.Gathering.{has_class, with_chosen, with_class, has_source, with_found, with_source, with_named, with_label, with_labels, IsGathered}
 use Rattle.choose.proofs.SetLemmas.{apart_push}

@@ -10,7 +10,7 @@ use Rattle.model.specs.Worlds.{Source, Label, Record, Desk, Pin}
 use Rattle.model.specs.Choices.{Plan, source_path_of, sources_below}
 use Rattle.model.specs.Closures.{SeesSources}
 use Rattle.model.proofs.BoolLemmas.{either, both_parts, same_bytes}
-use Rattle.model.proofs.MemberLemmas.{In, in_of, contains_of, in_left, in_right, in_map, from_map, from_filter_map, in_flat_map, from_flat_map}
+use Rattle.laws.proofs.MemberLemmas.{In, in_of, contains_of, in_left, in_right, in_map, from_map, from_filter_map, in_flat_map, from_flat_map}
 use Rattle.records.specs.Recorded.{Recorded}
 use Rattle.realise.specs.Holdings.{Holdings, is_at, has_labelled, IsClosed, IsClosedWith}
 use Rattle.choose.specs.Visible.{Visible, visible_on, seen, choose_in, SeesSourcesOf, SeesSourcesIn, paths_in, LabelsAreVisible, is_source_on}

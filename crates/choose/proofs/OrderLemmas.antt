@@ -18,7 +18,7 @@ use Rattle.model.specs.Orders.{first_by}
 use Rattle.model.specs.Choices.{rank_before, source_before}
 use Rattle.model.specs.Closures.{class_of_entry, entry_before}
 use Rattle.model.proofs.BoolLemmas.{either}
-use Rattle.model.proofs.MemberLemmas.{Stands}
+use Rattle.laws.proofs.MemberLemmas.{Stands}
 use Rattle.choose.specs.Gathering.{IsApart}
 use Rattle.choose.proofs.SetLemmas.{first_by-Weak}
 

@@ -13,8 +13,8 @@ use Rattle.model.specs.Classes.{Class}
 use Rattle.model.specs.Worlds.{Source, Label, Record, Pin}
 use Rattle.model.specs.Choices.{rank_before, source_before, is_of, Plan, small_plan}
 use Rattle.model.proofs.BoolLemmas.{either, bytes_same}
-use Rattle.model.proofs.MemberLemmas.{In, in_of, contains_of, in_right}
-use Rattle.model.proofs.ClosureLemmas.{IsOfClass, choose_own}
+use Rattle.laws.proofs.MemberLemmas.{In, in_of, contains_of, in_right}
+use Rattle.laws.proofs.ClosureLemmas.{IsOfClass, choose_own}
 use Rattle.choose.specs.Visible.{Visible, choose_in, source_in, plan_in}
 use Rattle.choose.specs.Gathering.{has_class, with_chosen, with_class, has_source, with_found, with_source, with_named, with_label, with_labels, IsGathered, IsTooMuch, IsInOrder}
 use Rattle.choose.proofs.SetLemmas.{sorted_ascends}

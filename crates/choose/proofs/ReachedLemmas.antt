@@ -9,8 +9,8 @@ use Rattle.model.specs.Worlds.{Source, Record}
 use Rattle.model.specs.Orders.{set_of}
 use Rattle.model.specs.Choices.{rank_before, source_before, classes_below, sources_below, reached, most_steps, Plan, small_plan, source_among, needed_sources, plan_by}
 use Rattle.model.proofs.BoolLemmas.{either, same_bytes}
-use Rattle.model.proofs.MemberLemmas.{In, in_left, in_right, in_append, from_filter_map, in_filter_map, in_flat_map, from_flat_map, from_set, in_set}
-use Rattle.model.proofs.ClosureLemmas.{some_same, IsOfClass, reached_chosen, chosen_for, sources_for}
+use Rattle.laws.proofs.MemberLemmas.{In, in_left, in_right, in_append, from_filter_map, in_filter_map, in_flat_map, from_flat_map, from_set, in_set}
+use Rattle.laws.proofs.ClosureLemmas.{some_same, IsOfClass, reached_chosen, chosen_for, sources_for}
 use Rattle.choose.specs.Visible.{Visible}
 use Rattle.choose.specs.Gathering.{AreApart, AreReached, IsGathered}
 use Rattle.closures.specs.Ordered.{Ascends}

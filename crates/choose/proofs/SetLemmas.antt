@@ -7,7 +7,7 @@ use Rattle.std.proofs.lemmas.List.Sorted.{IsPermutation-sym, Contains-permutatio
 use Rattle.std.proofs.lemmas.List.Sums.{sum_by-cons}
 use Rattle.model.specs.Orders.{first_by, placed, set_of}
 use Rattle.model.proofs.BoolLemmas.{either}
-use Rattle.model.proofs.MemberLemmas.{In, in_of, contains_of, in_append, from_set, in_set}
+use Rattle.laws.proofs.MemberLemmas.{In, in_of, contains_of, in_append, from_set, in_set}
 use Rattle.choose.specs.Gathering.{IsApart, AreApart}
 use Rattle.closures.specs.Ordered.{Ascends}
 

@@ -6,7 +6,7 @@ use Rattle.std.specs.Borrow.{Bor}
 use Rattle.std.proofs.lemmas.List.Elements.{All-head, All-tail}
 use Rattle.model.specs.Archives.{Tree}
 use Rattle.model.specs.Worlds.{Source, tree_at}
-use Rattle.model.proofs.MemberLemmas.{In, in_left}
+use Rattle.laws.proofs.MemberLemmas.{In, in_left}
 use Rattle.model.proofs.BoolLemmas.{either, same_bytes}
 use Rattle.realise.specs.Holdings.{Holdings, paths_of}
 use Rattle.choose.specs.Visible.{Visible, seen, desks_of, IsStored, IsDeskStored, AreStored, is_source_on, source_in}

@@ -5,7 +5,7 @@ use Rattle.model.specs.Limits.{most_entries}
 use Rattle.model.specs.Worlds.{Source, Label, Record}
 use Rattle.model.specs.Classes.{Class}
 use Rattle.model.specs.Choices.{is_of, rank_before, source_before, reached, classes_below, sources_below, Plan}
-use Rattle.model.proofs.MemberLemmas.{In}
+use Rattle.laws.proofs.MemberLemmas.{In}
 use Rattle.closures.specs.Ordered.{Ascends}
 use Rattle.choose.specs.Visible.{Visible, source_in}
 

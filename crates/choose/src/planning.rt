@@ -7,7 +7,7 @@ ghost use Rattle.model.specs.Limits.{most_entries};
 ghost use Rattle.model.specs.Worlds.{Record as RecordValue, Desk as DeskValue};
 ghost use Rattle.model.specs.Choices.{rank_before, source_before, plan};
 ghost use Rattle.model.specs.declared.refusal.Refusal.TheVariants.{Memory, NotRealised, ClosureTooLarge};
-ghost use Rattle.model.proofs.ClosureLemmas.{IsOfClass};
+ghost use Rattle.laws.proofs.ClosureLemmas.{IsOfClass};
 ghost use Rattle.choose.specs.Visible.{visible_on, choose_in, SeesSourcesOf, SeesSourcesIn, LabelsAreVisible};
 ghost use Rattle.choose.specs.Gathering.{IsGathered, HasClasses, IsTooMuch};
 

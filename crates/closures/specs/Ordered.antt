@@ -1,6 +1,6 @@
 -- Lists in order.
 use Rattle.std.specs.Prelude.{◌≡◌, Bool, true, List, [], ◌∷◌}
-use Rattle.model.proofs.MemberLemmas.{In}
+use Rattle.laws.proofs.MemberLemmas.{In}
 
 -- each stands before all that follow
 abbrev pub Ascends : {X : Type 0} → (X → X → Bool) → List X → Type 0

@@ -1,1 +1,3 @@
+pub mod Intstore
 pub mod Named
+pub mod Steps

@@ -1,8 +1,13 @@
 //! The arguments of the command line, and what they name.
 
-ghost use Rattle.std.specs.Prelude.{◌≤◌, IfOk};
+ghost use Rattle.std.specs.Prelude.{◌≤◌, ◌∷◌, [], IfOk, IfSome, codes, map, string_bytes};
 ghost use Rattle.model.specs.Limits.{most_charge};
-ghost use Rattle.command_line.specs.Named.{AreOptionsOf, NamesCharge};
+ghost use Rattle.clap.specs.Words.{Text, found_of, one_text, subcommand_rows_of};
+ghost use Rattle.command_line.specs.Intstore.{charge_rule, file_rule, user_rule};
+ghost use Rattle.command_line.specs.Intstore.{intstore, replay, strike};
+ghost use Rattle.command_line.specs.Named.{AnswersWords, AreOptionsOf, AskFor, IsActionOf};
+ghost use Rattle.command_line.specs.Named.{IsChargeOf, rows_in};
+ghost use Rattle.command_line.specs.Steps.{AreCommands, IsArgument, IsCommand};
 
 use crate::settings::{Action, Options};
 use clap::error::ErrorKind;
@@ -11,7 +16,9 @@ use realise::LARGEST_CHARGE;
 use std::alloc::{AllocError, Global};
 
 /// The option `--charge`.
-fn charge_argument<'a>(alloc: Global) -> Arg<'a> {
+fn charge_argument<'a>(alloc: Global) -> Arg<'a>
+    ensures { IsArgument charge_rule result }
+{
     Arg::new(alloc, "charge")
         .long("charge")
         .value_name("N")
@@ -22,7 +29,9 @@ fn charge_argument<'a>(alloc: Global) -> Arg<'a> {
 }
 
 /// The argument FILE.
-fn file_argument<'a>(alloc: Global) -> Arg<'a> {
+fn file_argument<'a>(alloc: Global) -> Arg<'a>
+    ensures { IsArgument file_rule result }
+{
     Arg::new(alloc, "file")
         .value_name("FILE")
         .action(ArgAction::Set)
@@ -31,7 +40,9 @@ fn file_argument<'a>(alloc: Global) -> Arg<'a> {
 }
 
 /// The option `--user`.
-fn user_argument<'a>(alloc: Global) -> Arg<'a> {
+fn user_argument<'a>(alloc: Global) -> Arg<'a>
+    ensures { IsArgument user_rule result }
+{
     Arg::new(alloc, "user")
         .long("user")
         .value_name("U")
@@ -41,7 +52,9 @@ fn user_argument<'a>(alloc: Global) -> Arg<'a> {
 }
 
 /// The subcommand `replay`.
-fn replay_command<'a>(alloc: Global) -> Result<Command<'a>, AllocError> {
+fn replay_command<'a>(alloc: Global) -> Result<Command<'a>, AllocError>
+    ensures { IfOk result (IsCommand replay) }
+{
     let arguments = vec![in alloc; charge_argument(alloc), file_argument(alloc)]?;
     Command::new(alloc, "replay")
         .about("Runs the lines of FILE one after another, and prints their replies")
@@ -49,7 +62,9 @@ fn replay_command<'a>(alloc: Global) -> Result<Command<'a>, AllocError> {
 }
 
 /// The subcommand `strike`.
-fn strike_command<'a>(alloc: Global) -> Result<Command<'a>, AllocError> {
+fn strike_command<'a>(alloc: Global) -> Result<Command<'a>, AllocError>
+    ensures { IfOk result (IsCommand strike) }
+{
     let arguments = vec![in alloc;
         user_argument(alloc),
         charge_argument(alloc),
@@ -61,14 +76,18 @@ fn strike_command<'a>(alloc: Global) -> Result<Command<'a>, AllocError> {
 }
 
 /// The two subcommands.
-fn subcommands<'a>(alloc: Global) -> Result<Vec<Command<'a>>, AllocError> {
+fn subcommands<'a>(alloc: Global) -> Result<Vec<Command<'a>>, AllocError>
+    ensures { IfOk result (λ v. AreCommands (replay ∷ strike ∷ []) v.items) }
+{
     let replay = replay_command(alloc)?;
     let strike = strike_command(alloc)?;
     Ok(vec![in alloc; replay, strike]?)
 }
 
 /// The command `intstore`, with its two subcommands.
-fn command<'a>(alloc: Global) -> Result<Command<'a>, AllocError> {
+fn command<'a>(alloc: Global) -> Result<Command<'a>, AllocError>
+    ensures { IfOk result (IsCommand intstore) }
+{
     let subcommands = subcommands(alloc)?;
     Command::new(alloc, "intstore")
         .version("0.1.0")
@@ -81,7 +100,7 @@ fn command<'a>(alloc: Global) -> Result<Command<'a>, AllocError> {
 /// The limit on the charge: as given, or the largest. The parser has refused every other number.
 fn charge_of(matches: &ArgMatches<'_>) -> u64
     ensures within { (1 ≤ result) × (result ≤ most_charge) }
-    ensures value { NamesCharge matches.now result }
+    ensures value { IsChargeOf (one_text (found_of matches.now) (codes "charge")) result }
 {
     match matches.get_one::<u64>("charge") {
         Some(charge) if charge >= 1 && charge <= LARGEST_CHARGE => charge,
@@ -89,18 +108,22 @@ fn charge_of(matches: &ArgMatches<'_>) -> u64
     }
 }
 
-/// What the matches of a subcommand ask for, or nothing where a user is to be named and is not.
+/// What the matches of a subcommand ask for, or nothing where there is no such subcommand, or where a user
+/// is to be named and is not.
 fn action_of(
     alloc: Global,
     subcommand: &str,
     matches: &ArgMatches<'_>,
-) -> Result<Option<Action>, AllocError> {
-    if subcommand != "strike" {
-        return Ok(Some(Action::Replay));
-    }
-    match matches.get_str("user") {
-        Some(user) => Ok(Some(Action::Strike(String::from_str(alloc, user)?))),
-        None => Ok(None),
+) -> Result<Option<Action>, AllocError>
+    ensures { IfOk result (λ a. IfSome a (IsActionOf subcommand.now (rows_in matches.now))) }
+{
+    match subcommand {
+        "replay" => Ok(Some(Action::Replay)),
+        "strike" => match matches.get_str("user") {
+            Some(user) => Ok(Some(Action::Strike(String::from_str(alloc, user)?))),
+            None => Ok(None),
+        },
+        _ => Ok(None),
     }
 }
 
@@ -110,7 +133,8 @@ fn options_of(
     action: Action,
     matches: &ArgMatches<'_>,
 ) -> Result<Option<Options>, AllocError>
-    ensures { IfOk result (AreOptionsOf matches.now) }
+    ensures { (name : Text) → IsActionOf name (rows_in matches.now) action
+        → IfOk result (λ o. IfSome o (AreOptionsOf name (rows_in matches.now))) }
 {
     let Some(file) = matches.get_str("file") else {
         return Ok(None);
@@ -123,7 +147,9 @@ fn options_of(
 }
 
 /// The options that the matches of a whole line hold, or none where they have no subcommand or no file.
-fn options_in(alloc: Global, matches: &ArgMatches<'_>) -> Result<Option<Options>, AllocError> {
+fn options_in(alloc: Global, matches: &ArgMatches<'_>) -> Result<Option<Options>, AllocError>
+    ensures { IfOk result (λ o. IfSome o (AskFor (subcommand_rows_of matches.now))) }
+{
     match matches.subcommand() {
         Some((subcommand, found)) => match action_of(alloc, subcommand, found)? {
             Some(action) => options_of(alloc, action, found),
@@ -133,12 +159,15 @@ fn options_in(alloc: Global, matches: &ArgMatches<'_>) -> Result<Option<Options>
     }
 }
 
-/// The options that a command finds in the words of a command line.
+/// The options that the command finds in the words of a command line.
 fn options_by<'a>(
     alloc: Global,
     command: &mut Command<'a>,
     words: &'a [String],
-) -> Result<Options, Error> {
+) -> Result<Options, Error>
+    requires { IsCommand intstore command.now }
+    ensures { AnswersWords (map string_bytes words.now) result }
+{
     let matches = command.try_get_matches_from_mut(words)?;
     match options_in(alloc, &matches)? {
         Some(options) => Ok(options),
@@ -146,13 +175,15 @@ fn options_by<'a>(
     }
 }
 
-/// The options that the words of a command line give, of which the first names the program.
+/// The options that the words of a command line ask for, of which the first names the program.
 ///
 /// # Errors
 ///
 /// An error of the kind `OutOfMemory` where memory was refused. Else one that has the words which are to be
 /// printed: where the command line is at fault, and where help or the version is asked for.
-pub fn options(alloc: Global, words: &[String]) -> Result<Options, Error> {
+pub fn options(alloc: Global, words: &[String]) -> Result<Options, Error>
+    ensures { AnswersWords (map string_bytes words.now) result }
+{
     let mut command = command(alloc)?;
     options_by(alloc, &mut command, words)
 }

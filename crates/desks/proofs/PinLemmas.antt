@@ -12,7 +12,7 @@ use Rattle.model.specs.Outcomes.{Sight, sight_of, becomes}
 use Rattle.model.specs.PinRequests.{pin}
 use Rattle.model.specs.Steps.{outcome}
 use Rattle.model.proofs.BoolLemmas.{either}
-use Rattle.model.proofs.PinRequestLemmas.{pin_cases}
+use Rattle.laws.proofs.PinRequestLemmas.{pin_cases}
 use Rattle.realise.specs.Holdings.{Holdings, with_pins}
 use Rattle.events.specs.declared.reply.Reply as Rust
 use Rattle.events.specs.declared.reply.Reply.TheVariants.{Done}

@@ -24,7 +24,7 @@ use Rattle.model.specs.EndRequests.{member_texts, desk_texts, job_texts, resolve
 use Rattle.model.specs.Outcomes.{reaches}
 use Rattle.model.specs.Results.{ok_or, unless_rewrite_refused}
 use Rattle.model.proofs.BoolLemmas.{either}
-use Rattle.model.proofs.ServedLemmas.{then_ok}
+use Rattle.laws.proofs.ServedLemmas.{then_ok}
 use Rattle.trust.specs.Naming.{place_of, name_at, IsWithin}
 use Rattle.trust.proofs.PlaceLemmas.{name_found}
 use Rattle.store.specs.Stored.{source_of, sources_of}

@@ -13,7 +13,7 @@ use Rattle.model.specs.Outcomes.{sight_of, reaches, becomes}
 use Rattle.model.specs.GoalRequests.{status}
 use Rattle.model.specs.Replies.{is_refused, is_clash_refusal}
 use Rattle.model.specs.Steps.{outcome}
-use Rattle.model.proofs.GoalRequestLemmas.{build_cases}
+use Rattle.laws.proofs.GoalRequestLemmas.{build_cases}
 use Rattle.trust.specs.Trusting.{IsReach}
 use Rattle.trust.specs.Naming.{place_of, names, trusted_at, IsWithin}
 use Rattle.events.specs.declared.reply.Reply as Rust

@@ -19,7 +19,7 @@ use Rattle.model.specs.Outcomes.{Sight, sight_of, reaches, trusts, becomes}
 use Rattle.model.specs.GoalRequests.{resolve_for, plan_resolved, plan, plan_texts}
 use Rattle.model.specs.Replies.{is_clash_refusal, needs_no_memory}
 use Rattle.model.specs.Steps.{outcome}
-use Rattle.model.proofs.GoalRequestLemmas.{planned_goal, plan_cases}
+use Rattle.laws.proofs.GoalRequestLemmas.{planned_goal, plan_cases}
 use Rattle.model.specs.Archives.{Tree, Link}
 use Rattle.store.specs.Stored.{put_all, Extends, AreTaken as AreTakenOf}
 use Rattle.jobs.specs.Owned.{OwnedByAll, goals_at, with_goals_at}

@@ -20,9 +20,9 @@ use Rattle.model.specs.GoalRequests.{turns, own_job, start_goal, start}
 use Rattle.model.specs.Replies.{is_clash_refusal, needs_no_memory}
 use Rattle.model.specs.Steps.{outcome}
 use Rattle.model.proofs.BoolLemmas.{either, same_bytes, bytes_same, both_parts}
-use Rattle.model.proofs.FitLemmas.{IsReached, IsSound as IsSoundSight}
-use Rattle.model.proofs.AgreeLemmas.{sight_sound}
-use Rattle.model.proofs.GoalRequestLemmas.{start_cases}
+use Rattle.laws.proofs.FitLemmas.{IsReached, IsSound as IsSoundSight}
+use Rattle.laws.proofs.AgreeLemmas.{sight_sound}
+use Rattle.laws.proofs.GoalRequestLemmas.{start_cases}
 use Rattle.closures.specs.Ordered.{Ascends}
 use Rattle.store.specs.Stored.{put_all, put_once, IsTaken}
 use Rattle.jobs.specs.Owned.{OwnedByAll, goals_at, with_goals_at}

@@ -22,9 +22,9 @@ use Rattle.handling.specs.Sound.{desk_of, IsSound, IsHashed, Beside}
 use Rattle.handling.specs.Parts.{IsStep, desk_among}
 use Rattle.events.specs.Terms.{reply_of as told_of}
 use Rattle.handling.specs.Handling.{is_fault, Fits, RefusedAtOnce, ServesAtOnce, IsKept}
-use Rattle.model.proofs.SourceRequestLemmas.{add_source_cases, fetch_cases}
-use Rattle.model.proofs.DerivationRequestLemmas.{add_derivation_cases}
-use Rattle.model.proofs.OfferRequestLemmas.{offer_cases}
+use Rattle.laws.proofs.SourceRequestLemmas.{add_source_cases, fetch_cases}
+use Rattle.laws.proofs.DerivationRequestLemmas.{add_derivation_cases}
+use Rattle.laws.proofs.OfferRequestLemmas.{offer_cases}
 use Rattle.handling.proofs.WorldLemmas.{IsPlace, place_is_among, desk_found, among_changed, same_world}
 
 -- what holds after either result holds

@@ -1,17 +1,17 @@
 -- What was read ahead of an input, and what the lines of it get.
-use Rattle.std.proofs.Common.{◌≡◌, ℕ, true, false, inl, List, [], ◌∷◌, ◌++◌, length, take, Option, Some, None, refl, sym, ap, ◌∙◌, subst, arith, append_assoc, length-append}
-use Rattle.std.specs.Prelude.{MatchOption, option_map, Result, Ok, Err, OnOk, IfErr}
+use Rattle.std.proofs.Common.{◌≡◌, ℕ, true, false, inl, inr, List, [], ◌∷◌, ◌++◌, length, take, Option, Some, None, refl, sym, ap, ◌∙◌, subst, arith, append_assoc, length-append}
+use Rattle.std.specs.Prelude.{◌⊎◌, MatchOption, option_map, Result, Ok, Err, IsOk, OnOk, IfErr}
 use Rattle.std.proofs.lemmas.List.{append-nil, take_all}
 use mathlib.Core.List.{IsPrefix}
 use Rattle.std.specs.Io.KnownBytes.{Appends, Consumes, IsAtEnd, prepend_known}
 use Rattle.model.specs.declared.refusal.Refusal.{Refusal}
-use Rattle.model.specs.declared.refusal.Refusal.TheVariants.{BadUsers, InputFault, OutputFault, Memory}
+use Rattle.model.specs.declared.refusal.Refusal.TheVariants.{BadUsers, InputFault, Memory}
 use Rattle.model.specs.Worlds.{Setup, are_users}
 use Rattle.model.specs.Events.{Event, Reply}
 use Rattle.model.specs.Lines.{lines_of}
 use Rattle.model.specs.Talk.{Row, fresh, Talks, text_from, asked_in, users_in}
-use Rattle.model.proofs.TalkLemmas.{none_asked, named_are_users, same_users, no_users}
-use Rattle.session.specs.Serving.{HasNoNewline, AnsweredSoFar, Finished, EndedEarly}
+use Rattle.laws.proofs.TalkLemmas.{none_asked, named_are_users, same_users, no_users}
+use Rattle.session.specs.Serving.{HasNoNewline, AnsweredSoFar, Finished, EndedEarly, IsUnwritten}
 use Rattle.session.specs.declared.ahead.Ahead.{Ahead}
 use Rattle.session.specs.Ahead.{NoUsersSoFar, LooksAhead}
 use Rattle.session.proofs.LineLemmas.{lines-newline, HasNoNewline-append}
@@ -295,9 +295,6 @@ by_memory why e f = cc
 pub by_input : InputFault ≡ BadUsers → ⊥
 by_input e = cc
 
-pub by_output : OutputFault ≡ BadUsers → ⊥
-by_output e = cc
-
 -- ---- what reading ahead gives
 
 pub found_ahead : (all left : List ℕ) (ahead : Ahead) (rest : Option (List ℕ)) → rest ≡ Some left → all ≡ ahead.bytes.items ++ left → (ahead.has_ended ≡ true → IsAtEnd rest)
@@ -312,7 +309,20 @@ found_ahead all left ahead (Some xs) is cut ended users none = record {
       subst (λ (t : List ℕ). LooksAhead t (option_map (λ u. u.items) ahead.users)) (sym cut) (users going left (λ e. sym same ∙ ended e));
 }
 
--- what follows from either result
-pub either_way : {A E : Type 0} {P : Type 0} {Q : E → Type 0} {S : Type 0} (r : Result A E) → (P → S) → ((e : E) → Q e → S) → OnOk r P → IfErr r Q → S
-either_way (Ok x) f g h k = f h
-either_way (Err e) f g h k = g e k
+-- ---- what was flushed behind an end
+
+-- what holds where all was answered, holds where it was flushed as well
+pub behind_ok : (r e : Result (Unit {0}) Refusal) (P Q : Type 0) → OnOk r (IsOk e) → OnOk e P → (P → Q) → OnOk r Q
+behind_ok (Ok u) (Ok v) P Q is p f = f p
+behind_ok (Ok u) (Err w) P Q is p f = cc
+behind_ok (Err why) e P Q is p f = tt
+
+-- an error is that of the end, or it says that the flush failed, behind either end
+pub behind_err : (r e : Result (Unit {0}) Refusal) (P : Type 0) (Q S : Refusal → Type 0) → IfErr r (λ why. (e ≡ Err why) ⊎ IsUnwritten why)
+    → OnOk e P → IfErr e Q → ((why : Refusal) → IsUnwritten why → P → S why) → ((first why : Refusal) → IsUnwritten why → Q first → S why)
+    → ((why : Refusal) → Q why → S why) → IfErr r S
+behind_err (Ok u) e P Q S is p q unwritten later same = tt
+behind_err (Err why) (Ok v) P Q S (inl e) p q unwritten later same = cc
+behind_err (Err why) (Err first) P Q S (inl e) p q unwritten later same = let is : first ≡ why = cc in subst S is (same first q)
+behind_err (Err why) (Ok v) P Q S (inr u) p q unwritten later same = unwritten why u p
+behind_err (Err why) (Err first) P Q S (inr u) p q unwritten later same = later first why u q

@@ -5,15 +5,17 @@ ghost use Rattle.model.specs.Lines.{lines_of};
 ghost use Rattle.model.specs.Limits.{most_charge};
 ghost use Rattle.model.specs.Worlds.{are_users, nothing};
 ghost use Rattle.schedule.specs.Standing.{setup_for, setup_of, world_of, stored_in};
-ghost use Rattle.model.specs.declared.refusal.Refusal.TheVariants.{InputFault};
-ghost use Rattle.session.specs.Serving.{IsOwn};
+ghost use Rattle.model.specs.declared.refusal.Refusal.TheVariants.{InputFault, OutputFault};
+ghost use Rattle.session.specs.Serving.{IsOwn, MayBeFault};
 ghost use Rattle.replaying.specs.Replaying.{Served, ServedInPart, IsReadAhead, Replayed, ReplayedInPart};
 
 use crate::one_pass::OnePass;
 use book::{Blank, Front, Naming};
 use model::Refusal;
 use schedule::{Core, Limits, User};
-use session::{Ahead, Faults, Mode, NoUsers, Prefixed, read_ahead, serve, serve_whole_lines};
+use session::{
+    Ahead, Faults, Mode, NoUsers, Prefixed, flush_behind, read_ahead, serve, serve_whole_lines,
+};
 use std::alloc::Global;
 use std::hash::RandomState;
 use std::io::{Read, Write};
@@ -107,9 +109,10 @@ fn answer_lines<H: Wait, R: Read + Faults, W: Write + Faults>(
 /// They are those of [`serve`].
 ///
 /// - `BadUsers` where the line of users is refused.
-/// - `InputFault` where the reader failed.
-/// - `OutputFault` where the writer failed.
-/// - `Memory` where memory was refused and no event can be answered for it.
+/// - `InputFault` only where the reader failed during the call by its count.
+/// - `OutputFault` only where the writer failed during the call by its count.
+/// - `Memory` where memory was refused and no event can be answered for it, or where the counts do not
+///   show a failure.
 pub fn replay<H: Wait, R: Read + Faults, W: Write + Faults>(
     rt: &H,
     alloc: Global,
@@ -126,11 +129,14 @@ pub fn replay<H: Wait, R: Read + Faults, W: Write + Faults>(
     ensures err { IfErr result (λ why. (all : List ℕ) → R.remaining reader.old ≡ Some all
         → ReplayedInPart limits.charge (W.contents writer.old) (W.contents writer.new) (lines_of all) why) }
     ensures errors { IfErr result (λ why. (why ≡ InputFault) ⊎ IsOwn why) }
+    ensures input_fault { IfErr result
+        (MayBeFault InputFault (R.failed reader.old) (R.failed reader.new)) }
+    ensures output_fault { IfErr result
+        (MayBeFault OutputFault (W.failed writer.old) (W.failed writer.new)) }
 {
+    let reader_before = reader.failures();
+    let writer_before = writer.failures();
     let ahead = read_ahead(alloc, Mode::Service, reader)?;
     let ended = answer_lines(rt, alloc, hashing, limits, ahead, reader, writer);
-    match writer.flush() {
-        Ok(()) => ended,
-        Err(_) => Err(Refusal::OutputFault),
-    }
+    flush_behind(reader, reader_before, writer, writer_before, ended)
 }

@@ -26,11 +26,11 @@ use Rattle.model.specs.Steps.{outcome, outcome_of, reply_to, after}
 use Rattle.model.specs.HashedTexts.{texts_of, texts_of_event}
 use Rattle.model.specs.GivenClosures.{GivesGoodClosure, KeepsGoodClosure}
 use Rattle.model.proofs.BoolLemmas.{either, same_bytes, bytes_same}
-use Rattle.model.proofs.OutcomeLemmas.{checked, needed}
-use Rattle.model.proofs.MemberLemmas.{In, in_of, contains_of, in_left, in_right, in_map, in_append, from_map, from_flat_map}
-use Rattle.model.proofs.ServedLemmas.{find_in, option_cases, some_same}
-use Rattle.model.proofs.ClosureLemmas.{plan_visible}
-use Rattle.model.proofs.WholeLemmas.{closures_whole}
+use Rattle.laws.proofs.OutcomeLemmas.{checked, needed}
+use Rattle.laws.proofs.MemberLemmas.{In, in_of, contains_of, in_left, in_right, in_map, in_append, from_map, from_flat_map}
+use Rattle.laws.proofs.ServedLemmas.{find_in, option_cases, some_same}
+use Rattle.laws.proofs.ClosureLemmas.{plan_visible}
+use Rattle.laws.proofs.WholeLemmas.{closures_whole}
 use Rattle.records.specs.Recorded.{Recorded}
 use Rattle.realise.specs.Holdings.{Holdings, paths_of, IsClosed, IsClosedWith}
 use Rattle.choose.specs.Visible.{Visible, visible_on, seen, IsStored, IsDeskStored}

@@ -10,12 +10,12 @@ use Rattle.model.specs.References.{paths_of_labels}
 use Rattle.model.specs.Choices.{Plan}
 use Rattle.model.specs.Repairs.{Move, moves_of, serve, chosen_in, serve_all}
 use Rattle.model.specs.Closures.{entry_before, entries_with, served_entries, served_plan}
-use Rattle.model.proofs.MemberLemmas.{In, in_of, contains_of, in_left, in_right, in_append, in_map, from_map, in_flat_map, Stands, from_set, in_set}
+use Rattle.laws.proofs.MemberLemmas.{In, in_of, contains_of, in_left, in_right, in_append, in_map, from_map, in_flat_map, Stands, from_set, in_set}
 use Rattle.choose.proofs.OrderLemmas.{one_entry}
 use Rattle.closures.specs.Sound.{IsSoundRecord, IsSoundPlan}
 use Rattle.serving.specs.SoundPlans.{AreMoves, PartsTellApart}
 use Rattle.serving.specs.RepairLaws.{moved_paths, paths_of_record, paths_in, PlansKeepNoReplaced}
-use Rattle.model.proofs.ServedLemmas.{then_ok, ok_is, each_member, each_from, LeadsTo, moves_from, moves_member, IsServed, serve_moves, serve_class, chosen_in_list, chosen_in_class}
+use Rattle.laws.proofs.ServedLemmas.{then_ok, ok_is, each_member, each_from, LeadsTo, moves_from, moves_member, IsServed, serve_moves, serve_class, chosen_in_list, chosen_in_class}
 use Rattle.serving.proofs.SoundLemmas.{are_moves, served_is_sound}
 use Rattle.serving.proofs.GoneLemmas.{moved_is_gone}
 

@@ -9,9 +9,9 @@ use Rattle.model.specs.Worlds.{Record, OfSource, OfRecord}
 use Rattle.model.specs.References.{paths_of_labels}
 use Rattle.model.specs.Repairs.{Move, moves_of, moved_labels, moved_texts, texts_of_moves, texts_unless, texts_in_turn, serve, chosen_in, serve_all, serving_texts}
 use Rattle.model.specs.Closures.{entry_before, entries_with}
-use Rattle.model.proofs.MemberLemmas.{In, in_of, contains_of, in_left, in_right, in_append, from_map, from_set}
+use Rattle.laws.proofs.MemberLemmas.{In, in_of, contains_of, in_left, in_right, in_append, from_map, from_set}
 use Rattle.serving.specs.RepairLaws.{IsServedEntry, ServedAreMade}
-use Rattle.model.proofs.ServedLemmas.{each_parts, each_from, IsRepaired, moved_cases, serve_moves, chosen_in_list}
+use Rattle.laws.proofs.ServedLemmas.{each_parts, each_from, IsRepaired, moved_cases, serve_moves, chosen_in_list}
 use Rattle.serving.proofs.TreeLemmas.{parts_of}
 use Rattle.serving.proofs.KeptLemmas.{served_parts, moves_in}
 

@@ -8,14 +8,14 @@ use Rattle.model.specs.Worlds.{Source, Record, Desk, Pin}
 use Rattle.model.specs.Orders.{set_of}
 use Rattle.model.specs.Choices.{Plan, rank_before, source_before, reached, most_steps, visible_records, visible_sources, choose, needed_sources, source_among, small_plan, plan_by, plan}
 use Rattle.model.proofs.BoolLemmas.{either}
-use Rattle.model.proofs.MemberLemmas.{In, from_set}
-use Rattle.model.proofs.ClosureLemmas.{IsOfClass, choose_own, reached_chosen}
+use Rattle.laws.proofs.MemberLemmas.{In, from_set}
+use Rattle.laws.proofs.ClosureLemmas.{IsOfClass, choose_own, reached_chosen}
 use Rattle.choose.specs.Gathering.{IsInOrder}
 use Rattle.choose.proofs.SetLemmas.{set_ascends}
 use Rattle.choose.proofs.OrderLemmas.{rank_before-Weak, source_before-Weak}
 use Rattle.choose.proofs.ReachedLemmas.{one_of_class}
 use Rattle.serving.specs.RepairLaws.{ClosuresKeepNoReplaced}
-use Rattle.model.proofs.ServedLemmas.{not_both, ok_is}
+use Rattle.laws.proofs.ServedLemmas.{not_both, ok_is}
 use Rattle.serving.proofs.KeptLemmas.{plans_keep_no_replaced}
 
 -- the records that are chosen and the sources that they need

@@ -12,14 +12,14 @@ use Rattle.model.specs.Worlds.{Record}
 use Rattle.model.specs.Choices.{rank_before, Plan}
 use Rattle.model.specs.Repairs.{moves_of, moved, served, serve, chosen_in, serve_all}
 use Rattle.model.proofs.BoolLemmas.{either, same_bytes, bytes_same}
-use Rattle.model.proofs.MemberLemmas.{In, in_append, in_left, in_right}
+use Rattle.laws.proofs.MemberLemmas.{In, in_append, in_left, in_right}
 use Rattle.closures.specs.Ordered.{Ascends}
 use Rattle.choose.specs.Gathering.{IsInOrder}
 use Rattle.choose.proofs.SetLemmas.{clash, irreflexive}
 use Rattle.choose.proofs.OrderLemmas.{rank_before-Weak}
 use Rattle.moving.specs.Served.{Served, values_of, if_below, or_not_realised, served_in, served_from}
 use Rattle.serving.specs.Serving.{AreServedBy, AreServed}
-use Rattle.model.proofs.ServedLemmas.{served_none, served_high, served_low, serve_rank, serve_moves, chosen_in_list, chosen_in_one}
+use Rattle.laws.proofs.ServedLemmas.{served_none, served_high, served_low, serve_rank, serve_moves, chosen_in_list, chosen_in_one}
 use Rattle.moving.proofs.TurnLemmas.{take_step, split_at, each_stop}
 
 -- ---- what is served so far

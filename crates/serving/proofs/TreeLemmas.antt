@@ -14,7 +14,7 @@ use Rattle.model.specs.Worlds.{Label, Record}
 use Rattle.model.specs.References.{labels_in_order, paths_of_labels, with_label, least_label, class_before}
 use Rattle.model.specs.Repairs.{Move, images_of, moved_label, moved_labels, put_unless, substituted, rewritten, moved}
 use Rattle.model.proofs.BoolLemmas.{either, same_bytes}
-use Rattle.model.proofs.MemberLemmas.{In, contains_of, from_map}
+use Rattle.laws.proofs.MemberLemmas.{In, contains_of, from_map}
 use Rattle.storepath.proofs.PathLemmas.{name_of-path_text}
 use Rattle.rewrite.proofs.ApartLemmas.{are_settling, length-put, path_of_settled, path_part, settled_parts}
 use Rattle.rewrite.proofs.PutLemmas.{Found-places_in}
@@ -22,7 +22,7 @@ use Rattle.rewrite.proofs.PutTrees.{bytes_written, sound-put, depth-put}
 use Rattle.rewrite.proofs.SettleLemmas.{keys-settling}
 use Rattle.closures.specs.Sound.{IsSoundRecord}
 use Rattle.serving.specs.SoundPlans.{AreMoves}
-use Rattle.model.proofs.ServedLemmas.{moved_cases}
+use Rattle.laws.proofs.ServedLemmas.{moved_cases}
 
 -- ---- trees
 

@@ -140,6 +140,10 @@ HasRead start left chunk (Some n) = (n ≤ length chunk) × Consumes start left 
 abbrev pub HasWritten : (blank written : Option (List ℕ)) (bytes : List ℕ) → ℕ → Type 0
 HasWritten blank written bytes n = (n ≤ length bytes) × Appends blank written (take n bytes)
 
+-- why a text may not have been written or shown
+abbrev pub IsUnwritten : Refusal → Type 0
+IsUnwritten why = (why ≡ OutputFault) ⊎ (why ≡ Memory)
+
 -- what may end a session early while it answers
 abbrev pub IsOwn : Refusal → Type 0
 IsOwn why = (why ≡ OutputFault) ⊎ (why ≡ Memory) ⊎ (why ≡ BadUsers)

@@ -1,9 +1,9 @@
 //! Reading from a reader and writing to a writer that count their failures.
 
-ghost use Rattle.std.specs.Prelude.{◌≡◌, ◌<◌, ◌⊎◌, ℕ, [], IsTrue, OnOk, OnErr, IfOk, IfErr, MatchResult, take, length};
+ghost use Rattle.std.specs.Prelude.{◌≡◌, ◌<◌, ◌⊎◌, ℕ, [], Err, IsOk, IsTrue, OnOk, OnErr, IfOk, IfErr, MatchResult, take, length};
 ghost use Rattle.std.specs.Io.KnownBytes.{Appends, Consumes};
 ghost use Rattle.model.specs.declared.refusal.Refusal.TheVariants.{InputFault, OutputFault, Memory};
-ghost use Rattle.session.specs.Serving.{HasFailed, IsFault, MayBeFault, HasRead, HasWritten};
+ghost use Rattle.session.specs.Serving.{HasFailed, IsFault, IsUnwritten, MayBeFault, HasRead, HasWritten};
 
 use crate::faults::Faults;
 use model::Refusal;
@@ -55,7 +55,7 @@ pub(crate) fn write_whole<W: Write + Faults>(
     ensures ok { OnOk result (Appends (W.contents writer.old) (W.contents writer.new) text.now) }
     ensures err { OnErr result ((n : ℕ)
         × Appends (W.contents writer.old) (W.contents writer.new) (take n text.now)) }
-    ensures errors { IfErr result (λ why. (why ≡ OutputFault) ⊎ (why ≡ Memory)) }
+    ensures errors { IfErr result IsUnwritten }
     ensures fault { IfErr result (MayBeFault OutputFault before (W.failed writer.new)) }
 {
     let mut rest = text;
@@ -87,7 +87,7 @@ fn flush_once<W: Write + Faults>(writer: &mut W, before: u64) -> Result<bool, Re
 /// Flushes the writer, as [`write_whole`] writes.
 pub(crate) fn flush<W: Write + Faults>(writer: &mut W, before: u64) -> Result<(), Refusal>
     ensures kept { Appends (W.contents writer.old) (W.contents writer.new) [] }
-    ensures errors { IfErr result (λ why. (why ≡ OutputFault) ⊎ (why ≡ Memory)) }
+    ensures errors { IfErr result IsUnwritten }
     ensures fault { IfErr result (MayBeFault OutputFault before (W.failed writer.new)) }
 {
     for _ in 0..u64::MAX {
@@ -96,6 +96,41 @@ pub(crate) fn flush<W: Write + Faults>(writer: &mut W, before: u64) -> Result<()
         }
     }
     Err(Refusal::Memory)
+}
+
+/// Flushes the writer behind what ended so, and gives that end, or why it was not flushed. An end by a
+/// failure that the counts do not show is `Memory`: they were told before, and have fallen since.
+///
+/// # Errors
+///
+/// - `InputFault` only where the reader has failed by its count since that was `reader_before`.
+/// - `OutputFault` only where the writer has failed by its count since that was `writer_before`.
+/// - `Memory` also where the flush failed and was not counted, each of 2^64 times.
+pub fn flush_behind<R: Faults, W: Write + Faults>(
+    reader: &R,
+    reader_before: u64,
+    writer: &mut W,
+    writer_before: u64,
+    ended: Result<(), Refusal>,
+) -> Result<(), Refusal>
+    ensures kept { Appends (W.contents writer.old) (W.contents writer.new) [] }
+    ensures ok { OnOk result (IsOk ended) }
+    ensures err { IfErr result (λ why. (ended ≡ Err why) ⊎ IsUnwritten why) }
+    ensures input_fault { IfErr result
+        (MayBeFault InputFault reader_before (R.failed reader.now)) }
+    ensures output_fault { IfErr result
+        (MayBeFault OutputFault writer_before (W.failed writer.new)) }
+{
+    flush(writer, writer_before)?;
+    match ended {
+        Err(Refusal::InputFault) if !has_failed(reader_before, reader.failures()) => {
+            Err(Refusal::Memory)
+        }
+        Err(Refusal::OutputFault) if !has_failed(writer_before, writer.failures()) => {
+            Err(Refusal::Memory)
+        }
+        ended => ended,
+    }
 }
 
 /// Reads some bytes, of which there are none at the input's end. `None` is a read that failed and

@@ -17,7 +17,7 @@ use Rattle.model.specs.Worlds.{Source, Record, Desk, OfSource, OfRecord, path_of
 use Rattle.model.specs.Worlds as worlds
 use Rattle.model.specs.Closures.{class_of_entry, tree_of_entry, path_of_class, IsWhole}
 use Rattle.model.proofs.BoolLemmas.{either, bytes_same, or_cases, or_left, or_right, both, both_parts}
-use Rattle.model.proofs.MemberLemmas.{In, in_of, contains_of, from_filter, in_filter}
+use Rattle.laws.proofs.MemberLemmas.{In, in_of, contains_of, from_filter, in_filter}
 use Rattle.choose.proofs.SetLemmas.{clash}
 use Rattle.records.specs.Recorded.{Recorded, without_tree, same_recorded}
 use Rattle.records.specs.declared.entry.Entry.{Entry}

@@ -12,7 +12,7 @@ use Rattle.model.specs.Worlds as worlds
 use Rattle.model.specs.Archives.{nar}
 use Rattle.model.specs.Closures.{entry_before, tree_of_entry}
 use Rattle.model.proofs.BoolLemmas.{either, same_bytes, both}
-use Rattle.model.proofs.MemberLemmas.{In, from_filter}
+use Rattle.laws.proofs.MemberLemmas.{In, from_filter}
 use Rattle.closures.specs.Ordered.{Ascends}
 use Rattle.choose.proofs.SetLemmas.{irreflexive, clash}
 use Rattle.choose.proofs.OrderLemmas.{entry_before-Weak}

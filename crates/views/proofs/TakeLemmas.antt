@@ -18,10 +18,10 @@ use Rattle.model.specs.ClosureRequests.{closure_for, take_entries, take}
 use Rattle.model.specs.Outcomes.{Sight, sight_of, view_of, becomes, need, room}
 use Rattle.model.specs.Steps.{outcome}
 use Rattle.model.proofs.BoolLemmas.{either}
-use Rattle.model.proofs.MemberLemmas.{In, in_of, contains_of, in_map, from_map, from_flat_map, from_filter_map, from_set}
-use Rattle.model.proofs.ServedLemmas.{then_ok, find_in}
-use Rattle.model.proofs.ClosureLemmas.{plan_visible}
-use Rattle.model.proofs.ClosureRequestLemmas.{take_cases}
+use Rattle.laws.proofs.MemberLemmas.{In, in_of, contains_of, in_map, from_map, from_flat_map, from_filter_map, from_set}
+use Rattle.laws.proofs.ServedLemmas.{then_ok, find_in}
+use Rattle.laws.proofs.ClosureLemmas.{plan_visible}
+use Rattle.laws.proofs.ClosureRequestLemmas.{take_cases}
 use Rattle.store.specs.Stored.{put_all}
 use Rattle.store.proofs.TableLemmas.{found_holds}
 use Rattle.records.specs.Recorded.{Recorded}

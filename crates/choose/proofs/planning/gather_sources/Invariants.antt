@@ -1,6 +1,6 @@
 use Rattle.std.proofs.Common.{ℕ, List, [], take, Option}
 use Rattle.model.specs.Worlds.{Record}
-use Rattle.model.proofs.ClosureLemmas.{IsOfClass}
+use Rattle.laws.proofs.ClosureLemmas.{IsOfClass}
 use Rattle.choose.specs.Gathering.{IsGathered}
 use Rattle.choose.proofs.planning.gather_sources.Given as goal
 

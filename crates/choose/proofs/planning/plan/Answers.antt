@@ -3,7 +3,7 @@ use Rattle.std.proofs.lemmas.Result.{err_from_is_err_and}
 use Rattle.std.specs.List.Sorted.{IsPermutation}
 use Rattle.model.specs.declared.refusal.Refusal.TheVariants.{Memory}
 use Rattle.model.specs.Choices.{Plan}
-use Rattle.model.proofs.ClosureLemmas.{choose_own}
+use Rattle.laws.proofs.ClosureLemmas.{choose_own}
 use Rattle.choose.specs.Visible.{choose_in, plan_in, desks_of}
 use Rattle.choose.proofs.PlanLemmas.{plan_missing, plan_too_large, plan_found, plan_in_order}
 use Rattle.choose.proofs.LabelledLemmas.{sees_in, labels_in, planned_sees}

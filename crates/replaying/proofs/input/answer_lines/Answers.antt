@@ -1,4 +1,4 @@
-use Rattle.std.proofs.Common.{◌≡◌, true, false, Some, None}
+use Rattle.std.proofs.Common.{◌≡◌, Some, None}
 use Rattle.std.specs.Io.KnownBytes.{prepend_known}
 use Rattle.session.specs.Ahead.{LooksAhead}
 use Rattle.session.proofs.RowLemmas.{err-is}

@@ -1,27 +1,46 @@
-use Rattle.session.proofs.RowLemmas.{err-is, appends-kept}
+use Rattle.std.proofs.Common.{◌≡◌, ◌++◌, ℕ, List, Some, inr}
+use Rattle.session.proofs.RowLemmas.{err-is}
+use Rattle.session.proofs.ProgressLemmas.{by_output, own_output, memory_not_input, memory_not_output}
 use Rattle.replaying.specs.Replaying.{IsReadAhead}
-use Rattle.replaying.proofs.InputLemmas.{on_ok, if_err, consumed, found_ahead, nothing_replayed, flushed, flushed_in_part, not_flushed, other_fault, either_way, by_memory, by_output}
+use Rattle.replaying.proofs.InputLemmas.{if_err, consumed, found_ahead, nothing_replayed, flushed, flushed_in_part, not_flushed, other_fault, by_memory, behind_ok, behind_err}
 use Rattle.replaying.proofs.input.replay.Goals as goal
 
 pub returns-in_err-ahead-clause-err : goal.returns-in_err-ahead-clause-err
 returns-in_err-ahead-clause-err g c = err-is _ _ _ c.from_residual.ensures.1 (λ all known. nothing_replayed _ _ _ _ (by_memory _ c.in_err-ahead.ensures.memory))
 
-pub returns-in-Ok-clause-ok : goal.returns-in-Ok-clause-ok
-returns-in-Ok-clause-ok g c = on_ok c.answer_lines-ended.result (λ h. λ all known.
+pub returns-in_err-ahead-clause-input_fault : goal.returns-in_err-ahead-clause-input_fault
+returns-in_err-ahead-clause-input_fault g c = err-is _ _ _ c.from_residual.ensures.1 (memory_not_input _ _ _ c.in_err-ahead.ensures.memory)
+
+pub returns-in_err-ahead-clause-output_fault : goal.returns-in_err-ahead-clause-output_fault
+returns-in_err-ahead-clause-output_fault g c = err-is _ _ _ c.from_residual.ensures.1 (memory_not_output _ _ _ c.in_err-ahead.ensures.memory)
+
+pub returns-clause-ok : goal.returns-clause-ok
+returns-clause-ok g c = behind_ok c.flush_behind.result c.answer_lines-ended.result _ _ c.flush_behind.ensures.ok c.answer_lines-ended.ensures.ok (λ h all known.
     let left = consumed all _ _ _ known c.in_ok-ahead.ensures.read in
     flushed _ _ _ _ _ (h all left.0 left.1 (found_ahead all left.0 c.in_ok-ahead.ahead _ left.1 left.2 c.in_ok-ahead.ensures.ended c.in_ok-ahead.ensures.users c.in_ok-ahead.ensures.no_users))
-    (appends-kept _ _ c.flush.ensures.bytes)) c.answer_lines-ended.ensures.ok
+    c.flush_behind.ensures.kept)
 
-pub returns-in-Ok-clause-err : goal.returns-in-Ok-clause-err
-returns-in-Ok-clause-err g c = if_err c.answer_lines-ended.result (λ why h. λ all known.
+pub returns-clause-err : goal.returns-clause-err
+returns-clause-err g c =
+    let found : (all : List ℕ) (left : List ℕ) (rest : g.R.Read.remaining c.read_ahead.new.reader ≡ Some left) → all ≡ c.in_ok-ahead.ahead.bytes.items ++ left → IsReadAhead all left c.in_ok-ahead.ahead =
+    λ all left rest cut. found_ahead all left c.in_ok-ahead.ahead _ rest cut c.in_ok-ahead.ensures.ended c.in_ok-ahead.ensures.users c.in_ok-ahead.ensures.no_users in
+    behind_err c.flush_behind.result c.answer_lines-ended.result _ _ _ c.flush_behind.ensures.err c.answer_lines-ended.ensures.ok c.answer_lines-ended.ensures.err
+    (λ why u h all known.
     let left = consumed all _ _ _ known c.in_ok-ahead.ensures.read in
-    flushed_in_part _ _ _ _ _ why (h all left.0 left.1 (found_ahead all left.0 c.in_ok-ahead.ahead _ left.1 left.2 c.in_ok-ahead.ensures.ended c.in_ok-ahead.ensures.users c.in_ok-ahead.ensures.no_users))
-    (appends-kept _ _ c.flush.ensures.bytes)) c.answer_lines-ended.ensures.err
+    not_flushed _ _ _ _ _ why (by_output why u) (h all left.0 left.1 (found all left.0 left.1 left.2)) c.flush_behind.ensures.kept)
+    (λ first why u h all known.
+    let left = consumed all _ _ _ known c.in_ok-ahead.ensures.read in
+    flushed_in_part _ _ _ _ _ why (other_fault _ _ _ _ first why (by_output why u) (h all left.0 left.1 (found all left.0 left.1 left.2))) c.flush_behind.ensures.kept)
+    (λ why h all known.
+    let left = consumed all _ _ _ known c.in_ok-ahead.ensures.read in
+    flushed_in_part _ _ _ _ _ why (h all left.0 left.1 (found all left.0 left.1 left.2)) c.flush_behind.ensures.kept)
 
-pub returns-in-Err-clause-err : goal.returns-in-Err-clause-err
-returns-in-Err-clause-err g c = λ all known.
-    let left = consumed all _ _ _ known c.in_ok-ahead.ensures.read in
-    let found : IsReadAhead all left.0 c.in_ok-ahead.ahead = found_ahead all left.0 c.in_ok-ahead.ahead _ left.1 left.2 c.in_ok-ahead.ensures.ended c.in_ok-ahead.ensures.users c.in_ok-ahead.ensures.no_users in
-    either_way c.answer_lines-ended.result (λ h. not_flushed _ _ _ _ _ _ by_output (h all left.0 left.1 found) (appends-kept _ _ c.flush.ensures.bytes))
-    (λ why h. flushed_in_part _ _ _ _ _ _ (other_fault _ _ _ _ why _ by_output (h all left.0 left.1 found)) (appends-kept _ _ c.flush.ensures.bytes))
-    c.answer_lines-ended.ensures.ok c.answer_lines-ended.ensures.err
+pub returns-clause-errors : goal.returns-clause-errors
+returns-clause-errors g c = behind_err c.flush_behind.result c.answer_lines-ended.result _ _ _ c.flush_behind.ensures.err c.answer_lines-ended.ensures.ok c.answer_lines-ended.ensures.errors
+    (λ why u h. inr (own_output why u)) (λ first why u h. inr (own_output why u)) (λ why h. h)
+
+pub returns-clause-input_fault : goal.returns-clause-input_fault
+returns-clause-input_fault g c = if_err c.flush_behind.result (λ why h e. rw (← c.failures-reader_before.ensures) (h e)) c.flush_behind.ensures.input_fault
+
+pub returns-clause-output_fault : goal.returns-clause-output_fault
+returns-clause-output_fault g c = if_err c.flush_behind.result (λ why h e. rw (← c.failures-writer_before.ensures) (h e)) c.flush_behind.ensures.output_fault

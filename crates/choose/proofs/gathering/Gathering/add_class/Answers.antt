@@ -3,7 +3,7 @@ use Rattle.std.specs.Prelude.{MatchResult}
 use Rattle.model.specs.declared.refusal.Refusal.TheVariants.{Memory}
 use Rattle.model.specs.Worlds.{Record}
 use Rattle.choose.specs.Visible.{choose_in}
-use Rattle.model.proofs.ClosureLemmas.{choose_own}
+use Rattle.laws.proofs.ClosureLemmas.{choose_own}
 use Rattle.choose.specs.Gathering.{has_class}
 use Rattle.choose.proofs.KeyLemmas.{keyed, class_there, class_pushed}
 use Rattle.choose.proofs.gathering.Gathering.add_class.Goals as goal

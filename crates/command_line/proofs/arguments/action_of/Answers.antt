@@ -1,0 +1,10 @@
+use Rattle.std.proofs.Common.{◌∙◌, rules, sym}
+use Rattle.std.specs.Prelude.{codes}
+use Rattle.clap.specs.Words.{found_of}
+use Rattle.clap.proofs.WalkLemmas.{first_value-rows}
+use Rattle.command_line.proofs.arguments.action_of.Goals as goal
+
+pub returns-in_ok-from_str-in-Some : goal.returns-in_ok-from_str-in-Some
+returns-in_ok-from_str-in-Some c =
+    let rows = first_value-rows (found_of c.args.matches.now) (codes "user") in
+    (search rules, sym rows ∙ (sym c.get_str.ensures ∙ search rules))

@@ -1,0 +1,21 @@
+-- What is said of the steps that build the command.
+use Rattle.std.specs.Prelude.{◌≡◌, ⊤, List, [], ◌∷◌, false}
+use Rattle.clap.specs.Walk.{Rule, rule_of}
+use Rattle.clap.specs.Simple.{App, app_of}
+use Rattle.clap.specs.declared.builder.arg.Arg.{Arg}
+use Rattle.clap.specs.declared.builder.command.Command.{Command}
+use Rattle.clap.specs.declared.builder.command.Command.TheViews.{out-Command}
+
+-- the argument has these rules, and is one of its command alone
+abbrev pub IsArgument : Rule → Arg → Type 0
+IsArgument rule a = (rule_of a ≡ rule) × (a.global ≡ false)
+
+-- the command is the one that is described, and has no argument that its subcommands have as well
+abbrev pub IsCommand : App → Command → Type 0
+IsCommand described c = (app_of c ≡ described) × ((out-Command c).has_globals ≡ false)
+
+-- the commands are those that are described, one by one
+abbrev pub AreCommands : List App → List Command → Type 0
+AreCommands [] [] = ⊤
+AreCommands (d ∷ ds) (c ∷ cs) = IsCommand d c × AreCommands ds cs
+AreCommands _ _ = ⊥

@@ -1,0 +1,26 @@
+//! Laws over every list of events.
+
+ghost use Rattle.model.specs.Laws.{IsIsolated, KnowledgeIsAdmitted, KnowledgeIsRecursive, NeverFails};
+
+/// Whatever users outside his trust closure do, a user's replies are those that he would get
+/// without their events.
+pub fn isolation()
+    ensures { IsIsolated }
+{}
+
+/// Private desks never refuse with 90 `Memory`, 91 `Clash` or 92 `Stopped`.
+pub fn never_fails()
+    ensures { NeverFails }
+{}
+
+/// What a desk knows of each derivation was admitted by an event of its user: it is what the
+/// definition says of that derivation over what the desk knew before it.
+pub fn knowledge_is_admitted()
+    ensures { KnowledgeIsAdmitted }
+{}
+
+/// What a desk knows of derivations is what the recursion over derivations gives: each digest of a
+/// masked text and each rank is that of a derivation over those of its inputs, and so on.
+pub fn knowledge_is_recursive()
+    ensures { KnowledgeIsRecursive }
+{}
