@@ -9,14 +9,8 @@ use Rattle.std.proofs.lemmas.Slice.Eq.{bytes_eq-Decides}
 use Rattle.std.proofs.lemmas.Bool.Decides.{same_from_decides}
 use Rattle.std.proofs.lemmas.List.Elements.{All-head, All-tail}
 use Rattle.model.specs.Classes.{Admission, known_at, is_one_of}
+use Rattle.model.proofs.BoolLemmas.{either, bytes_eq_sym}
 use Rattle.admitted.specs.Entries.{IsKeyed, AreKeyed, admissions_of}
-
-either : (b : Bool) → (b ≡ true) ⊎ (b ≡ false)
-either true = inl refl
-either false = inr refl
-
-bytes_eq_sym : (a b : List ℕ) → bytes_eq a b ≡ bytes_eq b a
-bytes_eq_sym a b = same_from_decides (bytes_eq a b) (bytes_eq b a) (bytes_eq-Decides a b) (λ t. sym ((bytes_eq-Decides b a).0 t), λ e. (bytes_eq-Decides b a).1 (sym e))
 
 -- what is known of a path is at its key
 pub known_entries : (path : List ℕ) (sources : List (List ℕ)) (entries : List (List ℕ × Admission)) → AreKeyed entries

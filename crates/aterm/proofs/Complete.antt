@@ -4,23 +4,19 @@ use Rattle.std.proofs.Math.Seq.{take-append_seam, drop-append_seam}
 use Rattle.std.proofs.lemmas.Bool.Decides.{nat_tests, eqb_tells}
 use Rattle.std.specs.Prelude.{Some, bytes_eq, ◌==◌, nat_le}
 use Rattle.std.specs.List.{list_all, flat_map}
-use Rattle.model.proofs.BoolLemmas.{both_parts}
+use Rattle.model.proofs.BoolLemmas.{both_parts, bytes_same}
 use Rattle.model.specs.Derivations.{Derivation, has_texts, is_character, is_text, is_variable, character_text, derivation_text}
 use Rattle.aterm.proofs.Texts.{head, items_text, closed, closed_is, member_text, members_text, behind, variables_text, text_is, member_grouped, variable_grouped}
 use Rattle.model.specs.DerivationTexts.{Reader, ◌>>=◌, is_at, tag_at, in_front, items_at, escaped_at, character_at, string_at, member_at, members_at, variable_at, variables_at, derivation_at}
 
 -- ---- tags
 
-same_itself : (s : List ℕ) → bytes_eq s s ≡ true
-same_itself [] = refl
-same_itself (x ∷ xs) = grind (arith, same_itself xs)
-
 pub is_at_front : (tag rest : List ℕ) → is_at tag (tag ++ rest) ≡ true
-is_at_front tag rest = rw (take-append_seam tag rest) (same_itself tag)
+is_at_front tag rest = rw (take-append_seam tag rest) (bytes_same tag)
 
 pub tag_again : (tag rest : List ℕ) → tag_at tag (tag ++ rest) ≡ Some rest
 unfolding tag_at
-tag_again tag rest = rw (take-append_seam tag rest, same_itself tag, drop-append_seam tag rest) refl
+tag_again tag rest = rw (take-append_seam tag rest, bytes_same tag, drop-append_seam tag rest) refl
 
 -- ---- items
 

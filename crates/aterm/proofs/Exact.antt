@@ -5,10 +5,11 @@ use Rattle.model.specs.Derivations.{Derivation, IsDerivation, is_derivation, der
 use Rattle.model.specs.DerivationTexts.{derivation_at, only_sound, derivation_of_text}
 use Rattle.model.specs.declared.refusal.Refusal.{Refusal}
 use Rattle.model.specs.declared.refusal.Refusal.TheVariants.{BadDerivation, Memory}
+use Rattle.reading.proofs.ReadingLemmas.{if_true, some_same}
 use Rattle.aterm.specs.Laws.{DerivationsPass, ReadingIsExact}
 use Rattle.aterm.specs.Refused.{IsRefused, IsNotRead}
 use Rattle.derivation.proofs.Tests.{derivation_passes, derivation_from_test}
-use Rattle.aterm.proofs.Sound.{bind_some, if_some, some_same}
+use Rattle.aterm.proofs.Sound.{bind_some}
 use Rattle.aterm.proofs.SoundWhole.{derivation_sound}
 use Rattle.aterm.proofs.Refusing.{read_again}
 
@@ -25,7 +26,7 @@ pub has_text : (text : List ℕ) (d : Derivation) → derivation_of_text text �
 unfolding derivation_of_text
 has_text text d h =
     let found = bind_some (derivation_at text) only_sound d h in
-    let sound = if_some (is_derivation found.0) (Some found.0) d found.2 in
+    let sound = if_true (is_derivation found.0) (Some found.0) d found.2 in
     let is : found.0 ≡ d = some_same found.0 d sound.1 in
     (subst (λ x. is_derivation x ≡ true) is sound.0, sym (ap derivation_text is) ∙ derivation_sound text found.0 found.1)
 

@@ -2,9 +2,9 @@
 use Rattle.std.proofs.Common.{◌≡◌, ℕ, zero, suc, ◌+◌, ◌-◌, ◌<◌, true, false, List, [], ◌∷◌, ◌++◌, length, drop, refl, ap, sym, ◌∙◌, append_assoc, append-nil, arith}
 use Rattle.std.specs.Prelude.{Option, Some, None}
 use Rattle.model.specs.DerivationTexts.{Reader, ◌>>=◌, is_at, in_front, items_at}
-use Rattle.aterm.specs.Gives.{Fails}
-use Rattle.aterm.specs.declared.read.ReadError.{ReadError}
-use Rattle.aterm.specs.declared.read.ReadError.TheVariants.{Memory, Malformed}
+use Rattle.reading.specs.Outcomes.{Fails}
+use Rattle.reading.specs.declared.steps.ReadError.{ReadError}
+use Rattle.reading.specs.declared.steps.ReadError.TheVariants.{Memory, Malformed}
 
 -- what was read, behind items
 abbrev pub onto : {X : Type 0} → List X → Option (List X × List ℕ) → Option (List X × List ℕ)
@@ -65,8 +65,3 @@ loop_goes_on item closing next whole xs ys end i separator later rest x after st
     stands ∙ ap (λ m. onto xs (items_at item closing next m separator rest)) less ∙ ap (onto xs) (one_more item closing next (end - (i + 1)) separator rest x after e h)
     ∙ sym (onto-push xs x (items_at item closing next (end - (i + 1)) next after)) ∙ ap (λ zs. onto zs (items_at item closing next (end - (i + 1)) next after)) pushed
     ∙ ap (λ s. onto ys (items_at item closing next (end - (i + 1)) s after)) l
-
--- where one reading fails another does
-pub fails_on : {X Y : Type 0} (e : ReadError) (read : Option X) (other : Option Y) → (read ≡ None → other ≡ None) → Fails e read → Fails e other
-fails_on Memory read other f h = h
-fails_on Malformed read other f h = f h

@@ -1,15 +1,17 @@
 -- Which texts are no derivation's.
 use Rattle.std.proofs.Common.{◌≡◌, ℕ, List, ap, sym, subst, ◌∙◌}
-use Rattle.std.specs.Prelude.{Some, None, Result, Ok, Err, MatchResult, IfOk}
+use Rattle.std.specs.Prelude.{Some, None, Result, Ok, Err, MatchResult, IfOk, IsErrAnd}
 use Rattle.model.specs.Derivations.{Derivation, IsDerivation, derivation_text, HasNoDerivation, IsOnlyDerivation}
 use Rattle.model.specs.declared.refusal.Refusal.{Refusal}
 use Rattle.model.specs.declared.refusal.Refusal.TheVariants.{BadDerivation}
 use Rattle.model.specs.DerivationTexts.{derivation_at}
-use Rattle.aterm.specs.Gives.{Fails}
-use Rattle.aterm.specs.Refused.{refusal_of, HasNoPaths, IsRefused}
-use Rattle.aterm.specs.declared.read.ReadError.{ReadError}
-use Rattle.aterm.specs.declared.read.ReadError.TheVariants.{Memory, Malformed}
-use Rattle.aterm.proofs.Sound.{some_same}
+use Rattle.reading.proofs.ReadingLemmas.{some_same}
+use Rattle.reading.specs.Outcomes.{Fails}
+use Rattle.derivation.specs.Parts.{derivation_of}
+use Rattle.derivation.specs.declared.derivation.Parts.{Parts}
+use Rattle.aterm.specs.Refused.{HasNoPaths, IsRefused, IsUnread}
+use Rattle.reading.specs.declared.steps.ReadError.{ReadError}
+use Rattle.reading.specs.declared.steps.ReadError.TheVariants.{Memory, Malformed}
 use Rattle.aterm.proofs.SoundWhole.{derivation_sound}
 use Rattle.aterm.proofs.Complete.{derivation_again}
 use Rattle.aterm.proofs.PathTexts.{paths_are_texts}
@@ -31,13 +33,24 @@ none_read text h d valid e =
 pub other_read : (text : List ℕ) (d : Derivation) → derivation_at text ≡ Some d → (IsDerivation d → ⊥) → HasNoDerivation text
 other_read text d h none other valid e = none (subst IsDerivation (only_read text d h other valid e) valid)
 
-pub refused_strings : (text : List ℕ) (e : ReadError) (r : Refusal) → r ≡ refusal_of e → Fails e (derivation_at text) → IsRefused text r
-refused_strings text Memory r is h = subst (IsRefused text) (sym is) tt
-refused_strings text Malformed r is h = subst (IsRefused text) (sym is) (none_read text h)
+-- its strings, or its paths, were not read
+unread_strings : (text : List ℕ) (e : ReadError) → Fails e (derivation_at text) → IsUnread text e
+unread_strings text Memory h = tt
+unread_strings text Malformed h = none_read text h
 
-pub refused_paths : (text : List ℕ) (d : Derivation) (e : ReadError) (r : Refusal) → derivation_at text ≡ Some d → r ≡ refusal_of e → HasNoPaths d e → IsRefused text r
-refused_paths text d Memory r found is h = subst (IsRefused text) (sym is) tt
-refused_paths text d Malformed r found is h = subst (IsRefused text) (sym is) (other_read text d found (λ valid. h (valid.inputs, valid.sources)))
+unread_paths : (text : List ℕ) (d : Derivation) (e : ReadError) → derivation_at text ≡ Some d → HasNoPaths d e → IsUnread text e
+unread_paths text d Memory found h = tt
+unread_paths text d Malformed found h = other_read text d found (λ valid. h (valid.inputs, valid.sources))
+
+pub no_strings : (text : List ℕ) (e : ReadError) (r : Result Parts ReadError) → IsErrAnd r (λ f. f ≡ e) → Fails e (derivation_at text)
+    → MatchResult r (λ parts. derivation_at text ≡ Some (derivation_of parts)) (IsUnread text)
+no_strings text e (Ok parts) is h = absurd is
+no_strings text e (Err f) is h = subst (IsUnread text) (sym is) (unread_strings text e h)
+
+pub parts_read : (text : List ℕ) (d : Derivation) (r : Result Parts ReadError) → derivation_at text ≡ Some d
+    → MatchResult r (λ parts. derivation_of parts ≡ d) (HasNoPaths d) → MatchResult r (λ parts. derivation_at text ≡ Some (derivation_of parts)) (IsUnread text)
+parts_read text d (Ok parts) found h = found ∙ ap Some (sym h)
+parts_read text d (Err e) found h = unread_paths text d e found h
 
 pub made_or_refused : (text : List ℕ) (d : Derivation) (result : Result Derivation Refusal) → derivation_at text ≡ Some d
     → MatchResult result (λ r. (r ≡ d) × IsDerivation d) (λ e. (e ≡ BadDerivation) × (IsDerivation d → ⊥)) → MatchResult result (λ r. IsDerivation r × (derivation_text r ≡ text)) (IsRefused text)

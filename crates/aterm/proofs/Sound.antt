@@ -6,6 +6,7 @@ use Rattle.std.proofs.lemmas.Bool.Decides.{nat_tests}
 use Rattle.model.specs.Derivations.{character_text}
 use Rattle.aterm.proofs.Texts.{items_text, closed, closed_is, member_text, members_text, behind, variables_text, member_grouped, variable_grouped}
 use Rattle.model.specs.DerivationTexts.{Reader, ◌>>=◌, is_at, tag_at, in_front, items_at, escaped_at, plain_at, character_at, string_at, member_at, members_at, variable_at, variables_at}
+use Rattle.reading.proofs.ReadingLemmas.{if_true, if_either, some_same}
 
 -- ---- steps
 
@@ -13,19 +14,6 @@ use Rattle.model.specs.DerivationTexts.{Reader, ◌>>=◌, is_at, tag_at, in_fro
 pub bind_some : {A B : Type 0} (read : Option A) (more : A → Option B) (y : B) → (read >>= more) ≡ Some y → (x : A) × (read ≡ Some x) × (more x ≡ Some y)
 bind_some None more y h = cc
 bind_some (Some x) more y h = (x, refl, h)
-
--- a test that had to pass
-pub if_some : {A : Type 0} (test : Bool) (read : Option A) (y : A) → cond test read None ≡ Some y → (test ≡ true) × (read ≡ Some y)
-if_some true read y h = (refl, h)
-if_some false read y h = cc
-
--- a test between two readings
-pub if_either : {A : Type 0} (test : Bool) (read other : Option A) (y : A) → cond test read other ≡ Some y → ((test ≡ true) × (read ≡ Some y)) ⊎ ((test ≡ false) × (other ≡ Some y))
-if_either true read other y h = inl (refl, h)
-if_either false read other y h = inr (refl, h)
-
-pub some_same : {A : Type 0} (x y : A) → Some x ≡ Some y → x ≡ y
-some_same x y h = cc
 
 -- two things that were read are two
 pub some_both : {A B : Type 0} (x : A) (y : B) (z : A × B) → Some (x, y) ≡ Some z → (x ≡ z.0) × (y ≡ z.1)
@@ -39,7 +27,7 @@ tag_here tag bytes rest here behind =
 pub tag_sound : (tag bytes rest : List ℕ) → tag_at tag bytes ≡ Some rest → bytes ≡ tag ++ rest
 unfolding tag_at
 tag_sound tag bytes rest h =
-    let here = if_some (is_at tag bytes) (Some (drop (length tag) bytes)) rest h in
+    let here = if_true (is_at tag bytes) (Some (drop (length tag) bytes)) rest h in
     tag_here tag bytes rest here.0 (some_same (drop (length tag) bytes) rest here.1)
 
 -- ---- items

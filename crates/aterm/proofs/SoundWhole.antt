@@ -4,8 +4,9 @@ use Rattle.std.specs.Prelude.{Option, Some, None, bytes_eq, if◌then◌else◌}
 use Rattle.std.specs.Cmp.Lexicographic.{same_text}
 use Rattle.model.specs.Derivations.{Derivation, derivation_text}
 use Rattle.aterm.proofs.Texts.{head, closed, members_text, variables_text, text_is}
-use Rattle.aterm.proofs.Sound.{bind_some, if_some, some_same, string_sound, members_sound, variables_sound}
+use Rattle.aterm.proofs.Sound.{bind_some, string_sound, members_sound, variables_sound}
 use Rattle.model.specs.DerivationTexts.{◌>>=◌, string_at, members_at, variables_at, derivation_at}
+use Rattle.reading.proofs.ReadingLemmas.{if_true, some_same}
 
 -- what is read, with what was read before it
 abbrev made : List (List ℕ) → List (List ℕ) → List ℕ → List ℕ → List (List ℕ) → List (List ℕ × List ℕ) → Derivation
@@ -39,7 +40,7 @@ derivation_sound bytes d h =
     let b = bind_some (string_at (codes ",\"") p.0.1) (arguments_at i.0.0 s.0.0 p.0.0) d p.2 in
     let a = bind_some (members_at (codes ",[") (codes "\"") [] b.0.1) (environment_at i.0.0 s.0.0 p.0.0 b.0.0) d b.2 in
     let v = bind_some (variables_at (codes ",[") a.0.1) (end_at i.0.0 s.0.0 p.0.0 b.0.0 a.0.0) d a.2 in
-    let e = if_some (bytes_eq v.0.1 (codes ")")) (Some (made i.0.0 s.0.0 p.0.0 b.0.0 a.0.0 v.0.0)) d v.2 in
+    let e = if_true (bytes_eq v.0.1 (codes ")")) (Some (made i.0.0 s.0.0 p.0.0 b.0.0 a.0.0 v.0.0)) d v.2 in
     let is : made i.0.0 s.0.0 p.0.0 b.0.0 a.0.0 v.0.0 ≡ d = some_same (made i.0.0 s.0.0 p.0.0 b.0.0 a.0.0 v.0.0) d e.1 in
     let inputs = members_sound head (codes "(\"") (codes ",[\"out\"])") bytes i.0.1 i.0.0 i.1 in
     let sources = members_sound (codes ",[") (codes "\"") [] i.0.1 s.0.1 s.0.0 s.1 in

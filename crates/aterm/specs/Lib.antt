@@ -1,4 +1,3 @@
-pub mod Gives
 pub mod Strings
 pub mod Refused
 pub mod Laws

@@ -5,12 +5,8 @@ use Rattle.model.specs.Derivations.{Derivation, HasNoDerivation}
 use Rattle.model.specs.DerivationTexts.{derivation_of_text}
 use Rattle.model.specs.declared.refusal.Refusal.{Refusal}
 use Rattle.model.specs.declared.refusal.Refusal.TheVariants as refusal
-use Rattle.aterm.specs.declared.read.ReadError.{ReadError}
-use Rattle.aterm.specs.declared.read.ReadError.TheVariants.{Memory, Malformed}
-
-abbrev pub refusal_of : ReadError → Refusal
-refusal_of Memory = refusal.Memory
-refusal_of Malformed = refusal.BadDerivation
+use Rattle.reading.specs.declared.steps.ReadError.{ReadError}
+use Rattle.reading.specs.declared.steps.ReadError.TheVariants.{Memory, Malformed}
 
 -- why texts are not read as paths
 abbrev pub AreNoPaths : List (List ℕ) → ReadError → Type 0
@@ -21,6 +17,11 @@ AreNoPaths texts Malformed = All IsPath texts → ⊥
 abbrev pub HasNoPaths : Derivation → ReadError → Type 0
 HasNoPaths d Memory = Unit {0}
 HasNoPaths d Malformed = All IsPath d.inputs × All IsPath d.sources → ⊥
+
+-- why a text is not read as the parts of a derivation
+abbrev pub IsUnread : List ℕ → ReadError → Type 0
+IsUnread text Memory = Unit {0}
+IsUnread text Malformed = HasNoDerivation text
 
 -- why a text is not read as a derivation
 abbrev pub IsRefused : List ℕ → Refusal → Type 0

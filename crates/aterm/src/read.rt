@@ -5,59 +5,17 @@ ghost use Rattle.model.specs.Derivations.{derivation_text, IsDerivation, IsOnlyD
 ghost use Rattle.model.specs.DerivationTexts.{tag_at, escaped_at, character_at, string_at, member_at, members_at, variable_at, variables_at, derivation_at, derivation_of_text};
 ghost use Rattle.derivation.specs.Parts.{derivation_of};
 ghost use Rattle.aterm.specs.Strings.{derivation_read};
-ghost use Rattle.aterm.specs.Refused.{AreNoPaths, HasNoPaths, IsRefused, IsNotRead};
-ghost use Rattle.aterm.specs.Gives.{Gives};
+ghost use Rattle.aterm.specs.Refused.{AreNoPaths, HasNoPaths, IsRefused, IsNotRead, IsUnread};
+ghost use Rattle.reading.specs.Outcomes.{Gives};
 
 use derivation::{Derivation, Parts, Text};
 use model::Refusal;
-use std::alloc::{AllocError, AllocFailed, Global};
+use reading::ReadError;
+use std::alloc::Global;
 use storepath::{StorePath, read_path};
 
 // What stands before the first input.
 const HEAD: &[u8] = b"Derive([(\"out\",\"\",\"\",\"\")],[";
-
-/// Why no part was read.
-#[derive(Debug, Drop)]
-pub(crate) enum ReadError {
-    Memory,
-    Malformed,
-}
-
-impl From<AllocError> for ReadError {
-    ghost use Rattle.std.specs.Prelude.{◌≡◌};
-    ghost use Rattle.aterm.specs.declared.read.ReadError.TheVariants.{Memory};
-
-    ghost from_gives = { λ _ e. e ≡ Memory };
-
-    fn from(_error: AllocError) -> ReadError {
-        ReadError::Memory
-    }
-}
-
-impl<T: Drop> From<AllocFailed<T>> for ReadError {
-    ghost use Rattle.std.specs.Prelude.{◌≡◌};
-    ghost use Rattle.aterm.specs.declared.read.ReadError.TheVariants.{Memory};
-
-    ghost from_gives = { λ _ e. e ≡ Memory };
-
-    fn from(_error: AllocFailed<T>) -> ReadError {
-        ReadError::Memory
-    }
-}
-
-impl From<ReadError> for Refusal {
-    ghost use Rattle.std.specs.Prelude.{◌≡◌};
-    ghost use Rattle.aterm.specs.Refused.{refusal_of};
-
-    ghost from_gives = { λ e r. r ≡ refusal_of e };
-
-    fn from(error: ReadError) -> Refusal {
-        match error {
-            ReadError::Memory => Refusal::Memory,
-            ReadError::Malformed => Refusal::BadDerivation,
-        }
-    }
-}
 
 // What follows this tag.
 #[tactic(auto, unfolding(model::specs::DerivationTexts::tag_at))]
@@ -279,6 +237,16 @@ fn read_parts(alloc: Global, strings: Strings) -> Result<Parts, ReadError>
     })
 }
 
+// The parts of the derivation of a whole text.
+fn read_text(alloc: Global, text: &[u8]) -> Result<Parts, ReadError>
+    ensures { MatchResult result
+        (λ parts. derivation_at text.now ≡ Some (derivation_of parts))
+        (IsUnread text.now) }
+{
+    let strings = read_strings(alloc, text)?;
+    read_parts(alloc, strings)
+}
+
 /// The derivation of a text. There is at most one.
 ///
 /// # Errors
@@ -295,7 +263,9 @@ pub fn parse(alloc: Global, text: &[u8]) -> Result<Derivation, Refusal>
         (λ d. derivation_of_text text.now ≡ Some d)
         (IsNotRead text.now) }
 {
-    let strings = read_strings(alloc, text)?;
-    let parts = read_parts(alloc, strings)?;
-    Derivation::new(parts)
+    match read_text(alloc, text) {
+        Ok(parts) => Derivation::new(parts),
+        Err(ReadError::Malformed) => Err(Refusal::BadDerivation),
+        Err(ReadError::Memory) => Err(Refusal::Memory),
+    }
 }

@@ -4,6 +4,7 @@ use Rattle.std.specs.Prelude.{bytes_eq, nat_le, zip, filter, Option, Some, None}
 use Rattle.std.specs.List.{list_any}
 use Rattle.std.proofs.lemmas.List.{length-map}
 use Rattle.std.proofs.lemmas.Bool.Decides.{nat_tests}
+use Rattle.std.proofs.lemmas.Bool.{or_parts}
 use Rattle.model.specs.Derivations.{Derivation}
 use Rattle.model.specs.Classes.{Class, Known}
 use Rattle.model.specs.Worlds.{Source, Label, Record}
@@ -14,11 +15,14 @@ use Rattle.candidates.specs.Below.{AreBelow, AreCandidates}
 use Rattle.candidates.specs.Reaching.{is_fresh, AreReached, is_for, is_label_for, is_named_by, is_next, marked_by, fresh_by, pairs_of, IsNext}
 use Rattle.candidates.specs.declared.below.Reached.{Reached}
 use Rattle.model.proofs.BoolLemmas.{either}
-use Rattle.records.proofs.LoopLemmas.{or_false}
 
-neither : (a b : Bool) → (a || b) ≡ false → (a ≡ false) × (b ≡ false)
-neither true b h = cc
-neither false b h = (refl, h)
+pub or_false : (b : Bool) → (b || false) ≡ b
+or_false true = refl
+or_false false = refl
+
+pub and_false : (b : Bool) → (b && false) ≡ false
+and_false true = refl
+and_false false = refl
 
 -- ---- the steps of the model
 
@@ -33,7 +37,7 @@ any_new : (p q s : Record → Bool) (xs : List Record) → list_any (λ a. q a &
     → list_any (λ a. p a && s a) xs ≡ list_any (λ a. (p a && not (q a)) && s a) xs
 any_new p q s [] h = refl
 any_new p q s (x ∷ xs) h =
-    let both = neither (q x && s x) (list_any (λ a. q a && s a) xs) h in
+    let both = or_parts (q x && s x) (list_any (λ a. q a && s a) xs) h in
     λ i. only_new (p x) (q x) (s x) both.0 i || any_new p q s xs both.1 i
 
 -- one step more: what is reached, and what those reached in the last step refer to
@@ -44,7 +48,7 @@ one_more records inputs zero r = refl
 one_more records inputs (suc k) r = elim (either (is_below records inputs (suc k) r)) [
   | inl t ↦ rw t refl
   | inr f ↦
-      let none = neither (is_below records inputs k r) (list_any (λ a. is_below records inputs k a && refers_to a r) records) f in
+      let none = or_parts (is_below records inputs k r) (list_any (λ a. is_below records inputs k a && refers_to a r) records) f in
       let same = any_new (is_below records inputs (suc k)) (is_below records inputs k) (λ a. refers_to a r) records none.1 in
       ap (λ b. is_below records inputs (suc k) r || b) same
 ]
@@ -52,7 +56,7 @@ one_more records inputs (suc k) r = elim (either (is_below records inputs (suc k
 none_fresh : (p s : Record → Bool) (xs : List Record) → list_any (λ b. b) (map p xs) ≡ false → list_any (λ a. p a && s a) xs ≡ false
 none_fresh p s [] h = refl
 none_fresh p s (x ∷ xs) h =
-    let both = neither (p x) (list_any (λ b. b) (map p xs)) h in
+    let both = or_parts (p x) (list_any (λ b. b) (map p xs)) h in
     ap (λ b. (b && s x) || list_any (λ a. p a && s a) xs) both.0 ∙ none_fresh p s xs both.1
 
 at_or_below : (k n : ℕ) → k ≤ suc n → (k ≤ n) ⊎ (k ≡ suc n)

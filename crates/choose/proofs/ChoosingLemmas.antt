@@ -3,13 +3,14 @@ use Rattle.std.proofs.Common.{◌≡◌, ℕ, zero, suc, ◌+◌, ◌<◌, ◌�
 use Rattle.std.specs.Prelude.{bytes_eq, map, filter, option_map, All, is_some}
 use Rattle.std.specs.Option.{option_or}
 use Rattle.std.specs.Borrow.{Bor}
-use Rattle.std.proofs.lemmas.List.Elements.{All-head, All-tail}
+use Rattle.std.proofs.lemmas.List.Elements.{All-head, All-tail, filter-append}
+use Rattle.std.proofs.lemmas.List.{map-append}
 use Rattle.model.specs.Archives.{Tree}
 use Rattle.model.specs.Worlds.{Source, Record, Pin, pin_of, tree_at}
 use Rattle.model.specs.Orders.{lesser, least_from, least}
 use Rattle.model.specs.Choices.{record_before, is_of, is_pinned, choose_of, choose_among}
 use Rattle.model.proofs.BoolLemmas.{either}
-use Rattle.laws.proofs.ClosureLemmas.{least_from_in}
+use Rattle.laws.proofs.ClosureLemmas.{from_other, least_in}
 use Rattle.laws.proofs.MemberLemmas.{In, in_right, in_map, from_filter, from_flat_map}
 use Rattle.records.specs.Recorded.{Recorded}
 use Rattle.realise.specs.Holdings.{Holdings, paths_of, is_record_of}
@@ -17,9 +18,6 @@ use Rattle.choose.specs.Visible.{Visible, seen, desks_of, IsStored, IsDeskStored
 use Rattle.closures.specs.Trees.{record_at}
 
 -- ---- the least
-
-least_in : {X : Type 0} (before : X → X → Bool) (y : X) (xs : List X) → least before xs ≡ Some y → In y xs
-least_in before y xs e = elim (least_from_in before None y xs e) [ inl s ↦ absurd (cc) | inr r ↦ r ]
 
 least_from_append : {X : Type 0} (before : X → X → Bool) (best : Option X) (xs ys : List X)
     → least_from before best (xs ++ ys) ≡ least_from before (least_from before best xs) ys
@@ -29,31 +27,9 @@ least_from_append before best (x ∷ xs) ys = least_from_append before (Some (le
 
 -- ---- loops
 
-pub drop_step : {X : Type 0} (xs : List X) (k : ℕ) (x : X) → k < length xs → x ≡ get_or xs k x → drop k xs ≡ x ∷ drop (k + 1) xs
-drop_step xs k x lt is = by xs k lt is ∙ rw (← add-one) refl
-  where
-    by : (xs : List _) (k : ℕ) → k < length xs → x ≡ get_or xs k x → drop k xs ≡ x ∷ drop (suc k) xs
-    by [] k lt is = absurd (omega arith)
-    by (y ∷ xs) zero lt is = ap (λ z. z ∷ xs) (sym is)
-    by (y ∷ xs) (suc k) lt is = by xs k (omega arith) is
-
-pub drop_end : {X : Type 0} (xs : List X) (k : ℕ) → length xs ≤ k → drop k xs ≡ []
-drop_end [] zero h = refl
-drop_end [] (suc k) h = refl
-drop_end (x ∷ xs) zero h = absurd (omega arith)
-drop_end (x ∷ xs) (suc k) h = drop_end xs k (omega arith)
-
 pub least_end : {X : Type 0} (before : X → X → Bool) (best : Option X) (xs : List X) → xs ≡ [] → least_from before best xs ≡ best
 unfolding least_from
 least_end before best xs e = ap (least_from before best) e
-
-filter-append : {X : Type 0} (p : X → Bool) (xs ys : List X) → filter p (xs ++ ys) ≡ filter p xs ++ filter p ys
-filter-append p [] ys = refl
-filter-append p (x ∷ xs) ys = elim (either (p x)) [ inl t ↦ rw t (ap (λ rest. x ∷ rest) (filter-append p xs ys)) | inr f ↦ rw f (filter-append p xs ys) ]
-
-map-append : {X Y : Type 0} (f : X → Y) (xs ys : List X) → map f (xs ++ ys) ≡ map f xs ++ map f ys
-map-append f [] ys = refl
-map-append f (x ∷ xs) ys = ap (λ rest. f x ∷ rest) (map-append f xs ys)
 
 -- one record more
 pub least_next : (p : Recorded → Bool) (best : Option Recorded) (x : Recorded) (xs ys : List Recorded) → ys ≡ x ∷ xs
@@ -158,10 +134,6 @@ pub all_in : {X : Type 0} (P : X → Type 0) (xs : List X) (x : X) → All P xs 
 all_in P [] x a h = absurd h
 all_in P (y ∷ xs) x a h = elim h [ inl e ↦ subst P e (All-head P y xs a) | inr r ↦ all_in P xs x (All-tail P y xs a) r ]
 
-from_other : {X : Type 0} (a b : Option X) (x : X) → option_or a b ≡ Some x → (a ≡ Some x) ⊎ (b ≡ Some x)
-from_other None b x e = inr e
-from_other (Some y) b x e = inl e
-
 pub chosen_stored : (table : List Source) (desks : List Holdings) (pin : Option (List ℕ)) (c : List ℕ) (r : Recorded) → AreStored table desks
     → choose_recorded pin (records_on c desks) ≡ Some r → is_some (tree_at r.path table) ≡ true
 chosen_stored table desks pin c r stored e =
@@ -174,18 +146,6 @@ chosen_stored table desks pin c r stored e =
     all_in (IsStored table) (paths_of w.0) r.path (all_in (IsDeskStored table) desks w.0 stored w.1)
     (in_right r.path w.0.known.sources (map (λ (q : Recorded). q.path) w.0.records)
     (in_map (λ (q : Recorded). q.path) r w.0.records (from_filter (is_record_of c) r w.0.records w.2).0))
-
--- what is chosen is visible
-pub chosen_visible : (records : List Record) (pins : List Pin) (c : List ℕ) (r : Record) → choose_among records pins c ≡ Some r → In r records
-unfolding choose_among
-chosen_visible records pins c r e =
-    let rs = filter (is_of c) records in
-    let pin = pin_of pins c in
-    let there : In r rs = elim (from_other (least record_before (filter (is_pinned pin) rs)) (least record_before rs) r e) [
-      | inl a ↦ (from_filter (is_pinned pin) r rs (least_in record_before r (filter (is_pinned pin) rs) a)).0
-      | inr b ↦ least_in record_before r rs b
-    ] in
-    (from_filter (is_of c) r records there).0
 
 -- ---- pins
 

@@ -5,7 +5,7 @@ use Rattle.std.specs.List.{list_any}
 use Rattle.indexmap.specs.IndexSet.{insert_key}
 use Rattle.model.specs.Worlds.{Source, Record}
 use Rattle.model.specs.Choices.{Plan}
-use Rattle.store.proofs.EntryLemmas.{bytes_eq_sym}
+use Rattle.model.proofs.BoolLemmas.{bytes_eq_sym}
 use Rattle.choose.specs.Visible.{Visible, source_in}
 use Rattle.choose.specs.Gathering.{has_class, with_class, has_source, with_source}
 

@@ -16,7 +16,7 @@ use Rattle.realise.specs.Holdings.{Holdings, is_at, has_labelled, IsClosed, IsCl
 use Rattle.choose.specs.Visible.{Visible, visible_on, seen, choose_in, SeesSourcesOf, SeesSourcesIn, paths_in, LabelsAreVisible, is_source_on}
 use Rattle.closures.specs.Trees.{source_at, record_at}
 use Rattle.choose.specs.Gathering.{IsGathered}
-use Rattle.choose.proofs.ChoosingLemmas.{chosen_visible}
+use Rattle.laws.proofs.ClosureLemmas.{chosen_among}
 use Rattle.choose.proofs.SourceLemmas.{some_desk}
 use Rattle.choose.proofs.PlanLemmas.{any_true}
 
@@ -75,7 +75,7 @@ pub planned_sees : (view : Visible) (pins : List Pin) (classes sources : List (L
     → SeesSourcesOf view records
 planned_sees view pins classes sources p records g moved h r path there k =
     let planned : In r p.records = in_of p.records r (Contains-permutation records p.records r (IsPermutation-sym p.records records moved) there) in
-    h r path (contains_of view.records r (chosen_visible view.records pins r.class.path r (g.chosen r planned))) k
+    h r path (contains_of view.records r (chosen_among view.records pins r.class.path r (g.chosen r planned)).0) k
 
 -- ---- paths
 

@@ -19,6 +19,7 @@ use Rattle.model.specs.Choices.{rank_before, source_before}
 use Rattle.model.specs.Closures.{class_of_entry, entry_before}
 use Rattle.model.proofs.BoolLemmas.{either}
 use Rattle.laws.proofs.MemberLemmas.{Stands}
+use Rattle.laws.proofs.OrderLemmas.{bytes_apart, first_apart}
 use Rattle.choose.specs.Gathering.{IsApart}
 use Rattle.choose.proofs.SetLemmas.{first_by-Weak}
 
@@ -26,18 +27,6 @@ use Rattle.choose.proofs.SetLemmas.{first_by-Weak}
 
 pub bytes_weak : IsStrictWeakOrder bytes_before
 bytes_weak = ranks_by nat_list_cmp_total (λ x. x)
-
-no_order : (r s : Ordering) → r ≡ ordering_reverse s → is_lt r ≡ false → is_lt s ≡ false → is_eq r ≡ true
-no_order Less s e p q = cc
-no_order Equal s e p q = refl
-no_order Greater Less e p q = cc
-no_order Greater Equal e p q = cc
-no_order Greater Greater e p q = cc
-
--- texts that the order does not part are the same
-pub bytes_apart : (x y : List ℕ) → bytes_before x y ≡ false → bytes_before y x ≡ false → x ≡ y
-bytes_apart x y p q =
-    same_text x y (sym (no_order (slice_cmp nat_cmp x y) (slice_cmp nat_cmp y x) (nat_list_cmp_total.antisymm x y) p q) ∙ is_eq-slice_cmp x y)
 
 -- ---- numbers
 
@@ -51,21 +40,6 @@ nat_apart a b h k = grind (arith, nat_tests)
 
 keyed : {X K : Type 0} (key : X → K) (before : K → K → Bool) → IsStrictWeakOrder before → IsStrictWeakOrder (λ x y. before (key x) (key y))
 keyed key before w = record { one_way = λ x y h. w.one_way (key x) (key y) h; chain = λ x y z h k. w.chain (key x) (key y) (key z) h k }
-
-or_false : (a b : Bool) → (a || b) ≡ false → (a ≡ false) × (b ≡ false)
-or_false false b h = (refl, h)
-or_false true b h = absurd (cc)
-
-and_false : (a b : Bool) → (not a && b) ≡ false → a ≡ false → b ≡ false
-and_false false b h e = h
-and_false true b h e = absurd (cc)
-
-pub first_apart : {X : Type 0} (one two : X → X → Bool) (x y : X) → first_by one two x y ≡ false → first_by one two y x ≡ false → (one x y ≡ false)
-    × (one y x ≡ false) × (two x y ≡ false) × (two y x ≡ false)
-first_apart one two x y h k =
-    let a = or_false (one x y) _ h in
-    let b = or_false (one y x) _ k in
-    (a.0, b.0, and_false (one y x) (two x y) a.1 b.0, and_false (one x y) (two y x) b.1 a.0)
 
 -- ---- records
 
@@ -93,9 +67,6 @@ classes_apart x y n = apart_by rank_before x y (λ f g. n (one_class x y f g))
 
 pub source_before-Weak : IsStrictWeakOrder source_before
 source_before-Weak = keyed (λ (s : Source). s.path) bytes_before bytes_weak
-
-pub same_source : (x y : Source) → Stands source_before x y → x.path ≡ y.path
-same_source x y s = elim s [ inl e ↦ ap (λ (z : Source). z.path) e | inr p ↦ bytes_apart x.path y.path p.0 p.1 ]
 
 pub sources_apart : (x y : Source) → (x.path ≡ y.path → ⊥) → IsApart source_before x y
 sources_apart x y n = apart_by source_before x y (λ f g. n (bytes_apart x.path y.path f g))

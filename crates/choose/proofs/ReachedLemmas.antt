@@ -15,7 +15,8 @@ use Rattle.choose.specs.Visible.{Visible}
 use Rattle.choose.specs.Gathering.{AreApart, AreReached, IsGathered}
 use Rattle.closures.specs.Ordered.{Ascends}
 use Rattle.choose.proofs.SetLemmas.{no_more, same_members, set_ascends, apart_distinct}
-use Rattle.choose.proofs.OrderLemmas.{rank_before-Weak, same_class_path, source_before-Weak, same_source}
+use Rattle.laws.proofs.OrderLemmas.{same_source}
+use Rattle.choose.proofs.OrderLemmas.{rank_before-Weak, same_class_path, source_before-Weak}
 
 -- ---- steps
 

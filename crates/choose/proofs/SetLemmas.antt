@@ -5,17 +5,14 @@ use Rattle.std.specs.Cmp.{IsStrictWeakOrder}
 use Rattle.std.specs.List.Sorted.{IsPermutation, IsSortedBy}
 use Rattle.std.proofs.lemmas.List.Sorted.{IsPermutation-sym, Contains-permutation, sum_by-IsPermutation, sorted_far}
 use Rattle.std.proofs.lemmas.List.Sums.{sum_by-cons}
+use Rattle.std.proofs.lemmas.Bool.{or_parts}
 use Rattle.model.specs.Orders.{first_by, placed, set_of}
 use Rattle.model.proofs.BoolLemmas.{either}
-use Rattle.laws.proofs.MemberLemmas.{In, in_of, contains_of, in_append, from_set, in_set}
+use Rattle.laws.proofs.MemberLemmas.{In, in_of, contains_of, in_append, from_placed, from_set, in_set}
 use Rattle.choose.specs.Gathering.{IsApart, AreApart}
 use Rattle.closures.specs.Ordered.{Ascends}
 
 -- ---- orders
-
-or_false : (a b : Bool) → (a || b) ≡ false → (a ≡ false) × (b ≡ false)
-or_false false b h = (refl, h)
-or_false true b h = absurd (cc)
 
 and_cases : (a b : Bool) → (not a && b) ≡ false → (a ≡ true) ⊎ ((a ≡ false) × (b ≡ false))
 and_cases true b h = inl refl
@@ -45,8 +42,8 @@ first_by-Weak {X} one two p q = record {
     | inr f ↦ make_false (one y x) (one x y) (two y x) f.1 (inr (q.one_way x y f.2))
   ];
   chain = λ x y z h k.
-      let a = or_false (one x y) _ h in
-      let b = or_false (one y z) _ k in
+      let a = or_parts (one x y) _ h in
+      let b = or_parts (one y z) _ k in
       let first : one x z ≡ false = p.chain x y z a.0 b.0 in
       make_false (one x z) (one z x) (two x z) first (elim (either (one z x)) [
         | inl t ↦ inl t
@@ -126,17 +123,6 @@ same_members {X} before w (x ∷ xs) (y ∷ ys) a b h k =
       | inr r ↦ r
     ] in
     ap (λ v. v ∷ xs) heads ∙ ap (λ vs. y ∷ vs) (same_members before w xs ys a.1 b.1 down up)
-
-from_placed : {X : Type 0} (before : X → X → Bool) (x z : X) (ys : List X) → In z (placed before x ys) → (x ≡ z) ⊎ In z ys
-unfolding placed
-from_placed before x z [] h = elim h [ inl e ↦ inl e | inr r ↦ inr r ]
-from_placed before x z (y ∷ ys) h = elim (either (before x y)) [
-  | inl t ↦ rw t at h
-  | inr f ↦ elim (either (before y x)) [
-    | inl t ↦ elim (rw (f, t) at h) [ inl e ↦ inr (inl e) | inr r ↦ elim (from_placed before x z ys r) [ inl e ↦ inl e | inr q ↦ inr (inr q) ] ]
-    | inr g ↦ inr (rw (f, g) at h)
-  ]
-]
 
 placed_ascends : {X : Type 0} (before : X → X → Bool) → IsStrictWeakOrder before → (x : X) (ys : List X) → Ascends before ys
     → Ascends before (placed before x ys)

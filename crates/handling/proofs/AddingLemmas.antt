@@ -5,6 +5,7 @@ use Rattle.std.specs.List.{list_any}
 use Rattle.std.proofs.lemmas.List.{length-append}
 use Rattle.std.proofs.lemmas.List.Elements.{All-cons, All-head, All-tail, All-push}
 use Rattle.std.proofs.lemmas.Bool.Decides.{nat_tests}
+use Rattle.std.proofs.lemmas.Bool.{or_left, or_right}
 use Rattle.model.specs.Archives.{Tree, Link, nar}
 use Rattle.model.specs.Classes.{is_one_of}
 use Rattle.model.specs.Limits.{most_sources, most_derivations, most_records, most_pins}
@@ -12,7 +13,7 @@ use Rattle.model.specs.Worlds.{Source, Record, Desk, tree_at, tree_of_record, he
 use Rattle.model.specs.Events.{Path}
 use Rattle.model.specs.Outcomes.{becomes, add_entry}
 use Rattle.model.specs.declared.refusal.Refusal.TheVariants.{Quota}
-use Rattle.model.proofs.BoolLemmas.{either, same_bytes, or_cases, or_left, or_right, both_parts}
+use Rattle.model.proofs.BoolLemmas.{either, same_bytes, or_cases, both_parts}
 use Rattle.records.specs.Recorded.{Recorded, with_tree, same_recorded}
 use Rattle.records.specs.declared.entry.Entry.{Entry}
 use Rattle.records.specs.declared.entry.Entry.TheVariants as entry

@@ -5,8 +5,7 @@ use Rattle.std.specs.List.{list_any}
 use Rattle.std.proofs.lemmas.List.Sums.{sum_by-cons}
 use Rattle.model.specs.Archives.{nar}
 use Rattle.model.specs.Worlds.{Source, one_of_each}
-use Rattle.model.proofs.BoolLemmas.{either, same_bytes}
-use Rattle.store.proofs.EntryLemmas.{bytes_eq_sym}
+use Rattle.model.proofs.BoolLemmas.{either, same_bytes, bytes_eq_sym}
 
 -- whether one of them has a path
 abbrev pub has_path : List ℕ → List Source → Bool

@@ -4,9 +4,9 @@ use Rattle.std.specs.Prelude.{All, bytes_eq}
 use Rattle.std.specs.List.{list_any}
 use Rattle.std.proofs.lemmas.List.Elements.{All-weaker, All-push}
 use Rattle.std.proofs.lemmas.List.Folds.{list_any-append}
+use Rattle.std.proofs.lemmas.Bool.{or_left}
 use Rattle.model.specs.Classes.{Class}
 use Rattle.model.specs.Worlds.{Label}
-use Rattle.model.proofs.BoolLemmas.{or_left}
 use Rattle.records.specs.Recorded.{Recorded}
 use Rattle.records.specs.declared.entry.Entry.{Entry}
 use Rattle.records.specs.declared.entry.Entry.TheVariants as entry

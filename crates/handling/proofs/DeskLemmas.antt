@@ -159,7 +159,7 @@ length-records_at table (r ∷ records) = ap (λ n. suc n) (length-records_at ta
 
 -- ---- derivations
 
-and_true : (b : Bool) → (b && true) ≡ b
+pub and_true : (b : Bool) → (b && true) ≡ b
 and_true true = refl
 and_true false = refl
 

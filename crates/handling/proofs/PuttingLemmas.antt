@@ -8,12 +8,6 @@ use Rattle.store.proofs.TableLemmas.{put_once-Extends, put_once-All, found_holds
 use Rattle.handling.specs.Stored.{AreTaken}
 use Rattle.handling.specs.Sound.{IsHashed, Clashes}
 
-pub put_all-Extends : (more old : List Source) → Extends old (put_all more old)
-put_all-Extends [] old path there = refl
-put_all-Extends (s ∷ more) old path there =
-    let once = put_once-Extends s old path there in
-    put_all-Extends more (put_once s old) path (rw once there) ∙ once
-
 pub put_all-All : (P : Source → Type 0) (more old : List Source) → All P old → All P more → All P (put_all more old)
 put_all-All P [] old all own = all
 put_all-All P (s ∷ more) old all own =

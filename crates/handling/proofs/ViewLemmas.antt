@@ -4,6 +4,7 @@ use Rattle.std.specs.Prelude.{All, map, filter}
 use Rattle.std.specs.List.{range_with_len}
 use Rattle.std.proofs.lemmas.List.Elements.{filter-append, All-filter}
 use Rattle.std.proofs.lemmas.List.FromFn.{length-range_with_len, get_or-range_with_len}
+use Rattle.std.proofs.lemmas.List.{map-append}
 use Rattle.model.specs.Worlds.{Source, Setup, Desk, World, Goal, Job, are_distinct}
 use Rattle.model.specs.Outcomes.{trusts, reaches, view_of}
 use Rattle.model.proofs.BoolLemmas.{either}
@@ -27,10 +28,6 @@ last a (suc n) j e = ap (λ l. a ∷ l) (last (a + 1) n j (omega arith))
 
 more : (n : ℕ) → range_with_len 0 (n + 1) ≡ range_with_len 0 n ++ n ∷ []
 more n = let on : n + 1 ≡ suc n = omega arith in ap (range_with_len 0) on ∙ last 0 n n (omega arith)
-
-map-append : {X Y : Type 0} (f : X → Y) (xs ys : List X) → map f (xs ++ ys) ≡ map f xs ++ map f ys
-map-append f [] ys = refl
-map-append f (x ∷ xs) ys = ap (λ l. f x ∷ l) (map-append f xs ys)
 
 append-nothing : {X : Type 0} (xs : List X) → xs ++ [] ≡ xs
 append-nothing [] = refl

@@ -8,13 +8,12 @@ use Rattle.std.proofs.lemmas.Bool.Decides.{nat_tests}
 use Rattle.model.specs.Reach.{is_among}
 use Rattle.model.specs.Classes.{Known}
 use Rattle.model.specs.Worlds.{Source, Pin, Desk, World, Goal, empty_desk, tree_at, held_at}
-use Rattle.model.proofs.BoolLemmas.{either, same_bytes}
+use Rattle.model.proofs.BoolLemmas.{either, same_bytes, bytes_eq_sym}
 use Rattle.records.specs.Recorded.{Recorded}
 use Rattle.store.specs.Stored.{Extends}
 use Rattle.realise.specs.Holdings.{Holdings, paths_of}
 use Rattle.handling.specs.Sound.{Beside, sources_at, records_at, desk_of, IsSound, IsEmpty, IsResolvedIn, AreGoalsSound}
 use Rattle.handling.specs.Parts.{desk_among}
-use Rattle.store.proofs.EntryLemmas.{bytes_eq_sym}
 use Rattle.handling.proofs.DeskLemmas.{desk_kept, held_in_table}
 
 -- the place of a user: the first with his name

@@ -9,7 +9,7 @@ use Rattle.model.specs.Goals.{goal_at, with_goal_at, members, is_in}
 use Rattle.jobs.specs.Owned.{Owned, with_goals}
 use Rattle.jobs.specs.Numbers.{numbers, with_number, without_number, entered, left, is_of}
 
-same_number : (k : ℕ) → (k == k) ≡ true
+pub same_number : (k : ℕ) → (k == k) ≡ true
 same_number k = grind (arith, nat_tests)
 
 apart : (k m : ℕ) → k < m → (k == m) ≡ false
@@ -157,7 +157,7 @@ pub got : (n : ℕ) (gs : List Goal) (x g : Goal) → x ≡ slice_index_or gs (n
 got zero gs x g e at = cc
 got (suc n) gs x g e at = let read : x ≡ slice_index_or gs n x = rw sub-one at e in read ∙ get_or_from_slice_get gs n g x at
 
-some_at : (o : Option Goal) → is_some o ≡ true → (g : Goal) × (o ≡ Some g)
+pub some_at : (o : Option Goal) → is_some o ≡ true → (g : Goal) × (o ≡ Some g)
 some_at None h = cc
 some_at (Some g) h = (g, refl)
 

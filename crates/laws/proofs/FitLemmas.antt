@@ -1,7 +1,7 @@
 -- What a request may do to the desk of its user: he trusts one more only where he asks to, and his goals are built only under leaders whom he reaches.
 use Rattle.std.proofs.Common.{◌≡◌, ℕ, Bool, true, ◌⊎◌, inl, inr, refl, sym, subst, List, [], ◌∷◌, Option, Some, None, Ok, Err}
 use Rattle.std.specs.Prelude.{All, ◌&&◌, not, filter, bytes_eq}
-use Rattle.std.proofs.lemmas.Bool.{cond_both}
+use Rattle.std.proofs.lemmas.Bool.{cond_both, and_from}
 use Rattle.std.proofs.lemmas.List.Elements.{All-head, All-tail, All-push, All-filter}
 use Rattle.model.specs.declared.refusal.Refusal.TheVariants.{Quota}
 use Rattle.model.specs.Orders.{lesser, least_from, least}
@@ -14,7 +14,7 @@ use Rattle.model.specs.GoalRequests.{own_job}
 use Rattle.model.specs.EndRequests.{end_job}
 use Rattle.model.specs.Steps.{outcome}
 use Rattle.model.specs.Striking.{asks_to_trust}
-use Rattle.model.proofs.BoolLemmas.{or_cases, both, both_parts, same_bytes, bytes_same}
+use Rattle.model.proofs.BoolLemmas.{or_cases, both_parts, same_bytes, bytes_same}
 use Rattle.laws.proofs.GoalLemmas.{Under, under_put}
 use Rattle.laws.proofs.SourceRequestLemmas.{add_source_cases, fetch_cases}
 use Rattle.laws.proofs.DerivationRequestLemmas.{add_derivation_cases}
@@ -71,7 +71,7 @@ job_or_reached reach own None h other = h
 job_or_reached reach own (Some r) h other = other
 
 -- the leader of the job that a goal enters is reached
-job_reached : (s : Sight) (n : ℕ) (r : Resolved) → IsSound s → s.reach (job_of s.running (own_job s n) r).leader ≡ true
+pub job_reached : (s : Sight) (n : ℕ) (r : Resolved) → IsSound s → s.reach (job_of s.running (own_job s n) r).leader ≡ true
 job_reached s n r sound =
     let same : List Running = filter (λ q. same_resolved q.resolved r) s.running in
     job_or_reached s.reach (own_job s n) (least running_before same) sound.own
@@ -104,7 +104,7 @@ fits_trust setup s other known = record {
   trusted = λ y t. elim (or_cases (bytes_eq y other) (s.desk.trusted y) t) [
     | inl is ↦
         let same : y ≡ other = same_bytes y other is in
-        inr (rw same (both (bytes_eq other other) (is_user setup other) (bytes_same other) known))
+        inr (rw same (and_from (bytes_eq other other) (is_user setup other) (bytes_same other) known))
     | inr old ↦ inl old
   ];
   goals = λ set reached all. all;

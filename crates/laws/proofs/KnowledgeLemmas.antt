@@ -233,7 +233,7 @@ admitted_last setup done e u i a own admits is derivations =
     }
 
 -- the world after one event more
-world_after-push : (setup : Setup) (w : World) (events : List Event) (e : Event) → world_after setup w (events ++ e ∷ []) ≡ after setup (world_after setup w events) e
+pub world_after-push : (setup : Setup) (w : World) (events : List Event) (e : Event) → world_after setup w (events ++ e ∷ []) ≡ after setup (world_after setup w events) e
 unfolding world_after
 world_after-push setup w [] e = refl
 world_after-push setup w (x ∷ events) e = world_after-push setup (after setup w x) events e

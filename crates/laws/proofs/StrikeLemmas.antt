@@ -1,7 +1,7 @@
 -- A user's replies are those of the run without the events of those whom he never reaches.
 use Rattle.std.proofs.Common.{◌≡◌, ℕ, Bool, true, false, inl, inr, refl, sym, ◌∙◌, ap, subst, List, [], ◌∷◌, Ok, Err}
 use Rattle.std.specs.Prelude.{All, ◌&&◌, filter, bytes_eq, if◌then◌else◌}
-use Rattle.std.proofs.lemmas.Bool.{cond_both}
+use Rattle.std.proofs.lemmas.Bool.{cond_both, or_left, or_right, and_from}
 use Rattle.std.proofs.lemmas.List.Elements.{All-nil}
 use Rattle.std.specs.List.{list_any}
 use Rattle.model.specs.Reach.{is_among}
@@ -10,7 +10,7 @@ use Rattle.model.specs.Events.{Event, Reply}
 use Rattle.model.specs.Outcomes.{reaches, Sight, sight_of, News, Outcome, heard, reply_of, desk_after}
 use Rattle.model.specs.Steps.{outcome, outcome_of, after, answers, replies_to, replies}
 use Rattle.model.specs.Striking.{asks_to_trust, gives_trust, ever, strike}
-use Rattle.model.proofs.BoolLemmas.{either, or_cases, or_left, or_right, both, both_parts, same_bytes, bytes_same}
+use Rattle.model.proofs.BoolLemmas.{either, or_cases, both_parts, same_bytes, bytes_same}
 use Rattle.model.proofs.ReachLemmas.{leads-IsLeast}
 use Rattle.laws.proofs.GoalLemmas.{Under, keeps_heard, heard_nothing}
 use Rattle.laws.proofs.FitLemmas.{OutcomeFits, outcome_fits}
@@ -68,7 +68,7 @@ fits_stays setup set w v agree e gives h known (Ok c) fits = record {
     | inl old ↦ agree.closed e.actor y h old
     | inr new ↦
         let ps = both_parts (asks_to_trust y e.request) (is_user setup y) new in
-        gives e.actor y h (both _ _ (bytes_same e.actor) (both _ _ ps.0 (both _ _ known ps.1)))
+        gives e.actor y h (and_from _ _ (bytes_same e.actor) (and_from _ _ ps.0 (and_from _ _ known ps.1)))
   ];
   goals = fits.goals set (λ x t. reached_in setup set w v agree e.actor x h t) (agree.goals e.actor h);
 }

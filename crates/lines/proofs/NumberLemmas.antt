@@ -8,7 +8,7 @@ pub number-grows : (n : ℕ) (digits : List ℕ) → n ≤ number_behind n digit
 number-grows n [] = omega arith
 number-grows n (d ∷ digits) = omega (arith, number-grows (10 * n + (d - 48)) digits)
 
-leb-false : (m n : ℕ) → n < m → leb m n ≡ false
+pub leb-false : (m n : ℕ) → n < m → leb m n ≡ false
 leb-false m n h = grind arith
 
 neither : (b c : Bool) (n : ℕ) → c ≡ false → cond (b && c) (Some n) None ≡ None

@@ -11,13 +11,11 @@ use Rattle.model.specs.declared.verb.WordKind.{WordKind}
 use Rattle.model.specs.declared.verb.WordKind.TheVariants as kind
 use Rattle.model.specs.Lines.{split}
 use Rattle.model.specs.Forms.{Refuses, names_form, users_form, is_empty_word, is_text, so_many, words_by}
+use Rattle.lines.proofs.NumberLemmas.{leb-false}
 
 and-false : (a : Bool) → (a && false) ≡ false
 and-false true = refl
 and-false false = refl
-
-leb-false : (m n : ℕ) → n < m → leb m n ≡ false
-leb-false m n h = grind arith
 
 pub long-user : (word : List ℕ) → 32 < length word → is_user_name word ≡ false
 unfolding is_user_name

@@ -1,9 +1,10 @@
 -- What is reached is the least closed set.
 use Rattle.std.proofs.Common.{◌≡◌, ℕ, Bool, true, ◌⊎◌, inl, inr, subst, List, [], ◌∷◌}
 use Rattle.std.specs.Prelude.{bytes_eq}
+use Rattle.std.proofs.lemmas.Bool.{or_left, or_right, and_from}
 use Rattle.model.specs.Reach.{leads, is_among}
 use Rattle.model.specs.Laws.{IsLeast}
-use Rattle.model.proofs.BoolLemmas.{or_cases, or_left, or_right, both, both_parts, same_bytes, bytes_same}
+use Rattle.model.proofs.BoolLemmas.{or_cases, both_parts, same_bytes, bytes_same}
 
 -- one user more to go by does no harm
 leads_more : (link : List ℕ → List ℕ → Bool) (k : List ℕ) (ks : List (List ℕ)) (u v : List ℕ) → leads link ks u v ≡ true → leads link (k ∷ ks) u v ≡ true
@@ -22,7 +23,7 @@ leads_link link (k ∷ ks) u v h = or_left _ _ (leads_link link ks u v h)
 
 leads_through : (link : List ℕ → List ℕ → Bool) (k : List ℕ) (ks : List (List ℕ)) (u v : List ℕ) → leads link ks u k ≡ true → leads link ks k v ≡ true → leads link (k ∷ ks) u v ≡ true
 unfolding leads
-leads_through link k ks u v a b = or_right _ _ (both _ _ a b)
+leads_through link k ks u v a b = or_right _ _ (and_from _ _ a b)
 
 -- a chain goes by the first user or it does not
 leads_cases : (link : List ℕ → List ℕ → Bool) (k : List ℕ) (ks : List (List ℕ)) (u v : List ℕ) → leads link (k ∷ ks) u v ≡ true → (leads link ks u v ≡ true) ⊎ ((leads link ks u k ≡ true) × (leads link ks k v ≡ true))

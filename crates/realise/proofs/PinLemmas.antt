@@ -6,13 +6,8 @@ use Rattle.std.proofs.lemmas.Slice.Eq.{bytes_eq-Decides}
 use Rattle.std.proofs.lemmas.Bool.Decides.{same_from_decides}
 use Rattle.indexmap.specs.IndexMap.{insert_entry}
 use Rattle.model.specs.Worlds.{pin_of, pinned, unpinned}
-use Rattle.model.proofs.BoolLemmas.{either, same_bytes}
+use Rattle.model.proofs.BoolLemmas.{either, same_bytes, bytes_eq_sym}
 use Rattle.realise.specs.Indexed.{pin_at, pins_at}
-
-pub bytes_eq_sym : (a b : List ℕ) → bytes_eq a b ≡ bytes_eq b a
-bytes_eq_sym a b =
-    same_from_decides (bytes_eq a b) (bytes_eq b a) (bytes_eq-Decides a b)
-    (λ t. sym ((bytes_eq-Decides b a).0 t), λ e. (bytes_eq-Decides b a).1 (sym e))
 
 pub pin_of_entries : (class : List ℕ) (entries : List (List ℕ × List ℕ)) → pin_of (pins_at entries) class ≡ lookup (bytes_eq class) entries
 pin_of_entries class [] = refl

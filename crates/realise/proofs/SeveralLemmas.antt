@@ -1,20 +1,19 @@
 -- A desk with several entries more.
 use Rattle.std.proofs.Common.{◌≡◌, ℕ, ◌+◌, Bool, true, false, ◌||◌, not, List, [], ◌∷◌, ◌++◌, map, refl, sym, ap, ◌∙◌, append_assoc, append-nil, arith}
 use Rattle.std.specs.Prelude.{bytes_eq, All}
-use Rattle.std.proofs.lemmas.Bool.{not-true}
+use Rattle.std.proofs.lemmas.Bool.{not-true, or_parts}
 use Rattle.std.proofs.lemmas.List.Elements.{All-nil, All-cons, All-head, All-tail}
 use Rattle.std.proofs.lemmas.List.Folds.{list_any-append}
 use Rattle.model.specs.Classes.{Known, is_one_of}
 use Rattle.model.specs.Reach.{is_among}
 use Rattle.model.specs.Worlds.{are_distinct}
-use Rattle.model.proofs.BoolLemmas.{both_parts}
+use Rattle.model.proofs.BoolLemmas.{both_parts, bytes_eq_sym}
 use Rattle.admitted.specs.Entries.{AreNew}
 use Rattle.records.specs.Recorded.{Recorded}
 use Rattle.records.specs.declared.entry.Entry.{Entry}
 use Rattle.records.specs.declared.entry.Entry.TheVariants as entry
 use Rattle.records.specs.Entries.{entry_path}
 use Rattle.realise.specs.Holdings.{Holdings, is_on, holds_entry, holds_all, holds_each, charged_more, charged_all, bare, sources_in, records_in, AreAbsent}
-use Rattle.realise.proofs.PinLemmas.{bytes_eq_sym}
 
 -- ---- what is on the desk then
 
@@ -91,16 +90,12 @@ sources_absent (entry.Source path ∷ es) d all =
     (sources_absent es d (All-tail (λ e. is_on e d ≡ false) (entry.Source path) es all))
 sources_absent (entry.Record r ∷ es) d all = sources_absent es d (All-tail (λ e. is_on e d ≡ false) (entry.Record r) es all)
 
-neither : (a b : Bool) → (a || b) ≡ false → (a ≡ false) × (b ≡ false)
-neither true b h = cc
-neither false b h = (refl, h)
-
 -- paths that are not known, and of which none is this one
 still_absent : (known paths : List (List ℕ)) (path : List ℕ) → All (λ p. is_one_of known p ≡ false) paths → is_among path paths ≡ false
     → All (λ p. is_one_of (known ++ path ∷ []) p ≡ false) paths
 still_absent known [] path all others = All-nil (λ p. is_one_of (known ++ path ∷ []) p ≡ false)
 still_absent known (p ∷ paths) path all others =
-    let both = neither (bytes_eq p path) (is_among path paths) others in
+    let both = or_parts (bytes_eq p path) (is_among path paths) others in
     let old : is_one_of known p ≡ false = All-head (λ q. is_one_of known q ≡ false) p paths all in
     let other : bytes_eq path p ≡ false = bytes_eq_sym path p ∙ both.0 in
     let here : is_one_of (known ++ path ∷ []) p ≡ false = list_any-append (λ n. bytes_eq n p) known (path ∷ []) ∙ rw (old, other) refl in

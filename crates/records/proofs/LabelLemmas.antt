@@ -6,7 +6,7 @@ use Rattle.model.specs.Archives.{bytes_before}
 use Rattle.model.specs.Worlds.{Label}
 use Rattle.model.specs.References.{class_before, least_label, with_label, labels_in_order}
 
-whichever : {X : Type 0} (P : X → Type 0) (b : Bool) (x y : X) → P x → P y → P (if b then x else y)
+pub whichever : {X : Type 0} (P : X → Type 0) (b : Bool) (x y : X) → P x → P y → P (if b then x else y)
 whichever P true x y p q = p
 whichever P false x y p q = q
 

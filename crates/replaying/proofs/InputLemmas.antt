@@ -289,9 +289,6 @@ if_err (Err e) f h = f e h
 
 -- ---- why a session is stopped
 
-pub by_memory : (why : Refusal) → why ≡ Memory → why ≡ BadUsers → ⊥
-by_memory why e f = cc
-
 pub by_input : InputFault ≡ BadUsers → ⊥
 by_input e = cc
 
@@ -309,20 +306,20 @@ found_ahead all left ahead (Some xs) is cut ended users none = record {
       subst (λ (t : List ℕ). LooksAhead t (option_map (λ u. u.items) ahead.users)) (sym cut) (users going left (λ e. sym same ∙ ended e));
 }
 
--- ---- what was flushed behind an end
+-- ---- what was flushed after an end
 
 -- what holds where all was answered, holds where it was flushed as well
-pub behind_ok : (r e : Result (Unit {0}) Refusal) (P Q : Type 0) → OnOk r (IsOk e) → OnOk e P → (P → Q) → OnOk r Q
-behind_ok (Ok u) (Ok v) P Q is p f = f p
-behind_ok (Ok u) (Err w) P Q is p f = cc
-behind_ok (Err why) e P Q is p f = tt
+pub after_ok : (r e : Result (Unit {0}) Refusal) (P Q : Type 0) → OnOk r (IsOk e) → OnOk e P → (P → Q) → OnOk r Q
+after_ok (Ok u) (Ok v) P Q is p f = f p
+after_ok (Ok u) (Err w) P Q is p f = cc
+after_ok (Err why) e P Q is p f = tt
 
--- an error is that of the end, or it says that the flush failed, behind either end
-pub behind_err : (r e : Result (Unit {0}) Refusal) (P : Type 0) (Q S : Refusal → Type 0) → IfErr r (λ why. (e ≡ Err why) ⊎ IsUnwritten why)
+-- an error is that of the end, or it says that the flush failed, after either end
+pub after_err : (r e : Result (Unit {0}) Refusal) (P : Type 0) (Q S : Refusal → Type 0) → IfErr r (λ why. (e ≡ Err why) ⊎ IsUnwritten why)
     → OnOk e P → IfErr e Q → ((why : Refusal) → IsUnwritten why → P → S why) → ((first why : Refusal) → IsUnwritten why → Q first → S why)
     → ((why : Refusal) → Q why → S why) → IfErr r S
-behind_err (Ok u) e P Q S is p q unwritten later same = tt
-behind_err (Err why) (Ok v) P Q S (inl e) p q unwritten later same = cc
-behind_err (Err why) (Err first) P Q S (inl e) p q unwritten later same = let is : first ≡ why = cc in subst S is (same first q)
-behind_err (Err why) (Ok v) P Q S (inr u) p q unwritten later same = unwritten why u p
-behind_err (Err why) (Err first) P Q S (inr u) p q unwritten later same = later first why u q
+after_err (Ok u) e P Q S is p q unwritten later same = tt
+after_err (Err why) (Ok v) P Q S (inl e) p q unwritten later same = cc
+after_err (Err why) (Err first) P Q S (inl e) p q unwritten later same = let is : first ≡ why = cc in subst S is (same first q)
+after_err (Err why) (Ok v) P Q S (inr u) p q unwritten later same = unwritten why u p
+after_err (Err why) (Err first) P Q S (inr u) p q unwritten later same = later first why u q

@@ -14,7 +14,7 @@ use book::{Blank, Front, Naming};
 use model::Refusal;
 use schedule::{Core, Limits, User};
 use session::{
-    Ahead, Faults, Mode, NoUsers, Prefixed, flush_behind, read_ahead, serve, serve_whole_lines,
+    Ahead, Faults, Mode, NoUsers, Prefixed, flush_after, read_ahead, serve, serve_whole_lines,
 };
 use std::alloc::Global;
 use std::hash::RandomState;
@@ -138,5 +138,5 @@ pub fn replay<H: Wait, R: Read + Faults, W: Write + Faults>(
     let writer_before = writer.failures();
     let ahead = read_ahead(alloc, Mode::Service, reader)?;
     let ended = answer_lines(rt, alloc, hashing, limits, ahead, reader, writer);
-    flush_behind(reader, reader_before, writer, writer_before, ended)
+    flush_after(reader, reader_before, writer, writer_before, ended)
 }

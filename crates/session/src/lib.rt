@@ -5,7 +5,7 @@
 //! | [`Session::line`] | answers one line: gives what is printed for it |
 //! | [`serve`] | answers the lines of a reader, and writes what is printed |
 //! | [`serve_whole_lines`] | the same for bytes of which more was to come |
-//! | [`flush_behind`] | shows what was written, and says how it ended |
+//! | [`flush_after`] | shows what was written, and says how it ended |
 //! | [`read_ahead`], [`Prefixed`] | finds the users of an input, and gives again what was read |
 //!
 //! What a line is, which row it gets and what is printed for it is said by the definitions of the
@@ -26,4 +26,4 @@ pub use lines::answer_text;
 pub use prefixed::Prefixed;
 pub use serving::{serve, serve_whole_lines};
 pub use session::{Mode, Session};
-pub use streams::flush_behind;
+pub use streams::flush_after;

@@ -98,15 +98,15 @@ pub(crate) fn flush<W: Write + Faults>(writer: &mut W, before: u64) -> Result<()
     Err(Refusal::Memory)
 }
 
-/// Flushes the writer behind what ended so, and gives that end, or why it was not flushed. An end by a
-/// failure that the counts do not show is `Memory`: they were told before, and have fallen since.
+/// Flushes the writer after what ended so, and gives that end, or why it was not flushed. An end by a
+/// failure that the counts do not show is `Memory`: they showed it then, and have fallen since.
 ///
 /// # Errors
 ///
 /// - `InputFault` only where the reader has failed by its count since that was `reader_before`.
 /// - `OutputFault` only where the writer has failed by its count since that was `writer_before`.
 /// - `Memory` also where the flush failed and was not counted, each of 2^64 times.
-pub fn flush_behind<R: Faults, W: Write + Faults>(
+pub fn flush_after<R: Faults, W: Write + Faults>(
     reader: &R,
     reader_before: u64,
     writer: &mut W,

@@ -9,6 +9,7 @@ use Rattle.std.proofs.lemmas.List.Quantifiers.{position-Some}
 use Rattle.std.proofs.Math.Nat.{pow-suc}
 use Rattle.std.proofs.lemmas.List.{drop_more, drop-set-lt, get_or-set_same, take_more, get_or_append_left, get_or_at, length_push, length-set}
 use Rattle.model.specs.Paths.{digits_of, digits_32}
+use Rattle.hashmod.proofs.FoldLemmas.{last_or_before}
 
 pub length-digits_of : (k n : ℕ) → length (digits_of k n) ≡ k
 unfolding digits_of
@@ -33,16 +34,13 @@ written_digit text whole p q m n r digit next h divided small is e =
     let g : (digits_of p m ++ digit ∷ []) ++ drop (p + 1) text ≡ whole = rw (is, ← digits_of-push p m n r divided small) f in
     rw tail (sym (append_assoc (digits_of p m) (digit ∷ []) (drop (p + 1) text)) ∙ g)
 
-digit_cases : (i k : ℕ) → i < suc k → (i ≡ k) ⊎ (i < k)
-digit_cases i k h = grind arith
-
 -- each character is a digit
 pub get_or-digits_of : (k n i : ℕ) → i < k → (j : ℕ) × (j < 32) × (get_or (digits_of k n) i 0 ≡ get_or digits_32 j 0)
 unfolding digits_of
 get_or-digits_of zero n i h = absurd (omega arith)
 get_or-digits_of (suc k) n i h =
     let last : ℕ = get_or digits_32 (n % 32) 0 in
-    elim (digit_cases i k h) [
+    elim (last_or_before i k h) [
       | inl e ↦ (n % 32, omega arith, rw e (get_or_at (digits_of k (n / 32)) last [] 0 k (length-digits_of k (n / 32))))
       | inr before ↦
           let found = get_or-digits_of k (n / 32) i before in

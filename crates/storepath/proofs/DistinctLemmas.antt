@@ -12,7 +12,7 @@ use Rattle.sha2.specs.Sha256.{sha256}
 use Rattle.sha2.proofs.Facts256.{length-sha256}
 use Rattle.model.specs.Archives.{AreBytes}
 use Rattle.model.specs.Paths.{Kind, kind_text, fingerprint, path_text, short_digest, folded, base32, digits_32, digits_of, number_of, IsFolded}
-use Rattle.hashmod.proofs.FoldLemmas.{AreBytes-sha256, IsFolded-short_digest}
+use Rattle.hashmod.proofs.FoldLemmas.{AreBytes-sha256, IsFolded-short_digest, last_or_before}
 use Rattle.storepath.proofs.PathLemmas.{length-base32, parts_of-path_text}
 use Rattle.storepath.specs.Laws.{PathsDiffer}
 
@@ -57,14 +57,11 @@ abbrev all_below : (ℕ → Bool) → ℕ → Bool
 all_below test zero = true
 all_below test (suc n) = all_below test n && test n
 
-top_or_below : (i n : ℕ) → i < suc n → (i ≡ n) ⊎ (i < n)
-top_or_below i n h = grind arith
-
 holds_below : (test : ℕ → Bool) (n : ℕ) → all_below test n ≡ true → (i : ℕ) → i < n → test i ≡ true
 holds_below test zero h i l = absurd (omega arith)
 holds_below test (suc n) h i l =
     let parts = and_parts (all_below test n) (test n) h in
-    elim (top_or_below i n l) [ inl e ↦ rw e parts.1 | inr less ↦ holds_below test n parts.0 i less ]
+    elim (last_or_before i n l) [ inl e ↦ rw e parts.1 | inr less ↦ holds_below test n parts.0 i less ]
 
 -- where a digit stands among the digits
 place_of : ℕ → ℕ

@@ -12,6 +12,7 @@ use Rattle.std.proofs.lemmas.List.Folds.{list_all-append}
 use Rattle.std.proofs.lemmas.List.Sums.{AllPass-from_list_all}
 use Rattle.model.specs.Archives.{AreBytes}
 use Rattle.model.specs.Paths.{base32, digits_32, digits_of, number_of, is_name, is_digit_32, is_hash_part_and_name, is_path, IsFolded, IsPath}
+use Rattle.hashmod.proofs.FoldLemmas.{one_more_byte}
 use Rattle.storepath.proofs.DigitLemmas.{read_digit, small_number}
 use Rattle.storepath.proofs.PathLemmas.{base32_is_ascii, length-base32, parts_of-path_text, joined_path}
 use Rattle.storepath.specs.Parts.{is_hash_part}
@@ -55,10 +56,6 @@ number_with text h (suc i) le =
     let read : digits_of (i + 1) n ≡ take (i + 1) text = read_digit text i high.0 n digit.0 (omega arith) digit.1 digit.2 refl high.2 in
     subst (λ k. (n : ℕ) × (n < 32 ^ k) × (digits_of k n ≡ take k text)) (add-one i) (n, small, read)
 
-bytes_behind : (byte : ℕ) (bytes : List ℕ) → byte < 256 → AreBytes bytes → AreBytes (byte ∷ bytes)
-bytes_behind byte bytes h rest zero = h
-bytes_behind byte bytes h rest (suc i) = rest i
-
 -- a number is that of its bytes
 bytes_with : (k n : ℕ) → n < 256 ^ k → (bytes : List ℕ) × AreBytes bytes × (length bytes ≡ k) × (number_of bytes ≡ n)
 unfolding number_of
@@ -66,7 +63,7 @@ bytes_with zero n h = ([], λ i. lit< tt, refl, omega (arith, h))
 bytes_with (suc k) n h =
     let bound : n < 256 ^ k * 256 = rw pow-suc at h in
     let rest = bytes_with k (n / 256) (omega (arith, bound)) in
-    (n % 256 ∷ rest.0, bytes_behind (n % 256) rest.0 (omega arith) rest.1, ap suc rest.2, rw rest.3 (omega arith))
+    (n % 256 ∷ rest.0, one_more_byte (n % 256) rest.0 (omega arith) rest.1, ap suc rest.2, rw rest.3 (omega arith))
 
 -- 32 digits are those of 20 bytes
 pub folded_with : (text : List ℕ) → length text ≡ 32 → list_all is_digit_32 text ≡ true → (bytes : List ℕ) × IsFolded bytes × (base32 bytes ≡ text)

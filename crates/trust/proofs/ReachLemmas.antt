@@ -5,7 +5,8 @@ use Rattle.std.specs.Int.{bit_at, bit_not, trailing_zeros, w64}
 use Rattle.std.proofs.lemmas.Nat.{le_or_l, and_le_l}
 use Rattle.std.proofs.lemmas.Nat.Bits.{bit_at-zero, bit_at-lt, bit_at_and, bit_at_or, bit_at_not, bit_at_above, bit_at-trailing_zeros, bit_at_set_same, bit_at_set_other}
 use Rattle.std.proofs.lemmas.Bool.Decides.{nat_tests, Decides-eqb}
-use Rattle.model.proofs.BoolLemmas.{either, or_cases, or_left, or_right}
+use Rattle.std.proofs.lemmas.Bool.{or_left, or_right}
+use Rattle.model.proofs.BoolLemmas.{either, or_cases}
 use Rattle.trust.specs.Trusting.{holds, trusts, IsClosed, IsReach}
 use Rattle.trust.proofs.RowLemmas.{holds_set, eq_cases}
 

@@ -1,38 +1,19 @@
-use Rattle.std.proofs.Common.{◌≡◌, ap, sym, ◌∙◌}
-use Rattle.std.specs.Prelude.{Some}
-use Rattle.std.proofs.lemmas.Result.{err_from_is_err_and}
-use Rattle.derivation.specs.Parts.{derivation_of}
-use Rattle.aterm.specs.Strings.{derivation_read}
-use Rattle.model.specs.DerivationTexts.{derivation_at}
-use Rattle.aterm.proofs.Refusing.{refused_strings, refused_paths, made_or_refused, made_only}
+use Rattle.std.specs.Prelude.{Err}
+use Rattle.model.specs.declared.refusal.Refusal.TheVariants.{BadDerivation}
+use Rattle.aterm.proofs.Refusing.{made_or_refused, made_only}
 use Rattle.aterm.proofs.Exact.{given_from_read}
+use Rattle.derivation.specs.Parts.{derivation_of}
 use Rattle.aterm.proofs.read.parse.Goals as goal
 
-pub returns-in_err-strings-clause-read : goal.returns-in_err-strings-clause-read
-returns-in_err-strings-clause-read c =
-    let p = err_from_is_err_and c.from_residual.result c.from_residual.ensures.1 in
-    rw p.1 (refused_strings c.args.text.now _ _ p.2 c.in_err-strings.ensures)
+pub returns-in-Ok-clause-read : goal.returns-in-Ok-clause-read
+returns-in-Ok-clause-read c = made_or_refused c.args.text.now (derivation_of c.in-Ok.parts) c.new.result c.in-Ok.ensures c.new.ensures.derivation
 
-pub returns-in_err-parts-clause-read : goal.returns-in_err-parts-clause-read
-returns-in_err-parts-clause-read c =
-    let p = err_from_is_err_and c.from_residual-in_err-parts.result c.from_residual-in_err-parts.ensures.1 in
-    rw p.1 (refused_paths c.args.text.now (derivation_read c.in_ok-strings.strings) _ _ c.in_ok-strings.ensures p.2 c.in_err-parts.ensures)
+pub returns-in-Ok-clause-only : goal.returns-in-Ok-clause-only
+returns-in-Ok-clause-only c = made_only c.args.text.now (derivation_of c.in-Ok.parts) c.new.result c.in-Ok.ensures c.new.ensures.derivation
 
-pub returns-clause-read : goal.returns-clause-read
-returns-clause-read c =
-    let found : derivation_at c.args.text.now ≡ Some (derivation_of c.in_ok-parts.parts) = c.in_ok-strings.ensures ∙ ap Some (sym c.in_ok-parts.ensures) in
-    made_or_refused c.args.text.now (derivation_of c.in_ok-parts.parts) c.new.result found c.new.ensures.derivation
+pub returns-in-Ok-clause-same : goal.returns-in-Ok-clause-same
+returns-in-Ok-clause-same c = given_from_read c.args.text.now _ (returns-in-Ok-clause-read c)
 
-pub returns-clause-only : goal.returns-clause-only
-returns-clause-only c =
-    let found : derivation_at c.args.text.now ≡ Some (derivation_of c.in_ok-parts.parts) = c.in_ok-strings.ensures ∙ ap Some (sym c.in_ok-parts.ensures) in
-    made_only c.args.text.now (derivation_of c.in_ok-parts.parts) c.new.result found c.new.ensures.derivation
-
-pub returns-in_err-strings-clause-same : goal.returns-in_err-strings-clause-same
-returns-in_err-strings-clause-same c = given_from_read c.args.text.now _ (returns-in_err-strings-clause-read c)
-
-pub returns-in_err-parts-clause-same : goal.returns-in_err-parts-clause-same
-returns-in_err-parts-clause-same c = given_from_read c.args.text.now _ (returns-in_err-parts-clause-read c)
-
-pub returns-clause-same : goal.returns-clause-same
-returns-clause-same c = given_from_read c.args.text.now _ (returns-clause-read c)
+pub returns-in-Err-Malformed-clause-same : goal.returns-in-Err-Malformed-clause-same
+returns-in-Err-Malformed-clause-same c =
+    given_from_read c.args.text.now (Err BadDerivation) (rw c.in-Err-Malformed.field-0-is at c.in-Err-Malformed.ensures)

@@ -2,9 +2,10 @@ use Rattle.std.proofs.Common.{◌≡◌, ◌<◌, ◌&&◌, length, drop, true, 
 use Rattle.std.specs.Prelude.{◌+◌, bytes_eq, Some, None}
 use Rattle.std.specs.Option.{option_copied}
 use Rattle.candidates.specs.Reaching.{is_for, is_label_for, is_named}
-use Rattle.records.proofs.LoopLemmas.{drop_next, found_next, and_false}
+use Rattle.records.proofs.LoopLemmas.{drop_next, found_next}
 use Rattle.candidates.proofs.below.add_labels.Goals as goal
 use Rattle.candidates.proofs.below.add_labels.Goals.{in-Some+in_ok-clone+in_ok-clone-2+in_ok-_is_new, in_default}
+use Rattle.candidates.proofs.StepLemmas.{and_false}
 
 pub loop-label-preserved : goal.loop-label-preserved
 loop-label-preserved c path class =

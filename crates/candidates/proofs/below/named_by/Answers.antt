@@ -1,8 +1,8 @@
 use Rattle.std.proofs.Common.{◌||◌, ap, sym, ◌∙◌}
 use Rattle.candidates.specs.Reaching.{is_named, is_among_labels}
-use Rattle.records.proofs.LoopLemmas.{or_false}
 use Rattle.candidates.proofs.ZipLemmas.{pairs_done}
 use Rattle.candidates.proofs.below.named_by.Goals as goal
+use Rattle.candidates.proofs.StepLemmas.{or_false}
 
 pub returns : goal.returns
 returns c path class =

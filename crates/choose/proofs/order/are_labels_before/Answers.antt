@@ -1,5 +1,5 @@
 use Rattle.std.proofs.Common.{rules, ◌≡◌, ◌+◌, ◌⊎◌, sym, ◌∙◌, drop, length, arith, inl, inr}
-use Rattle.choose.proofs.ChoosingLemmas.{drop_step}
+use Rattle.records.proofs.LoopLemmas.{drop_next}
 use Rattle.choose.proofs.LabelLemmas.{before_first, after_first, before_rest, before_end}
 use Rattle.choose.proofs.order.are_labels_before.Goals as goal
 use Rattle.choose.proofs.order.are_labels_before.Goals.{then-loop-index-test+else-index-other, else-loop-index-test}
@@ -11,8 +11,8 @@ returns-then-is_label_before c =
     let k = c.loop-index.index in
     let x = c.index-one-index.result in
     let y = c.index-other-index.result in
-    let first = drop_step one k x c.loop-index-test.true c.index-one-index.is in
-    let second = drop_step other k y c.if-index-other.true c.index-other-index.is in
+    let first = drop_next one k x c.loop-index-test.true c.index-one-index.is in
+    let second = drop_next other k y c.if-index-other.true c.index-other-index.is in
     sym (before_first x y (drop (k + 1) one) (drop (k + 1) other) (drop k one) (drop k other) first second
     (sym c.is_label_before.ensures ∙ c.if-is_label_before.true)) ∙ c.loop-index.invariant.rest
 
@@ -23,8 +23,8 @@ returns-then-is_label_before-2 c =
     let k = c.loop-index.index in
     let x = c.index-one-index.result in
     let y = c.index-other-index.result in
-    let first = drop_step one k x c.loop-index-test.true c.index-one-index.is in
-    let second = drop_step other k y c.if-index-other.true c.index-other-index.is in
+    let first = drop_next one k x c.loop-index-test.true c.index-one-index.is in
+    let second = drop_next other k y c.if-index-other.true c.index-other-index.is in
     sym (after_first x y (drop (k + 1) one) (drop (k + 1) other) (drop k one) (drop k other) first second (search rules) (search rules))
     ∙ c.loop-index.invariant.rest
 
@@ -35,8 +35,8 @@ loop-index-preserved c =
     let k = c.loop-index.index in
     let x = c.index-one-index.result in
     let y = c.index-other-index.result in
-    let first = drop_step one k x c.loop-index-test.true c.index-one-index.is in
-    let second = drop_step other k y c.if-index-other.true c.index-other-index.is in
+    let first = drop_next one k x c.loop-index-test.true c.index-one-index.is in
+    let second = drop_next other k y c.if-index-other.true c.index-other-index.is in
     record {
       in_one = omega arith;
       in_other = omega arith;

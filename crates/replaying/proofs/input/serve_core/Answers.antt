@@ -1,7 +1,8 @@
 use Rattle.std.proofs.Common.{rules, [], refl}
 use Rattle.session.proofs.RowLemmas.{err-is, consumes-none}
+use Rattle.session.proofs.ProgressLemmas.{by_memory}
 use Rattle.passes.specs.Callers.{newcomer}
-use Rattle.replaying.proofs.InputLemmas.{on_ok, if_err, nothing_answered, by_memory}
+use Rattle.replaying.proofs.InputLemmas.{on_ok, if_err, nothing_answered}
 use Rattle.replaying.proofs.input.serve_core.Goals as goal
 
 pub returns-in_err-front-clause-err : goal.returns-in_err-front-clause-err
