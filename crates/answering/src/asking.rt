@@ -1,54 +1,73 @@
-//! Handing an event to whom a session asks.
+//! Handing an event, or goals to wait for, to whom a session asks.
 
-ghost use Rattle.std.specs.Prelude.{◌≡◌, ◌⊎◌, IfOk, IfErr, OnErr};
+ghost use Rattle.std.specs.Prelude.{◌≡◌, ◌⊎◌, true, codes, IfOk, IfErr, OnErr};
 ghost use Rattle.model.specs.declared.refusal.Refusal.TheVariants.{Memory};
-ghost use Rattle.model.specs.Talk.{answer_text, told_in};
+ghost use Rattle.model.specs.Replies.{ends_wait};
+ghost use Rattle.model.specs.Talk.{answer_text, goal_by};
 ghost use Rattle.model.specs.Events as events;
 ghost use Rattle.events.specs.Terms.{event_of, reply_of};
+ghost use Rattle.answering.specs.Answered.{IsAnswered};
 
 use crate::answer::Answer;
 use events::{Event, Reply};
 use lines::{Told, answer_text, told_in};
 use model::Refusal;
+use states::Job;
 use std::alloc::Global;
 use trust::User;
 
-/// What a reply tells, and what is printed for it.
-fn told_and_text(
-    alloc: Global,
-    number: usize,
-    actor: &User,
-    reply: Reply,
-) -> Result<(Told, Vec<u8>), Refusal>
-    ensures ok { IfOk result (λ r. (r.0 ≡ told_in (reply_of reply))
-        × (r.1.items ≡ answer_text number actor.now (reply_of reply))) }
+/// What is made of the reply to an event.
+#[derive(Drop)]
+pub struct Answered {
+    /// What it tells.
+    pub told: Told,
+    /// The goal that it gives the actor, if it does, named as the job that it would lead.
+    pub goal: Option<Job>,
+    /// What is printed for it.
+    pub text: Vec<u8>,
+}
+
+/// The goal that a reply gives the actor.
+fn goal_by(actor: User, reply: &Reply) -> Option<Job>
+    ensures { result ≡ goal_by actor (reply_of reply.now) }
+{
+    match reply {
+        Reply::GoalNumber(number) => Some(Job::new(actor, *number)),
+        _ => None,
+    }
+}
+
+/// What is made of the reply to an actor's event.
+fn take_reply(alloc: Global, number: usize, actor: User, reply: Reply) -> Result<Answered, Refusal>
+    ensures ok { IfOk result (IsAnswered number actor (reply_of reply)) }
     ensures memory { IfErr result (λ why. why ≡ Memory) }
 {
     let text = answer_text(alloc, number, actor.bytes(), &reply)?;
-    Ok((told_in(reply), text))
+    let goal = goal_by(actor, &reply);
+    let told = told_in(reply);
+    Ok(Answered { told, goal, text })
 }
 
-/// Hands an actor's event on. Gives what its reply tells, and what is printed for it.
+/// Hands an actor's event on. Gives what is made of its reply.
 fn ask_by<A: Answer>(
     alloc: Global,
     number: usize,
-    actor: &User,
+    actor: User,
     event: Event,
     answer: &mut A,
-) -> Result<(Told, Vec<u8>), Refusal>
-    ensures ok { IfOk result (λ r. (reply : events.Reply) × (r.0 ≡ told_in reply)
-        × (r.1.items ≡ answer_text number actor.now reply)
+) -> Result<Answered, Refusal>
+    ensures ok { IfOk result (λ r. (reply : events.Reply) × IsAnswered number actor reply r
         × A.answers answer.old (event_of event) reply answer.new) }
     ensures memory { IfErr result (λ why. why ≡ Memory) }
     ensures asked { (reply : events.Reply)
         × A.answers answer.old (event_of event) reply answer.new }
 {
     let reply = answer.call(alloc, event);
-    told_and_text(alloc, number, actor, reply)
+    take_reply(alloc, number, actor, reply)
 }
 
-/// Hands an event to whom a session asks. Gives what the reply tells, and what is printed for it as the
-/// line of that number.
+/// Hands an event to whom a session asks. Gives what is made of its reply, with the text that is printed
+/// for it as the line of that number.
 ///
 /// # Errors
 ///
@@ -58,14 +77,36 @@ pub fn ask<A: Answer>(
     number: usize,
     event: Event,
     answer: &mut A,
-) -> Result<(Told, Vec<u8>), Refusal>
-    ensures ok { IfOk result (λ r. (reply : events.Reply) × (r.0 ≡ told_in reply)
-        × (r.1.items ≡ answer_text number event.actor reply)
+) -> Result<Answered, Refusal>
+    ensures ok { IfOk result (λ r. (reply : events.Reply) × IsAnswered number event.actor reply r
         × A.answers answer.old (event_of event) reply answer.new) }
     ensures memory { IfErr result (λ why. why ≡ Memory) }
     ensures err { OnErr result ((answer.new ≡ answer.old)
         ⊎ ((reply : events.Reply) × A.answers answer.old (event_of event) reply answer.new)) }
 {
     let actor = event.actor.clone()?;
-    ask_by(alloc, number, &actor, event, answer)
+    ask_by(alloc, number, actor, event, answer)
+}
+
+/// Hands goals to whom a session asks, who waits for them. Gives what is printed for the reply as the line
+/// of that number.
+///
+/// # Errors
+///
+/// - `Memory` only where memory was refused for the text. The wait has ended then.
+pub fn wait<A: Answer>(
+    alloc: Global,
+    number: usize,
+    goals: &[Job],
+    answer: &mut A,
+) -> Result<Vec<u8>, Refusal>
+    ensures ok { IfOk result (λ text. (reply : events.Reply) × (ends_wait reply ≡ true)
+        × (text.items ≡ answer_text number (codes "-") reply)
+        × A.waited answer.old goals.now reply answer.new) }
+    ensures memory { IfErr result (λ why. why ≡ Memory) }
+    ensures waited { (reply : events.Reply) × (ends_wait reply ≡ true)
+        × A.waited answer.old goals.now reply answer.new }
+{
+    let reply = answer.wait(alloc, goals);
+    answer_text(alloc, number, b"-", &reply)
 }

@@ -6,7 +6,7 @@ ghost use Rattle.std.specs.Io.KnownBytes.{Appends};
 
 use model::Refusal;
 use schedule::{Core, Event, Limits, Reply, User, run};
-use session::{Ahead, Answer, Faults, Mode, NoUsers, Session, answer_text, read_ahead, serve};
+use session::{Ahead, Answer, Faults, Job, Mode, NoUsers, Session, answer_text, read_ahead, serve};
 use std::alloc::Global;
 use std::hash::RandomState;
 use std::io::{ErrorKind, Read, Write};
@@ -28,8 +28,11 @@ impl Recorder {
     }
 }
 
+/// No line of the service waits.
 impl Answer for Recorder {
     ghost answers = { λ old event reply new. Unit {0} };
+
+    ghost waited = { λ old goals reply new. Unit {0} };
 
     fn call(&mut self, alloc: Global, event: Event) -> Reply {
         if let Err(why) = self.keep(&event) {
@@ -37,6 +40,10 @@ impl Answer for Recorder {
             return Reply::Refused(why);
         }
         self.core.step(alloc, event)
+    }
+
+    fn wait(&mut self, _alloc: Global, _goals: &[Job]) -> Reply {
+        Reply::Done
     }
 }
 

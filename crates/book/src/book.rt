@@ -1,6 +1,6 @@
 //! What lies under the lock.
 
-ghost use Rattle.std.specs.Prelude.{◌≡◌, ◌+◌, ◌++◌, ◌<◌, ◌∷◌, [], length, vec_len, map, sum, All, true, false, OnOk, IfOk, IfErr, IfSome, IfNone, Ok};
+ghost use Rattle.std.specs.Prelude.{◌≡◌, ◌≢◌, ◌+◌, ◌++◌, ◌<◌, ◌∷◌, [], length, vec_len, map, sum, All, true, false, OnOk, IfOk, IfErr, IfSome, IfNone, Ok, Err};
 ghost use Rattle.std.specs.Vec.{vec_capacity};
 ghost use Rattle.model.specs.Paths.{NoClash};
 ghost use Rattle.model.specs.Worlds.{nothing};
@@ -8,6 +8,8 @@ ghost use Rattle.model.specs.Replies.{is_refused};
 ghost use Rattle.model.specs.HashedTexts.{hashed};
 ghost use Rattle.model.specs.declared.refusal.Refusal.TheVariants.{Memory, Stopped};
 ghost use Rattle.schedule.specs.Standing.{world_of, setup_of, stored_in, IsUnchanged};
+ghost use Rattle.leading.specs.Asking.{IsAnswerTo};
+ghost use Rattle.schedule.specs.Asking.{job_asked_for};
 ghost use Rattle.events.specs.Terms.{reply_of};
 ghost use Rattle.events.specs.declared.reply.Reply.TheVariants.{Refused};
 ghost use Rattle.passes.specs.Callers.{answered, told_stopped, Matches};
@@ -18,7 +20,7 @@ use crate::history::History;
 use laws::isolation;
 use model::Refusal;
 use passes::{Log, Naming, Pass, Row};
-use schedule::{Core, Event, Reply};
+use schedule::{Core, Event, Reply, RunningJob, User};
 use std::alloc::{AllocError, Global};
 use std::marker::Model;
 use std::sync::ledger;
@@ -244,6 +246,45 @@ impl<J: Naming> Book<J> {
         pass.add_row(calls, log, &row);
         push(history, row);
         reply
+    }
+
+    /// The job that a user's goal of a number leads, and what it is built from, for a pass. There is
+    /// no row of it, and the book stays as it is.
+    ///
+    /// # Errors
+    ///
+    /// - `Stopped` exactly where the book is stopped. The pass knows it then.
+    /// - Else those of [`Core::request`].
+    pub fn request(
+        &mut self,
+        pass: &mut Pass<J>,
+        user: &User,
+        number: u16,
+    ) -> Result<RunningJob, Refusal>
+        ensures value { self.old.stopped ≡ false
+            → IsAnswerTo (job_asked_for self.old.core user.now number) result }
+        ensures stopped { self.old.stopped ≡ true → result ≡ Err Stopped }
+        ensures only_then { result ≡ Err Stopped → self.old.stopped ≡ true }
+        ensures matches { Matches self.old.rows self.old.stopped pass.old }
+        ensures told { result ≡ Err Stopped → pass.new ≡ told_stopped pass.old }
+        ensures going { result ≢ Err Stopped → pass.new ≡ pass.old }
+        ensures stays { self.new ≡ self.old }
+        ensures legal { IsLegal J.setup self.old.rows }
+        ensures given { setup_of self.old.core ≡ J.setup }
+        ensures reached { self.old.stopped ≡ false → StandsFor J.setup self.old.core self.old.rows }
+    {
+        isolation();
+        let Book {
+            core,
+            log,
+            stopped,
+            ..
+        } = self;
+        pass.compare(log);
+        if *stopped {
+            return Err(Refusal::Stopped);
+        }
+        core.request(user, number)
     }
 
     /// The rows, the oldest first.

@@ -1,6 +1,6 @@
 //! What threads share.
 
-ghost use Rattle.std.specs.Prelude.{◌≡◌, ◌<◌, ◌≤◌, ◌++◌, ◌∷◌, [], true, false, length, map, sum, All, IfOk, IfErr};
+ghost use Rattle.std.specs.Prelude.{◌≡◌, ◌≢◌, ◌<◌, ◌≤◌, ◌++◌, ◌∷◌, [], true, false, length, map, sum, All, IfOk, IfErr, Err};
 ghost use mathlib.Core.List.{IsPrefix};
 ghost use Rattle.model.specs.declared.refusal.Refusal.TheVariants.{Memory, Stopped};
 ghost use Rattle.events.specs.declared.reply.Reply.TheVariants.{Refused};
@@ -8,12 +8,14 @@ ghost use Rattle.book.specs.Keeping.{IsNew};
 ghost use Rattle.passes.specs.Callers.{newcomer, told_stopped, below, rows_of};
 ghost use Rattle.passes.specs.Tokens.{nothing_recorded};
 ghost use Rattle.book.specs.Histories.{row, gave_up, IsLegal, IsAnswered};
+ghost use Rattle.book.specs.Asking.{IsAsked};
 
 use crate::book::Book;
 use crate::history::History;
+use laws::kept_closures_are_good;
 use model::Refusal;
 use passes::{Blank, Log, Naming, Pass};
-use schedule::{Core, Event, Reply};
+use schedule::{Core, Event, Reply, RunningJob, User};
 use std::alloc::Global;
 use std::sync::ledger::Share;
 use std::sync::{Mutex, Wait};
@@ -103,6 +105,41 @@ impl<J: Naming> Front<J> {
         ensures remains { pass.old.stopped ≡ true → result ≡ Refused Stopped }
     {
         self.book.lock(rt).apply(alloc, pass, event)
+    }
+
+    /// The job that a user's goal of a number leads, and what it is built from, for a pass. It takes
+    /// the lock, so it may wait. It makes no row, and shares all that is large.
+    ///
+    /// What is told is so after rows that begin with the sure rows of the pass and are a legal
+    /// history. The closure that the job is built from was found by an event among them that planned
+    /// the goal: it serves no class by two paths, has an entry for each label of its entries, and
+    /// keeps no hash part of a path that another one replaces.
+    ///
+    /// # Errors
+    ///
+    /// They are looked for in this order, and all but the last are told whether there is memory or
+    /// not.
+    ///
+    /// - `Stopped` where the front is stopped. The pass knows it then: each later call of it is
+    ///   answered so too.
+    /// - `UnknownUser`, `UnknownGoal` and `WrongState` where the user is none of the run, has no goal
+    ///   of that number, or the goal leads no job that is built now.
+    /// - `Memory` only where memory was refused.
+    pub fn request(
+        &self,
+        rt: &impl Wait,
+        pass: &mut Pass<J>,
+        user: &User,
+        number: u16,
+    ) -> Result<RunningJob, Refusal>
+        ensures asked { result ≢ Err Stopped
+            → IsAsked J.setup pass.old user.now number result }
+        ensures going { result ≢ Err Stopped → pass.new ≡ pass.old }
+        ensures stopped { result ≡ Err Stopped → pass.new ≡ told_stopped pass.old }
+        ensures remains { pass.old.stopped ≡ true → result ≡ Err Stopped }
+    {
+        kept_closures_are_good();
+        self.book.lock(rt).request(pass, user, number)
     }
 
     /// The history. The passes are all that [`Front::new`] gave with the front, so it has a row for

@@ -14,8 +14,10 @@ pub mod FitLemmas
 pub mod AgreeLemmas
 pub mod StrikeLemmas
 pub mod KnowledgeLemmas
+pub mod KeptLemmas
 pub mod RecursionLemmas
 pub mod TalkLemmas
+pub mod ModeLemmas
 pub mod MemberLemmas
 pub mod ServedLemmas
 pub mod OrderLemmas

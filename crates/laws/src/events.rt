@@ -1,6 +1,7 @@
 //! Laws over every list of events.
 
 ghost use Rattle.model.specs.Laws.{IsIsolated, KnowledgeIsAdmitted, KnowledgeIsRecursive, NeverFails};
+ghost use Rattle.model.specs.KeptClosures.{KeptClosuresAreGood, PlannedGoalsKeep};
 
 /// Whatever users outside his trust closure do, a user's replies are those that he would get
 /// without their events.
@@ -23,4 +24,15 @@ pub fn knowledge_is_admitted()
 /// masked text and each rank is that of a derivation over those of its inputs, and so on.
 pub fn knowledge_is_recursive()
     ensures { KnowledgeIsRecursive }
+{}
+
+/// What the goals of a user keep after events was found when they were planned, and its closure is
+/// good: it serves no class by two paths, has an entry for each label, and keeps no replaced hash part.
+pub fn kept_closures_are_good()
+    ensures { KeptClosuresAreGood }
+{}
+
+/// A goal that is planned, or is built, keeps what it is built from.
+pub fn planned_goals_keep()
+    ensures { PlannedGoalsKeep }
 {}

@@ -6,7 +6,12 @@
 mod closures;
 mod events;
 mod reach;
+mod talk;
 
 pub use closures::closures_are_whole;
-pub use events::{isolation, knowledge_is_admitted, knowledge_is_recursive, never_fails};
+pub use events::{
+    isolation, kept_closures_are_good, knowledge_is_admitted, knowledge_is_recursive, never_fails,
+    planned_goals_keep,
+};
 pub use reach::reach_is_least;
+pub use talk::service_never_waits;

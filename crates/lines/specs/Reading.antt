@@ -1,5 +1,5 @@
 -- What reading a line gives, against the line's form.
-use Rattle.std.specs.Prelude.{◌≡◌, ◌⊎◌, ℕ, nat_le, ◌&&◌, if◌then◌else◌, List, ◌∷◌, Option, None, Some, Result, MatchResult}
+use Rattle.std.specs.Prelude.{◌≡◌, ◌⊎◌, ℕ, nat_le, true, ◌&&◌, if◌then◌else◌, List, ◌∷◌, Option, None, Some, Result, MatchResult}
 use Rattle.model.specs.declared.refusal.Refusal.{Refusal}
 use Rattle.model.specs.declared.refusal.Refusal.TheVariants.{Memory}
 use Rattle.model.specs.declared.verb.Verb.{Verb}
@@ -9,7 +9,9 @@ use Rattle.model.specs.Words.{AreWell, FirstIll, number_in}
 use Rattle.model.specs.Verbs.{kinds_of, IsRequestOf}
 use Rattle.model.specs.Forms.{Form, Wish}
 use Rattle.model.specs.Forms as form
-use Rattle.model.specs.Talk.{Row, Silent, Names, Refuses, Asks, Gets}
+use Rattle.model.specs.Talk.{Row, Silent, Names, Refuses, Asks, Waits, Gets}
+use Rattle.model.specs.Replies.{ends_wait}
+use Rattle.model.specs.Worlds.{Job}
 use Rattle.model.specs.Events as events
 use Rattle.events.specs.declared.event.Event.{Event}
 use Rattle.events.specs.declared.event.Request.{Request}
@@ -42,19 +44,21 @@ IsEventOfWish user wish event =
 abbrev pub IsNoEvent : List ℕ → Wish → Refusal → Type 0
 IsNoEvent user wish why = (why ≡ Memory) ⊎ FirstIll (kind.User ∷ kinds_of wish.verb) (user ∷ wish.words) why
 
--- the row of what a line comes to
-abbrev pub IsRowOf : Reading → Row → Type 0
-IsRowOf reading.Silent row = row ≡ Silent
-IsRowOf (reading.Names users) row = row ≡ Names users.items
-IsRowOf (reading.Refuses why) row = row ≡ Refuses why
-IsRowOf (reading.Asks event) row = (reply : events.Reply) × (row ≡ Asks (event_of event) reply)
+-- the row of what a line comes to, where the lines before it got these goals
+abbrev pub IsRowOf : List Job → Reading → Row → Type 0
+IsRowOf goals reading.Silent row = row ≡ Silent
+IsRowOf goals (reading.Names users) row = row ≡ Names users.items
+IsRowOf goals (reading.Refuses why) row = row ≡ Refuses why
+IsRowOf goals (reading.Asks event) row = (reply : events.Reply) × (row ≡ Asks (event_of event) reply)
+IsRowOf goals reading.Waits row = (reply : events.Reply) × (ends_wait reply ≡ true) × (row ≡ Waits goals reply)
 
--- a line of that form comes to this
+-- a line of that form comes to this, whatever goals the lines before it got
 abbrev pub Becomes : Form → Reading → Type 0
-Becomes form reading.Silent = Gets form Silent
-Becomes form (reading.Names users) = Gets form (Names users.items)
-Becomes form (reading.Refuses why) = Gets form (Refuses why)
-Becomes form (reading.Asks event) = (reply : events.Reply) → Gets form (Asks (event_of event) reply)
+Becomes form reading.Silent = (goals : List Job) → Gets goals form Silent
+Becomes form (reading.Names users) = (goals : List Job) → Gets goals form (Names users.items)
+Becomes form (reading.Refuses why) = (goals : List Job) → Gets goals form (Refuses why)
+Becomes form (reading.Asks event) = (goals : List Job) (reply : events.Reply) → Gets goals form (Asks (event_of event) reply)
+Becomes form reading.Waits = (goals : List Job) (reply : events.Reply) → ends_wait reply ≡ true → Gets goals form (Waits goals reply)
 
 -- a line of any wish that makes this event, or none for this, comes to this
 abbrev pub BecomesOfWish : Result Event Refusal → Reading → Type 0

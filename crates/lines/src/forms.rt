@@ -4,7 +4,7 @@ ghost use Rattle.std.specs.Prelude.{◌≡◌, IfOk, IfErr, Some};
 ghost use Rattle.std.specs.List.{list_all};
 ghost use Rattle.model.specs.declared.refusal.Refusal.TheVariants.{Memory};
 ghost use Rattle.model.specs.Lines.{split, cut_at};
-ghost use Rattle.model.specs.Forms.{is_quiet, is_printable, names_form, users_form, first_form, later_form, text_form, line_form};
+ghost use Rattle.model.specs.Forms.{is_quiet, is_printable, names_form, users_form, first_form, word_form, later_form, text_form, line_form};
 ghost use Rattle.lines.specs.Reading.{Becomes, BecomesOfWish};
 
 use crate::cutting::{Word, cut, first_words, has_empty_word};
@@ -14,7 +14,7 @@ use crate::told::Told;
 use crate::wishes::{read_event, wish_in};
 use crate::words::read_users;
 use events::Event;
-use model::Refusal;
+use model::{Mode, Refusal};
 use std::alloc::Global;
 
 /// The most bytes of a line, without its newline and before its expansions.
@@ -56,18 +56,28 @@ fn asks(event: Result<Event, Refusal>) -> Result<Reading, Refusal>
     }
 }
 
+/// Reads a line with no blank, after that of users.
+fn read_word(mode: Mode, word: &[u8]) -> Reading
+    ensures { Becomes (word_form mode word.now) result }
+{
+    match mode {
+        Mode::Run if word == b"wait".as_slice() => Reading::Waits,
+        _ => Reading::Refuses(Refusal::BadLine),
+    }
+}
+
 /// Reads a line after that of users.
-fn read_later(alloc: Global, text: &[u8]) -> Result<Reading, Refusal>
-    ensures read { IfOk result (Becomes (later_form (cut_at 32 text.now))) }
+fn read_later(alloc: Global, mode: Mode, text: &[u8]) -> Result<Reading, Refusal>
+    ensures read { IfOk result (Becomes (later_form mode text.now (cut_at 32 text.now))) }
     ensures memory { IfErr result (λ why. why ≡ Memory) }
 {
     let Some((user, behind)) = cut(b' ', text) else {
-        return Ok(Reading::Refuses(Refusal::BadLine));
+        return Ok(read_word(mode, text));
     };
     if user == b"users".as_slice() {
         return Ok(Reading::Refuses(Refusal::BadLine));
     }
-    let Some(wish) = wish_in(alloc, behind)? else {
+    let Some(wish) = wish_in(alloc, mode, behind)? else {
         return Ok(Reading::Refuses(Refusal::BadLine));
     };
     asks(read_event(alloc, user, &wish))
@@ -114,25 +124,31 @@ fn read_first(alloc: Global, text: &[u8]) -> Result<Reading, Refusal>
 }
 
 /// Reads a line whose expansions are made.
-fn read_text(alloc: Global, begun: bool, text: &[u8]) -> Result<Reading, Refusal>
-    ensures read { IfOk result (Becomes (text_form begun (Some text.now))) }
+fn read_text(alloc: Global, mode: Mode, begun: bool, text: &[u8]) -> Result<Reading, Refusal>
+    ensures read { IfOk result (Becomes (text_form mode begun (Some text.now))) }
     ensures memory { IfErr result (λ why. why ≡ Memory) }
 {
     if begun {
-        read_later(alloc, text)
+        read_later(alloc, mode, text)
     } else {
         read_first(alloc, text)
     }
 }
 
-/// Reads a line after others, of which one of users was answered ok or none, and whose replies told
+/// Reads a line of that mode after others, of which one of users was answered ok or none, and whose replies told
 /// this. The line is copied only where it has a brace.
 ///
 /// # Errors
 ///
 /// - `Memory` only where memory was refused.
-pub fn read_line(alloc: Global, begun: bool, told: &[Told], line: &[u8]) -> Result<Reading, Refusal>
-    ensures read { IfOk result (Becomes (line_form begun told.now line.now)) }
+pub fn read_line(
+    alloc: Global,
+    mode: Mode,
+    begun: bool,
+    told: &[Told],
+    line: &[u8],
+) -> Result<Reading, Refusal>
+    ensures read { IfOk result (Becomes (line_form mode begun told.now line.now)) }
     ensures memory { IfErr result (λ why. why ≡ Memory) }
 {
     if line.len() > LONGEST_LINE {
@@ -145,10 +161,10 @@ pub fn read_line(alloc: Global, begun: bool, told: &[Told], line: &[u8]) -> Resu
         return Ok(Reading::Refuses(Refusal::BadLine));
     }
     let Some(_) = cut(b'{', line) else {
-        return read_text(alloc, begun, line);
+        return read_text(alloc, mode, begun, line);
     };
     match fill(alloc, told, line)? {
         None => Ok(Reading::Refuses(Refusal::BadLine)),
-        Some(text) => read_text(alloc, begun, text.as_slice()),
+        Some(text) => read_text(alloc, mode, begun, text.as_slice()),
     }
 }

@@ -4,7 +4,7 @@ use events::Event;
 use model::Refusal;
 use trust::User;
 
-/// What a line comes to: no reply, the users, a refusal, or an event.
+/// What a line comes to: no reply, the users, a refusal, an event, or a wait.
 #[derive(Drop)]
 pub enum Reading {
     /// An empty line or a comment.
@@ -15,4 +15,6 @@ pub enum Reading {
     Refuses(Refusal),
     /// The line makes this event.
     Asks(Event),
+    /// The line waits for the goals of the session so far.
+    Waits,
 }

@@ -4,14 +4,14 @@ ghost use Rattle.std.specs.Prelude.{◌≡◌, ◌∷◌, [], length, IfOk, IfEr
 ghost use Rattle.model.specs.declared.refusal.Refusal.TheVariants.{Memory};
 ghost use Rattle.model.specs.declared.verb.Verb.TheVariants as verbs;
 ghost use Rattle.model.specs.declared.verb.WordKind.TheVariants as kinds;
-ghost use Rattle.model.specs.Verbs.{kinds_of};
+ghost use Rattle.model.specs.Verbs.{kinds_of, verb_in};
 ghost use Rattle.model.specs.Forms.{is_text, words_by, wish_in};
 ghost use Rattle.lines.specs.Reading.{wish_of, IsRequestOfWish, IsNoRequest, IsEventOfWish, IsNoEvent};
 
 use crate::cutting::{Word, cut, first_words, has_empty_word, one_word};
 use crate::words::{read_exit_status, read_number, read_output, read_text, read_tree, read_user};
 use events::{Event, Request};
-use model::{Refusal, Verb, WordKind};
+use model::{Mode, Refusal, Verb, WordKind};
 use std::alloc::{AllocError, Global};
 use std::marker::Model;
 use storepath::{Name, read_path};
@@ -69,14 +69,26 @@ fn words_by<'a>(
     }
 }
 
-/// What stands behind a user's name as a wish.
-pub(crate) fn wish_in(alloc: Global, text: &[u8]) -> Result<Option<Wish<'_>>, AllocError>
-    ensures { IfOk result (λ wish. wish ≡ wish_in text.now) }
+/// The verb that a word is in lines of the mode.
+fn verb_in(mode: Mode, word: &[u8]) -> Option<Verb>
+    ensures { result ≡ verb_in mode word.now }
+{
+    let verb = Verb::of(word)?;
+    if mode.knows(verb) { Some(verb) } else { None }
+}
+
+/// What stands behind a user's name as a wish, in lines of the mode.
+pub(crate) fn wish_in(
+    alloc: Global,
+    mode: Mode,
+    text: &[u8],
+) -> Result<Option<Wish<'_>>, AllocError>
+    ensures { IfOk result (λ wish. wish ≡ wish_in mode text.now) }
 {
     let Some((word, rest)) = cut(b' ', text) else {
         return Ok(None);
     };
-    let Some(verb) = Verb::of(word) else {
+    let Some(verb) = verb_in(mode, word) else {
         return Ok(None);
     };
     let Some(words) = words_by(alloc, verb.kinds(), rest)? else {

@@ -38,11 +38,15 @@ pub mod EndRequests
 pub mod Steps
 pub mod Striking
 pub mod HashedTexts
+pub mod RunningJobs
 pub mod GivenClosures
+pub mod KeptClosures
+pub mod Inputs
 pub mod Lines
 pub mod Words
 pub mod Verbs
 pub mod VerbGroups
 pub mod Forms
 pub mod Talk
+pub mod TalkLaws
 pub mod Laws

@@ -2,7 +2,7 @@
 use Rattle.std.specs.Prelude.{Bool, true, false, ◌||◌}
 use Rattle.model.specs.declared.refusal.Refusal.{Refusal}
 use Rattle.model.specs.declared.refusal.Refusal.TheVariants.{UnknownUser, TooLarge, UnknownDerivation, UnknownGoal, WrongState, NotHeld, Memory, Clash, Stopped}
-use Rattle.model.specs.Events.{Reply, Refused}
+use Rattle.model.specs.Events.{Reply, Done, Refused}
 
 -- ---- refusals
 
@@ -58,3 +58,8 @@ is_failure = is_refusal is_failure_refusal
 -- whether a history has no row of it: memory was refused, or an earlier want of memory stopped the store
 abbrev pub is_unrecorded : Reply → Bool
 is_unrecorded = is_refusal (λ why. is_memory_refusal why || is_stopped_refusal why)
+
+-- what a wait may be answered: that there is nothing left to wait for, that memory was refused, or that an earlier want of memory stopped the store
+abbrev pub ends_wait : Reply → Bool
+ends_wait Done = true
+ends_wait reply = is_unrecorded reply

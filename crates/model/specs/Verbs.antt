@@ -1,5 +1,8 @@
 -- The verbs of lines. Each has a row in each of these tables: its word in a line, the kinds of the words behind it, and the request that they make.
-use Rattle.std.specs.Prelude.{◌≡◌, ℕ, if◌then◌else◌, List, [], ◌∷◌, bytes_eq, codes, Option, None, Some}
+use Rattle.std.specs.Prelude.{◌≡◌, ℕ, Bool, true, false, if◌then◌else◌, List, [], ◌∷◌, bytes_eq, codes, Option, None, Some}
+use Rattle.std.specs.Option.{option_and_then}
+use Rattle.model.specs.declared.mode.Mode.{Mode}
+use Rattle.model.specs.declared.mode.Mode.TheVariants.{Service, Run}
 use Rattle.model.specs.declared.verb.Verb.{Verb}
 use Rattle.model.specs.declared.verb.Verb.TheVariants.{Source, Derivation, Offer, Fetch, Trust, Distrust, Pin, Unpin, Closure, Take, Build, Status, Plan, Start, Finish, Fail}
 use Rattle.model.specs.declared.verb.WordKind.{WordKind}
@@ -29,6 +32,19 @@ verb_of word =
     else if bytes_eq word (codes "finish") then Some Finish
     else if bytes_eq word (codes "fail") then Some Fail
     else None
+
+-- whether lines of the mode have the verb: in a run no line plans, starts or ends what is built
+abbrev pub knows : Mode → Verb → Bool
+knows Service verb = true
+knows Run Plan = false
+knows Run Start = false
+knows Run Finish = false
+knows Run Fail = false
+knows Run verb = true
+
+-- the verb that a word is in lines of the mode
+abbrev pub verb_in : Mode → List ℕ → Option Verb
+verb_in mode word = option_and_then (λ verb. if knows mode verb then Some verb else None) (verb_of word)
 
 -- the kinds of the words behind it
 abbrev pub kinds_of : Verb → List WordKind

@@ -10,6 +10,7 @@
 //! | [`Tree::file`], [`Tree::link`], [`Tree::dir`] | a tree of its parts |
 //! | [`encode`], [`decode`] | the archive of a tree, and the tree of an archive |
 //! | [`tree_text`], [`read_tree_text`] | the tree text of a tree, and the tree of a tree text |
+//! | [`str_text`], [`read_str`] | one string of an archive, and the content of the string in front |
 #![tactic(auto)]
 
 mod archive_reader;
@@ -17,13 +18,15 @@ mod archive_writer;
 mod law;
 mod measures;
 mod node;
+mod strings;
 mod text_reader;
 mod text_writer;
 mod tree;
 
 pub use archive_reader::decode;
 pub use archive_writer::{Nar, encode};
-pub use law::{archives_are_read, archives_differ, texts_differ};
+pub use law::{archives_are_read, archives_differ, strings_are_read, texts_differ};
+pub use strings::{read_str, str_text};
 pub use text_reader::read_tree_text;
 pub use text_writer::tree_text;
 pub use tree::Tree;

@@ -4,10 +4,10 @@ use Rattle.std.specs.Prelude.{◌⊎◌, MatchOption, option_map, Result, Ok, Er
 use Rattle.std.proofs.lemmas.List.{append-nil, take_all}
 use mathlib.Core.List.{IsPrefix}
 use Rattle.std.specs.Io.KnownBytes.{Appends, Consumes, IsAtEnd, prepend_known}
+use Rattle.model.specs.declared.mode.Mode.TheVariants.{Service}
 use Rattle.model.specs.declared.refusal.Refusal.{Refusal}
 use Rattle.model.specs.declared.refusal.Refusal.TheVariants.{BadUsers, InputFault, Memory}
 use Rattle.model.specs.Worlds.{Setup, are_users}
-use Rattle.model.specs.Events.{Event, Reply}
 use Rattle.model.specs.Lines.{lines_of}
 use Rattle.model.specs.Talk.{Row, fresh, Talks, text_from, asked_in, users_in}
 use Rattle.laws.proofs.TalkLemmas.{none_asked, named_are_users, same_users, no_users}
@@ -16,8 +16,7 @@ use Rattle.session.specs.declared.ahead.Ahead.{Ahead}
 use Rattle.session.specs.Ahead.{NoUsersSoFar, LooksAhead}
 use Rattle.session.proofs.LineLemmas.{lines-newline, HasNoNewline-append}
 use Rattle.session.proofs.RowLemmas.{appends-none, appends-flushed}
-use Rattle.book.specs.Answering.{IsOnlyAnswer}
-use Rattle.replaying.specs.Replaying.{recorded_in, IsOneHistory, AreAnswered, Served, ServedInPart, IsReadAhead, Replayed, ReplayedInPart}
+use Rattle.replaying.specs.Replaying.{recorded_in, IsOneHistory, AreAnswered, LinksOnly, Served, ServedInPart, IsReadAhead, Replayed, ReplayedInPart}
 use Rattle.replaying.proofs.ReplayLemmas.{one_history}
 
 -- ---- whole lines
@@ -53,33 +52,33 @@ answered_as : (charge : ℕ) (rows : List Row) (named : Option (List (List ℕ))
 answered_as charge rows None none some = none refl
 answered_as charge rows (Some users) none some = some users refl
 
-are_answered : (charge : ℕ) (done : List (List ℕ)) (rows : List Row) → Talks fresh done rows
+are_answered : (charge : ℕ) (done : List (List ℕ)) (rows : List Row) → Talks (fresh Service) done rows
     → ((users : List (List ℕ)) → users_in rows ≡ Some users → IsOneHistory (record { users = users; charge = charge }) (recorded_in rows)) → AreAnswered charge rows
-are_answered charge done rows t some = answered_as charge rows (users_in rows) (none_asked fresh done rows refl t) some
+are_answered charge done rows t some = answered_as charge rows (users_in rows) (none_asked (fresh Service) done rows refl t) some
 
 -- by a store for the users that were found ahead
-by_store : (charge : ℕ) (users : List (List ℕ)) (all : List ℕ) (done rest : List (List ℕ)) (rows : List Row) → LooksAhead all (Some users) → done ++ rest ≡ lines_of all
-    → Talks fresh done rows → IsOneHistory (record { users = users; charge = charge }) (recorded_in rows) → AreAnswered charge rows
+by_store : (charge : ℕ) (users : List (List ℕ)) (all : List ℕ) (done rest : List (List ℕ)) (rows : List Row) → LooksAhead Service all (Some users) → done ++ rest ≡ lines_of all
+    → Talks (fresh Service) done rows → IsOneHistory (record { users = users; charge = charge }) (recorded_in rows) → AreAnswered charge rows
 by_store charge users all done rest rows found cut t one = are_answered charge done rows t (λ named n.
-    let same : users ≡ named = same_users fresh found.done done found.rest rest found.rows rows refl found.talks t (sym found.cut ∙ sym cut) users named found.named n in
+    let same : users ≡ named = same_users (fresh Service) found.done done found.rest rest found.rows rows refl found.talks t (sym found.cut ∙ sym cut) users named found.named n in
     subst (λ u. IsOneHistory (record { users = u; charge = charge }) (recorded_in rows)) same one)
 
-none_named : (charge : ℕ) (done : List (List ℕ)) (rows : List Row) → Talks fresh done rows → users_in rows ≡ None → AreAnswered charge rows
+none_named : (charge : ℕ) (done : List (List ℕ)) (rows : List Row) → Talks (fresh Service) done rows → users_in rows ≡ None → AreAnswered charge rows
 none_named charge done rows t none = are_answered charge done rows t (λ users n. cc)
 
 -- where none were found
-by_nobody : (charge : ℕ) (all : List ℕ) (done rest : List (List ℕ)) (rows : List Row) → LooksAhead all None → done ++ rest ≡ lines_of all → Talks fresh done rows → AreAnswered charge rows
+by_nobody : (charge : ℕ) (all : List ℕ) (done rest : List (List ℕ)) (rows : List Row) → LooksAhead Service all None → done ++ rest ≡ lines_of all → Talks (fresh Service) done rows → AreAnswered charge rows
 by_nobody charge all done rest rows found cut t =
-    none_named charge done rows t (no_users fresh found.done done found.rest rest found.rows rows refl found.talks t (sym found.cut ∙ sym cut) (found.ends refl) found.named)
+    none_named charge done rows t (no_users (fresh Service) found.done done found.rest rest found.rows rows refl found.talks t (sym found.cut ∙ sym cut) (found.ends refl) found.named)
 
 -- where the reader failed before any were found
-by_whole_lines : (charge : ℕ) (bytes : List ℕ) (done : List (List ℕ)) (rows : List Row) → NoUsersSoFar bytes → ((more : List ℕ) → IsPrefix done (lines_of (bytes ++ more)))
-    → Talks fresh done rows → AreAnswered charge rows
+by_whole_lines : (charge : ℕ) (bytes : List ℕ) (done : List (List ℕ)) (rows : List Row) → NoUsersSoFar Service bytes → ((more : List ℕ) → IsPrefix done (lines_of (bytes ++ more)))
+    → Talks (fresh Service) done rows → AreAnswered charge rows
 by_whole_lines charge bytes done rows found first t =
     let lines = found.lines in
     let front : IsPrefix done lines.done = whole_front done lines.done lines.partial lines.begun (λ more. subst (IsPrefix done) (lines.cut more) (first more)) in
     none_named charge done rows t
-    (no_users fresh lines.done done [] front.0 found.rows rows refl lines.talks t (append-nil lines.done ∙ sym front.1) (inl refl) found.none)
+    (no_users (fresh Service) lines.done done [] front.0 found.rows rows refl lines.talks t (append-nil lines.done ∙ sym front.1) (inl refl) found.none)
 
 -- ---- the input
 
@@ -103,9 +102,9 @@ read_again bytes left all (Some xs) is cut = let same : xs ≡ left = cc in ap (
 -- ---- all lines, and the first lines
 
 -- nothing was answered yet
-pub nothing_answered : {A : Type 0} (R : A → Event → Reply → A → Type 0) (now : A) (blank : Option (List ℕ)) (input : List ℕ) (ended : Type 0) (why : Refusal) → (why ≡ BadUsers → ⊥)
-    → EndedEarly R now now blank blank input ended why
-nothing_answered R now blank input ended why own = record {
+pub nothing_answered : {A : Type 0} (L : A → Row → A → Type 0) (now : A) (blank : Option (List ℕ)) (input : List ℕ) (ended : Type 0) (why : Refusal) → (why ≡ BadUsers → ⊥)
+    → EndedEarly Service L now now blank blank input ended why
+nothing_answered L now blank input ended why own = record {
   rows = [];
   done = [];
   cut = λ more end. (lines_of (input ++ more), refl);
@@ -184,12 +183,12 @@ module _ (charge : ℕ) (all : List ℕ) (blank written : Option (List ℕ)) whe
   abbrev setup_of_users : List (List ℕ) → Setup
   setup_of_users users = record { users = users; charge = charge }
 
-  pub finished_by_store : (users : List (List ℕ)) (start end : Option (List ℕ)) → LooksAhead all (Some users) → start ≡ Some all
+  pub finished_by_store : (users : List (List ℕ)) (start end : Option (List ℕ)) → LooksAhead Service all (Some users) → start ≡ Some all
       → Served (setup_of_users users) start end blank written → Replayed charge blank written (lines_of all)
   finished_by_store users start end found is h =
       let same : h.input ≡ all = consumed_all all h.input start end is h.read h.ended in
-      let f : Finished (IsOnlyAnswer (setup_of_users users)) h.first h.last blank written (lines_of all) =
-      subst (λ (t : List ℕ). Finished (IsOnlyAnswer (setup_of_users users)) h.first h.last blank written (lines_of t)) same h.done in
+      let f : Finished Service (LinksOnly (setup_of_users users)) h.first h.last blank written (lines_of all) =
+      subst (λ (t : List ℕ). Finished Service (LinksOnly (setup_of_users users)) h.first h.last blank written (lines_of t)) same h.done in
       record {
         rows = f.rows;
         talks = f.talks;
@@ -198,7 +197,7 @@ module _ (charge : ℕ) (all : List ℕ) (blank written : Option (List ℕ)) whe
         answered = by_store charge users all (lines_of all) [] f.rows found (append-nil (lines_of all)) f.talks (one_history (setup_of_users users) h.first h.last f.rows h.new f.chain);
       }
 
-  pub stopped_by_store : (users : List (List ℕ)) (start end : Option (List ℕ)) (why : Refusal) → LooksAhead all (Some users) → start ≡ Some all
+  pub stopped_by_store : (users : List (List ℕ)) (start end : Option (List ℕ)) (why : Refusal) → LooksAhead Service all (Some users) → start ≡ Some all
       → ServedInPart (setup_of_users users) start end blank written why → ReplayedInPart charge blank written (lines_of all) why
   stopped_by_store users start end why found is h =
       let left = consumed all h.input start end is h.read in
@@ -215,10 +214,10 @@ module _ (charge : ℕ) (all : List ℕ) (blank written : Option (List ℕ)) whe
         answered = by_store charge users all s.done first.0 s.rows found first.1 s.talks (one_history (setup_of_users users) h.first h.last s.rows h.new s.chain);
       }
 
-  module _ {A : Type 0} (R : A → Event → Reply → A → Type 0) (old new : A) where
-    pub finished_by_nobody : (input : List ℕ) → LooksAhead all None → input ≡ all → Finished R old new blank written (lines_of input) → Replayed charge blank written (lines_of all)
+  module _ {A : Type 0} (L : A → Row → A → Type 0) (old new : A) where
+    pub finished_by_nobody : (input : List ℕ) → LooksAhead Service all None → input ≡ all → Finished Service L old new blank written (lines_of input) → Replayed charge blank written (lines_of all)
     finished_by_nobody input found is h =
-        let f : Finished R old new blank written (lines_of all) = subst (λ (t : List ℕ). Finished R old new blank written (lines_of t)) is h in
+        let f : Finished Service L old new blank written (lines_of all) = subst (λ (t : List ℕ). Finished Service L old new blank written (lines_of t)) is h in
         record {
           rows = f.rows;
           talks = f.talks;
@@ -227,7 +226,7 @@ module _ (charge : ℕ) (all : List ℕ) (blank written : Option (List ℕ)) whe
           answered = by_nobody charge all (lines_of all) [] f.rows found (append-nil (lines_of all)) f.talks;
         }
 
-    pub stopped_by_nobody : (input more : List ℕ) (ended : Type 0) (why : Refusal) → LooksAhead all None → all ≡ input ++ more → (ended → more ≡ []) → EndedEarly R old new blank written input ended why
+    pub stopped_by_nobody : (input more : List ℕ) (ended : Type 0) (why : Refusal) → LooksAhead Service all None → all ≡ input ++ more → (ended → more ≡ []) → EndedEarly Service L old new blank written input ended why
         → ReplayedInPart charge blank written (lines_of all) why
     stopped_by_nobody input more ended why found is end h =
         let first : IsPrefix h.done (lines_of all) = subst (λ (t : List ℕ). IsPrefix h.done (lines_of t)) (sym is) (h.cut more end) in
@@ -243,7 +242,7 @@ module _ (charge : ℕ) (all : List ℕ) (blank written : Option (List ℕ)) whe
         }
 
     -- the reader failed before any users were found
-    pub stopped_at_whole_lines : (bytes left : List ℕ) (why : Refusal) → NoUsersSoFar bytes → all ≡ bytes ++ left → EndedEarly R old new blank written bytes ⊥ why → ReplayedInPart charge blank written (lines_of all) why
+    pub stopped_at_whole_lines : (bytes left : List ℕ) (why : Refusal) → NoUsersSoFar Service bytes → all ≡ bytes ++ left → EndedEarly Service L old new blank written bytes ⊥ why → ReplayedInPart charge blank written (lines_of all) why
     stopped_at_whole_lines bytes left why found is h =
         let cut : (more : List ℕ) → IsPrefix h.done (lines_of (bytes ++ more)) = λ more. h.cut more (λ no. absurd no) in
         record {
@@ -257,7 +256,7 @@ module _ (charge : ℕ) (all : List ℕ) (blank written : Option (List ℕ)) whe
           answered = by_whole_lines charge bytes h.done h.rows found cut h.talks;
         }
 
-    pub answered_whole_lines : (bytes left : List ℕ) (why : Refusal) → NoUsersSoFar bytes → all ≡ bytes ++ left → (why ≡ BadUsers → ⊥) → AnsweredSoFar R old new blank written bytes
+    pub answered_whole_lines : (bytes left : List ℕ) (why : Refusal) → NoUsersSoFar Service bytes → all ≡ bytes ++ left → (why ≡ BadUsers → ⊥) → AnsweredSoFar Service L old new blank written bytes
         → ReplayedInPart charge blank written (lines_of all) why
     answered_whole_lines bytes left why found is own h =
         let lines = h.lines in
@@ -274,8 +273,8 @@ module _ (charge : ℕ) (all : List ℕ) (blank written : Option (List ℕ)) whe
         }
 
 -- the users that were found ahead are a list of users
-pub found_are_users : (all : List ℕ) (users : List (List ℕ)) → LooksAhead all (Some users) → are_users users ≡ true
-found_are_users all users found = named_are_users fresh found.done found.rows users refl found.talks found.named
+pub found_are_users : (all : List ℕ) (users : List (List ℕ)) → LooksAhead Service all (Some users) → are_users users ≡ true
+found_are_users all users found = named_are_users (fresh Service) found.done found.rows users refl found.talks found.named
 
 -- ---- results
 
@@ -295,15 +294,15 @@ by_input e = cc
 -- ---- what reading ahead gives
 
 pub found_ahead : (all left : List ℕ) (ahead : Ahead) (rest : Option (List ℕ)) → rest ≡ Some left → all ≡ ahead.bytes.items ++ left → (ahead.has_ended ≡ true → IsAtEnd rest)
-    → (ahead.has_failed ≡ false → (more : List ℕ) → (ahead.has_ended ≡ true → more ≡ []) → LooksAhead (ahead.bytes.items ++ more) (option_map (λ u. u.items) ahead.users))
-    → (ahead.has_failed ≡ true → (ahead.users ≡ None) × NoUsersSoFar ahead.bytes.items) → IsReadAhead all left ahead
+    → (ahead.has_failed ≡ false → (more : List ℕ) → (ahead.has_ended ≡ true → more ≡ []) → LooksAhead Service (ahead.bytes.items ++ more) (option_map (λ u. u.items) ahead.users))
+    → (ahead.has_failed ≡ true → (ahead.users ≡ None) × NoUsersSoFar Service ahead.bytes.items) → IsReadAhead all left ahead
 found_ahead all left ahead None is cut ended users none = cc
 found_ahead all left ahead (Some xs) is cut ended users none = record {
   cut = cut;
   none = λ failed. (none failed).1;
   users = λ going.
       let same : xs ≡ left = cc in
-      subst (λ (t : List ℕ). LooksAhead t (option_map (λ u. u.items) ahead.users)) (sym cut) (users going left (λ e. sym same ∙ ended e));
+      subst (λ (t : List ℕ). LooksAhead Service t (option_map (λ u. u.items) ahead.users)) (sym cut) (users going left (λ e. sym same ∙ ended e));
 }
 
 -- ---- what was flushed after an end

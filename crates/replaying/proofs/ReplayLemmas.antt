@@ -5,15 +5,15 @@ use Rattle.std.proofs.lemmas.List.{map_push, append-nil}
 use Rattle.model.specs.Worlds.{Setup}
 use Rattle.model.specs.Events.{Event, Reply}
 use Rattle.model.specs.Talk as talk
-use Rattle.model.specs.Talk.{Silent, Names, Refuses, Asks, asked_in}
-use Rattle.session.specs.Serving.{Link, Chain}
+use Rattle.model.specs.Talk.{Silent, Names, Refuses, Asks, Waits, asked_in}
+use Rattle.session.specs.Serving.{Chain}
 use Rattle.passes.specs.declared.row.Row.{Row}
 use Rattle.passes.specs.Callers.{Caller}
 use Rattle.book.specs.Histories.{IsLegal}
 use Rattle.model.specs.Replies.{is_unrecorded}
 use Rattle.book.specs.Answering.{IsOnlyAnswer}
 use Rattle.book.proofs.HistoryLemmas.{legal_none}
-use Rattle.replaying.specs.Replaying.{recorded_in, pair_of, IsOneHistory}
+use Rattle.replaying.specs.Replaying.{recorded_in, pair_of, IsOneHistory, LinksOnly}
 
 -- what one row has of recorded events
 abbrev recorded_of : talk.Row → List (Event × Reply)
@@ -28,6 +28,7 @@ recorded-cons : (row : talk.Row) (rows : List talk.Row) → recorded_in (row ∷
 recorded-cons Silent rows = refl
 recorded-cons (Names users) rows = refl
 recorded-cons (Refuses why) rows = refl
+recorded-cons (Waits goals reply) rows = refl
 recorded-cons (Asks event reply) rows = recorded_first event reply (asked_in rows) (not (is_unrecorded reply)) refl
 
 -- the sure rows after some lines, from those before
@@ -53,13 +54,14 @@ module _ (setup : Setup) where
         legal = a.4;
       })
 
-  link : (old new : Caller) (row : talk.Row) → Link (IsOnlyAnswer setup) old row new → IsLegal setup old.sure → GoesOn setup old.sure new.sure (recorded_of row)
+  link : (old new : Caller) (row : talk.Row) → LinksOnly setup old row new → IsLegal setup old.sure → GoesOn setup old.sure new.sure (recorded_of row)
   link old new Silent h legal = stays setup old.sure new.sure (ap (λ (p : Caller). p.sure) h) legal
   link old new (Names users) h legal = stays setup old.sure new.sure (ap (λ (p : Caller). p.sure) h) legal
   link old new (Refuses why) h legal = stays setup old.sure new.sure (ap (λ (p : Caller). p.sure) h) legal
+  link old new (Waits goals reply) h legal = stays setup old.sure new.sure (ap (λ (p : Caller). p.sure) h.0) legal
   link old new (Asks event reply) h legal = asks old new event reply (is_unrecorded reply) refl h legal
 
-  chain : (old new : Caller) (rows : List talk.Row) → Chain (IsOnlyAnswer setup) old rows new → IsLegal setup old.sure → GoesOn setup old.sure new.sure (recorded_in rows)
+  chain : (old new : Caller) (rows : List talk.Row) → Chain (LinksOnly setup) old rows new → IsLegal setup old.sure → GoesOn setup old.sure new.sure (recorded_in rows)
   chain old new [] h legal = stays setup old.sure new.sure (ap (λ (p : Caller). p.sure) h) legal
   chain old new (row ∷ rows) h legal =
       let one = link old h.0 row h.1 legal in
@@ -71,7 +73,7 @@ module _ (setup : Setup) where
       }
 
   -- the calls of a pass that had made none
-  pub one_history : (old new : Caller) (rows : List talk.Row) → old.sure ≡ [] → Chain (IsOnlyAnswer setup) old rows new → IsOneHistory setup (recorded_in rows)
+  pub one_history : (old new : Caller) (rows : List talk.Row) → old.sure ≡ [] → Chain (LinksOnly setup) old rows new → IsOneHistory setup (recorded_in rows)
   one_history old new rows none h =
       let all = chain old new rows h (subst (IsLegal setup) (sym none) (legal_none setup)) in
       record {

@@ -2,15 +2,16 @@
 use Rattle.std.specs.Prelude.{◌≡◌, ◌≤◌, true, false, not, ℕ, List, [], ◌++◌, map, filter, length, Option, option_map, MatchOption, take}
 use mathlib.Core.List.{IsPrefix}
 use Rattle.std.specs.Io.KnownBytes.{Appends, Consumes, IsAtEnd}
+use Rattle.model.specs.declared.mode.Mode.TheVariants.{Service}
 use Rattle.model.specs.declared.refusal.Refusal.{Refusal}
 use Rattle.model.specs.declared.refusal.Refusal.TheVariants.{BadUsers}
-use Rattle.model.specs.Worlds.{Setup}
-use Rattle.model.specs.Events.{Event, Reply}
+use Rattle.model.specs.Worlds.{Setup, Job}
+use Rattle.model.specs.Events.{Event, Reply, Done}
 use Rattle.model.specs.Lines.{lines_of}
 use Rattle.model.specs.Talk as talk
 use Rattle.model.specs.Talk.{fresh, after_all, Talks, text_from, asked_in, users_in}
 use Rattle.events.specs.Terms.{reply_of}
-use Rattle.session.specs.Serving.{Finished, EndedEarly}
+use Rattle.session.specs.Serving.{Link, Finished, EndedEarly}
 use Rattle.session.specs.declared.ahead.Ahead.{Ahead}
 use Rattle.session.specs.Ahead.{NoUsersSoFar, LooksAhead}
 use Rattle.passes.specs.declared.row.Row.{Row}
@@ -41,8 +42,8 @@ AreAnswered charge rows =
 -- all of these lines were answered, and all of their text was written
 pub record Replayed (charge : ℕ) (blank written : Option (List ℕ)) (lines : List (List ℕ)) : Type 0 where
   pub rows : List talk.Row
-  pub talks : Talks fresh lines rows
-  pub going : (after_all fresh rows).refused ≡ false
+  pub talks : Talks (fresh Service) lines rows
+  pub going : (after_all (fresh Service) rows).refused ≡ false
   pub text : Appends blank written (text_from 1 rows)
   pub answered : AreAnswered charge rows
 
@@ -52,13 +53,21 @@ pub record ReplayedInPart (charge : ℕ) (blank written : Option (List ℕ)) (li
   pub rows : List talk.Row
   pub done : List (List ℕ)
   pub first : IsPrefix done lines
-  pub talks : Talks fresh done rows
+  pub talks : Talks (fresh Service) done rows
   pub count : ℕ
   pub text : Appends blank written (take count (text_from 1 rows))
-  pub users : why ≡ BadUsers → ((after_all fresh rows).refused ≡ true) × (length (text_from 1 rows) ≤ count)
+  pub users : why ≡ BadUsers → ((after_all (fresh Service) rows).refused ≡ true) × (length (text_from 1 rows) ≤ count)
   pub answered : AreAnswered charge rows
 
 -- ---- on the way there
+
+-- a wait does nothing, since no line of the service waits
+abbrev pub DoesNothing : Caller → List Job → Reply → Caller → Type 0
+DoesNothing old goals reply new = (new ≡ old) × (reply ≡ Done)
+
+-- what a row is to the one pass of a store
+abbrev pub LinksOnly : Setup → Caller → talk.Row → Caller → Type 0
+LinksOnly setup = Link (IsOnlyAnswer setup) DoesNothing
 
 -- all that a reader gave was answered by a new store, through its one pass
 pub record Served (setup : Setup) (start end blank written : Option (List ℕ)) : Type 0 where
@@ -68,7 +77,7 @@ pub record Served (setup : Setup) (start end blank written : Option (List ℕ)) 
   pub first : Caller
   pub last : Caller
   pub new : first.sure ≡ []
-  pub done : Finished (IsOnlyAnswer setup) first last blank written (lines_of input)
+  pub done : Finished Service (LinksOnly setup) first last blank written (lines_of input)
 
 -- the first lines of what it gave were
 pub record ServedInPart (setup : Setup) (start end blank written : Option (List ℕ)) (why : Refusal) : Type 0 where
@@ -77,10 +86,10 @@ pub record ServedInPart (setup : Setup) (start end blank written : Option (List 
   pub first : Caller
   pub last : Caller
   pub new : first.sure ≡ []
-  pub done : EndedEarly (IsOnlyAnswer setup) first last blank written input (IsAtEnd end) why
+  pub done : EndedEarly Service (LinksOnly setup) first last blank written input (IsAtEnd end) why
 
 -- this was found by reading ahead in an input, of which that is left behind the bytes that were read
 pub record IsReadAhead (all left : List ℕ) (ahead : Ahead) : Type 0 where
   pub cut : all ≡ ahead.bytes.items ++ left
-  pub none : ahead.has_failed ≡ true → NoUsersSoFar ahead.bytes.items
-  pub users : ahead.has_failed ≡ false → LooksAhead all (option_map (λ u. u.items) ahead.users)
+  pub none : ahead.has_failed ≡ true → NoUsersSoFar Service ahead.bytes.items
+  pub users : ahead.has_failed ≡ false → LooksAhead Service all (option_map (λ u. u.items) ahead.users)

@@ -5,12 +5,14 @@
 #![tactic(auto)]
 
 mod requests;
+mod running;
 mod runs;
 mod state;
 mod step;
 mod striking;
 
 pub use events::{Event, Output, Reply, Request};
+pub use leading::RunningJob;
 pub use realise::{LARGEST_CHARGE, Limits};
 pub use runs::run;
 pub use state::Core;

@@ -4,20 +4,24 @@ use Rattle.std.proofs.lemmas.List.{append-nil, take_all}
 use Rattle.std.proofs.Common.{◌⊎◌, inl, inr, true, false}
 use mathlib.Core.List.{IsPrefix}
 use Rattle.std.specs.Io.KnownBytes.{Appends}
+use Rattle.model.specs.declared.mode.Mode.{Mode}
 use Rattle.model.specs.declared.refusal.Refusal.{Refusal}
 use Rattle.model.specs.declared.refusal.Refusal.TheVariants.{BadUsers, InputFault, OutputFault, Memory}
-use Rattle.model.specs.Events.{Event, Reply}
 use Rattle.model.specs.Forms.{longest_line}
 use Rattle.model.specs.Lines.{lines_of}
-use Rattle.model.specs.Talk.{Row, Seen, fresh, Gets, after, after_all, Talks, form_of, text_from, row_text}
-use Rattle.session.specs.Serving.{Link, Progress, EndedEarly, Finished, HasNoNewline, HoldsMore, Gives, StopsAt, IsOwn, MayBeFault}
+use Rattle.model.specs.Talk.{Row, Seen, fresh, GetsNext, after, after_all, Talks, text_from, row_text}
+use Rattle.session.specs.Serving.{Progress, EndedEarly, Finished, HasNoNewline, HoldsMore, Gives, StopsAt, IsOwn, MayBeFault}
 use Rattle.session.proofs.LineLemmas.{nothing-held, lines-newline, lines-last}
 use Rattle.session.proofs.RowLemmas.{chain-more, length-after_all, text-more, appends-none, appends-more, appends-flushed, take-seam}
 use Rattle.session.proofs.WholeLinesLemmas.{no_lines, line-grown, ended-cut, held-gets, ended-talks, line-ended, seen-more, refused-same}
 
-module _ {A : Type 0} (R : A → Event → Reply → A → Type 0) (first : A) (blank : Option (List ℕ)) where
+last_line : (partial : List ℕ) → HasNoNewline partial → 0 < length partial → lines_of (partial ++ 10 ∷ []) ≡ lines_of (partial ++ [])
+last_line [] w h = absurd (omega arith)
+last_line (b ∷ partial) w h = lines-newline (b ∷ partial) [] w ∙ sym (lines-last b partial w) ∙ ap lines_of (sym (append-nil (b ∷ partial)))
+
+module _ {mode : Mode} {A : Type 0} (L : A → Row → A → Type 0) (first : A) (blank : Option (List ℕ)) where
   -- nothing was read yet
-  pub progress-none : Progress R first first blank blank [] fresh []
+  pub progress-none : Progress mode L first first blank blank [] (fresh mode) []
   progress-none = record {
     so_far = record { rows = []; lines = no_lines; chain = refl; text = appends-none blank };
     held_is = refl;
@@ -26,8 +30,8 @@ module _ {A : Type 0} (R : A → Event → Reply → A → Type 0) (first : A) (
 
   -- more of a line
   pub progress-held : (now : A) (written : Option (List ℕ)) (input : List ℕ) (seen : Seen) (held bytes held' : List ℕ)
-      → Progress R first now blank written input seen held → HasNoNewline bytes → HoldsMore held bytes held'
-      → Progress R first now blank written (input ++ bytes) seen held'
+      → Progress mode L first now blank written input seen held → HasNoNewline bytes → HoldsMore held bytes held'
+      → Progress mode L first now blank written (input ++ bytes) seen held'
   progress-held now written input seen held bytes held' p w h = record {
     so_far = record {
       rows = p.so_far.rows;
@@ -41,16 +45,16 @@ module _ {A : Type 0} (R : A → Event → Reply → A → Type 0) (first : A) (
 
   -- the row of the line which is held
   line_gets : (now : A) (written : Option (List ℕ)) (input : List ℕ) (seen : Seen) (held : List ℕ)
-      (p : Progress R first now blank written input seen held) (row : Row) → Gets (form_of seen held) row
-      → Gets (form_of (after_all fresh p.so_far.rows) p.so_far.lines.partial) row
+      (p : Progress mode L first now blank written input seen held) (row : Row) → GetsNext seen held row
+      → GetsNext (after_all (fresh mode) p.so_far.rows) p.so_far.lines.partial row
   line_gets now written input seen held p row g = held-gets p.so_far.lines seen held row p.held_is p.seen_is g
 
   line_number : (now : A) (written : Option (List ℕ)) (input : List ℕ) (seen : Seen) (held : List ℕ)
-      (p : Progress R first now blank written input seen held) → length seen.told + 1 ≡ 1 + length p.so_far.rows
-  line_number now written input seen held p = omega (arith, ap (λ (s : Seen). length s.told) p.seen_is, length-after_all fresh p.so_far.rows)
+      (p : Progress mode L first now blank written input seen held) → length seen.told + 1 ≡ 1 + length p.so_far.rows
+  line_number now written input seen held p = omega (arith, ap (λ (s : Seen). length s.told) p.seen_is, length-after_all (fresh mode) p.so_far.rows)
 
   line_text : (now : A) (written written' : Option (List ℕ)) (input : List ℕ) (seen : Seen) (held : List ℕ)
-      (p : Progress R first now blank written input seen held) (row : Row) (n : ℕ)
+      (p : Progress mode L first now blank written input seen held) (row : Row) (n : ℕ)
       → Appends written written' (take n (row_text (length seen.told + 1) row))
       → Appends blank written' (take (length (text_from 1 p.so_far.rows) + n) (text_from 1 (p.so_far.rows ++ row ∷ [])))
   line_text now written written' input seen held p row n a =
@@ -62,7 +66,7 @@ module _ {A : Type 0} (R : A → Event → Reply → A → Type 0) (first : A) (
       subst (λ t. Appends blank written' t) (sym e) (appends-more blank written written' _ _ p.so_far.text b)
 
   line_length : (now : A) (written : Option (List ℕ)) (input : List ℕ) (seen : Seen) (held : List ℕ)
-      (p : Progress R first now blank written input seen held) (row : Row) (n : ℕ) → length (row_text (length seen.told + 1) row) ≤ n
+      (p : Progress mode L first now blank written input seen held) (row : Row) (n : ℕ) → length (row_text (length seen.told + 1) row) ≤ n
       → length (text_from 1 (p.so_far.rows ++ row ∷ [])) ≤ length (text_from 1 p.so_far.rows) + n
   line_length now written input seen held p row n h =
       let rows = p.so_far.rows in
@@ -75,20 +79,20 @@ module _ {A : Type 0} (R : A → Event → Reply → A → Type 0) (first : A) (
 
   -- the line that is held was answered, and a beginning of its text written
   pub early-line : (now next : A) (written written' : Option (List ℕ)) (input : List ℕ) (seen : Seen) (held : List ℕ) (row : Row) (n : ℕ)
-      (more : List ℕ) (why : Refusal) → Progress R first now blank written input seen held → Gets (form_of seen held) row → Link R now row next
+      (more : List ℕ) (why : Refusal) → Progress mode L first now blank written input seen held → GetsNext seen held row → L now row next
       → Appends written written' (take n (row_text (length seen.told + 1) row))
       → (why ≡ BadUsers → ((after seen row).refused ≡ true) × (length (row_text (length seen.told + 1) row) ≤ n))
-      → EndedEarly R first next blank written' (input ++ 10 ∷ more) ⊥ why
+      → EndedEarly mode L first next blank written' (input ++ 10 ∷ more) ⊥ why
   early-line now next written written' input seen held row n more why p g l a u = record {
     rows = p.so_far.rows ++ row ∷ [];
     done = p.so_far.lines.done ++ p.so_far.lines.partial ∷ [];
     cut = λ others e. (lines_of (more ++ others), sym (ap lines_of (append_assoc input (10 ∷ more) others) ∙ ended-cut p.so_far.lines (more ++ others)));
     talks = ended-talks p.so_far.lines row (line_gets now written input seen held p row g);
-    chain = chain-more R first p.so_far.rows now row next p.so_far.chain l;
+    chain = chain-more L first p.so_far.rows now row next p.so_far.chain l;
     count = length (text_from 1 p.so_far.rows) + n;
     text = line_text now written written' input seen held p row n a;
     users = λ e. (
-      refused-same (p.so_far.rows ++ row ∷ []) (after seen row) (seen-more p.so_far.rows seen (after seen row) row p.seen_is refl)
+      refused-same mode (p.so_far.rows ++ row ∷ []) (after seen row) (seen-more mode p.so_far.rows seen (after seen row) row p.seen_is refl)
           ∙ (u e).0,
       line_length now written input seen held p row n (u e).1,
     );
@@ -96,9 +100,9 @@ module _ {A : Type 0} (R : A → Event → Reply → A → Type 0) (first : A) (
 
   -- and all of its text
   pub progress-line : (now next : A) (written written' : Option (List ℕ)) (input : List ℕ) (seen seen' : Seen) (held : List ℕ) (row : Row)
-      → Progress R first now blank written input seen held → Gets (form_of seen held) row → Link R now row next → seen' ≡ after seen row
+      → Progress mode L first now blank written input seen held → GetsNext seen held row → L now row next → seen' ≡ after seen row
       → Appends written written' (row_text (length seen.told + 1) row) → seen'.refused ≡ false
-      → Progress R first next blank written' (input ++ 10 ∷ []) seen' []
+      → Progress mode L first next blank written' (input ++ 10 ∷ []) seen' []
   progress-line now next written written' input seen seen' held row p g l s a f =
       let text = row_text (length seen.told + 1) row in
       let n = length text in
@@ -107,12 +111,12 @@ module _ {A : Type 0} (R : A → Event → Reply → A → Type 0) (first : A) (
       let b : Appends blank written' (take (length (text_from 1 p.so_far.rows) + n) (text_from 1 rows)) =
       line_text now written written' input seen held p row n (subst (λ t. Appends written written' t) (sym same) a) in
       let all : length (text_from 1 rows) ≤ length (text_from 1 p.so_far.rows) + n = line_length now written input seen held p row n (omega arith) in
-      let seen_is : seen' ≡ after_all fresh rows = seen-more p.so_far.rows seen seen' row p.seen_is s in
+      let seen_is : seen' ≡ after_all (fresh mode) rows = seen-more mode p.so_far.rows seen seen' row p.seen_is s in
       record {
         so_far = record {
           rows = rows;
-          lines = line-ended p.so_far.lines row (line_gets now written input seen held p row g) (refused-same rows seen' seen_is ∙ f);
-          chain = chain-more R first p.so_far.rows now row next p.so_far.chain l;
+          lines = line-ended p.so_far.lines row (line_gets now written input seen held p row g) (refused-same mode rows seen' seen_is ∙ f);
+          chain = chain-more L first p.so_far.rows now row next p.so_far.chain l;
           text = subst (λ t. Appends blank written' t) (take_all _ _ all) b;
         };
         held_is = refl;
@@ -121,7 +125,7 @@ module _ {A : Type 0} (R : A → Event → Reply → A → Type 0) (first : A) (
 
   -- ended before the line that is held
   pub early-here : (now : A) (written : Option (List ℕ)) (input : List ℕ) (seen : Seen) (held more : List ℕ) (why : Refusal) → (why ≡ BadUsers → ⊥)
-      → Progress R first now blank written input seen held → EndedEarly R first now blank written (input ++ more) ⊥ why
+      → Progress mode L first now blank written input seen held → EndedEarly mode L first now blank written (input ++ more) ⊥ why
   early-here now written input seen held more why u p = record {
     rows = p.so_far.rows;
     done = p.so_far.lines.done;
@@ -137,71 +141,63 @@ module _ {A : Type 0} (R : A → Event → Reply → A → Type 0) (first : A) (
   }
 
   -- nothing is held: all lines are done
-  pub finished : (now : A) (written : Option (List ℕ)) (input : List ℕ) (seen : Seen) → Progress R first now blank written input seen []
-      → Finished R first now blank written (lines_of input)
+  pub finished : (now : A) (written : Option (List ℕ)) (input : List ℕ) (seen : Seen) → Progress mode L first now blank written input seen []
+      → Finished mode L first now blank written (lines_of input)
   finished now written input seen p =
       let l = p.so_far.lines in
       let none : l.partial ≡ [] = nothing-held longest_line l.partial p.held_is in
       let all : lines_of input ≡ l.done = ap lines_of (sym (append-nil input)) ∙ l.cut [] ∙ ap (λ t. l.done ++ lines_of (t ++ [])) none ∙ append-nil l.done in
       record {
         rows = p.so_far.rows;
-        talks = subst (λ ls. Talks fresh ls p.so_far.rows) (sym all) l.talks;
+        talks = subst (λ ls. Talks (fresh mode) ls p.so_far.rows) (sym all) l.talks;
         going = l.going;
         chain = p.so_far.chain;
         text = p.so_far.text;
       }
 
-  last_line : (partial : List ℕ) → HasNoNewline partial → 0 < length partial → lines_of (partial ++ 10 ∷ []) ≡ lines_of (partial ++ [])
-  last_line [] w h = absurd (omega arith)
-  last_line (b ∷ partial) w h = lines-newline (b ∷ partial) [] w ∙ sym (lines-last b partial w) ∙ ap lines_of (sym (append-nil (b ∷ partial)))
-
   -- a last line that lacks its newline is the line that it is with it
   pub lines-closed : (now : A) (written : Option (List ℕ)) (input : List ℕ) (seen : Seen) (held : List ℕ)
-      → Progress R first now blank written input seen held → 0 < length held → lines_of (input ++ 10 ∷ []) ≡ lines_of input
+      → Progress mode L first now blank written input seen held → 0 < length held → lines_of (input ++ 10 ∷ []) ≡ lines_of input
   lines-closed now written input seen held p h =
       let l = p.so_far.lines in
       let some : 0 < length l.partial = omega (arith, ap length p.held_is, length-take (longest_line + 1) l.partial) in
       l.cut (10 ∷ []) ∙ ap (λ t. l.done ++ t) (last_line l.partial l.begun some) ∙ sym (l.cut []) ∙ ap lines_of (append-nil input)
 
-  -- what a line of a session gives, as its contract says it
-  abbrev pub LineGives : Seen → List ℕ → A → Seen → A → List ℕ → Type 0
-  LineGives seen line now seen' next text = Gives (Gets (form_of seen line)) R seen seen' now next text
-
   pub early-memory : (now next : A) (written : Option (List ℕ)) (input : List ℕ) (seen : Seen) (held line more : List ℕ) (why : Refusal)
-      → (why ≡ BadUsers → ⊥) → line ≡ held → Progress R first now blank written input seen held → StopsAt (Gets (form_of seen line)) R now next
-      → EndedEarly R first next blank written (input ++ 10 ∷ more) ⊥ why
+      → (why ≡ BadUsers → ⊥) → line ≡ held → Progress mode L first now blank written input seen held → StopsAt (GetsNext seen line) L now next
+      → EndedEarly mode L first next blank written (input ++ 10 ∷ more) ⊥ why
   early-memory now next written input seen held line more why u same p d = elim d [
-    | inl e ↦ subst (λ x. EndedEarly R first x blank written (input ++ 10 ∷ more) ⊥ why) (sym e) (early-here now written input seen held (10 ∷ more) why u p)
+    | inl e ↦ subst (λ x. EndedEarly mode L first x blank written (input ++ 10 ∷ more) ⊥ why) (sym e) (early-here now written input seen held (10 ∷ more) why u p)
     | inr w ↦
-        early-line now next written written input seen held w.0 0 more why p (subst (λ t. Gets (form_of seen t) w.0) same w.1) w.2
+        early-line now next written written input seen held w.0 0 more why p (subst (λ t. GetsNext seen t w.0) same w.1) w.2
         (appends-none written) (λ e. absurd (u e))
   ]
 
   pub early-write : (now next : A) (written written' : Option (List ℕ)) (input : List ℕ) (seen seen' : Seen) (held line text shown more : List ℕ)
       (why : Refusal)
-      → (why ≡ BadUsers → ⊥) → line ≡ held → shown ≡ text → LineGives seen line now seen' next text → Progress R first now blank written input seen held
-      → ((n : ℕ) × Appends written written' (take n shown)) → EndedEarly R first next blank written' (input ++ 10 ∷ more) ⊥ why
+      → (why ≡ BadUsers → ⊥) → line ≡ held → shown ≡ text → Gives (GetsNext seen line) L seen seen' now next text → Progress mode L first now blank written input seen held
+      → ((n : ℕ) × Appends written written' (take n shown)) → EndedEarly mode L first next blank written' (input ++ 10 ∷ more) ⊥ why
   early-write now next written written' input seen seen' held line text shown more why u same e w p a =
-      early-line now next written written' input seen held w.0 a.0 more why p (subst (λ t. Gets (form_of seen t) w.0) same w.1) w.4
+      early-line now next written written' input seen held w.0 a.0 more why p (subst (λ t. GetsNext seen t w.0) same w.1) w.4
       (subst (λ t. Appends written written' (take a.0 t)) (e ∙ w.3) a.1) (λ f. absurd (u f))
 
   pub early-refused : (now next : A) (written written' : Option (List ℕ)) (input : List ℕ) (seen seen' : Seen) (held line text shown more : List ℕ)
       (why : Refusal)
-      → line ≡ held → shown ≡ text → LineGives seen line now seen' next text → Progress R first now blank written input seen held
-      → Appends written written' shown → seen'.refused ≡ true → EndedEarly R first next blank written' (input ++ 10 ∷ more) ⊥ why
+      → line ≡ held → shown ≡ text → Gives (GetsNext seen line) L seen seen' now next text → Progress mode L first now blank written input seen held
+      → Appends written written' shown → seen'.refused ≡ true → EndedEarly mode L first next blank written' (input ++ 10 ∷ more) ⊥ why
   early-refused now next written written' input seen seen' held line text shown more why same e w p a r =
       let shown_all : Appends written written' (take (length shown) shown) =
       subst (λ t. Appends written written' t) (sym (take_all (length shown) shown (omega arith))) a in
       let all : Appends written written' (take (length shown) (row_text (length seen.told + 1) w.0)) =
       subst (λ t. Appends written written' (take (length shown) t)) (e ∙ w.3) shown_all in
-      early-line now next written written' input seen held w.0 (length shown) more why p (subst (λ t. Gets (form_of seen t) w.0) same w.1) w.4 all
+      early-line now next written written' input seen held w.0 (length shown) more why p (subst (λ t. GetsNext seen t w.0) same w.1) w.4 all
       (λ f. (ap (λ (s : Seen). s.refused) (sym w.2) ∙ r, omega (arith, ap length (e ∙ w.3))))
 
   pub progress-write : (now next : A) (written written' : Option (List ℕ)) (input : List ℕ) (seen seen' : Seen) (held line text shown : List ℕ)
-      → line ≡ held → shown ≡ text → LineGives seen line now seen' next text → Progress R first now blank written input seen held
-      → Appends written written' shown → seen'.refused ≡ false → Progress R first next blank written' (input ++ 10 ∷ []) seen' []
+      → line ≡ held → shown ≡ text → Gives (GetsNext seen line) L seen seen' now next text → Progress mode L first now blank written input seen held
+      → Appends written written' shown → seen'.refused ≡ false → Progress mode L first next blank written' (input ++ 10 ∷ []) seen' []
   progress-write now next written written' input seen seen' held line text shown same e w p a f =
-      progress-line now next written written' input seen seen' held w.0 p (subst (λ t. Gets (form_of seen t) w.0) same w.1) w.4 w.2
+      progress-line now next written written' input seen seen' held w.0 p (subst (λ t. GetsNext seen t w.0) same w.1) w.4 w.2
       (subst (λ t. Appends written written' t) (e ∙ w.3) a) f
 
 -- ---- why a session ends early
@@ -245,10 +241,9 @@ own_not_input old new why d f = elim d [
 ]
 
 -- by another fact that says where the input is at its end
-pub early-weakened : {A : Type 0} (R : A → Event → Reply → A
-    → Type 0) (first now : A) (blank written : Option (List ℕ)) (input : List ℕ) (at_end at_end' : Type 0) (why : Refusal) → (at_end → at_end')
-    → EndedEarly R first now blank written input at_end why → EndedEarly R first now blank written input at_end' why
-early-weakened R first now blank written input at_end at_end' why f s = record {
+pub early-weakened : {mode : Mode} {A : Type 0} (L : A → Row → A → Type 0) (first now : A) (blank written : Option (List ℕ)) (input : List ℕ) (at_end at_end' : Type 0) (why : Refusal) → (at_end → at_end')
+    → EndedEarly mode L first now blank written input at_end why → EndedEarly mode L first now blank written input at_end' why
+early-weakened L first now blank written input at_end at_end' why f s = record {
   rows = s.rows;
   done = s.done;
   cut = λ more e. s.cut more (λ x. e (f x));
@@ -264,10 +259,9 @@ lines-all : (input more : List ℕ) → more ≡ [] → lines_of input ≡ lines
 lines-all input more e = ap lines_of (sym (append-nil input) ∙ ap (λ t. input ++ t) (sym e))
 
 -- ended in the last line, which lacks its newline
-pub early-closed : {A : Type 0} (R : A → Event → Reply → A
-    → Type 0) (first now : A) (blank written : Option (List ℕ)) (input : List ℕ) (why : Refusal) → lines_of (input ++ 10 ∷ []) ≡ lines_of input
-    → EndedEarly R first now blank written (input ++ 10 ∷ []) ⊥ why → EndedEarly R first now blank written input (Unit {0}) why
-early-closed R first now blank written input why same s = record {
+pub early-closed : {mode : Mode} {A : Type 0} (L : A → Row → A → Type 0) (first now : A) (blank written : Option (List ℕ)) (input : List ℕ) (why : Refusal) → lines_of (input ++ 10 ∷ []) ≡ lines_of input
+    → EndedEarly mode L first now blank written (input ++ 10 ∷ []) ⊥ why → EndedEarly mode L first now blank written input (Unit {0}) why
+early-closed L first now blank written input why same s = record {
   rows = s.rows;
   done = s.done;
   cut = λ more e. subst (IsPrefix s.done) (sym (lines-all (input ++ 10 ∷ []) [] refl) ∙ same ∙ lines-all input more (e tt)) (s.cut [] (λ b. absurd b));
@@ -279,11 +273,10 @@ early-closed R first now blank written input why same s = record {
 }
 
 -- all is done, but for a flush
-pub early-finished : {A : Type 0} (R : A → Event → Reply → A
-    → Type 0) (first now : A) (blank written written' : Option (List ℕ)) (input : List ℕ) (at_end : Type 0) (why : Refusal) → at_end
-    → (why ≡ BadUsers → ⊥) → Finished R first now blank written (lines_of input) → Appends written written' []
-    → EndedEarly R first now blank written' input at_end why
-early-finished R first now blank written written' input at_end why is_at_end u f k = record {
+pub early-finished : {mode : Mode} {A : Type 0} (L : A → Row → A → Type 0) (first now : A) (blank written written' : Option (List ℕ)) (input : List ℕ) (at_end : Type 0) (why : Refusal) → at_end
+    → (why ≡ BadUsers → ⊥) → Finished mode L first now blank written (lines_of input) → Appends written written' []
+    → EndedEarly mode L first now blank written' input at_end why
+early-finished L first now blank written written' input at_end why is_at_end u f k = record {
   rows = f.rows;
   done = lines_of input;
   cut = λ more e. ([], append-nil (lines_of input) ∙ lines-all input more (e is_at_end));
@@ -294,10 +287,9 @@ early-finished R first now blank written written' input at_end why is_at_end u f
   users = λ e. absurd (u e);
 }
 
-pub finished-flushed : {A : Type 0} (R : A → Event → Reply → A
-    → Type 0) (first now : A) (blank written written' : Option (List ℕ)) (all : List (List ℕ)) → Finished R first now blank written all
-    → Appends written written' [] → Finished R first now blank written' all
-finished-flushed R first now blank written written' all f k = record {
+pub finished-flushed : {mode : Mode} {A : Type 0} (L : A → Row → A → Type 0) (first now : A) (blank written written' : Option (List ℕ)) (all : List (List ℕ)) → Finished mode L first now blank written all
+    → Appends written written' [] → Finished mode L first now blank written' all
+finished-flushed L first now blank written written' all f k = record {
   rows = f.rows;
   talks = f.talks;
   going = f.going;

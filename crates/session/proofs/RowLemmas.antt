@@ -4,13 +4,12 @@ use Rattle.std.proofs.Common.{drop, Result, Ok, Err, false}
 use Rattle.std.specs.Result.{OnErr, IfErr, IsErrAnd}
 use Rattle.std.proofs.lemmas.List.{append-nil, take_all, take_at, take-append-drop}
 use Rattle.std.specs.Io.KnownBytes.{Appends, Consumes, Keeps, ReadConsumes, prepend_known}
-use Rattle.model.specs.Events.{Event, Reply}
 use Rattle.model.specs.Lines.{Told}
-use Rattle.model.specs.Talk.{Row, Silent, Names, Refuses, Asks, Seen, Gets, after, after_all, Talks, form_of, text_from, row_text}
-use Rattle.session.specs.Serving.{Link, Chain}
+use Rattle.model.specs.Talk.{Row, Silent, Names, Refuses, Asks, Waits, Seen, GetsNext, after, after_all, Talks, text_from, row_text}
+use Rattle.session.specs.Serving.{Chain}
 
 pub talks-more : (seen : Seen) (done : List (List ℕ)) (rows : List Row) (line : List ℕ) (row : Row) → Talks seen done rows
-    → (after_all seen rows).refused ≡ false → Gets (form_of (after_all seen rows) line) row → Talks seen (done ++ line ∷ []) (rows ++ row ∷ [])
+    → (after_all seen rows).refused ≡ false → GetsNext (after_all seen rows) line row → Talks seen (done ++ line ∷ []) (rows ++ row ∷ [])
 talks-more seen [] [] line row t f g = (f, g, tt)
 talks-more seen [] (r ∷ rows) line row t f g = absurd t
 talks-more seen (l ∷ done) [] line row t f g = absurd t
@@ -20,16 +19,17 @@ pub after_all-more : (seen : Seen) (rows : List Row) (row : Row) → after_all s
 after_all-more seen [] row = refl
 after_all-more seen (r ∷ rows) row = after_all-more (after seen r) rows row
 
-pub chain-more : {A : Type 0} (R : A → Event → Reply → A → Type 0) (a : A) (rows : List Row) (b : A) (row : Row) (c : A) → Chain R a rows b
-    → Link R b row c → Chain R a (rows ++ row ∷ []) c
-chain-more R a [] b row c h l = (c, subst (λ x. Link R x row c) h l, refl)
-chain-more R a (r ∷ rows) b row c h l = (h.0, h.1, chain-more R h.0 rows b row c h.2 l)
+pub chain-more : {A : Type 0} (L : A → Row → A → Type 0) (a : A) (rows : List Row) (b : A) (row : Row) (c : A) → Chain L a rows b
+    → L b row c → Chain L a (rows ++ row ∷ []) c
+chain-more L a [] b row c h l = (c, subst (λ x. L x row c) h l, refl)
+chain-more L a (r ∷ rows) b row c h l = (h.0, h.1, chain-more L h.0 rows b row c h.2 l)
 
 length-after : (seen : Seen) (row : Row) → length (after seen row).told ≡ length seen.told + 1
 length-after seen Silent = omega (arith, length-append {A = Told})
 length-after seen (Names users) = omega (arith, length-append {A = Told})
 length-after seen (Refuses why) = omega (arith, length-append {A = Told})
 length-after seen (Asks event reply) = omega (arith, length-append {A = Told})
+length-after seen (Waits goals reply) = omega (arith, length-append {A = Told})
 
 pub length-after_all : (seen : Seen) (rows : List Row) → length (after_all seen rows).told ≡ length seen.told + length rows
 length-after_all seen [] = omega arith

@@ -1,11 +1,14 @@
 -- One line of a session.
-use Rattle.std.proofs.Common.{◌≡◌, ◌⊎◌, inl, inr, ℕ, ◌+◌, Bool, true, ◌||◌, List, [], ◌∷◌, ◌++◌, length, refl, ap, ◌∙◌, codes, Result, Ok, Err, IfOk}
+use Rattle.std.proofs.Common.{◌≡◌, ◌⊎◌, inl, inr, ℕ, ◌+◌, Bool, true, ◌||◌, List, [], ◌∷◌, ◌++◌, length, refl, ap, subst, ◌∙◌, codes, Option, Result, Ok, Err, IfOk}
 use Rattle.std.specs.Global.{Vec}
+use Rattle.model.specs.declared.mode.Mode.{Mode}
 use Rattle.model.specs.declared.refusal.Refusal.{Refusal}
 use Rattle.model.specs.Events as events
+use Rattle.model.specs.Worlds.{Job}
 use Rattle.model.specs.Lines.{Told, nothing_told}
 use Rattle.model.specs.Forms.{Form}
-use Rattle.model.specs.Talk.{Row, Names, Refuses, Asks, Seen, form_of, Gets, answer_text, told_in, is_bad_users}
+use Rattle.model.specs.Replies.{ends_wait}
+use Rattle.model.specs.Talk.{Row, Names, Refuses, Asks, Waits, Seen, form_of, Gets, GetsNext, answer_text, told_in, goal_by, with_goal, is_bad_users}
 use Rattle.events.specs.declared.event.Event.{Event}
 use Rattle.events.specs.Terms.{event_of}
 use Rattle.lines.specs.declared.line.Reading.{Reading}
@@ -13,72 +16,96 @@ use Rattle.lines.specs.declared.line.Reading.TheVariants as reading
 use Rattle.lines.specs.Reading.{IsRowOf, Becomes}
 use Rattle.session.specs.Serving.{Link, Gives, GivesRow, StopsAt}
 
-abbrev pub seen_by : Bool → Bool → List Told → Seen
-seen_by begun refused told = record { begun = begun; refused = refused; told = told }
+abbrev pub seen_by : Mode → Bool → Bool → List Told → List Job → Seen
+seen_by mode begun refused told goals = record { mode = mode; begun = begun; refused = refused; told = told; goals = goals }
 
 -- what a line may be, where its row is that of what it comes to
-pub row-gets : (form : Form) (r : Reading) (row : Row) → Becomes form r → IsRowOf r row → Gets form row
-row-gets form reading.Silent row b e = rw e b
-row-gets form (reading.Names users) row b e = rw e b
-row-gets form (reading.Refuses why) row b e = rw e b
-row-gets form (reading.Asks event) row b e = rw e.1 (b e.0)
+pub row-gets : (goals : List Job) (form : Form) (r : Reading) (row : Row) → Becomes form r → IsRowOf goals r row → Gets goals form row
+row-gets goals form reading.Silent row b e = rw e (b goals)
+row-gets goals form (reading.Names users) row b e = rw e (b goals)
+row-gets goals form (reading.Refuses why) row b e = rw e (b goals)
+row-gets goals form (reading.Asks event) row b e = rw e.1 (b goals e.0)
+row-gets goals form reading.Waits row b e = rw e.2 (b goals e.0 e.1)
 
--- a row with no event
-module _ (begun refused : Bool) (told told' : List Told) (n : ℕ) (one : Told) (e₁ : told' ≡ told ++ one ∷ []) (e₂ : one ≡ nothing_told)
-    (e₃ : n ≡ length told + 1) where
+-- a row with neither an event nor a wait
+module _ (mode : Mode) (begun refused : Bool) (told told' : List Told) (goals : List Job) (n : ℕ) (one : Told) (e₁ : told' ≡ told ++ one ∷ [])
+    (e₂ : one ≡ nothing_told) (e₃ : n ≡ length told + 1) where
   pub row-named : (result : Result (Vec ℕ) Refusal) → IfOk result (λ text. text.items ≡ answer_text n (codes "-") events.Done)
       → IfOk result (λ text. (users : List (List ℕ))
-      → GivesRow (Names users) (seen_by begun refused told) (seen_by true refused told') text.items)
+      → GivesRow (Names users) (seen_by mode begun refused told goals) (seen_by mode true refused told' goals) text.items)
   row-named (Ok text) e₄ = λ users. (
-    ap (seen_by true refused) (e₁ ∙ ap (λ x. told ++ x ∷ []) e₂),
+    ap (λ ts. seen_by mode true refused ts goals) (e₁ ∙ ap (λ x. told ++ x ∷ []) e₂),
     e₄ ∙ ap (λ k. answer_text k (codes "-") events.Done) e₃,
   )
   row-named (Err why) e₄ = tt
 
   pub row-refused : (why : Refusal) (refused' : Bool) (result : Result (Vec ℕ) Refusal) → refused' ≡ (is_bad_users why || refused)
       → IfOk result (λ text. text.items ≡ answer_text n (codes "-") (events.Refused why))
-      → IfOk result (λ text. GivesRow (Refuses why) (seen_by begun refused told) (seen_by begun refused' told') text.items)
+      → IfOk result (λ text. GivesRow (Refuses why) (seen_by mode begun refused told goals) (seen_by mode begun refused' told' goals) text.items)
   row-refused why refused' (Ok text) f e₄ = (
-    ap (λ x. seen_by begun x told') f ∙ ap (seen_by begun (is_bad_users why || refused)) (e₁ ∙ ap (λ x. told ++ x ∷ []) e₂),
+    ap (λ x. seen_by mode begun x told' goals) f
+        ∙ ap (λ ts. seen_by mode begun (is_bad_users why || refused) ts goals) (e₁ ∙ ap (λ x. told ++ x ∷ []) e₂),
     e₄ ∙ ap (λ k. answer_text k (codes "-") (events.Refused why)) e₃,
   )
   row-refused why refused' (Err _) f e₄ = tt
 
-module _ {A : Type 0} (R : A → events.Event → events.Reply → A → Type 0) where
+module _ {A : Type 0} (R : A → events.Event → events.Reply → A → Type 0) (W : A → List Job → events.Reply → A → Type 0) where
   -- the row of an event
-  pub gives-asked : (begun refused : Bool) (told told' : List Told) (text : List ℕ) (n : ℕ) (event : Event) (reply : events.Reply) (one : Told)
-      (now next : A)
-      → told' ≡ told ++ one ∷ [] → one ≡ told_in reply → n ≡ length told + 1 → text ≡ answer_text n event.actor reply
-      → R now (event_of event) reply next
-      → Gives (IsRowOf (reading.Asks event)) R (seen_by begun refused told) (seen_by begun refused told') now next text
-  gives-asked begun refused told told' text n event reply one now next e₁ e₂ e₃ e₄ h = (
+  pub gives-asked : (mode : Mode) (begun refused : Bool) (told told' : List Told) (goals goals' : List Job) (text : List ℕ) (n : ℕ) (event : Event)
+      (reply : events.Reply) (one : Told) (goal : Option Job) (now next : A)
+      → told' ≡ told ++ one ∷ [] → one ≡ told_in reply → goals' ≡ with_goal goals goal → goal ≡ goal_by event.actor reply → n ≡ length told + 1
+      → text ≡ answer_text n event.actor reply → R now (event_of event) reply next
+      → Gives (IsRowOf goals (reading.Asks event)) (Link R W) (seen_by mode begun refused told goals) (seen_by mode begun refused told' goals') now next text
+  gives-asked mode begun refused told told' goals goals' text n event reply one goal now next e₁ e₂ f₁ f₂ e₃ e₄ h = (
     Asks (event_of event) reply,
     (reply, refl),
-    ap (seen_by begun refused) (e₁ ∙ ap (λ x. told ++ x ∷ []) e₂),
+    ap (λ ts. seen_by mode begun refused ts goals') (e₁ ∙ ap (λ x. told ++ x ∷ []) e₂)
+        ∙ ap (seen_by mode begun refused (told ++ told_in reply ∷ [])) (f₁ ∙ ap (with_goal goals) f₂),
     e₄ ∙ ap (λ k. answer_text k event.actor reply) e₃,
     h,
   )
 
-  -- a row with no event leaves the answer alone
-  pub gives-row : (r : Reading) (row : Row) (seen next : Seen) (now : A) (result : Result (Vec ℕ) Refusal) → IsRowOf r row → Link R now row now
-      → IfOk result (λ text. GivesRow row seen next text.items) → IfOk result (λ text. Gives (IsRowOf r) R seen next now now text.items)
+  -- the row of a wait
+  pub gives-waited : (mode : Mode) (begun refused : Bool) (told told' : List Told) (goals shown : List Job) (text : List ℕ) (n : ℕ)
+      (reply : events.Reply) (one : Told) (now next : A)
+      → told' ≡ told ++ one ∷ [] → one ≡ nothing_told → shown ≡ goals → n ≡ length told + 1 → ends_wait reply ≡ true
+      → text ≡ answer_text n (codes "-") reply → W now shown reply next
+      → Gives (IsRowOf goals reading.Waits) (Link R W) (seen_by mode begun refused told goals) (seen_by mode begun refused told' goals) now next text
+  gives-waited mode begun refused told told' goals shown text n reply one now next e₁ e₂ f e₃ ended e₄ h = (
+    Waits goals reply,
+    (reply, ended, refl),
+    ap (λ ts. seen_by mode begun refused ts goals) (e₁ ∙ ap (λ x. told ++ x ∷ []) e₂),
+    e₄ ∙ ap (λ k. answer_text k (codes "-") reply) e₃,
+    subst (λ gs. W now gs reply next) f h,
+  )
+
+  -- a row with neither leaves the answer alone
+  pub gives-row : (r : Reading) (row : Row) (seen next : Seen) (now : A) (result : Result (Vec ℕ) Refusal) → IsRowOf seen.goals r row
+      → Link R W now row now → IfOk result (λ text. GivesRow row seen next text.items)
+      → IfOk result (λ text. Gives (IsRowOf seen.goals r) (Link R W) seen next now now text.items)
   gives-row r row seen next now (Ok text) is l h = (row, is, h.0, h.1, l)
   gives-row r row seen next now (Err why) is l h = tt
 
-  pub gives-part : (event : Event) (now next : A) → ((next ≡ now) ⊎ ((reply : events.Reply) × R now (event_of event) reply next))
-      → StopsAt (IsRowOf (reading.Asks event)) R now next
-  gives-part event now next d = elim d [
+  pub asked-part : (goals : List Job) (event : Event) (now next : A) → ((next ≡ now) ⊎ ((reply : events.Reply) × R now (event_of event) reply next))
+      → StopsAt (IsRowOf goals (reading.Asks event)) (Link R W) now next
+  asked-part goals event now next d = elim d [
     | inl e ↦ inl e
     | inr w ↦ inr (Asks (event_of event) w.0, (w.0, refl), w.1)
   ]
 
+  pub waited-part : (goals shown : List Job) (now next : A) → shown ≡ goals
+      → ((reply : events.Reply) × (ends_wait reply ≡ true) × W now shown reply next) → StopsAt (IsRowOf goals reading.Waits) (Link R W) now next
+  waited-part goals shown now next f w = inr (Waits goals w.0, (w.0, w.1, refl), subst (λ gs. W now gs w.0 next) f w.2)
+
+module _ {A : Type 0} (L : A → Row → A → Type 0) where
   -- from what a line comes to, to the line
-  pub part-gets : (form : Form) (r : Reading) (now next : A) → Becomes form r → StopsAt (IsRowOf r) R now next → StopsAt (Gets form) R now next
-  part-gets form r now next b d = elim d [
+  pub part-gets : (seen : Seen) (line : List ℕ) (r : Reading) (now next : A) → Becomes (form_of seen line) r → StopsAt (IsRowOf seen.goals r) L now next
+      → StopsAt (GetsNext seen line) L now next
+  part-gets seen line r now next b d = elim d [
     | inl e ↦ inl e
-    | inr w ↦ inr (w.0, row-gets form r w.0 b w.1, w.2)
+    | inr w ↦ inr (w.0, row-gets seen.goals (form_of seen line) r w.0 b w.1, w.2)
   ]
 
   pub line-gives : (seen : Seen) (line : List ℕ) (r : Reading) (now : A) (seen' : Seen) (next : A) (text : List ℕ)
-      → Becomes (form_of seen line) r → Gives (IsRowOf r) R seen seen' now next text → Gives (Gets (form_of seen line)) R seen seen' now next text
-  line-gives seen line r now seen' next text b w = (w.0, row-gets (form_of seen line) r w.0 b w.1, w.2, w.3, w.4)
+      → Becomes (form_of seen line) r → Gives (IsRowOf seen.goals r) L seen seen' now next text → Gives (GetsNext seen line) L seen seen' now next text
+  line-gives seen line r now seen' next text b w = (w.0, row-gets seen.goals (form_of seen line) r w.0 b w.1, w.2, w.3, w.4)

@@ -1,33 +1,36 @@
--- What a session did with its lines: the answers that it got, and what it wrote.
+-- What a session did with its lines: the answers and waits that it had, and what it wrote.
 use Rattle.std.specs.Prelude.{◌≡◌, ◌⊎◌, ◌<◌, ◌≤◌, ◌-◌, ◌^◌, ◌==◌, ⊤, true, false, ℕ, ◌+◌, List, [], ◌∷◌, ◌++◌, length, take, Option, Some, None}
 use mathlib.Core.List.{IsPrefix}
 use Rattle.std.specs.Io.KnownBytes.{Appends, Consumes, IsAtEnd}
+use Rattle.model.specs.declared.mode.Mode.{Mode}
 use Rattle.model.specs.declared.refusal.Refusal.{Refusal}
 use Rattle.model.specs.declared.refusal.Refusal.TheVariants.{OutputFault, Memory, BadUsers}
 use Rattle.model.specs.Events.{Event, Reply}
+use Rattle.model.specs.Worlds.{Job}
 use Rattle.model.specs.Lines.{lines_of}
 use Rattle.model.specs.Forms.{longest_line}
-use Rattle.model.specs.Talk.{Row, Silent, Names, Refuses, Asks, Seen, fresh, after, after_all, Talks, row_text, text_from}
+use Rattle.model.specs.Talk.{Row, Silent, Names, Refuses, Asks, Waits, Seen, fresh, after, after_all, Talks, row_text, text_from}
 
--- one row's link of the chain: an event is one answer, any other line leaves the answer alone
-abbrev pub Link : {A : Type 0} → (A → Event → Reply → A → Type 0) → A → Row → A → Type 0
-Link answers old Silent new = new ≡ old
-Link answers old (Names users) new = new ≡ old
-Link answers old (Refuses why) new = new ≡ old
-Link answers old (Asks event reply) new = answers old event reply new
+-- one row's link of the chain: an event is one answer, a wait is one wait for its goals, and any other line leaves the answer alone
+abbrev pub Link : {A : Type 0} → (A → Event → Reply → A → Type 0) → (A → List Job → Reply → A → Type 0) → A → Row → A → Type 0
+Link answers waited old Silent new = new ≡ old
+Link answers waited old (Names users) new = new ≡ old
+Link answers waited old (Refuses why) new = new ≡ old
+Link answers waited old (Asks event reply) new = answers old event reply new
+Link answers waited old (Waits goals reply) new = waited old goals reply new
 
--- the answers to the rows' events form one chain from old to new
-abbrev pub Chain : {A : Type 0} → (A → Event → Reply → A → Type 0) → A → List Row → A → Type 0
-Chain answers old [] new = new ≡ old
-Chain {A} answers old (row ∷ rows) new = (mid : A) × Link answers old row mid × Chain answers mid rows new
+-- the links of the rows form one chain from old to new
+abbrev pub Chain : {A : Type 0} → (A → Row → A → Type 0) → A → List Row → A → Type 0
+Chain link old [] new = new ≡ old
+Chain {A} link old (row ∷ rows) new = (mid : A) × link old row mid × Chain link mid rows new
 
 -- what a session has done with all of these lines, read and answered one after another
-pub record Finished {A : Type 0} (answers : A → Event → Reply → A → Type 0) (first now : A) (blank written : Option (List ℕ))
+pub record Finished (mode : Mode) {A : Type 0} (link : A → Row → A → Type 0) (first now : A) (blank written : Option (List ℕ))
     (all : List (List ℕ)) : Type 0 where
   pub rows : List Row
-  pub talks : Talks fresh all rows
-  pub going : (after_all fresh rows).refused ≡ false
-  pub chain : Chain answers first rows now
+  pub talks : Talks (fresh mode) all rows
+  pub going : (after_all (fresh mode) rows).refused ≡ false
+  pub chain : Chain link first rows now
   pub text : Appends blank written (text_from 1 rows)
 
 -- no byte of it is a newline
@@ -37,35 +40,35 @@ HasNoNewline (b ∷ bytes) = ((b == 10) ≡ false) × HasNoNewline bytes
 
 -- the rows of the whole lines of an input of which more may come:
 -- whatever comes, the lines of all are the done ones, and then those of the line begun with what comes
-pub record WholeLines (input : List ℕ) (rows : List Row) : Type 0 where
+pub record WholeLines (mode : Mode) (input : List ℕ) (rows : List Row) : Type 0 where
   pub done : List (List ℕ)
   pub partial : List ℕ
   pub cut : (more : List ℕ) → lines_of (input ++ more) ≡ done ++ lines_of (partial ++ more)
   pub begun : HasNoNewline partial
-  pub talks : Talks fresh done rows
-  pub going : (after_all fresh rows).refused ≡ false
+  pub talks : Talks (fresh mode) done rows
+  pub going : (after_all (fresh mode) rows).refused ≡ false
 
 -- what a session has done with an input of which more may come: its whole lines are answered
-pub record AnsweredSoFar {A : Type 0} (answers : A → Event → Reply → A → Type 0) (first now : A) (blank written : Option (List ℕ))
+pub record AnsweredSoFar (mode : Mode) {A : Type 0} (link : A → Row → A → Type 0) (first now : A) (blank written : Option (List ℕ))
     (input : List ℕ) : Type 0 where
   pub rows : List Row
-  pub lines : WholeLines input rows
-  pub chain : Chain answers first rows now
+  pub lines : WholeLines mode input rows
+  pub chain : Chain link first rows now
   pub text : Appends blank written (text_from 1 rows)
 
 -- what it has done where it ended early: the first lines were answered, and a beginning of their text is written;
 -- they are the first lines whatever comes after what was read, and nothing comes where that is at the input's end;
 -- it ends with 14 where a line of users was refused, and then all of the text is written
-pub record EndedEarly {A : Type 0} (answers : A → Event → Reply → A → Type 0) (first now : A) (blank written : Option (List ℕ)) (input : List ℕ)
+pub record EndedEarly (mode : Mode) {A : Type 0} (link : A → Row → A → Type 0) (first now : A) (blank written : Option (List ℕ)) (input : List ℕ)
     (at_end : Type 0) (why : Refusal) : Type 0 where
   pub rows : List Row
   pub done : List (List ℕ)
   pub cut : (more : List ℕ) → (at_end → more ≡ []) → IsPrefix done (lines_of (input ++ more))
-  pub talks : Talks fresh done rows
-  pub chain : Chain answers first rows now
+  pub talks : Talks (fresh mode) done rows
+  pub chain : Chain link first rows now
   pub count : ℕ
   pub text : Appends blank written (take count (text_from 1 rows))
-  pub users : why ≡ BadUsers → ((after_all fresh rows).refused ≡ true) × (length (text_from 1 rows) ≤ count)
+  pub users : why ≡ BadUsers → ((after_all (fresh mode) rows).refused ≡ true) × (length (text_from 1 rows) ≤ count)
 
 -- what is held of a line begun: as much of it as shows whether it is too long
 abbrev pub IsHeld : List ℕ → List ℕ → Type 0
@@ -76,48 +79,48 @@ abbrev pub HoldsMore : (held bytes held' : List ℕ) → Type 0
 HoldsMore held bytes held' = (partial : List ℕ) → IsHeld partial held → IsHeld (partial ++ bytes) held'
 
 -- a session on its way: after this input it keeps seen, and holds the beginning of a line
-pub record Progress {A : Type 0} (answers : A → Event → Reply → A → Type 0) (first now : A) (blank written : Option (List ℕ)) (input : List ℕ)
+pub record Progress (mode : Mode) {A : Type 0} (link : A → Row → A → Type 0) (first now : A) (blank written : Option (List ℕ)) (input : List ℕ)
     (seen : Seen) (held : List ℕ) : Type 0 where
-  pub so_far : AnsweredSoFar answers first now blank written input
+  pub so_far : AnsweredSoFar mode link first now blank written input
   pub held_is : IsHeld so_far.lines.partial held
-  pub seen_is : seen ≡ after_all fresh so_far.rows
+  pub seen_is : seen ≡ after_all (fresh mode) so_far.rows
 
 -- from any start on: a session that is on its way is on its way after these bytes more
-abbrev pub GoesOn : {A : Type 0} → (A → Event → Reply → A → Type 0)
+abbrev pub GoesOn : {A : Type 0} → (A → Row → A → Type 0)
     → (now next : A) (written written' : Option (List ℕ)) (seen seen' : Seen) (held held' bytes : List ℕ) → Type 0
-GoesOn {A} answers now next written written' seen seen' held held' bytes = (first : A) (blank : Option (List ℕ)) (input : List ℕ)
-    → Progress answers first now blank written input seen held → Progress answers first next blank written' (input ++ bytes) seen' held'
+GoesOn {A} link now next written written' seen seen' held held' bytes = (mode : Mode) (first : A) (blank : Option (List ℕ)) (input : List ℕ)
+    → Progress mode link first now blank written input seen held → Progress mode link first next blank written' (input ++ bytes) seen' held'
 
 -- it ends early in these bytes, of which more may come
-abbrev pub EndsIn : {A : Type 0} → (A → Event → Reply → A → Type 0)
+abbrev pub EndsIn : {A : Type 0} → (A → Row → A → Type 0)
     → (now next : A) (written written' : Option (List ℕ)) (seen : Seen) (held bytes : List ℕ) → Refusal → Type 0
-EndsIn {A} answers now next written written' seen held bytes why = (first : A) (blank : Option (List ℕ)) (input : List ℕ)
-    → Progress answers first now blank written input seen held → EndedEarly answers first next blank written' (input ++ bytes) ⊥ why
+EndsIn {A} link now next written written' seen held bytes why = (mode : Mode) (first : A) (blank : Option (List ℕ)) (input : List ℕ)
+    → Progress mode link first now blank written input seen held → EndedEarly mode link first next blank written' (input ++ bytes) ⊥ why
 
 -- it comes to its end
-abbrev pub Finishes : {A : Type 0} → (A → Event → Reply → A → Type 0)
+abbrev pub Finishes : {A : Type 0} → (A → Row → A → Type 0)
     → (now next : A) (written written' : Option (List ℕ)) (seen : Seen) (held : List ℕ) → Type 0
-Finishes {A} answers now next written written' seen held = (first : A) (blank : Option (List ℕ)) (input : List ℕ)
-    → Progress answers first now blank written input seen held → Finished answers first next blank written' (lines_of input)
+Finishes {A} link now next written written' seen held = (mode : Mode) (first : A) (blank : Option (List ℕ)) (input : List ℕ)
+    → Progress mode link first now blank written input seen held → Finished mode link first next blank written' (lines_of input)
 
 -- it ends early in the last line of its input
-abbrev pub EndsAtLast : {A : Type 0} → (A → Event → Reply → A → Type 0)
+abbrev pub EndsAtLast : {A : Type 0} → (A → Row → A → Type 0)
     → (now next : A) (written written' : Option (List ℕ)) (seen : Seen) (held : List ℕ) → Refusal → Type 0
-EndsAtLast {A} answers now next written written' seen held why = (first : A) (blank : Option (List ℕ)) (input : List ℕ)
-    → Progress answers first now blank written input seen held → EndedEarly answers first next blank written' input ⊤ why
+EndsAtLast {A} link now next written written' seen held why = (mode : Mode) (first : A) (blank : Option (List ℕ)) (input : List ℕ)
+    → Progress mode link first now blank written input seen held → EndedEarly mode link first next blank written' input ⊤ why
 
 -- what a line of that row gives: what is kept of it, and what is printed for it
 abbrev pub GivesRow : Row → (seen next : Seen) → List ℕ → Type 0
 GivesRow row seen next text = (next ≡ after seen row) × (text ≡ row_text (length seen.told + 1) row)
 
 -- what a line gives of which these may be the rows: a row, what is kept of it, what is printed for it, and what became of the answer
-abbrev pub Gives : {A : Type 0} → (Row → Type 0) → (A → Event → Reply → A → Type 0) → (seen next : Seen) (old new : A) → List ℕ → Type 0
-Gives Is answers seen next old new text =
-    (row : Row) × Is row × (next ≡ after seen row) × (text ≡ row_text (length seen.told + 1) row) × Link answers old row new
+abbrev pub Gives : {A : Type 0} → (Row → Type 0) → (A → Row → A → Type 0) → (seen next : Seen) (old new : A) → List ℕ → Type 0
+Gives Is link seen next old new text =
+    (row : Row) × Is row × (next ≡ after seen row) × (text ≡ row_text (length seen.told + 1) row) × link old row new
 
--- where it gives none, its event was answered or not
-abbrev pub StopsAt : {A : Type 0} → (Row → Type 0) → (A → Event → Reply → A → Type 0) → (old new : A) → Type 0
-StopsAt Is answers old new = (new ≡ old) ⊎ ((row : Row) × Is row × Link answers old row new)
+-- where it gives none, its event was answered or not, and its wait has ended or not begun
+abbrev pub StopsAt : {A : Type 0} → (Row → Type 0) → (A → Row → A → Type 0) → (old new : A) → Type 0
+StopsAt Is link old new = (new ≡ old) ⊎ ((row : Row) × Is row × link old row new)
 
 -- a count of failures rose, or stands at its greatest number
 abbrev pub HasFailed : ℕ → ℕ → Type 0

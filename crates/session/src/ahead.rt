@@ -3,17 +3,17 @@
 ghost use Rattle.std.specs.Prelude.{◌≡◌, ◌++◌, [], true, false, ℕ, List, None, IfOk, IfErr, OnOk, OnErr, option_map};
 ghost use Rattle.std.specs.Io.KnownBytes.{Consumes, IsAtEnd};
 ghost use Rattle.model.specs.declared.refusal.Refusal.TheVariants.{Memory};
-ghost use Rattle.model.specs.Talk.{fresh, form_of};
+ghost use Rattle.model.specs.Talk.{fresh};
 ghost use Rattle.session.specs.Ahead.{IsLook, NoUsersSoFar, LooksAhead, SearchesOn, SearchesLast};
 ghost use Rattle.session.specs.Serving.{HasFailed};
 
 use crate::faults::Faults;
 use crate::serving::{CHUNK, hold, is_begun};
-use crate::session::{Mode, Session};
+use crate::session::Session;
 use crate::streams::read_some;
 use answering::NoUsers;
 use lines::{Reading, cut};
-use model::Refusal;
+use model::{Mode, Refusal};
 use std::alloc::Global;
 use std::io::Read;
 use trust::User;
@@ -52,7 +52,7 @@ enum Look {
 
 /// Looks at the next line.
 fn look_at(alloc: Global, session: &mut Session, line: &[u8]) -> Result<Look, Refusal>
-    ensures found { IfOk result (IsLook (form_of session.old line.now) session.old session.new) }
+    ensures found { IfOk result (IsLook line.now session.old session.new) }
     ensures memory { IfErr result (λ why. why ≡ Memory) }
 {
     match session.read(alloc, line)? {
@@ -118,7 +118,7 @@ fn search<R: Read + Faults>(
     bytes: &mut Vec<u8>,
     reader: &mut R,
 ) -> Result<Found, Refusal>
-    requires { (session.old ≡ fresh) × (held.old.items ≡ []) × (bytes.old.items ≡ []) }
+    requires { (session.old ≡ fresh session.old.mode) × (held.old.items ≡ []) × (bytes.old.items ≡ []) }
     ensures read { OnOk result
         (Consumes (R.remaining reader.old) (R.remaining reader.new) bytes.new.items) }
     ensures ended { IfOk result (λ found.
@@ -127,9 +127,9 @@ fn search<R: Read + Faults>(
         found.has_failed ≡ true → HasFailed (R.failed reader.old) (R.failed reader.new)) }
     ensures users { IfOk result (λ found. found.has_failed ≡ false
         → (more : List ℕ) → (found.has_ended ≡ true → more ≡ [])
-        → LooksAhead (bytes.new.items ++ more) (option_map (λ u. u.items) found.users)) }
+        → LooksAhead session.old.mode (bytes.new.items ++ more) (option_map (λ u. u.items) found.users)) }
     ensures no_users { IfOk result (λ found. found.has_failed ≡ true
-        → (found.users ≡ None) × NoUsersSoFar bytes.new.items) }
+        → (found.users ≡ None) × NoUsersSoFar session.old.mode bytes.new.items) }
     ensures err { OnErr result ((input : List ℕ)
         × Consumes (R.remaining reader.old) (R.remaining reader.new) input) }
     ensures memory { IfErr result (λ why. why ≡ Memory) }
@@ -196,10 +196,10 @@ pub fn read_ahead<R: Read + Faults>(
     // Whatever comes after what was read, these are the users that a session of it names.
     ensures users { IfOk result (λ ahead. ahead.has_failed ≡ false
         → (more : List ℕ) → (ahead.has_ended ≡ true → more ≡ [])
-        → LooksAhead (ahead.bytes.items ++ more) (option_map (λ u. u.items) ahead.users)) }
+        → LooksAhead mode (ahead.bytes.items ++ more) (option_map (λ u. u.items) ahead.users)) }
     // Where the reader failed, none are given, and the whole lines of what was read name none.
     ensures no_users { IfOk result (λ ahead. ahead.has_failed ≡ true
-        → (ahead.users ≡ None) × NoUsersSoFar ahead.bytes.items) }
+        → (ahead.users ≡ None) × NoUsersSoFar mode ahead.bytes.items) }
     ensures err { OnErr result ((input : List ℕ)
         × Consumes (R.remaining reader.old) (R.remaining reader.new) input) }
     ensures memory { IfErr result (λ why. why ≡ Memory) }

@@ -9,7 +9,8 @@
 //! | [`read_ahead`], [`Prefixed`] | finds the users of an input, and gives again what was read |
 //!
 //! What a line is, which row it gets and what is printed for it is said by the definitions of the
-//! crate `model`; whoever answers the events is an [`Answer`].
+//! crate `model`; whoever answers the events, and waits for the goals, is an [`Answer`]. A [`Mode`] says
+//! which lines there are.
 #![tactic(auto)]
 
 mod ahead;
@@ -23,7 +24,9 @@ pub use ahead::{Ahead, read_ahead};
 pub use answering::{Answer, NoUsers};
 pub use faults::Faults;
 pub use lines::answer_text;
+pub use model::Mode;
 pub use prefixed::Prefixed;
 pub use serving::{serve, serve_whole_lines};
-pub use session::{Mode, Session};
+pub use session::Session;
+pub use states::Job;
 pub use streams::flush_after;

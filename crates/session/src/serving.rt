@@ -5,14 +5,14 @@ ghost use Rattle.std.specs.Io.KnownBytes.{Consumes, IsAtEnd};
 ghost use Rattle.model.specs.declared.refusal.Refusal.TheVariants.{InputFault, OutputFault};
 ghost use Rattle.model.specs.Lines.{lines_of};
 ghost use Rattle.model.specs.Talk.{fresh};
-ghost use Rattle.session.specs.Serving.{GoesOn, EndsIn, Finishes, EndsAtLast, AnsweredSoFar, EndedEarly, Finished, HoldsMore, IsOwn, MayBeFault};
+ghost use Rattle.session.specs.Serving.{Link, GoesOn, EndsIn, Finishes, EndsAtLast, AnsweredSoFar, EndedEarly, Finished, HoldsMore, IsOwn, MayBeFault};
 
 use crate::faults::Faults;
-use crate::session::{Mode, Session};
+use crate::session::Session;
 use crate::streams::{flush, read_some, write_whole};
 use answering::Answer;
 use lines::{LONGEST_LINE, cut};
-use model::Refusal;
+use model::{Mode, Refusal};
 use std::alloc::{AllocError, Global};
 use std::io::{Read, Write};
 
@@ -46,11 +46,11 @@ fn end_line<W: Write + Faults, A: Answer>(
     before: u64,
     answer: &mut A,
 ) -> Result<(), Refusal>
-    ensures ok { OnOk result (GoesOn A.answers answer.old answer.new
+    ensures ok { OnOk result (GoesOn (Link A.answers A.waited) answer.old answer.new
         (W.contents writer.old) (W.contents writer.new)
         session.old session.new held.old.items held.new.items (10 ∷ [])) }
     ensures empty { OnOk result (held.new.items ≡ []) }
-    ensures err { IfErr result (λ why. (more : List ℕ) → EndsIn A.answers answer.old answer.new
+    ensures err { IfErr result (λ why. (more : List ℕ) → EndsIn (Link A.answers A.waited) answer.old answer.new
         (W.contents writer.old) (W.contents writer.new)
         session.old held.old.items (10 ∷ more) why) }
     ensures errors { IfErr result IsOwn }
@@ -77,10 +77,10 @@ fn feed<W: Write + Faults, A: Answer>(
     before: u64,
     answer: &mut A,
 ) -> Result<(), Refusal>
-    ensures ok { OnOk result (GoesOn A.answers answer.old answer.new
+    ensures ok { OnOk result (GoesOn (Link A.answers A.waited) answer.old answer.new
         (W.contents writer.old) (W.contents writer.new)
         session.old session.new held.old.items held.new.items piece.now) }
-    ensures err { IfErr result (EndsIn A.answers answer.old answer.new
+    ensures err { IfErr result (EndsIn (Link A.answers A.waited) answer.old answer.new
         (W.contents writer.old) (W.contents writer.new)
         session.old held.old.items piece.now) }
     ensures errors { IfErr result IsOwn }
@@ -105,9 +105,9 @@ fn finish<W: Write + Faults, A: Answer>(
     before: u64,
     answer: &mut A,
 ) -> Result<(), Refusal>
-    ensures ok { OnOk result (Finishes A.answers answer.old answer.new
+    ensures ok { OnOk result (Finishes (Link A.answers A.waited) answer.old answer.new
         (W.contents writer.old) (W.contents writer.new) session.old held.old.items) }
-    ensures err { IfErr result (EndsAtLast A.answers answer.old answer.new
+    ensures err { IfErr result (EndsAtLast (Link A.answers A.waited) answer.old answer.new
         (W.contents writer.old) (W.contents writer.new) session.old held.old.items) }
     ensures errors { IfErr result IsOwn }
     ensures fault { IfErr result (MayBeFault OutputFault before (W.failed writer.new)) }
@@ -128,9 +128,9 @@ fn close<W: Write + Faults, A: Answer>(
     before: u64,
     answer: &mut A,
 ) -> Result<(), Refusal>
-    ensures ok { OnOk result (Finishes A.answers answer.old answer.new
+    ensures ok { OnOk result (Finishes (Link A.answers A.waited) answer.old answer.new
         (W.contents writer.old) (W.contents writer.new) session.old held.old.items) }
-    ensures err { IfErr result (EndsAtLast A.answers answer.old answer.new
+    ensures err { IfErr result (EndsAtLast (Link A.answers A.waited) answer.old answer.new
         (W.contents writer.old) (W.contents writer.new) session.old held.old.items) }
     ensures errors { IfErr result IsOwn }
     ensures fault { IfErr result (MayBeFault OutputFault before (W.failed writer.new)) }
@@ -149,15 +149,15 @@ fn serve_by<R: Read + Faults, W: Write + Faults, A: Answer>(
     writer: &mut W,
     answer: &mut A,
 ) -> Result<(), Refusal>
-    requires { (session.old ≡ fresh) × (held.old.items ≡ []) }
+    requires { (session.old ≡ fresh session.old.mode) × (held.old.items ≡ []) }
     ensures ok { OnOk result ((input : List ℕ)
         × Consumes (R.remaining reader.old) (R.remaining reader.new) input
         × IsAtEnd (R.remaining reader.new)
-        × Finished A.answers answer.old answer.new
+        × Finished session.old.mode (Link A.answers A.waited) answer.old answer.new
         (W.contents writer.old) (W.contents writer.new) (lines_of input)) }
     ensures err { IfErr result (λ why. (input : List ℕ)
         × Consumes (R.remaining reader.old) (R.remaining reader.new) input
-        × EndedEarly A.answers answer.old answer.new
+        × EndedEarly session.old.mode (Link A.answers A.waited) answer.old answer.new
         (W.contents writer.old) (W.contents writer.new)
         input (IsAtEnd (R.remaining reader.new)) why) }
     ensures errors { IfErr result (λ why. (why ≡ InputFault) ⊎ IsOwn why) }
@@ -207,12 +207,12 @@ pub fn serve<R: Read + Faults, W: Write + Faults, A: Answer>(
     ensures ok { OnOk result ((input : List ℕ)
         × Consumes (R.remaining reader.old) (R.remaining reader.new) input
         × IsAtEnd (R.remaining reader.new)
-        × Finished A.answers answer.old answer.new
+        × Finished mode (Link A.answers A.waited) answer.old answer.new
         (W.contents writer.old) (W.contents writer.new) (lines_of input)) }
     // Else the first lines are, whatever comes after what was read, and a beginning of their text.
     ensures err { IfErr result (λ why. (input : List ℕ)
         × Consumes (R.remaining reader.old) (R.remaining reader.new) input
-        × EndedEarly A.answers answer.old answer.new
+        × EndedEarly mode (Link A.answers A.waited) answer.old answer.new
         (W.contents writer.old) (W.contents writer.new)
         input (IsAtEnd (R.remaining reader.new)) why) }
     ensures errors { IfErr result (λ why. (why ≡ InputFault) ⊎ IsOwn why) }
@@ -239,9 +239,9 @@ pub fn serve_whole_lines<W: Write + Faults, A: Answer>(
     writer: &mut W,
     answer: &mut A,
 ) -> Result<(), Refusal>
-    ensures ok { OnOk result (AnsweredSoFar A.answers answer.old answer.new
+    ensures ok { OnOk result (AnsweredSoFar mode (Link A.answers A.waited) answer.old answer.new
         (W.contents writer.old) (W.contents writer.new) bytes.now) }
-    ensures err { IfErr result (EndedEarly A.answers answer.old answer.new
+    ensures err { IfErr result (EndedEarly mode (Link A.answers A.waited) answer.old answer.new
         (W.contents writer.old) (W.contents writer.new) bytes.now ⊥) }
     ensures errors { IfErr result IsOwn }
     ensures output_fault { IfErr result

@@ -1,39 +1,38 @@
 //! Sessions, a line at a time.
 
-ghost use Rattle.std.specs.Prelude.{◌≡◌, ◌⊎◌, ℕ, List, IfOk, IfErr, OnErr};
+ghost use Rattle.std.specs.Prelude.{◌≡◌, ◌⊎◌, ℕ, List, IfOk, IfErr, OnOk, OnErr};
 ghost use Rattle.model.specs.declared.refusal.Refusal.TheVariants.{Memory};
-ghost use Rattle.model.specs.Talk.{Silent, Names, Refuses, fresh, form_of, Gets, is_bad_users};
+ghost use Rattle.model.specs.Talk.{Silent, Names, Refuses, fresh, form_of, GetsNext, is_bad_users, with_goal};
 ghost use Rattle.lines.specs.declared.line.Reading.TheVariants as readings;
 ghost use Rattle.lines.specs.Reading.{Becomes, IsRowOf};
-ghost use Rattle.session.specs.Serving.{Gives, GivesRow, StopsAt};
+ghost use Rattle.session.specs.Serving.{Link, Gives, GivesRow, StopsAt};
 
-use answering::{Answer, ask};
+use answering::{Answer, ask, wait};
 use events::{Event, Reply};
 use lines::{Reading, Told, answer_text, read_line};
-use model::Refusal;
-use std::alloc::Global;
+use model::{Mode, Refusal};
+use states::Job;
+use std::alloc::{AllocError, Global};
 use std::marker::Model;
-
-/// Which lines a session knows.
-#[derive(Clone, Copy, Debug, PartialEq, Eq)]
-pub enum Mode {
-    /// Those of the service: every event is a line of its own.
-    Service,
-}
 
 /// What is kept of the lines so far.
 pub struct Session {
+    mode: Mode,
     begun: bool,
     refused: bool,
     told: Vec<Told>,
+    /// The goals that the lines got, each named as the job that it would lead.
+    goals: Vec<Job>,
 }
 
 impl Drop for Session {
     fn drop(self) {
         let Session {
+            mode: _,
             begun: _,
             refused: _,
             told: _,
+            goals: _,
         } = self;
     }
 }
@@ -43,20 +42,28 @@ impl Model for Session {
 
     ghost Value = { Seen };
 
-    ghost view = { λ s. record { begun = s.begun; refused = s.refused; told = s.told.items } };
+    ghost view = { λ s. record { mode = s.mode; begun = s.begun; refused = s.refused; told = s.told.items; goals = s.goals.items } };
 }
 
 impl Session {
     /// A session that has had no line. It takes no memory.
     pub fn new(alloc: Global, mode: Mode) -> Session
-        ensures { result ≡ fresh }
+        ensures { result ≡ fresh mode }
     {
-        let Mode::Service = mode;
         Session {
+            mode,
             begun: false,
             refused: false,
             told: Vec::new(alloc),
+            goals: Vec::new(alloc),
         }
+    }
+
+    /// Whether a line of users was answered `ok`.
+    pub fn has_users(&self) -> bool
+        ensures { result ≡ self.now.begun }
+    {
+        self.begun
     }
 
     /// Whether a line of users was refused, which ends [`serve`](crate::serve).
@@ -71,7 +78,7 @@ impl Session {
         ensures read { IfOk result (Becomes (form_of self.now line.now)) }
         ensures memory { IfErr result (λ why. why ≡ Memory) }
     {
-        read_line(alloc, self.begun, self.told.as_slice(), line)
+        read_line(alloc, self.mode, self.begun, self.told.as_slice(), line)
     }
 
     /// Answers the next line, by what it comes to, and gives what is printed for it.
@@ -81,17 +88,18 @@ impl Session {
         reading: Reading,
         answer: &mut A,
     ) -> Result<Vec<u8>, Refusal>
-        ensures ok { IfOk result (λ text. Gives (IsRowOf reading)
-            A.answers self.old self.new answer.old answer.new text.items) }
+        ensures ok { IfOk result (λ text. Gives (IsRowOf self.old.goals reading)
+            (Link A.answers A.waited) self.old self.new answer.old answer.new text.items) }
         ensures memory { IfErr result (λ why. why ≡ Memory) }
         ensures err { OnErr result
-            (StopsAt (IsRowOf reading) A.answers answer.old answer.new) }
+            (StopsAt (IsRowOf self.old.goals reading) (Link A.answers A.waited) answer.old answer.new) }
     {
         match reading {
             Reading::Silent => self.pass_over(alloc),
             Reading::Names(_users) => self.begin(alloc),
             Reading::Refuses(why) => self.refuse(alloc, why),
             Reading::Asks(event) => self.ask(alloc, event, answer),
+            Reading::Waits => self.wait(alloc, answer),
         }
     }
 
@@ -134,14 +142,28 @@ impl Session {
         event: Event,
         answer: &mut A,
     ) -> Result<Vec<u8>, Refusal>
-        ensures ok { IfOk result (λ text. Gives (IsRowOf (readings.Asks event))
-            A.answers self.old self.new answer.old answer.new text.items) }
+        ensures ok { IfOk result (λ text. Gives (IsRowOf self.old.goals (readings.Asks event))
+            (Link A.answers A.waited) self.old self.new answer.old answer.new text.items) }
         ensures memory { IfErr result (λ why. why ≡ Memory) }
-        ensures err { OnErr result
-            (StopsAt (IsRowOf (readings.Asks event)) A.answers answer.old answer.new) }
+        ensures err { OnErr result (StopsAt (IsRowOf self.old.goals (readings.Asks event))
+            (Link A.answers A.waited) answer.old answer.new) }
     {
-        let (told, text) = ask(alloc, self.told.len() + 1, event, answer)?;
-        self.told.push(told)?;
+        let answered = ask(alloc, self.told.len() + 1, event, answer)?;
+        self.told.push(answered.told)?;
+        add_goal(&mut self.goals, answered.goal)?;
+        Ok(answered.text)
+    }
+
+    /// Answers a line that waits for the goals so far.
+    fn wait<A: Answer>(&mut self, alloc: Global, answer: &mut A) -> Result<Vec<u8>, Refusal>
+        ensures ok { IfOk result (λ text. Gives (IsRowOf self.old.goals readings.Waits)
+            (Link A.answers A.waited) self.old self.new answer.old answer.new text.items) }
+        ensures memory { IfErr result (λ why. why ≡ Memory) }
+        ensures err { OnErr result (StopsAt (IsRowOf self.old.goals readings.Waits)
+            (Link A.answers A.waited) answer.old answer.new) }
+    {
+        let text = wait(alloc, self.told.len() + 1, self.goals.as_slice(), answer)?;
+        self.told.push(Told::nothing())?;
         Ok(text)
     }
 
@@ -150,22 +172,32 @@ impl Session {
     ///
     /// # Errors
     ///
-    /// - `Memory` only where memory was refused. After it the line's event may have been answered, and
-    ///   nothing is said of later lines.
+    /// - `Memory` only where memory was refused. After it the line's event may have been answered, or its
+    ///   wait have ended, and nothing is said of later lines.
     pub fn line<A: Answer>(
         &mut self,
         alloc: Global,
         line: &[u8],
         answer: &mut A,
     ) -> Result<Vec<u8>, Refusal>
-        ensures ok { IfOk result (λ text. Gives (Gets (form_of self.old line.now))
-            A.answers self.old self.new answer.old answer.new text.items) }
+        ensures ok { IfOk result (λ text. Gives (GetsNext self.old line.now)
+            (Link A.answers A.waited) self.old self.new answer.old answer.new text.items) }
         ensures memory { IfErr result (λ why. why ≡ Memory) }
-        ensures err { OnErr result (StopsAt (Gets (form_of self.old line.now))
-            A.answers answer.old answer.new) }
+        ensures err { OnErr result (StopsAt (GetsNext self.old line.now)
+            (Link A.answers A.waited) answer.old answer.new) }
     {
         let reading = self.read(alloc, line)?;
         self.answer(alloc, reading, answer)
+    }
+}
+
+/// Adds the goal that a reply gave, if it gave one.
+fn add_goal(goals: &mut Vec<Job>, goal: Option<Job>) -> Result<(), AllocError>
+    ensures { OnOk result (goals.new.items ≡ with_goal goals.old.items goal) }
+{
+    match goal {
+        Some(goal) => Ok(goals.push(goal)?),
+        None => Ok(()),
     }
 }
 

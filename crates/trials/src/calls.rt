@@ -6,6 +6,7 @@
 use crate::answer::Answer;
 use crate::{fronts, sessions, stores};
 use model::Refusal;
+use session::Mode;
 use std::alloc::Global;
 use std::hash::RandomState;
 use std::sync::Wait;
@@ -35,7 +36,8 @@ fn of_line<R: Threads + Wait + Sync>(
     match call {
         "#" => comment(line, out),
         "talk" => sessions::talk(alloc, hashing, argument, out),
-        "lines" => sessions::lines(alloc, hashing, argument, out),
+        "lines" => sessions::lines(alloc, hashing, Mode::Service, argument, out),
+        "run_lines" => sessions::lines(alloc, hashing, Mode::Run, argument, out),
         "ahead" => sessions::ahead(alloc, hashing, argument, out),
         "users" => stores::users(alloc, hashing, argument, out),
         "run" => stores::run(alloc, hashing, out),

@@ -6,11 +6,11 @@ use crate::devices::{Calls, Sink, Source, calls_of};
 use crate::stores::{new_core, store_of};
 use model::Refusal;
 use schedule::{Core, Event, Reply, User};
-use session::{Ahead, Mode, NoUsers, Prefixed, Session, read_ahead, serve, serve_whole_lines};
+use session::{Ahead, Job, Mode, NoUsers, Prefixed, Session, read_ahead, serve, serve_whole_lines};
 use std::alloc::Global;
 use std::hash::RandomState;
 
-/// A store that answers each event by a step.
+/// A store that answers each event by a step, and builds nothing: a wait has ended at once.
 #[derive(Drop)]
 struct Store {
     core: Core,
@@ -19,8 +19,14 @@ struct Store {
 impl session::Answer for Store {
     ghost answers = { λ old event reply new. Unit {0} };
 
+    ghost waited = { λ old goals reply new. Unit {0} };
+
     fn call(&mut self, alloc: Global, event: Event) -> Reply {
         self.core.step(alloc, event)
+    }
+
+    fn wait(&mut self, _alloc: Global, _goals: &[Job]) -> Reply {
+        Reply::Done
     }
 }
 
@@ -74,25 +80,27 @@ fn tell_talk(
     tell_devices(source, &sink, out);
 }
 
-/// `INPUT`: answers the input to alice and bob a line at a time.
+/// `INPUT`: answers the input, of lines of that mode, to alice and bob a line at a time.
 pub(crate) fn lines(
     alloc: Global,
     hashing: RandomState,
+    mode: Mode,
     argument: &str,
     out: &mut Answer,
 ) -> Result<(), Refusal> {
     let mut store = new_store(alloc, hashing)?;
-    tell_lines(alloc, argument, &mut store, out)
+    tell_lines(alloc, mode, argument, &mut store, out)
 }
 
-/// Adds what lines get in a session.
+/// Adds what lines get in a session of that mode.
 fn tell_lines(
     alloc: Global,
+    mode: Mode,
     lines: &str,
     store: &mut Store,
     out: &mut Answer,
 ) -> Result<(), Refusal> {
-    let mut session = Session::new(alloc, Mode::Service);
+    let mut session = Session::new(alloc, mode);
     for line in lines.split(';') {
         tell_line(alloc, line, &mut session, store, out)?;
     }

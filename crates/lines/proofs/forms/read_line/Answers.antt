@@ -8,6 +8,6 @@ pub returns-in_default-clause-read : goal.returns-in_default-clause-read
 returns-in_default-clause-read c =
     let told = c.args.told.now in
     let line = c.args.line.now in
-    let e = line_form-text c.args.begun told line (Some line) c.if-line-gt-LONGEST_LINE.false (sym c.is_quiet.ensures ∙ c.if-is_quiet.false)
+    let e = line_form-text c.args.mode c.args.begun told line (Some line) c.if-line-gt-LONGEST_LINE.false (sym c.is_quiet.ensures ∙ c.if-is_quiet.false)
     (sym c.is_printable.ensures ∙ c.if-not-is_printable.false) (fill-plain told line c.in_default.ensures.parts) in
     subst (λ (f : Form). IfOk c.read_text.result (Becomes f)) (sym e) c.read_text.ensures.read

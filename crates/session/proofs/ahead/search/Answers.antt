@@ -33,9 +33,9 @@ pub returns-then-n-eq0-clause-users : goal.returns-then-n-eq0-clause-users
 returns-then-n-eq0-clause-users g c = λ f more e.
     let i = c.loop.invariant in
     let bytes = c.loop.bytes.items in
-    let held : Searched bytes c.loop.session c.as_slice.result.now =
-    subst (λ (t : List ℕ). Searched bytes c.loop.session t) (sym c.as_slice.ensures.value) i.1 in
-    rw (e refl, append-nil) (c.in_ok-users.ensures.found bytes held)
+    let held : Searched c.args.session.now.mode bytes c.loop.session c.as_slice.result.now =
+    subst (λ (t : List ℕ). Searched c.args.session.now.mode bytes c.loop.session t) (sym c.as_slice.ensures.value) i.1 in
+    rw (e refl, append-nil) (c.in_ok-users.ensures.found c.args.session.now.mode bytes held)
 
 pub loop-preserved : goal.loop-preserved
 loop-preserved g c =
@@ -44,13 +44,13 @@ loop-preserved g c =
     let piece = c.split_at.result.0.now in
     rw c.in_ok-extend_from_slice.ensures.items (
       consumes-more _ _ _ c.loop.bytes.items piece i.0 (rw c.split_at.ensures.front s.1),
-      rw c.in-Other.is at (c.in_ok-users-2.ensures.found c.loop.bytes.items i.1),
+      rw c.in-Other.is at (c.in_ok-users-2.ensures.found c.args.session.now.mode c.loop.bytes.items i.1),
     )
 
 pub returns-in-loop-clause-users : goal.returns-in-loop-clause-users
 returns-in-loop-clause-users g c = λ f more e.
     let i = c.loop.invariant in
-    let found = c.in_ok-users-2.ensures.found c.loop.bytes.items i.1 in
+    let found = c.in_ok-users-2.ensures.found c.args.session.now.mode c.loop.bytes.items i.1 in
     elim c.match-branch-4.branch [
       | in-Users w ↦ rw (w.users-is, c.in_ok-extend_from_slice.ensures.items) (let look = rw w.in-Users.is at found in look more)
       | in-Refused w ↦ rw (w.users-is, c.in_ok-extend_from_slice.ensures.items) (let look = rw w.in-Refused.is at found in look more)

@@ -1,6 +1,5 @@
 use Rattle.std.proofs.Common.{inr, refl, ◌∙◌, subst, sym, [], ◌∷◌, ◌++◌}
-use Rattle.model.specs.Talk.{form_of}
-use Rattle.session.specs.Serving.{Progress}
+use Rattle.session.specs.Serving.{Link, Progress}
 use Rattle.session.proofs.RowLemmas.{err-is, appends-flushed, written-flushed}
 use Rattle.session.proofs.SessionLemmas.{part-gets, line-gives}
 use Rattle.session.proofs.ProgressLemmas.{early-here, early-memory, early-write, early-refused, progress-write, by_memory, by_output}
@@ -8,55 +7,55 @@ use Rattle.session.proofs.ProgressLemmas.{own_memory, own_output, memory_not_out
 use Rattle.session.proofs.serving.end_line.Goals as goal
 
 pub returns-in_err-reading-clause-err : goal.returns-in_err-reading-clause-err
-returns-in_err-reading-clause-err g c = err-is _ _ _ c.from_residual.ensures.1 (λ more first blank input p.
-    early-here g.A.Answer.answers first blank c.args.answer.now (g.W.Write.contents c.args.writer.now) input c.args.session.now c.args.held.now.items
+returns-in_err-reading-clause-err g c = err-is _ _ _ c.from_residual.ensures.1 (λ more mode first blank input p.
+    early-here (Link g.A.Answer.answers g.A.Answer.waited) first blank c.args.answer.now (g.W.Write.contents c.args.writer.now) input c.args.session.now c.args.held.now.items
     (10 ∷ more) _ (by_memory _ c.in_err-reading.ensures.memory) p)
 
 pub returns-in_err-text-clause-err : goal.returns-in_err-text-clause-err
-returns-in_err-text-clause-err g c = err-is _ _ _ c.from_residual-in_err-text.ensures.1 (λ more first blank input p.
-    early-memory g.A.Answer.answers first blank c.args.answer.now c.answer.new.answer
+returns-in_err-text-clause-err g c = err-is _ _ _ c.from_residual-in_err-text.ensures.1 (λ more mode first blank input p.
+    early-memory (Link g.A.Answer.answers g.A.Answer.waited) first blank c.args.answer.now c.answer.new.answer
     (g.W.Write.contents c.args.writer.now) input c.args.session.now c.args.held.now.items c.as_slice.result.now more _
     (by_memory _ c.in_err-text.ensures.memory) c.as_slice.ensures.value p
-    (part-gets g.A.Answer.answers (form_of c.args.session.now c.as_slice.result.now) c.in_ok-reading.reading c.args.answer.now c.answer.new.answer
+    (part-gets (Link g.A.Answer.answers g.A.Answer.waited) c.args.session.now c.as_slice.result.now c.in_ok-reading.reading c.args.answer.now c.answer.new.answer
     c.in_ok-reading.ensures.read c.in_err-text.ensures.err))
 
 pub returns-in_err-write_whole-clause-err : goal.returns-in_err-write_whole-clause-err
-returns-in_err-write_whole-clause-err g c = err-is _ _ _ c.from_residual-in_err-write_whole.ensures.1 (λ more first blank input p.
-    early-write g.A.Answer.answers first blank c.args.answer.now c.answer.new.answer (g.W.Write.contents c.args.writer.now)
+returns-in_err-write_whole-clause-err g c = err-is _ _ _ c.from_residual-in_err-write_whole.ensures.1 (λ more mode first blank input p.
+    early-write (Link g.A.Answer.answers g.A.Answer.waited) first blank c.args.answer.now c.answer.new.answer (g.W.Write.contents c.args.writer.now)
     (g.W.Write.contents c.write_whole.new.writer) input c.args.session.now c.answer.new.self c.args.held.now.items c.as_slice.result.now
     c.in_ok-text.text.items c.as_slice-2.result.now more _
     (by_output _ c.in_err-write_whole.ensures.errors) c.as_slice.ensures.value c.as_slice-2.ensures.value
-    (line-gives g.A.Answer.answers c.args.session.now c.as_slice.result.now c.in_ok-reading.reading c.args.answer.now c.answer.new.self
+    (line-gives (Link g.A.Answer.answers g.A.Answer.waited) c.args.session.now c.as_slice.result.now c.in_ok-reading.reading c.args.answer.now c.answer.new.self
     c.answer.new.answer c.in_ok-text.text.items c.in_ok-reading.ensures.read c.in_ok-text.ensures.ok)
     p c.in_err-write_whole.ensures.err)
 
 pub returns-in_err-flush-clause-err : goal.returns-in_err-flush-clause-err
-returns-in_err-flush-clause-err g c = err-is _ _ _ c.from_residual-in_err-flush.ensures.1 (λ more first blank input p.
-    early-write g.A.Answer.answers first blank c.args.answer.now c.answer.new.answer (g.W.Write.contents c.args.writer.now)
+returns-in_err-flush-clause-err g c = err-is _ _ _ c.from_residual-in_err-flush.ensures.1 (λ more mode first blank input p.
+    early-write (Link g.A.Answer.answers g.A.Answer.waited) first blank c.args.answer.now c.answer.new.answer (g.W.Write.contents c.args.writer.now)
     (g.W.Write.contents c.flush.new.writer) input c.args.session.now c.answer.new.self c.args.held.now.items c.as_slice.result.now
     c.in_ok-text.text.items c.as_slice-2.result.now more _
     (by_output _ c.in_err-flush.ensures.errors) c.as_slice.ensures.value c.as_slice-2.ensures.value
-    (line-gives g.A.Answer.answers c.args.session.now c.as_slice.result.now c.in_ok-reading.reading c.args.answer.now c.answer.new.self
+    (line-gives (Link g.A.Answer.answers g.A.Answer.waited) c.args.session.now c.as_slice.result.now c.in_ok-reading.reading c.args.answer.now c.answer.new.self
     c.answer.new.answer c.in_ok-text.text.items c.in_ok-reading.ensures.read c.in_ok-text.ensures.ok)
     p (written-flushed _ _ _ _ c.in_ok-write_whole.ensures.ok c.in_err-flush.ensures.kept))
 
 pub returns-then-is_refused-clause-err : goal.returns-then-is_refused-clause-err
-returns-then-is_refused-clause-err g c = λ more first blank input p.
-    early-refused g.A.Answer.answers first blank c.args.answer.now c.answer.new.answer (g.W.Write.contents c.args.writer.now)
+returns-then-is_refused-clause-err g c = λ more mode first blank input p.
+    early-refused (Link g.A.Answer.answers g.A.Answer.waited) first blank c.args.answer.now c.answer.new.answer (g.W.Write.contents c.args.writer.now)
     (g.W.Write.contents c.flush.new.writer) input c.args.session.now c.answer.new.self c.args.held.now.items c.as_slice.result.now
     c.in_ok-text.text.items c.as_slice-2.result.now more _ c.as_slice.ensures.value c.as_slice-2.ensures.value
-    (line-gives g.A.Answer.answers c.args.session.now c.as_slice.result.now c.in_ok-reading.reading c.args.answer.now c.answer.new.self
+    (line-gives (Link g.A.Answer.answers g.A.Answer.waited) c.args.session.now c.as_slice.result.now c.in_ok-reading.reading c.args.answer.now c.answer.new.self
     c.answer.new.answer c.in_ok-text.text.items c.in_ok-reading.ensures.read c.in_ok-text.ensures.ok)
     p (appends-flushed _ _ _ _ c.in_ok-write_whole.ensures.ok c.in_ok-flush.ensures.kept) (sym c.is_refused.ensures ∙ c.if-is_refused.true)
 
 pub returns-clause-ok : goal.returns-clause-ok
-returns-clause-ok g c = λ first blank input p.
-    subst (λ t. Progress g.A.Answer.answers first c.answer.new.answer blank (g.W.Write.contents c.write_whole.new.writer)
+returns-clause-ok g c = λ mode first blank input p.
+    subst (λ t. Progress mode (Link g.A.Answer.answers g.A.Answer.waited) first c.answer.new.answer blank (g.W.Write.contents c.write_whole.new.writer)
     (input ++ 10 ∷ []) c.answer.new.self t) (sym c.new.ensures.items)
-    (progress-write g.A.Answer.answers first blank c.args.answer.now c.answer.new.answer (g.W.Write.contents c.args.writer.now)
+    (progress-write (Link g.A.Answer.answers g.A.Answer.waited) first blank c.args.answer.now c.answer.new.answer (g.W.Write.contents c.args.writer.now)
     (g.W.Write.contents c.write_whole.new.writer) input c.args.session.now c.answer.new.self c.args.held.now.items c.as_slice.result.now
     c.in_ok-text.text.items c.as_slice-2.result.now c.as_slice.ensures.value c.as_slice-2.ensures.value
-    (line-gives g.A.Answer.answers c.args.session.now c.as_slice.result.now c.in_ok-reading.reading c.args.answer.now c.answer.new.self
+    (line-gives (Link g.A.Answer.answers g.A.Answer.waited) c.args.session.now c.as_slice.result.now c.in_ok-reading.reading c.args.answer.now c.answer.new.self
     c.answer.new.answer c.in_ok-text.text.items c.in_ok-reading.ensures.read c.in_ok-text.ensures.ok)
     p c.in_ok-write_whole.ensures.ok (sym c.is_refused.ensures ∙ c.if-is_refused.false))
 

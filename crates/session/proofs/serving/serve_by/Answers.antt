@@ -1,4 +1,5 @@
 use Rattle.std.proofs.Common.{inl, inr, refl, [], ◌++◌}
+use Rattle.session.specs.Serving.{Link}
 use Rattle.session.proofs.RowLemmas.{err-is, consumes-none, consumes-more, consumes-end}
 use Rattle.session.proofs.ProgressLemmas.{progress-none, early-here, early-weakened, by_memory, by_input}
 use Rattle.session.proofs.ProgressLemmas.{own_memory, memory_not_input, memory_not_output, input_not_output, own_not_input}
@@ -9,7 +10,7 @@ loop-init g c = (
   [],
   consumes-none _,
   rw (c.requires.1, c.requires.0)
-      (progress-none g.A.Answer.answers c.args.answer.now (g.W.Write.contents c.args.writer.now)),
+      (progress-none (Link g.A.Answer.answers g.A.Answer.waited) c.args.answer.now (g.W.Write.contents c.args.writer.now)),
 )
 
 pub returns-in_err-n-clause-err : goal.returns-in_err-n-clause-err
@@ -19,7 +20,7 @@ returns-in_err-n-clause-err g c =
       i.0 ++ [],
       consumes-more _ _ _ i.0 [] i.1 c.in_err-n.ensures.err,
       early-weakened _ _ _ _ _ _ _ _ _ (λ b. absurd b)
-          (early-here g.A.Answer.answers c.args.answer.now (g.W.Write.contents c.args.writer.now) _ _ i.0 _ _ [] c.in_err-n.field-0.0
+          (early-here (Link g.A.Answer.answers g.A.Answer.waited) c.args.answer.now (g.W.Write.contents c.args.writer.now) _ _ i.0 _ _ [] c.in_err-n.field-0.0
           (by_input _ c.in_err-n.ensures.fault.0) i.2),
     )
 
@@ -31,7 +32,7 @@ returns-in_err-close-clause-err g c =
       i.0,
       consumes-end _ _ _ i.0 _ c.in-Some.n c.if-n-eq0.true i.1 s.1,
       early-weakened _ _ _ _ _ _ _ _ _ (λ t. s.2 c.if-n-eq0.true)
-          (c.in_err-close.ensures.err c.args.answer.now (g.W.Write.contents c.args.writer.now) i.0 i.2),
+          (c.in_err-close.ensures.err c.args.session.now.mode c.args.answer.now (g.W.Write.contents c.args.writer.now) i.0 i.2),
     )
 
 pub returns-then-n-eq0-clause-ok : goal.returns-then-n-eq0-clause-ok
@@ -41,7 +42,7 @@ returns-then-n-eq0-clause-ok g c =
       i.0,
       consumes-end _ _ _ i.0 _ c.in-Some.n c.if-n-eq0.true i.1 s.1,
       s.2 c.if-n-eq0.true,
-      c.in_ok-close.ensures.ok c.args.answer.now (g.W.Write.contents c.args.writer.now) i.0 i.2,
+      c.in_ok-close.ensures.ok c.args.session.now.mode c.args.answer.now (g.W.Write.contents c.args.writer.now) i.0 i.2,
     )
 
 pub returns-in_err-feed-clause-err : goal.returns-in_err-feed-clause-err
@@ -53,7 +54,7 @@ returns-in_err-feed-clause-err g c =
       i.0 ++ piece,
       consumes-more _ _ _ i.0 piece i.1 (rw c.split_at.ensures.front s.1),
       early-weakened _ _ _ _ _ _ _ _ _ (λ b. absurd b)
-          (c.in_err-feed.ensures.err c.args.answer.now (g.W.Write.contents c.args.writer.now) i.0 i.2),
+          (c.in_err-feed.ensures.err c.args.session.now.mode c.args.answer.now (g.W.Write.contents c.args.writer.now) i.0 i.2),
     )
 
 pub loop-preserved-in_default : goal.loop-preserved-in_default
@@ -69,7 +70,7 @@ loop-preserved g c =
     let piece = c.split_at.result.0.now in (
       i.0 ++ piece,
       consumes-more _ _ _ i.0 piece i.1 (rw c.split_at.ensures.front s.1),
-      c.in_ok-feed.ensures.ok c.args.answer.now (g.W.Write.contents c.args.writer.now) i.0 i.2,
+      c.in_ok-feed.ensures.ok c.args.session.now.mode c.args.answer.now (g.W.Write.contents c.args.writer.now) i.0 i.2,
     )
 
 pub returns-clause-err : goal.returns-clause-err
@@ -78,7 +79,7 @@ returns-clause-err g c =
       i.0 ++ [],
       consumes-more _ _ _ i.0 [] i.1 (consumes-none _),
       early-weakened _ _ _ _ _ _ _ _ _ (λ b. absurd b)
-          (early-here g.A.Answer.answers c.args.answer.now (g.W.Write.contents c.args.writer.now) _ _ i.0 _ _ [] _ (by_memory _ refl) i.2),
+          (early-here (Link g.A.Answer.answers g.A.Answer.waited) c.args.answer.now (g.W.Write.contents c.args.writer.now) _ _ i.0 _ _ [] _ (by_memory _ refl) i.2),
     )
 
 -- ---- which errors there are, and the faults that they come of

@@ -1,0 +1,70 @@
+-- What is told of the job that a goal leads.
+use Rattle.std.proofs.Common.{◌≡◌, ℕ, Bool, true, false, inl, inr, List, refl, sym, ◌∙◌, ap, subst, Option, Some, None, Result, Ok, Err}
+use Rattle.std.specs.Prelude.{◌≢◌, if◌then◌else◌, MatchResult}
+use mathlib.Core.List.{IsPrefix}
+use Rattle.model.specs.declared.refusal.Refusal.{Refusal}
+use Rattle.model.specs.declared.refusal.Refusal.TheVariants.{Memory, UnknownUser, WrongState}
+use Rattle.model.specs.Paths.{NoClash}
+use Rattle.model.specs.Reach.{is_among}
+use Rattle.model.specs.Worlds.{Setup, World, nothing, Resolved, Job, Goal}
+use Rattle.model.specs.Goals.{goal_at, is_in, Running}
+use Rattle.model.specs.RunningJobs.{with_kept, led_job, job_led_by}
+use Rattle.model.specs.KeptClosures.{IsWellKept, KeptClosuresAreGood}
+use Rattle.model.specs.Steps.{world_after}
+use Rattle.model.specs.HashedTexts.{hashed}
+use Rattle.leading.specs.Asking.{IsAnswerTo}
+use Rattle.passes.specs.declared.row.Row.{Row}
+use Rattle.passes.specs.Callers.{Caller}
+use Rattle.schedule.specs.declared.state.Core.{Core}
+use Rattle.schedule.specs.Standing.{world_of, setup_of}
+use Rattle.schedule.specs.Asking.{job_asked_for}
+use Rattle.book.specs.Histories.{events_of, IsLegal}
+use Rattle.book.specs.Keeping.{StandsFor}
+use Rattle.book.specs.Asking.{IsAsked}
+
+-- ---- a goal that leads a job keeps what is told
+
+if_ok : {X : Type 0} (b : Bool) (o : Result X Refusal) (why : Refusal) (x : X) → (if b then o else Err why) ≡ Ok x → o ≡ Ok x
+if_ok true o why x e = e
+if_ok false o why x e = absurd (cc)
+
+kept_ok : (job : Job) (kept : Option Resolved) (r : Running) → with_kept job kept ≡ Ok r → kept ≡ Some r.resolved
+kept_ok job None r e = absurd (cc)
+kept_ok job (Some k) r e = ap (λ (q : Running). Some q.resolved) (same_job (with_kept job (Some k)) (record { job = job; resolved = k }) r refl e)
+  where
+    same_job : (o : Result Running Refusal) (q r : Running) → o ≡ Ok q → o ≡ Ok r → q ≡ r
+    same_job o q r first second = cc
+
+led_ok : (job : Job) (o : Option Goal) (r : Running) → led_job job o ≡ Ok r → (g : Goal) × (o ≡ Some g) × (g.resolved ≡ Some r.resolved)
+led_ok job None r e = absurd (cc)
+led_ok job (Some g) r e = (g, refl, kept_ok job g.resolved r (if_ok (is_in job g.state) (with_kept job g.resolved) WrongState r e))
+
+leads_kept : (setup : Setup) (w : World) (u : List ℕ) (n : ℕ) (r : Running) → job_led_by setup w u n ≡ Ok r
+    → (g : Goal) × (goal_at n (w u).goals ≡ Some g) × (g.resolved ≡ Some r.resolved)
+leads_kept setup w u n r e =
+    let job : Job = record { leader = u; number = n } in
+    led_ok job (goal_at n (w u).goals) r (if_ok (is_among u setup.users) (led_job job (goal_at n (w u).goals)) UnknownUser r e)
+
+-- ---- what a book tells
+
+told_ok : (answer told : Result Running Refusal) → IsAnswerTo answer told → (job : Running) → told ≡ Ok job → answer ≡ Ok job
+told_ok answer (Ok r) is job e = is.value ∙ e
+told_ok answer (Err why) is job e = absurd (cc)
+
+-- where the core stands for the world that the rows reach, what it tells is so after them
+pub is_asked : (law : KeptClosuresAreGood) (setup : Setup) (pass : Caller) (core : Core) (rows : List Row) (user : List ℕ) (number : ℕ) (told : Result Running Refusal)
+    → IsPrefix pass.sure rows → IsLegal setup rows → setup_of core ≡ setup → StandsFor setup core rows → IsAnswerTo (job_asked_for core user number) told
+    → IsAsked setup pass user number told
+is_asked law setup pass core rows user number told longer legal given stands is = record {
+  rows = rows;
+  longer = longer;
+  legal = legal;
+  same = same;
+  kept = λ clean job ok.
+      let led = leads_kept setup (world_after setup nothing (events_of rows)) user number job (told_ok _ told (same clean) job ok) in
+      law setup (events_of rows) user number led.0 job.resolved (legal.good clean) led.1 led.2;
+}
+  where
+    same : NoClash (hashed setup nothing (events_of rows)) → IsAnswerTo (job_led_by setup (world_after setup nothing (events_of rows)) user number) told
+    same clean = subst (λ (s : Setup). IsAnswerTo (job_led_by s (world_after setup nothing (events_of rows)) user number) told) given
+        (subst (λ (w : World). IsAnswerTo (job_led_by (setup_of core) w user number) told) (stands clean) is)

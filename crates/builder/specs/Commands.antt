@@ -1,0 +1,38 @@
+-- What a process is started with.
+use Rattle.std.specs.Prelude.{◌≡◌, ℕ, true, List, [], ◌∷◌, ◌++◌, codes, decimal, bytes_eq, Option, Some, None, if◌then◌else◌}
+use Rattle.std.specs.Global.{Global}
+use Rattle.std.specs.Path.{path_join}
+use Rattle.std.specs.Process.{command_program, command_args, command_var, clears_env}
+use Rattle.std.specs.declared.process.command.Command.{Command}
+use Rattle.model.specs.Derivations.{Derivation}
+use Rattle.model.specs.Worlds.{Job}
+
+-- what a variable is set to by the pairs of an environment, one after another, where it was set to `before`
+abbrev pub variable_after : List ℕ → Option (Option (List ℕ)) → List (List ℕ × List ℕ) → Option (Option (List ℕ))
+variable_after name before [] = before
+variable_after name before (p ∷ ps) = variable_after name (if bytes_eq p.0 name then Some (Some p.1) else before) ps
+
+-- one variable is set, and no other is changed
+abbrev pub SetsVariable : Command Global → List ℕ → List ℕ → Command Global → Type 0
+SetsVariable old key value new = (name : List ℕ) → command_var new name ≡ (if bytes_eq key name then Some (Some value) else command_var old name)
+
+-- the variables of an environment are set one after another
+abbrev pub Sets : Command Global → List (List ℕ × List ℕ) → Command Global → Type 0
+Sets old environment new = (name : List ℕ) → command_var new name ≡ variable_after name (command_var old name) environment
+
+-- the environment of a process: that of the derivation, and behind it the path under which it is built and the name of
+-- its file of inputs
+abbrev pub environment_of : Derivation → List ℕ → List ℕ → List (List ℕ × List ℕ)
+environment_of d scratch inputs = d.environment ++ (codes "out", scratch) ∷ (codes "INPUTS", inputs) ∷ []
+
+-- the program is named by the builder, in the folder of builders unless it begins with `/`; the arguments are those of
+-- the derivation, and the variables are those of the environment and no others
+pub record IsCommandFor (d : Derivation) (scratch builders inputs : List ℕ) (command : Command Global) : Type 0 where
+  pub program : command_program command ≡ path_join builders d.builder
+  pub arguments : command_args command ≡ d.arguments
+  pub clears : clears_env command ≡ true
+  pub variables : (name : List ℕ) → command_var command name ≡ variable_after name None (environment_of d scratch inputs)
+
+-- the name of the file of a job's inputs, in this folder
+abbrev pub inputs_path : List ℕ → Job → List ℕ
+inputs_path work job = path_join work (((codes "inputs-" ++ job.leader) ++ codes "-") ++ decimal job.number)

@@ -1,0 +1,6 @@
+pub mod Meaning
+pub mod Commands
+pub mod Steps
+pub mod Running
+pub mod Building
+pub mod Given

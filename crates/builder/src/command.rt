@@ -1,0 +1,132 @@
+//! What a process is started with.
+
+ghost use Rattle.std.specs.Prelude.{◌≡◌, ◌++◌, [], ℕ, true, List, None, IfOk, OnOk};
+ghost use Rattle.std.specs.List.{list_all};
+ghost use Rattle.std.specs.Str.{IsUtf8};
+ghost use Rattle.std.specs.Path.{path_bytes, path_buf_bytes};
+ghost use Rattle.std.specs.Process.{SameEnv, SameProgramAndArgs, clears_env, command_args, command_program, command_var};
+ghost use Rattle.model.specs.Derivations.{is_text, is_variable};
+ghost use Rattle.model.specs.Worlds.{is_user_name};
+ghost use Rattle.builder.specs.Commands.{IsCommandFor, Sets, SetsVariable, inputs_path};
+
+use derivation::{Derivation, Text};
+use states::Job;
+use std::alloc::{AllocError, Global};
+use std::path::{Path, PathBuf};
+use std::process::Command;
+use storepath::StorePath;
+
+/// Bytes of text, as one.
+fn text_of(bytes: &[u8]) -> &str
+    requires { IsUtf8 bytes.now }
+    ensures { result.now ≡ bytes.now }
+{
+    match str::from_utf8(bytes) {
+        Ok(text) => text,
+        Err(_) => unreachable!(),
+    }
+}
+
+/// A string of a derivation, as a text.
+#[tactic(auto, using(crate::proofs::TextLemmas::string_is_text))]
+fn text_of_string(string: &Text) -> &str
+    requires { is_text string.now ≡ true }
+    ensures { result.now ≡ string.now }
+{
+    text_of(string.bytes())
+}
+
+/// A path, as a text.
+#[tactic(auto, using(crate::proofs::TextLemmas::path_is_text))]
+fn text_of_path(path: &StorePath) -> &str
+    ensures { result.now ≡ path.now }
+{
+    text_of(path.bytes())
+}
+
+/// The name of the file of a job's inputs: `inputs-`, the name of its leader, `-` and the number of the goal
+/// that leads it, in this folder. The one error is memory.
+#[tactic(auto, using(crate::proofs::TextLemmas::user_is_text))]
+pub(crate) fn inputs_path(alloc: Global, work: Path<'_>, job: &Job) -> Result<PathBuf, AllocError>
+    requires { is_user_name job.now.leader ≡ true }
+    ensures { IfOk result (λ path. path_buf_bytes path ≡ inputs_path (path_bytes work.entry) job.now) }
+{
+    let number = job.number().to_string(alloc)?;
+    let mut name = String::from_str(alloc, "inputs-")?;
+    name.push_str(text_of(job.leader().bytes()))?;
+    name.push_str("-")?;
+    name.push_str(number.as_str())?;
+    work.join(alloc, name.as_str())
+}
+
+/// Gives a command these arguments behind its own.
+fn add_arguments(command: &mut Command, arguments: &[Text]) -> Result<(), AllocError>
+    requires { list_all is_text arguments.now ≡ true }
+    ensures arguments { OnOk result (command_args command.new ≡ command_args command.old ++ arguments.now) }
+    ensures program { OnOk result (command_program command.new ≡ command_program command.old) }
+    ensures environment { OnOk result (SameEnv command.old command.new) }
+{
+    for argument in arguments {
+        command.arg(text_of_string(argument))?;
+    }
+    Ok(())
+}
+
+/// Sets a variable, and leaves the others.
+fn set_variable(command: &mut Command, key: &str, value: &str) -> Result<(), AllocError>
+    ensures set { OnOk result (SetsVariable command.old key.now value.now command.new) }
+    ensures call { OnOk result (SameProgramAndArgs command.old command.new) }
+    ensures clears { OnOk result (clears_env command.new ≡ clears_env command.old) }
+{
+    command.env(key, value)?;
+    Ok(())
+}
+
+/// Sets the variables of an environment, one after another.
+fn set_variables(command: &mut Command, environment: &[(Text, Text)]) -> Result<(), AllocError>
+    requires { list_all is_variable environment.now ≡ true }
+    ensures sets { OnOk result (Sets command.old environment.now command.new) }
+    ensures call { OnOk result (SameProgramAndArgs command.old command.new) }
+    ensures clears { OnOk result (clears_env command.new ≡ clears_env command.old) }
+{
+    for variable in environment {
+        set_variable(
+            command,
+            text_of_string(&variable.0),
+            text_of_string(&variable.1),
+        )?;
+    }
+    Ok(())
+}
+
+/// A program with no arguments and no variables.
+fn alone(alloc: Global, program: PathBuf) -> Result<Command, AllocError>
+    ensures program { IfOk result (λ command. command_program command ≡ path_buf_bytes program) }
+    ensures arguments { IfOk result (λ command. command_args command ≡ []) }
+    ensures clears { IfOk result (λ command. clears_env command ≡ true) }
+    ensures variables { IfOk result (λ command. (name : List ℕ) → command_var command name ≡ None) }
+{
+    let mut command = Command::new(alloc, program)?;
+    command.env_clear();
+    Ok(command)
+}
+
+/// What the process is started with that builds a derivation under this path. The one error is memory.
+pub(crate) fn command_for(
+    alloc: Global,
+    derivation: &Derivation,
+    scratch: &StorePath,
+    builders: Path<'_>,
+    inputs: &str,
+) -> Result<Command, AllocError>
+    ensures { IfOk result (IsCommandFor derivation.now scratch.now (path_bytes builders.entry) inputs.now) }
+{
+    let parts = derivation.parts();
+    let program = builders.join(alloc, text_of_string(&parts.builder))?;
+    let mut command = alone(alloc, program)?;
+    add_arguments(&mut command, &parts.arguments)?;
+    set_variables(&mut command, &parts.environment)?;
+    set_variable(&mut command, "out", text_of_path(scratch))?;
+    set_variable(&mut command, "INPUTS", inputs)?;
+    Ok(command)
+}

@@ -1,0 +1,63 @@
+//! Writing the file of inputs.
+
+ghost use Rattle.std.specs.Prelude.{◌∷◌, [], OnOk};
+ghost use Rattle.std.specs.Io.KnownBytes.{Appends};
+ghost use Rattle.model.specs.Inputs.{input_of, input_text, inputs_behind, inputs_of, inputs_text};
+
+use crate::outside::Failure;
+use closures::Entry;
+use nar::{encode, str_text};
+use std::alloc::Global;
+use std::io::Write;
+
+/// Writes a text.
+fn write_text<W: Write>(writer: &mut W, text: &[u8]) -> Result<(), Failure>
+    ensures { OnOk result (Appends (W.contents writer.old) (W.contents writer.new) text.now) }
+{
+    Ok(writer.write_all(text)?)
+}
+
+/// Writes an input: its path, and the archive of its tree.
+fn write_input<W: Write>(alloc: Global, writer: &mut W, entry: &Entry) -> Result<(), Failure>
+    ensures { OnOk result (Appends (W.contents writer.old) (W.contents writer.new) (input_text (input_of entry.now))) }
+{
+    let path = str_text(alloc, entry.path().bytes())?;
+    write_text(writer, &path)?;
+    let archive = encode(alloc, entry.tree())?;
+    let archive = str_text(alloc, archive.bytes())?;
+    write_text(writer, &archive)
+}
+
+/// Writes an input, unless the last one has its path.
+fn write_unless_written<W: Write>(
+    alloc: Global,
+    writer: &mut W,
+    last: &[u8],
+    entry: &Entry,
+) -> Result<(), Failure>
+    ensures { OnOk result (Appends (W.contents writer.old) (W.contents writer.new)
+        (inputs_text (inputs_behind last.now (entry.now ∷ [])))) }
+{
+    if entry.path().bytes() == last {
+        return Ok(());
+    }
+    write_input(alloc, writer, entry)
+}
+
+/// Writes the inputs of a closure, whose entries stand in the order of paths: each path once. No more than
+/// one archive is in memory at a time.
+pub(crate) fn write_inputs<W: Write>(
+    alloc: Global,
+    writer: &mut W,
+    closure: &[Entry],
+) -> Result<(), Failure>
+    ensures { OnOk result (Appends (W.contents writer.old) (W.contents writer.new)
+        (inputs_text (inputs_of closure.now))) }
+{
+    let mut last = b"".as_slice();
+    for entry in closure {
+        write_unless_written(alloc, writer, last, entry)?;
+        last = entry.path().bytes();
+    }
+    Ok(())
+}

@@ -1,0 +1,478 @@
+-- What goals keep was found when they were planned, and nothing else changes it.
+use Rattle.std.proofs.Common.{◌≡◌, ℕ, zero, suc, Bool, true, false, ◌⊎◌, inl, inr, refl, sym, ◌∙◌, ap, subst, List, [], ◌∷◌, ◌++◌, Option, Some, None, Result, Ok, Err}
+use Rattle.std.specs.Prelude.{All, if◌then◌else◌, is_some, bytes_eq, slice_get, slice_set}
+use Rattle.std.proofs.lemmas.Bool.{cond_both}
+use Rattle.std.proofs.lemmas.List.{append-nil, append_assoc}
+use Rattle.std.proofs.lemmas.List.Elements.{All-nil, All-cons, All-append, All-set, All-head, All-tail}
+use Rattle.model.specs.declared.refusal.Refusal.{Refusal}
+use Rattle.model.specs.declared.refusal.Refusal.TheVariants.{UnknownUser, Quota, UnknownDerivation, UnknownGoal, WrongState, NotRealised, BuilderFailed}
+use Rattle.model.specs.Derivations.{Derivation}
+use Rattle.model.specs.Classes.{Admission, Known, known_at}
+use Rattle.model.specs.Worlds.{Setup, Resolved, Record, State, Waiting, Planned, Building, Done, Failed, Goal, Desk, World, nothing, is_user, known_of, has_record, with_record, is_within, with_trust, Entry, with_entries}
+use Rattle.model.specs.Worlds as worlds
+use Rattle.model.specs.Goals.{goal_at, with_goal_at, with_goal, in_state, new_goal, as_seen, is_waiting, planned_in, members, job_of}
+use Rattle.model.specs.Endings.{End, Output, Failure, built_record, done_with, with_output, ended_with, ended_goal, ended_goals}
+use Rattle.model.specs.Choices as choices
+use Rattle.model.specs.Closures as closures
+use Rattle.model.specs.Resolutions.{input_classes, resolved_over, resolve}
+use Rattle.model.specs.Events.{Request, AddSource, AddDerivation, Offer, Fetch, Trust, Distrust, Pin, Unpin, Closure, Take, Build, Status, Plan, Start, Finish, Fail, Event, Reply, GoalState}
+use Rattle.model.specs.Outcomes.{reaches, Sight, sight_of, News, Quiet, Ended, Change, Outcome, becomes, check, need, reply_of, heard, desk_after}
+use Rattle.model.specs.GoalRequests.{own_job, turns, plan_resolved, resolve_for, plan_goal, start_goal}
+use Rattle.model.specs.GoalRequests as requests
+use Rattle.model.specs.EndRequests.{end_job}
+use Rattle.model.specs.Steps.{outcome, outcome_of, reply_to, after, world_after}
+use Rattle.model.specs.GivenClosures.{IsGoodFor, KeepsGoodClosure, GiveGoodClosures}
+use Rattle.model.specs.KeptClosures.{planning, IsWellKept, KeptClosuresAreGood, is_planned, PlannedGoalsKeep}
+use Rattle.model.proofs.BoolLemmas.{either, same_bytes, bytes_same}
+use Rattle.laws.proofs.OutcomeLemmas.{one_of, checked, needed}
+use Rattle.laws.proofs.SourceRequestLemmas.{add_source_cases, fetch_cases}
+use Rattle.laws.proofs.DerivationRequestLemmas.{add_derivation_cases}
+use Rattle.laws.proofs.OfferRequestLemmas.{offer_cases}
+use Rattle.laws.proofs.TrustRequestLemmas.{trust_cases, distrust_cases}
+use Rattle.laws.proofs.PinRequestLemmas.{pin_cases}
+use Rattle.laws.proofs.ClosureRequestLemmas.{closure_cases, take_cases}
+use Rattle.laws.proofs.GoalRequestLemmas.{planned_goal, build_cases, status_cases}
+use Rattle.laws.proofs.EndRequestLemmas.{end_job_cases}
+use Rattle.laws.proofs.EntriesLemmas.{entries_added}
+use Rattle.laws.proofs.ServedLemmas.{then_ok, some_same}
+use Rattle.laws.proofs.KnowledgeLemmas.{world_after-push}
+
+-- ---- goals that keep what goals before them kept
+
+-- a goal that is planned or built keeps something
+abbrev Stands : Goal → Type 0
+Stands g = is_planned g.state ≡ true → is_some g.resolved ≡ true
+
+-- what a goal of a number keeps, if anything, the goal of that number kept before
+abbrev HasKept : List Goal → ℕ → Goal → Type 0
+HasKept old n g = (g.resolved ≡ None) ⊎ ((h : Goal) × (goal_at n old ≡ Some h) × (g.resolved ≡ h.resolved))
+
+-- each of the goals does
+record Follows (old later : List Goal) : Type 0 where
+  kept : (n : ℕ) (g : Goal) → goal_at n later ≡ Some g → HasKept old n g
+  stand : All Stands old → All Stands later
+
+follows_itself : (goals : List Goal) → Follows goals goals
+follows_itself goals = record { kept = λ n g there. inr (g, there, refl); stand = λ all. all }
+
+follows_same : (old later : List Goal) → later ≡ old → Follows old later
+follows_same old later same = subst (Follows old) (sym same) (follows_itself old)
+
+follows_further : (a b c : List Goal) → Follows a b → Follows b c → Follows a c
+follows_further a b c first next = record {
+  kept = λ n g there. elim (next.kept n g there) [
+    | inl none ↦ inl none
+    | inr p ↦ elim (first.kept n p.0 p.1) [ inl none ↦ inl (p.2 ∙ none) | inr q ↦ inr (q.0, q.1, p.2 ∙ q.2) ]
+  ];
+  stand = λ all. next.stand (first.stand all);
+}
+
+-- a goal in the place of one that kept the same
+put_kept : (i : ℕ) (x g : Goal) (goals : List Goal) → slice_get goals i ≡ Some g → x.resolved ≡ g.resolved
+    → (j : ℕ) (y : Goal) → slice_get (slice_set goals i x) j ≡ Some y → (h : Goal) × (slice_get goals j ≡ Some h) × (y.resolved ≡ h.resolved)
+put_kept i x g [] there same j y at = absurd (cc)
+put_kept zero x g (z ∷ goals) there same zero y at =
+    let own : x ≡ y = some_same x y at in
+    let old : z ≡ g = some_same z g there in
+    (z, refl, sym (ap (λ (q : Goal). q.resolved) own) ∙ same ∙ sym (ap (λ (q : Goal). q.resolved) old))
+put_kept zero x g (z ∷ goals) there same (suc j) y at = (y, at, refl)
+put_kept (suc i) x g (z ∷ goals) there same zero y at = let own : z ≡ y = some_same z y at in (z, refl, ap (λ (q : Goal). q.resolved) (sym own))
+put_kept (suc i) x g (z ∷ goals) there same (suc j) y at = put_kept i x g goals there same j y at
+
+follows_put : (n : ℕ) (x g : Goal) (goals : List Goal) → goal_at n goals ≡ Some g → x.resolved ≡ g.resolved → Stands x → Follows goals (with_goal_at n x goals)
+follows_put zero x g goals there same stands = follows_itself goals
+follows_put (suc i) x g goals there same stands = record { kept = kept; stand = λ all. All-set Stands goals i x stands all }
+  where
+    kept : (n : ℕ) (y : Goal) → goal_at n (slice_set goals i x) ≡ Some y → HasKept goals n y
+    kept zero y at = absurd (cc)
+    kept (suc j) y at = inr (put_kept i x g goals there same j y at)
+
+-- a goal that is done, failed or waits again
+follows_state : (n : ℕ) (s : State) (g : Goal) (goals : List Goal) → goal_at n goals ≡ Some g → is_planned s ≡ false → Follows goals (with_goal_at n (in_state s g) goals)
+follows_state n s g goals there idle = follows_put n (in_state s g) g goals there refl (λ planned. absurd (cc))
+
+-- a new goal
+pushed_kept : (derivation : List ℕ) (goals : List Goal) (i : ℕ) (y : Goal) → slice_get (goals ++ new_goal derivation ∷ []) i ≡ Some y
+    → (y.resolved ≡ None) ⊎ ((h : Goal) × (slice_get goals i ≡ Some h) × (y.resolved ≡ h.resolved))
+pushed_kept derivation [] zero y at = let own : new_goal derivation ≡ y = some_same (new_goal derivation) y at in inl (ap (λ (q : Goal). q.resolved) (sym own))
+pushed_kept derivation [] (suc i) y at = absurd (cc)
+pushed_kept derivation (z ∷ goals) zero y at = inr (z, refl, (let own : z ≡ y = some_same z y at in ap (λ (q : Goal). q.resolved) (sym own)))
+pushed_kept derivation (z ∷ goals) (suc i) y at = pushed_kept derivation goals i y at
+
+follows_new : (derivation : List ℕ) (goals : List Goal) → Follows goals (goals ++ new_goal derivation ∷ [])
+follows_new derivation goals = record {
+  kept = kept;
+  stand = λ all. All-append Stands goals (new_goal derivation ∷ []) all (All-cons Stands (new_goal derivation) [] (λ planned. absurd (cc)) (All-nil Stands));
+}
+  where
+    kept : (n : ℕ) (y : Goal) → goal_at n (goals ++ new_goal derivation ∷ []) ≡ Some y → HasKept goals n y
+    kept zero y at = absurd (cc)
+    kept (suc i) y at = pushed_kept derivation goals i y at
+
+-- ---- the end of a job
+
+follows_if : (b : Bool) (goals : List Goal) (c d : Desk) → Follows goals c.goals → Follows goals d.goals → Follows goals (if b then c else d).goals
+follows_if true goals c d one other = one
+follows_if false goals c d one other = other
+
+follows_done : (setup : Setup) (n : ℕ) (g : Goal) (r : Record) (d : Desk) → goal_at n d.goals ≡ Some g → Follows d.goals (done_with setup n g r d).goals
+follows_done setup n g r d there =
+    let done : Follows d.goals (with_goal_at n (in_state (Done r.path) g) d.goals) = follows_state n (Done r.path) g d.goals there refl in
+    let failed : Follows d.goals (with_goal_at n (in_state (Failed Quota) g) d.goals) = follows_state n (Failed Quota) g d.goals there refl in
+    let added : Desk = if is_within setup (with_record r d) then with_goal n (in_state (Done r.path) g) (with_record r d) else with_goal n (in_state (Failed Quota) g) d in
+    follows_if (has_record r d) d.goals (with_goal n (in_state (Done r.path) g) d) added done
+    (follows_if (is_within setup (with_record r d)) d.goals (with_goal n (in_state (Done r.path) g) (with_record r d)) (with_goal n (in_state (Failed Quota) g) d) done failed)
+
+follows_output : (setup : Setup) (n : ℕ) (g : Goal) (o : Result Record Refusal) (d : Desk) → goal_at n d.goals ≡ Some g → Follows d.goals (with_output setup n g o d).goals
+follows_output setup n g (Ok r) d there = follows_done setup n g r d there
+follows_output setup n g (Err why) d there = follows_state n (Failed why) g d.goals there refl
+
+follows_ended_with : (setup : Setup) (n : ℕ) (g : Goal) (end : End) (d : Desk) → goal_at n d.goals ≡ Some g → Follows d.goals (ended_with setup n g end d).goals
+follows_ended_with setup n g (Output bytes) d there = follows_output setup n g (built_record (known_of d) g bytes) d there
+follows_ended_with setup n g Failure d there = follows_state n (Failed BuilderFailed) g d.goals there refl
+
+follows_ended : (setup : Setup) (reached : Bool) (end : End) (n : ℕ) (o : Option Goal) (d : Desk) → goal_at n d.goals ≡ o → Follows d.goals (ended_goal setup reached end n o d).goals
+follows_ended setup reached end n None d there = follows_itself d.goals
+follows_ended setup reached end n (Some g) d there =
+    follows_if reached d.goals (ended_with setup n g end d) (with_goal n (in_state Waiting g) d)
+    (follows_ended_with setup n g end d there) (follows_state n Waiting g d.goals there refl)
+
+follows_all_ended : (setup : Setup) (reached : Bool) (end : End) (ns : List ℕ) (d : Desk) → Follows d.goals (ended_goals setup reached end ns d).goals
+unfolding ended_goals
+follows_all_ended setup reached end [] d = follows_itself d.goals
+follows_all_ended setup reached end (n ∷ ns) d =
+    let next : Desk = ended_goal setup reached end n (goal_at n d.goals) d in
+    follows_further d.goals next.goals (ended_goals setup reached end ns next).goals
+    (follows_ended setup reached end n (goal_at n d.goals) d refl) (follows_all_ended setup reached end ns next)
+
+follows_heard : (setup : Setup) (actor : List ℕ) (reached : Bool) (news : News) (d : Desk) → Follows d.goals (heard setup actor reached news d).goals
+follows_heard setup actor reached Quiet d = follows_itself d.goals
+follows_heard setup actor reached (Ended n end) d = follows_all_ended setup reached end (members (record { leader = actor; number = n }) 1 d.goals) d
+
+-- ---- what a request does to the goals of its user
+
+-- a goal that waited is planned: it keeps what a derivation that is known was resolved to
+record PlansGoal (s : Sight) (r : Request) (o : Outcome) : Type 0 where
+  number : ℕ
+  asked : r ≡ Plan number
+  goal : Goal
+  admission : Admission
+  resolved : Resolved
+  there : goal_at number s.desk.goals ≡ Some goal
+  known : known_at (known_of s.desk) goal.derivation ≡ Some admission
+  is : resolve_for s admission.derivation ≡ Ok resolved
+  outcome_is : o ≡ becomes (with_goal number (planned_goal goal resolved) s.desk) (GoalState Planned)
+
+-- what the goals keep was kept before, or the request is refused
+abbrev GoalsFollow : Sight → Outcome → Type 0
+GoalsFollow s (Err why) = Unit {0}
+GoalsFollow s (Ok c) = Follows s.desk.goals c.desk.goals
+
+abbrev Fits : Sight → Request → Outcome → Type 0
+Fits s r o = GoalsFollow s o ⊎ PlansGoal s r o
+
+module _ (s : Sight) (n : ℕ) where
+  plan_fits : Fits s (Plan n) (requests.plan s n)
+  plan_fits =
+      let P : Outcome → Type 0 = Fits s (Plan n) in
+      needed P UnknownGoal (goal_at n s.desk.goals) (λ g. check WrongState (is_waiting (as_seen s.reach g.state)) (plan_goal s n g))
+      (λ g there. checked P WrongState (is_waiting (as_seen s.reach g.state)) (plan_goal s n g)
+      (λ waits. needed P UnknownDerivation (known_at (known_of s.desk) g.derivation) (λ a. plan_resolved s n g (resolve_for s a.derivation))
+      (λ a known. resolved_so g a there known (resolve_for s a.derivation) refl) (λ none. inl tt)) (λ begun. inl tt))
+      (λ none. inl tt)
+    where
+      failed_so : (g : Goal) (why : Refusal) → goal_at n s.desk.goals ≡ Some g → Fits s (Plan n) (turns s s.desk n (in_state (Failed why) g))
+      failed_so g why there = inl (follows_state n (Failed why) g s.desk.goals there refl)
+
+      resolved_so : (g : Goal) (a : Admission) → goal_at n s.desk.goals ≡ Some g → known_at (known_of s.desk) g.derivation ≡ Some a
+          → (o : Result Resolved Refusal) → resolve_for s a.derivation ≡ o → Fits s (Plan n) (plan_resolved s n g o)
+      resolved_so g a there known (Ok r) is = inr (record {
+        number = n;
+        asked = refl;
+        goal = g;
+        admission = a;
+        resolved = r;
+        there = there;
+        known = known;
+        is = is;
+        outcome_is = refl;
+      })
+      resolved_so g a there known (Err NotRealised) is = inl tt
+      resolved_so g a there known (Err why) is = failed_so g why there
+
+-- a planned goal keeps what it is started with
+kept_in : (s : State) (kept : Option Resolved) (r : Resolved) → planned_in s kept ≡ Some r → kept ≡ Some r
+kept_in Waiting kept r e = absurd (cc)
+kept_in Planned kept r e = e
+kept_in (Building job) kept r e = absurd (cc)
+kept_in (Done path) kept r e = absurd (cc)
+kept_in (Failed why) kept r e = absurd (cc)
+
+start_fits : (setup : Setup) (s : Sight) (n : ℕ) → GoalsFollow s (requests.start setup s n)
+start_fits setup s n =
+    let P : Outcome → Type 0 = GoalsFollow s in
+    needed P UnknownGoal (goal_at n s.desk.goals) (λ g. need WrongState (planned_in g.state g.resolved) (start_goal setup s n g))
+    (λ g there. needed P WrongState (planned_in g.state g.resolved) (start_goal setup s n g)
+    (λ r is.
+    let copied : Desk = with_entries r.closure s.desk in
+    let same : copied.goals ≡ s.desk.goals = (entries_added r.closure s.desk).goals in
+    let built : Goal = in_state (Building (job_of s.running (own_job s n) r)) g in
+    let keeps : is_some g.resolved ≡ true = ap is_some (kept_in g.state g.resolved r is) in
+    one_of P (is_within setup copied) (turns s copied n built) (turns s s.desk n (in_state (Failed Quota) g))
+    (λ within. subst (λ goals. Follows s.desk.goals (with_goal_at n built goals)) (sym same) (follows_put n built g s.desk.goals there refl (λ planned. keeps)))
+    (λ outside. follows_state n (Failed Quota) g s.desk.goals there refl))
+    (λ none. tt)) (λ absent. tt)
+
+end_fits : (setup : Setup) (s : Sight) (n : ℕ) (end : End) → GoalsFollow s (end_job setup s n end)
+end_fits setup s n end = end_job_cases (GoalsFollow s) setup s n end (λ g there leads. follows_itself s.desk.goals) tt (λ absent. tt)
+
+-- the case of each request
+outcome_fits : (setup : Setup) (s : Sight) (r : Request) → Fits s r (outcome setup s r)
+unfolding outcome
+outcome_fits setup s (AddSource name tree) =
+    inl (add_source_cases (GoalsFollow s) setup s.desk name tree (follows_itself s.desk.goals) (follows_itself s.desk.goals) tt)
+outcome_fits setup s (AddDerivation text) =
+    inl (add_derivation_cases (GoalsFollow s) setup s.desk text
+    (record { had = λ a. follows_itself s.desk.goals; added = λ derivation a is. follows_itself s.desk.goals; over = tt; unread = tt; missing = tt; high = tt }) (λ large. tt))
+outcome_fits setup s (Offer path tree) =
+    inl (offer_cases (GoalsFollow s) setup s.desk path tree
+    (record { had = λ r. follows_itself s.desk.goals; added = λ r. follows_itself s.desk.goals; over = tt; refused = λ why. tt; unknown = λ absent. tt }))
+outcome_fits setup s (Fetch path) = inl (fetch_cases (GoalsFollow s) s.desk path (λ tree held. follows_itself s.desk.goals) (λ absent. tt))
+outcome_fits setup s (Trust other) =
+    inl (trust_cases (GoalsFollow s) setup s other
+    (λ known. cond_both (bytes_eq other s.user) s.desk (with_trust other s.desk) (λ (d : Desk). Follows s.desk.goals d.goals) (λ own. follows_itself s.desk.goals) (λ another. follows_itself s.desk.goals)) tt)
+outcome_fits setup s (Distrust other) = inl (distrust_cases (GoalsFollow s) setup s other (follows_itself s.desk.goals) tt)
+outcome_fits setup s (Pin class path) = inl (pin_cases (GoalsFollow s) setup s.desk class path (follows_itself s.desk.goals) tt)
+outcome_fits setup s (Unpin class) = inl (follows_itself s.desk.goals)
+outcome_fits setup s (Closure class) = inl (closure_cases (GoalsFollow s) s class (λ entries. follows_itself s.desk.goals) tt tt (λ why. tt))
+outcome_fits setup s (Take class) =
+    inl (take_cases (GoalsFollow s) s class setup
+    (λ entries path given there. follows_same s.desk.goals (with_entries entries s.desk).goals (entries_added entries s.desk).goals) tt tt (λ why. tt) tt)
+outcome_fits setup s (Build path) =
+    inl (build_cases (GoalsFollow s) s.desk path (λ a known. follows_new path s.desk.goals) (λ full. tt) (λ unknown. tt))
+outcome_fits setup s (Status n) = inl (status_cases (GoalsFollow s) s n (λ g there. follows_itself s.desk.goals) (λ absent. tt))
+outcome_fits setup s (Plan n) = plan_fits s n
+outcome_fits setup s (Start n) = inl (start_fits setup s n)
+outcome_fits setup s (Finish n bytes) = inl (end_fits setup s n (Output bytes))
+outcome_fits setup s (Fail n status) = inl (end_fits setup s n Failure)
+
+-- ---- one event
+
+-- what the goals of a user keep was kept before, or the event is his own and plans one
+abbrev FollowsOrPlans : Setup → World → Event → List ℕ → Desk → Type 0
+FollowsOrPlans setup w e u later = Follows (w u).goals later.goals ⊎ ((u ≡ e.actor) × PlansGoal (sight_of setup w e.actor) e.request (outcome_of setup w e))
+
+module _ (setup : Setup) (w : World) (e : Event) (u : List ℕ) (reached : Bool) where
+  -- the actor's desk, or another, before news are heard
+  own_or_other : (c : Change) → Follows (w e.actor).goals c.desk.goals → Follows (w u).goals (if bytes_eq u e.actor then c.desk else w u).goals
+  own_or_other c follows =
+      cond_both (bytes_eq u e.actor) c.desk (w u) (λ (d : Desk). Follows (w u).goals d.goals)
+      (λ yes. subst (λ x. Follows (w x).goals c.desk.goals) (sym (same_bytes u e.actor yes)) follows) (λ no. follows_itself (w u).goals)
+
+  heard_follows : (c : Change) → Follows (w u).goals (if bytes_eq u e.actor then c.desk else w u).goals → Follows (w u).goals (desk_after setup e.actor (Ok c) u reached (w u)).goals
+  heard_follows c follows =
+      let d : Desk = if bytes_eq u e.actor then c.desk else w u in
+      follows_further (w u).goals d.goals (heard setup e.actor reached c.news d).goals follows (follows_heard setup e.actor reached c.news d)
+
+  after_outcome : (o : Outcome) → outcome_of setup w e ≡ o → Fits (sight_of setup w e.actor) e.request o → FollowsOrPlans setup w e u (desk_after setup e.actor o u reached (w u))
+  after_outcome (Err why) is fits = inl (follows_itself (w u).goals)
+  after_outcome (Ok c) is (inl follows) = inl (heard_follows c (own_or_other c follows))
+  after_outcome (Ok c) is (inr plans) = elim (either (bytes_eq u e.actor)) [
+    | inl own ↦ inr (same_bytes u e.actor own, subst (PlansGoal (sight_of setup w e.actor) e.request) (sym is) plans)
+    | inr other ↦ inl (heard_follows c (subst (λ (b : Bool). Follows (w u).goals (if b then c.desk else w u).goals) (sym other) (follows_itself (w u).goals)))
+  ]
+
+after_follows : (setup : Setup) (w : World) (e : Event) (u : List ℕ) → FollowsOrPlans setup w e u (after setup w e u)
+after_follows setup w e u =
+    after_outcome setup w e u (reaches setup w u e.actor) (outcome_of setup w e) refl
+    (cond_both (is_user setup e.actor) (outcome setup (sight_of setup w e.actor) e.request) (Err UnknownUser) (Fits (sight_of setup w e.actor) e.request)
+    (λ yes. outcome_fits setup (sight_of setup w e.actor) e.request) (λ no. inl tt))
+
+-- ---- what is kept after events
+
+-- a goal of a number in the place of another
+put_cases : (m n : ℕ) (x g y : Goal) (goals : List Goal) → goal_at m goals ≡ Some g → goal_at n (with_goal_at m x goals) ≡ Some y
+    → ((n ≡ m) × (x ≡ y)) ⊎ (goal_at n goals ≡ Some y)
+put_cases zero n x g y goals there at = absurd (cc)
+put_cases (suc i) zero x g y goals there at = absurd (cc)
+put_cases (suc i) (suc j) x g y goals there at = elim (set_cases i j x g y goals there at) [ inl p ↦ inl (ap suc p.0, p.1) | inr other ↦ inr other ]
+  where
+    set_cases : (i j : ℕ) (x g y : Goal) (goals : List Goal) → slice_get goals i ≡ Some g → slice_get (slice_set goals i x) j ≡ Some y
+        → ((j ≡ i) × (x ≡ y)) ⊎ (slice_get goals j ≡ Some y)
+    set_cases i j x g y [] there at = absurd (cc)
+    set_cases zero zero x g y (z ∷ goals) there at = inl (refl, some_same x y at)
+    set_cases zero (suc j) x g y (z ∷ goals) there at = inr at
+    set_cases (suc i) zero x g y (z ∷ goals) there at = inr at
+    set_cases (suc i) (suc j) x g y (z ∷ goals) there at = elim (set_cases i j x g y goals there at) [ inl p ↦ inl (ap suc p.0, p.1) | inr other ↦ inr other ]
+
+-- the one that was put is there
+put_there : (n : ℕ) (x g : Goal) (goals : List Goal) → goal_at n goals ≡ Some g → goal_at n (with_goal_at n x goals) ≡ Some x
+put_there zero x g goals there = absurd (cc)
+put_there (suc i) x g goals there = set_there i goals there
+  where
+    set_there : (i : ℕ) (goals : List Goal) → slice_get goals i ≡ Some g → slice_get (slice_set goals i x) i ≡ Some x
+    set_there i [] there = absurd (cc)
+    set_there zero (z ∷ goals) there = refl
+    set_there (suc i) (z ∷ goals) there = set_there i goals there
+
+-- a derivation that was resolved has the closure of what was chosen for it
+resolved_plan : (view : List Desk) (pins : List worlds.Pin) (known : Known) (d : Derivation) (r : Resolved) → resolve view pins known d ≡ Ok r
+    → (p : choices.Plan) × (choices.plan view pins (input_classes known d) d.sources ≡ Ok p)
+resolved_plan view pins known d r is =
+    let classes : List (List ℕ) = input_classes known d in
+    let one = then_ok (closures.closure view pins classes d.sources) (resolved_over classes d) r is in
+    let two = then_ok (choices.plan view pins classes d.sources) closures.served_plan one.0 one.1 in
+    (two.0, two.1)
+
+-- the goals of the actor after a change of which nothing is heard
+goals_after : (setup : Setup) (w : World) (e : Event) (d : Desk) (reply : Reply) → outcome_of setup w e ≡ becomes d reply → (after setup w e e.actor).goals ≡ d.goals
+goals_after setup w e d reply o =
+    ap (λ (p : Outcome). (desk_after setup e.actor p e.actor (reaches setup w e.actor e.actor) (w e.actor)).goals) o
+    ∙ ap (λ (b : Bool). (if b then d else w e.actor).goals) (bytes_same e.actor)
+
+-- all that the goals of a user keep is well kept
+abbrev WellKept : Setup → List Event → List ℕ → Type 0
+WellKept setup events u = (n : ℕ) (g : Goal) (r : Resolved) → goal_at n (world_after setup nothing events u).goals ≡ Some g → g.resolved ≡ Some r → IsWellKept setup events u n r
+
+-- what was well kept is so after one event more
+kept_longer : (setup : Setup) (done : List Event) (e : Event) (u : List ℕ) (n : ℕ) (r : Resolved) → IsWellKept setup done u n r → IsWellKept setup (done ++ e ∷ []) u n r
+kept_longer setup done e u n r old = record {
+  before = old.before;
+  later = old.later ++ e ∷ [];
+  cut = ap (λ events. events ++ e ∷ []) old.cut ∙ append_assoc old.before (planning u n ∷ old.later) (e ∷ []);
+  world = old.world;
+  reached = old.reached;
+  path = old.path;
+  admission = old.admission;
+  known = old.known;
+  resolved = old.resolved;
+  plan = old.plan;
+  planned = old.planned;
+  whole = old.whole;
+  gone = old.gone;
+}
+
+-- what an event plans is well kept
+kept_now : (setup : Setup) (done : List Event) (e : Event) (n : ℕ) (r : Resolved)
+    → (plans : PlansGoal (sight_of setup (world_after setup nothing done) e.actor) e.request (outcome_of setup (world_after setup nothing done) e))
+    → n ≡ plans.number → r ≡ plans.resolved → KeepsGoodClosure setup (world_after setup nothing done) e → IsWellKept setup (done ++ e ∷ []) e.actor n r
+kept_now setup done e n r plans number same good =
+    let w : World = world_after setup nothing done in
+    let u : List ℕ = e.actor in
+    let s : Sight = sight_of setup w u in
+    let d = plans.admission.derivation in
+    let new : Goal = planned_goal plans.goal plans.resolved in
+    let told : reply_to setup w e ≡ GoalState Planned = ap reply_of plans.outcome_is in
+    let there : goal_at plans.number (after setup w e u).goals ≡ Some new =
+    ap (goal_at plans.number) (goals_after setup w e (with_goal plans.number new s.desk) (GoalState Planned) plans.outcome_is)
+    ∙ put_there plans.number new plans.goal s.desk.goals plans.there in
+    let chosen = resolved_plan s.view s.desk.pins (known_of s.desk) d plans.resolved plans.is in
+    let is_good : IsGoodFor setup w u (input_classes (known_of (w u)) d) d.sources plans.resolved.closure =
+    good plans.number new plans.admission plans.resolved plans.asked told there refl plans.known in
+    let both = is_good chosen.0 chosen.1 in
+    let event : e ≡ planning u plans.number = λ j. record { actor = u; request = (plans.asked) j } in
+    subst (λ (m : ℕ). IsWellKept setup (done ++ e ∷ []) u m r) (sym number)
+    (subst (λ (q : Resolved). IsWellKept setup (done ++ e ∷ []) u plans.number q) (sym same)
+    (record {
+      before = done;
+      later = [];
+      cut = ap (λ last. done ++ last ∷ []) event;
+      world = w;
+      reached = refl;
+      path = plans.goal.derivation;
+      admission = plans.admission;
+      known = plans.known;
+      resolved = plans.is;
+      plan = chosen.0;
+      planned = chosen.1;
+      whole = both.0;
+      gone = both.1;
+    }))
+
+-- one event more
+kept_more : (setup : Setup) (done : List Event) (e : Event) (u : List ℕ) → KeepsGoodClosure setup (world_after setup nothing done) e
+    → WellKept setup done u → WellKept setup (done ++ e ∷ []) u
+kept_more setup done e u good well n g r there kept =
+    let w : World = world_after setup nothing done in
+    let now : goal_at n (after setup w e u).goals ≡ Some g = subst (λ (v : World). goal_at n (v u).goals ≡ Some g) (world_after-push setup nothing done e) there in
+    let before : (h : Goal) → goal_at n (w u).goals ≡ Some h → h.resolved ≡ Some r → IsWellKept setup (done ++ e ∷ []) u n r =
+    λ h at is. kept_longer setup done e u n r (well n h r at is) in
+    elim (after_follows setup w e u) [
+      | inl follows ↦ elim (follows.kept n g now) [
+        | inl none ↦ absurd (none_some r (sym none ∙ kept))
+        | inr p ↦ before p.0 p.1 (sym p.2 ∙ kept)
+      ]
+      | inr p ↦
+          let plans = p.1 in
+          let new : Goal = planned_goal plans.goal plans.resolved in
+          let goals : (after setup w e u).goals ≡ with_goal_at plans.number new (w u).goals =
+          subst (λ x. (after setup w e x).goals ≡ with_goal_at plans.number new (w x).goals) (sym p.0)
+          (goals_after setup w e (with_goal plans.number new (w e.actor)) (GoalState Planned) plans.outcome_is) in
+          elim (put_cases plans.number n new plans.goal g (w u).goals (subst (λ x. goal_at plans.number (w x).goals ≡ Some plans.goal) (sym p.0) plans.there) (ap (goal_at n) (sym goals) ∙ now)) [
+            | inl q ↦
+                let same : r ≡ plans.resolved = some_same r plans.resolved (sym kept ∙ ap (λ (y : Goal). y.resolved) (sym q.1)) in
+                subst (λ x. IsWellKept setup (done ++ e ∷ []) x n r) (sym p.0) (kept_now setup done e n r plans q.0 same good)
+            | inr other ↦ before g other kept
+          ]
+    ]
+  where
+    none_some : (r : Resolved) → None ≡ Some r → ⊥
+    none_some r e = cc
+
+-- each event of a run whose closures are good keeps a good one
+good_at : (setup : Setup) (w : World) (done : List Event) (e : Event) (events : List Event) → GiveGoodClosures setup w (done ++ e ∷ events) → KeepsGoodClosure setup (world_after setup w done) e
+unfolding world_after GiveGoodClosures
+good_at setup w [] e events good = good.1
+good_at setup w (x ∷ done) e events good = good_at setup (after setup w x) done e events good.2
+
+-- events that follow others
+kept_all : (setup : Setup) (u : List ℕ) (done events : List Event) → GiveGoodClosures setup nothing (done ++ events) → WellKept setup done u → WellKept setup (done ++ events) u
+kept_all setup u done [] good well = subst (λ all. WellKept setup all u) (sym (append-nil done)) well
+kept_all setup u done (e ∷ events) good well =
+    subst (λ all. WellKept setup all u) (append_assoc done (e ∷ []) events)
+    (kept_all setup u (done ++ e ∷ []) events (subst (GiveGoodClosures setup nothing) (sym (append_assoc done (e ∷ []) events)) good)
+    (kept_more setup done e u (good_at setup nothing done e events good) well))
+
+pub kept_good : KeptClosuresAreGood
+unfolding world_after
+kept_good setup events u n g r good there kept = kept_all setup u [] events good (λ m h q at is. absurd (no_goal m h at)) n g r there kept
+  where
+    no_goal : (m : ℕ) (h : Goal) → goal_at m [] ≡ Some h → ⊥
+    no_goal zero h at = cc
+    no_goal (suc m) h at = cc
+
+-- ---- planned goals keep something
+
+stand_after : (setup : Setup) (w : World) (e : Event) (u : List ℕ) → All Stands (w u).goals → All Stands (after setup w e u).goals
+stand_after setup w e u all = elim (after_follows setup w e u) [
+  | inl follows ↦ follows.stand all
+  | inr p ↦
+      let plans = p.1 in
+      let new : Goal = planned_goal plans.goal plans.resolved in
+      let goals : (after setup w e u).goals ≡ with_goal_at plans.number new (w u).goals =
+      subst (λ x. (after setup w e x).goals ≡ with_goal_at plans.number new (w x).goals) (sym p.0)
+      (goals_after setup w e (with_goal plans.number new (w e.actor)) (GoalState Planned) plans.outcome_is) in
+      subst (All Stands) (sym goals) (stand_put plans.number new (w u).goals (λ planned. refl) all)
+]
+  where
+    stand_put : (n : ℕ) (x : Goal) (goals : List Goal) → Stands x → All Stands goals → All Stands (with_goal_at n x goals)
+    stand_put zero x goals stands all = all
+    stand_put (suc i) x goals stands all = All-set Stands goals i x stands all
+
+stand_all : (setup : Setup) (u : List ℕ) (w : World) (events : List Event) → All Stands (w u).goals → All Stands (world_after setup w events u).goals
+unfolding world_after
+stand_all setup u w [] all = all
+stand_all setup u w (e ∷ events) all = stand_all setup u (after setup w e) events (stand_after setup w e u all)
+
+stand_at : (n : ℕ) (g : Goal) (goals : List Goal) → All Stands goals → goal_at n goals ≡ Some g → Stands g
+stand_at zero g goals all at = absurd (cc)
+stand_at (suc i) g goals all at = at_place i goals all at
+  where
+    at_place : (i : ℕ) (goals : List Goal) → All Stands goals → slice_get goals i ≡ Some g → Stands g
+    at_place i [] all at = absurd (cc)
+    at_place zero (z ∷ goals) all at = subst Stands (some_same z g at) (All-head Stands z goals all)
+    at_place (suc i) (z ∷ goals) all at = at_place i goals (All-tail Stands z goals all) at
+
+pub planned_keep : PlannedGoalsKeep
+planned_keep setup events u n g there planned =
+    stand_at n g (world_after setup nothing events u).goals (stand_all setup u nothing events (All-nil Stands)) there planned

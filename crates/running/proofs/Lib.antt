@@ -1,0 +1,2 @@
+mod StandLemmas
+mod Sending

@@ -1,0 +1,5 @@
+pub mod QueueLemmas
+pub mod WorkLemmas
+pub mod AlongLemmas
+pub mod RoundLemmas
+pub mod TakenLemmas

@@ -1,0 +1,28 @@
+use Rattle.std.proofs.Common.{rules, subst}
+use Rattle.crossbeam_channel.specs.Claims.{Pass, view}
+use Rattle.workers.specs.declared.queue.Hand.{Hand}
+use Rattle.workers.specs.declared.ticket.Ticket.{Ticket}
+use Rattle.workers.specs.declared.worker.Worker.{Worker}
+use Rattle.workers.specs.Rounds.{Returned}
+use Rattle.workers.proofs.RoundLemmas.{serves_none, serves_more, if_both, pick}
+use Rattle.workers.proofs.serving.+serve.Goals as goal
+
+pub returns-in_default-clause-serves : goal.returns-in_default-clause-serves
+returns-in_default-clause-serves g t c = serves_none g.S.Store.called g.S.Store.asked g.Q.Runner.gives _ _ _ _ _ _ _ _ (search rules) c.requires.keeper c.put_all-all_put.ensures.put c.new.ensures
+
+pub returns-clause-serves : goal.returns-clause-serves
+returns-clause-serves g t c =
+    let called = g.S.Store.called in let asked = g.S.Store.asked in let gives = g.Q.Runner.gives in
+    let r = c.start-started.result in let b = c.finish-worker.result in
+    let w = c.in-Some.worker in let hand = c.give_out-taker.result in
+    let returned = pick r b
+    (λ b. Returned called asked gives w hand b.worker b.taker b.met b.took_stop)
+    (λ h b. Returned called asked gives h.promise.worker.value h.promise.taker.value b.worker b.taker b.met b.took_stop)
+    (if_both r _ _ _ c.start-started.ensures.worker c.start-started.ensures.taker
+    (λ h ew et k. subst (λ (x : Pass Ticket Hand). Returned called asked gives w x b.worker b.taker b.met b.took_stop) et
+    (subst (λ (x : Worker g.row.S.Denot g.row.Q.Denot). Returned called asked gives x h.promise.taker.value b.worker b.taker b.met b.took_stop) ew k)))
+    c.start-started.ensures.back
+    c.finish-worker.ensures in
+    serves_more called asked gives _ _ _ c.pop.new.self.items _ c.serve-tally.new.done.items _ w b.worker _ (view c.give_out-taker.new.keeper) (view c.serve-tally.new.keeper) _ hand b.taker
+    b.met b.took_stop c.serve-tally.result c.with.result c.in-Some.ensures.items c.requires.keeper c.give_out-taker.ensures.out c.serve-tally.ensures.serves c.give_out-taker.ensures.taker returned c.take_back.ensures.back c.push_reserved.ensures.items
+    c.with.ensures.whole c.with.ensures.memory c.with.ensures.stopped

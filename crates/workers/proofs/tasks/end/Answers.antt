@@ -1,0 +1,12 @@
+use Rattle.std.proofs.Common.{rules, [], ◌∷◌}
+use Rattle.workers.specs.Outputs.{bytes_of}
+use Rattle.workers.specs.Working.{asking, ending as ending_of}
+use Rattle.workers.proofs.WorkLemmas.{ends_one}
+use Rattle.workers.proofs.tasks.end.Goals as goal
+
+pub returns : goal.returns
+returns g c = (
+  (asking c.in-Ok-clone.actor c.in-Ok.request, c.call-reply.result) ∷ [],
+  ends_one g.S.Store.called c.args.user.now (ending_of c.args.number (bytes_of c.args.given)) c.in-Ok-clone.actor c.in-Ok.request c.call-reply.result c.args.store.now c.call-reply.new.self c.met_by.result
+      (search rules) (search rules) c.call-reply.ensures c.met_by.ensures,
+)

@@ -1,0 +1,5 @@
+pub mod Outputs
+pub mod Tickets
+pub mod Queue
+pub mod Working
+pub mod Rounds

@@ -1,0 +1,137 @@
+//! Rounds: tickets are handed to workers in threads of their own.
+
+ghost use Rattle.std.specs.Prelude.{◌≡◌, ◌≤◌, ◌⊎◌, [], Ok, Err, vec_len};
+ghost use Rattle.std.specs.Vec.{vec_capacity};
+ghost use Rattle.model.specs.declared.refusal.Refusal.TheVariants.{Memory};
+ghost use Rattle.crossbeam_channel.specs.Claims.{view, IsSeatAt};
+ghost use Rattle.crossbeam_channel.specs.Ends.{sends_on, receives_on};
+ghost use Rattle.workers.specs.Queue.{keeper as keeping};
+ghost use Rattle.workers.specs.Tickets.{AreGoals};
+ghost use Rattle.workers.specs.Rounds.{Serves, IsRound};
+
+use crate::queue::{Keeper, count, ticket_queue};
+use crate::runner::Runner;
+use crate::serving::{Orders, Shared, serve};
+use crate::store::Store;
+use crate::tally::Tally;
+use crate::ticket::Ticket;
+use crate::worker::Worker;
+use model::Refusal;
+use std::alloc::Global;
+use std::sync::Wait;
+use std::sync::atomic::AtomicBool;
+use std::thread;
+use std::thread::Threads;
+
+/// What the threads of a round leave: what the workers met, the workers, and the keeper of the queue.
+struct Served<S, Q> {
+    tally: Tally,
+    done: Vec<Worker<S, Q>>,
+    keeper: Keeper,
+}
+
+/// Serves by threads that borrow.
+fn in_scope<S: Store + Send + Drop, Q: Runner + Send + Drop, R: Threads + Wait + Sync>(
+    rt: &R,
+    alloc: Global,
+    shared: Shared<'_>,
+    keeper: Keeper,
+    workers: Vec<Worker<S, Q>>,
+    tickets: Vec<Ticket>,
+    done: Vec<Worker<S, Q>>,
+) -> Served<S, Q>
+    requires queue { receives_on shared.receiver.now ≡ sends_on shared.sender.now }
+    requires seat { IsSeatAt (sends_on shared.sender.now) keeper }
+    requires keeper { view keeper ≡ keeping [] 0 [] }
+    requires room { vec_len workers ≤ vec_capacity done }
+    requires none { done.items ≡ [] }
+    ensures seat { IsSeatAt (sends_on shared.entry.sender.now) result.keeper }
+    ensures serves { Serves S.called S.asked Q.gives tickets.items (vec_len workers) workers.items []
+        result.done.items (view keeper) (view result.keeper) result.tally }
+{
+    thread::scope(
+        thread::scope_env(),
+        rt,
+        move |scope| -> Served<S, Q>
+            requires queue { receives_on shared.receiver.now ≡ sends_on shared.sender.now }
+            requires seat { IsSeatAt (sends_on shared.sender.now) keeper }
+            requires keeper { view keeper ≡ keeping [] 0 [] }
+            requires room { vec_len workers ≤ vec_capacity done }
+            requires none { done.items ≡ [] }
+            ensures seat { IsSeatAt (sends_on shared.entry.sender.now) result.keeper }
+            ensures serves { Serves S.called S.asked Q.gives tickets.items (vec_len workers) workers.items []
+                result.done.items (view keeper) (view result.keeper) result.tally }
+        {
+            let mut keeper = keeper;
+            let mut workers = workers;
+            let mut done = done;
+            let stops = workers.len();
+            let orders = Orders { tickets, stops };
+            let tally = serve(
+                rt,
+                alloc,
+                scope,
+                &shared,
+                &mut keeper,
+                &mut workers,
+                orders,
+                &mut done,
+            );
+            Served {
+                tally,
+                done,
+                keeper,
+            }
+        },
+    )
+}
+
+/// Hands tickets to workers, each in a thread of its own, and one Stop to each. It joins all threads,
+/// and gives the workers back, in their order, whatever happens. No ticket handed in is a Stop.
+///
+/// What they took, Stops aside, is a beginning of the tickets, in their order, each as often; all of
+/// them, if there is a worker and the answer is not 90. A worker works on each ticket that it took until
+/// it meets 90 or 92, and makes no call more then. With no worker nothing is put, and the answer is Ok.
+///
+/// A call may wait for ever, as each that waits for another thread. Where a thread could not be started,
+/// up to 64 workers, the places of the queue, get their Stops at once.
+///
+/// # Errors
+///
+/// - `Memory` where a thread could not be started, the queue handed a ticket or a Stop back, a worker
+///   took no Stop, or one met 90; and where there was no memory for the round, and nothing was done.
+/// - `Stopped` where it is none of these, and a worker met 92.
+pub fn round<S: Store + Send + Drop, Q: Runner + Send + Drop, R: Threads + Wait + Sync>(
+    rt: &R,
+    alloc: Global,
+    tickets: Vec<Ticket>,
+    workers: Vec<Worker<S, Q>>,
+) -> (Result<(), Refusal>, Vec<Worker<S, Q>>)
+    requires { AreGoals tickets.items }
+    ensures round { IsRound S.called S.asked Q.gives tickets.items workers.items result.1.items result.0
+        ⊎ ((result.1 ≡ workers) × (result.0 ≡ Err Memory)) }
+    ensures idle { workers.items ≡ [] → result ≡ (Ok tt, workers) }
+{
+    if workers.is_empty() {
+        return (Ok(()), workers);
+    }
+    let Ok(done) = Vec::with_capacity(alloc, workers.len()) else {
+        return (Err(Refusal::Memory), workers);
+    };
+    let Ok((sender, receiver, keeper)) = ticket_queue(alloc) else {
+        return (Err(Refusal::Memory), workers);
+    };
+    let given_up = AtomicBool::new(false);
+    let shared = Shared {
+        sender: &sender,
+        receiver: &receiver,
+        given_up: &given_up,
+    };
+    let Served {
+        tally,
+        done,
+        mut keeper,
+    } = in_scope(rt, alloc, shared, keeper, workers, tickets, done);
+    count(&sender, &mut keeper);
+    (tally.answer(), done)
+}

@@ -1,0 +1,99 @@
+//! What is done for one ticket.
+
+ghost use Rattle.std.specs.Prelude.{List};
+ghost use Rattle.workers.specs.Outputs.{bytes_of};
+ghost use Rattle.workers.specs.Working.{Call, ending as ending_of, Ends, Asks, Starts, WorksOn};
+
+use crate::ending::{ending, is_planned, leads_own, met_by, met_in};
+use crate::runner::{RunFault, Runner};
+use crate::store::Store;
+use events::{Event, Request};
+use model::Refusal;
+use std::alloc::Global;
+use trust::User;
+
+/// Ends a job of which a runner gave this. Gives 90 or 92, where that was met.
+fn end<S: Store>(
+    alloc: Global,
+    store: &mut S,
+    user: &User,
+    number: u16,
+    given: Result<Vec<u8>, RunFault>,
+) -> Option<Refusal>
+    ensures { (calls : List Call)
+        × Ends S.called user.now (ending_of number (bytes_of given)) calls store.old result store.new }
+{
+    let Ok(request) = ending(number, given) else {
+        return Some(Refusal::Memory);
+    };
+    let Ok(actor) = user.clone() else {
+        return Some(Refusal::Memory);
+    };
+    let reply = store.call(alloc, Event { actor, request });
+    met_by(&reply)
+}
+
+/// Has the job built that a user's goal leads, and ends it. Gives 90 or 92, where that was met.
+fn build<S: Store, Q: Runner>(
+    alloc: Global,
+    store: &mut S,
+    runner: &mut Q,
+    user: &User,
+    number: u16,
+) -> Option<Refusal>
+    ensures { (calls : List Call) × Asks S.called S.asked Q.gives user.now number calls store.old
+        runner.old result store.new runner.new }
+{
+    let job = match store.running_job(user, number) {
+        Ok(job) => job,
+        Err(why) => return met_in(why),
+    };
+    let given = runner.run(alloc, &job);
+    end(alloc, store, user, number, given)
+}
+
+/// Starts a planned goal, and has its job built where it leads one. Gives 90 or 92, where that was met.
+fn start<S: Store, Q: Runner>(
+    alloc: Global,
+    store: &mut S,
+    runner: &mut Q,
+    user: &User,
+    number: u16,
+) -> Option<Refusal>
+    ensures { (calls : List Call) × Starts S.called S.asked Q.gives user.now number calls store.old
+        runner.old result store.new runner.new }
+{
+    let Ok(actor) = user.clone() else {
+        return Some(Refusal::Memory);
+    };
+    let request = Request::Start(number);
+    let reply = store.call(alloc, Event { actor, request });
+    if leads_own(user, number, &reply) {
+        build(alloc, store, runner, user, number)
+    } else {
+        met_by(&reply)
+    }
+}
+
+/// Plans a user's goal, and starts it where it is planned then. Gives 90 or 92, where that was met.
+pub(crate) fn work_on<S: Store, Q: Runner>(
+    alloc: Global,
+    store: &mut S,
+    runner: &mut Q,
+    user: &User,
+    number: u16,
+) -> Option<Refusal>
+    ensures { (calls : List Call) × WorksOn S.called S.asked Q.gives user.now number calls store.old
+        runner.old result store.new runner.new }
+{
+    let Ok(actor) = user.clone() else {
+        return Some(Refusal::Memory);
+    };
+    let request = Request::Plan(number);
+    let reply = store.call(alloc, Event { actor, request });
+    if is_planned(&reply) {
+        start(alloc, store, runner, user, number)
+    } else {
+        met_by(&reply)
+    }
+}

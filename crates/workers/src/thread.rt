@@ -1,0 +1,145 @@
+//! What one thread of a round does.
+
+ghost use Rattle.std.specs.Prelude.{◌≡◌, [], true, IfOk, IfErr, MatchResult};
+ghost use Rattle.crossbeam_channel.specs.Claims.{view, IsSeatAt};
+ghost use Rattle.crossbeam_channel.specs.Ends.{receives_on};
+ghost use Rattle.workers.specs.Queue.{taker as taking};
+ghost use Rattle.workers.specs.Rounds.{Returned};
+
+use crate::queue::{Receiver, Taker};
+use crate::runner::Runner;
+use crate::store::Store;
+use crate::worker::{Worked, Worker, work};
+use model::Refusal;
+use std::alloc::Global;
+use std::snapshot::Snapshot;
+use std::sync::Wait;
+use std::sync::atomic::{AtomicBool, Ordering};
+use std::thread::{Promise, PromisedHandle, Scope, Threads};
+
+/// What a thread gives back.
+#[derive(Drop)]
+pub(crate) struct Back<S, Q> {
+    /// The worker.
+    pub(crate) worker: Worker<S, Q>,
+    /// Its hand.
+    pub(crate) taker: Taker,
+    /// 90 or 92, where the worker met that.
+    pub(crate) met: Option<Refusal>,
+    /// Whether it took its Stop.
+    pub(crate) took_stop: bool,
+}
+
+/// What a thread was handed.
+#[derive(Drop)]
+pub(crate) struct Handed<S, Q> {
+    worker: Snapshot<Worker<S, Q>>,
+    taker: Snapshot<Taker>,
+}
+
+impl<S: Store, Q: Runner> Promise<Back<S, Q>> for Handed<S, Q> {
+    ghost use Rattle.workers.specs.Rounds.{Returned};
+
+    ghost kept_by = { λ p r. Returned S.called S.asked Q.gives p.worker.value p.taker.value
+        r.worker r.taker r.met r.took_stop };
+}
+
+/// What a thread is handed.
+fn hand_to<S, Q>(worker: &Worker<S, Q>, taker: &Taker) -> Handed<S, Q>
+    ensures worker { result.worker.value ≡ worker.now }
+    ensures taker { result.taker.value ≡ taker.now }
+{
+    Handed {
+        worker: Snapshot::of(worker),
+        taker: Snapshot::of(taker),
+    }
+}
+
+/// Takes tickets and works on them until a Stop; none where the round was given up.
+fn run<S: Store, Q: Runner, R: Wait>(
+    rt: &R,
+    alloc: Global,
+    receiver: &Receiver,
+    given_up: &AtomicBool,
+    mut worker: Worker<S, Q>,
+    mut taker: Taker,
+) -> Back<S, Q>
+    requires seat { IsSeatAt (receives_on receiver.now) taker }
+    requires takes { (view taker).takes ≡ true }
+    requires none { view taker ≡ taking (view taker).number [] }
+    ensures { Returned S.called S.asked Q.gives worker taker result.worker result.taker result.met
+        result.took_stop }
+{
+    if given_up.load(Ordering::SeqCst) {
+        return Back {
+            worker,
+            taker,
+            met: None,
+            took_stop: false,
+        };
+    }
+    let Worked { met, took_stop } = work(rt, alloc, receiver, &mut worker, &mut taker);
+    Back {
+        worker,
+        taker,
+        met,
+        took_stop,
+    }
+}
+
+/// A thread that works, or what it would give back, where none can be made: the round is given up then.
+pub(crate) fn start<
+    's,
+    E,
+    S: Store + Send + Drop + 's,
+    Q: Runner + Send + Drop + 's,
+    R: Threads + Wait + Sync,
+>(
+    rt: &'s R,
+    alloc: Global,
+    scope: &Scope<'s, E>,
+    receiver: &'s Receiver,
+    given_up: &'s AtomicBool,
+    worker: Worker<S, Q>,
+    taker: Taker,
+) -> Result<PromisedHandle<Back<S, Q>, Handed<S, Q>>, Back<S, Q>>
+    requires seat { IsSeatAt (receives_on receiver.now) taker }
+    requires takes { (view taker).takes ≡ true }
+    requires none { view taker ≡ taking (view taker).number [] }
+    ensures worker { IfOk result (λ h. h.promise.worker.value ≡ worker) }
+    ensures taker { IfOk result (λ h. h.promise.taker.value ≡ taker) }
+    ensures back { IfErr result (λ b. Returned S.called S.asked Q.gives worker taker b.worker b.taker
+        b.met b.took_stop) }
+{
+    let promise = hand_to(&worker, &taker);
+    let job = move || -> Back<S, Q>
+        requires seat { IsSeatAt (receives_on receiver.now) taker }
+        requires takes { (view taker).takes ≡ true }
+        requires none { view taker ≡ taking (view taker).number [] }
+        ensures { Returned S.called S.asked Q.gives worker taker result.worker result.taker
+            result.met result.took_stop }
+    { run(rt, alloc, receiver, given_up, worker, taker) };
+    match scope.spawn_with(promise, job) {
+        Ok(handle) => Ok(handle),
+        Err(refused) => {
+            given_up.store(true, Ordering::SeqCst);
+            Err((refused.value)())
+        }
+    }
+}
+
+/// What a thread gave back, or what it would have given.
+pub(crate) fn finish<S: Store, Q: Runner, R: Threads>(
+    rt: &R,
+    started: Result<PromisedHandle<Back<S, Q>, Handed<S, Q>>, Back<S, Q>>,
+) -> Back<S, Q>
+    ensures { MatchResult started
+        (λ h. Returned S.called S.asked Q.gives h.promise.worker.value h.promise.taker.value
+        result.worker result.taker result.met result.took_stop)
+        (λ b. result ≡ b) }
+{
+    match started {
+        Ok(handle) => handle.join(rt),
+        Err(back) => back,
+    }
+}
