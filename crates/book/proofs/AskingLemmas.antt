@@ -1,26 +1,25 @@
 -- What is told of the job that a goal leads.
-use Rattle.std.proofs.Common.{◌≡◌, ℕ, Bool, true, false, inl, inr, List, refl, sym, ◌∙◌, ap, subst, Option, Some, None, Result, Ok, Err}
-use Rattle.std.specs.Prelude.{◌≢◌, if◌then◌else◌, MatchResult}
-use mathlib.Core.List.{IsPrefix}
+use Rattle.std.proofs.Common.{◌≡◌, ℕ, Bool, true, false, List, refl, sym, ◌∙◌, ap, subst, Option, Some, None, Result, Ok, Err}
+use Rattle.std.specs.Prelude.{◌≢◌, if◌then◌else◌}
 use Rattle.model.specs.declared.refusal.Refusal.{Refusal}
-use Rattle.model.specs.declared.refusal.Refusal.TheVariants.{Memory, UnknownUser, WrongState}
+use Rattle.model.specs.declared.refusal.Refusal.TheVariants.{Stopped, UnknownUser, WrongState}
 use Rattle.model.specs.Paths.{NoClash}
 use Rattle.model.specs.Reach.{is_among}
 use Rattle.model.specs.Worlds.{Setup, World, nothing, Resolved, Job, Goal}
 use Rattle.model.specs.Goals.{goal_at, is_in, Running}
 use Rattle.model.specs.RunningJobs.{with_kept, led_job, job_led_by}
-use Rattle.model.specs.KeptClosures.{IsWellKept, KeptClosuresAreGood}
+use Rattle.model.specs.KeptClosures.{KeptClosuresAreGood}
 use Rattle.model.specs.Steps.{world_after}
 use Rattle.model.specs.HashedTexts.{hashed}
 use Rattle.leading.specs.Asking.{IsAnswerTo}
 use Rattle.passes.specs.declared.row.Row.{Row}
-use Rattle.passes.specs.Callers.{Caller}
+use Rattle.passes.specs.Callers.{Caller, Matches}
 use Rattle.schedule.specs.declared.state.Core.{Core}
-use Rattle.schedule.specs.Standing.{world_of, setup_of}
+use Rattle.schedule.specs.Standing.{setup_of}
 use Rattle.schedule.specs.Asking.{job_asked_for}
 use Rattle.book.specs.Histories.{events_of, IsLegal}
-use Rattle.book.specs.Keeping.{StandsFor}
-use Rattle.book.specs.Asking.{IsAsked}
+use Rattle.book.specs.Keeping.{Contents, StandsFor}
+use Rattle.book.specs.Asking.{IsAsked, IsAskedAfter}
 
 -- ---- a goal that leads a job keeps what is told
 
@@ -52,12 +51,10 @@ told_ok answer (Ok r) is job e = is.value ∙ e
 told_ok answer (Err why) is job e = absurd (cc)
 
 -- where the core stands for the world that the rows reach, what it tells is so after them
-pub is_asked : (law : KeptClosuresAreGood) (setup : Setup) (pass : Caller) (core : Core) (rows : List Row) (user : List ℕ) (number : ℕ) (told : Result Running Refusal)
-    → IsPrefix pass.sure rows → IsLegal setup rows → setup_of core ≡ setup → StandsFor setup core rows → IsAnswerTo (job_asked_for core user number) told
-    → IsAsked setup pass user number told
-is_asked law setup pass core rows user number told longer legal given stands is = record {
-  rows = rows;
-  longer = longer;
+after_rows : (law : KeptClosuresAreGood) (setup : Setup) (core : Core) (rows : List Row) (user : List ℕ) (number : ℕ) (told : Result Running Refusal)
+    → IsLegal setup rows → setup_of core ≡ setup → StandsFor setup core rows → IsAnswerTo (job_asked_for core user number) told
+    → IsAskedAfter setup rows user number told
+after_rows law setup core rows user number told legal given stands is = record {
   legal = legal;
   same = same;
   kept = λ clean job ok.
@@ -68,3 +65,28 @@ is_asked law setup pass core rows user number told longer legal given stands is 
     same : NoClash (hashed setup nothing (events_of rows)) → IsAnswerTo (job_led_by setup (world_after setup nothing (events_of rows)) user number) told
     same clean = subst (λ (s : Setup). IsAnswerTo (job_led_by s (world_after setup nothing (events_of rows)) user number) told) given
         (subst (λ (w : World). IsAnswerTo (job_led_by (setup_of core) w user number) told) (stands clean) is)
+
+-- ---- what a front tells
+
+-- a mark that is not set
+not_set : (mark : Bool) → (mark ≡ true → ⊥) → mark ≡ false
+not_set true never = absurd (never refl)
+not_set false never = refl
+
+-- what a book ensures where it is asked, and is not stopped
+module _ (setup : Setup) (book : Contents) (user : List ℕ) (number : ℕ) (told : Result Running Refusal) (law : KeptClosuresAreGood)
+    (legal : IsLegal setup book.rows) (given : setup_of book.core ≡ setup) (reached : book.stopped ≡ false → StandsFor setup book.core book.rows)
+    (value : book.stopped ≡ false → IsAnswerTo (job_asked_for book.core user number) told) (stopped : book.stopped ≡ true → told ≡ Err Stopped) (going : told ≢ Err Stopped) where
+  -- what it tells is so after all its rows
+  after_all : IsAskedAfter setup book.rows user number told
+  after_all =
+      let was : book.stopped ≡ false = not_set book.stopped (λ is. going (stopped is)) in
+      after_rows law setup book.core book.rows user number told legal given (reached was) (value was)
+
+  -- so it is after rows that begin with the sure rows of a pass
+  pub is_asked : (pass : Caller) → Matches book.rows book.stopped pass → IsAsked setup pass user number told
+  is_asked pass matches = record { rows = book.rows; longer = matches.sure; after = after_all }
+
+  -- and after those of the only pass
+  pub is_asked_alone : (sure : List Row) (parts : ℕ) → (parts ≡ 1 → sure ≡ book.rows) → parts ≡ 1 → IsAskedAfter setup sure user number told
+  is_asked_alone sure parts alone only = subst (λ (rows : List Row). IsAskedAfter setup rows user number told) (sym (alone only)) after_all

@@ -14,12 +14,16 @@ use Rattle.passes.specs.declared.row.Row.{Row}
 use Rattle.passes.specs.Callers.{Caller}
 use Rattle.book.specs.Histories.{events_of, IsLegal}
 
--- what is told is so after rows that begin with the sure rows of the pass and are a legal history: where no two texts that their events
--- hash have one folded digest, it is the job that the goal leads in the world that they reach, or why it leads none, and what the goal
--- keeps was found when it was planned, and is good
-pub record IsAsked (setup : Setup) (pass : Caller) (user : List ℕ) (number : ℕ) (told : Result Running Refusal) : Type 0 where
-  pub rows : List Row
-  pub longer : IsPrefix pass.sure rows
+-- what is told is so after these rows, which are a legal history: where no two texts that their events hash have one folded digest, it is
+-- the job that the goal leads in the world that they reach, or why it leads none, and what the goal keeps was found when it was planned,
+-- and is good
+pub record IsAskedAfter (setup : Setup) (rows : List Row) (user : List ℕ) (number : ℕ) (told : Result Running Refusal) : Type 0 where
   pub legal : IsLegal setup rows
   pub same : NoClash (hashed setup nothing (events_of rows)) → IsAnswerTo (job_led_by setup (world_after setup nothing (events_of rows)) user number) told
   pub kept : NoClash (hashed setup nothing (events_of rows)) → (job : Running) → told ≡ Ok job → IsWellKept setup (events_of rows) user number job.resolved
+
+-- what is told is so after rows that begin with the sure rows of the pass
+pub record IsAsked (setup : Setup) (pass : Caller) (user : List ℕ) (number : ℕ) (told : Result Running Refusal) : Type 0 where
+  pub rows : List Row
+  pub longer : IsPrefix pass.sure rows
+  pub after : IsAskedAfter setup rows user number told

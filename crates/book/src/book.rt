@@ -266,6 +266,8 @@ impl<J: Naming> Book<J> {
         ensures stopped { self.old.stopped ≡ true → result ≡ Err Stopped }
         ensures only_then { result ≡ Err Stopped → self.old.stopped ≡ true }
         ensures matches { Matches self.old.rows self.old.stopped pass.old }
+        // The only pass knows all rows.
+        ensures alone { J.parts ≡ 1 → pass.old.sure ≡ self.old.rows }
         ensures told { result ≡ Err Stopped → pass.new ≡ told_stopped pass.old }
         ensures going { result ≢ Err Stopped → pass.new ≡ pass.old }
         ensures stays { self.new ≡ self.old }
@@ -276,11 +278,13 @@ impl<J: Naming> Book<J> {
         isolation();
         let Book {
             core,
+            calls,
             log,
             stopped,
             ..
         } = self;
         pass.compare(log);
+        pass.audit(calls);
         if *stopped {
             return Err(Refusal::Stopped);
         }

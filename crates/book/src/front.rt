@@ -8,7 +8,7 @@ ghost use Rattle.book.specs.Keeping.{IsNew};
 ghost use Rattle.passes.specs.Callers.{newcomer, told_stopped, below, rows_of};
 ghost use Rattle.passes.specs.Tokens.{nothing_recorded};
 ghost use Rattle.book.specs.Histories.{row, gave_up, IsLegal, IsAnswered};
-ghost use Rattle.book.specs.Asking.{IsAsked};
+ghost use Rattle.book.specs.Asking.{IsAsked, IsAskedAfter};
 
 use crate::book::Book;
 use crate::history::History;
@@ -111,9 +111,10 @@ impl<J: Naming> Front<J> {
     /// the lock, so it may wait. It makes no row, and shares all that is large.
     ///
     /// What is told is so after rows that begin with the sure rows of the pass and are a legal
-    /// history. The closure that the job is built from was found by an event among them that planned
-    /// the goal: it serves no class by two paths, has an entry for each label of its entries, and
-    /// keeps no hash part of a path that another one replaces.
+    /// history; where it is the only pass, after exactly its sure rows. The closure that the job is
+    /// built from was found by an event among them that planned the goal: it serves no class by two
+    /// paths, has an entry for each label of its entries, and keeps no hash part of a path that
+    /// another one replaces.
     ///
     /// # Errors
     ///
@@ -134,6 +135,8 @@ impl<J: Naming> Front<J> {
     ) -> Result<RunningJob, Refusal>
         ensures asked { result ≢ Err Stopped
             → IsAsked J.setup pass.old user.now number result }
+        ensures alone { result ≢ Err Stopped → J.parts ≡ 1
+            → IsAskedAfter J.setup pass.old.sure user.now number result }
         ensures going { result ≢ Err Stopped → pass.new ≡ pass.old }
         ensures stopped { result ≡ Err Stopped → pass.new ≡ told_stopped pass.old }
         ensures remains { pass.old.stopped ≡ true → result ≡ Err Stopped }

@@ -1,13 +1,29 @@
-use Rattle.std.proofs.Common.{List, ℕ}
+use Rattle.std.proofs.Common.{◌≡◌, List, ℕ, ap, ◌∙◌}
 use Rattle.std.proofs.lemmas.List.Elements.{All-contains_itself}
 use Rattle.model.specs.Worlds.{nothing}
 use Rattle.model.specs.HashedTexts.{hashed}
 use Rattle.book.specs.Histories.{events_of}
-use Rattle.book.proofs.KeepingLemmas.{is_legal}
+use Rattle.book.specs.Keeping.{Contents}
+use Rattle.book.proofs.KeepingLemmas.{is_legal, sure_of_all}
+use Rattle.book.proofs.book.Book.request.Given.{Over}
+use Rattle.book.proofs.book.Book.request.Goals.{After-audit}
 use Rattle.book.proofs.book.Book.request.Goals as goal
+
+-- the only pass
+only_pass : (g : Over) (c : After-audit g) → g.J.Ledger.parts ≡ 1 → c.args.pass.now.sure ≡ c.args.self.now.rows
+only_pass g c one =
+    let inside = c.self.inside in
+    sure_of_all c.args.pass.now.sure c.compare.new.self.sure inside.log.rows inside.history.items _ c.compare.ensures.matches.sure
+    c.self.invariant.4 c.compare.ensures.sure (c.audit.ensures.alone one).0 c.self.invariant.1 ∙ ap (λ (b : Contents). b.rows) c.self.view_is
+
+pub returns-then-stopped-clause-alone : goal.returns-then-stopped-clause-alone
+returns-then-stopped-clause-alone g c = only_pass g ((goal.at.returns-then-stopped-clause-alone g c).After-audit)
 
 pub returns-then-stopped-clause-legal : goal.returns-then-stopped-clause-legal
 returns-then-stopped-clause-legal g c = rw (← c.self.view_is) (is_legal g.J.Naming.setup c.self.inside.core c.self.inside.stopped c.self.inside.history.items c.self.invariant.0 c.isolation.ensures)
+
+pub returns-clause-alone : goal.returns-clause-alone
+returns-clause-alone g c = only_pass g ((goal.at.returns-clause-alone g c).After-audit)
 
 pub returns-clause-legal : goal.returns-clause-legal
 returns-clause-legal g c = rw (← c.self.view_is) (is_legal g.J.Naming.setup c.self.inside.core c.self.inside.stopped c.self.inside.history.items c.self.invariant.0 c.isolation.ensures)
