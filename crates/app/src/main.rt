@@ -1,86 +1,114 @@
 //! The program `intstore`: it runs files of lines, one event a line.
 #![tactic(auto)]
 
-mod counted;
+ghost use Rattle.std.specs.Prelude.{◌≤◌};
+ghost use Rattle.model.specs.Limits.{most_charge};
+
 mod fault;
+mod files;
+mod narrator;
+mod runs;
 mod strike;
 
-use crate::counted::Counted;
 use crate::fault::{COMMAND_LINE_FAULT, Fault, OUT_OF_MEMORY, report};
 use command_line::{Action, Options, options};
 use model::Refusal;
-use replaying::replay;
 use schedule::Limits;
-use std::fs::File;
 use std::hash::RandomState;
-use std::io::{BufWriter, ErrorKind};
+use std::io;
+use std::io::ErrorKind;
 use std::process::ExitCode;
 use std::sync::Wait;
-use std::{fs, io};
 
-/// Runs the lines of a file as the options say, says on standard error what went wrong, and gives the exit
-/// status.
-fn run_lines(
-    rt: &HostRuntime,
-    wait: &impl Wait,
-    options: &Options,
-    reader: &mut Counted<File>,
-) -> io::Result<u8> {
-    let mut writer = Counted::new(BufWriter::new(rt.alloc(), io::writer(rt))?);
+/// Runs the lines of a file, says on standard error what went wrong, and gives the exit status. A file that
+/// cannot be opened ends like one that cannot be read.
+fn replay_file(rt: &HostRuntime, wait: &impl Wait, limits: Limits, name: &str) -> io::Result<u8>
+    requires { limits.charge ≤ most_charge }
+{
+    let Some(mut reader) = files::open(rt, name)? else {
+        return Ok(report(rt, &Err(Refusal::InputFault), name));
+    };
+    let mut writer = files::output(rt)?;
     let hashing = RandomState::new(rt)?;
-    let alloc = rt.alloc();
-    let limits = Limits {
-        charge: options.charge,
-    };
-    let ended = match &options.action {
-        Action::Replay => replay(wait, alloc, hashing, limits, reader, &mut writer),
-        Action::Strike(user) => {
-            let user = user.as_bytes();
-            strike::strike(alloc, hashing, limits, user, reader, &mut writer)
-        }
-    };
-    Ok(report(rt, &ended, options.file.as_str()))
+    let ended = replaying::replay(wait, rt.alloc(), hashing, limits, &mut reader, &mut writer);
+    Ok(report(rt, &ended, name))
 }
 
-/// Opens the file that the options name, and runs its lines. A file that cannot be opened ends like one
-/// that cannot be read.
-fn run_file(rt: &HostRuntime, wait: &impl Wait, options: &Options) -> io::Result<u8> {
-    let name = options.file.as_str();
-    match fs::open(rt, name) {
-        Ok(file) => run_lines(rt, wait, options, &mut Counted::new(file)),
-        Err(error) if error.kind() == ErrorKind::OutOfMemory => Err(error),
-        Err(_) => Ok(report(rt, &Err(Refusal::InputFault), name)),
+/// Runs those events of a file that can reach a user, as [`replay_file`] runs them all.
+fn strike_file(rt: &HostRuntime, limits: Limits, user: &str, name: &str) -> io::Result<u8>
+    requires { limits.charge ≤ most_charge }
+{
+    let Some(mut reader) = files::open(rt, name)? else {
+        return Ok(report(rt, &Err(Refusal::InputFault), name));
+    };
+    let mut writer = files::output(rt)?;
+    let hashing = RandomState::new(rt)?;
+    let user = user.as_bytes();
+    let ended = strike::strike(rt.alloc(), hashing, limits, user, &mut reader, &mut writer);
+    Ok(report(rt, &ended, name))
+}
+
+/// What the words of a command line ask for.
+#[derive(Drop)]
+enum Asked {
+    /// What these options say.
+    For(Options),
+    /// Nothing: what there is to say is said, and this is the exit status.
+    Nothing(u8),
+}
+
+/// The limits that the options set.
+fn limits_of(options: &Options) -> Limits
+    ensures { result.charge ≤ most_charge }
+{
+    Limits {
+        charge: options.charge,
     }
 }
 
-/// Does what the words of a command line say, and gives the exit status. What cannot be said on standard
-/// error is let go.
-fn run_words(rt: &HostRuntime, wait: &impl Wait, words: &[String]) -> io::Result<u8> {
-    match options(rt.alloc(), words) {
-        Ok(options) => run_file(rt, wait, &options),
+/// What the words of the command line ask for. A fault in them is said on standard error; what cannot be
+/// said is let go.
+fn read_words(rt: &HostRuntime) -> io::Result<Asked> {
+    let words: Vec<String> = std::env::args(rt)?.collect(rt.alloc())?;
+    match options(rt.alloc(), words.as_slice()) {
+        Ok(options) => Ok(Asked::For(options)),
         Err(error) if error.kind() == clap::error::ErrorKind::OutOfMemory => {
             Err(io::Error::from(ErrorKind::OutOfMemory))
         }
         Err(error) => {
             let _ = rt.eprint(error);
-            Ok(COMMAND_LINE_FAULT)
+            Ok(Asked::Nothing(COMMAND_LINE_FAULT))
         }
     }
 }
 
-/// Does what the words of the command line say, and gives the exit status.
-fn run(rt: &HostRuntime, wait: &impl Wait) -> io::Result<u8> {
-    let words: Vec<String> = std::env::args(rt)?.collect(rt.alloc())?;
-    run_words(rt, wait, words.as_slice())
-}
-
-fn main(rt: HostRuntime) -> io::Result<ExitCode> {
-    let status = match run(&rt, &rt) {
+/// The exit status of a run that ended so. Want of memory is said on standard error.
+fn status_of(rt: &HostRuntime, ended: io::Result<u8>) -> io::Result<u8> {
+    match ended {
         Err(error) if error.kind() == ErrorKind::OutOfMemory => {
             let _ = rt.eprintln(Fault::OutOfMemory);
-            OUT_OF_MEMORY
+            Ok(OUT_OF_MEMORY)
         }
-        status => status?,
+        ended => ended,
+    }
+}
+
+// The runners of `run` are made here: only here is it known what the runtime is, and no function that takes
+// any runtime may hand its processes to threads.
+fn main(rt: HostRuntime) -> io::Result<ExitCode> {
+    let ended = match read_words(&rt) {
+        Ok(Asked::For(options)) => match &options.action {
+            Action::Replay(file) => replay_file(&rt, &rt, limits_of(&options), file.as_str()),
+            Action::Strike { user, file } => {
+                strike_file(&rt, limits_of(&options), user.as_str(), file.as_str())
+            }
+            Action::Run(run) => match runs::runners_for(&rt, &rt, run) {
+                Ok(runners) => runs::run_files(&rt, &rt, limits_of(&options), run, runners),
+                Err(error) => Err(io::Error::from(error)),
+            },
+        },
+        Ok(Asked::Nothing(status)) => Ok(status),
+        Err(error) => Err(error),
     };
-    Ok(ExitCode::from(status))
+    Ok(ExitCode::from(status_of(&rt, ended)?))
 }

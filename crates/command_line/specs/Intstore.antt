@@ -1,10 +1,18 @@
 -- The command `intstore`, in the words that `clap` has for a command: what is read of its subcommands and
 -- of their arguments. Texts of help are no part of it.
-use Rattle.std.specs.Prelude.{codes, [], ◌∷◌, true, Some}
+use Rattle.std.specs.Prelude.{ℕ, codes, List, [], ◌∷◌, true, Some}
 use Rattle.clap.specs.Walk.{Rule}
 use Rattle.clap.specs.Simple.{App, Shape, new_app, new_rule, on_top, with_rule, with_subcommand}
-use Rattle.clap.specs.declared.builder.action.ArgAction.TheVariants.{Set}
+use Rattle.clap.specs.declared.builder.action.ArgAction.TheVariants.{Set, SetTrue}
 use Rattle.clap.specs.declared.builder.value_parser.ValueParser.TheVariants as parser
+
+-- the most workers that a run may have
+abbrev pub most_workers : ℕ
+most_workers = 7
+
+-- the most files that a run may have
+abbrev pub most_files : ℕ
+most_files = 8
 
 -- `--charge N`: a number from 1 to 1,073,741,824, and the latter where the option is left out
 abbrev pub charge_rule : Rule
@@ -24,6 +32,15 @@ file_rule = record (new_rule (codes "file")) {
   required = true;
 }
 
+-- `FILE..`: one to eight of them, with no option in between
+abbrev pub files_rule : Rule
+files_rule = record (new_rule (codes "files")) {
+  action = Some Set;
+  range = Some (record { start_inclusive = 1; end_inclusive = most_files });
+  value_names = 1;
+  required = true;
+}
+
 -- `--user U`
 abbrev pub user_rule : Rule
 user_rule = record (new_rule (codes "user")) {
@@ -33,22 +50,72 @@ user_rule = record (new_rule (codes "user")) {
   required = true;
 }
 
+-- `--workers N`: a number from 1 to 7
+abbrev pub workers_rule : Rule
+workers_rule = record (new_rule (codes "workers")) {
+  long = Some (codes "workers");
+  action = Some Set;
+  value_names = 1;
+  parser = Some (parser.Unsigned 1 most_workers);
+  required = true;
+}
+
+-- `--builders DIR`: the current folder where the option is left out
+abbrev pub builders_rule : Rule
+builders_rule = record (new_rule (codes "builders")) {
+  long = Some (codes "builders");
+  action = Some Set;
+  value_names = 1;
+  defaults = codes "." ∷ [];
+}
+
+-- `--work DIR`: the current folder where the option is left out
+abbrev pub work_rule : Rule
+work_rule = record (new_rule (codes "work")) {
+  long = Some (codes "work");
+  action = Some Set;
+  value_names = 1;
+  defaults = codes "." ∷ [];
+}
+
+-- `--verbose`
+abbrev pub verbose_rule : Rule
+verbose_rule = record (new_rule (codes "verbose")) {
+  long = Some (codes "verbose");
+  action = Some SetTrue;
+}
+
+-- the command with these arguments as well
+abbrev pub with_rules : App → List Rule → App
+with_rules a [] = a
+with_rules a (r ∷ rs) = with_rules (with_rule a r) rs
+
 -- `replay [--charge N] FILE`
 abbrev pub replay : App
-replay = with_rule (with_rule (new_app (codes "replay")) charge_rule) file_rule
+replay = with_rules (new_app (codes "replay")) (charge_rule ∷ file_rule ∷ [])
 
 -- `strike --user U [--charge N] FILE`
 abbrev pub strike : App
-strike =
-    with_rule (with_rule (with_rule (new_app (codes "strike")) user_rule) charge_rule)
-    file_rule
+strike = with_rules (new_app (codes "strike")) (user_rule ∷ charge_rule ∷ file_rule ∷ [])
+
+-- `run --workers N [--builders DIR] [--work DIR] [--charge N] [--verbose] FILE..`
+abbrev pub run : App
+run = with_rules (new_app (codes "run")) (workers_rule ∷ builders_rule ∷ work_rule ∷ charge_rule
+    ∷ verbose_rule ∷ files_rule ∷ [])
 
 -- it has a version, and does nothing without a subcommand
 abbrev pub needs_subcommand : Shape → Shape
 needs_subcommand s = record s { has_version = true; subcommand_required = true }
 
--- the command, of which one of two subcommands is to be named
+-- the command with these subcommands as well
+abbrev pub with_subcommands : App → List App → App
+with_subcommands a [] = a
+with_subcommands a (sub ∷ subs) = with_subcommands (with_subcommand a sub.top) subs
+
+-- the subcommands
+abbrev pub subcommands : List App
+subcommands = replay ∷ strike ∷ run ∷ []
+
+-- the command, of which one of its subcommands is to be named
 abbrev pub intstore : App
-intstore = with_subcommand
-    (with_subcommand (on_top needs_subcommand (new_app (codes "intstore"))) replay.top)
-    strike.top
+intstore = with_subcommands (on_top needs_subcommand (new_app (codes "intstore"))) subcommands

@@ -1,5 +1,5 @@
--- What is said of the steps that build the command.
-use Rattle.std.specs.Prelude.{◌≡◌, ⊤, List, [], ◌∷◌, false}
+-- What is said of the steps that build the command, and of those that read its matches.
+use Rattle.std.specs.Prelude.{◌≡◌, ⊤, List, [], ◌∷◌, Option, Some, None, false}
 use Rattle.clap.specs.Walk.{Rule, rule_of}
 use Rattle.clap.specs.Simple.{App, app_of}
 use Rattle.clap.specs.declared.builder.arg.Arg.{Arg}
@@ -19,3 +19,8 @@ abbrev pub AreCommands : List App → List Command → Type 0
 AreCommands [] [] = ⊤
 AreCommands (d ∷ ds) (c ∷ cs) = IsCommand d c × AreCommands ds cs
 AreCommands _ _ = ⊥
+
+-- the value has the property, and there is none only where no value has it
+abbrev pub IsFound : {X : Type 0} → (X → Type 0) → Option X → Type 0
+IsFound {X} has None = (x : X) → ¬ has x
+IsFound {X} has (Some x) = has x

@@ -1,18 +1,17 @@
-//! The arguments of the command line, and what they name.
+//! The command `intstore` with its arguments, and the options that it finds in the words of a command line.
 
-ghost use Rattle.std.specs.Prelude.{◌≤◌, ◌∷◌, [], IfOk, IfSome, codes, map, string_bytes};
-ghost use Rattle.model.specs.Limits.{most_charge};
-ghost use Rattle.clap.specs.Words.{Text, found_of, one_text, subcommand_rows_of};
-ghost use Rattle.command_line.specs.Intstore.{charge_rule, file_rule, user_rule};
-ghost use Rattle.command_line.specs.Intstore.{intstore, replay, strike};
-ghost use Rattle.command_line.specs.Named.{AnswersWords, AreOptionsOf, AskFor, IsActionOf};
-ghost use Rattle.command_line.specs.Named.{IsChargeOf, rows_in};
+ghost use Rattle.std.specs.Prelude.{IfOk, map, string_bytes};
+ghost use Rattle.command_line.specs.Intstore.{builders_rule, charge_rule, file_rule, files_rule};
+ghost use Rattle.command_line.specs.Intstore.{user_rule, verbose_rule, work_rule, workers_rule};
+ghost use Rattle.command_line.specs.Intstore.{intstore, replay, run, strike};
+ghost use Rattle.command_line.specs.Intstore.{subcommands as described_subcommands};
+ghost use Rattle.command_line.specs.Named.{AnswersWords};
 ghost use Rattle.command_line.specs.Steps.{AreCommands, IsArgument, IsCommand};
 
-use crate::settings::{Action, Options};
+use crate::matched::options_in;
+use crate::settings::{MOST_FILES, Options};
 use clap::error::ErrorKind;
-use clap::{Arg, ArgAction, ArgMatches, Command, Error, value_parser};
-use realise::LARGEST_CHARGE;
+use clap::{Arg, ArgAction, Command, Error, value_parser};
 use std::alloc::{AllocError, Global};
 
 /// The option `--charge`.
@@ -39,6 +38,18 @@ fn file_argument<'a>(alloc: Global) -> Arg<'a>
         .help("A file of lines, each an event of one user")
 }
 
+/// The argument FILE, one to eight times.
+fn files_argument<'a>(alloc: Global) -> Arg<'a>
+    ensures { IsArgument files_rule result }
+{
+    Arg::new(alloc, "files")
+        .value_name("FILE")
+        .action(ArgAction::Set)
+        .num_args(1..=MOST_FILES)
+        .required(true)
+        .help("A file of lines for each session, each an event of one user; 1 to 8 files")
+}
+
 /// The option `--user`.
 fn user_argument<'a>(alloc: Global) -> Arg<'a>
     ensures { IsArgument user_rule result }
@@ -49,6 +60,53 @@ fn user_argument<'a>(alloc: Global) -> Arg<'a>
         .action(ArgAction::Set)
         .required(true)
         .help("The user whose replies are printed")
+}
+
+/// The option `--workers`.
+fn workers_argument<'a>(alloc: Global) -> Arg<'a>
+    ensures { IsArgument workers_rule result }
+{
+    Arg::new(alloc, "workers")
+        .long("workers")
+        .value_name("N")
+        .action(ArgAction::Set)
+        .value_parser(value_parser!(u64).range(1..=7))
+        .required(true)
+        .help("How many workers build for each session, from 1 to 7")
+}
+
+/// The option `--builders`.
+fn builders_argument<'a>(alloc: Global) -> Arg<'a>
+    ensures { IsArgument builders_rule result }
+{
+    Arg::new(alloc, "builders")
+        .long("builders")
+        .value_name("DIR")
+        .action(ArgAction::Set)
+        .default_value(".")
+        .help("The folder with the builders")
+}
+
+/// The option `--work`.
+fn work_argument<'a>(alloc: Global) -> Arg<'a>
+    ensures { IsArgument work_rule result }
+{
+    Arg::new(alloc, "work")
+        .long("work")
+        .value_name("DIR")
+        .action(ArgAction::Set)
+        .default_value(".")
+        .help("The folder for the files that builders are given")
+}
+
+/// The flag `--verbose`.
+fn verbose_argument<'a>(alloc: Global) -> Arg<'a>
+    ensures { IsArgument verbose_rule result }
+{
+    Arg::new(alloc, "verbose")
+        .long("verbose")
+        .action(ArgAction::SetTrue)
+        .help("Says on standard error as each builder starts, and how it ended")
 }
 
 /// The subcommand `replay`.
@@ -75,16 +133,34 @@ fn strike_command<'a>(alloc: Global) -> Result<Command<'a>, AllocError>
         .args(arguments)
 }
 
-/// The two subcommands.
+/// The subcommand `run`.
+fn run_command<'a>(alloc: Global) -> Result<Command<'a>, AllocError>
+    ensures { IfOk result (IsCommand run) }
+{
+    let arguments = vec![in alloc;
+        workers_argument(alloc),
+        builders_argument(alloc),
+        work_argument(alloc),
+        charge_argument(alloc),
+        verbose_argument(alloc),
+        files_argument(alloc),
+    ]?;
+    Command::new(alloc, "run")
+        .about("Runs each FILE as a session of one store that builds, and prints the replies")
+        .args(arguments)
+}
+
+/// The subcommands.
 fn subcommands<'a>(alloc: Global) -> Result<Vec<Command<'a>>, AllocError>
-    ensures { IfOk result (λ v. AreCommands (replay ∷ strike ∷ []) v.items) }
+    ensures { IfOk result (λ v. AreCommands described_subcommands v.items) }
 {
     let replay = replay_command(alloc)?;
     let strike = strike_command(alloc)?;
-    Ok(vec![in alloc; replay, strike]?)
+    let run = run_command(alloc)?;
+    Ok(vec![in alloc; replay, strike, run]?)
 }
 
-/// The command `intstore`, with its two subcommands.
+/// The command `intstore`, with its subcommands.
 fn command<'a>(alloc: Global) -> Result<Command<'a>, AllocError>
     ensures { IfOk result (IsCommand intstore) }
 {
@@ -95,68 +171,6 @@ fn command<'a>(alloc: Global) -> Result<Command<'a>, AllocError>
         .subcommand_required(true)
         .subcommands(subcommands)?
         .bin_name("intstore")
-}
-
-/// The limit on the charge: as given, or the largest. The parser has refused every other number.
-fn charge_of(matches: &ArgMatches<'_>) -> u64
-    ensures within { (1 ≤ result) × (result ≤ most_charge) }
-    ensures value { IsChargeOf (one_text (found_of matches.now) (codes "charge")) result }
-{
-    match matches.get_one::<u64>("charge") {
-        Some(charge) if charge >= 1 && charge <= LARGEST_CHARGE => charge,
-        _ => LARGEST_CHARGE,
-    }
-}
-
-/// What the matches of a subcommand ask for, or nothing where there is no such subcommand, or where a user
-/// is to be named and is not.
-fn action_of(
-    alloc: Global,
-    subcommand: &str,
-    matches: &ArgMatches<'_>,
-) -> Result<Option<Action>, AllocError>
-    ensures { IfOk result (λ a. IfSome a (IsActionOf subcommand.now (rows_in matches.now))) }
-{
-    match subcommand {
-        "replay" => Ok(Some(Action::Replay)),
-        "strike" => match matches.get_str("user") {
-            Some(user) => Ok(Some(Action::Strike(String::from_str(alloc, user)?))),
-            None => Ok(None),
-        },
-        _ => Ok(None),
-    }
-}
-
-/// The options that the matches of a subcommand hold, or none where they have no file.
-fn options_of(
-    alloc: Global,
-    action: Action,
-    matches: &ArgMatches<'_>,
-) -> Result<Option<Options>, AllocError>
-    ensures { (name : Text) → IsActionOf name (rows_in matches.now) action
-        → IfOk result (λ o. IfSome o (AreOptionsOf name (rows_in matches.now))) }
-{
-    let Some(file) = matches.get_str("file") else {
-        return Ok(None);
-    };
-    Ok(Some(Options {
-        action,
-        charge: charge_of(matches),
-        file: String::from_str(alloc, file)?,
-    }))
-}
-
-/// The options that the matches of a whole line hold, or none where they have no subcommand or no file.
-fn options_in(alloc: Global, matches: &ArgMatches<'_>) -> Result<Option<Options>, AllocError>
-    ensures { IfOk result (λ o. IfSome o (AskFor (subcommand_rows_of matches.now))) }
-{
-    match matches.subcommand() {
-        Some((subcommand, found)) => match action_of(alloc, subcommand, found)? {
-            Some(action) => options_of(alloc, action, found),
-            None => Ok(None),
-        },
-        None => Ok(None),
-    }
 }
 
 /// The options that the command finds in the words of a command line.
@@ -171,7 +185,9 @@ fn options_by<'a>(
     let matches = command.try_get_matches_from_mut(words)?;
     match options_in(alloc, &matches)? {
         Some(options) => Ok(options),
-        None => Err(command.error(ErrorKind::MissingRequiredArgument, "FILE is missing")?),
+        None => {
+            Err(command.error(ErrorKind::MissingRequiredArgument, "an argument is missing")?)
+        }
     }
 }
 

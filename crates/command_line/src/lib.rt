@@ -3,7 +3,8 @@
 #![tactic(auto)]
 
 mod arguments;
+mod matched;
 mod settings;
 
 pub use arguments::options;
-pub use settings::{Action, Options};
+pub use settings::{Action, Options, Run};

@@ -1,25 +1,54 @@
 //! What the program is to do.
 
-ghost use Rattle.std.specs.Prelude.{◌≤◌};
+ghost use Rattle.std.specs.Prelude.{◌≤◌, length};
 ghost use Rattle.model.specs.Limits.{most_charge};
+ghost use Rattle.command_line.specs.Intstore.{most_files, most_workers};
 
-/// What is done with a file.
+/// The most workers that a run may have.
+pub(crate) const MOST_WORKERS: u64 = 7;
+
+/// The most files that a run may have.
+pub(crate) const MOST_FILES: usize = 8;
+
+/// What is done, and with which files.
 #[derive(Drop)]
 pub enum Action {
-    /// All its lines are run, and their replies are printed.
-    Replay,
+    /// All lines of this file are run, and their replies are printed.
+    Replay(String),
     /// Those of its events that can reach the user of that name are run, and his replies are printed.
-    Strike(String),
+    Strike {
+        /// The name of the user.
+        user: String,
+        /// The file whose lines are run.
+        file: String,
+    },
+    /// The files are run as sessions of one store that builds.
+    Run(Run),
+}
+
+/// Sessions of one store that builds.
+#[derive(Drop)]
+pub struct Run {
+    /// How many workers build for each session: 1 to 7.
+    pub workers: usize,
+    /// The folder with the builders.
+    pub builders: String,
+    /// The folder for the files that builders are given.
+    pub work: String,
+    /// Whether it is said on standard error as each builder starts, and how it ended.
+    pub verbose: bool,
+    /// The files, one for each session, in their order: 1 to 8.
+    pub files: Vec<String>,
+    ghost few_workers: { (1 ≤ workers) × (workers ≤ most_workers) },
+    ghost few_files: { (1 ≤ length files.items) × (length files.items ≤ most_files) },
 }
 
 /// What the program is to do.
 #[derive(Drop)]
 pub struct Options {
-    /// What is done with the file.
+    /// What is done, and with which files.
     pub action: Action,
     /// The limit on each user's charge, in bytes: 1 to 1,073,741,824.
     pub charge: u64,
-    /// The file whose lines are run.
-    pub file: String,
     ghost in_range: { (1 ≤ charge) × (charge ≤ most_charge) },
 }

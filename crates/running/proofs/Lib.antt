@@ -1,2 +1,5 @@
 mod StandLemmas
 mod Sending
+mod WaitLemmas
+mod ServedLemmas
+mod DeskLemmas

@@ -4,7 +4,7 @@
 //! - `CALL ARGUMENT` runs a call.
 
 use crate::answer::Answer;
-use crate::{fronts, sessions, stores};
+use crate::{builds, fronts, sessions, stores};
 use model::Refusal;
 use session::Mode;
 use std::alloc::Global;
@@ -42,6 +42,7 @@ fn of_line<R: Threads + Wait + Sync>(
         "users" => stores::users(alloc, hashing, argument, out),
         "run" => stores::run(alloc, hashing, out),
         "threads" => fronts::threads(rt, alloc, hashing, out),
+        "builds" => builds::builds(rt, alloc, hashing, argument, out),
         "passes" => fronts::passes(alloc, hashing, out),
         _ => Err(Refusal::BadLine),
     }

@@ -6,6 +6,7 @@
 #![tactic(auto)]
 
 mod answer;
+mod builds;
 mod calls;
 mod devices;
 mod fronts;

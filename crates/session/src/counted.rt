@@ -5,24 +5,31 @@ ghost use Rattle.std.specs.IoError.{error_kind};
 ghost use Rattle.std.specs.Io.{ReadsAtMost, WritesAtMost};
 ghost use Rattle.std.specs.Io.KnownBytes.{Keeps, ReadConsumes, WriteAppends};
 
-use session::Faults;
+use crate::faults::Faults;
 use std::io;
 use std::io::{ErrorKind, Read, Write};
 
 /// A reader or a writer that counts how often it failed. An interruption is no failure. At the
 /// greatest number the count stays.
 #[derive(Drop)]
-pub(crate) struct Counted<T: Drop> {
+pub struct Counted<T: Drop> {
     inner: T,
     failures: u64,
 }
 
 impl<T: Drop> Counted<T> {
     /// A reader or a writer that has not failed.
-    pub(crate) fn new(inner: T) -> Self
+    pub fn new(inner: T) -> Self
         ensures { (result.inner ≡ inner) × (result.failures ≡ 0) }
     {
         Counted { inner, failures: 0 }
+    }
+
+    /// What was read from or written to.
+    pub fn into_inner(self) -> T
+        ensures { result ≡ self.inner }
+    {
+        self.inner
     }
 
     /// Counts what came of a call.

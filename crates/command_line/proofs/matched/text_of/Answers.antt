@@ -1,0 +1,14 @@
+use Rattle.std.proofs.Common.{◌∙◌, rules, sym}
+use Rattle.clap.specs.Words.{found_of}
+use Rattle.clap.proofs.WalkLemmas.{first_value-rows}
+use Rattle.command_line.proofs.matched.text_of.Goals as goal
+
+pub returns-in_ok-from_str-in-Some : goal.returns-in_ok-from_str-in-Some
+returns-in_ok-from_str-in-Some c =
+    let rows = first_value-rows (found_of c.args.matches.now) c.args.id.now in
+    sym (sym rows ∙ (sym c.get_str.ensures ∙ search rules))
+
+pub returns-in-None : goal.returns-in-None
+returns-in-None c =
+    let rows = first_value-rows (found_of c.args.matches.now) c.args.id.now in
+    sym (sym rows ∙ (sym c.get_str.ensures ∙ search rules))

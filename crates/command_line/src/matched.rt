@@ -1,0 +1,168 @@
+//! What the matches of a command line ask for.
+
+ghost use Rattle.std.specs.Prelude.{◌≡◌, ◌≤◌, IfOk, codes, map, option_map, string_bytes};
+ghost use Rattle.model.specs.Limits.{most_charge};
+ghost use Rattle.clap.specs.Walk.{texts};
+ghost use Rattle.clap.specs.Words.{first_of, found_of, one_text, subcommand_rows_of};
+ghost use Rattle.command_line.specs.Named.{AreFilesOf, AreOptionsOf, AskFor, IsActionOf};
+ghost use Rattle.command_line.specs.Named.{IsChargeOf, IsRunOf, IsWorkersOf, rows_in};
+ghost use Rattle.command_line.specs.Steps.{IsFound};
+
+use crate::settings::{Action, MOST_FILES, MOST_WORKERS, Options, Run};
+use clap::ArgMatches;
+use realise::LARGEST_CHARGE;
+use std::alloc::{AllocError, Global};
+
+/// The limit on the charge: as given, or the largest. The parser has refused every other number.
+fn charge_of(matches: &ArgMatches<'_>) -> u64
+    ensures within { (1 ≤ result) × (result ≤ most_charge) }
+    ensures value { IsChargeOf (one_text (found_of matches.now) (codes "charge")) result }
+{
+    match matches.get_one::<u64>("charge") {
+        Some(charge) if charge >= 1 && charge <= LARGEST_CHARGE => charge,
+        _ => LARGEST_CHARGE,
+    }
+}
+
+/// The number of workers, or nothing where none is named. The parser has refused all but 1 to 7.
+fn workers_of(matches: &ArgMatches<'_>) -> Option<usize>
+    ensures { IsFound (IsWorkersOf (one_text (found_of matches.now) (codes "workers"))) result }
+{
+    match matches.get_one::<u64>("workers") {
+        Some(workers) if workers >= 1 && workers <= MOST_WORKERS => Some(workers as usize),
+        _ => None,
+    }
+}
+
+/// The text of an argument, or nothing where it has none.
+fn text_of(alloc: Global, matches: &ArgMatches<'_>, id: &str) -> Result<Option<String>, AllocError>
+    ensures { IfOk result (λ text. option_map string_bytes text
+        ≡ first_of id.now (rows_in matches.now)) }
+{
+    match matches.get_str(id) {
+        Some(text) => Ok(Some(String::from_str(alloc, text)?)),
+        None => Ok(None),
+    }
+}
+
+/// The words, each in a string of its own.
+fn strings_of(alloc: Global, words: &[&str]) -> Result<Vec<String>, AllocError>
+    ensures { IfOk result (λ strings. map string_bytes strings.items ≡ texts words.now) }
+{
+    let mut strings = Vec::new(alloc);
+    for word in words {
+        strings.push(String::from_str(alloc, word)?)?;
+    }
+    Ok(strings)
+}
+
+/// The files of a run, or nothing where none is named. The parser has refused all but 1 to 8.
+fn files_of(alloc: Global, matches: &ArgMatches<'_>) -> Result<Option<Vec<String>>, AllocError>
+    ensures { IfOk result (IsFound (λ files.
+        AreFilesOf (rows_in matches.now) (map string_bytes files.items))) }
+{
+    let Some(words) = matches.get_strs("files") else {
+        return Ok(None);
+    };
+    match words.len() {
+        1..=MOST_FILES => Ok(Some(strings_of(alloc, words)?)),
+        _ => Ok(None),
+    }
+}
+
+/// What the matches of `run` ask for, or nothing where they lack an argument.
+fn run_of(alloc: Global, matches: &ArgMatches<'_>) -> Result<Option<Run>, AllocError>
+    ensures { IfOk result (IsFound (IsRunOf (rows_in matches.now))) }
+{
+    let Some(workers) = workers_of(matches) else {
+        return Ok(None);
+    };
+    let Some(builders) = text_of(alloc, matches, "builders")? else {
+        return Ok(None);
+    };
+    let Some(work) = text_of(alloc, matches, "work")? else {
+        return Ok(None);
+    };
+    let Some(files) = files_of(alloc, matches)? else {
+        return Ok(None);
+    };
+    Ok(Some(Run {
+        workers,
+        builders,
+        work,
+        verbose: matches.get_flag("verbose"),
+        files,
+    }))
+}
+
+/// What the matches of `replay` ask for, or nothing where they have no file.
+fn replay_of(alloc: Global, matches: &ArgMatches<'_>) -> Result<Option<Action>, AllocError>
+    ensures { IfOk result (IsFound (IsActionOf (codes "replay") (rows_in matches.now))) }
+{
+    match text_of(alloc, matches, "file")? {
+        Some(file) => Ok(Some(Action::Replay(file))),
+        None => Ok(None),
+    }
+}
+
+/// What the matches of `strike` ask for, or nothing where they lack an argument.
+fn strike_of(alloc: Global, matches: &ArgMatches<'_>) -> Result<Option<Action>, AllocError>
+    ensures { IfOk result (IsFound (IsActionOf (codes "strike") (rows_in matches.now))) }
+{
+    let user = text_of(alloc, matches, "user")?;
+    let file = text_of(alloc, matches, "file")?;
+    match (user, file) {
+        (Some(user), Some(file)) => Ok(Some(Action::Strike { user, file })),
+        _ => Ok(None),
+    }
+}
+
+/// What the matches of a subcommand ask for, or nothing where there is no such subcommand, or where they
+/// lack an argument.
+fn action_of(
+    alloc: Global,
+    subcommand: &str,
+    matches: &ArgMatches<'_>,
+) -> Result<Option<Action>, AllocError>
+    ensures { IfOk result (IsFound (IsActionOf subcommand.now (rows_in matches.now))) }
+{
+    match subcommand {
+        "replay" => replay_of(alloc, matches),
+        "strike" => strike_of(alloc, matches),
+        "run" => match run_of(alloc, matches)? {
+            Some(run) => Ok(Some(Action::Run(run))),
+            None => Ok(None),
+        },
+        _ => Ok(None),
+    }
+}
+
+/// The options that the matches of a subcommand ask for, or none where they ask for no action.
+fn options_of(
+    alloc: Global,
+    subcommand: &str,
+    matches: &ArgMatches<'_>,
+) -> Result<Option<Options>, AllocError>
+    ensures { IfOk result (IsFound (AreOptionsOf subcommand.now (rows_in matches.now))) }
+{
+    let Some(action) = action_of(alloc, subcommand, matches)? else {
+        return Ok(None);
+    };
+    Ok(Some(Options {
+        action,
+        charge: charge_of(matches),
+    }))
+}
+
+/// The options that the matches of a whole line ask for, or none where they ask for nothing.
+pub(crate) fn options_in(
+    alloc: Global,
+    matches: &ArgMatches<'_>,
+) -> Result<Option<Options>, AllocError>
+    ensures { IfOk result (IsFound (AskFor (subcommand_rows_of matches.now))) }
+{
+    match matches.subcommand() {
+        Some((subcommand, found)) => options_of(alloc, subcommand, found),
+        None => Ok(None),
+    }
+}

@@ -1,0 +1,74 @@
+-- What a session over a text in memory gives.
+use Rattle.std.proofs.Common.{◌≡◌, refl, sym, subst, List, [], ℕ, Option, Some, Result, Ok, Err}
+use Rattle.std.specs.Prelude.{OnOk, IfErr, MatchResult}
+use Rattle.std.specs.Io.KnownBytes.{Consumes, IsAtEnd}
+use Rattle.model.specs.declared.mode.Mode.TheVariants.{Run}
+use Rattle.model.specs.declared.refusal.Refusal.{Refusal}
+use Rattle.model.specs.declared.refusal.Refusal.TheVariants.{Memory, OutputFault}
+use Rattle.model.specs.Lines.{lines_of}
+use Rattle.events.specs.declared.event.Event.{Event}
+use Rattle.events.specs.declared.reply.Reply.{Reply}
+use Rattle.session.specs.Serving.{Link, Finished, EndedEarly}
+use Rattle.session.proofs.RowLemmas.{appends-none, consumes-none}
+use Rattle.running.specs.declared.sessions.Output.{Output}
+use Rattle.running.specs.Sessions.{Answers, Waits, Served, ServedInPart, Outputs, kept_fault}
+
+module _ {S : Type 0} (called : S → Event → Reply → S → Type 0) where
+  -- no line of users is refused by want of memory
+  kept_early : (first last : S) (text input : List ℕ) (at_end : Type 0) (why : Refusal)
+      → EndedEarly Run (Link (Answers called) (Waits called)) first last (Some []) (Some text) input at_end why
+      → EndedEarly Run (Link (Answers called) (Waits called)) first last (Some []) (Some text) input at_end (kept_fault why)
+  kept_early first last text input at_end OutputFault e = record {
+    rows = e.rows;
+    done = e.done;
+    cut = e.cut;
+    talks = e.talks;
+    chain = e.chain;
+    count = e.count;
+    text = e.text;
+    users = λ is. absurd (cc);
+  }
+  kept_early first last text input at_end why e = e
+
+  served : (first last : S) (start end : Option (List ℕ)) (text : List ℕ) (ended kept : Result (Unit {0}) Refusal)
+      → OnOk ended ((input : List ℕ) × Consumes start end input × IsAtEnd end × Finished Run (Link (Answers called) (Waits called)) first last (Some []) (Some text) (lines_of input))
+      → IfErr ended (λ why. (input : List ℕ) × Consumes start end input
+      × EndedEarly Run (Link (Answers called) (Waits called)) first last (Some []) (Some text) input (IsAtEnd end) why)
+      → MatchResult ended (λ _. kept ≡ Ok tt) (λ why. kept ≡ Err (kept_fault why))
+      → MatchResult kept (λ _. Served called first start text) (ServedInPart called first start text)
+  served first last start end text (Ok _) kept ok err is =
+      subst (λ (k : Result (Unit {0}) Refusal). MatchResult k (λ _. Served called first start text) (ServedInPart called first start text)) (sym is)
+      (record { input = ok.0; end = end; read = ok.1; ended = ok.2; last = last; done = ok.3 })
+  served first last start end text (Err why) kept ok err is =
+      subst (λ (k : Result (Unit {0}) Refusal). MatchResult k (λ _. Served called first start text) (ServedInPart called first start text)) (sym is)
+      (record { input = err.0; end = end; read = err.1; last = last; done = kept_early first last text err.0 (IsAtEnd end) why err.2 })
+
+  -- what was read, and what was written to
+  pub served_lines : (first last : S) (start given end : Option (List ℕ)) (text : List ℕ) (blank written : Option (List ℕ)) (ended kept : Result (Unit {0}) Refusal)
+      → given ≡ start → blank ≡ Some [] → written ≡ Some text
+      → OnOk ended ((input : List ℕ) × Consumes given end input × IsAtEnd end × Finished Run (Link (Answers called) (Waits called)) first last blank written (lines_of input))
+      → IfErr ended (λ why. (input : List ℕ) × Consumes given end input
+      × EndedEarly Run (Link (Answers called) (Waits called)) first last blank written input (IsAtEnd end) why)
+      → MatchResult ended (λ _. kept ≡ Ok tt) (λ why. kept ≡ Err (kept_fault why))
+      → MatchResult kept (λ _. Served called first start text) (ServedInPart called first start text)
+  served_lines first last start given end text blank written ended kept same none all ok err is =
+      rw (← same) (served first last given end text ended kept (rw (← none, ← all) ok) (rw (← none, ← all) err) is)
+
+  -- no line of it was answered
+  pub none_served : (first : S) (start : Option (List ℕ)) (output : Output) → output.text.items ≡ [] → output.ended ≡ Err Memory → Outputs called first start output
+  none_served first start output empty ended = rw (ended, empty) (record {
+    input = [];
+    end = start;
+    read = consumes-none start;
+    last = first;
+    done = record {
+      rows = [];
+      done = [];
+      cut = λ more end. (lines_of more, refl);
+      talks = tt;
+      chain = refl;
+      count = 0;
+      text = appends-none (Some []);
+      users = λ is. absurd (cc);
+    };
+  })

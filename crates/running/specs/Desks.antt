@@ -1,0 +1,54 @@
+-- The sessions of files that share a store, one by one.
+use Rattle.std.specs.Prelude.{◌≡◌, ℕ, List, [], ◌∷◌, Option}
+use Rattle.std.specs.Io.KnownBytes.{prepend_known}
+use Rattle.model.specs.Worlds.{Setup}
+use Rattle.events.specs.declared.event.Event.{Event}
+use Rattle.events.specs.declared.reply.Reply.{Reply}
+use Rattle.passes.specs.Callers.{Caller, newcomer}
+use Rattle.running.specs.declared.sessions.Desk.{Desk}
+use Rattle.running.specs.declared.sessions.Output.{Output}
+use Rattle.running.specs.declared.sessions.Part.{Part}
+use Rattle.running.specs.Calling.{IsCalled}
+use Rattle.running.specs.Sessions.{Outputs}
+
+-- a pass that has made no call
+abbrev pub IsUnused : Caller → Type 0
+IsUnused p = p ≡ newcomer p.number
+
+-- none of them has
+abbrev pub AreUnused : List Caller → Type 0
+AreUnused [] = Unit {0}
+AreUnused (p ∷ ps) = IsUnused p × AreUnused ps
+
+module _ {I Q : Type 0} where
+  -- what a session is served with is what there is of its file, and a pass that has made no call
+  abbrev pub IsDeskOf : Part I Q → Desk Caller Q I → Type 0
+  IsDeskOf part desk = (desk.bytes ≡ part.bytes) × (desk.reader ≡ part.reader) × IsUnused desk.store
+
+  -- one for each file, in their order
+  abbrev pub AreDesksOf : List (Part I Q) → List (Desk Caller Q I) → Type 0
+  AreDesksOf [] [] = Unit {0}
+  AreDesksOf (part ∷ parts) (desk ∷ desks) = IsDeskOf part desk × AreDesksOf parts desks
+  AreDesksOf parts desks = ⊥
+
+-- each session has its output, in their order
+module _ {S Q I : Type 0} (called : S → Event → Reply → S → Type 0) (remaining : I → Option (List ℕ)) where
+  abbrev pub OutputOf : Desk S Q I → Output → Type 0
+  OutputOf desk output = Outputs called desk.store (prepend_known desk.bytes.items (remaining desk.reader)) output
+
+  abbrev pub AllOutputs : List (Desk S Q I) → List Output → Type 0
+  AllOutputs [] [] = Unit {0}
+  AllOutputs (desk ∷ desks) (output ∷ outputs) = OutputOf desk output × AllOutputs desks outputs
+  AllOutputs desks outputs = ⊥
+
+module _ {I Q : Type 0} (setup : Setup) (remaining : I → Option (List ℕ)) where
+  -- the output is that of a session of the file, whose events are calls of a front through a pass that had made none
+  abbrev pub IsOutputOf : Part I Q → Output → Type 0
+  IsOutputOf part output =
+      (number : ℕ) × Outputs (IsCalled setup) (newcomer number) (prepend_known part.bytes.items (remaining part.reader)) output
+
+  -- each file has its output, in their order
+  abbrev pub AreOutputs : List (Part I Q) → List Output → Type 0
+  AreOutputs [] [] = Unit {0}
+  AreOutputs (part ∷ parts) (output ∷ outputs) = IsOutputOf part output × AreOutputs parts outputs
+  AreOutputs parts outputs = ⊥

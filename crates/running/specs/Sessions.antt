@@ -1,0 +1,79 @@
+-- What the sessions of files do with their lines, in a store that they share.
+use Rattle.std.specs.Prelude.{◌≡◌, ◌⊎◌, ℕ, List, [], ◌∷◌, ◌++◌, Option, Some, MatchResult}
+use Rattle.std.specs.Io.KnownBytes.{Consumes, IsAtEnd}
+use Rattle.model.specs.declared.mode.Mode.TheVariants.{Run}
+use Rattle.model.specs.declared.refusal.Refusal.{Refusal}
+use Rattle.model.specs.declared.refusal.Refusal.TheVariants.{Memory, Stopped, Quota, BadUsers, OutputFault}
+use Rattle.model.specs.Worlds.{Job}
+use Rattle.model.specs.Events as model
+use Rattle.model.specs.Lines.{lines_of}
+use Rattle.events.specs.declared.event.Event.{Event}
+use Rattle.events.specs.declared.event.Request.TheVariants.{Status}
+use Rattle.events.specs.declared.reply.Reply.{Reply}
+use Rattle.events.specs.Terms.{event_of, reply_of}
+use Rattle.workers.specs.Working.{Call, asking}
+use Rattle.session.specs.Serving.{Link, Finished, EndedEarly}
+use Rattle.running.specs.declared.sessions.Output.{Output}
+
+-- ---- one store
+
+-- it is 90 or 92
+abbrev pub GivesUp : Refusal → Type 0
+GivesUp why = (why ≡ Memory) ⊎ (why ≡ Stopped)
+
+-- why no session began
+abbrev pub CannotBegin : Refusal → Type 0
+CannotBegin why = (why ≡ Memory) ⊎ (why ≡ BadUsers) ⊎ (why ≡ Quota)
+
+-- a text that is kept in memory is not written only for want of it
+abbrev pub kept_fault : Refusal → Refusal
+kept_fault OutputFault = Memory
+kept_fault why = why
+
+-- an event asks how far one of these goals is, each named as the job that it would lead
+abbrev pub IsStatusOf : List Job → Event → Type 0
+IsStatusOf goals event =
+    (before : List Job) × (goal : Job) × (after : List Job)
+    × (goals ≡ before ++ goal ∷ after) × (event ≡ asking goal.leader (Status goal.number))
+
+-- each of these calls does
+abbrev pub AsksStatus : List Job → List Call → Type 0
+AsksStatus goals [] = Unit {0}
+AsksStatus goals (c ∷ cs) = IsStatusOf goals c.0 × AsksStatus goals cs
+
+module _ {S : Type 0} (called : S → Event → Reply → S → Type 0) where
+  -- calls of a store, one after another
+  abbrev pub Calls : S → List Call → S → Type 0
+  Calls old [] new = new ≡ old
+  Calls old (c ∷ cs) new = (between : S) × called old c.0 c.1 between × Calls between cs new
+
+  -- a store was handed an event and gave a reply, in the terms of the model
+  abbrev pub Answers : S → model.Event → model.Reply → S → Type 0
+  Answers old event reply new =
+      (asked : Event) × (told : Reply) × (event_of asked ≡ event) × (reply_of told ≡ reply) × called old asked told new
+
+  -- in a wait for goals a session asks how far they are, and nothing else
+  abbrev pub Waits : S → List Job → model.Reply → S → Type 0
+  Waits old goals reply new = (calls : List Call) × AsksStatus goals calls × Calls old calls new
+
+  -- all lines of an input were answered, the events of them by calls of a store, and this is the text of all replies
+  pub record Served (first : S) (start : Option (List ℕ)) (text : List ℕ) : Type 0 where
+    pub input : List ℕ
+    pub end : Option (List ℕ)
+    pub read : Consumes start end input
+    pub ended : IsAtEnd end
+    pub last : S
+    pub done : Finished Run (Link Answers Waits) first last (Some []) (Some text) (lines_of input)
+
+  -- the first lines of it were, and this is a beginning of the text
+  pub record ServedInPart (first : S) (start : Option (List ℕ)) (text : List ℕ) (why : Refusal) : Type 0 where
+    pub input : List ℕ
+    pub end : Option (List ℕ)
+    pub read : Consumes start end input
+    pub last : S
+    pub done : EndedEarly Run (Link Answers Waits) first last (Some []) (Some text) input (IsAtEnd end) why
+
+  -- the session of an input has this output
+  abbrev pub Outputs : S → Option (List ℕ) → Output → Type 0
+  Outputs first start output =
+      MatchResult output.ended (λ _. Served first start output.text.items) (ServedInPart first start output.text.items)

@@ -1,0 +1,73 @@
+//! Reading a file ahead, up to its users.
+
+ghost use Rattle.std.specs.Prelude.{◌≡◌, ◌⊎◌, ◌++◌, [], ℕ, List, Some, true, false, IfOk, IfErr};
+ghost use Rattle.std.specs.Io.KnownBytes.{Consumes};
+ghost use Rattle.model.specs.declared.mode.Mode.TheVariants.{Run};
+ghost use Rattle.model.specs.declared.refusal.Refusal.TheVariants.{Memory, BadUsers, InputFault};
+ghost use Rattle.session.specs.Ahead.{LooksAhead};
+ghost use Rattle.session.specs.Serving.{MayBeFault};
+
+use model::{Mode, Refusal};
+use session::{Ahead, Faults, NoUsers, Session, read_ahead};
+use std::alloc::Global;
+use std::io::Read;
+use trust::User;
+
+/// What was read of a file whose lines may be run.
+#[derive(Drop)]
+pub struct Opening {
+    /// All bytes that were read.
+    pub bytes: Vec<u8>,
+    /// The users whom its first line that gets a reply names.
+    pub users: Vec<User>,
+}
+
+/// Whether the first line that gets a reply names users. Lines behind it are left alone.
+fn begins_with_users(alloc: Global, bytes: &[u8]) -> Result<bool, Refusal>
+    ensures { IfErr result (λ why. why ≡ Memory) }
+{
+    let mut session = Session::new(alloc, Mode::Run);
+    for line in bytes.split(|byte| *byte == b'\n') {
+        let text = session.line(alloc, line, &mut NoUsers)?;
+        if !text.is_empty() {
+            return Ok(session.has_users());
+        }
+    }
+    Ok(false)
+}
+
+/// Reads a file up to its first line of users, and looks whether its lines may be run: the first of them
+/// that gets a reply names users.
+///
+/// # Errors
+///
+/// - `InputFault` only where the reader failed during the call by its count.
+/// - `BadUsers` where the first line that gets a reply is no line of users, where it is one that is
+///   refused, and where there is none.
+/// - `Memory` only where memory was refused.
+pub fn look_ahead<R: Read + Faults>(alloc: Global, reader: &mut R) -> Result<Opening, Refusal>
+    ensures read { IfOk result (λ opening.
+        Consumes (R.remaining reader.old) (R.remaining reader.new) opening.bytes.items) }
+    // Whatever comes after what was read, these are the users that a session of it names.
+    ensures users { IfOk result (λ opening. (all left : List ℕ) → R.remaining reader.new ≡ Some left
+        → LooksAhead Run (opening.bytes.items ++ left) (Some opening.users.items)) }
+    ensures why { IfErr result (λ why. (why ≡ InputFault) ⊎ (why ≡ BadUsers) ⊎ (why ≡ Memory)) }
+    ensures fault { IfErr result (MayBeFault InputFault (R.failed reader.old) (R.failed reader.new)) }
+{
+    let Ahead {
+        bytes,
+        users,
+        has_failed,
+        ..
+    } = read_ahead(alloc, Mode::Run, reader)?;
+    if has_failed {
+        return Err(Refusal::InputFault);
+    }
+    let Some(users) = users else {
+        return Err(Refusal::BadUsers);
+    };
+    if !begins_with_users(alloc, bytes.as_slice())? {
+        return Err(Refusal::BadUsers);
+    }
+    Ok(Opening { bytes, users })
+}

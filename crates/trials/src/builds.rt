@@ -1,0 +1,133 @@
+//! Files whose goals are built by two workers at once.
+
+ghost use Rattle.std.specs.Prelude.{◌≢◌, Err};
+ghost use Rattle.workers.specs.Outputs.{bytes_of};
+ghost use Rattle.workers.specs.declared.runner.RunFault.TheVariants.{Device};
+
+use crate::answer::Answer;
+use crate::calls::with_newlines;
+use crate::devices::{Source, calls_of};
+use leading::RunningJob;
+use model::Refusal;
+use nar::{Tree, encode};
+use running::{Opening, Part, look_ahead};
+use schedule::Limits;
+use std::alloc::{AllocError, Global};
+use std::hash::RandomState;
+use std::sync::Wait;
+use std::sync::atomic::{AtomicBool, AtomicU32, Ordering};
+use std::thread;
+use std::thread::Threads;
+use workers::{RunFault, Runner};
+
+/// How often a run that is held looks whether it may go on, before it gives up.
+const TURNS: u32 = 100_000_000;
+
+/// How many runs have begun, and whether the second of them has ended.
+#[derive(Drop)]
+struct Gate {
+    begun: AtomicU32,
+    is_open: AtomicBool,
+}
+
+/// A runner of which the first run of all is held until the second has ended.
+#[derive(Drop)]
+struct Held<'a> {
+    gate: &'a Gate,
+    failures: u64,
+}
+
+/// The archive of an empty file.
+fn empty_file(alloc: Global) -> Result<Vec<u8>, Refusal> {
+    let archive = encode(alloc, &Tree::file(false, Vec::new(alloc))?)?;
+    Ok(Vec::from_slice(alloc, archive.bytes())?)
+}
+
+/// What a run gives that has ended.
+fn output(alloc: Global) -> Result<Vec<u8>, RunFault>
+    ensures { bytes_of result ≢ Err Device }
+{
+    match empty_file(alloc) {
+        Ok(bytes) => Ok(bytes),
+        Err(_) => Err(RunFault::Memory),
+    }
+}
+
+/// Whether a gate opens before one gives up.
+fn is_opened(gate: &Gate) -> bool {
+    for _ in 0..TURNS {
+        if gate.is_open.load(Ordering::SeqCst) {
+            return true;
+        }
+        thread::yield_now();
+    }
+    false
+}
+
+/// Whether a run may end with an output: the first of all once the second has, if that comes in time.
+fn is_let_through(gate: &Gate) -> bool {
+    if gate.begun.fetch_add(1, Ordering::SeqCst) > 0 {
+        gate.is_open.store(true, Ordering::SeqCst);
+        return true;
+    }
+    is_opened(gate)
+}
+
+impl Runner for Held<'_> {
+    ghost gives = { λ old job given new. Unit {0} };
+
+    ghost failed = { λ runner. runner.failures };
+
+    fn run(&mut self, alloc: Global, _job: &RunningJob) -> Result<Vec<u8>, RunFault> {
+        if is_let_through(self.gate) {
+            return output(alloc);
+        }
+        self.failures = self.failures.saturating_add(1);
+        Err(RunFault::Device)
+    }
+
+    fn failures(&self) -> u64 {
+        self.failures
+    }
+}
+
+/// Two runners behind one gate.
+fn two_runners<'a>(alloc: Global, gate: &'a Gate) -> Result<Vec<Held<'a>>, AllocError> {
+    let mut runners = Vec::new(alloc);
+    for runner in 0..2 {
+        let _runner = runner;
+        runners.push(Held { gate, failures: 0 })?;
+    }
+    Ok(runners)
+}
+
+/// `CALLS INPUT`: runs the lines of the input, read by these calls, with two workers. Prints how they ended,
+/// and what they gave.
+pub(crate) fn builds<R: Threads + Wait + Sync>(
+    rt: &R,
+    alloc: Global,
+    hashing: RandomState,
+    argument: &str,
+    out: &mut Answer,
+) -> Result<(), Refusal> {
+    let (reads, rest) = calls_of(argument)?;
+    let mut reader = Source::new(with_newlines(alloc, rest)?, reads);
+    let Opening { bytes, users } = look_ahead(alloc, &mut reader)?;
+    let gate = Gate {
+        begun: AtomicU32::new(0),
+        is_open: AtomicBool::new(false),
+    };
+    let runners = two_runners(alloc, &gate)?;
+    let part = Part {
+        bytes,
+        reader,
+        runners,
+    };
+    let parts = vec![in alloc; part]?;
+    for output in running::run(rt, alloc, hashing, users, Limits::default(), parts)? {
+        out.add_end(output.ended);
+        out.add_text(": ");
+        out.add_bytes(&output.text);
+    }
+    Ok(())
+}
