@@ -13,7 +13,9 @@ use Rattle.running.specs.declared.sessions.Output.{Output}
 use Rattle.running.specs.declared.sessions.Part.{Part}
 use Rattle.running.specs.Calling.{IsCalled}
 use Rattle.running.specs.Sessions.{Outputs}
-use Rattle.running.specs.Desks.{IsUnused, AreUnused, IsDeskOf, AreDesksOf, OutputOf, AllOutputs, AreOutputs}
+use Rattle.running.specs.Desks.{IsUnused, AreUnused, IsDeskOf, AreDesksOf, OutputOf, AllOutputs}
+use Rattle.running.specs.Runs.{AreOutputs}
+use Rattle.running.proofs.RunLemmas.{output_ran}
 
 -- ---- passes
 
@@ -53,12 +55,10 @@ module _ {I Q : Type 0} where
       → AreDesksOf parts desks → AllOutputs (IsCalled setup) remaining desks outputs → AreOutputs setup remaining parts outputs
   outputs_of setup remaining [] [] [] desks all = tt
   outputs_of setup remaining (p ∷ ps) (d ∷ ds) (o ∷ os) desks all = (
-    (
-      d.store.number,
-      subst (λ (store : Caller). Outputs (IsCalled setup) store (prepend_known p.bytes.items (remaining p.reader)) o) desks.0.2
-          (subst (λ (reader : I). Outputs (IsCalled setup) d.store (prepend_known p.bytes.items (remaining reader)) o) desks.0.1
-          (subst (λ bytes. Outputs (IsCalled setup) d.store (prepend_known bytes.items (remaining d.reader)) o) desks.0.0 all.0)),
-    ),
+    output_ran setup d.store.number (prepend_known p.bytes.items (remaining p.reader)) o.ended o.text.items
+        (subst (λ (store : Caller). Outputs (IsCalled setup) store (prepend_known p.bytes.items (remaining p.reader)) o) desks.0.2
+        (subst (λ (reader : I). Outputs (IsCalled setup) d.store (prepend_known p.bytes.items (remaining reader)) o) desks.0.1
+        (subst (λ bytes. Outputs (IsCalled setup) d.store (prepend_known bytes.items (remaining d.reader)) o) desks.0.0 all.0))),
     outputs_of setup remaining ps ds os desks.1 all.1,
   )
   outputs_of setup remaining [] [] (o ∷ os) desks all = absurd all

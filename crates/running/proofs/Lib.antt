@@ -2,4 +2,5 @@ mod StandLemmas
 mod Sending
 mod WaitLemmas
 mod ServedLemmas
+mod RunLemmas
 mod DeskLemmas

@@ -63,7 +63,7 @@ stand_none setup old new number sure = record {
   legal = λ legal. subst (IsLegal setup) (sym sure) legal;
 }
 
-stand_same : (setup : Setup) (old new : Caller) → new ≡ old → StandIn setup old [] new
+pub stand_same : (setup : Setup) (old new : Caller) → new ≡ old → StandIn setup old [] new
 stand_same setup old new same = stand_none setup old new (ap (λ (p : Caller). p.number) same) (ap (λ (p : Caller). p.sure) same)
 
 stand_stopped : (setup : Setup) (old new : Caller) → new ≡ told_stopped old → StandIn setup old [] new

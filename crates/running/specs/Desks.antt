@@ -1,14 +1,12 @@
--- The sessions of files that share a store, one by one.
+-- The sessions of files that share a store, one by one, while they are served.
 use Rattle.std.specs.Prelude.{◌≡◌, ℕ, List, [], ◌∷◌, Option}
 use Rattle.std.specs.Io.KnownBytes.{prepend_known}
-use Rattle.model.specs.Worlds.{Setup}
 use Rattle.events.specs.declared.event.Event.{Event}
 use Rattle.events.specs.declared.reply.Reply.{Reply}
 use Rattle.passes.specs.Callers.{Caller, newcomer}
 use Rattle.running.specs.declared.sessions.Desk.{Desk}
 use Rattle.running.specs.declared.sessions.Output.{Output}
 use Rattle.running.specs.declared.sessions.Part.{Part}
-use Rattle.running.specs.Calling.{IsCalled}
 use Rattle.running.specs.Sessions.{Outputs}
 
 -- a pass that has made no call
@@ -40,15 +38,3 @@ module _ {S Q I : Type 0} (called : S → Event → Reply → S → Type 0) (rem
   AllOutputs [] [] = Unit {0}
   AllOutputs (desk ∷ desks) (output ∷ outputs) = OutputOf desk output × AllOutputs desks outputs
   AllOutputs desks outputs = ⊥
-
-module _ {I Q : Type 0} (setup : Setup) (remaining : I → Option (List ℕ)) where
-  -- the output is that of a session of the file, whose events are calls of a front through a pass that had made none
-  abbrev pub IsOutputOf : Part I Q → Output → Type 0
-  IsOutputOf part output =
-      (number : ℕ) × Outputs (IsCalled setup) (newcomer number) (prepend_known part.bytes.items (remaining part.reader)) output
-
-  -- each file has its output, in their order
-  abbrev pub AreOutputs : List (Part I Q) → List Output → Type 0
-  AreOutputs [] [] = Unit {0}
-  AreOutputs (part ∷ parts) (output ∷ outputs) = IsOutputOf part output × AreOutputs parts outputs
-  AreOutputs parts outputs = ⊥

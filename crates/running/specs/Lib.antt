@@ -1,3 +1,4 @@
 pub mod Calling
 pub mod Sessions
 pub mod Desks
+pub mod Runs

@@ -9,7 +9,8 @@ ghost use Rattle.schedule.specs.Standing.{setup_for};
 ghost use Rattle.book.specs.Keeping.{IsNew};
 ghost use Rattle.running.specs.Calling.{IsCalled};
 ghost use Rattle.running.specs.Sessions.{Outputs, CannotBegin, kept_fault};
-ghost use Rattle.running.specs.Desks.{IsUnused, AreUnused, IsDeskOf, AreDesksOf, AllOutputs, AreOutputs};
+ghost use Rattle.running.specs.Desks.{IsUnused, AreUnused, IsDeskOf, AreDesksOf, AllOutputs};
+ghost use Rattle.running.specs.Runs.{AreOutputs};
 
 use crate::crews::{Crew, start_building};
 use crate::rounds::SharedWorker;
@@ -302,9 +303,9 @@ fn run_core<
 /// session has a thread of its own, where one can be made, and workers that build what it waits for. Gives
 /// what is printed for each file, in their order.
 ///
-/// Each event of a line is a call of the store: its row stands in a legal history, behind all rows that
-/// the session was sure of before. In a wait the session asks how far its goals are, and makes no other
-/// call.
+/// One legal history has what a session called as the rows of its pass, in their order, and no other row
+/// of that pass: the events of its lines, with the replies that are printed for them, and for each wait
+/// events that ask how far its goals are. What was answered 90 or 92 has no row.
 ///
 /// # Errors
 ///

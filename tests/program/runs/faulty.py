@@ -97,7 +97,7 @@ def outputs(cases):
 
 def services(cases):
     """In the other subcommands the line `wait` is refused, and nothing is built."""
-    for stored in "words", "lines_of_a_run":
+    for stored in "process_builder", "lines_of_a_run":
         file = pathlib.Path(__file__).resolve().parent / f"{stored}.events"
         wanted = subprocess.run([REPLIES, file], stdout=subprocess.PIPE, text=True, check=True).stdout
         refused = [line for line in wanted.splitlines() if line.endswith(" - refused 25 BadLine")]
