@@ -83,7 +83,7 @@ fn read_words(rt: &HostRuntime) -> io::Result<Asked> {
 }
 
 /// The exit status of a run that ended so. Want of memory is said on standard error.
-fn status_of(rt: &HostRuntime, ended: io::Result<u8>) -> io::Result<u8> {
+fn exit_status(rt: &HostRuntime, ended: io::Result<u8>) -> io::Result<u8> {
     match ended {
         Err(error) if error.kind() == ErrorKind::OutOfMemory => {
             let _ = rt.eprintln(Fault::OutOfMemory);
@@ -93,8 +93,8 @@ fn status_of(rt: &HostRuntime, ended: io::Result<u8>) -> io::Result<u8> {
     }
 }
 
-// The runners of `run` are made here: only here is it known what the runtime is, and no function that takes
-// any runtime may hand its processes to threads.
+// The runners of `run` are made here, where it is known what the runtime is: a function over any runtime
+// could not hand them to threads.
 fn main(rt: HostRuntime) -> io::Result<ExitCode> {
     let ended = match read_words(&rt) {
         Ok(Asked::For(options)) => match &options.action {
@@ -110,5 +110,5 @@ fn main(rt: HostRuntime) -> io::Result<ExitCode> {
         Ok(Asked::Nothing(status)) => Ok(status),
         Err(error) => Err(error),
     };
-    Ok(ExitCode::from(status_of(&rt, ended)?))
+    Ok(ExitCode::from(exit_status(&rt, ended)?))
 }
