@@ -103,7 +103,7 @@ fn two_runners<'a>(alloc: Global, gate: &'a Gate) -> Result<Vec<Held<'a>>, Alloc
 
 /// `CALLS INPUT`: runs the lines of the input, read by these calls, with two workers. Prints how they ended,
 /// and what they gave.
-pub(crate) fn builds<R: Threads + Wait + Sync>(
+pub(crate) fn gate_two_workers<R: Threads + Wait + Sync>(
     rt: &R,
     alloc: Global,
     hashing: RandomState,

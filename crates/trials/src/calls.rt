@@ -4,7 +4,7 @@
 //! - `CALL ARGUMENT` runs a call.
 
 use crate::answer::Answer;
-use crate::{builds, fronts, sessions, stores};
+use crate::{builds, faults, fronts, sessions, stores};
 use model::Refusal;
 use session::Mode;
 use std::alloc::Global;
@@ -39,10 +39,11 @@ fn of_line<R: Threads + Wait + Sync>(
         "lines" => sessions::lines(alloc, hashing, Mode::Service, argument, out),
         "run_lines" => sessions::lines(alloc, hashing, Mode::Run, argument, out),
         "ahead" => sessions::ahead(alloc, hashing, argument, out),
+        "faults" => faults::faults(alloc, hashing, argument, out),
         "users" => stores::users(alloc, hashing, argument, out),
         "run" => stores::run(alloc, hashing, out),
         "threads" => fronts::threads(rt, alloc, hashing, out),
-        "builds" => builds::builds(rt, alloc, hashing, argument, out),
+        "gate_two_workers" => builds::gate_two_workers(rt, alloc, hashing, argument, out),
         "passes" => fronts::passes(alloc, hashing, out),
         _ => Err(Refusal::BadLine),
     }

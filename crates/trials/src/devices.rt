@@ -16,12 +16,24 @@ pub(crate) struct Calls {
     fails: usize,
 }
 
+impl Calls {
+    /// Calls that move so many bytes each, of which one moves a single byte, and one fails.
+    pub(crate) fn new(step: usize, part: usize, fails: usize) -> Calls {
+        Calls { step, part, fails }
+    }
+
+    /// Calls of which none fails.
+    pub(crate) fn sound(step: usize) -> Calls {
+        Calls::new(step, 0, 0)
+    }
+}
+
 /// `STEP PART FAILS`, and what follows the blank behind them.
 pub(crate) fn calls_of(text: &str) -> Result<(Calls, &str), Refusal> {
     let (step, rest) = number(text)?;
     let (part, rest) = number(rest)?;
     let (fails, rest) = number(rest)?;
-    Ok((Calls { step, part, fails }, rest))
+    Ok((Calls::new(step, part, fails), rest))
 }
 
 /// The calls so far.

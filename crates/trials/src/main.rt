@@ -9,6 +9,7 @@ mod answer;
 mod builds;
 mod calls;
 mod devices;
+mod faults;
 mod fronts;
 mod sessions;
 mod stores;
