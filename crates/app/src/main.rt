@@ -1,9 +1,7 @@
 //! The program `intstore`: it runs files of lines, one event a line.
 #![tactic(auto)]
 
-ghost use Rattle.std.specs.Prelude.{◌≤◌};
-ghost use Rattle.model.specs.Limits.{most_charge};
-
+mod actions;
 mod fault;
 mod files;
 mod narrator;
@@ -13,38 +11,21 @@ mod strike;
 use crate::fault::{COMMAND_LINE_FAULT, Fault, OUT_OF_MEMORY, report};
 use command_line::{Action, Options, options};
 use model::Refusal;
-use schedule::Limits;
 use std::hash::RandomState;
 use std::io;
 use std::io::ErrorKind;
 use std::process::ExitCode;
 use std::sync::Wait;
 
-/// Runs the lines of a file, says on standard error what went wrong, and gives the exit status. A file that
-/// cannot be opened ends like one that cannot be read.
-fn replay_file(rt: &HostRuntime, wait: &impl Wait, limits: Limits, name: &str) -> io::Result<u8>
-    requires { limits.charge ≤ most_charge }
-{
+/// Runs lines of a file as the options ask, says on standard error what went wrong, and gives the exit status.
+/// A file that cannot be opened ends like one that cannot be read.
+fn run_file(rt: &HostRuntime, wait: &impl Wait, options: &Options, name: &str) -> io::Result<u8> {
     let Some(mut reader) = files::open(rt, name)? else {
         return Ok(report(rt, &Err(Refusal::InputFault), name));
     };
     let mut writer = files::output(rt)?;
     let hashing = RandomState::new(rt)?;
-    let ended = replaying::replay(wait, rt.alloc(), hashing, limits, &mut reader, &mut writer);
-    Ok(report(rt, &ended, name))
-}
-
-/// Runs those events of a file that can reach a user, as [`replay_file`] runs them all.
-fn strike_file(rt: &HostRuntime, limits: Limits, user: &str, name: &str) -> io::Result<u8>
-    requires { limits.charge ≤ most_charge }
-{
-    let Some(mut reader) = files::open(rt, name)? else {
-        return Ok(report(rt, &Err(Refusal::InputFault), name));
-    };
-    let mut writer = files::output(rt)?;
-    let hashing = RandomState::new(rt)?;
-    let user = user.as_bytes();
-    let ended = strike::strike(rt.alloc(), hashing, limits, user, &mut reader, &mut writer);
+    let ended = actions::run_lines(wait, rt.alloc(), hashing, options, &mut reader, &mut writer);
     Ok(report(rt, &ended, name))
 }
 
@@ -55,15 +36,6 @@ enum Asked {
     For(Options),
     /// Nothing: what there is to say is said, and this is the exit status.
     Nothing(u8),
-}
-
-/// The limits that the options set.
-fn limits_of(options: &Options) -> Limits
-    ensures { result.charge ≤ most_charge }
-{
-    Limits {
-        charge: options.charge,
-    }
 }
 
 /// What the words of the command line ask for. A fault in them is said on standard error; what cannot be
@@ -98,12 +70,10 @@ fn exit_status(rt: &HostRuntime, ended: io::Result<u8>) -> io::Result<u8> {
 fn main(rt: HostRuntime) -> io::Result<ExitCode> {
     let ended = match read_words(&rt) {
         Ok(Asked::For(options)) => match &options.action {
-            Action::Replay(file) => replay_file(&rt, &rt, limits_of(&options), file.as_str()),
-            Action::Strike { user, file } => {
-                strike_file(&rt, limits_of(&options), user.as_str(), file.as_str())
-            }
+            Action::Replay(file) => run_file(&rt, &rt, &options, file.as_str()),
+            Action::Strike { file, .. } => run_file(&rt, &rt, &options, file.as_str()),
             Action::Run(run) => match runs::runners_for(&rt, &rt, run) {
-                Ok(runners) => runs::run_files(&rt, &rt, limits_of(&options), run, runners),
+                Ok(runners) => runs::run_files(&rt, &rt, &options, run, runners),
                 Err(error) => Err(io::Error::from(error)),
             },
         },

@@ -1,16 +1,14 @@
 //! Files whose lines are run as sessions of one store that builds.
 
-ghost use Rattle.std.specs.Prelude.{◌≤◌};
-ghost use Rattle.model.specs.Limits.{most_charge};
-
+use crate::actions::run_parts;
 use crate::fault::report;
 use crate::files;
 use crate::narrator::Narrator;
 use builder::{ProcessRunner, System};
-use command_line::Run;
+use command_line::{Options, Run};
 use model::Refusal;
 use running::{Opening, Output, Part, look_ahead};
-use schedule::{Limits, User};
+use schedule::User;
 use session::Counted;
 use std::alloc::AllocError;
 use std::fs::{File, Files};
@@ -180,12 +178,10 @@ fn report_all(rt: &HostRuntime, names: &[String], outputs: &[Output]) -> io::Res
 pub(crate) fn run_files<H: Threads + Wait + Sync, Q: Runner + Send + Drop>(
     rt: &HostRuntime,
     host: &H,
-    limits: Limits,
+    options: &Options,
     run: &Run,
     runners: Vec<Q>,
-) -> io::Result<u8>
-    requires { limits.charge ≤ most_charge }
-{
+) -> io::Result<u8> {
     let files = match open_all(rt, run.files.as_slice())? {
         Ok(files) => files,
         Err(refused) => return Ok(report_refused(rt, refused)),
@@ -196,7 +192,7 @@ pub(crate) fn run_files<H: Threads + Wait + Sync, Q: Runner + Send + Drop>(
     };
     let hashing = RandomState::new(rt)?;
     let users = users.unwrap_or(Vec::new(rt.alloc()));
-    match running::run(host, rt.alloc(), hashing, users, limits, parts) {
+    match run_parts(host, rt.alloc(), hashing, users, options, parts) {
         Ok(outputs) => report_all(rt, run.files.as_slice(), outputs.as_slice()),
         Err(why) => Ok(report(rt, &Err(why), "")),
     }

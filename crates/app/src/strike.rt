@@ -201,11 +201,16 @@ fn replies_to(
     users: Vec<User>,
     limits: Limits,
     user: &User,
+    timed: bool,
     events: Vec<Event>,
 ) -> Result<Vec<(User, Reply)>, Refusal>
     requires { limits.charge ≤ most_charge }
 {
-    let kept = schedule::strike(users.as_slice(), events, user)?;
+    let kept = if timed {
+        schedule::strike_timed(users.as_slice(), events, user)?
+    } else {
+        schedule::strike(users.as_slice(), events, user)?
+    };
     run(alloc, hashing, users, limits, kept)
 }
 
@@ -217,6 +222,7 @@ fn struck(
     users: Vec<User>,
     limits: Limits,
     user: &User,
+    timed: bool,
     input: &[u8],
 ) -> Result<(Vec<(User, Reply)>, Vec<usize>), Refusal>
     requires { limits.charge ≤ most_charge }
@@ -229,7 +235,7 @@ fn struck(
         user,
         input,
     )?;
-    let replies = replies_to(alloc, hashing, users, limits, user, events)?;
+    let replies = replies_to(alloc, hashing, users, limits, user, timed, events)?;
     Ok((replies, numbers))
 }
 
@@ -240,12 +246,13 @@ fn print_struck<W: Write + Faults>(
     users: Vec<User>,
     limits: Limits,
     user: &User,
+    timed: bool,
     input: &[u8],
     writer: &mut W,
 ) -> Result<(), Refusal>
     requires { limits.charge ≤ most_charge }
 {
-    let (replies, numbers) = struck(alloc, hashing, users, limits, user, input)?;
+    let (replies, numbers) = struck(alloc, hashing, users, limits, user, timed, input)?;
     print_replies(alloc, replies.as_slice(), user, numbers.as_slice(), writer)?;
     flush_text(writer)
 }
@@ -256,6 +263,7 @@ fn strike_input<W: Write + Faults>(
     hashing: RandomState,
     limits: Limits,
     name: &[u8],
+    timed: bool,
     input: &[u8],
     writer: &mut W,
 ) -> Result<(), Refusal>
@@ -263,11 +271,12 @@ fn strike_input<W: Write + Faults>(
 {
     let users = users_in(alloc, input)?;
     let user = user_among(alloc, users.as_slice(), name)?;
-    print_struck(alloc, hashing, users, limits, &user, input, writer)
+    print_struck(alloc, hashing, users, limits, &user, timed, input, writer)
 }
 
 /// Runs the lines that a reader gives, and then, in a new store, those of their events that can reach a
-/// user. Writes what is printed for his lines then, under their numbers.
+/// user: by trust that is ever given, or where it is timed, by trust that is held at the time. Writes what
+/// is printed for his lines then, under their numbers.
 ///
 /// # Errors
 ///
@@ -281,11 +290,20 @@ pub(crate) fn strike<R: Read + Faults, W: Write + Faults>(
     hashing: RandomState,
     limits: Limits,
     name: &[u8],
+    timed: bool,
     reader: &mut R,
     writer: &mut W,
 ) -> Result<(), Refusal>
     requires { limits.charge ≤ most_charge }
 {
     let input = read_whole(alloc, reader)?;
-    strike_input(alloc, hashing, limits, name, input.as_slice(), writer)
+    strike_input(
+        alloc,
+        hashing,
+        limits,
+        name,
+        timed,
+        input.as_slice(),
+        writer,
+    )
 }

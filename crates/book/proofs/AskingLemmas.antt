@@ -1,8 +1,8 @@
 -- What is told of the job that a goal leads.
 use Rattle.std.proofs.Common.{◌≡◌, ℕ, Bool, true, false, List, refl, sym, ◌∙◌, ap, subst, Option, Some, None, Result, Ok, Err}
-use Rattle.std.specs.Prelude.{◌≢◌, if◌then◌else◌}
+use Rattle.std.specs.Prelude.{if◌then◌else◌}
 use Rattle.model.specs.declared.refusal.Refusal.{Refusal}
-use Rattle.model.specs.declared.refusal.Refusal.TheVariants.{Stopped, UnknownUser, WrongState}
+use Rattle.model.specs.declared.refusal.Refusal.TheVariants.{UnknownUser, WrongState}
 use Rattle.model.specs.Paths.{NoClash}
 use Rattle.model.specs.Reach.{is_among}
 use Rattle.model.specs.Worlds.{Setup, World, nothing, Resolved, Job, Goal}
@@ -68,23 +68,16 @@ after_rows law setup core rows user number told legal given stands is = record {
 
 -- ---- what a front tells
 
--- a mark that is not set
-not_set : (mark : Bool) → (mark ≡ true → ⊥) → mark ≡ false
-not_set true never = absurd (never refl)
-not_set false never = refl
-
--- what a book ensures where it is asked, and is not stopped
+-- what a book ensures where it is asked
 module _ (setup : Setup) (book : Contents) (user : List ℕ) (number : ℕ) (told : Result Running Refusal) (law : KeptClosuresAreGood)
-    (legal : IsLegal setup book.rows) (given : setup_of book.core ≡ setup) (reached : book.stopped ≡ false → StandsFor setup book.core book.rows)
-    (value : book.stopped ≡ false → IsAnswerTo (job_asked_for book.core user number) told) (stopped : book.stopped ≡ true → told ≡ Err Stopped) (going : told ≢ Err Stopped) where
+    (legal : IsLegal setup book.rows) (given : setup_of book.core ≡ setup) (reached : StandsFor setup book.core book.rows)
+    (value : IsAnswerTo (job_asked_for book.core user number) told) where
   -- what it tells is so after all its rows
   after_all : IsAskedAfter setup book.rows user number told
-  after_all =
-      let was : book.stopped ≡ false = not_set book.stopped (λ is. going (stopped is)) in
-      after_rows law setup book.core book.rows user number told legal given (reached was) (value was)
+  after_all = after_rows law setup book.core book.rows user number told legal given reached value
 
   -- so it is after rows that begin with the sure rows of a pass
-  pub is_asked : (pass : Caller) → Matches book.rows book.stopped pass → IsAsked setup pass user number told
+  pub is_asked : (pass : Caller) → Matches book.rows false pass → IsAsked setup pass user number told
   is_asked pass matches = record { rows = book.rows; longer = matches.sure; after = after_all }
 
   -- and after those of the only pass

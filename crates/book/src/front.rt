@@ -1,11 +1,11 @@
 //! What threads share.
 
-ghost use Rattle.std.specs.Prelude.{◌≡◌, ◌≢◌, ◌<◌, ◌≤◌, ◌++◌, ◌∷◌, [], true, false, length, map, sum, All, IfOk, IfErr, Err};
+ghost use Rattle.std.specs.Prelude.{◌≡◌, ◌≢◌, ◌<◌, ◌≤◌, ◌++◌, ◌∷◌, [], false, length, map, sum, All, IfOk, IfErr, Err};
 ghost use mathlib.Core.List.{IsPrefix};
 ghost use Rattle.model.specs.declared.refusal.Refusal.TheVariants.{Memory, Stopped};
 ghost use Rattle.events.specs.declared.reply.Reply.TheVariants.{Refused};
 ghost use Rattle.book.specs.Keeping.{IsNew};
-ghost use Rattle.passes.specs.Callers.{newcomer, told_stopped, below, rows_of};
+ghost use Rattle.passes.specs.Callers.{newcomer, below, rows_of};
 ghost use Rattle.passes.specs.Tokens.{nothing_recorded};
 ghost use Rattle.book.specs.Histories.{row, gave_up, IsLegal, IsAnswered};
 ghost use Rattle.book.specs.Asking.{IsAsked, IsAskedAfter};
@@ -92,17 +92,15 @@ impl<J: Naming> Front<J> {
     ///
     /// The reply is that of [`Book::apply`]. After a call that has a row the sure rows of the pass
     /// begin with the old ones, end with that row, and are legal; those of the only pass are the old
-    /// ones and that row. There is no row at 90 `Memory`, which leaves the pass as it was, and at 92
-    /// `Stopped`, after which the pass knows that the front is stopped: each later call of it is
-    /// answered so too.
+    /// ones and that row. There is no row at 90 `Memory`, which leaves the pass as it was. The reply is
+    /// never 92 `Stopped`.
     pub fn call(&self, rt: &impl Wait, alloc: Global, pass: &mut Pass<J>, event: Event) -> Reply
         ensures answered { gave_up result ≡ false
             → IsAnswered J.setup pass.old event result pass.new }
         ensures alone { gave_up result ≡ false → J.parts ≡ 1
             → pass.new.sure ≡ pass.old.sure ++ row pass.old.number event result ∷ [] }
         ensures memory { result ≡ Refused Memory → pass.new ≡ pass.old }
-        ensures stopped { result ≡ Refused Stopped → pass.new ≡ told_stopped pass.old }
-        ensures remains { pass.old.stopped ≡ true → result ≡ Refused Stopped }
+        ensures going { result ≢ Refused Stopped }
     {
         self.book.lock(rt).apply(alloc, pass, event)
     }
@@ -121,8 +119,6 @@ impl<J: Naming> Front<J> {
     /// They are looked for in this order, and all but the last are told whether there is memory or
     /// not.
     ///
-    /// - `Stopped` where the front is stopped. The pass knows it then: each later call of it is
-    ///   answered so too.
     /// - `UnknownUser`, `UnknownGoal` and `WrongState` where the user is none of the run, has no goal
     ///   of that number, or the goal leads no job that is built now.
     /// - `Memory` only where memory was refused.
@@ -133,28 +129,25 @@ impl<J: Naming> Front<J> {
         user: &User,
         number: u16,
     ) -> Result<RunningJob, Refusal>
-        ensures asked { result ≢ Err Stopped
-            → IsAsked J.setup pass.old user.now number result }
-        ensures alone { result ≢ Err Stopped → J.parts ≡ 1
+        ensures asked { IsAsked J.setup pass.old user.now number result }
+        ensures alone { J.parts ≡ 1
             → IsAskedAfter J.setup pass.old.sure user.now number result }
-        ensures going { result ≢ Err Stopped → pass.new ≡ pass.old }
-        ensures stopped { result ≡ Err Stopped → pass.new ≡ told_stopped pass.old }
-        ensures remains { pass.old.stopped ≡ true → result ≡ Err Stopped }
+        ensures kept { pass.new ≡ pass.old }
+        ensures going { result ≢ Err Stopped }
     {
         kept_closures_are_good();
         self.book.lock(rt).request(pass, user, number)
     }
 
     /// The history. The passes are all that [`Front::new`] gave with the front, so it has a row for
-    /// each of their calls that was answered otherwise than with 90 and 92, and no other. It begins
-    /// with the sure rows of each pass, and says that the front was stopped if one of them was told so.
+    /// each of their calls that was answered otherwise than with 90, and no other. It begins with the
+    /// sure rows of each pass.
     pub fn close(self, passes: Vec<Pass<J>>) -> History
         requires { length passes.items ≡ J.parts }
         ensures legal { IsLegal J.setup result.rows.items }
         ensures rows { length result.rows.items ≡ sum (map (λ p. p.calls) passes.items) }
         ensures sure { All (λ p. IsPrefix p.sure result.rows.items) passes.items }
         ensures each { All (λ p. rows_of p.number result.rows.items ≡ p.calls) passes.items }
-        ensures stopped { All (λ p. p.stopped ≡ true → result.stopped ≡ true) passes.items }
     {
         let Front { book } = self;
         book.into_inner().end(passes)

@@ -10,6 +10,7 @@ use Rattle.model.specs.Settling.{hash_part_in}
 use Rattle.model.specs.declared.refusal.Refusal.TheVariants.{BadOutput}
 use Rattle.model.specs.Worlds.{Source, Label, Record, Resolved, Goal, tree_at}
 use Rattle.model.specs.Goals.{goal_at}
+use Rattle.model.specs.Derivations.{Derivation}
 use Rattle.model.specs.Classes.{Admission, Known}
 use Rattle.model.specs.References.{paths_of_labels}
 use Rattle.model.specs.Outputs.{settled_under, record_for}
@@ -18,7 +19,7 @@ use Rattle.model.specs.Results.{then_do, ok_or, unless_rewrite_refused}
 use Rattle.records.specs.Recorded.{Recorded, with_tree}
 use Rattle.realise.specs.Holdings.{Holdings, has_labelled, IsClosedWith}
 use Rattle.building.specs.declared.settling.Settled.{Settled}
-use Rattle.outputs.specs.Outputs.{input_settled}
+use Rattle.outputs.specs.Outputs.{input_settled, IsInputOf}
 
 -- ---- settling
 
@@ -35,6 +36,11 @@ IsSettled tree s = IsOutcome (input_settled s.input tree) s.outcome
 abbrev pub IsLastSettled : Tree → Option Settled → Type 0
 IsLastSettled tree None = Unit {0}
 IsLastSettled tree (Some s) = IsSettled tree s
+
+-- what was settled last is an output of this derivation, which was built under a path and may refer to these
+abbrev pub IsLastOf : List ℕ → List Label → Derivation → Option Settled → Type 0
+IsLastOf path labels x None = ⊥
+IsLastOf path labels x (Some s) = IsInputOf path labels x s.input
 
 abbrev pub IsLastFrom : Option Tree → Option Settled → Type 0
 IsLastFrom None last = Unit {0}

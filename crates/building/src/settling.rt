@@ -1,6 +1,6 @@
 //! What is built for the goals of a job: its output, settled for each of them.
 
-ghost use Rattle.std.specs.Prelude.{◌≡◌, ◌<◌, ◌++◌, All, List, OnOk, IfOk, IfErr, length, map};
+ghost use Rattle.std.specs.Prelude.{◌≡◌, ◌<◌, ◌++◌, All, List, OnOk, IfOk, IfErr, IfSome, Ok, length, map};
 ghost use Rattle.std.specs.Option.{option_copied};
 ghost use Rattle.jobs.specs.Owned.{goals_at};
 ghost use Rattle.model.specs.Goals.{goal_at};
@@ -13,7 +13,7 @@ ghost use Rattle.model.specs.Settling.{hash_part_in};
 ghost use Rattle.model.specs.declared.refusal.Refusal.TheVariants.{Memory};
 ghost use Rattle.records.specs.Recorded.{AreInPathOrder};
 ghost use Rattle.outputs.specs.Outputs.{IsSameInput};
-ghost use Rattle.building.specs.Built.{IsSettled, IsLastSettled, IsBuiltBy, IsBuiltOn, IsClosedBuilt, HasInput, HasInputFrom, IsLastFrom, IsBuiltAt, AreBuiltOn, built_at, built_of, built_output, record_under, all_built, numbered, HaveInputs};
+ghost use Rattle.building.specs.Built.{IsSettled, IsLastSettled, IsLastOf, IsBuiltBy, IsBuiltOn, IsClosedBuilt, HasInput, HasInputFrom, IsLastFrom, IsBuiltAt, AreBuiltOn, built_at, built_of, built_output, record_under, all_built, numbered, HaveInputs};
 
 use admitted::Admitted;
 use closures::Resolved;
@@ -99,6 +99,7 @@ fn settle_once(
     requires { IsLastSettled archive.now last }
     ensures settled { IfOk result (IsSettled archive.now) }
     ensures input { IfOk result (λ settled. IsSameInput settled.input input) }
+    ensures again { IfSome last (λ s. IsSameInput s.input input → result ≡ Ok s) }
     ensures memory { IfErr result (λ why. why ≡ Memory) }
 {
     if let Some(settled) = last {
@@ -130,8 +131,8 @@ fn built_by(
 }
 
 /// What is built for a derivation from a job's output, which was built under a path and may refer to
-/// these. What was settled last is used again where the output is settled by the same. The one error
-/// is memory.
+/// these. What was settled last is used again where the output is settled by the same, and stays so;
+/// in each case it is then what the output is settled by. The one error is memory.
 fn built_under(
     alloc: Global,
     admitted: &Admitted,
@@ -148,6 +149,9 @@ fn built_under(
     ensures paths { IfOk result (λ _. All IsPath (paths_of_labels labels.now)) }
     ensures memory { IfErr result (λ why. why ≡ Memory) }
     ensures last { IsLastSettled archive.now last.new }
+    ensures kept { OnOk result (IsLastOf path.now labels.now admitted.now.derivation last.new) }
+    ensures again { IsLastOf path.now labels.now admitted.now.derivation last.old
+        → OnOk result (last.new ≡ last.old) }
 {
     let input = Input::new(alloc, path, labels, admitted.derivation())?;
     let settled = settle_once(alloc, last.take(), input, archive)?;

@@ -50,6 +50,13 @@ user_rule = record (new_rule (codes "user")) {
   required = true;
 }
 
+-- `--timed`
+abbrev pub timed_rule : Rule
+timed_rule = record (new_rule (codes "timed")) {
+  long = Some (codes "timed");
+  action = Some SetTrue;
+}
+
 -- `--workers N`: a number from 1 to 7
 abbrev pub workers_rule : Rule
 workers_rule = record (new_rule (codes "workers")) {
@@ -94,9 +101,9 @@ with_rules a (r ∷ rs) = with_rules (with_rule a r) rs
 abbrev pub replay : App
 replay = with_rules (new_app (codes "replay")) (charge_rule ∷ file_rule ∷ [])
 
--- `strike --user U [--charge N] FILE`
+-- `strike --user U [--timed] [--charge N] FILE`
 abbrev pub strike : App
-strike = with_rules (new_app (codes "strike")) (user_rule ∷ charge_rule ∷ file_rule ∷ [])
+strike = with_rules (new_app (codes "strike")) (user_rule ∷ timed_rule ∷ charge_rule ∷ file_rule ∷ [])
 
 -- `run --workers N [--builders DIR] [--work DIR] [--charge N] [--verbose] FILE..`
 abbrev pub run : App

@@ -2,7 +2,7 @@
 
 ghost use Rattle.std.specs.Prelude.{IfOk, map, string_bytes};
 ghost use Rattle.command_line.specs.Intstore.{builders_rule, charge_rule, file_rule, files_rule};
-ghost use Rattle.command_line.specs.Intstore.{user_rule, verbose_rule, work_rule, workers_rule};
+ghost use Rattle.command_line.specs.Intstore.{timed_rule, user_rule, verbose_rule, work_rule, workers_rule};
 ghost use Rattle.command_line.specs.Intstore.{intstore, replay, run, strike};
 ghost use Rattle.command_line.specs.Intstore.{subcommands as described_subcommands};
 ghost use Rattle.command_line.specs.Named.{AnswersWords};
@@ -60,6 +60,16 @@ fn user_argument<'a>(alloc: Global) -> Arg<'a>
         .action(ArgAction::Set)
         .required(true)
         .help("The user whose replies are printed")
+}
+
+/// The flag `--timed`.
+fn timed_argument<'a>(alloc: Global) -> Arg<'a>
+    ensures { IsArgument timed_rule result }
+{
+    Arg::new(alloc, "timed")
+        .long("timed")
+        .action(ArgAction::SetTrue)
+        .help("Counts trust only while it is held, and not all that is ever given")
 }
 
 /// The option `--workers`.
@@ -125,6 +135,7 @@ fn strike_command<'a>(alloc: Global) -> Result<Command<'a>, AllocError>
 {
     let arguments = vec![in alloc;
         user_argument(alloc),
+        timed_argument(alloc),
         charge_argument(alloc),
         file_argument(alloc),
     ]?;

@@ -112,7 +112,10 @@ fn strike_of(alloc: Global, matches: &ArgMatches<'_>) -> Result<Option<Action>, 
     let user = text_of(alloc, matches, "user")?;
     let file = text_of(alloc, matches, "file")?;
     match (user, file) {
-        (Some(user), Some(file)) => Ok(Some(Action::Strike { user, file })),
+        (Some(user), Some(file)) => {
+            let timed = matches.get_flag("timed");
+            Ok(Some(Action::Strike { user, timed, file }))
+        }
         _ => Ok(None),
     }
 }

@@ -19,6 +19,8 @@ pub enum Action {
     Strike {
         /// The name of the user.
         user: String,
+        /// Whether trust counts only while it is held, and not all that is ever given.
+        timed: bool,
         /// The file whose lines are run.
         file: String,
     },

@@ -18,7 +18,7 @@ ghost use Rattle.desks.specs.Offering.{IsOutput, IsNotSettled, IsNoOutput};
 use crate::entries::add_entry;
 use admitted::Admitted;
 use candidates::candidates;
-use events::Reply;
+use events::CopiedReply;
 use model::Refusal;
 use nar::{Tree, encode};
 use outputs::{Input, record_of};
@@ -99,7 +99,7 @@ pub fn offer(
     limits: Limits,
     path: &StorePath,
     tree: &Tree,
-) -> Result<Reply, Refusal>
+) -> Result<CopiedReply, Refusal>
     requires { IsSound table.old.sources limits.charge desk.old }
     ensures { IsHandledAtDesk limits.charge table.old.sources desk.old
         (OfferRequest path.now tree.now) result table.new.sources desk.new }

@@ -14,7 +14,7 @@ ghost use Rattle.events.specs.Terms.{reply_of};
 ghost use Rattle.handling.specs.Handling.{IsHandledAtDesk, IsHandledByDesk};
 
 use crate::entries::add_entry;
-use events::Reply;
+use events::{CopiedReply, Reply};
 use model::Refusal;
 use nar::{Tree, encode};
 use realise::{Desk, Limits};
@@ -51,7 +51,7 @@ pub fn add_source(
     limits: Limits,
     name: &Name,
     tree: Tree,
-) -> Result<Reply, Refusal>
+) -> Result<CopiedReply, Refusal>
     requires { IsSound table.old.sources limits.charge desk.old }
     ensures { IsHandledAtDesk limits.charge table.old.sources desk.old
         (AddSourceRequest name.now tree) result table.new.sources desk.new }
@@ -73,11 +73,11 @@ fn held<'a>(table: &'a Table, desk: &Desk, path: &StorePath) -> Option<&'a Tree>
 }
 
 /// A reply with a tree.
-fn reply_with(tree: &Tree) -> Result<Reply, Refusal>
+fn reply_with(tree: &Tree) -> Result<CopiedReply, Refusal>
     ensures content { IfOk result (λ r. reply_of r ≡ Content tree.now) }
     ensures memory { IfErr result (λ e. e ≡ Memory) }
 {
-    Ok(Reply::Content(tree.clone()?))
+    Ok(CopiedReply::new(Reply::Content(tree.clone()?))?)
 }
 
 /// The tree at a path that a desk holds.
@@ -86,7 +86,7 @@ fn reply_with(tree: &Tree) -> Result<Reply, Refusal>
 ///
 /// - `NotHeld` exactly where the desk does not hold the path, whether there is memory or not.
 /// - `Memory` only where it does, and memory was refused.
-pub fn fetch(table: &Table, desk: &Desk, path: &StorePath) -> Result<Reply, Refusal>
+pub fn fetch(table: &Table, desk: &Desk, path: &StorePath) -> Result<CopiedReply, Refusal>
     ensures { IsHandledByDesk table.now.sources desk.now (FetchRequest path.now) result desk.now }
 {
     match held(table, desk, path) {

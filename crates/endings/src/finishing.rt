@@ -9,6 +9,7 @@ ghost use Rattle.model.specs.Limits.{most_records};
 ghost use Rattle.model.specs.Worlds.{are_users};
 ghost use Rattle.model.specs.Goals.{goal_at};
 ghost use Rattle.model.specs.Events.{Finish as FinishRequest};
+ghost use Rattle.events.specs.declared.reply.Reply.TheVariants.{GoalState};
 ghost use Rattle.states.specs.States.{state_of};
 ghost use Rattle.trust.specs.Trusting.{trusts};
 ghost use Rattle.trust.specs.Naming.{IsWithin, name_at};
@@ -26,7 +27,7 @@ ghost use Rattle.handling.specs.Handling.{IsHandledByAll};
 use crate::committing::{gained_by_all, grown, replace_all, set_all};
 use crate::hearing::heard_by_all;
 use building::Gains;
-use events::Reply;
+use events::{CopiedReply, Reply};
 use jobs::{Job, Jobs, State};
 use leading::leads;
 use model::Refusal;
@@ -164,21 +165,21 @@ fn prepare_led(
     Ok(ending)
 }
 
-/// Puts what the end of a job changes in its place. Told is how far the goal of its leader is then. All
-/// that needs memory comes before the first change; the one error is memory.
+/// Puts what the end of a job changes in its place. The reply is how far the goal of its leader is then.
+/// All that needs memory comes before the first change; the one error is memory.
 fn put_in_place(
     jobs: &mut Jobs,
     table: &mut Table,
     desks: &mut [Desk],
     ending: Ending,
-) -> Result<State, Refusal>
+) -> Result<CopiedReply, Refusal>
     requires each { length ending.grown.items ≡ length desks.old }
     requires may { MayReplaceAll desks.old ending.grown.items }
     requires count { length ending.heard.items ≡ length jobs.old.goals }
     requires settable { (place : ℕ) → place < length jobs.old.goals
         → All (IsSettable (goals_of jobs.old.goals place)) (states_for ending.heard.items place) }
     requires new { AreNew table.old.sources (sources_of ending.trees.items) }
-    ensures told { IfOk result (λ told. told ≡ ending.told) }
+    ensures told { IfOk result (λ reply. reply ≡ GoalState ending.told) }
     ensures table { OnOk result
         (table.new.sources ≡ table.old.sources ++ sources_of ending.trees.items) }
     ensures grown { OnOk result ((place : ℕ) → place < length desks.old → desk_at desks.new place
@@ -195,10 +196,11 @@ fn put_in_place(
     ensures memory { IfErr result (λ why. why ≡ Memory) }
 {
     table.reserve(ending.trees.len())?;
+    let reply = CopiedReply::new(Reply::GoalState(ending.told))?;
     replace_all(desks, ending.grown);
     set_all(jobs, ending.heard);
     table.put_all_reserved(ending.trees);
-    Ok(ending.told)
+    Ok(reply)
 }
 
 /// The job that the goal of a number of the user at a place leads has ended with an output. Each of its
@@ -225,7 +227,7 @@ pub fn finish(
     limits: Limits,
     number: u16,
     output: &[u8],
-) -> Result<Reply, Refusal>
+) -> Result<CopiedReply, Refusal>
     requires listed { are_users users.now ≡ true }
     requires within { IsWithin (length users.now) (trusts trust.now) }
     requires paired { length desks.old ≡ length users.now }
@@ -244,6 +246,6 @@ pub fn finish(
     let ending = prepare_led(
         alloc, users, trust, table, desks, limits, jobs, place, number, output,
     )?;
-    let told = put_in_place(jobs, table, desks, ending)?;
-    Ok(Reply::GoalState(told))
+    let reply = put_in_place(jobs, table, desks, ending)?;
+    Ok(reply)
 }

@@ -1,4 +1,6 @@
 -- Events and replies in the terms of the model.
+use Rattle.std.specs.Prelude.{Bool, true, false}
+use Rattle.model.specs.Worlds as states
 use Rattle.model.specs.Events as events
 use Rattle.trust.specs.declared.user.User.{User}
 use Rattle.events.specs.declared.event.Request.{Request}
@@ -42,3 +44,13 @@ reply_of (Refused why) = events.Refused why
 -- a user with his reply
 abbrev pub answer_of : User × Reply → events.Answer
 answer_of a = record { actor = a.0; reply = reply_of a.1 }
+
+-- whether a reply shares nothing with what is stored: it has no name, no path and no tree
+abbrev pub shares_nothing : events.Reply → Bool
+shares_nothing events.Done = true
+shares_nothing (events.GoalNumber number) = true
+shares_nothing (events.GoalState states.Waiting) = true
+shares_nothing (events.GoalState states.Planned) = true
+shares_nothing (events.GoalState (states.Failed why)) = true
+shares_nothing (events.Refused why) = true
+shares_nothing reply = false

@@ -22,7 +22,7 @@ use choose::View;
 use classes::input_classes;
 use closures::Resolved;
 use derivation::Derivation;
-use events::Reply;
+use events::CopiedReply;
 use handling::desks_in_view;
 use jobs::{Jobs, State};
 use laws::closures_are_whole;
@@ -161,7 +161,7 @@ pub fn plan(
     desks: &[Desk],
     place: usize,
     number: u16,
-) -> Result<Reply, Refusal>
+) -> Result<CopiedReply, Refusal>
     requires listed { are_users users.now ≡ true }
     requires within { IsWithin (length users.now) (trusts trust.now) }
     requires paired { length desks.now ≡ length users.now }
@@ -181,11 +181,11 @@ pub fn plan(
     match resolved_for(alloc, trust, table, desks, place, derivation) {
         Ok(resolved) => {
             keep(alloc, jobs, table, place, number, resolved)?;
-            Ok(Reply::GoalState(State::Planned))
+            Ok(CopiedReply::planned())
         }
         Err(why) if fails(why) => {
             jobs.set_state(place, number, State::Failed(why));
-            Ok(Reply::GoalState(State::Failed(why)))
+            Ok(CopiedReply::failed(why))
         }
         Err(why) => Err(why),
     }

@@ -32,7 +32,7 @@ use Rattle.events.specs.Terms.{reply_of}
 use Rattle.handling.specs.Parts.{goals_of, beside_at, Parts, parts, world_in, desk_among}
 use Rattle.handling.specs.Viewing.{bare}
 use Rattle.handling.specs.Given.{HasSoundPlan}
-use Rattle.handling.specs.Handling.{Fits, Serves, ServesAtOnce, Stores, IsKept, AreKept, IsHandledIn, IsHandledBeside, IsHandledAtDesk, IsHandledByDesk, IsHandledWithGoals, IsHandledBySight, IsHandledAtPlace, IsHandledByGoals, IsReadAtPlace, AddsEntry, AddsDerivation, IsHandled}
+use Rattle.handling.specs.Handling.{Fits, Serves, ServesAtOnce, Stores, IsKept, AreKept, IsHandledIn, IsHandledBeside, IsHandledAtDesk, IsHandledByDesk, IsHandledWithGoals, IsHandledBySight, IsHandledAtPlace, IsHandledByGoals, IsReadAtPlace, AddsEntry, AddsDerivation, IsHandled, is_fault}
 use Rattle.handling.proofs.DeskLemmas.{sound_kept}
 use Rattle.handling.proofs.DerivationLemmas.{derivation_read}
 use Rattle.store.proofs.TableLemmas.{put_once-Extends, put_once-All, found_holds}
@@ -40,7 +40,7 @@ use Rattle.handling.proofs.WorldLemmas.{IsPlace, place_found, place_below, place
 use Rattle.handling.proofs.GoalLemmas.{goals_kept, all_goals_kept, goals_sound_at, beside_elsewhere, beside_here, goals_put_back}
 use Rattle.handling.specs.Supported.{AreSupportedOn, GainsOnly}
 use Rattle.handling.proofs.SupportLemmas.{gains_nothing, still_supported, supported_set}
-use Rattle.handling.proofs.StepLemmas.{either_way, on_ok_any, on_err_any, kept_sound, kept_later, kept_desk, source_hashed, source_at_once, derivation_at_once, fetch_at_once, step_unknown, step_at_once, told_result, refused_result, world_kept}
+use Rattle.handling.proofs.StepLemmas.{either_way, on_ok_any, on_err_any, kept_sound, kept_later, kept_desk, source_hashed, source_at_once, derivation_at_once, fetch_at_once, step_unknown, step_at_once, step_no_memory, TakesMemory, may_lack, told_result, refused_result, world_kept}
 
 -- ---- all events
 
@@ -132,6 +132,7 @@ module _ (old : Parts) (e : Event) (i : ℕ) (asks : Asks old e.actor i) where
             (beside_elsewhere old.setup.users old.trust old.goals i changed) handled.grows asks.sound place here serves handled.answered;
         refused = refused_result old.setup w e i (desk_of (beside i) new now) result place serves;
         at_once = step_at_once old.setup w e i result place handled.at_once;
+        no_memory = step_no_memory old.setup w e i result place handled.no_memory;
         kept = world_left new before now changed result here handled.grows handled.kept is.kept;
         setup = refl;
         trust = asks.within;
@@ -234,11 +235,12 @@ module _ (old : Parts) (e : Event) (i : ℕ) (asks : Asks old e.actor i) where
 -- what is refused as the model has it, and leaves everything
 pub all_left : (old : Parts) (e : Event) (why : Refusal) → All (IsSound old.table old.setup.charge) old.desks → All (AreGoalsSound old.table) old.goals
     → IsWithin (length old.setup.users) old.trust
-    → outcome_of old.setup (world_in old) e ≡ Err why → is_clash_refusal why ≡ false → IsHandled old e (Err why) old
-all_left old e why sound goals_sound within is no_clash = record {
+    → outcome_of old.setup (world_in old) e ≡ Err why → is_fault why ≡ false → IsHandled old e (Err why) old
+all_left old e why sound goals_sound within is no_fault = record {
   told = search rules;
   refused = λ own. is;
   at_once = λ other quick o. (let same = sym is ∙ o in cc);
+  no_memory = λ free lacks. (let same : why ≡ Memory = cc in let no = rw same at no_fault in cc);
   kept = record { world = refl; table = refl };
   setup = refl;
   trust = within;
@@ -249,8 +251,8 @@ all_left old e why sound goals_sound within is no_clash = record {
   supported = λ was. was;
   grows = λ path there. refl;
   hashed = λ texts hashed inside. hashed;
-  taken = λ clash. (let same : why ≡ Clash = cc in let no = rw same at no_clash in cc);
-  clashes = λ clash. (let same : why ≡ Clash = cc in let no = rw same at no_clash in cc);
+  taken = λ clash. (let same : why ≡ Clash = cc in let no = rw same at no_fault in cc);
+  clashes = λ clash. (let same : why ≡ Clash = cc in let no = rw same at no_fault in cc);
   stored = search rules;
   given = search rules;
 }
@@ -271,14 +273,15 @@ is_left table desk (Err why) = record { sources = refl; desk = refl }
 pub left : (beside : Beside) (limit : ℕ) (table : List Source) (desk : Holdings) (request : Request) (result : Result Rust.Reply Refusal)
     → IsSound table limit desk → ((setup : Setup) (w : World) (u : List ℕ) → HasSoundPlan setup w u request)
     → ((users : List (List ℕ)) → Serves (record { users = users; charge = limit }) (desk_of beside table desk) request (desk_of beside table desk) result)
-    → ServesAtOnce (desk_of beside table desk) request result → IfOk result (λ r. is_refused (reply_of r) ≡ false)
+    → ServesAtOnce (desk_of beside table desk) request result → TakesMemory request → IfOk result (λ r. is_refused (reply_of r) ≡ false)
     → IfErr result (λ why. is_clash_refusal why ≡ false)
     → OnOk result (Stores table (desk_of beside table desk) request table)
     → IsHandledBeside beside limit table desk request result table desk
-left beside limit table desk request result sound plans serves at_once answered no_clash stored users w u here = record {
+left beside limit table desk request result sound plans serves at_once takes answered no_clash stored users w u here = record {
   serves = serves users (sight_of (record { users = users; charge = limit }) w u) here;
   answered = answered;
   at_once = at_once (record { users = users; charge = limit }) (sight_of (record { users = users; charge = limit }) w u) here;
+  no_memory = may_lack request (outcome (record { users = users; charge = limit }) (sight_of (record { users = users; charge = limit }) w u) request) result takes;
   kept = is_left table desk result;
   sound = sound;
   gains = gains_nothing desk;
@@ -296,7 +299,7 @@ pub entry_handled : (beside : Beside) (limit : ℕ) (old new : List Source) (bef
     → let s : Source = record { path = entry_path entry; tree = tree } in
     IsSound old limit before
     → ((setup : Setup) (sight : Sight) → sight.desk ≡ desk_of beside old before → outcome setup sight request ≡ add_entry setup (desk_of beside old before) (entry_with tree entry))
-    → ServesAtOnce (desk_of beside old before) request result
+    → ServesAtOnce (desk_of beside old before) request result → TakesMemory request
     → ((setup : Setup) (w : World) (u : List ℕ) → w u ≡ desk_of beside old before → stored_by setup w u request ≡ s ∷ [])
     → ((setup : Setup) (w : World) (u : List ℕ) → tried_by setup w u request ≡ stored_by setup w u request)
     → ((setup : Setup) (w : World) (u : List ℕ) → HasSoundPlan setup w u request)
@@ -305,7 +308,7 @@ pub entry_handled : (beside : Beside) (limit : ℕ) (old new : List Source) (bef
     → OnOk result (IsAdded (entry_path entry) tree old new) → OnOk result (IsSound new limit now) → OnErr result (IsKept old new before now)
     → GainsOnly before now → (result ≡ Err Clash → IsTaken old (entry_path entry) tree)
     → IsHandledBeside beside limit old before request result new now
-entry_handled beside limit old new before now request entry tree result sound asks at_once stores tries plans hashes adds answered stored sound_now kept gains taken =
+entry_handled beside limit old new before now request entry tree result sound asks at_once takes stores tries plans hashes adds answered stored sound_now kept gains taken =
     λ users w u here.
     let s : Source = record { path = entry_path entry; tree = tree } in
     let setup : Setup = record { users = users; charge = limit } in
@@ -313,6 +316,7 @@ entry_handled beside limit old new before now request entry tree result sound as
       serves = rw (asks setup (sight_of setup w u) here) (adds users beside);
       answered = answered;
       at_once = at_once setup (sight_of setup w u) here;
+      no_memory = may_lack request (outcome setup (sight_of setup w u) request) result takes;
       kept = kept;
       sound = either_way result (IsSound new limit now) sound_now (on_err_weaker result (kept_sound old new before now limit sound) kept);
       gains = gains;
@@ -347,7 +351,7 @@ pub source_handled : (beside : Beside) (limit : ℕ) (old new : List Source) (be
 unfolding outcome
 source_handled beside limit old new before now name tree path result sound is whole =
     entry_handled beside limit old new before now (AddSource name tree) (entry.Source path) tree result sound
-    (λ setup sight same. rw (same, is) refl) (source_at_once (desk_of beside old before) name tree result) (λ setup w u here. rw is refl) (λ setup w u. refl) (λ setup w u. tt)
+    (λ setup sight same. rw (same, is) refl) (source_at_once (desk_of beside old before) name tree result) (λ reply. refl) (λ setup w u here. rw is refl) (λ setup w u. refl) (λ setup w u. tt)
     (λ texts setup w u here inside. rw is (source_hashed texts name tree whole inside))
 
 fetch_fits : (setup : Setup) (d : Desk) (path : List ℕ) (tree : Tree) (result : Result Rust.Reply Refusal) → held_at path d ≡ Some tree
@@ -374,7 +378,7 @@ unfolding outcome
 fetch_handled beside limit table desk path tree result sound there content memory =
     left beside limit table desk (Fetch path) result sound (λ setup w u. tt)
     (λ users sight same. rw same (fetch_fits (record { users = users; charge = limit }) (desk_of beside table desk) path tree result there content memory))
-    (fetch_at_once (desk_of beside table desk) path result (λ none. let no = sym there ∙ none in cc)) (fetch_answered tree result content)
+    (fetch_at_once (desk_of beside table desk) path result (λ none. let no = sym there ∙ none in cc)) (λ reply. refl) (fetch_answered tree result content)
     (no_clash_of_memory result memory) (on_ok_any result (Stores table (desk_of beside table desk) (Fetch path) table) (λ setup w u here. refl))
 
 -- a text is read as a derivation, which is added
@@ -391,6 +395,7 @@ derivation_handled beside limit table before now text derivation result within r
   answered = answered;
   at_once = derivation_at_once (desk_of beside table before) text result (λ large. let no : true ≡ false = sym within ∙ large in cc)
       (record { users = users; charge = limit }) (sight_of (record { users = users; charge = limit }) w u) here;
+  no_memory = λ free. cc;
   kept = on_err_weaker result (λ same. record { sources = refl; desk = same }) kept;
   sound = sound;
   gains = gains;

@@ -1,5 +1,5 @@
 -- What one user and his desk come to is a step of the world.
-use Rattle.std.proofs.Common.{◌≡◌, ◌≢◌, ℕ, Bool, true, false, inl, inr, List, length, refl, sym, ◌∙◌, ap, rules, Some, None, Result, Ok, Err}
+use Rattle.std.proofs.Common.{◌≡◌, ◌≢◌, ℕ, Bool, true, false, inl, inr, List, length, refl, sym, ◌∙◌, ap, subst, rules, Some, None, Result, Ok, Err}
 use Rattle.std.specs.Prelude.{All, Contains, OnOk, OnErr, IfOk, IfErr, bytes_eq, slice_get, slice_set, nat_le, if◌then◌else◌}
 use Rattle.std.proofs.lemmas.Option.{slice_get_within}
 use Rattle.model.specs.Archives.{Tree, IsTree}
@@ -7,7 +7,7 @@ use Rattle.model.specs.Classes.{known_at}
 use Rattle.model.specs.Settling.{given, MadeSource}
 use Rattle.model.specs.Worlds.{Source, Setup, Desk, World, is_user, held_at, known_of}
 use Rattle.model.specs.Limits.{most_derivation_bytes}
-use Rattle.model.specs.Events.{AddSource, AddDerivation, Offer, Fetch, Event, Reply}
+use Rattle.model.specs.Events.{Request, AddSource, AddDerivation, Offer, Fetch, Event, Reply}
 use Rattle.model.specs.Outcomes.{sight_of, Outcome, becomes, reply_of, desk_after, reaches}
 use Rattle.model.specs.Steps.{outcome, outcome_of, after}
 use Rattle.model.specs.Replies.{is_refused}
@@ -21,7 +21,7 @@ use Rattle.realise.specs.Holdings.{Holdings}
 use Rattle.handling.specs.Sound.{desk_of, IsSound, IsHashed, Beside}
 use Rattle.handling.specs.Parts.{IsStep, desk_among}
 use Rattle.events.specs.Terms.{reply_of as told_of}
-use Rattle.handling.specs.Handling.{is_fault, Fits, RefusedAtOnce, ServesAtOnce, IsKept}
+use Rattle.handling.specs.Handling.{is_fault, takes_no_memory, NeverLacksMemory, Fits, RefusedAtOnce, ServesAtOnce, IsKept}
 use Rattle.laws.proofs.SourceRequestLemmas.{add_source_cases, fetch_cases}
 use Rattle.laws.proofs.DerivationRequestLemmas.{add_derivation_cases}
 use Rattle.laws.proofs.OfferRequestLemmas.{offer_cases}
@@ -77,6 +77,11 @@ step_done given now setup old new limit desks e i before after reply others late
 pub step_at_once : (setup : Setup) (w : World) (e : Event) (i : ℕ) (result : Result Rust.Reply Refusal) → IsPlace setup.users e.actor i
     → RefusedAtOnce (outcome setup (sight_of setup w e.actor) e.request) result → RefusedAtOnce (outcome_of setup w e) result
 step_at_once setup w e i result place at_once why quick o = at_once why quick (sym (outcome_is setup w e (place_is_among setup.users e.actor i place)) ∙ o)
+
+pub step_no_memory : (setup : Setup) (w : World) (e : Event) (i : ℕ) (result : Result Rust.Reply Refusal) → IsPlace setup.users e.actor i
+    → NeverLacksMemory e.request (outcome setup (sight_of setup w e.actor) e.request) result → NeverLacksMemory e.request (outcome_of setup w e) result
+step_no_memory setup w e i result place no_memory =
+    subst (λ o. NeverLacksMemory e.request o result) (sym (outcome_is setup w e (place_is_among setup.users e.actor i place))) no_memory
 
 pub step_unknown : (setup : Setup) (w : World) (e : Event) → is_user setup e.actor ≡ false → outcome_of setup w e ≡ Err UnknownUser
 step_unknown setup w e f = rw f refl
@@ -139,7 +144,14 @@ pub kept_desk : (beside : Beside) (old new : List Source) (before now : Holdings
     → desk_of beside new now ≡ desk_of beside old before
 kept_desk beside old new before now kept = rw (kept.sources, kept.desk) refl
 
--- ---- refusals that need no memory
+-- ---- requests and refusals that need no memory
+
+-- a request that takes memory, whatever it is answered
+abbrev pub TakesMemory : Request → Type 0
+TakesMemory request = (reply : Reply) → takes_no_memory request reply ≡ false
+
+pub may_lack : (request : Request) (o : Outcome) (result : Result Rust.Reply Refusal) → TakesMemory request → NeverLacksMemory request o result
+may_lack request o result takes free = let no : true ≡ false = sym free ∙ takes (reply_of o) in cc
 
 -- where such a refusal comes, it is the result
 abbrev AtOnce : Result Rust.Reply Refusal → Outcome → Type 0

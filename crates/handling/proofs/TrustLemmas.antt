@@ -89,6 +89,7 @@ module _ (users : List (List ℕ)) (limit : ℕ) (given : ℕ → ℕ → Bool) 
         told = (refl, subst Step (set-get_or desks i bare) step);
         refused = search rules;
         at_once = λ why quick o. (let no = sym is ∙ o in cc);
+        no_memory = λ free lacks. cc;
         kept = search rules;
         setup = refl;
         trust = within;

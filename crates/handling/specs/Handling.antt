@@ -1,13 +1,15 @@
 -- What a handler of an event promises.
-use Rattle.std.specs.Prelude.{◌≡◌, ℕ, Bool, true, false, ◌||◌, List, length, All, Contains, IfOk, IfErr, OnOk, OnErr, Some, Result, Ok, Err}
+use Rattle.std.specs.Prelude.{◌≡◌, ◌≢◌, ℕ, Bool, true, false, ◌||◌, List, length, All, Contains, IfOk, IfErr, OnOk, OnErr, Some, Result, Ok, Err}
 use Rattle.model.specs.declared.refusal.Refusal.{Refusal}
-use Rattle.model.specs.declared.refusal.Refusal.TheVariants.{Clash}
+use Rattle.model.specs.declared.refusal.Refusal.TheVariants.{Memory, Clash}
 use Rattle.model.specs.Archives.{Tree}
 use Rattle.model.specs.Derivations.{Derivation}
 use Rattle.model.specs.Classes.{known_at, derivation_path}
 use Rattle.model.specs.Worlds.{Source, Setup, Desk, World, Goal, are_users}
-use Rattle.model.specs.Events.{Request, Event}
+use Rattle.model.specs.Events as events
+use Rattle.model.specs.Events.{Request, Trust, Distrust, Unpin, Status, Fail, Event}
 use Rattle.model.specs.Replies.{is_memory_refusal, is_clash_refusal, is_refused, needs_no_memory}
+use Rattle.model.specs.Outcomes as outcomes
 use Rattle.model.specs.Outcomes.{Sight, sight_of, Outcome, becomes, add_entry}
 use Rattle.model.specs.DerivationRequests.{admit_new}
 use Rattle.model.specs.Steps.{outcome, outcome_of}
@@ -20,7 +22,7 @@ use Rattle.records.specs.Entries.{entry_with}
 use Rattle.realise.specs.Holdings.{Holdings}
 use Rattle.handling.specs.Stored.{stored_by, IsTakenFor}
 use Rattle.handling.specs.Sound.{Beside, desk_of, IsSound, AreGoalsSound, IsHashed, Clashes}
-use Rattle.events.specs.Terms.{reply_of}
+use Rattle.events.specs.Terms.{reply_of, shares_nothing}
 use Rattle.handling.specs.Parts.{goals_of, beside_at, Parts, parts, world_in, stored_after, IsStep}
 use Rattle.handling.specs.Viewing.{desk_at}
 use Rattle.handling.specs.Given.{HasSoundPlan}
@@ -29,6 +31,19 @@ use Rattle.handling.specs.Supported.{AreSupportedOn, AreSupported, GainsOnly}
 -- whether a refusal says nothing of the model: memory was refused, or another tree is at a path
 abbrev pub is_fault : Refusal → Bool
 is_fault why = is_memory_refusal why || is_clash_refusal why
+
+-- whether a request that is answered so takes no memory
+abbrev pub takes_no_memory : Request → events.Reply → Bool
+takes_no_memory (Trust user) reply = true
+takes_no_memory (Distrust user) reply = true
+takes_no_memory (Unpin class) reply = true
+takes_no_memory (Status number) reply = shares_nothing reply
+takes_no_memory (Fail number status) reply = true
+takes_no_memory request reply = false
+
+-- where a request takes no memory, the result is never that memory was refused
+abbrev pub NeverLacksMemory : Request → Outcome → Result Reply Refusal → Type 0
+NeverLacksMemory request outcome result = takes_no_memory request (outcomes.reply_of outcome) ≡ true → result ≢ Err Memory
 
 -- where an outcome is a refusal that needs no memory, it is the result
 abbrev pub RefusedAtOnce : Outcome → Result Reply Refusal → Type 0
@@ -66,6 +81,8 @@ pub record IsHandledIn (setup : Setup) (w : World) (u : List ℕ) (beside : Besi
   pub answered : IfOk result (λ r. is_refused (reply_of r) ≡ false)
   -- a refusal that needs no memory is told whether there is memory or not
   pub at_once : RefusedAtOnce (outcome setup (sight_of setup w u) request) result
+  -- what takes no memory is never told as 90
+  pub no_memory : NeverLacksMemory request (outcome setup (sight_of setup w u) request) result
   -- a refusal leaves all as it was
   pub kept : OnErr result (IsKept old new before after)
   -- the desk is within its limits, and what it holds is stored
@@ -139,6 +156,8 @@ pub record IsHandled (old : Parts) (event : Event) (result : Result Reply Refusa
   pub refused : IfErr result (λ why. is_fault why ≡ false → outcome_of old.setup (world_in old) event ≡ Err why)
   -- a refusal that needs no memory is told whether there is memory or not
   pub at_once : RefusedAtOnce (outcome_of old.setup (world_in old) event) result
+  -- what takes no memory is never told as 90
+  pub no_memory : NeverLacksMemory event.request (outcome_of old.setup (world_in old) event) result
   -- a refusal leaves all as it was
   pub kept : OnErr result (AreKept old new)
   -- what was given stays; users trust users of the run alone; each desk is within its limits, and what it holds is stored

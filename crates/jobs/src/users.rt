@@ -6,10 +6,11 @@ ghost use Rattle.model.specs.Limits.{most_goals};
 ghost use Rattle.model.specs.Worlds.{Building};
 ghost use Rattle.model.specs.Goals.{in_state, new_goal, members};
 ghost use Rattle.trust.specs.Trusting.{holds};
+ghost use Rattle.trust.specs.Naming.{name_at};
 ghost use Rattle.jobs.specs.Owned.{goals_at, with_goals_at, goal_of, ChangesGoal};
 ghost use Rattle.states.specs.States.{state_of};
 ghost use Rattle.jobs.specs.States.{is_building, planned_with, IsIdle};
-ghost use Rattle.jobs.specs.Joining.{running_at, least_with, joined};
+ghost use Rattle.jobs.specs.Joining.{running_at, least_with};
 
 use crate::goal::Goal;
 use crate::goals::Goals;
@@ -65,6 +66,14 @@ impl Jobs {
             all.push(Goals::new(alloc, hashing, user.clone()?))?;
         }
         Ok(Jobs { all })
+    }
+
+    /// The user at a place.
+    pub fn owner(&self, place: usize) -> &User
+        requires { place < length self.now.goals }
+        ensures { result.now ≡ name_at self.now.users place }
+    {
+        self.all[place].owner()
     }
 
     /// One goal more, which is to be planned. Its number.
@@ -148,8 +157,11 @@ impl Jobs {
         self.all[place].members(job)
     }
 
-    // The least job that is led by the users at the places of a set and in which the same is built.
-    fn least_job(&self, set: u64, resolved: &Resolved) -> Option<&Job>
+    /// Of the jobs that the users at the places of a set lead, the least in which the same is built,
+    /// by the names of the leaders and then by number. A goal of theirs that is built from that
+    /// enters it or, where there is none, its own. It looks only at goals that lead jobs under the
+    /// path of `resolved`, and takes no memory.
+    pub fn join(&self, set: u64, resolved: &Resolved) -> Option<&Job>
         ensures { option_copied result
             ≡ least_with None resolved.now (running_at (holds set) self.now) }
     {
@@ -160,31 +172,5 @@ impl Jobs {
             }
         }
         least
-    }
-
-    /// The job that a user's goal of that number enters, where it is built from `resolved`: of the
-    /// jobs that the users at the places of a set lead, the least in which the same is built, by
-    /// the names of the leaders and then by number; or, if there is none, its own. It looks only at
-    /// goals that lead jobs under its path.
-    ///
-    /// # Errors
-    ///
-    /// - `Memory` only where there are 2^63 - 1 copies of a name.
-    pub fn join(
-        &self,
-        set: u64,
-        place: usize,
-        number: u16,
-        resolved: &Resolved,
-    ) -> Result<Job, Refusal>
-        requires { place < length self.now.goals }
-        ensures value { IfOk result (λ job.
-            job ≡ joined (holds set) place number resolved.now self.now) }
-        ensures memory { IfErr result (λ e. e ≡ Memory) }
-    {
-        match self.least_job(set, resolved) {
-            Some(job) => Ok(job.clone()?),
-            None => Ok(Job::new(self.all[place].owner().clone()?, number)),
-        }
     }
 }

@@ -13,6 +13,10 @@ pub mod GoalLemmas
 pub mod FitLemmas
 pub mod AgreeLemmas
 pub mod StrikeLemmas
+pub mod InJobsLemmas
+pub mod InJobsOutcomes
+pub mod TimedLemmas
+pub mod TrustLemmas
 pub mod KnowledgeLemmas
 pub mod KeptLemmas
 pub mod RecursionLemmas

@@ -1,12 +1,25 @@
 //! Laws over every list of events.
 
-ghost use Rattle.model.specs.Laws.{IsIsolated, KnowledgeIsAdmitted, KnowledgeIsRecursive, NeverFails};
+ghost use Rattle.model.specs.Laws.{IsIsolated, IsTimelyIsolated, KnowledgeIsAdmitted, KnowledgeIsRecursive, NeverFails, TrustFollows};
 ghost use Rattle.model.specs.KeptClosures.{KeptClosuresAreGood, PlannedGoalsKeep};
 
 /// Whatever users outside his trust closure do, a user's replies are those that he would get
 /// without their events.
 pub fn isolation()
     ensures { IsIsolated }
+{}
+
+/// Events reach a user only through chains of trust that is held at the times concerned: his replies
+/// are those that he would get without the others. After each event the desks of those from whom
+/// anything can still come to him are the same as without the others, but that a goal which is built
+/// under a leader who is none of them may wait.
+pub fn timed_isolation()
+    ensures { IsTimelyIsolated }
+{}
+
+/// Whom users trust after an event follows from the event, and from whom they trusted before.
+pub fn trust_follows()
+    ensures { TrustFollows }
 {}
 
 /// Private desks never refuse with 90 `Memory`, 91 `Clash` or 92 `Stopped`.

@@ -7,8 +7,10 @@ use Rattle.model.specs.Reach.{leads, is_among}
 use Rattle.model.specs.Worlds.{Setup, Source, Desk, World, nothing, known_of}
 use Rattle.model.specs.Events.{AddDerivation, Event}
 use Rattle.model.specs.Replies.{is_failure}
-use Rattle.model.specs.Steps.{reply_to, world_after, replies}
+use Rattle.model.specs.Outcomes.{trusts}
+use Rattle.model.specs.Steps.{reply_to, after, world_after, replies}
 use Rattle.model.specs.Striking.{strike}
+use Rattle.model.specs.Timed.{near, kept_from, strike_timed, trusts_after, AgreesOn}
 
 -- a set of users is the least that holds u and is closed under the links of the users
 pub record IsLeast (link : List ℕ → List ℕ → Bool) (users : List (List ℕ)) (u : List ℕ) (set : List ℕ → Bool) : Type 0 where
@@ -22,6 +24,24 @@ ReachIsLeast = (link : List ℕ → List ℕ → Bool) (users : List (List ℕ))
 -- a user's replies to all events are those to the events that can reach him
 abbrev pub IsIsolated : Type 0
 IsIsolated = (setup : Setup) (events : List Event) (u : List ℕ) → replies setup u events ≡ replies setup u (strike setup u events)
+
+-- after the first of some events, those who are near then have the same desks as after those of the first that are kept, but that goals may wait
+pub record AgreesAfter (setup : Setup) (u : List ℕ) (first later : List Event) : Type 0 where
+  pub kept : List Event
+  pub cut : strike_timed setup u (first ++ later) ≡ kept ++ kept_from setup u (world_after setup nothing first) later
+  pub agrees : AgreesOn (near setup u (world_after setup nothing first) later) (world_after setup nothing first) (world_after setup nothing kept)
+
+-- a user's replies to all events are those to the events that can reach him by trust held at the times concerned
+pub record IsTimed (setup : Setup) (u : List ℕ) : Type 0 where
+  pub replies : (events : List Event) → replies setup u events ≡ replies setup u (strike_timed setup u events)
+  pub desks : (first later : List Event) → AgreesAfter setup u first later
+
+abbrev pub IsTimelyIsolated : Type 0
+IsTimelyIsolated = (setup : Setup) (u : List ℕ) → IsTimed setup u
+
+-- whom users trust after an event follows from the event, and from whom they trusted before
+abbrev pub TrustFollows : Type 0
+TrustFollows = (setup : Setup) (w : World) (e : Event) (x y : List ℕ) → trusts (after setup w e) x y ≡ trusts_after setup e (trusts w) x y
 
 -- private desks never refuse for memory, for a clash of digests, or because the store is stopped
 abbrev pub NeverFails : Type 0

@@ -37,6 +37,7 @@ pub mod GoalRequests
 pub mod EndRequests
 pub mod Steps
 pub mod Striking
+pub mod Timed
 pub mod HashedTexts
 pub mod RunningJobs
 pub mod GivenClosures

@@ -1,23 +1,25 @@
 -- What was read ahead of an input, and what the lines of it get.
-use Rattle.std.proofs.Common.{◌≡◌, ℕ, true, false, inl, inr, List, [], ◌∷◌, ◌++◌, length, take, Option, Some, None, refl, sym, ap, ◌∙◌, subst, arith, append_assoc, length-append}
-use Rattle.std.specs.Prelude.{◌⊎◌, MatchOption, option_map, Result, Ok, Err, IsOk, OnOk, IfErr}
+use Rattle.std.proofs.Common.{◌≡◌, ℕ, true, false, inl, List, [], ◌∷◌, ◌++◌, length, take, Option, Some, None, refl, sym, ap, ◌∙◌, subst, arith, append_assoc, length-append}
+use Rattle.std.specs.Prelude.{◌⊎◌, MatchOption, option_map, Result, Ok, Err, IsOk, OnOk}
 use Rattle.std.proofs.lemmas.List.{append-nil, take_all}
+use Rattle.std.proofs.lemmas.Bool.{true≢false, false≢true}
 use mathlib.Core.List.{IsPrefix}
 use Rattle.std.specs.Io.KnownBytes.{Appends, Consumes, IsAtEnd, prepend_known}
 use Rattle.model.specs.declared.mode.Mode.TheVariants.{Service}
 use Rattle.model.specs.declared.refusal.Refusal.{Refusal}
-use Rattle.model.specs.declared.refusal.Refusal.TheVariants.{BadUsers, InputFault, Memory}
+use Rattle.model.specs.declared.refusal.Refusal.TheVariants.{BadUsers, InputFault, OutputFault}
 use Rattle.model.specs.Worlds.{Setup, are_users}
 use Rattle.model.specs.Lines.{lines_of}
 use Rattle.model.specs.Talk.{Row, fresh, Talks, text_from, asked_in, users_in}
 use Rattle.laws.proofs.TalkLemmas.{none_asked, named_are_users, same_users, no_users}
-use Rattle.session.specs.Serving.{HasNoNewline, AnsweredSoFar, Finished, EndedEarly, IsUnwritten}
+use Rattle.session.specs.Serving.{HasNoNewline, AnsweredSoFar, Finished, EndedEarly}
 use Rattle.session.specs.declared.ahead.Ahead.{Ahead}
 use Rattle.session.specs.Ahead.{NoUsersSoFar, LooksAhead}
 use Rattle.session.proofs.LineLemmas.{lines-newline, HasNoNewline-append}
-use Rattle.session.proofs.RowLemmas.{appends-none, appends-flushed}
-use Rattle.replaying.specs.Replaying.{recorded_in, IsOneHistory, AreAnswered, LinksOnly, Served, ServedInPart, IsReadAhead, Replayed, ReplayedInPart}
-use Rattle.replaying.proofs.ReplayLemmas.{one_history}
+use Rattle.session.proofs.RowLemmas.{appends-none, appends-flushed, consumes-behind, consumes-none}
+use Rattle.passes.specs.Callers.{newcomer}
+use Rattle.replaying.specs.Replaying.{AreOfOneStore, AreAnswered, LinksOnly, Served, ServedInPart, IsReadAhead, Replayed, ReplayedInPart}
+use Rattle.replaying.proofs.ReplayLemmas.{one_store}
 
 -- ---- whole lines
 
@@ -47,32 +49,32 @@ whole_front (l ∷ done) (l' ∷ whole) partial begun h =
 -- ---- answers
 
 answered_as : (charge : ℕ) (rows : List Row) (named : Option (List (List ℕ))) → (named ≡ None → asked_in rows ≡ [])
-    → ((users : List (List ℕ)) → named ≡ Some users → IsOneHistory (record { users = users; charge = charge }) (recorded_in rows))
-    → MatchOption named (asked_in rows ≡ []) (λ users. IsOneHistory (record { users = users; charge = charge }) (recorded_in rows))
+    → ((users : List (List ℕ)) → named ≡ Some users → AreOfOneStore (record { users = users; charge = charge }) rows)
+    → MatchOption named (asked_in rows ≡ []) (λ users. AreOfOneStore (record { users = users; charge = charge }) rows)
 answered_as charge rows None none some = none refl
 answered_as charge rows (Some users) none some = some users refl
 
 are_answered : (charge : ℕ) (done : List (List ℕ)) (rows : List Row) → Talks (fresh Service) done rows
-    → ((users : List (List ℕ)) → users_in rows ≡ Some users → IsOneHistory (record { users = users; charge = charge }) (recorded_in rows)) → AreAnswered charge rows
+    → ((users : List (List ℕ)) → users_in rows ≡ Some users → AreOfOneStore (record { users = users; charge = charge }) rows) → AreAnswered charge rows
 are_answered charge done rows t some = answered_as charge rows (users_in rows) (none_asked (fresh Service) done rows refl t) some
 
 -- by a store for the users that were found ahead
-by_store : (charge : ℕ) (users : List (List ℕ)) (all : List ℕ) (done rest : List (List ℕ)) (rows : List Row) → LooksAhead Service all (Some users) → done ++ rest ≡ lines_of all
-    → Talks (fresh Service) done rows → IsOneHistory (record { users = users; charge = charge }) (recorded_in rows) → AreAnswered charge rows
+pub by_store : (charge : ℕ) (users : List (List ℕ)) (all : List ℕ) (done rest : List (List ℕ)) (rows : List Row) → LooksAhead Service all (Some users) → done ++ rest ≡ lines_of all
+    → Talks (fresh Service) done rows → AreOfOneStore (record { users = users; charge = charge }) rows → AreAnswered charge rows
 by_store charge users all done rest rows found cut t one = are_answered charge done rows t (λ named n.
     let same : users ≡ named = same_users (fresh Service) found.done done found.rest rest found.rows rows refl found.talks t (sym found.cut ∙ sym cut) users named found.named n in
-    subst (λ u. IsOneHistory (record { users = u; charge = charge }) (recorded_in rows)) same one)
+    subst (λ u. AreOfOneStore (record { users = u; charge = charge }) rows) same one)
 
 none_named : (charge : ℕ) (done : List (List ℕ)) (rows : List Row) → Talks (fresh Service) done rows → users_in rows ≡ None → AreAnswered charge rows
 none_named charge done rows t none = are_answered charge done rows t (λ users n. cc)
 
 -- where none were found
-by_nobody : (charge : ℕ) (all : List ℕ) (done rest : List (List ℕ)) (rows : List Row) → LooksAhead Service all None → done ++ rest ≡ lines_of all → Talks (fresh Service) done rows → AreAnswered charge rows
+pub by_nobody : (charge : ℕ) (all : List ℕ) (done rest : List (List ℕ)) (rows : List Row) → LooksAhead Service all None → done ++ rest ≡ lines_of all → Talks (fresh Service) done rows → AreAnswered charge rows
 by_nobody charge all done rest rows found cut t =
     none_named charge done rows t (no_users (fresh Service) found.done done found.rest rest found.rows rows refl found.talks t (sym found.cut ∙ sym cut) (found.ends refl) found.named)
 
 -- where the reader failed before any were found
-by_whole_lines : (charge : ℕ) (bytes : List ℕ) (done : List (List ℕ)) (rows : List Row) → NoUsersSoFar Service bytes → ((more : List ℕ) → IsPrefix done (lines_of (bytes ++ more)))
+pub by_whole_lines : (charge : ℕ) (bytes : List ℕ) (done : List (List ℕ)) (rows : List Row) → NoUsersSoFar Service bytes → ((more : List ℕ) → IsPrefix done (lines_of (bytes ++ more)))
     → Talks (fresh Service) done rows → AreAnswered charge rows
 by_whole_lines charge bytes done rows found first t =
     let lines = found.lines in
@@ -113,6 +115,19 @@ nothing_answered L now blank input ended why own = record {
   count = 0;
   text = appends-none blank;
   users = λ e. absurd (own e);
+  told = λ h. absurd (false≢true h.0);
+}
+
+-- so by a store that was not made
+pub nothing_served : (setup : Setup) (bytes : List ℕ) (rest blank : Option (List ℕ)) (why : Refusal) → (why ≡ BadUsers → ⊥)
+    → ServedInPart setup (prepend_known bytes rest) rest blank blank why
+nothing_served setup bytes rest blank why own = record {
+  input = bytes ++ [];
+  read = consumes-behind bytes rest rest [] (consumes-none rest);
+  first = newcomer 0;
+  last = newcomer 0;
+  new = refl;
+  done = nothing_answered (LinksOnly setup) (newcomer 0) blank (bytes ++ []) (IsAtEnd rest) why own;
 }
 
 -- nothing was answered, and nobody was named
@@ -125,6 +140,7 @@ nothing_replayed charge blank lines why own = record {
   count = 0;
   text = appends-none blank;
   users = λ e. absurd (own e);
+  told = λ h. absurd (false≢true h.0);
   answered = refl;
 }
 
@@ -148,6 +164,7 @@ flushed_in_part charge blank written written' lines why h kept = record {
   count = h.count;
   text = appends-flushed blank written written' (take h.count (text_from 1 h.rows)) h.text kept;
   users = h.users;
+  told = h.told;
   answered = h.answered;
 }
 
@@ -162,13 +179,15 @@ not_flushed charge blank written written' lines why own h kept = record {
   count = length (text_from 1 h.rows);
   text = subst (λ t. Appends blank written' t) (sym (take_all _ _ (omega arith))) (appends-flushed blank written written' (text_from 1 h.rows) h.text kept);
   users = λ e. absurd (own e);
+  told = λ r. absurd (true≢false (sym r.0 ∙ h.going));
   answered = h.answered;
 }
 
--- another fault came after the first
-pub other_fault : (charge : ℕ) (blank written : Option (List ℕ)) (lines : List (List ℕ)) (why other : Refusal) → (other ≡ BadUsers → ⊥) → ReplayedInPart charge blank written lines why
+-- it ended otherwise than is told
+pub other_fault : (charge : ℕ) (blank written : Option (List ℕ)) (lines : List (List ℕ)) (why other : Refusal) → (other ≡ BadUsers → ⊥)
+    → ((why ≡ BadUsers) ⊎ (why ≡ OutputFault) → (other ≡ BadUsers) ⊎ (other ≡ OutputFault)) → ReplayedInPart charge blank written lines why
     → ReplayedInPart charge blank written lines other
-other_fault charge blank written lines why other own h = record {
+other_fault charge blank written lines why other own keeps h = record {
   rows = h.rows;
   done = h.done;
   first = h.first;
@@ -176,6 +195,7 @@ other_fault charge blank written lines why other own h = record {
   count = h.count;
   text = h.text;
   users = λ e. absurd (own e);
+  told = λ r. keeps (h.told r);
   answered = h.answered;
 }
 
@@ -194,7 +214,7 @@ module _ (charge : ℕ) (all : List ℕ) (blank written : Option (List ℕ)) whe
         talks = f.talks;
         going = f.going;
         text = f.text;
-        answered = by_store charge users all (lines_of all) [] f.rows found (append-nil (lines_of all)) f.talks (one_history (setup_of_users users) h.first h.last f.rows h.new f.chain);
+        answered = by_store charge users all (lines_of all) [] f.rows found (append-nil (lines_of all)) f.talks (one_store (setup_of_users users) h.first h.last f.rows h.new f.chain);
       }
 
   pub stopped_by_store : (users : List (List ℕ)) (start end : Option (List ℕ)) (why : Refusal) → LooksAhead Service all (Some users) → start ≡ Some all
@@ -211,7 +231,8 @@ module _ (charge : ℕ) (all : List ℕ) (blank written : Option (List ℕ)) whe
         count = s.count;
         text = s.text;
         users = s.users;
-        answered = by_store charge users all s.done first.0 s.rows found first.1 s.talks (one_history (setup_of_users users) h.first h.last s.rows h.new s.chain);
+        told = λ r. inl (s.told r);
+        answered = by_store charge users all s.done first.0 s.rows found first.1 s.talks (one_store (setup_of_users users) h.first h.last s.rows h.new s.chain);
       }
 
   module _ {A : Type 0} (L : A → Row → A → Type 0) (old new : A) where
@@ -238,6 +259,7 @@ module _ (charge : ℕ) (all : List ℕ) (blank written : Option (List ℕ)) whe
           count = h.count;
           text = h.text;
           users = h.users;
+          told = λ r. inl (h.told r);
           answered = by_nobody charge all h.done first.0 h.rows found first.1 h.talks;
         }
 
@@ -253,6 +275,7 @@ module _ (charge : ℕ) (all : List ℕ) (blank written : Option (List ℕ)) whe
           count = h.count;
           text = h.text;
           users = h.users;
+          told = λ r. inl (h.told r);
           answered = by_whole_lines charge bytes h.done h.rows found cut h.talks;
         }
 
@@ -269,22 +292,13 @@ module _ (charge : ℕ) (all : List ℕ) (blank written : Option (List ℕ)) whe
           count = length (text_from 1 h.rows);
           text = subst (λ t. Appends blank written t) (sym (take_all _ _ (omega arith))) h.text;
           users = λ e. absurd (own e);
+          told = λ r. absurd (true≢false (sym r.0 ∙ lines.going));
           answered = by_whole_lines charge bytes lines.done h.rows found cut lines.talks;
         }
 
 -- the users that were found ahead are a list of users
 pub found_are_users : (all : List ℕ) (users : List (List ℕ)) → LooksAhead Service all (Some users) → are_users users ≡ true
 found_are_users all users found = named_are_users (fresh Service) found.done found.rows users refl found.talks found.named
-
--- ---- results
-
-pub on_ok : {A E : Type 0} {P Q : Type 0} (r : Result A E) → (P → Q) → OnOk r P → OnOk r Q
-on_ok (Ok x) f h = f h
-on_ok (Err e) f h = h
-
-pub if_err : {A E : Type 0} {P Q : E → Type 0} (r : Result A E) → ((e : E) → P e → Q e) → IfErr r P → IfErr r Q
-if_err (Ok x) f h = h
-if_err (Err e) f h = f e h
 
 -- ---- why a session is stopped
 
@@ -312,13 +326,3 @@ pub after_ok : (r e : Result (Unit {0}) Refusal) (P Q : Type 0) → OnOk r (IsOk
 after_ok (Ok u) (Ok v) P Q is p f = f p
 after_ok (Ok u) (Err w) P Q is p f = cc
 after_ok (Err why) e P Q is p f = tt
-
--- an error is that of the end, or it says that the flush failed, after either end
-pub after_err : (r e : Result (Unit {0}) Refusal) (P : Type 0) (Q S : Refusal → Type 0) → IfErr r (λ why. (e ≡ Err why) ⊎ IsUnwritten why)
-    → OnOk e P → IfErr e Q → ((why : Refusal) → IsUnwritten why → P → S why) → ((first why : Refusal) → IsUnwritten why → Q first → S why)
-    → ((why : Refusal) → Q why → S why) → IfErr r S
-after_err (Ok u) e P Q S is p q unwritten later same = tt
-after_err (Err why) (Ok v) P Q S (inl e) p q unwritten later same = cc
-after_err (Err why) (Err first) P Q S (inl e) p q unwritten later same = let is : first ≡ why = cc in subst S is (same first q)
-after_err (Err why) (Ok v) P Q S (inr u) p q unwritten later same = unwritten why u p
-after_err (Err why) (Err first) P Q S (inr u) p q unwritten later same = later first why u q

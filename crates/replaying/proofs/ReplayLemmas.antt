@@ -1,7 +1,8 @@
 -- The calls of the one pass are one history.
 use Rattle.std.proofs.Common.{◌≡◌, Bool, true, false, List, [], ◌∷◌, ◌++◌, map, refl, sym, ap, ◌∙◌, subst, append_assoc}
-use Rattle.std.specs.Prelude.{not, filter}
+use Rattle.std.specs.Prelude.{not, filter, All}
 use Rattle.std.proofs.lemmas.List.{map_push, append-nil}
+use Rattle.std.proofs.lemmas.List.Elements.{All-nil, All-cons}
 use Rattle.model.specs.Worlds.{Setup}
 use Rattle.model.specs.Events.{Event, Reply}
 use Rattle.model.specs.Talk as talk
@@ -13,7 +14,7 @@ use Rattle.book.specs.Histories.{IsLegal}
 use Rattle.model.specs.Replies.{is_unrecorded}
 use Rattle.book.specs.Answering.{IsOnlyAnswer}
 use Rattle.book.proofs.HistoryLemmas.{legal_none}
-use Rattle.replaying.specs.Replaying.{recorded_in, pair_of, IsOneHistory, LinksOnly}
+use Rattle.replaying.specs.Replaying.{recorded_in, pair_of, IsOneHistory, IsGoing, AreOfOneStore, LinksOnly}
 
 -- what one row has of recorded events
 abbrev recorded_of : talk.Row → List (Event × Reply)
@@ -72,8 +73,19 @@ module _ (setup : Setup) where
         legal = more.legal;
       }
 
-  -- the calls of a pass that had made none
-  pub one_history : (old new : Caller) (rows : List talk.Row) → old.sure ≡ [] → Chain (LinksOnly setup) old rows new → IsOneHistory setup (recorded_in rows)
+  -- no call is told that the store is stopped
+  all_going : (old new : Caller) (rows : List talk.Row) → Chain (LinksOnly setup) old rows new → All IsGoing (asked_in rows)
+  all_going old new [] h = All-nil IsGoing
+  all_going old new (Silent ∷ rows) h = all_going h.0 new rows h.2
+  all_going old new (Names users ∷ rows) h = all_going h.0 new rows h.2
+  all_going old new (Refuses why ∷ rows) h = all_going h.0 new rows h.2
+  all_going old new (Waits goals reply ∷ rows) h = all_going h.0 new rows h.2
+  all_going old new (Asks event reply ∷ rows) h = All-cons IsGoing (event, reply) (asked_in rows) (going_of old h.0 event reply h.1) (all_going h.0 new rows h.2)
+    where
+      going_of : (old new : Caller) (event : Event) (reply : Reply) → IsOnlyAnswer setup old event reply new → IsGoing (event, reply)
+      going_of old new event reply answer = answer.going
+
+  one_history : (old new : Caller) (rows : List talk.Row) → old.sure ≡ [] → Chain (LinksOnly setup) old rows new → IsOneHistory setup (recorded_in rows)
   one_history old new rows none h =
       let all = chain old new rows h (subst (IsLegal setup) (sym none) (legal_none setup)) in
       record {
@@ -81,3 +93,7 @@ module _ (setup : Setup) where
         is = all.is ∙ ap (λ (rs : List Row). map pair_of rs ++ recorded_in rows) none;
         legal = all.legal;
       }
+
+  -- the calls of a pass that had made none
+  pub one_store : (old new : Caller) (rows : List talk.Row) → old.sure ≡ [] → Chain (LinksOnly setup) old rows new → AreOfOneStore setup rows
+  one_store old new rows none h = record { recorded = one_history old new rows none h; going = all_going old new rows h }

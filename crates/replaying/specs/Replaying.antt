@@ -1,26 +1,26 @@
 -- What the lines of a file mean for the store of the program.
-use Rattle.std.specs.Prelude.{◌≡◌, ◌≤◌, true, false, not, ℕ, List, [], ◌++◌, map, filter, length, Option, option_map, MatchOption, take}
+use Rattle.std.specs.Prelude.{◌≡◌, ◌⊎◌, true, false, not, ℕ, List, [], ◌++◌, map, filter, All, Option, option_map, MatchOption, take}
 use mathlib.Core.List.{IsPrefix}
 use Rattle.std.specs.Io.KnownBytes.{Appends, Consumes, IsAtEnd}
 use Rattle.model.specs.declared.mode.Mode.TheVariants.{Service}
 use Rattle.model.specs.declared.refusal.Refusal.{Refusal}
-use Rattle.model.specs.declared.refusal.Refusal.TheVariants.{BadUsers}
+use Rattle.model.specs.declared.refusal.Refusal.TheVariants.{BadUsers, OutputFault}
 use Rattle.model.specs.Worlds.{Setup, Job}
 use Rattle.model.specs.Events.{Event, Reply, Done}
 use Rattle.model.specs.Lines.{lines_of}
 use Rattle.model.specs.Talk as talk
 use Rattle.model.specs.Talk.{fresh, after_all, Talks, text_from, asked_in, users_in}
 use Rattle.events.specs.Terms.{reply_of}
-use Rattle.session.specs.Serving.{Link, Finished, EndedEarly}
+use Rattle.session.specs.Serving.{Link, Finished, EndedEarly, HasRefused}
 use Rattle.session.specs.declared.ahead.Ahead.{Ahead}
 use Rattle.session.specs.Ahead.{NoUsersSoFar, LooksAhead}
 use Rattle.passes.specs.declared.row.Row.{Row}
 use Rattle.book.specs.Histories.{event_in, IsLegal}
 use Rattle.passes.specs.Callers.{Caller}
-use Rattle.model.specs.Replies.{is_unrecorded}
+use Rattle.model.specs.Replies.{is_refusal, is_stopped_refusal, is_unrecorded}
 use Rattle.book.specs.Answering.{IsOnlyAnswer}
 
--- the events that the lines made, with their replies, but for those that were answered 90 or 92
+-- the events that the lines made, with their replies, but for those that were answered 90
 abbrev pub recorded_in : List talk.Row → List (Event × Reply)
 recorded_in rows = filter (λ p. not (is_unrecorded p.1)) (asked_in rows)
 
@@ -34,10 +34,19 @@ pub record IsOneHistory (setup : Setup) (pairs : List (Event × Reply)) : Type 0
   pub is : map pair_of history ≡ pairs
   pub legal : IsLegal setup history
 
+-- a reply does not say that the store is stopped
+abbrev pub IsGoing : Event × Reply → Type 0
+IsGoing p = is_refusal is_stopped_refusal p.1 ≡ false
+
+-- one store answered all lines: one legal history has the events that were recorded, and it was never stopped
+pub record AreOfOneStore (setup : Setup) (rows : List talk.Row) : Type 0 where
+  pub recorded : IsOneHistory setup (recorded_in rows)
+  pub going : All IsGoing (asked_in rows)
+
 -- the replies are those of one store, for the users whom the lines name and under that charge; where they name none, no event was made
 abbrev pub AreAnswered : ℕ → List talk.Row → Type 0
 AreAnswered charge rows =
-    MatchOption (users_in rows) (asked_in rows ≡ []) (λ users. IsOneHistory (record { users = users; charge = charge }) (recorded_in rows))
+    MatchOption (users_in rows) (asked_in rows ≡ []) (λ users. AreOfOneStore (record { users = users; charge = charge }) rows)
 
 -- all of these lines were answered, and all of their text was written
 pub record Replayed (charge : ℕ) (blank written : Option (List ℕ)) (lines : List (List ℕ)) : Type 0 where
@@ -48,7 +57,7 @@ pub record Replayed (charge : ℕ) (blank written : Option (List ℕ)) (lines : 
   pub answered : AreAnswered charge rows
 
 -- the first of these lines were answered, and a beginning of their text was written;
--- it ends with 14 where a line of users was refused, and then all of the text was
+-- it ends with 14 only where a line of users was refused and all of the text was written, and with 14 or 72 there
 pub record ReplayedInPart (charge : ℕ) (blank written : Option (List ℕ)) (lines : List (List ℕ)) (why : Refusal) : Type 0 where
   pub rows : List talk.Row
   pub done : List (List ℕ)
@@ -56,7 +65,8 @@ pub record ReplayedInPart (charge : ℕ) (blank written : Option (List ℕ)) (li
   pub talks : Talks (fresh Service) done rows
   pub count : ℕ
   pub text : Appends blank written (take count (text_from 1 rows))
-  pub users : why ≡ BadUsers → ((after_all (fresh Service) rows).refused ≡ true) × (length (text_from 1 rows) ≤ count)
+  pub users : why ≡ BadUsers → HasRefused Service rows count
+  pub told : HasRefused Service rows count → (why ≡ BadUsers) ⊎ (why ≡ OutputFault)
   pub answered : AreAnswered charge rows
 
 -- ---- on the way there

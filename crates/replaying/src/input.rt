@@ -6,7 +6,9 @@ ghost use Rattle.model.specs.Limits.{most_charge};
 ghost use Rattle.model.specs.Worlds.{are_users, nothing};
 ghost use Rattle.schedule.specs.Standing.{setup_for, setup_of, world_of, stored_in};
 ghost use Rattle.model.specs.declared.refusal.Refusal.TheVariants.{InputFault, OutputFault};
-ghost use Rattle.session.specs.Serving.{IsOwn, MayBeFault};
+ghost use Rattle.std.specs.Io.KnownBytes.{prepend_known};
+ghost use Rattle.session.specs.Serving.{IsNoFault, IsOwn, MayBeFault};
+ghost use Rattle.replaying.specs.WholeLines.{ReplayedSoFar, ServedSoFar};
 ghost use Rattle.replaying.specs.Replaying.{Served, ServedInPart, IsReadAhead, Replayed, ReplayedInPart};
 
 use crate::one_pass::OnePass;
@@ -14,7 +16,7 @@ use book::{Blank, Front, Naming};
 use model::Refusal;
 use schedule::{Core, Limits, User};
 use session::{
-    Ahead, Faults, Mode, NoUsers, Prefixed, flush_after, read_ahead, serve, serve_whole_lines,
+    Ahead, Faults, Mode, NoUsers, flush_after, read_ahead, serve_behind, serve_whole_lines,
 };
 use std::alloc::Global;
 use std::hash::RandomState;
@@ -23,52 +25,63 @@ use std::marker::Brand;
 use std::mem;
 use std::sync::Wait;
 
-/// Answers the lines of a reader by a new core, behind a lock that one pass takes. The store is not
-/// taken apart at the end: the program ends with it, and its memory is given back at once.
+/// Answers the lines of some bytes and of the reader behind them by a new core, behind a lock that one
+/// pass takes. The store is not taken apart at the end: the program ends with it, and its memory is given
+/// back at once.
 fn serve_core<J: Naming, H: Wait, R: Read + Faults, W: Write + Faults>(
     rt: &H,
     alloc: Global,
     blank: Blank,
     core: Core,
+    bytes: &[u8],
     reader: &mut R,
     writer: &mut W,
 ) -> Result<(), Refusal>
     requires blank { (blank.calls.name ≡ J.name) × (blank.calls.parts ≡ J.parts) × (blank.calls.parts ≡ 1) }
     requires log { blank.log.table.shared.table_id ≡ J.table }
     requires core { (setup_of core ≡ J.setup) × (world_of core ≡ nothing) × (stored_in core ≡ []) }
-    ensures ok { OnOk result (Served J.setup (R.remaining reader.old) (R.remaining reader.new) (W.contents writer.old) (W.contents writer.new)) }
-    ensures err { IfErr result
-        (ServedInPart J.setup (R.remaining reader.old) (R.remaining reader.new) (W.contents writer.old) (W.contents writer.new)) }
+    ensures ok { OnOk result (Served J.setup
+        (prepend_known bytes.now (R.remaining reader.old)) (R.remaining reader.new) (W.contents writer.old) (W.contents writer.new)) }
+    ensures err { IfErr result (ServedInPart J.setup
+        (prepend_known bytes.now (R.remaining reader.old)) (R.remaining reader.new) (W.contents writer.old) (W.contents writer.new)) }
+    ensures failed { IfErr result (λ why. why ≡ InputFault → ServedSoFar J.setup
+        (prepend_known bytes.now (R.remaining reader.old)) (R.remaining reader.new) (W.contents writer.old) (W.contents writer.new)) }
     ensures errors { IfErr result (λ why. (why ≡ InputFault) ⊎ IsOwn why) }
+    ensures output_fault { IfErr result (MayBeFault OutputFault (W.failed writer.old) (W.failed writer.new)) }
 {
     let (front, mut passes) = Front::<J>::new(alloc, blank, core, 1)?;
     let pass = passes.pop().unwrap();
     let mut store = OnePass { rt, front, pass };
-    let ended = serve(alloc, Mode::Service, reader, writer, &mut store);
+    let ended = serve_behind(alloc, Mode::Service, bytes, reader, writer, &mut store);
     mem::forget(store);
     ended
 }
 
-/// Answers the lines of a reader by a new store for these users, whose charge is limited.
+/// Answers the lines of some bytes and of the reader behind them by a new store for these users, whose
+/// charge is limited.
 fn serve_users<H: Wait, R: Read + Faults, W: Write + Faults>(
     rt: &H,
     alloc: Global,
     hashing: RandomState,
     users: Vec<User>,
     limits: Limits,
+    bytes: &[u8],
     reader: &mut R,
     writer: &mut W,
 ) -> Result<(), Refusal>
     requires { limits.charge ≤ most_charge }
-    ensures ok { OnOk result
-        (Served (setup_for users limits) (R.remaining reader.old) (R.remaining reader.new) (W.contents writer.old) (W.contents writer.new)) }
-    ensures err { IfErr result (λ why. are_users users.items ≡ true →
-        ServedInPart (setup_for users limits) (R.remaining reader.old) (R.remaining reader.new) (W.contents writer.old) (W.contents writer.new) why) }
+    ensures ok { OnOk result (Served (setup_for users limits)
+        (prepend_known bytes.now (R.remaining reader.old)) (R.remaining reader.new) (W.contents writer.old) (W.contents writer.new)) }
+    ensures err { IfErr result (λ why. are_users users.items ≡ true → ServedInPart (setup_for users limits)
+        (prepend_known bytes.now (R.remaining reader.old)) (R.remaining reader.new) (W.contents writer.old) (W.contents writer.new) why) }
+    ensures failed { IfErr result (λ why. why ≡ InputFault → ServedSoFar (setup_for users limits)
+        (prepend_known bytes.now (R.remaining reader.old)) (R.remaining reader.new) (W.contents writer.old) (W.contents writer.new)) }
     ensures errors { IfErr result (λ why. (why ≡ InputFault) ⊎ IsOwn why) }
+    ensures output_fault { IfErr result (MayBeFault OutputFault (W.failed writer.old) (W.failed writer.new)) }
 {
     let core = Core::new(alloc, hashing, users, limits)?;
     let blank = Blank::new(alloc, 1)?;
-    serve_core::<Brand, _, _, _>(rt, alloc, blank, core, reader, writer)
+    serve_core::<Brand, _, _, _>(rt, alloc, blank, core, bytes, reader, writer)
 }
 
 /// Answers the lines of an input whose first lines are read ahead. Where the reader failed before it
@@ -87,32 +100,62 @@ fn answer_lines<H: Wait, R: Read + Faults, W: Write + Faults>(
         → Replayed limits.charge (W.contents writer.old) (W.contents writer.new) (lines_of all)) }
     ensures err { IfErr result (λ why. (all left : List ℕ) → R.remaining reader.old ≡ Some left → IsReadAhead all left ahead
         → ReplayedInPart limits.charge (W.contents writer.old) (W.contents writer.new) (lines_of all) why) }
+    ensures failed { IfErr result (λ why. why ≡ InputFault
+        → (all left : List ℕ) → R.remaining reader.old ≡ Some left → IsReadAhead all left ahead
+        → ReplayedSoFar limits.charge (W.contents writer.old) (W.contents writer.new) all (R.remaining reader.new)) }
     ensures errors { IfErr result (λ why. (why ≡ InputFault) ⊎ IsOwn why) }
+    ensures output_fault { IfErr result (MayBeFault OutputFault (W.failed writer.old) (W.failed writer.new)) }
 {
     if ahead.has_failed {
         let bytes = ahead.bytes.as_slice();
         serve_whole_lines(alloc, Mode::Service, bytes, writer, &mut NoUsers)?;
         return Err(Refusal::InputFault);
     }
-    let mut reader = Prefixed::new(ahead.bytes, reader);
-    let Some(users) = ahead.users else {
-        return serve(alloc, Mode::Service, &mut reader, writer, &mut NoUsers);
+    let Ahead { bytes, users, .. } = ahead;
+    let Some(users) = users else {
+        return serve_behind(alloc, Mode::Service, &bytes, reader, writer, &mut NoUsers);
     };
-    serve_users(rt, alloc, hashing, users, limits, &mut reader, writer)
+    serve_users(rt, alloc, hashing, users, limits, &bytes, reader, writer)
+}
+
+/// Answers the lines that a reader gives, in a store for the users whom they name first and under these
+/// limits, and writes the replies. The writer is left to be flushed.
+fn answer_input<H: Wait, R: Read + Faults, W: Write + Faults>(
+    rt: &H,
+    alloc: Global,
+    hashing: RandomState,
+    limits: Limits,
+    reader: &mut R,
+    writer: &mut W,
+) -> Result<(), Refusal>
+    requires { limits.charge ≤ most_charge }
+    ensures ok { OnOk result ((all : List ℕ) → R.remaining reader.old ≡ Some all
+        → Replayed limits.charge (W.contents writer.old) (W.contents writer.new) (lines_of all)) }
+    ensures err { IfErr result (λ why. (all : List ℕ) → R.remaining reader.old ≡ Some all
+        → ReplayedInPart limits.charge (W.contents writer.old) (W.contents writer.new) (lines_of all) why) }
+    ensures failed { IfErr result (λ why. why ≡ InputFault → (all : List ℕ) → R.remaining reader.old ≡ Some all
+        → ReplayedSoFar limits.charge (W.contents writer.old) (W.contents writer.new) all (R.remaining reader.new)) }
+    ensures errors { IfErr result (λ why. (why ≡ InputFault) ⊎ IsOwn why) }
+    ensures output_fault { IfErr result (MayBeFault OutputFault (W.failed writer.old) (W.failed writer.new)) }
+{
+    let ahead = read_ahead(alloc, Mode::Service, reader)?;
+    answer_lines(rt, alloc, hashing, limits, ahead, reader, writer)
 }
 
 /// Answers the lines that a reader gives, in a store for the users whom they name first and under
-/// these limits, and writes the replies. What is written is flushed, whatever the end.
+/// these limits, and writes the replies. What is written is flushed, whatever the end, but for a failure of
+/// the writer.
 ///
 /// # Errors
 ///
-/// They are those of [`serve`].
+/// The counts of failures are looked at again at the end.
 ///
 /// - `BadUsers` where the line of users is refused.
-/// - `InputFault` only where the reader failed during the call by its count.
+/// - `InputFault` only where the reader failed during the call by its count. Then the lines that were read
+///   whole are answered, and all of their text is written.
 /// - `OutputFault` only where the writer failed during the call by its count.
-/// - `Memory` where memory was refused and no event can be answered for it, or where the counts do not
-///   show a failure.
+/// - `Memory` where memory was refused and no event can be answered for it, or where the count of the reader
+///   does not show its failure any more; and only where the writer's count shows no failure.
 pub fn replay<H: Wait, R: Read + Faults, W: Write + Faults>(
     rt: &H,
     alloc: Global,
@@ -128,15 +171,18 @@ pub fn replay<H: Wait, R: Read + Faults, W: Write + Faults>(
     // Else its first lines are.
     ensures err { IfErr result (λ why. (all : List ℕ) → R.remaining reader.old ≡ Some all
         → ReplayedInPart limits.charge (W.contents writer.old) (W.contents writer.new) (lines_of all) why) }
+    // Where the reader failed, these are the lines that were read whole, and all of their text.
+    ensures failed { IfErr result (λ why. why ≡ InputFault → (all : List ℕ) → R.remaining reader.old ≡ Some all
+        → ReplayedSoFar limits.charge (W.contents writer.old) (W.contents writer.new) all (R.remaining reader.new)) }
     ensures errors { IfErr result (λ why. (why ≡ InputFault) ⊎ IsOwn why) }
     ensures input_fault { IfErr result
         (MayBeFault InputFault (R.failed reader.old) (R.failed reader.new)) }
     ensures output_fault { IfErr result
         (MayBeFault OutputFault (W.failed writer.old) (W.failed writer.new)) }
+    ensures memory { IfErr result (IsNoFault (W.failed writer.old) (W.failed writer.new)) }
 {
     let reader_before = reader.failures();
     let writer_before = writer.failures();
-    let ahead = read_ahead(alloc, Mode::Service, reader)?;
-    let ended = answer_lines(rt, alloc, hashing, limits, ahead, reader, writer);
+    let ended = answer_input(rt, alloc, hashing, limits, reader, writer);
     flush_after(reader, reader_before, writer, writer_before, ended)
 }

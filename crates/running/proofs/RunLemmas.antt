@@ -90,6 +90,7 @@ module _ (setup : Setup) where
     count = served.done.count;
     text = served.done.text;
     users = served.done.users;
+    told = served.done.told;
     stand = one_history number served.done.rows served.last served.done.chain;
   }
 

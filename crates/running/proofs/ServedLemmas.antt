@@ -1,15 +1,16 @@
 -- What a session over a text in memory gives.
-use Rattle.std.proofs.Common.{◌≡◌, refl, sym, subst, List, [], ℕ, Option, Some, Result, Ok, Err}
+use Rattle.std.proofs.Common.{◌≡◌, refl, sym, subst, List, [], ◌++◌, ℕ, Option, Some, Result, Ok, Err}
 use Rattle.std.specs.Prelude.{OnOk, IfErr, MatchResult}
-use Rattle.std.specs.Io.KnownBytes.{Consumes, IsAtEnd}
+use Rattle.std.specs.Io.KnownBytes.{Consumes, IsAtEnd, prepend_known}
+use Rattle.std.proofs.lemmas.Bool.{false≢true}
 use Rattle.model.specs.declared.mode.Mode.TheVariants.{Run}
 use Rattle.model.specs.declared.refusal.Refusal.{Refusal}
-use Rattle.model.specs.declared.refusal.Refusal.TheVariants.{Memory, OutputFault}
+use Rattle.model.specs.declared.refusal.Refusal.TheVariants.{BadUsers, Memory, OutputFault}
 use Rattle.model.specs.Lines.{lines_of}
 use Rattle.events.specs.declared.event.Event.{Event}
 use Rattle.events.specs.declared.reply.Reply.{Reply}
 use Rattle.session.specs.Serving.{Link, Finished, EndedEarly}
-use Rattle.session.proofs.RowLemmas.{appends-none, consumes-none}
+use Rattle.session.proofs.RowLemmas.{appends-none, consumes-none, consumes-behind}
 use Rattle.running.specs.declared.sessions.Output.{Output}
 use Rattle.running.specs.Sessions.{Answers, Waits, Served, ServedInPart, Outputs, kept_fault}
 
@@ -27,6 +28,7 @@ module _ {S : Type 0} (called : S → Event → Reply → S → Type 0) where
     count = e.count;
     text = e.text;
     users = λ is. absurd (cc);
+    told = λ h. absurd (let is : OutputFault ≡ BadUsers = e.told h in cc);
   }
   kept_early first last text input at_end why e = e
 
@@ -44,15 +46,20 @@ module _ {S : Type 0} (called : S → Event → Reply → S → Type 0) where
       (record { input = err.0; end = end; read = err.1; last = last; done = kept_early first last text err.0 (IsAtEnd end) why err.2 })
 
   -- what was read, and what was written to
-  pub served_lines : (first last : S) (start given end : Option (List ℕ)) (text : List ℕ) (blank written : Option (List ℕ)) (ended kept : Result (Unit {0}) Refusal)
-      → given ≡ start → blank ≡ Some [] → written ≡ Some text
-      → OnOk ended ((input : List ℕ) × Consumes given end input × IsAtEnd end × Finished Run (Link (Answers called) (Waits called)) first last blank written (lines_of input))
-      → IfErr ended (λ why. (input : List ℕ) × Consumes given end input
-      × EndedEarly Run (Link (Answers called) (Waits called)) first last blank written input (IsAtEnd end) why)
+  pub served_lines : (first last : S) (bytes : List ℕ) (start end : Option (List ℕ)) (text : List ℕ) (blank written : Option (List ℕ))
+      (ended kept : Result (Unit {0}) Refusal)
+      → blank ≡ Some [] → written ≡ Some text
+      → OnOk ended ((input : List ℕ) × Consumes start end input × IsAtEnd end × Finished Run (Link (Answers called) (Waits called)) first last blank written (lines_of (bytes ++ input)))
+      → IfErr ended (λ why. (input : List ℕ) × Consumes start end input
+      × EndedEarly Run (Link (Answers called) (Waits called)) first last blank written (bytes ++ input) (IsAtEnd end) why)
       → MatchResult ended (λ _. kept ≡ Ok tt) (λ why. kept ≡ Err (kept_fault why))
-      → MatchResult kept (λ _. Served called first start text) (ServedInPart called first start text)
-  served_lines first last start given end text blank written ended kept same none all ok err is =
-      rw (← same) (served first last given end text ended kept (rw (← none, ← all) ok) (rw (← none, ← all) err) is)
+      → MatchResult kept (λ _. Served called first (prepend_known bytes start) text) (ServedInPart called first (prepend_known bytes start) text)
+  served_lines first last bytes start end text blank written (Ok u) kept none all ok err is =
+      served first last (prepend_known bytes start) end text (Ok u) kept
+      (bytes ++ ok.0, consumes-behind bytes start end ok.0 ok.1, ok.2, (rw (← none, ← all) ok.3)) tt is
+  served_lines first last bytes start end text blank written (Err why) kept none all ok err is =
+      served first last (prepend_known bytes start) end text (Err why) kept tt
+      (bytes ++ err.0, consumes-behind bytes start end err.0 err.1, (rw (← none, ← all) err.2)) is
 
   -- no line of it was answered
   pub none_served : (first : S) (start : Option (List ℕ)) (output : Output) → output.text.items ≡ [] → output.ended ≡ Err Memory → Outputs called first start output
@@ -70,5 +77,6 @@ module _ {S : Type 0} (called : S → Event → Reply → S → Type 0) where
       count = 0;
       text = appends-none (Some []);
       users = λ is. absurd (cc);
+      told = λ h. absurd (false≢true h.0);
     };
   })

@@ -14,7 +14,7 @@ use Rattle.events.specs.declared.event.Event.{Event}
 use Rattle.events.specs.declared.reply.Reply.{Reply}
 use Rattle.events.specs.declared.reply.Reply.TheVariants.{Refused}
 use Rattle.passes.specs.declared.row.Row.{Row}
-use Rattle.passes.specs.Callers.{Caller, answered, told_stopped, rows_of}
+use Rattle.passes.specs.Callers.{Caller, answered, rows_of}
 use Rattle.passes.proofs.Prefixes.{prefix_self, prefix_push, prefix_trans}
 use Rattle.passes.proofs.RowLemmas.{rows_of-append, one_more}
 use Rattle.workers.specs.declared.ticket.Ticket.{Ticket}
@@ -65,9 +65,6 @@ stand_none setup old new number sure = record {
 
 pub stand_same : (setup : Setup) (old new : Caller) → new ≡ old → StandIn setup old [] new
 stand_same setup old new same = stand_none setup old new (ap (λ (p : Caller). p.number) same) (ap (λ (p : Caller). p.sure) same)
-
-stand_stopped : (setup : Setup) (old new : Caller) → new ≡ told_stopped old → StandIn setup old [] new
-stand_stopped setup old new same = stand_none setup old new (ap (λ (p : Caller). p.number) same) (ap (λ (p : Caller). p.sure) same)
 
 pub stand_further : (setup : Setup) (a b c : Caller) (cs ds : List Call) → StandIn setup a cs b → StandIn setup b ds c → StandIn setup a (cs ++ ds) c
 stand_further setup a b c cs ds first next = record {
@@ -120,7 +117,7 @@ call_stands setup old new e r called = elim (either (gave_up r)) [
       let none : rows_for old.number ((e, r) ∷ []) ≡ [] = ap (λ (b : Bool). if b then [] else row old.number e r ∷ []) gave in
       let same : StandIn setup old [] new = elim (gave_up_cases r gave) [
         | inl memory ↦ stand_same setup old new (called.memory memory)
-        | inr stopped ↦ stand_stopped setup old new (called.stopped stopped)
+        | inr stopped ↦ absurd (called.going stopped)
       ] in
       record {
         number = same.number;
@@ -142,9 +139,7 @@ call_stands setup old new e r called = elim (either (gave_up r)) [
 
 -- asking for a job makes no row
 asked_stands : (setup : Setup) (old new : Caller) (user : List ℕ) (number : ℕ) (told : Result Running Refusal) → IsAskedBy setup old user number told new → StandIn setup old [] new
-asked_stands setup old new user number (Ok job) asked = stand_same setup old new (asked.going (λ e. cc))
-asked_stands setup old new user number (Err Stopped) asked = stand_stopped setup old new (asked.stopped refl)
-asked_stands setup old new user number (Err why) asked = stand_same setup old new (asked.going (λ e. cc))
+asked_stands setup old new user number told asked = stand_same setup old new asked.kept
 
 -- ---- all tickets, and all workers
 

@@ -9,7 +9,7 @@ use Rattle.events.specs.declared.event.Event.{Event}
 use Rattle.events.specs.declared.reply.Reply.{Reply}
 use Rattle.events.specs.declared.reply.Reply.TheVariants.{Refused}
 use Rattle.passes.specs.declared.row.Row.{Row}
-use Rattle.passes.specs.Callers.{Caller, told_stopped, rows_of}
+use Rattle.passes.specs.Callers.{Caller, rows_of}
 use Rattle.workers.specs.declared.ticket.Ticket.{Ticket}
 use Rattle.workers.specs.declared.runner.RunFault.{RunFault}
 use Rattle.workers.specs.declared.worker.Worker.{Worker}
@@ -20,20 +20,20 @@ use Rattle.book.specs.Asking.{IsAsked}
 
 -- ---- one call
 
--- an event was handed to a front through a pass: at any reply but 90 and 92 its row is the last of the sure rows
+-- an event was handed to a front through a pass: at any reply but 90 its row is the last of the sure rows, and 92 is none
 pub record IsCalled (setup : Setup) (old : Caller) (event : Event) (reply : Reply) (new : Caller) : Type 0 where
   pub answered : gave_up reply ≡ false → IsAnswered setup old event reply new
   pub memory : reply ≡ Refused Memory → new ≡ old
-  pub stopped : reply ≡ Refused Stopped → new ≡ told_stopped old
+  pub going : reply ≢ Refused Stopped
   -- the calls of the pass are counted: before this one, and with it
   pub counted_before : rows_of old.number old.sure ≡ old.calls
   pub counted : rows_of new.number new.sure ≡ new.calls
 
 -- a front was asked through a pass for the job that a user's goal leads
 pub record IsAskedBy (setup : Setup) (old : Caller) (user : List ℕ) (number : ℕ) (told : Result Running Refusal) (new : Caller) : Type 0 where
-  pub asked : told ≢ Err Stopped → IsAsked setup old user number told
-  pub going : told ≢ Err Stopped → new ≡ old
-  pub stopped : told ≡ Err Stopped → new ≡ told_stopped old
+  pub asked : IsAsked setup old user number told
+  pub kept : new ≡ old
+  pub going : told ≢ Err Stopped
 
 -- ---- many calls
 

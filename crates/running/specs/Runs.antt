@@ -1,5 +1,5 @@
 -- What the lines of files mean for the store that their sessions share.
-use Rattle.std.specs.Prelude.{◌≡◌, ◌≤◌, false, true, ℕ, List, [], ◌∷◌, ◌++◌, length, Option, Some, take, MatchResult}
+use Rattle.std.specs.Prelude.{◌≡◌, false, ℕ, List, [], ◌∷◌, ◌++◌, Option, Some, take, MatchResult}
 use mathlib.Core.List.{IsPrefix}
 use Rattle.std.specs.Io.KnownBytes.{Appends, Consumes, IsAtEnd, prepend_known}
 use Rattle.model.specs.declared.mode.Mode.TheVariants.{Run}
@@ -15,6 +15,7 @@ use Rattle.events.specs.Terms.{event_of, reply_of}
 use Rattle.passes.specs.declared.row.Row.{Row}
 use Rattle.workers.specs.Working.{Call}
 use Rattle.book.specs.Histories.{IsLegal}
+use Rattle.session.specs.Serving.{HasRefused}
 use Rattle.running.specs.declared.sessions.Output.{Output}
 use Rattle.running.specs.declared.sessions.Part.{Part}
 use Rattle.running.specs.Calling.{own_rows, rows_for}
@@ -53,7 +54,7 @@ pub record Ran (setup : Setup) (start : Option (List ℕ)) (printed : List ℕ) 
   pub stand : StandInOne setup rows
 
 -- the first lines of it were, whatever comes after what was read, and this is a beginning of their text;
--- it ends with 14 where a line of users was refused, and then this is all of it
+-- it ends with 14 just where a line of users was refused and this is all of it
 pub record RanInPart (setup : Setup) (start : Option (List ℕ)) (printed : List ℕ) (why : Refusal) : Type 0 where
   pub input : List ℕ
   pub end : Option (List ℕ)
@@ -64,7 +65,8 @@ pub record RanInPart (setup : Setup) (start : Option (List ℕ)) (printed : List
   pub talks : Talks (fresh Run) done rows
   pub count : ℕ
   pub text : Appends (Some []) (Some printed) (take count (text_from 1 rows))
-  pub users : why ≡ BadUsers → ((after_all (fresh Run) rows).refused ≡ true) × (length (text_from 1 rows) ≤ count)
+  pub users : why ≡ BadUsers → HasRefused Run rows count
+  pub told : HasRefused Run rows count → why ≡ BadUsers
   pub stand : StandInOne setup rows
 
 module _ {I Q : Type 0} (setup : Setup) (remaining : I → Option (List ℕ)) where

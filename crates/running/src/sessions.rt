@@ -20,7 +20,7 @@ use book::{Blank, Front, Naming, Pass};
 use crossbeam_channel::bounded;
 use model::{Mode, Refusal};
 use schedule::{Core, Limits, User};
-use session::{Counted, Faults, Prefixed, serve};
+use session::{Counted, Faults, serve_behind};
 use std::alloc::Global;
 use std::hash::RandomState;
 use std::io::Read;
@@ -81,9 +81,9 @@ fn serve_lines<S: Store + Drop, I: Read + Faults + Drop, R: Wait>(
 ) -> Output
     ensures { Outputs S.called station.old (prepend_known bytes.items (I.remaining reader)) result }
 {
-    let mut reader = Prefixed::new(bytes, reader);
+    let mut reader = reader;
     let mut writer = Counted::new(Vec::new(alloc));
-    let ended = serve(alloc, Mode::Run, &mut reader, &mut writer, station);
+    let ended = serve_behind(alloc, Mode::Run, &bytes, &mut reader, &mut writer, station);
     Output {
         text: writer.into_inner(),
         ended: kept_end(ended),

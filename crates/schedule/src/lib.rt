@@ -10,11 +10,12 @@ mod runs;
 mod state;
 mod step;
 mod striking;
+mod undoing;
 
-pub use events::{Event, Output, Reply, Request};
+pub use events::{CopiedReply, Event, Output, Reply, Request};
 pub use leading::RunningJob;
 pub use realise::{LARGEST_CHARGE, Limits};
 pub use runs::run;
 pub use state::Core;
-pub use striking::strike;
+pub use striking::{strike, strike_timed};
 pub use trust::{User, are_users};

@@ -1,8 +1,6 @@
 -- A piece of the input, cut at its newlines.
 use Rattle.std.proofs.Common.{◌≡◌, ℕ, eqb, cond, Bool, true, false, List, [], ◌∷◌, ◌++◌, Option, Some, None, option_map, refl, sym, ap, ◌∙◌, subst, append_assoc}
-use Rattle.std.proofs.Common.{length, drop}
 use Rattle.std.proofs.lemmas.Bool.{eqb-true}
-use Rattle.std.proofs.lemmas.List.{nil_from_length}
 use Rattle.model.specs.Lines.{cut_at}
 use Rattle.session.specs.Serving.{HasNoNewline}
 
@@ -43,11 +41,3 @@ input-line input front line = append_assoc (input ++ front) line (10 ∷ []) ∙
 pub piece-rest : (front line rest piece after : List ℕ) → piece ≡ front ++ rest → rest ≡ line ++ 10 ∷ after → piece ≡ (front ++ (line ++ 10 ∷ [])) ++ after
 piece-rest front line rest piece after e f =
     e ∙ ap (λ t. front ++ t) f ∙ ap (λ t. front ++ t) (sym (append_assoc line (10 ∷ []) after)) ∙ sym (append_assoc front (line ++ 10 ∷ []) after)
-
-pub zero-from_test : (r : Bool) (n : ℕ) → r ≡ true → r ≡ eqb n 0 → n ≡ 0
-zero-from_test r n t e = eqb-true n 0 (sym e ∙ t)
-
--- where nothing is left behind a place
-pub none-behind : (items shown back : List ℕ) (at : ℕ) (test : Bool) → shown ≡ items → back ≡ drop at shown → test ≡ true → test ≡ eqb (length back) 0
-    → drop at items ≡ []
-none-behind items shown back at test e f t l = ap (drop at) (sym e) ∙ sym f ∙ nil_from_length back (zero-from_test test (length back) t l)

@@ -1,19 +1,38 @@
 -- How a session goes on.
 use Rattle.std.proofs.Common.{◌≡◌, ℕ, ◌+◌, ◌<◌, ◌≤◌, List, [], ◌∷◌, ◌++◌, length, take, Option, refl, sym, ap, ◌∙◌, subst, arith, append_assoc, length-append, length-take}
 use Rattle.std.proofs.lemmas.List.{append-nil, take_all}
+use Rattle.std.proofs.lemmas.Bool.{true≢false}
 use Rattle.std.proofs.Common.{◌⊎◌, inl, inr, true, false}
+use Rattle.std.specs.Prelude.{codes, decimal}
 use mathlib.Core.List.{IsPrefix}
-use Rattle.std.specs.Io.KnownBytes.{Appends}
+use Rattle.std.specs.Io.KnownBytes.{Appends, Consumes}
+use Rattle.std.specs.Prelude.{Result, Ok, Err, OnOk, IfErr}
 use Rattle.model.specs.declared.mode.Mode.{Mode}
 use Rattle.model.specs.declared.refusal.Refusal.{Refusal}
 use Rattle.model.specs.declared.refusal.Refusal.TheVariants.{BadUsers, InputFault, OutputFault, Memory}
 use Rattle.model.specs.Forms.{longest_line}
 use Rattle.model.specs.Lines.{lines_of}
-use Rattle.model.specs.Talk.{Row, Seen, fresh, GetsNext, after, after_all, Talks, text_from, row_text}
-use Rattle.session.specs.Serving.{Progress, EndedEarly, Finished, HasNoNewline, HoldsMore, Gives, StopsAt, IsOwn, MayBeFault}
+use Rattle.model.specs.Events.{Reply, Refused}
+use Rattle.model.specs.Talk.{Row, Silent, Names, Refuses, Asks, Waits, Seen, fresh, GetsNext, after, after_all, Talks, text_from, row_text, answer_text, reply_text}
+use Rattle.session.specs.Serving.{Progress, EndedEarly, Finished, NotShown, HasNoNewline, HoldsMore, Gives, StopsAt, IsFault, IsOwn, MayBeFault}
 use Rattle.session.proofs.LineLemmas.{nothing-held, lines-newline, lines-last}
 use Rattle.session.proofs.RowLemmas.{chain-more, length-after_all, text-more, appends-none, appends-more, appends-flushed, take-seam}
 use Rattle.session.proofs.WholeLinesLemmas.{no_lines, line-grown, ended-cut, held-gets, ended-talks, line-ended, seen-more, refused-same}
+
+some_text : (front back : List ℕ) (b : ℕ) → length (front ++ b ∷ back) ≤ 0 → ⊥
+some_text front back b h = omega (arith, h, length-append front (b ∷ back))
+
+answer_printed : (n : ℕ) (actor : List ℕ) (reply : Reply) → length (answer_text n actor reply) ≤ 0 → ⊥
+answer_printed n actor reply h = some_text (decimal n ++ 32 ∷ actor ++ 32 ∷ reply_text reply) [] 10 h
+
+-- a line of users that is refused has a text
+refusal_printed : (mode : Mode) (rows : List Row) (seen : Seen) (row : Row) → seen ≡ after_all (fresh mode) rows → (after_all (fresh mode) rows).refused ≡ false
+    → (after seen row).refused ≡ true → (n : ℕ) → length (row_text n row) ≤ 0 → ⊥
+refusal_printed mode rows seen Silent is going r n h = true≢false (sym r ∙ ap (λ (s : Seen). s.refused) is ∙ going)
+refusal_printed mode rows seen (Names users) is going r n h = true≢false (sym r ∙ ap (λ (s : Seen). s.refused) is ∙ going)
+refusal_printed mode rows seen (Refuses why) is going r n h = answer_printed n (codes "-") (Refused why) h
+refusal_printed mode rows seen (Asks event reply) is going r n h = true≢false (sym r ∙ ap (λ (s : Seen). s.refused) is ∙ going)
+refusal_printed mode rows seen (Waits goals reply) is going r n h = true≢false (sym r ∙ ap (λ (s : Seen). s.refused) is ∙ going)
 
 last_line : (partial : List ℕ) → HasNoNewline partial → 0 < length partial → lines_of (partial ++ 10 ∷ []) ≡ lines_of (partial ++ [])
 last_line [] w h = absurd (omega arith)
@@ -77,13 +96,34 @@ module _ {mode : Mode} {A : Type 0} (L : A → Row → A → Type 0) (first : A)
         ap (λ k. length (row_text k row)) (line_number now written input seen held p),
       )
 
+  line_written : (now : A) (written : Option (List ℕ)) (input : List ℕ) (seen : Seen) (held : List ℕ)
+      (p : Progress mode L first now blank written input seen held) (row : Row) (n : ℕ)
+      → length (text_from 1 (p.so_far.rows ++ row ∷ [])) ≤ length (text_from 1 p.so_far.rows) + n → length (row_text (length seen.told + 1) row) ≤ n
+  line_written now written input seen held p row n h =
+      let rows = p.so_far.rows in
+      omega (
+        arith,
+        h,
+        ap length (text-more 1 rows row),
+        length-append (text_from 1 rows) (row_text (1 + length rows) row),
+        ap (λ k. length (row_text k row)) (line_number now written input seen held p),
+      )
+
+  -- whether users were refused once the line that is held is answered
+  line_refused : (now : A) (written : Option (List ℕ)) (input : List ℕ) (seen : Seen) (held : List ℕ)
+      (p : Progress mode L first now blank written input seen held) (row : Row)
+      → (after_all (fresh mode) (p.so_far.rows ++ row ∷ [])).refused ≡ (after seen row).refused
+  line_refused now written input seen held p row =
+      refused-same mode (p.so_far.rows ++ row ∷ []) (after seen row) (seen-more mode p.so_far.rows seen (after seen row) row p.seen_is refl)
+
   -- the line that is held was answered, and a beginning of its text written
   pub early-line : (now next : A) (written written' : Option (List ℕ)) (input : List ℕ) (seen : Seen) (held : List ℕ) (row : Row) (n : ℕ)
       (more : List ℕ) (why : Refusal) → Progress mode L first now blank written input seen held → GetsNext seen held row → L now row next
       → Appends written written' (take n (row_text (length seen.told + 1) row))
       → (why ≡ BadUsers → ((after seen row).refused ≡ true) × (length (row_text (length seen.told + 1) row) ≤ n))
+      → ((after seen row).refused ≡ true → length (row_text (length seen.told + 1) row) ≤ n → why ≡ BadUsers)
       → EndedEarly mode L first next blank written' (input ++ 10 ∷ more) ⊥ why
-  early-line now next written written' input seen held row n more why p g l a u = record {
+  early-line now next written written' input seen held row n more why p g l a u t = record {
     rows = p.so_far.rows ++ row ∷ [];
     done = p.so_far.lines.done ++ p.so_far.lines.partial ∷ [];
     cut = λ others e. (lines_of (more ++ others), sym (ap lines_of (append_assoc input (10 ∷ more) others) ∙ ended-cut p.so_far.lines (more ++ others)));
@@ -91,11 +131,8 @@ module _ {mode : Mode} {A : Type 0} (L : A → Row → A → Type 0) (first : A)
     chain = chain-more L first p.so_far.rows now row next p.so_far.chain l;
     count = length (text_from 1 p.so_far.rows) + n;
     text = line_text now written written' input seen held p row n a;
-    users = λ e. (
-      refused-same mode (p.so_far.rows ++ row ∷ []) (after seen row) (seen-more mode p.so_far.rows seen (after seen row) row p.seen_is refl)
-          ∙ (u e).0,
-      line_length now written input seen held p row n (u e).1,
-    );
+    users = λ e. (line_refused now written input seen held p row ∙ (u e).0, line_length now written input seen held p row n (u e).1);
+    told = λ h. t (sym (line_refused now written input seen held p row) ∙ h.0) (line_written now written input seen held p row n h.1);
   }
 
   -- and all of its text
@@ -138,6 +175,7 @@ module _ {mode : Mode} {A : Type 0} (L : A → Row → A → Type 0) (first : A)
     count = length (text_from 1 p.so_far.rows);
     text = subst (λ t. Appends blank written t) (sym (take_all _ _ (omega arith))) p.so_far.text;
     users = λ e. absurd (u e);
+    told = λ h. absurd (true≢false (sym h.0 ∙ p.so_far.lines.going));
   }
 
   -- nothing is held: all lines are done
@@ -170,28 +208,29 @@ module _ {mode : Mode} {A : Type 0} (L : A → Row → A → Type 0) (first : A)
     | inl e ↦ subst (λ x. EndedEarly mode L first x blank written (input ++ 10 ∷ more) ⊥ why) (sym e) (early-here now written input seen held (10 ∷ more) why u p)
     | inr w ↦
         early-line now next written written input seen held w.0 0 more why p (subst (λ t. GetsNext seen t w.0) same w.1) w.2
-        (appends-none written) (λ e. absurd (u e))
+        (appends-none written) (λ e. absurd (u e)) (λ r h. absurd (refusal_printed mode p.so_far.rows seen w.0 p.seen_is p.so_far.lines.going r (length seen.told + 1) h))
   ]
 
   pub early-write : (now next : A) (written written' : Option (List ℕ)) (input : List ℕ) (seen seen' : Seen) (held line text shown more : List ℕ)
       (why : Refusal)
       → (why ≡ BadUsers → ⊥) → line ≡ held → shown ≡ text → Gives (GetsNext seen line) L seen seen' now next text → Progress mode L first now blank written input seen held
-      → ((n : ℕ) × Appends written written' (take n shown)) → EndedEarly mode L first next blank written' (input ++ 10 ∷ more) ⊥ why
+      → ((n : ℕ) × (n < length shown) × Appends written written' (take n shown)) → EndedEarly mode L first next blank written' (input ++ 10 ∷ more) ⊥ why
   early-write now next written written' input seen seen' held line text shown more why u same e w p a =
       early-line now next written written' input seen held w.0 a.0 more why p (subst (λ t. GetsNext seen t w.0) same w.1) w.4
-      (subst (λ t. Appends written written' (take a.0 t)) (e ∙ w.3) a.1) (λ f. absurd (u f))
+      (subst (λ t. Appends written written' (take a.0 t)) (e ∙ w.3) a.2) (λ f. absurd (u f))
+      (λ r h. absurd (omega (arith, h, a.1, ap length (e ∙ w.3))))
 
   pub early-refused : (now next : A) (written written' : Option (List ℕ)) (input : List ℕ) (seen seen' : Seen) (held line text shown more : List ℕ)
       (why : Refusal)
       → line ≡ held → shown ≡ text → Gives (GetsNext seen line) L seen seen' now next text → Progress mode L first now blank written input seen held
-      → Appends written written' shown → seen'.refused ≡ true → EndedEarly mode L first next blank written' (input ++ 10 ∷ more) ⊥ why
-  early-refused now next written written' input seen seen' held line text shown more why same e w p a r =
+      → Appends written written' shown → seen'.refused ≡ true → why ≡ BadUsers → EndedEarly mode L first next blank written' (input ++ 10 ∷ more) ⊥ why
+  early-refused now next written written' input seen seen' held line text shown more why same e w p a r is =
       let shown_all : Appends written written' (take (length shown) shown) =
       subst (λ t. Appends written written' t) (sym (take_all (length shown) shown (omega arith))) a in
       let all : Appends written written' (take (length shown) (row_text (length seen.told + 1) w.0)) =
       subst (λ t. Appends written written' (take (length shown) t)) (e ∙ w.3) shown_all in
       early-line now next written written' input seen held w.0 (length shown) more why p (subst (λ t. GetsNext seen t w.0) same w.1) w.4 all
-      (λ f. (ap (λ (s : Seen). s.refused) (sym w.2) ∙ r, omega (arith, ap length (e ∙ w.3))))
+      (λ f. (ap (λ (s : Seen). s.refused) (sym w.2) ∙ r, omega (arith, ap length (e ∙ w.3)))) (λ r h. is)
 
   pub progress-write : (now next : A) (written written' : Option (List ℕ)) (input : List ℕ) (seen seen' : Seen) (held line text shown : List ℕ)
       → line ≡ held → shown ≡ text → Gives (GetsNext seen line) L seen seen' now next text → Progress mode L first now blank written input seen held
@@ -207,6 +246,9 @@ by_memory why e f = cc
 
 pub by_input : (why : Refusal) → why ≡ InputFault → why ≡ BadUsers → ⊥
 by_input why e f = cc
+
+pub by_output_fault : OutputFault ≡ BadUsers → ⊥
+by_output_fault e = cc
 
 pub by_output : (why : Refusal) → (why ≡ OutputFault) ⊎ (why ≡ Memory) → why ≡ BadUsers → ⊥
 by_output why d f = elim d [ inl e ↦ cc | inr e ↦ by_memory why e f ]
@@ -240,6 +282,15 @@ own_not_input old new why d f = elim d [
   ]
 ]
 
+pub own_read : (why : Refusal) → IsOwn why → why ≡ InputFault → ⊥
+own_read why d f = elim d [
+  | inl e ↦ cc
+  | inr d' ↦ elim d' [
+    | inl e ↦ cc
+    | inr e ↦ cc
+  ]
+]
+
 -- by another fact that says where the input is at its end
 pub early-weakened : {mode : Mode} {A : Type 0} (L : A → Row → A → Type 0) (first now : A) (blank written : Option (List ℕ)) (input : List ℕ) (at_end at_end' : Type 0) (why : Refusal) → (at_end → at_end')
     → EndedEarly mode L first now blank written input at_end why → EndedEarly mode L first now blank written input at_end' why
@@ -252,6 +303,7 @@ early-weakened L first now blank written input at_end at_end' why f s = record {
   count = s.count;
   text = s.text;
   users = s.users;
+  told = s.told;
 }
 
 -- where nothing comes after an input, its lines are those of all that comes
@@ -270,21 +322,37 @@ early-closed L first now blank written input why same s = record {
   count = s.count;
   text = s.text;
   users = s.users;
+  told = s.told;
 }
 
--- all is done, but for a flush
-pub early-finished : {mode : Mode} {A : Type 0} (L : A → Row → A → Type 0) (first now : A) (blank written written' : Option (List ℕ)) (input : List ℕ) (at_end : Type 0) (why : Refusal) → at_end
-    → (why ≡ BadUsers → ⊥) → Finished mode L first now blank written (lines_of input) → Appends written written' []
-    → EndedEarly mode L first now blank written' input at_end why
-early-finished L first now blank written written' input at_end why is_at_end u f k = record {
-  rows = f.rows;
-  done = lines_of input;
-  cut = λ more e. ([], append-nil (lines_of input) ∙ lines-all input more (e is_at_end));
-  talks = f.talks;
-  chain = f.chain;
-  count = length (text_from 1 f.rows);
-  text = subst (λ t. Appends blank written' t) (sym (take_all _ _ (omega arith))) (appends-flushed blank written written' (text_from 1 f.rows) f.text k);
-  users = λ e. absurd (u e);
+-- then the text was flushed
+pub early-flushed : {mode : Mode} {A : Type 0} (L : A → Row → A → Type 0) (first now : A) (blank written written' : Option (List ℕ)) (input : List ℕ) (at_end : Type 0) (why : Refusal)
+    → EndedEarly mode L first now blank written input at_end why → Appends written written' [] → EndedEarly mode L first now blank written' input at_end why
+early-flushed L first now blank written written' input at_end why s k = record {
+  rows = s.rows;
+  done = s.done;
+  cut = s.cut;
+  talks = s.talks;
+  chain = s.chain;
+  count = s.count;
+  text = appends-flushed blank written written' (take s.count (text_from 1 s.rows)) s.text k;
+  users = s.users;
+  told = s.told;
+}
+
+-- want of memory is told as another fault
+pub early-other : {mode : Mode} {A : Type 0} (L : A → Row → A → Type 0) (first now : A) (blank written : Option (List ℕ)) (input : List ℕ) (at_end : Type 0) (other : Refusal)
+    → (other ≡ BadUsers → ⊥) → EndedEarly mode L first now blank written input at_end Memory → EndedEarly mode L first now blank written input at_end other
+early-other L first now blank written input at_end other own s = record {
+  rows = s.rows;
+  done = s.done;
+  cut = s.cut;
+  talks = s.talks;
+  chain = s.chain;
+  count = s.count;
+  text = s.text;
+  users = λ e. absurd (own e);
+  told = λ h. absurd (by_memory Memory refl (s.told h));
 }
 
 pub finished-flushed : {mode : Mode} {A : Type 0} (L : A → Row → A → Type 0) (first now : A) (blank written written' : Option (List ℕ)) (all : List (List ℕ)) → Finished mode L first now blank written all
@@ -296,3 +364,31 @@ finished-flushed L first now blank written written' all f k = record {
   chain = f.chain;
   text = appends-flushed blank written written' (text_from 1 f.rows) f.text k;
 }
+
+-- all was written, and the flush failed
+pub not-shown : {mode : Mode} {A : Type 0} (L : A → Row → A → Type 0) (first now : A) (blank written written' start end : Option (List ℕ)) (at_end : Type 0) (why : Refusal)
+    (ended : Result (Unit {0}) Refusal)
+    → (ended ≡ Ok tt) ⊎ (ended ≡ Err BadUsers)
+    → OnOk ended ((input : List ℕ) × Consumes start end input × at_end × Finished mode L first now blank written (lines_of input))
+    → IfErr ended (λ why. (input : List ℕ) × Consumes start end input × EndedEarly mode L first now blank written input at_end why)
+    → why ≡ OutputFault → Appends written written' []
+    → (input : List ℕ) × Consumes start end input
+    × (EndedEarly mode L first now blank written' input at_end why ⊎ NotShown mode L first now blank written' input at_end why)
+not-shown {mode} L first now blank written written' start end at_end why (Ok u) how ok err is k =
+    (ok.0, ok.1, inr (is, inl (ok.2, finished-flushed L first now blank written written' (lines_of ok.0) ok.3 k)))
+not-shown {mode} L first now blank written written' start end at_end why (Err fault) (inl bad) ok err is k = let no : Err fault ≡ Ok tt = bad in cc
+not-shown {mode} L first now blank written written' start end at_end why (Err fault) (inr how) ok err is k =
+    let same : fault ≡ BadUsers = cc in
+    (err.0, err.1, inr (is, inr (early-flushed L first now blank written written' err.0 at_end BadUsers (subst (λ w. EndedEarly mode L first now blank written err.0 at_end w) same err.2) k)))
+
+-- ---- ends by the writer's count
+
+pub counted-ok : (r e : Result (Unit {0}) Refusal) (P : Type 0) → OnOk r (e ≡ Ok tt) → OnOk e P → OnOk r P
+counted-ok (Ok u) e P is p = rw is at p
+counted-ok (Err why) e P is p = tt
+
+pub counted-err : (r e : Result (Unit {0}) Refusal) (old new : ℕ) (Q : Refusal → Type 0)
+    → IfErr r (λ why. (e ≡ Err why) ⊎ ((e ≡ Err Memory) × IsFault OutputFault old new why)) → IfErr e Q → (Q Memory → Q OutputFault) → IfErr r Q
+counted-err (Ok u) e old new Q is q f = tt
+counted-err (Err why) e old new Q (inl same) q f = rw same at q
+counted-err (Err why) e old new Q (inr other) q f = subst Q (sym other.1.0) (f (rw other.0 at q))

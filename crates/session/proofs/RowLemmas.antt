@@ -1,9 +1,9 @@
 -- One more row.
-use Rattle.std.proofs.Common.{◌≡◌, ℕ, suc, ◌+◌, List, [], ◌∷◌, ◌++◌, length, take, Option, None, Some, refl, sym, ap, ◌∙◌, subst, arith, append_assoc, length-append}
+use Rattle.std.proofs.Common.{◌≡◌, ℕ, suc, ◌+◌, ◌<◌, List, [], ◌∷◌, ◌++◌, length, take, Option, None, Some, refl, sym, ap, ◌∙◌, subst, arith, append_assoc, length-append}
 use Rattle.std.proofs.Common.{drop, Result, Ok, Err, false}
-use Rattle.std.specs.Result.{OnErr, IfErr, IsErrAnd}
-use Rattle.std.proofs.lemmas.List.{append-nil, take_all, take_at, take-append-drop}
-use Rattle.std.specs.Io.KnownBytes.{Appends, Consumes, Keeps, ReadConsumes, prepend_known}
+use Rattle.std.specs.Result.{OnOk, OnErr, IfErr, IsErrAnd}
+use Rattle.std.proofs.lemmas.List.{append-nil, take_at, take-append-drop}
+use Rattle.std.specs.Io.KnownBytes.{Appends, Consumes, Keeps, prepend_known}
 use Rattle.model.specs.Lines.{Told}
 use Rattle.model.specs.Talk.{Row, Silent, Names, Refuses, Asks, Waits, Seen, GetsNext, after, after_all, Talks, text_from, row_text}
 use Rattle.session.specs.Serving.{Chain}
@@ -67,11 +67,15 @@ on_err (Err e) p = p
 pub text-step : (text front rest : List ℕ) (n : ℕ) → text ≡ front ++ rest → text ≡ (front ++ take n rest) ++ drop n rest
 text-step text front rest n e = e ∙ ap (λ t. front ++ t) (sym (take-append-drop n rest)) ∙ sym (append_assoc front (take n rest) (drop n rest))
 
-pub front-written : (a b c : Option (List ℕ)) (text front rest : List ℕ) → text ≡ front ++ rest → Appends a b front → Appends b c []
-    → (n : ℕ) × Appends a c (take n text)
-front-written a b c text front rest e h k =
-    let same : take (length front) text ≡ front ++ [] = ap (take (length front)) e ∙ take_at front rest (length front) refl ∙ sym (append-nil front) in
-    (length front, subst (λ t. Appends a c t) (sym same) (appends-more a b c front [] h k))
+-- a front of a text, of which some is left, is written
+pub front-written : (a b c : Option (List ℕ)) (text front rest : List ℕ) → text ≡ front ++ rest → 0 < length rest → Appends a b front → Appends b c []
+    → (n : ℕ) × (n < length text) × Appends a c (take n text)
+front-written a b c text front rest e some h k =
+    let same : take (length front) text ≡ front ++ [] = ap (take (length front)) e ∙ take_at front rest (length front) refl ∙ sym (append-nil front) in (
+      length front,
+      omega (arith, ap length e, length-append front rest, some),
+      subst (λ t. Appends a c t) (sym same) (appends-more a b c front [] h k),
+    )
 
 pub consumes-none : (a : Option (List ℕ)) → Consumes a a []
 consumes-none None = tt
@@ -93,21 +97,24 @@ consumes-end a b c xs ys n z h k =
     let e : xs ++ take n ys ≡ xs = ap (λ m. xs ++ take m ys) z ∙ append-nil xs in
     subst (λ t. Consumes a c t) e (consumes-more a b c xs (take n ys) h k)
 
+-- behind bytes that were read before
+pub consumes-behind : (bytes : List ℕ) (a b : Option (List ℕ)) (xs : List ℕ) → Consumes a b xs → Consumes (prepend_known bytes a) b (bytes ++ xs)
+consumes-behind bytes None b xs h = tt
+consumes-behind bytes (Some u) None xs h = absurd h
+consumes-behind bytes (Some u) (Some v) xs h = ap (λ t. bytes ++ t) h ∙ sym (append_assoc bytes xs v)
+
 pub appends-flushed : (a b c : Option (List ℕ)) (xs : List ℕ) → Appends a b xs → Appends b c [] → Appends a c xs
 appends-flushed a b c xs h k = subst (λ t. Appends a c t) (append-nil xs) (appends-more a b c xs [] h k)
 
-pub written-flushed : (a b c : Option (List ℕ)) (xs : List ℕ) → Appends a b xs → Appends b c [] → (n : ℕ) × Appends a c (take n xs)
-written-flushed a b c xs h k = (length xs, subst (λ t. Appends a c t) (sym (take_all (length xs) xs (omega arith))) (appends-flushed a b c xs h k))
+pub on_ok : {A E : Type 0} {P Q : Type 0} (r : Result A E) → (P → Q) → OnOk r P → OnOk r Q
+on_ok (Ok x) f h = f h
+on_ok (Err e) f h = h
+
+pub if_err : {A E : Type 0} {P Q : E → Type 0} (r : Result A E) → ((e : E) → P e → Q e) → IfErr r P → IfErr r Q
+if_err (Ok x) f h = h
+if_err (Err e) f h = f e h
 
 -- the error of a `?` is the one that it passes on
 pub err-is : {T E : Type 0} (r : Result T E) (e : E) (P : E → Type 0) → IsErrAnd r (λ y. y ≡ e) → P e → IfErr r P
 err-is (Ok x) e P h p = tt
 err-is (Err y) e P h p = subst P (sym h) p
-
-prepend-none : (o : Option (List ℕ)) → prepend_known [] o ≡ o
-prepend-none None = refl
-prepend-none (Some xs) = refl
-
-pub reads-behind : {E : Type 0} (xs : List ℕ) (old new : Option (List ℕ)) (r : Result ℕ E) (buf : List ℕ) → xs ≡ [] → ReadConsumes old new r buf
-    → ReadConsumes (prepend_known xs old) (prepend_known xs new) r buf
-reads-behind xs old new r buf e h = rw (e, prepend-none old, prepend-none new) h

@@ -4,7 +4,7 @@ use mathlib.Core.List.{IsPrefix}
 use Rattle.std.specs.Io.KnownBytes.{Appends, Consumes, IsAtEnd}
 use Rattle.model.specs.declared.mode.Mode.{Mode}
 use Rattle.model.specs.declared.refusal.Refusal.{Refusal}
-use Rattle.model.specs.declared.refusal.Refusal.TheVariants.{OutputFault, Memory, BadUsers}
+use Rattle.model.specs.declared.refusal.Refusal.TheVariants.{InputFault, OutputFault, Memory, BadUsers}
 use Rattle.model.specs.Events.{Event, Reply}
 use Rattle.model.specs.Worlds.{Job}
 use Rattle.model.specs.Lines.{lines_of}
@@ -56,9 +56,13 @@ pub record AnsweredSoFar (mode : Mode) {A : Type 0} (link : A → Row → A → 
   pub chain : Chain link first rows now
   pub text : Appends blank written (text_from 1 rows)
 
+-- a line of users was refused in these rows, and so many bytes are all of their text
+abbrev pub HasRefused : Mode → List Row → ℕ → Type 0
+HasRefused mode rows count = ((after_all (fresh mode) rows).refused ≡ true) × (length (text_from 1 rows) ≤ count)
+
 -- what it has done where it ended early: the first lines were answered, and a beginning of their text is written;
 -- they are the first lines whatever comes after what was read, and nothing comes where that is at the input's end;
--- it ends with 14 where a line of users was refused, and then all of the text is written
+-- it ends with 14 just where a line of users was refused and all of the text is written
 pub record EndedEarly (mode : Mode) {A : Type 0} (link : A → Row → A → Type 0) (first now : A) (blank written : Option (List ℕ)) (input : List ℕ)
     (at_end : Type 0) (why : Refusal) : Type 0 where
   pub rows : List Row
@@ -68,7 +72,14 @@ pub record EndedEarly (mode : Mode) {A : Type 0} (link : A → Row → A → Typ
   pub chain : Chain link first rows now
   pub count : ℕ
   pub text : Appends blank written (take count (text_from 1 rows))
-  pub users : why ≡ BadUsers → ((after_all (fresh mode) rows).refused ≡ true) × (length (text_from 1 rows) ≤ count)
+  pub users : why ≡ BadUsers → HasRefused mode rows count
+  pub told : HasRefused mode rows count → why ≡ BadUsers
+
+-- all of its text is written, of all lines or up to the users that were refused, and it could not be shown
+abbrev pub NotShown : (mode : Mode) {A : Type 0} (link : A → Row → A → Type 0) (first now : A) (blank written : Option (List ℕ)) (input : List ℕ)
+    (at_end : Type 0) → Refusal → Type 0
+NotShown mode link first now blank written input at_end why = (why ≡ OutputFault)
+    × ((at_end × Finished mode link first now blank written (lines_of input)) ⊎ EndedEarly mode link first now blank written input at_end BadUsers)
 
 -- what is held of a line begun: as much of it as shows whether it is too long
 abbrev pub IsHeld : List ℕ → List ℕ → Type 0
@@ -134,6 +145,22 @@ IsFault fault old new why = (why ≡ fault) × HasFailed old new
 abbrev pub MayBeFault : (fault : Refusal) (old new : ℕ) → Refusal → Type 0
 MayBeFault fault old new why = why ≡ fault → HasFailed old new
 
+-- where it is 90, the count shows no failure
+abbrev pub IsNoFault : (old new : ℕ) → Refusal → Type 0
+IsNoFault old new why = why ≡ Memory → ¬ HasFailed old new
+
+-- it is 72 where the writer's count shows a failure, and else 90
+abbrev pub IsWant : (output : Type 0) → Refusal → Type 0
+IsWant output why = ((why ≡ OutputFault) × output) ⊎ ((why ≡ Memory) × ¬ output)
+
+-- how an end by this refusal is told, by what the counts of reader and writer show then: any other than 71, 72 and 90 as it is,
+-- 71 where it is shown, and 90 only where no failure of the writer is
+abbrev pub TellsEnd : (ended : Refusal) (input output : Type 0) → Refusal → Type 0
+TellsEnd InputFault input output why = ((why ≡ InputFault) × input) ⊎ ((¬ input) × IsWant output why)
+TellsEnd OutputFault input output why = IsWant output why
+TellsEnd Memory input output why = IsWant output why
+TellsEnd ended input output why = why ≡ ended
+
 -- so many bytes of a chunk were read, of which there are none at the input's end; or a read failed that may be tried again
 abbrev pub HasRead : (start left : Option (List ℕ)) (chunk : List ℕ) → Option ℕ → Type 0
 HasRead start left chunk None = Consumes start left []
@@ -143,7 +170,7 @@ HasRead start left chunk (Some n) = (n ≤ length chunk) × Consumes start left 
 abbrev pub HasWritten : (blank written : Option (List ℕ)) (bytes : List ℕ) → ℕ → Type 0
 HasWritten blank written bytes n = (n ≤ length bytes) × Appends blank written (take n bytes)
 
--- why a text may not have been written or shown
+-- why a text may not have been written
 abbrev pub IsUnwritten : Refusal → Type 0
 IsUnwritten why = (why ≡ OutputFault) ⊎ (why ≡ Memory)
 

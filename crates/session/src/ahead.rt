@@ -174,7 +174,7 @@ fn search<R: Read + Faults>(
 
 /// Reads an input up to its first line of users that is answered `ok`, or up to the line of users
 /// that is refused with 14, and finds the users. All bytes that are read are kept, so that
-/// [`Prefixed`](crate::Prefixed) can give them again.
+/// [`serve_behind`](crate::serve_behind) can answer them.
 ///
 /// Where the reader fails, `has_failed` says so, and no users are given; a reader that fails and does
 /// not count it is tried again.

@@ -3,10 +3,11 @@
 //! | Calls | What they do |
 //! |---|---|
 //! | [`Session::line`] | answers one line: gives what is printed for it |
-//! | [`serve`] | answers the lines of a reader, and writes what is printed |
+//! | [`serve`] | answers the lines of a reader, and writes and flushes what is printed |
+//! | [`serve_behind`] | the same for a reader of which some was read ahead, but for the flush |
 //! | [`serve_whole_lines`] | the same for bytes of which more was to come |
 //! | [`flush_after`] | shows what was written, and says how it ended |
-//! | [`read_ahead`], [`Prefixed`] | finds the users of an input, and gives again what was read |
+//! | [`read_ahead`] | finds the users of an input, and keeps what was read |
 //! | [`Counted`] | counts the failures of a reader or a writer |
 //!
 //! What a line is, which row it gets and what is printed for it is said by the definitions of the
@@ -17,7 +18,6 @@
 mod ahead;
 mod counted;
 mod faults;
-mod prefixed;
 mod serving;
 mod session;
 mod streams;
@@ -28,8 +28,7 @@ pub use counted::Counted;
 pub use faults::Faults;
 pub use lines::answer_text;
 pub use model::Mode;
-pub use prefixed::Prefixed;
-pub use serving::{serve, serve_whole_lines};
+pub use serving::{serve, serve_behind, serve_whole_lines};
 pub use session::Session;
 pub use states::Job;
 pub use streams::flush_after;

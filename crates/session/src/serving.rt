@@ -1,15 +1,16 @@
 //! Sessions over a reader and a writer.
 
-ghost use Rattle.std.specs.Prelude.{◌≡◌, ◌<◌, ◌⊎◌, ◌∷◌, [], ℕ, List, OnOk, OnErr, IfErr, MatchBool, length};
+ghost use Rattle.std.specs.Prelude.{◌≡◌, ◌<◌, ◌⊎◌, ◌∷◌, ◌++◌, [], ℕ, List, Ok, Err, OnOk, IfErr, MatchBool, length};
 ghost use Rattle.std.specs.Io.KnownBytes.{Consumes, IsAtEnd};
-ghost use Rattle.model.specs.declared.refusal.Refusal.TheVariants.{InputFault, OutputFault};
+ghost use Rattle.model.specs.declared.refusal.Refusal.TheVariants.{InputFault, Memory, OutputFault};
 ghost use Rattle.model.specs.Lines.{lines_of};
 ghost use Rattle.model.specs.Talk.{fresh};
-ghost use Rattle.session.specs.Serving.{Link, GoesOn, EndsIn, Finishes, EndsAtLast, AnsweredSoFar, EndedEarly, Finished, HoldsMore, IsOwn, MayBeFault};
+ghost use Rattle.session.specs.Serving.{Link, GoesOn, EndsIn, Finishes, EndsAtLast, AnsweredSoFar, EndedEarly};
+ghost use Rattle.session.specs.Serving.{Finished, HoldsMore, IsFault, IsNoFault, IsOwn, MayBeFault, NotShown};
 
 use crate::faults::Faults;
 use crate::session::Session;
-use crate::streams::{flush, read_some, write_whole};
+use crate::streams::{flush, read_some, want_of, write_whole};
 use answering::Answer;
 use lines::{LONGEST_LINE, cut};
 use model::{Mode, Refusal};
@@ -61,7 +62,6 @@ fn end_line<W: Write + Faults, A: Answer>(
     let text = session.answer(alloc, reading, answer)?;
     write_whole(writer, before, text.as_slice())?;
     if session.is_refused() {
-        flush(writer, before)?;
         return Err(Refusal::BadUsers);
     }
     Ok(())
@@ -119,32 +119,13 @@ fn finish<W: Write + Faults, A: Answer>(
     Ok(())
 }
 
-/// Answers a last line that lacks its newline, if there is one, and shows all that was written.
-fn close<W: Write + Faults, A: Answer>(
-    alloc: Global,
-    session: &mut Session,
-    held: &mut Vec<u8>,
-    writer: &mut W,
-    before: u64,
-    answer: &mut A,
-) -> Result<(), Refusal>
-    ensures ok { OnOk result (Finishes (Link A.answers A.waited) answer.old answer.new
-        (W.contents writer.old) (W.contents writer.new) session.old held.old.items) }
-    ensures err { IfErr result (EndsAtLast (Link A.answers A.waited) answer.old answer.new
-        (W.contents writer.old) (W.contents writer.new) session.old held.old.items) }
-    ensures errors { IfErr result IsOwn }
-    ensures fault { IfErr result (MayBeFault OutputFault before (W.failed writer.new)) }
-{
-    finish(alloc, session, held, writer, before, answer)?;
-    flush(writer, before)?;
-    Ok(())
-}
-
-/// Answers the lines of the reader by a session that has had no line, as [`serve`] does.
+/// Answers the lines of some bytes and of the reader behind them by a session that has had no line, as
+/// [`serve_behind`] does.
 fn serve_by<R: Read + Faults, W: Write + Faults, A: Answer>(
     alloc: Global,
     session: &mut Session,
     held: &mut Vec<u8>,
+    bytes: &[u8],
     reader: &mut R,
     writer: &mut W,
     answer: &mut A,
@@ -154,12 +135,16 @@ fn serve_by<R: Read + Faults, W: Write + Faults, A: Answer>(
         × Consumes (R.remaining reader.old) (R.remaining reader.new) input
         × IsAtEnd (R.remaining reader.new)
         × Finished session.old.mode (Link A.answers A.waited) answer.old answer.new
-        (W.contents writer.old) (W.contents writer.new) (lines_of input)) }
+        (W.contents writer.old) (W.contents writer.new) (lines_of (bytes.now ++ input))) }
     ensures err { IfErr result (λ why. (input : List ℕ)
         × Consumes (R.remaining reader.old) (R.remaining reader.new) input
         × EndedEarly session.old.mode (Link A.answers A.waited) answer.old answer.new
         (W.contents writer.old) (W.contents writer.new)
-        input (IsAtEnd (R.remaining reader.new)) why) }
+        (bytes.now ++ input) (IsAtEnd (R.remaining reader.new)) why) }
+    ensures failed { IfErr result (λ why. why ≡ InputFault → (input : List ℕ)
+        × Consumes (R.remaining reader.old) (R.remaining reader.new) input
+        × AnsweredSoFar session.old.mode (Link A.answers A.waited) answer.old answer.new
+        (W.contents writer.old) (W.contents writer.new) (bytes.now ++ input)) }
     ensures errors { IfErr result (λ why. (why ≡ InputFault) ⊎ IsOwn why) }
     ensures input_fault { IfErr result
         (MayBeFault InputFault (R.failed reader.old) (R.failed reader.new)) }
@@ -168,13 +153,14 @@ fn serve_by<R: Read + Faults, W: Write + Faults, A: Answer>(
 {
     let reader_before = reader.failures();
     let writer_before = writer.failures();
+    feed(alloc, session, held, bytes, writer, writer_before, answer)?;
     let mut chunk = [0u8; CHUNK];
     for _ in 0..u64::MAX {
         let Some(n) = read_some(reader, reader_before, &mut chunk)? else {
             continue;
         };
         if n == 0 {
-            close(alloc, session, held, writer, writer_before, answer)?;
+            finish(alloc, session, held, writer, writer_before, answer)?;
             return Ok(());
         }
         let (piece, _) = chunk.split_at(n);
@@ -183,7 +169,8 @@ fn serve_by<R: Read + Faults, W: Write + Faults, A: Answer>(
     Err(Refusal::Memory)
 }
 
-/// Answers the lines of the reader to the input's end, and writes what is printed for them.
+/// Answers the lines of an input to its end, and writes what is printed for them. Some of its bytes were
+/// read ahead, and the reader gives what stands behind them. The writer is left to be flushed.
 ///
 /// A line of more than 268,435,456 bytes is skipped without being kept. A reader or writer that fails
 /// and does not count it is tried again.
@@ -192,10 +179,65 @@ fn serve_by<R: Read + Faults, W: Write + Faults, A: Answer>(
 ///
 /// After each of them the events answered before stand.
 ///
-/// - `BadUsers` where a line of users is refused with it, once its output is written.
-/// - `InputFault` only where the reader failed during the call by its count.
+/// - `BadUsers` exactly where a line of users is refused with it, once its output is written.
+/// - `InputFault` only where the reader failed during the call by its count; then the lines that were read
+///   whole are answered, and all of their text is written.
 /// - `OutputFault` only where the writer failed during the call by its count.
-/// - `Memory` only where memory was refused.
+/// - `Memory` only where memory was refused, and where the writer's count shows no failure.
+pub fn serve_behind<R: Read + Faults, W: Write + Faults, A: Answer>(
+    alloc: Global,
+    mode: Mode,
+    bytes: &[u8],
+    reader: &mut R,
+    writer: &mut W,
+    answer: &mut A,
+) -> Result<(), Refusal>
+    // To the input's end, each of its lines is answered, and all of their text is written.
+    ensures ok { OnOk result ((input : List ℕ)
+        × Consumes (R.remaining reader.old) (R.remaining reader.new) input
+        × IsAtEnd (R.remaining reader.new)
+        × Finished mode (Link A.answers A.waited) answer.old answer.new
+        (W.contents writer.old) (W.contents writer.new) (lines_of (bytes.now ++ input))) }
+    // Else the first lines are, whatever comes after what was read, and a beginning of their text.
+    ensures err { IfErr result (λ why. (input : List ℕ)
+        × Consumes (R.remaining reader.old) (R.remaining reader.new) input
+        × EndedEarly mode (Link A.answers A.waited) answer.old answer.new
+        (W.contents writer.old) (W.contents writer.new)
+        (bytes.now ++ input) (IsAtEnd (R.remaining reader.new)) why) }
+    // Where the reader failed, these are the lines that were read whole, and all of their text.
+    ensures failed { IfErr result (λ why. why ≡ InputFault → (input : List ℕ)
+        × Consumes (R.remaining reader.old) (R.remaining reader.new) input
+        × AnsweredSoFar mode (Link A.answers A.waited) answer.old answer.new
+        (W.contents writer.old) (W.contents writer.new) (bytes.now ++ input)) }
+    ensures errors { IfErr result (λ why. (why ≡ InputFault) ⊎ IsOwn why) }
+    ensures input_fault { IfErr result
+        (MayBeFault InputFault (R.failed reader.old) (R.failed reader.new)) }
+    ensures output_fault { IfErr result
+        (MayBeFault OutputFault (W.failed writer.old) (W.failed writer.new)) }
+    ensures memory { IfErr result (IsNoFault (W.failed writer.old) (W.failed writer.new)) }
+{
+    let before = writer.failures();
+    let mut session = Session::new(alloc, mode);
+    let mut held = Vec::new(alloc);
+    let ended = serve_by(
+        alloc,
+        &mut session,
+        &mut held,
+        bytes,
+        reader,
+        writer,
+        answer,
+    );
+    as_counted(writer, before, ended)
+}
+
+/// Answers the lines of the reader to the input's end, writes what is printed for them, and flushes that
+/// where it ends so or with `BadUsers`.
+///
+/// # Errors
+///
+/// They are those of [`serve_behind`], of no bytes. And `OutputFault` also where the writer was not
+/// flushed.
 pub fn serve<R: Read + Faults, W: Write + Faults, A: Answer>(
     alloc: Global,
     mode: Mode,
@@ -209,21 +251,47 @@ pub fn serve<R: Read + Faults, W: Write + Faults, A: Answer>(
         × IsAtEnd (R.remaining reader.new)
         × Finished mode (Link A.answers A.waited) answer.old answer.new
         (W.contents writer.old) (W.contents writer.new) (lines_of input)) }
-    // Else the first lines are, whatever comes after what was read, and a beginning of their text.
+    // Else the first lines are, whatever comes after what was read, and a beginning of their text; or all of
+    // it is written, and was not shown.
     ensures err { IfErr result (λ why. (input : List ℕ)
         × Consumes (R.remaining reader.old) (R.remaining reader.new) input
-        × EndedEarly mode (Link A.answers A.waited) answer.old answer.new
+        × (EndedEarly mode (Link A.answers A.waited) answer.old answer.new
         (W.contents writer.old) (W.contents writer.new)
-        input (IsAtEnd (R.remaining reader.new)) why) }
+        input (IsAtEnd (R.remaining reader.new)) why
+        ⊎ NotShown mode (Link A.answers A.waited) answer.old answer.new
+        (W.contents writer.old) (W.contents writer.new) input (IsAtEnd (R.remaining reader.new)) why)) }
+    // Where the reader failed, these are the lines that were read whole, and all of their text.
+    ensures failed { IfErr result (λ why. why ≡ InputFault → (input : List ℕ)
+        × Consumes (R.remaining reader.old) (R.remaining reader.new) input
+        × AnsweredSoFar mode (Link A.answers A.waited) answer.old answer.new
+        (W.contents writer.old) (W.contents writer.new) input) }
     ensures errors { IfErr result (λ why. (why ≡ InputFault) ⊎ IsOwn why) }
     ensures input_fault { IfErr result
         (MayBeFault InputFault (R.failed reader.old) (R.failed reader.new)) }
     ensures output_fault { IfErr result
         (MayBeFault OutputFault (W.failed writer.old) (W.failed writer.new)) }
+    ensures memory { IfErr result (IsNoFault (W.failed writer.old) (W.failed writer.new)) }
 {
-    let mut session = Session::new(alloc, mode);
-    let mut held = Vec::new(alloc);
-    serve_by(alloc, &mut session, &mut held, reader, writer, answer)
+    let before = writer.failures();
+    let ended = serve_behind(alloc, mode, b"", reader, writer, answer);
+    if matches!(ended, Ok(()) | Err(Refusal::BadUsers)) {
+        flush(writer, before)?;
+    }
+    ended
+}
+
+/// How a session ended, by the writer's count: want of memory is told as a failure of the writer where the
+/// count shows one.
+fn as_counted<W: Faults>(writer: &W, before: u64, ended: Result<(), Refusal>) -> Result<(), Refusal>
+    ensures ok { OnOk result (ended ≡ Ok tt) }
+    ensures err { IfErr result (λ why. (ended ≡ Err why)
+        ⊎ ((ended ≡ Err Memory) × IsFault OutputFault before (W.failed writer.now) why)) }
+    ensures memory { IfErr result (IsNoFault before (W.failed writer.now)) }
+{
+    match ended {
+        Err(Refusal::Memory) => Err(want_of(writer, before)),
+        ended => ended,
+    }
 }
 
 /// Answers the whole lines of some bytes of which more was to come, and writes what is printed for
@@ -231,7 +299,7 @@ pub fn serve<R: Read + Faults, W: Write + Faults, A: Answer>(
 ///
 /// # Errors
 ///
-/// - `BadUsers`, `OutputFault` and `Memory`, each where [`serve`] has it.
+/// - `BadUsers`, `OutputFault` and `Memory`, each where [`serve_behind`] has it.
 pub fn serve_whole_lines<W: Write + Faults, A: Answer>(
     alloc: Global,
     mode: Mode,
@@ -246,11 +314,12 @@ pub fn serve_whole_lines<W: Write + Faults, A: Answer>(
     ensures errors { IfErr result IsOwn }
     ensures output_fault { IfErr result
         (MayBeFault OutputFault (W.failed writer.old) (W.failed writer.new)) }
+    ensures memory { IfErr result (IsNoFault (W.failed writer.old) (W.failed writer.new)) }
 {
     let before = writer.failures();
     let mut session = Session::new(alloc, mode);
     let mut held = Vec::new(alloc);
-    feed(
+    let ended = feed(
         alloc,
         &mut session,
         &mut held,
@@ -258,6 +327,6 @@ pub fn serve_whole_lines<W: Write + Faults, A: Answer>(
         writer,
         before,
         answer,
-    )?;
-    Ok(())
+    );
+    as_counted(writer, before, ended)
 }

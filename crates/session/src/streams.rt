@@ -1,9 +1,9 @@
 //! Reading from a reader and writing to a writer that count their failures.
 
-ghost use Rattle.std.specs.Prelude.{◌≡◌, ◌<◌, ◌⊎◌, ℕ, [], Err, IsOk, IsTrue, OnOk, OnErr, IfOk, IfErr, MatchResult, take, length};
+ghost use Rattle.std.specs.Prelude.{◌≡◌, ◌<◌, ◌⊎◌, ℕ, [], Err, IsOk, MatchBool, OnOk, OnErr, IfOk, IfErr, MatchResult, take, length};
 ghost use Rattle.std.specs.Io.KnownBytes.{Appends, Consumes};
-ghost use Rattle.model.specs.declared.refusal.Refusal.TheVariants.{InputFault, OutputFault, Memory};
-ghost use Rattle.session.specs.Serving.{HasFailed, IsFault, IsUnwritten, MayBeFault, HasRead, HasWritten};
+ghost use Rattle.model.specs.declared.refusal.Refusal.TheVariants.{InputFault, OutputFault};
+ghost use Rattle.session.specs.Serving.{HasFailed, IsFault, IsNoFault, IsUnwritten, IsWant, MayBeFault, HasRead, HasWritten, TellsEnd};
 
 use crate::faults::Faults;
 use model::Refusal;
@@ -11,7 +11,7 @@ use std::io::{Read, Write};
 
 /// Whether a count of failures says that there was one since it was `before`.
 fn has_failed(before: u64, now: u64) -> bool
-    ensures { IsTrue result → HasFailed before now }
+    ensures { MatchBool result (HasFailed before now) (¬ HasFailed before now) }
 {
     now > before || now == u64::MAX
 }
@@ -53,7 +53,7 @@ pub(crate) fn write_whole<W: Write + Faults>(
     text: &[u8],
 ) -> Result<(), Refusal>
     ensures ok { OnOk result (Appends (W.contents writer.old) (W.contents writer.new) text.now) }
-    ensures err { OnErr result ((n : ℕ)
+    ensures err { OnErr result ((n : ℕ) × (n < length text.now)
         × Appends (W.contents writer.old) (W.contents writer.new) (take n text.now)) }
     ensures errors { IfErr result IsUnwritten }
     ensures fault { IfErr result (MayBeFault OutputFault before (W.failed writer.new)) }
@@ -66,6 +66,9 @@ pub(crate) fn write_whole<W: Write + Faults>(
         let n = write_some(writer, before, rest)?;
         let (_, after) = rest.split_at(n);
         rest = after;
+    }
+    if rest.is_empty() {
+        return Ok(());
     }
     Err(Refusal::Memory)
 }
@@ -84,28 +87,44 @@ fn flush_once<W: Write + Faults>(writer: &mut W, before: u64) -> Result<bool, Re
     }
 }
 
-/// Flushes the writer, as [`write_whole`] writes.
+/// Flushes the writer. One that fails and does not count it is tried again, 2^64 times at most: nothing
+/// is promised of a flush but that it does not fail by the count.
 pub(crate) fn flush<W: Write + Faults>(writer: &mut W, before: u64) -> Result<(), Refusal>
     ensures kept { Appends (W.contents writer.old) (W.contents writer.new) [] }
-    ensures errors { IfErr result IsUnwritten }
-    ensures fault { IfErr result (MayBeFault OutputFault before (W.failed writer.new)) }
+    ensures fault { IfErr result (IsFault OutputFault before (W.failed writer.new)) }
 {
     for _ in 0..u64::MAX {
         if flush_once(writer, before)? {
             return Ok(());
         }
     }
-    Err(Refusal::Memory)
+    Ok(())
 }
 
-/// Flushes the writer after what ended so, and gives that end, or why it was not flushed. An end by a
-/// failure that the counts do not show is `Memory`: they showed it then, and have fallen since.
+/// What is told in place of want of memory, or of a fault that no count shows: `OutputFault` where the
+/// writer's count shows that it failed, and else `Memory`.
+pub(crate) fn want_of<W: Faults>(writer: &W, before: u64) -> Refusal
+    ensures { IsWant (HasFailed before (W.failed writer.now)) result }
+{
+    if has_failed(before, writer.failures()) {
+        Refusal::OutputFault
+    } else {
+        Refusal::Memory
+    }
+}
+
+/// Flushes the writer after what ended so, unless that is a failure of the writer, and says how it ended:
+/// so, or with `OutputFault` where it was not flushed. The counts are looked at again. A failure of the
+/// reader that its count does not show, or one of the writer, is told as want of memory then: they showed
+/// it, and have fallen since. And want of memory is told as a failure of the writer where its count shows
+/// one.
 ///
 /// # Errors
 ///
 /// - `InputFault` only where the reader has failed by its count since that was `reader_before`.
 /// - `OutputFault` only where the writer has failed by its count since that was `writer_before`.
-/// - `Memory` also where the flush failed and was not counted, each of 2^64 times.
+/// - `Memory` only where it ended with `Memory`, or with a fault that its count does not show, and where
+///   the writer's count shows no failure.
 pub fn flush_after<R: Faults, W: Write + Faults>(
     reader: &R,
     reader_before: u64,
@@ -115,19 +134,26 @@ pub fn flush_after<R: Faults, W: Write + Faults>(
 ) -> Result<(), Refusal>
     ensures kept { Appends (W.contents writer.old) (W.contents writer.new) [] }
     ensures ok { OnOk result (IsOk ended) }
-    ensures err { IfErr result (λ why. (ended ≡ Err why) ⊎ IsUnwritten why) }
+    // It was not flushed, or the end is told.
+    ensures err { IfErr result (λ why. IsFault OutputFault writer_before (W.failed writer.new) why
+        ⊎ ((first : Refusal) × (ended ≡ Err first) × TellsEnd first
+        (HasFailed reader_before (R.failed reader.now)) (HasFailed writer_before (W.failed writer.new)) why)) }
+    // A failure of the writer that its count shows is told.
+    ensures output { ended ≡ Err OutputFault → HasFailed writer_before (W.failed writer.old)
+        → result ≡ Err OutputFault }
     ensures input_fault { IfErr result
         (MayBeFault InputFault reader_before (R.failed reader.now)) }
     ensures output_fault { IfErr result
         (MayBeFault OutputFault writer_before (W.failed writer.new)) }
+    ensures memory { IfErr result (IsNoFault writer_before (W.failed writer.new)) }
 {
-    flush(writer, writer_before)?;
+    if !matches!(ended, Err(Refusal::OutputFault)) {
+        flush(writer, writer_before)?;
+    }
     match ended {
-        Err(Refusal::InputFault) if !has_failed(reader_before, reader.failures()) => {
-            Err(Refusal::Memory)
-        }
-        Err(Refusal::OutputFault) if !has_failed(writer_before, writer.failures()) => {
-            Err(Refusal::Memory)
+        Err(Refusal::InputFault) if has_failed(reader_before, reader.failures()) => ended,
+        Err(Refusal::InputFault | Refusal::OutputFault | Refusal::Memory) => {
+            Err(want_of(writer, writer_before))
         }
         ended => ended,
     }

@@ -42,6 +42,7 @@ fn of_line<R: Threads + Wait + Sync>(
         "faults" => faults::faults(alloc, hashing, argument, out),
         "users" => stores::users(alloc, hashing, argument, out),
         "run" => stores::run(alloc, hashing, out),
+        "derivation" => stores::reply_to_text(alloc, hashing, argument, out),
         "threads" => fronts::threads(rt, alloc, hashing, out),
         "gate_two_workers" => builds::gate_two_workers(rt, alloc, hashing, argument, out),
         "passes" => fronts::passes(alloc, hashing, out),

@@ -6,7 +6,9 @@ use crate::devices::{Calls, Sink, Source, calls_of};
 use crate::stores::{new_core, store_of};
 use model::Refusal;
 use schedule::{Core, Event, Reply, User};
-use session::{Ahead, Job, Mode, NoUsers, Prefixed, Session, read_ahead, serve, serve_whole_lines};
+use session::{
+    Ahead, Job, Mode, NoUsers, Session, read_ahead, serve, serve_behind, serve_whole_lines,
+};
 use std::alloc::Global;
 use std::hash::RandomState;
 
@@ -129,22 +131,23 @@ fn answer_by_store(
     source: Source,
     out: &mut Answer,
 ) -> Result<(), Refusal> {
-    let mut reader = Prefixed::new(bytes, source);
+    let mut source = source;
     let mut store = Store {
         core: store_of(alloc, hashing, users)?,
     };
-    tell_session(alloc, &mut reader, &mut store, out)
+    tell_session(alloc, &bytes, &mut source, &mut store, out)
 }
 
-/// Adds what the lines of a reader get in a store.
+/// Adds what the lines of some bytes and of the reader behind them get in a store.
 fn tell_session(
     alloc: Global,
-    reader: &mut Prefixed<Source>,
+    bytes: &[u8],
+    reader: &mut Source,
     store: &mut Store,
     out: &mut Answer,
 ) -> Result<(), Refusal> {
     let mut text = Vec::new(alloc);
-    serve(alloc, Mode::Service, reader, &mut text, store)?;
+    serve_behind(alloc, Mode::Service, bytes, reader, &mut text, store)?;
     out.add_bytes(&text);
     Ok(())
 }

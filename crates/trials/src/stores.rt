@@ -5,6 +5,8 @@ ghost use Rattle.model.specs.Worlds.{nothing};
 ghost use Rattle.schedule.specs.Standing.{world_of, stored_in};
 
 use crate::answer::Answer;
+use crate::calls::number;
+use derivation::Text;
 use model::Refusal;
 use nar::{Tree, tree_text};
 use schedule::{Core, Event, LARGEST_CHARGE, Limits, Reply, Request, User};
@@ -128,4 +130,26 @@ pub(crate) fn run(alloc: Global, hashing: RandomState, out: &mut Answer) -> Resu
     let events = first_path(alloc)?;
     let answers = schedule::run(alloc, hashing, users, Limits::default(), events)?;
     tell_all(alloc, &answers, out)
+}
+
+/// The event by which alice adds a derivation whose text has so many bytes, each `x`.
+fn adding_text(alloc: Global, length: usize) -> Result<Event, Refusal> {
+    let text = Text::new(vec![in alloc; b'x'; length]?)?;
+    Ok(Event {
+        actor: User::new(alloc, b"alice")?,
+        request: Request::AddDerivation(text),
+    })
+}
+
+/// `LENGTH`: what a step of a store replies to that event.
+pub(crate) fn reply_to_text(
+    alloc: Global,
+    hashing: RandomState,
+    argument: &str,
+    out: &mut Answer,
+) -> Result<(), Refusal> {
+    let (length, _) = number(argument)?;
+    let event = adding_text(alloc, length)?;
+    let mut core = new_core(alloc, hashing)?;
+    tell(alloc, &core.step(alloc, event), out)
 }

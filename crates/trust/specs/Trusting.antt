@@ -1,5 +1,5 @@
 -- Trust among users who are named by their places, and sets of places as the bits of a word.
-use Rattle.std.specs.Prelude.{◌≡◌, ℕ, ◌==◌, Bool, true, not, ◌&&◌, ◌||◌, List, slice_index}
+use Rattle.std.specs.Prelude.{◌≡◌, ℕ, ◌==◌, Bool, true, false, not, ◌&&◌, ◌||◌, List, slice_index}
 use Rattle.std.specs.Int.{bit_at}
 
 -- whether the bit of a place is set
@@ -18,9 +18,20 @@ with_pair user other trust u v = (u == user && v == other) || trust u v
 abbrev pub without_pair : ℕ → ℕ → (ℕ → ℕ → Bool) → ℕ → ℕ → Bool
 without_pair user other trust u v = not (u == user && v == other) && trust u v
 
+-- and with what is said of one pair
+abbrev pub with_said : ℕ → ℕ → (said : Bool) → (ℕ → ℕ → Bool) → ℕ → ℕ → Bool
+with_said user other true trust = with_pair user other trust
+with_said user other false trust = without_pair user other trust
+
 -- whether a set has, with each user, all whom he trusts
 abbrev pub IsClosed : (ℕ → ℕ → Bool) → (ℕ → Bool) → Type 0
 IsClosed trust set = (u v : ℕ) → set u ≡ true → trust u v ≡ true → set v ≡ true
+
+-- the least set that holds the users of another and, with each user, all whom he trusts
+pub record IsReachOf (trust : ℕ → ℕ → Bool) (users : ℕ → Bool) (set : ℕ → Bool) : Type 0 where
+  pub own : (u : ℕ) → users u ≡ true → set u ≡ true
+  pub closed : IsClosed trust set
+  pub least : (other : ℕ → Bool) → ((u : ℕ) → users u ≡ true → other u ≡ true) → IsClosed trust other → (v : ℕ) → set v ≡ true → other v ≡ true
 
 -- the least set that holds a user and, with each user, all whom he trusts
 pub record IsReach (trust : ℕ → ℕ → Bool) (user : ℕ) (set : ℕ → Bool) : Type 0 where

@@ -1,8 +1,9 @@
 //! Trust among 64 users, who are named by their places.
 
 ghost use Rattle.std.specs.Prelude.{◌≡◌, ℕ, ◌<◌, ◌==◌, ◌&&◌, not, false};
-ghost use Rattle.trust.specs.Trusting.{holds, trusts, with_pair, without_pair, IsReach};
+ghost use Rattle.trust.specs.Trusting.{holds, trusts, with_pair, without_pair, with_said, IsReach, IsReachOf};
 
+use crate::places::has_place;
 use std::marker::Model;
 
 /// The most users.
@@ -61,13 +62,37 @@ impl Trust {
         self.rows[user] = without(self.rows[user], other);
     }
 
+    /// From now on a user trusts another, or does not. Whether he did is given back.
+    pub fn replace(&mut self, user: usize, other: usize, trusted: bool) -> bool
+        requires of_run { user < 64 }
+        requires other_of_run { other < 64 }
+        ensures before { result ≡ trusts self.old user other }
+        ensures now { trusts self.new ≡ with_said user other trusted (trusts self.old) }
+    {
+        let before = has_place(self.rows[user], other);
+        if trusted {
+            self.add(user, other);
+        } else {
+            self.remove(user, other);
+        }
+        before
+    }
+
     /// The users whom a user reaches: himself and, with each, all whom that one trusts. The bits of
     /// the word are their places.
     pub fn closure(&self, user: usize) -> u64
         requires { user < 64 }
         ensures { IsReach (trusts self.now) user (holds result) }
     {
-        let mut reached: u64 = 1 << user;
+        self.closure_of(1 << user)
+    }
+
+    /// The users whom the users at some places reach: themselves and, with each, all whom that one
+    /// trusts. The bits of the words are their places.
+    pub fn closure_of(&self, users: u64) -> u64
+        ensures { IsReachOf (trusts self.now) (holds users) (holds result) }
+    {
+        let mut reached: u64 = users;
         let mut asked: u64 = 0;
         while reached & !asked != 0 {
             let next = (reached & !asked).trailing_zeros() as usize;

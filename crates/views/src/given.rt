@@ -11,7 +11,7 @@ ghost use Rattle.handling.specs.Sound.{IsClosure};
 
 use choose::View;
 use closures::{Closure, Entry};
-use events::Reply;
+use events::{CopiedReply, Reply};
 use handling::desks_in_view;
 use laws::closures_are_whole;
 use model::Refusal;
@@ -60,7 +60,7 @@ pub fn closure(
     desks: &[Desk],
     place: usize,
     class: &StorePath,
-) -> Result<Reply, Refusal>
+) -> Result<CopiedReply, Refusal>
     requires of_run { place < length desks.now }
     requires few { length desks.now ≤ 64 }
     requires complete { IsComplete table.now.sources desks.now }
@@ -68,5 +68,5 @@ pub fn closure(
         place (ClosureRequest class.now) result table.now.sources (desk_at desks.now place) }
 {
     let entries = entries_for(alloc, trust, table, desks, place, class)?;
-    Ok(Reply::Entries(Closure::new(entries)?))
+    Ok(CopiedReply::new(Reply::Entries(Closure::new(entries)?))?)
 }

@@ -13,7 +13,7 @@ ghost use Rattle.handling.specs.Handling.{IsHandledBySight};
 ghost use Rattle.views.specs.Taking.{tree_with_path, counted, missing_on, are_roomy, CopiesEntries};
 
 use crate::given::entries_for;
-use events::Reply;
+use events::{CopiedReply, Reply};
 use model::Refusal;
 use nar::Tree;
 use realise::{Desk, Limits, MOST_RECORDS, MOST_SOURCES};
@@ -176,7 +176,7 @@ pub fn take(
     place: usize,
     limits: Limits,
     class: &StorePath,
-) -> Result<Reply, Refusal>
+) -> Result<CopiedReply, Refusal>
     requires of_run { place < length desks.old }
     requires few { length desks.old ≤ 64 }
     requires sound { All (IsSound table.old.sources limits.charge) desks.old }
@@ -187,6 +187,7 @@ pub fn take(
     served_are_made();
     let entries = entries_for(alloc, trust, table, desks, place, class)?;
     let path = path_for(class, &entries)?;
+    let reply = CopiedReply::new(Reply::Path(path))?;
     copy_all(alloc, table, &mut desks[place], limits, &entries)?;
-    Ok(Reply::Path(path))
+    Ok(reply)
 }

@@ -1,6 +1,6 @@
 use Rattle.std.proofs.Common.{inr, refl, ◌∙◌, subst, sym, [], ◌∷◌, ◌++◌}
 use Rattle.session.specs.Serving.{Link, Progress}
-use Rattle.session.proofs.RowLemmas.{err-is, appends-flushed, written-flushed}
+use Rattle.session.proofs.RowLemmas.{err-is}
 use Rattle.session.proofs.SessionLemmas.{part-gets, line-gives}
 use Rattle.session.proofs.ProgressLemmas.{early-here, early-memory, early-write, early-refused, progress-write, by_memory, by_output}
 use Rattle.session.proofs.ProgressLemmas.{own_memory, own_output, memory_not_output, users_not_output}
@@ -29,24 +29,14 @@ returns-in_err-write_whole-clause-err g c = err-is _ _ _ c.from_residual-in_err-
     c.answer.new.answer c.in_ok-text.text.items c.in_ok-reading.ensures.read c.in_ok-text.ensures.ok)
     p c.in_err-write_whole.ensures.err)
 
-pub returns-in_err-flush-clause-err : goal.returns-in_err-flush-clause-err
-returns-in_err-flush-clause-err g c = err-is _ _ _ c.from_residual-in_err-flush.ensures.1 (λ more mode first blank input p.
-    early-write (Link g.A.Answer.answers g.A.Answer.waited) first blank c.args.answer.now c.answer.new.answer (g.W.Write.contents c.args.writer.now)
-    (g.W.Write.contents c.flush.new.writer) input c.args.session.now c.answer.new.self c.args.held.now.items c.as_slice.result.now
-    c.in_ok-text.text.items c.as_slice-2.result.now more _
-    (by_output _ c.in_err-flush.ensures.errors) c.as_slice.ensures.value c.as_slice-2.ensures.value
-    (line-gives (Link g.A.Answer.answers g.A.Answer.waited) c.args.session.now c.as_slice.result.now c.in_ok-reading.reading c.args.answer.now c.answer.new.self
-    c.answer.new.answer c.in_ok-text.text.items c.in_ok-reading.ensures.read c.in_ok-text.ensures.ok)
-    p (written-flushed _ _ _ _ c.in_ok-write_whole.ensures.ok c.in_err-flush.ensures.kept))
-
 pub returns-then-is_refused-clause-err : goal.returns-then-is_refused-clause-err
 returns-then-is_refused-clause-err g c = λ more mode first blank input p.
     early-refused (Link g.A.Answer.answers g.A.Answer.waited) first blank c.args.answer.now c.answer.new.answer (g.W.Write.contents c.args.writer.now)
-    (g.W.Write.contents c.flush.new.writer) input c.args.session.now c.answer.new.self c.args.held.now.items c.as_slice.result.now
+    (g.W.Write.contents c.write_whole.new.writer) input c.args.session.now c.answer.new.self c.args.held.now.items c.as_slice.result.now
     c.in_ok-text.text.items c.as_slice-2.result.now more _ c.as_slice.ensures.value c.as_slice-2.ensures.value
     (line-gives (Link g.A.Answer.answers g.A.Answer.waited) c.args.session.now c.as_slice.result.now c.in_ok-reading.reading c.args.answer.now c.answer.new.self
     c.answer.new.answer c.in_ok-text.text.items c.in_ok-reading.ensures.read c.in_ok-text.ensures.ok)
-    p (appends-flushed _ _ _ _ c.in_ok-write_whole.ensures.ok c.in_ok-flush.ensures.kept) (sym c.is_refused.ensures ∙ c.if-is_refused.true)
+    p c.in_ok-write_whole.ensures.ok (sym c.is_refused.ensures ∙ c.if-is_refused.true) refl
 
 pub returns-clause-ok : goal.returns-clause-ok
 returns-clause-ok g c = λ mode first blank input p.
@@ -78,12 +68,6 @@ returns-in_err-write_whole-clause-errors g c = err-is _ _ _ c.from_residual-in_e
 
 pub returns-in_err-write_whole-clause-fault : goal.returns-in_err-write_whole-clause-fault
 returns-in_err-write_whole-clause-fault g c = err-is _ _ _ c.from_residual-in_err-write_whole.ensures.1 c.in_err-write_whole.ensures.fault
-
-pub returns-in_err-flush-clause-errors : goal.returns-in_err-flush-clause-errors
-returns-in_err-flush-clause-errors g c = err-is _ _ _ c.from_residual-in_err-flush.ensures.1 (own_output _ c.in_err-flush.ensures.errors)
-
-pub returns-in_err-flush-clause-fault : goal.returns-in_err-flush-clause-fault
-returns-in_err-flush-clause-fault g c = err-is _ _ _ c.from_residual-in_err-flush.ensures.1 c.in_err-flush.ensures.fault
 
 pub returns-then-is_refused-clause-errors : goal.returns-then-is_refused-clause-errors
 returns-then-is_refused-clause-errors g c = inr (inr refl)

@@ -1,4 +1,4 @@
-use Rattle.std.proofs.Common.{◌++◌, take}
+use Rattle.std.proofs.Common.{rules, ◌++◌, take}
 use Rattle.session.proofs.RowLemmas.{appends-more, appends-none, on_err, text-step, front-written}
 use Rattle.session.proofs.streams.write_whole.Goals as goal
 
@@ -14,9 +14,9 @@ loop-preserved g c =
 pub returns-in_err-n-clause-err : goal.returns-in_err-n-clause-err
 returns-in_err-n-clause-err g c =
     let i = c.loop.invariant in
-    on_err _ (front-written _ _ _ _ i.0 _ i.1 i.2 c.in_err-n.ensures.err)
+    on_err _ (front-written _ _ _ _ i.0 _ i.1 (search rules) i.2 c.in_err-n.ensures.err)
 
 pub returns-clause-err : goal.returns-clause-err
 returns-clause-err g c =
     let i = c.loop.invariant in
-    front-written _ _ _ _ i.0 _ i.1 i.2 (appends-none _)
+    front-written _ _ _ _ i.0 _ i.1 (search rules) i.2 (appends-none _)

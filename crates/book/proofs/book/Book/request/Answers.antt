@@ -16,19 +16,13 @@ only_pass g c one =
     sure_of_all c.args.pass.now.sure c.compare.new.self.sure inside.log.rows inside.history.items _ c.compare.ensures.matches.sure
     c.self.invariant.4 c.compare.ensures.sure (c.audit.ensures.alone one).0 c.self.invariant.1 ∙ ap (λ (b : Contents). b.rows) c.self.view_is
 
-pub returns-then-stopped-clause-alone : goal.returns-then-stopped-clause-alone
-returns-then-stopped-clause-alone g c = only_pass g ((goal.at.returns-then-stopped-clause-alone g c).After-audit)
-
-pub returns-then-stopped-clause-legal : goal.returns-then-stopped-clause-legal
-returns-then-stopped-clause-legal g c = rw (← c.self.view_is) (is_legal g.J.Naming.setup c.self.inside.core c.self.inside.stopped c.self.inside.history.items c.self.invariant.0 c.isolation.ensures)
-
 pub returns-clause-alone : goal.returns-clause-alone
 returns-clause-alone g c = only_pass g ((goal.at.returns-clause-alone g c).After-audit)
 
 pub returns-clause-legal : goal.returns-clause-legal
-returns-clause-legal g c = rw (← c.self.view_is) (is_legal g.J.Naming.setup c.self.inside.core c.self.inside.stopped c.self.inside.history.items c.self.invariant.0 c.isolation.ensures)
+returns-clause-legal g c = rw (← c.self.view_is) (is_legal g.J.Naming.setup c.self.inside.core c.self.inside.history.items c.self.invariant.0 c.isolation.ensures c.timed_isolation.ensures)
 
 pub returns-clause-reached : goal.returns-clause-reached
-returns-clause-reached g c = rw (← c.self.view_is) (λ going clean.
+returns-clause-reached g c = rw (← c.self.view_is) (λ clean.
     let texts : List (List ℕ) = hashed g.J.Naming.setup nothing (events_of c.self.inside.history.items) in
-    (c.self.invariant.0.reached going texts clean (All-contains_itself texts)).world)
+    (c.self.invariant.0.reached texts clean (All-contains_itself texts)).world)

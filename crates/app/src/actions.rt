@@ -1,0 +1,90 @@
+//! What the options ask for, done with the lines of readers.
+
+ghost use Rattle.std.specs.Prelude.{◌≡◌, ℕ, List, Some, OnOk, IfOk, IfErr};
+ghost use Rattle.model.specs.Lines.{lines_of};
+ghost use Rattle.replaying.specs.Replaying.{Replayed, ReplayedInPart};
+ghost use Rattle.running.specs.Runs.{AreOutputs};
+ghost use Rattle.app.specs.Actions.{IsReplay};
+
+use crate::strike::strike;
+use command_line::{Action, Options};
+use model::Refusal;
+use replaying::replay;
+use running::{Output, Part, run};
+use schedule::{Limits, User};
+use session::Faults;
+use std::alloc::Global;
+use std::hash::RandomState;
+use std::io::{Read, Write};
+use std::sync::Wait;
+use std::thread::Threads;
+use workers::Runner;
+
+/// The limits that the options set.
+fn limits_of(options: &Options) -> Limits
+    ensures { result.charge ≡ options.now.charge }
+{
+    Limits {
+        charge: options.charge,
+    }
+}
+
+/// Runs the lines of a reader under the charge of the options: those events of them that can reach a user
+/// where the options ask for `strike`, and else all of them.
+///
+/// # Errors
+///
+/// They are those of [`replay`] and of [`strike`].
+pub(crate) fn run_lines<H: Wait, R: Read + Faults, W: Write + Faults>(
+    wait: &H,
+    alloc: Global,
+    hashing: RandomState,
+    options: &Options,
+    reader: &mut R,
+    writer: &mut W,
+) -> Result<(), Refusal>
+    // All lines are run by `replay`, under the charge that was asked for.
+    ensures replayed { IsReplay options.now.action → OnOk result ((all : List ℕ) → R.remaining reader.old ≡ Some all
+        → Replayed options.now.charge (W.contents writer.old) (W.contents writer.new) (lines_of all)) }
+    ensures in_part { IsReplay options.now.action → IfErr result (λ why. (all : List ℕ) → R.remaining reader.old ≡ Some all
+        → ReplayedInPart options.now.charge (W.contents writer.old) (W.contents writer.new) (lines_of all) why) }
+{
+    let limits = limits_of(options);
+    match &options.action {
+        Action::Strike { user, timed, .. } => strike(
+            alloc,
+            hashing,
+            limits,
+            user.as_bytes(),
+            *timed,
+            reader,
+            writer,
+        ),
+        Action::Replay(_) | Action::Run(_) => {
+            replay(wait, alloc, hashing, limits, reader, writer)
+        }
+    }
+}
+
+/// Runs the lines of files as sessions of one store under the charge of the options, as [`run`] does.
+///
+/// # Errors
+///
+/// They are those of [`run`].
+pub(crate) fn run_parts<
+    H: Threads + Wait + Sync,
+    Q: Runner + Send + Drop,
+    I: Read + Faults + Send + Drop,
+>(
+    host: &H,
+    alloc: Global,
+    hashing: RandomState,
+    users: Vec<User>,
+    options: &Options,
+    parts: Vec<Part<I, Q>>,
+) -> Result<Vec<Output>, Refusal>
+    ensures outputs { IfOk result (λ outputs.
+        AreOutputs (record { users = users.items; charge = options.now.charge }) I.remaining parts.items outputs.items) }
+{
+    run(host, alloc, hashing, users, limits_of(options), parts)
+}

@@ -1,0 +1,153 @@
+//! Replies with their copies.
+
+ghost use Rattle.std.specs.Prelude.{◌≡◌, IfOk, IfErr, false};
+ghost use Rattle.model.specs.Events.{GoalState as GoalStateReply};
+ghost use Rattle.states.specs.States.{state_of};
+ghost use Rattle.events.specs.Terms.{reply_of, shares_nothing};
+ghost use Rattle.events.specs.declared.reply.Reply.TheVariants.{Done, GoalNumber, GoalState, Refused};
+ghost use Rattle.states.specs.declared.state.State.TheVariants.{Planned, Failed};
+
+use crate::reply::Reply;
+use model::Refusal;
+use states::State;
+use std::alloc::AllocError;
+use std::marker::Model;
+
+/// A reply with an equal copy, which shares all that is large: the one is told, the other is kept.
+///
+/// An event that changes something has its copied reply made before the change, so that the reply can
+/// be told and kept whatever memory there is afterwards. Contracts see it as the reply.
+pub struct CopiedReply {
+    reply: Reply,
+    copy: Reply,
+}
+
+impl Drop for CopiedReply {
+    fn drop(self) {
+        let CopiedReply { reply: _, copy: _ } = self;
+    }
+}
+
+impl Model for CopiedReply {
+    ghost use Rattle.std.specs.Prelude.{◌≡◌};
+    ghost use Rattle.events.specs.declared.reply.Reply.{Reply};
+
+    ghost Value = { Reply };
+
+    ghost use Rattle.std.specs.Coded.{codes};
+    ghost use Rattle.model.specs.TreeCode.{tree_code};
+
+    ghost coded = { Prim.hlevel (codes, tree_code) };
+
+    ghost view = { λ c. c.reply };
+
+    ghost invariant = { λ c. c.copy ≡ c.reply };
+}
+
+/// A copy of how far a goal is.
+fn copy_of_state(state: &State) -> Result<State, AllocError>
+    ensures copy { IfOk result (λ copy. copy ≡ state.now) }
+    ensures shares { IfErr result (λ _. shares_nothing (GoalStateReply (state_of state.now)) ≡ false) }
+{
+    match state {
+        State::Waiting => Ok(State::Waiting),
+        State::Planned => Ok(State::Planned),
+        State::Failed(why) => Ok(State::Failed(*why)),
+        State::Building(_) | State::Done(_) => state.clone(),
+    }
+}
+
+/// A copy of a reply.
+fn copy_of(reply: &Reply) -> Result<Reply, AllocError>
+    ensures copy { IfOk result (λ copy. copy ≡ reply.now) }
+    ensures shares { IfErr result (λ _. shares_nothing (reply_of reply.now) ≡ false) }
+{
+    match reply {
+        Reply::Done => Ok(Reply::Done),
+        Reply::GoalNumber(number) => Ok(Reply::GoalNumber(*number)),
+        Reply::GoalState(state) => Ok(Reply::GoalState(copy_of_state(state)?)),
+        Reply::Refused(why) => Ok(Reply::Refused(*why)),
+        Reply::Path(_) | Reply::Derivation { .. } | Reply::Content(_) | Reply::Entries(_) => {
+            reply.clone()
+        }
+    }
+}
+
+impl CopiedReply {
+    /// A reply with its copy. The one error is memory, and only where the reply has a name, a path or a
+    /// tree.
+    pub fn new(reply: Reply) -> Result<CopiedReply, AllocError>
+        ensures reply { IfOk result (λ copied. copied ≡ reply) }
+        ensures shares { IfErr result (λ _. shares_nothing (reply_of reply) ≡ false) }
+    {
+        let copy = copy_of(&reply)?;
+        Ok(CopiedReply { reply, copy })
+    }
+
+    /// That it is done.
+    pub fn done() -> CopiedReply
+        ensures { result ≡ Done }
+    {
+        CopiedReply {
+            reply: Reply::Done,
+            copy: Reply::Done,
+        }
+    }
+
+    /// The number of a new goal.
+    pub fn goal_number(number: u16) -> CopiedReply
+        ensures { result ≡ GoalNumber number }
+    {
+        CopiedReply {
+            reply: Reply::GoalNumber(number),
+            copy: Reply::GoalNumber(number),
+        }
+    }
+
+    /// That a goal can start.
+    pub fn planned() -> CopiedReply
+        ensures { result ≡ GoalState Planned }
+    {
+        CopiedReply {
+            reply: Reply::GoalState(State::Planned),
+            copy: Reply::GoalState(State::Planned),
+        }
+    }
+
+    /// That a goal came to nothing, and why.
+    pub fn failed(why: Refusal) -> CopiedReply
+        ensures { result ≡ GoalState (Failed why) }
+    {
+        CopiedReply {
+            reply: Reply::GoalState(State::Failed(why)),
+            copy: Reply::GoalState(State::Failed(why)),
+        }
+    }
+
+    /// Why nothing was done.
+    pub fn refused(why: Refusal) -> CopiedReply
+        ensures { result ≡ Refused why }
+    {
+        CopiedReply {
+            reply: Reply::Refused(why),
+            copy: Reply::Refused(why),
+        }
+    }
+
+    /// The reply alone.
+    pub fn into_reply(self) -> Reply
+        ensures { result ≡ self }
+    {
+        let CopiedReply { reply, copy: _ } = self;
+        reply
+    }
+
+    /// The reply, and its copy.
+    pub fn into_both(self) -> (Reply, Reply)
+        ensures reply { result.0 ≡ self }
+        ensures copy { result.1 ≡ self }
+    {
+        let CopiedReply { reply, copy } = self;
+        (reply, copy)
+    }
+}
