@@ -325,14 +325,37 @@ class Desk:
     def start(self, number):
         goal = self.goal(number)
         need(not goal.job and goal.state == "planned", "43 WrongState")
+        built = self.built_again(goal)
         try:
             self.copy(goal.records, goal.sources, goal.ranks)
-            running = [other.job for desk in self.view() if desk.reaches(self.name) for other in desk.led()
-                       if other.built_from() == goal.built_from()]
-            goal.job = min(running, default=(self.name, number))
+            if built:
+                goal.becomes(f"done {self.record(goal, *built)}")
+            else:
+                running = [other.job for desk in self.view() if desk.reaches(self.name) for other in desk.led()
+                           if other.built_from() == goal.built_from()]
+                goal.job = min(running, default=(self.name, number))
         except Refused:
             goal.becomes("failed 13")
         return self.status(number)
+
+    def built_again(self, goal):
+        """What was built already from the same for one whom he reaches, and is on that one's desk still, with labels
+        that the closure gives: the record of the least path, for the goal's own class, and its tree."""
+        labels = set(goal.labels().items())
+        found = {record: tree for desk in self.view() for other in desk.goals
+                 if other.state.startswith("done ") and other.built_from() == goal.built_from()
+                 for record, tree in desk.records.items()
+                 if record[:2] == (other.derivation.out, other.state.removeprefix("done ")) and labels.issuperset(record[2])}
+        if not found:
+            return None
+        record = min(found, key=lambda record: record[1])
+        return (goal.derivation.out, *record[1:]), found[record]
+
+    def record(self, goal, record, tree):
+        """Has the record of a goal, unless that is more than a user may have. Its path."""
+        if record not in self.records:
+            self.copy({record: tree}, {}, {goal.derivation.out: goal.derivation.rank})
+        return record[1]
 
     def led(self):
         return [goal for number, goal in enumerate(self.goals, 1) if goal.job == (self.name, number)]
@@ -354,10 +377,7 @@ class Desk:
         if not tree:
             return "failed 62"
         try:
-            record, tree = goal.record(tree)
-            if record not in self.records:
-                self.copy({record: tree}, {}, {goal.derivation.out: goal.derivation.rank})
-            return f"done {record[1]}"
+            return f"done {self.record(goal, *goal.record(tree))}"
         except Refused as why:
             return f"failed {why.number()}"
 

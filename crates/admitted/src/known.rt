@@ -1,6 +1,6 @@
 //! What a desk knows.
 
-ghost use Rattle.std.specs.Prelude.{◌≡◌, ◌≤◌, None, false, [], ◌∷◌, ◌++◌, MatchResult, option_copied, length};
+ghost use Rattle.std.specs.Prelude.{◌≡◌, ◌≤◌, None, false, [], ◌∷◌, ◌++◌, MatchResult, option_copied, length, take};
 ghost use Rattle.indexmap.specs.IndexSet.{spare};
 ghost use Rattle.admitted.specs.Entries.{AreNew};
 ghost use Rattle.model.specs.Classes.{known_at, is_one_of};
@@ -123,6 +123,13 @@ impl Known {
         self.sources.reserve(paths.len())?;
         put_reserved(&mut self.sources, paths);
         Ok(())
+    }
+
+    /// Keeps so many of the oldest sources, and takes the others away. It takes no memory.
+    pub fn truncate_sources(&mut self, count: usize)
+        ensures { self.new ≡ record self.old { sources = take count self.old.sources } }
+    {
+        self.sources.truncate(count);
     }
 
     /// What is known of the derivation of a path.

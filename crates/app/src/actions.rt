@@ -3,13 +3,13 @@
 ghost use Rattle.std.specs.Prelude.{◌≡◌, ℕ, List, Some, OnOk, IfOk, IfErr};
 ghost use Rattle.model.specs.Lines.{lines_of};
 ghost use Rattle.replaying.specs.Replaying.{Replayed, ReplayedInPart};
+ghost use Rattle.replaying.specs.Striking.{Struck};
 ghost use Rattle.running.specs.Runs.{AreOutputs};
-ghost use Rattle.app.specs.Actions.{IsReplay};
+ghost use Rattle.app.specs.Actions.{IsReplay, WhereStrikes};
 
-use crate::strike::strike;
 use command_line::{Action, Options};
 use model::Refusal;
-use replaying::replay;
+use replaying::{replay, strike};
 use running::{Output, Part, run};
 use schedule::{Limits, User};
 use session::Faults;
@@ -48,10 +48,14 @@ pub(crate) fn run_lines<H: Wait, R: Read + Faults, W: Write + Faults>(
         → Replayed options.now.charge (W.contents writer.old) (W.contents writer.new) (lines_of all)) }
     ensures in_part { IsReplay options.now.action → IfErr result (λ why. (all : List ℕ) → R.remaining reader.old ≡ Some all
         → ReplayedInPart options.now.charge (W.contents writer.old) (W.contents writer.new) (lines_of all) why) }
+    // Those that can reach the user are run by `strike`, for his name, timed or not, and under that charge.
+    ensures struck { WhereStrikes options.now.action (λ user timed. OnOk result ((all : List ℕ) → R.remaining reader.old ≡ Some all
+        → Struck options.now.charge user timed (W.contents writer.old) (W.contents writer.new) (lines_of all))) }
 {
     let limits = limits_of(options);
     match &options.action {
         Action::Strike { user, timed, .. } => strike(
+            wait,
             alloc,
             hashing,
             limits,

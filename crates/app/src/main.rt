@@ -6,7 +6,6 @@ mod fault;
 mod files;
 mod narrator;
 mod runs;
-mod strike;
 
 use crate::fault::{COMMAND_LINE_FAULT, Fault, OUT_OF_MEMORY, report};
 use command_line::{Action, Options, options};

@@ -5,7 +5,7 @@ ghost use Rattle.std.specs.Option.{option_copied};
 ghost use Rattle.jobs.specs.Owned.{goals_at};
 ghost use Rattle.model.specs.Goals.{goal_at};
 ghost use Rattle.model.specs.Worlds.{Goal as GoalValue};
-ghost use Rattle.model.specs.Endings.{label_of_entry, labels_from, output_record};
+ghost use Rattle.model.specs.Endings.{labels_from, output_record};
 ghost use Rattle.model.specs.Occurrences.{IsHashPart};
 ghost use Rattle.model.specs.Paths.{IsPath};
 ghost use Rattle.model.specs.References.{paths_of_labels};
@@ -22,39 +22,13 @@ use model::Refusal;
 use nar::{Nar, Tree};
 use outputs::{Input, record_of};
 use realise::Desk;
-use records::{Label, Record, labels_in_order};
+use records::{Label, Record};
 use rewrite::Named;
-use std::alloc::{AllocError, Global};
+use std::alloc::Global;
 use storepath::StorePath;
 
 /// What was built for a goal: its record and its tree, or why it has none.
 pub type Built = Result<(Record, Tree), Refusal>;
-
-/// The label of an entry's path.
-fn label_of(entry: &closures::Entry) -> Result<Label, AllocError>
-    ensures { IfOk result (λ label. label ≡ label_of_entry entry.now) }
-{
-    let path = entry.path().clone()?;
-    let class = match entry.class() {
-        Some(class) => Some(class.clone()?),
-        None => None,
-    };
-    Ok(Label::new(path, class))
-}
-
-/// What an output may refer to: the paths of the closure that it was built from. The one error is
-/// memory.
-fn labels_from(alloc: Global, resolved: &Resolved) -> Result<Vec<Label>, Refusal>
-    ensures labels { IfOk result (λ labels. labels.items ≡ labels_from resolved.now) }
-    ensures in_order { IfOk result (λ labels. AreInPathOrder labels.items) }
-    ensures memory { IfErr result (λ why. why ≡ Memory) }
-{
-    let mut labels = Vec::new(alloc);
-    for entry in resolved.closure() {
-        labels.push(label_of(entry)?)?;
-    }
-    labels_in_order(alloc, labels)
-}
 
 /// What came of an output that was settled: its path with its references, and its tree, or why it has
 /// none.
@@ -185,7 +159,7 @@ fn built_for(
     let Some(resolved) = goal.resolved() else {
         return Ok(Err(Refusal::BadOutput));
     };
-    let labels = labels_from(alloc, resolved)?;
+    let labels = resolved.labels(alloc)?;
     let built = built_under(alloc, admitted, resolved.scratch(), &labels, archive, last)?;
     Ok(built)
 }

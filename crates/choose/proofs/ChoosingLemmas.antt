@@ -19,7 +19,7 @@ use Rattle.closures.specs.Trees.{record_at}
 
 -- ---- the least
 
-least_from_append : {X : Type 0} (before : X → X → Bool) (best : Option X) (xs ys : List X)
+pub least_from_append : {X : Type 0} (before : X → X → Bool) (best : Option X) (xs ys : List X)
     → least_from before best (xs ++ ys) ≡ least_from before (least_from before best xs) ys
 unfolding least_from
 least_from_append before best [] ys = refl

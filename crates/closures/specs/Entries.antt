@@ -1,4 +1,5 @@
 -- Entries.
+use Rattle.std.specs.Prelude.{Bool, false}
 use Rattle.model.specs.Worlds as worlds
 use Rattle.closures.specs.declared.entry.Item.{Item}
 use Rattle.closures.specs.declared.entry.Item.TheVariants as item
@@ -7,3 +8,8 @@ use Rattle.closures.specs.declared.entry.Item.TheVariants as item
 abbrev pub entry_of : Item → worlds.Entry
 entry_of (item.Record r) = worlds.OfRecord r
 entry_of (item.Source s) = worlds.OfSource s
+
+-- whether an entry is that of a record: of one for the same class at the same path, with the same labels
+abbrev pub is_entry_of : worlds.Record → worlds.Entry → Bool
+is_entry_of r (worlds.OfSource s) = false
+is_entry_of r (worlds.OfRecord q) = worlds.same_record q r

@@ -5,6 +5,7 @@ ghost use Rattle.model.specs.declared.refusal.Refusal.TheVariants.{Memory};
 ghost use Rattle.model.specs.Worlds.{OfSource, OfRecord, path_of_entry};
 ghost use Rattle.model.specs.Closures.{class_of_entry, labels_of_entry, tree_of_entry};
 ghost use Rattle.records.specs.Entries.{entry_with};
+ghost use Rattle.closures.specs.Entries.{is_entry_of};
 
 use crate::realisation::{Realisation, Source};
 use admitted::Class;
@@ -105,6 +106,16 @@ impl Entry {
         }
     }
 
+    /// Whether it is that of a record: of one for the same class at the same path, with the same labels.
+    pub fn is_of(&self, realisation: &Realisation) -> bool
+        ensures { result ≡ is_entry_of realisation.now self.now }
+    {
+        match &self.item {
+            Item::Record(own) => own.record().same(realisation.record()),
+            Item::Source(_) => false,
+        }
+    }
+
     /// The entry without its tree, as it is put on a desk. The copy shares the labels. The one error
     /// is memory.
     pub fn without_tree(&self) -> Result<records::Entry, AllocError>
@@ -123,6 +134,20 @@ impl Entry {
         match &self.item {
             Item::Record(record) => record.tree(),
             Item::Source(source) => source.tree(),
+        }
+    }
+}
+
+/// The copy is equal, and shares the tree and the labels. It fails only where memory is refused.
+impl Clone for Entry {
+    ghost use Rattle.std.specs.Prelude.{◌≡◌};
+
+    ghost is_clone = { λ original copy. copy ≡ original };
+
+    fn clone(&self) -> Result<Entry, AllocError> {
+        match &self.item {
+            Item::Record(record) => Ok(Entry::of_record(record.clone()?)),
+            Item::Source(source) => Ok(Entry::of_source(source.clone()?)),
         }
     }
 }

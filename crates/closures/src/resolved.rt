@@ -1,11 +1,14 @@
 //! What derivations are built from.
 
-ghost use Rattle.std.specs.Prelude.{◌≡◌, MatchResult};
+ghost use Rattle.std.specs.Prelude.{◌≡◌, IfOk, IfErr, MatchResult};
+ghost use Rattle.model.specs.Endings.{label_of_entry, labels_from};
 ghost use Rattle.model.specs.declared.refusal.Refusal.TheVariants.{Memory};
+ghost use Rattle.records.specs.Recorded.{AreInPathOrder};
 
 use crate::entry::{Closure, Entry};
 use model::Refusal;
-use std::alloc::AllocError;
+use records::{Label, labels_in_order};
+use std::alloc::{AllocError, Global};
 use std::marker::Model;
 use std::sync::ArcSlice;
 use storepath::StorePath;
@@ -81,6 +84,36 @@ impl Resolved {
     {
         &self.scratch
     }
+
+    /// What an output that is built from it may refer to: the paths of its closure, in their order, for
+    /// each one label.
+    ///
+    /// # Errors
+    ///
+    /// - `Memory` only where memory was refused.
+    pub fn labels(&self, alloc: Global) -> Result<Vec<Label>, Refusal>
+        ensures labels { IfOk result (λ labels. labels.items ≡ labels_from self.now) }
+        ensures in_order { IfOk result (λ labels. AreInPathOrder labels.items) }
+        ensures memory { IfErr result (λ why. why ≡ Memory) }
+    {
+        let mut labels = Vec::new(alloc);
+        for entry in self.closure() {
+            labels.push(label_of(entry)?)?;
+        }
+        labels_in_order(alloc, labels)
+    }
+}
+
+/// The label of an entry's path.
+fn label_of(entry: &Entry) -> Result<Label, AllocError>
+    ensures { IfOk result (λ label. label ≡ label_of_entry entry.now) }
+{
+    let path = entry.path().clone()?;
+    let class = match entry.class() {
+        Some(class) => Some(class.clone()?),
+        None => None,
+    };
+    Ok(Label::new(path, class))
 }
 
 /// The copy is equal, and shares the closure and the texts. It fails only where memory is refused.

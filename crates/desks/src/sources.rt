@@ -15,24 +15,22 @@ ghost use Rattle.handling.specs.Handling.{IsHandledAtDesk, IsHandledByDesk};
 
 use crate::entries::add_entry;
 use events::{CopiedReply, Reply};
+use hashmod::nar_digest;
 use model::Refusal;
-use nar::{Tree, encode};
+use nar::Tree;
 use realise::{Desk, Limits};
 use records::Entry;
 use std::alloc::Global;
 use store::Table;
 use storepath::{Kind, Name, StorePath, make_path};
 
-/// The path of a source. The archive is let go before anything else is made.
+/// The path of a source. Its tree is hashed as it is, and its archive is never made.
 fn path_of_source(alloc: Global, name: &Name, tree: &Tree) -> Result<StorePath, Refusal>
     ensures value { IfOk result (λ p. p ≡ source_path tree.now name.now) }
     ensures tree { IfOk result (λ _. IsTree tree.now) }
     ensures memory { IfErr result (λ e. e ≡ Memory) }
 {
-    let archive = encode(alloc, tree)?;
-    let digest = hashmod::sha256(archive.bytes());
-    drop(archive);
-    make_path(alloc, &Kind::Source, &digest, name)
+    make_path(alloc, &Kind::Source, &nar_digest(tree), name)
 }
 
 /// Adds a tree to a desk as a source of a name. The reply is its path; one that is there already

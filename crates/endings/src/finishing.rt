@@ -1,7 +1,7 @@
 //! The end of a job with an output: what all users hear of it is made beside everything, and then put in
 //! place.
 
-ghost use Rattle.std.specs.Prelude.{◌≡◌, ◌<◌, ◌≤◌, ◌⊎◌, ◌++◌, ℕ, All, IfOk, IfErr, OnOk, OnErr, None, true, is_some, length, map, get_or};
+ghost use Rattle.std.specs.Prelude.{◌≡◌, ◌<◌, ◌≤◌, ◌⊎◌, ◌++◌, ℕ, All, IfOk, IfErr, OnOk, OnErr, true, is_some, length, map};
 ghost use Rattle.std.specs.Option.{option_copied};
 ghost use Rattle.model.specs.declared.refusal.Refusal.TheVariants.{Memory};
 ghost use Rattle.model.specs.ArchiveReading.{tree_of_archive};
@@ -18,13 +18,13 @@ ghost use Rattle.handling.specs.Sound.{IsSound, AreGoalsSound};
 ghost use Rattle.handling.specs.Supported.{AreSupported};
 ghost use Rattle.handling.specs.Parts.{goals_of, parts};
 ghost use Rattle.handling.specs.Viewing.{desk_at};
-ghost use Rattle.building.specs.Gaining.{last_state, state_at, with_states, IsSettable};
-ghost use Rattle.endings.specs.Committing.{states_for, MayReplaceAll, grown_to};
+ghost use Rattle.building.specs.Gaining.{last_state, state_at, with_gains, with_states, IsSettable};
+ghost use Rattle.endings.specs.Committing.{gains_at, states_for, AreToAdd, MayGain};
 ghost use Rattle.endings.specs.Hearing.{AreAllBuiltOn, IsNotMade};
 ghost use Rattle.endings.specs.Finishing.{IsPrepared};
 ghost use Rattle.handling.specs.Handling.{IsHandledByAll};
 
-use crate::committing::{gained_by_all, grown, replace_all, set_all};
+use crate::committing::{additions_of, gained_by_all, set_all};
 use crate::hearing::heard_by_all;
 use building::Gains;
 use events::{CopiedReply, Reply};
@@ -32,7 +32,7 @@ use jobs::{Job, Jobs, State};
 use leading::leads;
 use model::Refusal;
 use nar::{Nar, Tree, decode, encode};
-use realise::{Desk, Grown, Limits};
+use realise::{Addition, Desk, Limits, add_to_each};
 use std::alloc::{AllocError, Global};
 use store::Table;
 use storepath::StorePath;
@@ -70,7 +70,7 @@ fn state_then(state: &State, number: u16, states: &[(u16, State)]) -> Result<Sta
 #[derive(Drop)]
 pub(crate) struct Ending {
     heard: Vec<(Gains, Vec<(u16, State)>)>,
-    grown: Vec<Option<Grown>>,
+    additions: Vec<Addition>,
     trees: Vec<(StorePath, Tree)>,
     told: State,
 }
@@ -111,12 +111,12 @@ fn prepare(
         alloc, trust, table, desks, limits, jobs, place, job, archive,
     )?;
     let trees = table.missing(alloc, gained_by_all(alloc, &heard)?)?;
-    let grown = grown(alloc, desks, &heard)?;
+    let additions = additions_of(alloc, &heard)?;
     let goal = jobs.get(place, number).unwrap();
     let told = state_then(goal.state(), number, heard[place].1.as_slice())?;
     Ok(Ending {
         heard,
-        grown,
+        additions,
         trees,
         told,
     })
@@ -166,15 +166,19 @@ fn prepare_led(
 }
 
 /// Puts what the end of a job changes in its place. The reply is how far the goal of its leader is then.
-/// All that needs memory comes before the first change; the one error is memory.
+/// The one error is memory, and changes nothing: room is made in the table first, then the desks get
+/// what they gain, all or none, and what comes after takes no memory.
 fn put_in_place(
+    alloc: Global,
     jobs: &mut Jobs,
     table: &mut Table,
     desks: &mut [Desk],
     ending: Ending,
 ) -> Result<CopiedReply, Refusal>
-    requires each { length ending.grown.items ≡ length desks.old }
-    requires may { MayReplaceAll desks.old ending.grown.items }
+    requires each { length ending.heard.items ≡ length desks.old }
+    requires additions { AreToAdd ending.heard.items ending.additions.items }
+    requires may { (place : ℕ) → place < length desks.old
+        → MayGain (desk_at desks.old place) (gains_at ending.heard.items place) }
     requires count { length ending.heard.items ≡ length jobs.old.goals }
     requires settable { (place : ℕ) → place < length jobs.old.goals
         → All (IsSettable (goals_of jobs.old.goals place)) (states_for ending.heard.items place) }
@@ -182,8 +186,8 @@ fn put_in_place(
     ensures told { IfOk result (λ reply. reply ≡ GoalState ending.told) }
     ensures table { OnOk result
         (table.new.sources ≡ table.old.sources ++ sources_of ending.trees.items) }
-    ensures grown { OnOk result ((place : ℕ) → place < length desks.old → desk_at desks.new place
-        ≡ grown_to (get_or ending.grown.items place None) (desk_at desks.old place)) }
+    ensures gained { OnOk result ((place : ℕ) → place < length desks.old → desk_at desks.new place
+        ≡ with_gains (gains_at ending.heard.items place) (desk_at desks.old place)) }
     ensures states { OnOk result ((place : ℕ) → place < length jobs.old.goals
         → goals_of jobs.new.goals place
         ≡ with_states (states_for ending.heard.items place) (goals_of jobs.old.goals place)) }
@@ -197,7 +201,7 @@ fn put_in_place(
 {
     table.reserve(ending.trees.len())?;
     let reply = CopiedReply::new(Reply::GoalState(ending.told))?;
-    replace_all(desks, ending.grown);
+    add_to_each(alloc, desks, ending.additions)?;
     set_all(jobs, ending.heard);
     table.put_all_reserved(ending.trees);
     Ok(reply)
@@ -246,6 +250,6 @@ pub fn finish(
     let ending = prepare_led(
         alloc, users, trust, table, desks, limits, jobs, place, number, output,
     )?;
-    let reply = put_in_place(jobs, table, desks, ending)?;
+    let reply = put_in_place(alloc, jobs, table, desks, ending)?;
     Ok(reply)
 }

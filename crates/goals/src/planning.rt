@@ -137,7 +137,7 @@ fn keep(
     let trees = trees_of(alloc, resolved.closure())?;
     let trees = table.missing(alloc, trees)?;
     table.reserve(trees.len())?;
-    jobs.keep(place, number, resolved);
+    jobs.keep(alloc, place, number, resolved)?;
     table.put_all_reserved(trees);
     Ok(())
 }

@@ -1,5 +1,5 @@
 -- The numbers of goals that pass a test, when one goal changes.
-use Rattle.std.proofs.Common.{◌≡◌, ℕ, zero, suc, ◌+◌, ◌-◌, ◌<◌, Bool, true, false, inl, inr, List, [], ◌∷◌, ◌++◌, length, refl, sym, ◌∙◌, ap, arith, Option, Some, None, sub-one}
+use Rattle.std.proofs.Common.{◌≡◌, ℕ, zero, suc, ◌+◌, ◌-◌, ◌<◌, ◌≤◌, Bool, true, false, inl, inr, List, [], ◌∷◌, ◌++◌, length, refl, sym, ◌∙◌, ap, arith, Option, Some, None, sub-one}
 use Rattle.std.specs.Prelude.{slice_get, slice_set, slice_index_or, is_some, nat_lt, ◌==◌}
 use Rattle.std.proofs.lemmas.Bool.Decides.{nat_tests}
 use Rattle.std.proofs.lemmas.Option.{get_or_from_slice_get}
@@ -7,7 +7,7 @@ use Rattle.model.proofs.BoolLemmas.{either}
 use Rattle.model.specs.Worlds.{Job, Goal}
 use Rattle.model.specs.Goals.{goal_at, with_goal_at, members, is_in}
 use Rattle.jobs.specs.Owned.{Owned, with_goals}
-use Rattle.jobs.specs.Numbers.{numbers, with_number, without_number, entered, left, is_of}
+use Rattle.jobs.specs.Numbers.{numbers, with_number, without_number, entered, left, moved, is_of}
 
 pub same_number : (k : ℕ) → (k == k) ≡ true
 same_number k = grind (arith, nat_tests)
@@ -148,8 +148,90 @@ pub not_there : (t : ℕ → Goal → Bool) (n : ℕ) (gs : List Goal) (g : Goal
     → without_number n (numbers t 1 gs) ≡ numbers t 1 gs
 not_there t n gs g at fail = set_left t n gs g g true at fail (λ _. fail) ∙ sym (set_left t n gs g g false at fail (λ _. fail))
 
+-- one that passes as it did before
+pub set_kept : (t : ℕ → Goal → Bool) (n : ℕ) (gs : List Goal) (g y : Goal) → goal_at n gs ≡ Some g → t n y ≡ t n g
+    → numbers t 1 gs ≡ numbers t 1 (slice_set gs (n - 1) y)
+set_kept t zero gs g y at same = cc
+set_kept t (suc i) gs g y at same = rw sub-one (numbers_kept t y 1 (suc i) i gs g at same (omega arith))
+
+-- one that passed before, or did not, and passes now, or does not
+pub set_moved : (t : ℕ → Goal → Bool) (n : ℕ) (gs : List Goal) (g y : Goal) (was is : Bool) → goal_at n gs ≡ Some g → t n g ≡ was → t n y ≡ is
+    → moved was is n (numbers t 1 gs) ≡ numbers t 1 (slice_set gs (n - 1) y)
+set_moved t n gs g y true true at before now = set_kept t n gs g y at (now ∙ sym before)
+set_moved t n gs g y true false at before now = set_left t n gs g y true at now (λ f. (let no = sym f in cc))
+set_moved t n gs g y false true at before now = set_entered t n gs g y true at now before
+set_moved t n gs g y false false at before now = set_kept t n gs g y at (now ∙ sym before)
+
 pub pushed : (t : ℕ → Goal → Bool) (gs : List Goal) (y : Goal) → ((n : ℕ) → t n y ≡ false) → numbers t 1 gs ≡ numbers t 1 (gs ++ y ∷ [])
 pushed t gs y fail = sym (numbers_push t 1 gs y fail)
+
+-- ---- how many they are
+
+with_one : (m : ℕ) (ns : List ℕ) → length (with_number m ns) ≡ suc (length ns)
+unfolding with_number
+with_one m [] = refl
+with_one m (n ∷ ns) = elim (either (nat_lt m n)) [
+  | inl t ↦ rw t refl
+  | inr f ↦ rw f (ap suc (with_one m ns))
+]
+
+without_one : (m : ℕ) (ns : List ℕ) → length (without_number m ns) ≤ length ns
+unfolding without_number
+without_one m [] = omega arith
+without_one m (n ∷ ns) = elim (either (n == m)) [
+  | inl t ↦ rw t (omega arith)
+  | inr f ↦ let rest = without_one m ns in rw f (omega (arith, rest))
+]
+
+-- a number that is moved is at most one more
+pub moved_in : (was : Bool) (n : ℕ) (ns : List ℕ) → length (moved was true n ns) ≤ length ns + 1
+moved_in true n ns = omega arith
+moved_in false n ns = let more = with_one n ns in omega (arith, more)
+
+pub moved_out : (was : Bool) (n : ℕ) (ns : List ℕ) → length (moved was false n ns) ≤ length ns
+moved_out true n ns = without_one n ns
+moved_out false n ns = omega arith
+
+-- of two tests the second is passed wherever the first is: no fewer pass it, and more where a goal passes the second alone
+module _ (t u : ℕ → Goal → Bool) (implies : (n : ℕ) (g : Goal) → t n g ≡ true → u n g ≡ true) where
+  no_fewer : (k : ℕ) (gs : List Goal) → length (numbers t k gs) ≤ length (numbers u k gs)
+  unfolding numbers
+  no_fewer k [] = omega arith
+  no_fewer k (g ∷ gs) =
+      let rest : length (numbers t (suc k) gs) ≤ length (numbers u (suc k) gs) = no_fewer (suc k) gs in
+      elim (either (t k g)) [
+        | inl pass ↦ rw (pass, implies k g pass) (omega (arith, rest))
+        | inr f ↦ elim (either (u k g)) [
+          | inl more ↦ rw (f, more) (omega (arith, rest))
+          | inr none ↦ rw (f, none) rest
+        ]
+      ]
+
+  more_from : (k m i : ℕ) (gs : List Goal) (g : Goal) → slice_get gs i ≡ Some g → t m g ≡ false → u m g ≡ true → m ≡ k + i
+      → length (numbers t k gs) < length (numbers u k gs)
+  unfolding numbers
+  more_from k m i [] g at fail pass e = cc
+  more_from k m zero (x ∷ gs) g at fail pass e =
+      let is : m ≡ k = omega arith in
+      let same : x ≡ g = cc in
+      let first : t k g ≡ false = rw is at fail in
+      let second : u k g ≡ true = rw is at pass in
+      let rest : length (numbers t (suc k) gs) ≤ length (numbers u (suc k) gs) = no_fewer (suc k) gs in
+      rw (same, first, second) (omega (arith, rest))
+  more_from k m (suc i) (x ∷ gs) g at fail pass e =
+      let rest : length (numbers t (suc k) gs) < length (numbers u (suc k) gs) = more_from (suc k) m i gs g at fail pass (omega arith) in
+      elim (either (t k x)) [
+        | inl both ↦ rw (both, implies k x both) (omega (arith, rest))
+        | inr f ↦ elim (either (u k x)) [
+          | inl more ↦ rw (f, more) (omega (arith, rest))
+          | inr none ↦ rw (f, none) rest
+        ]
+      ]
+
+  pub more : (n : ℕ) (gs : List Goal) (g : Goal) → goal_at n gs ≡ Some g → t n g ≡ false → u n g ≡ true
+      → length (numbers t 1 gs) < length (numbers u 1 gs)
+  more zero gs g at fail pass = cc
+  more (suc i) gs g at fail pass = more_from 1 (suc i) i gs g at fail pass (omega arith)
 
 -- ---- the goal that is read and written
 
@@ -167,6 +249,16 @@ found n gs x e h = let there = some_at (goal_at n gs) h in there.1 ∙ ap (λ y.
 written : (n : ℕ) (gs : List Goal) (y : Goal) (g : Goal) → goal_at n gs ≡ Some g → slice_set gs (n - 1) y ≡ with_goal_at n y gs
 written zero gs y g at = cc
 written (suc n) gs y g at = rw sub-one refl
+
+-- a goal that is written back as it was
+pub written_back : (n : ℕ) (gs : List Goal) (g : Goal) → goal_at n gs ≡ Some g → slice_set gs (n - 1) g ≡ gs
+written_back zero gs g at = cc
+written_back (suc n) gs g at = rw sub-one (set_back gs n g at)
+  where
+    set_back : (gs : List Goal) (k : ℕ) (x : Goal) → slice_get gs k ≡ Some x → slice_set gs k x ≡ gs
+    set_back [] k x there = refl
+    set_back (y ∷ ys) zero x there = (let same : y ≡ x = cc in ap (λ z. z ∷ ys) (sym same))
+    set_back (y ∷ ys) (suc k) x there = ap (λ rest. y ∷ rest) (set_back ys k x there)
 
 -- one goal of a user is written
 pub changed : (o : Owned) (owner : List ℕ) (gs : List Goal) (n : ℕ) (x y : Goal) (f : Goal → Goal) → record { owner = owner; goals = gs } ≡ o

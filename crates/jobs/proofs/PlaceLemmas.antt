@@ -1,12 +1,16 @@
 -- Numbers put into a list and taken out of it at their places.
-use Rattle.std.proofs.Common.{◌≡◌, ℕ, suc, ◌+◌, ◌<◌, ◌≤◌, Bool, inl, inr, List, [], ◌∷◌, ◌++◌, length, refl, sym, ◌∙◌, ap, arith, Some, None}
-use Rattle.std.specs.Prelude.{position, nat_lt, ◌==◌}
+use Rattle.std.proofs.Common.{◌≡◌, ℕ, suc, ◌+◌, ◌<◌, ◌≤◌, Bool, inl, inr, List, [], ◌∷◌, ◌++◌, length, refl, sym, ◌∙◌, ap, arith, Some, None, Result}
+use Rattle.std.specs.Prelude.{position, nat_lt, ◌==◌, IsOk, is_ok, if◌then◌else◌}
 use Rattle.std.specs.List.{position_or_len, insert, remove}
 use Rattle.std.proofs.lemmas.List.Quantifiers.{position-Some}
 use Rattle.std.proofs.lemmas.List.Sums.{position_or_len_is}
 use Rattle.std.proofs.lemmas.Bool.Decides.{nat_tests}
 use Rattle.model.proofs.BoolLemmas.{either}
 use Rattle.jobs.specs.Numbers.{with_number, without_number}
+
+-- what is put in, is put in
+pub when_ok : {A E X : Type 0} (r : Result A E) (x y : X) → IsOk r → (if is_ok r then x else y) ≡ x
+when_ok r x y h = rw h refl
 
 place_is : (p : ℕ → Bool) (ns : List ℕ) (i : ℕ) → position p ns ≡ Some i → position_or_len p ns ≡ i
 place_is p ns i e =

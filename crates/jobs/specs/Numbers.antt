@@ -1,9 +1,10 @@
 -- Goals by their numbers, and ascending lists of numbers by keys.
-use Rattle.std.specs.Prelude.{◌≡◌, ℕ, suc, ◌==◌, nat_lt, Bool, false, ◌&&◌, if◌then◌else◌, List, [], ◌∷◌, bytes_eq, Option, None, Some}
+use Rattle.std.specs.Prelude.{◌≡◌, ◌<◌, ◌≤◌, ℕ, suc, ◌==◌, nat_lt, Bool, true, false, ◌&&◌, if◌then◌else◌, List, [], ◌∷◌, length, vec_capacity, bytes_eq, Option, None, Some}
 use Rattle.std.specs.Map.{lookup}
 use Rattle.std.specs.Global.{Vec}
 use Rattle.model.specs.Worlds.{Resolved, Job, State, Building, Goal}
 use Rattle.model.specs.Goals.{is_in, same_job}
+use Rattle.jobs.specs.States.{is_done}
 
 -- ---- ascending lists
 
@@ -36,6 +37,18 @@ ChangesAt {K} eq key change old new =
 abbrev pub HasSameNumbers : {K : Type 0} → (K → K → Bool) → List (K × Vec ℕ) → List (K × Vec ℕ) → Type 0
 HasSameNumbers {K} eq old new = (k : K) → numbers_at (eq k) new ≡ numbers_at (eq k) old
 
+-- how many numbers a list can hold without more memory, if there is one
+abbrev pub room_of : Option (Vec ℕ) → ℕ
+room_of None = 0
+room_of (Some ns) = vec_capacity ns
+
+abbrev pub room_at : {K : Type 0} → (K → Bool) → List (K × Vec ℕ) → ℕ
+room_at test entries = room_of (lookup test entries)
+
+-- no list can hold fewer
+abbrev pub KeepsRoom : {K : Type 0} → (K → K → Bool) → List (K × Vec ℕ) → List (K × Vec ℕ) → Type 0
+KeepsRoom {K} eq old new = (k : K) → room_at (eq k) old ≤ room_at (eq k) new
+
 -- ---- goals by their numbers
 
 -- the numbers of those goals that pass a test with their numbers, where the first of them has number n
@@ -59,12 +72,32 @@ own_job owner n = record { leader = owner; number = n }
 abbrev pub leads_at : List ℕ → List ℕ → ℕ → Goal → Bool
 leads_at owner path n g = is_in (own_job owner n) g.state && has_scratch path g.resolved
 
--- by each job its members are found, and by each path those goals that lead their own job under it
-pub record IsIndexed (owner : List ℕ) (goals : List Goal) (members : List (Job × Vec ℕ)) (leading : List (List ℕ × Vec ℕ)) : Type 0 where
-  pub of_jobs : (job : Job) → numbers_at (same_job job) members ≡ numbers (is_of job) 1 goals
-  pub of_paths : (path : List ℕ) → numbers_at (bytes_eq path) leading ≡ numbers (leads_at owner path) 1 goals
+-- whether a goal was planned, and is built under a path
+abbrev pub is_built_under : List ℕ → ℕ → Goal → Bool
+is_built_under path n g = has_scratch path g.resolved
 
--- ---- what an index has once a goal enters a job or leaves it
+-- whether a goal is done, and was built under a path
+abbrev pub is_done_under : List ℕ → ℕ → Goal → Bool
+is_done_under path n g = is_done g.state && has_scratch path g.resolved
+
+-- by each key are found the numbers of just those goals that pass its test
+abbrev pub Finds : {K : Type 0} → (K → K → Bool) → (K → ℕ → Goal → Bool) → List Goal → List (K × Vec ℕ) → Type 0
+Finds {K} eq test goals lists = (k : K) → numbers_at (eq k) lists ≡ numbers (test k) 1 goals
+
+-- at each path there is room for all goals that are built under it to be done
+abbrev pub HasRoom : List (List ℕ × Vec ℕ) → List (List ℕ × Vec ℕ) → Type 0
+HasRoom built done = (path : List ℕ) → length (numbers_at (bytes_eq path) built) ≤ room_at (bytes_eq path) done
+
+-- by each job its members are found, and by each path those goals that lead their own job under it, those that are built under it, and of
+-- these those that are done
+pub record IsIndexed (owner : List ℕ) (goals : List Goal) (members : List (Job × Vec ℕ)) (leading built done : List (List ℕ × Vec ℕ)) : Type 0 where
+  pub of_jobs : Finds same_job is_of goals members
+  pub of_leading : Finds bytes_eq (leads_at owner) goals leading
+  pub of_built : Finds bytes_eq is_built_under goals built
+  pub of_done : Finds bytes_eq is_done_under goals done
+  pub room : HasRoom built done
+
+-- ---- what an index has once a goal enters a job, leaves it, is planned, or is done
 
 abbrev pub entered : Bool → ℕ → List ℕ → List ℕ
 entered enters n ns = if enters then with_number n ns else ns
@@ -88,6 +121,29 @@ LeavesJob state n old new = (k : Job) → numbers_at (same_job k) new ≡ left (
 abbrev pub LeavesPath : Bool → Option Resolved → ℕ → List (List ℕ × Vec ℕ) → List (List ℕ × Vec ℕ) → Type 0
 LeavesPath builds from n old new =
     (path : List ℕ) → numbers_at (bytes_eq path) new ≡ left (builds && has_scratch path from) n (numbers_at (bytes_eq path) old)
+
+-- where a goal was listed and is to be, its number stays; else it is taken out, or put in
+abbrev pub moved : (was is : Bool) → ℕ → List ℕ → List ℕ
+moved true true n ns = ns
+moved true false n ns = without_number n ns
+moved false true n ns = with_number n ns
+moved false false n ns = ns
+
+-- a goal that was built from the one is built from the other: its number is moved to the path under which it is built now
+abbrev pub MovesPath : Option Resolved → Option Resolved → ℕ → List (List ℕ × Vec ℕ) → List (List ℕ × Vec ℕ) → Type 0
+MovesPath from to n old new =
+    (path : List ℕ) → numbers_at (bytes_eq path) new ≡ moved (has_scratch path from) (has_scratch path to) n (numbers_at (bytes_eq path) old)
+
+-- a goal is done from now on, or is not: its number is put in for the path under which it is built, or taken out
+abbrev pub IsSettled : Goal → Bool → ℕ → List (List ℕ × Vec ℕ) → List (List ℕ × Vec ℕ) → Type 0
+IsSettled g done n old new =
+    (path : List ℕ)
+    → numbers_at (bytes_eq path) new ≡ moved (is_done_under path n g) (done && has_scratch path g.resolved) n (numbers_at (bytes_eq path) old)
+
+-- a goal that is not done has room among those that are, under its path
+abbrev pub HasRoomFor : Goal → List (List ℕ × Vec ℕ) → Type 0
+HasRoomFor g done =
+    is_done g.state ≡ false → (r : Resolved) → g.resolved ≡ Some r → length (numbers_at (bytes_eq r.scratch) done) < room_at (bytes_eq r.scratch) done
 
 -- a number is not listed for a job
 abbrev pub IsUnlisted : Job → ℕ → List (Job × Vec ℕ) → Type 0

@@ -1,5 +1,5 @@
 -- How far goals are.
-use Rattle.std.specs.Prelude.{◌≡◌, Bool, false, Option, None, Some, is_some}
+use Rattle.std.specs.Prelude.{◌≡◌, Bool, true, false, Option, None, Some, is_some}
 use Rattle.model.specs.Worlds as model
 
 -- the job in which a goal is built
@@ -12,6 +12,13 @@ job_in (model.Failed why) = None
 
 abbrev pub is_building : model.State → Bool
 is_building state = is_some (job_in state)
+
+abbrev pub is_done : model.State → Bool
+is_done model.Waiting = false
+is_done model.Planned = false
+is_done (model.Building job) = false
+is_done (model.Done path) = true
+is_done (model.Failed why) = false
 
 -- a goal that is planned, and built from that
 abbrev pub planned_with : model.Resolved → model.Goal → model.Goal

@@ -3,12 +3,21 @@
 ghost use Rattle.std.specs.Prelude.{◌≡◌, None, Some, option_copied};
 ghost use Rattle.model.specs.Goals.{in_state, new_goal};
 ghost use Rattle.states.specs.States.{state_of};
-ghost use Rattle.jobs.specs.States.{job_in, planned_with};
+ghost use Rattle.jobs.specs.States.{job_in, is_done, planned_with};
+ghost use Rattle.jobs.specs.Joining.{same_as};
 
+use crate::same::same_resolved;
 use closures::Resolved;
 use states::{Job, State};
 use std::marker::Model;
 use storepath::StorePath;
+
+/// Whether something was built.
+pub(crate) fn is_done(state: &State) -> bool
+    ensures { result ≡ is_done (state_of state.now) }
+{
+    matches!(state, State::Done(_))
+}
 
 /// One request to build.
 pub struct Goal {
@@ -67,6 +76,16 @@ impl Goal {
         self.resolved.as_ref()
     }
 
+    /// Whether it is built from that: one text, under one path, from one closure.
+    pub fn is_built_from(&self, resolved: &Resolved) -> bool
+        ensures { result ≡ same_as resolved.now self.now.resolved }
+    {
+        match &self.resolved {
+            Some(own) => same_resolved(own, resolved),
+            None => false,
+        }
+    }
+
     /// How far it is.
     pub fn state(&self) -> &State
         ensures { state_of result.now ≡ self.now.state }
@@ -82,6 +101,13 @@ impl Goal {
             State::Building(job) => Some(job),
             _ => None,
         }
+    }
+
+    /// Whether something was built for it.
+    pub(crate) fn is_done(&self) -> bool
+        ensures { result ≡ is_done self.now.state }
+    {
+        is_done(&self.state)
     }
 
     /// It gets another state. What it is built from is left.

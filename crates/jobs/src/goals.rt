@@ -7,13 +7,12 @@ ghost use Rattle.model.specs.Worlds.{Building};
 ghost use Rattle.model.specs.Goals.{goal_at, in_state, new_goal, members, led_by};
 ghost use Rattle.jobs.specs.Joining.{job_with, least_with, lesser_of};
 ghost use Rattle.jobs.specs.Owned.{with_goals, ChangesOwn};
-ghost use Rattle.jobs.specs.Numbers.{numbers, leads_at};
+ghost use Rattle.jobs.specs.Numbers.{numbers, leads_at, is_done_under};
 ghost use Rattle.states.specs.States.{state_of};
 ghost use Rattle.jobs.specs.States.{is_building, planned_with, IsIdle};
 
-use crate::goal::Goal;
+use crate::goal::{Goal, is_done};
 use crate::indexes::Indexes;
-use crate::same::same_resolved;
 use closures::Resolved;
 use model::Refusal;
 use states::{Job, State};
@@ -57,7 +56,8 @@ impl Model for Goals {
     ghost view = { λ g. record { owner = g.owner; goals = g.goals.items } };
 
     ghost invariant = { λ g. (length g.goals.items ≤ most_goals)
-        × IsIndexed g.owner g.goals.items g.indexes.of_jobs.entries g.indexes.of_paths.entries };
+        × IsIndexed g.owner g.goals.items g.indexes.of_jobs.entries g.indexes.leading.entries
+        g.indexes.built.entries g.indexes.done.entries };
 }
 
 /// The best so far, or another job, if there is one, that goes before it.
@@ -119,17 +119,29 @@ impl Goals {
     }
 
     /// A goal is planned, and from now on built from that. Where it was built in a job, it leaves
-    /// it.
-    pub(crate) fn keep(&mut self, number: u16, resolved: Resolved)
+    /// it. The one error is memory, and changes nothing.
+    pub(crate) fn keep(
+        &mut self,
+        alloc: Global,
+        number: u16,
+        resolved: Resolved,
+    ) -> Result<(), Refusal>
         requires { is_some (goal_at number self.old.goals) ≡ true }
-        ensures { ChangesOwn number (planned_with resolved) self.old self.new }
+        ensures planned { OnOk result
+            (ChangesOwn number (planned_with resolved) self.old self.new) }
+        ensures kept { OnErr result (self.new ≡ self.old) }
+        ensures memory { IfErr result (λ e. e ≡ Memory) }
     {
         let goal = &mut self.goals[number as usize - 1];
+        self.indexes.plan(alloc, number, goal, &resolved)?;
         self.indexes.leave(number, goal);
+        self.indexes.settle(number, goal, false);
         goal.keep(resolved);
+        Ok(())
     }
 
-    /// A goal gets a state that is not `Building`. Where it was built in a job it leaves it.
+    /// A goal gets a state that is not `Building`. Where it was built in a job it leaves it. It takes
+    /// no memory.
     pub(crate) fn set_state(&mut self, number: u16, state: State)
         requires there { is_some (goal_at number self.old.goals) ≡ true }
         requires state { is_building (state_of state) ≡ false }
@@ -137,6 +149,7 @@ impl Goals {
     {
         let goal = &mut self.goals[number as usize - 1];
         self.indexes.leave(number, goal);
+        self.indexes.settle(number, goal, is_done(&state));
         goal.set_state(state);
     }
 
@@ -150,6 +163,7 @@ impl Goals {
     {
         let goal = &mut self.goals[number as usize - 1];
         self.indexes.enter(alloc, &self.owner, number, goal, &job)?;
+        self.indexes.settle(number, goal, false);
         goal.set_state(State::Building(job));
         Ok(())
     }
@@ -161,12 +175,20 @@ impl Goals {
         self.indexes.of_job(job)
     }
 
+    /// The numbers of the goals that are done and were built under a path, ascending. They are found
+    /// at once.
+    pub(crate) fn done_under(&self, path: &StorePath) -> &[u16]
+        ensures { result.now ≡ numbers (is_done_under path.now) 1 self.now.goals }
+    {
+        self.indexes.done_under(path)
+    }
+
     /// The numbers of the goals that lead their own job, which is built under a path, ascending.
     /// They are found at once.
     pub(crate) fn leading(&self, path: &StorePath) -> &[u16]
         ensures { result.now ≡ numbers (leads_at self.now.owner path.now) 1 self.now.goals }
     {
-        self.indexes.of_path(path)
+        self.indexes.leading_under(path)
     }
 
     // The job of a goal that is built from the same.
@@ -174,7 +196,7 @@ impl Goals {
         ensures { option_copied result ≡ job_with resolved.now (goal_at number self.now.goals) }
     {
         let goal = self.get(number)?;
-        if same_resolved(goal.resolved()?, resolved) {
+        if goal.is_built_from(resolved) {
             goal.job()
         } else {
             None

@@ -1,14 +1,15 @@
 //! The indexes by which a user's goals are found.
 
-ghost use Rattle.std.specs.Prelude.{◌≡◌, [], MatchResult};
+ghost use Rattle.std.specs.Prelude.{◌≡◌, true, [], Some, MatchResult};
 ghost use Rattle.std.specs.Str.{bytes_eq};
 ghost use Rattle.model.specs.Goals.{same_job};
 ghost use Rattle.model.specs.declared.refusal.Refusal.TheVariants.{Memory};
-ghost use Rattle.jobs.specs.Numbers.{numbers_at, own_job, HasSameNumbers, EntersJob, EntersPath, LeavesJob, LeavesPath, IsUnlisted};
+ghost use Rattle.jobs.specs.Numbers.{numbers_at, with_number, own_job, ChangesAt, HasSameNumbers, KeepsRoom, HasRoom, HasRoomFor, EntersJob, EntersPath, LeavesJob, LeavesPath, MovesPath, IsSettled, IsUnlisted};
 ghost use Rattle.jobs.specs.States.{is_building};
 
 use crate::goal::Goal;
-use crate::index::{insert_at, numbers_at, remove_at};
+use crate::index::{insert_at, insert_reserved_at, numbers_at, remove_at, reserve_at};
+use closures::Resolved;
 use indexmap::IndexMap;
 use model::Refusal;
 use states::Job;
@@ -17,18 +18,26 @@ use std::hash::RandomState;
 use storepath::StorePath;
 use trust::User;
 
-/// The numbers of a user's goals: by the jobs in which they are built, and, of those that lead
-/// their own job, by the paths under which it is built. A list may be empty.
+/// The numbers of a user's goals: by the jobs in which they are built, and by the paths under which
+/// they are built those that lead their own job, those that were planned, and those that are done.
+/// A list may be empty.
+///
+/// A goal becomes done where no memory may be taken. So the lists of those that are done have room
+/// for all that were planned.
 pub(crate) struct Indexes {
     of_jobs: IndexMap<Job, Vec<u16>, RandomState>,
-    of_paths: IndexMap<StorePath, Vec<u16>, RandomState>,
+    leading: IndexMap<StorePath, Vec<u16>, RandomState>,
+    built: IndexMap<StorePath, Vec<u16>, RandomState>,
+    done: IndexMap<StorePath, Vec<u16>, RandomState>,
 }
 
 impl Drop for Indexes {
     fn drop(self) {
         let Indexes {
             of_jobs: _,
-            of_paths: _,
+            leading: _,
+            built: _,
+            done: _,
         } = self;
     }
 }
@@ -37,11 +46,15 @@ impl Indexes {
     /// Of no goals.
     pub(crate) fn new(alloc: Global, hashing: RandomState) -> Indexes
         ensures of_jobs { result.of_jobs.entries ≡ [] }
-        ensures of_paths { result.of_paths.entries ≡ [] }
+        ensures leading { result.leading.entries ≡ [] }
+        ensures built { result.built.entries ≡ [] }
+        ensures done { result.done.entries ≡ [] }
     {
         Indexes {
             of_jobs: IndexMap::with_hasher(alloc, hashing),
-            of_paths: IndexMap::with_hasher(alloc, hashing),
+            leading: IndexMap::with_hasher(alloc, hashing),
+            built: IndexMap::with_hasher(alloc, hashing),
+            done: IndexMap::with_hasher(alloc, hashing),
         }
     }
 
@@ -53,14 +66,21 @@ impl Indexes {
     }
 
     /// The numbers of those that lead their own job, which is built under a path.
-    pub(crate) fn of_path(&self, path: &StorePath) -> &[u16]
-        ensures { result.now ≡ numbers_at (bytes_eq path.now) self.now.of_paths.entries }
+    pub(crate) fn leading_under(&self, path: &StorePath) -> &[u16]
+        ensures { result.now ≡ numbers_at (bytes_eq path.now) self.now.leading.entries }
     {
-        numbers_at(&self.of_paths, path)
+        numbers_at(&self.leading, path)
+    }
+
+    /// The numbers of those that are done and were built under a path.
+    pub(crate) fn done_under(&self, path: &StorePath) -> &[u16]
+        ensures { result.now ≡ numbers_at (bytes_eq path.now) self.now.done.entries }
+    {
+        numbers_at(&self.done, path)
     }
 
     // Puts a goal that enters its own job among those that lead theirs. The one error is memory,
-    // and changes nothing.
+    // and changes no list.
     fn lead(
         &mut self,
         alloc: Global,
@@ -70,16 +90,18 @@ impl Indexes {
         job: &Job,
     ) -> Result<(), Refusal>
         ensures jobs { self.new.of_jobs ≡ self.old.of_jobs }
-        ensures paths { MatchResult result
+        ensures leading { MatchResult result
             (λ _. EntersPath (same_job job.now (own_job owner.now number)) goal.now.resolved number
-            self.old.of_paths.entries self.new.of_paths.entries)
+            self.old.leading.entries self.new.leading.entries)
             (λ e. (e ≡ Memory)
-            × HasSameNumbers bytes_eq self.old.of_paths.entries self.new.of_paths.entries) }
+            × HasSameNumbers bytes_eq self.old.leading.entries self.new.leading.entries) }
+        ensures built { self.new.built ≡ self.old.built }
+        ensures done { self.new.done ≡ self.old.done }
     {
         if job.is_led_by(owner, number) {
             if let Some(resolved) = goal.resolved() {
                 let path = resolved.scratch().clone()?;
-                insert_at(alloc, &mut self.of_paths, path, number)?;
+                insert_at(alloc, &mut self.leading, path, number)?;
             }
         }
         Ok(())
@@ -99,10 +121,12 @@ impl Indexes {
             (λ _. EntersJob job.now number self.old.of_jobs.entries self.new.of_jobs.entries)
             (λ e. (e ≡ Memory)
             × HasSameNumbers same_job self.old.of_jobs.entries self.new.of_jobs.entries) }
-        ensures paths { MatchResult result
+        ensures leading { MatchResult result
             (λ _. EntersPath (same_job job.now (own_job owner.now number)) goal.now.resolved number
-            self.old.of_paths.entries self.new.of_paths.entries)
-            (λ e. HasSameNumbers bytes_eq self.old.of_paths.entries self.new.of_paths.entries) }
+            self.old.leading.entries self.new.leading.entries)
+            (λ e. HasSameNumbers bytes_eq self.old.leading.entries self.new.leading.entries) }
+        ensures built { self.new.built ≡ self.old.built }
+        ensures done { self.new.done ≡ self.old.done }
     {
         insert_at(alloc, &mut self.of_jobs, job.clone()?, number)?;
         if let Err(why) = self.lead(alloc, owner, number, goal, job) {
@@ -116,15 +140,106 @@ impl Indexes {
     pub(crate) fn leave(&mut self, number: u16, goal: &Goal)
         ensures jobs { LeavesJob goal.now.state number
             self.old.of_jobs.entries self.new.of_jobs.entries }
-        ensures paths { LeavesPath (is_building goal.now.state) goal.now.resolved number
-            self.old.of_paths.entries self.new.of_paths.entries }
+        ensures leading { LeavesPath (is_building goal.now.state) goal.now.resolved number
+            self.old.leading.entries self.new.leading.entries }
+        ensures built { self.new.built ≡ self.old.built }
+        ensures done { self.new.done ≡ self.old.done }
     {
         let Some(job) = goal.job() else {
             return;
         };
         remove_at(&mut self.of_jobs, job, number);
         if let Some(resolved) = goal.resolved() {
-            remove_at(&mut self.of_paths, resolved.scratch(), number);
+            remove_at(&mut self.leading, resolved.scratch(), number);
+        }
+    }
+
+    // Lists a number at a path. The one error is memory, and changes no list.
+    fn list(&mut self, alloc: Global, number: u16, path: &StorePath) -> Result<(), Refusal>
+        ensures jobs { self.new.of_jobs ≡ self.old.of_jobs }
+        ensures leading { self.new.leading ≡ self.old.leading }
+        ensures built { MatchResult result
+            (λ _. ChangesAt bytes_eq path.now (with_number number)
+            self.old.built.entries self.new.built.entries)
+            (λ e. (e ≡ Memory)
+            × HasSameNumbers bytes_eq self.old.built.entries self.new.built.entries) }
+        ensures done { self.new.done ≡ self.old.done }
+    {
+        insert_at(alloc, &mut self.built, path.clone()?, number)
+    }
+
+    // Lists a goal where it is built from now on, and no more where it was built. The one error is
+    // memory, and changes no list.
+    fn relist(
+        &mut self,
+        alloc: Global,
+        number: u16,
+        goal: &Goal,
+        resolved: &Resolved,
+    ) -> Result<(), Refusal>
+        ensures jobs { self.new.of_jobs ≡ self.old.of_jobs }
+        ensures leading { self.new.leading ≡ self.old.leading }
+        ensures built { MatchResult result
+            (λ _. MovesPath goal.now.resolved (Some resolved.now) number
+            self.old.built.entries self.new.built.entries)
+            (λ e. (e ≡ Memory)
+            × HasSameNumbers bytes_eq self.old.built.entries self.new.built.entries) }
+        ensures done { self.new.done ≡ self.old.done }
+    {
+        let Some(had) = goal.resolved() else {
+            return self.list(alloc, number, resolved.scratch());
+        };
+        if had.scratch() == resolved.scratch() {
+            return Ok(());
+        }
+        self.list(alloc, number, resolved.scratch())?;
+        remove_at(&mut self.built, had.scratch(), number);
+        Ok(())
+    }
+
+    /// Has a goal be built from that, and no more from what it was built from, with room for it to
+    /// be done. The one error is memory, and changes no list.
+    pub(crate) fn plan(
+        &mut self,
+        alloc: Global,
+        number: u16,
+        goal: &Goal,
+        resolved: &Resolved,
+    ) -> Result<(), Refusal>
+        requires { HasRoom self.old.built.entries self.old.done.entries }
+        ensures jobs { self.new.of_jobs ≡ self.old.of_jobs }
+        ensures leading { self.new.leading ≡ self.old.leading }
+        ensures built { MatchResult result
+            (λ _. MovesPath goal.now.resolved (Some resolved.now) number
+            self.old.built.entries self.new.built.entries)
+            (λ e. (e ≡ Memory)
+            × HasSameNumbers bytes_eq self.old.built.entries self.new.built.entries) }
+        ensures done { HasSameNumbers bytes_eq self.old.done.entries self.new.done.entries }
+        ensures room { HasRoom self.new.built.entries self.new.done.entries }
+    {
+        let scratch = resolved.scratch();
+        let count = numbers_at(&self.built, scratch).len() + 1;
+        reserve_at(alloc, &mut self.done, scratch.clone()?, count)?;
+        self.relist(alloc, number, goal, resolved)
+    }
+
+    /// Has a goal be done from now on, or not. It takes no memory.
+    pub(crate) fn settle(&mut self, number: u16, goal: &Goal, is_done: bool)
+        requires { is_done ≡ true → HasRoomFor goal.now self.old.done.entries }
+        ensures jobs { self.new.of_jobs ≡ self.old.of_jobs }
+        ensures leading { self.new.leading ≡ self.old.leading }
+        ensures built { self.new.built ≡ self.old.built }
+        ensures done { IsSettled goal.now is_done number
+            self.old.done.entries self.new.done.entries }
+        ensures room { KeepsRoom bytes_eq self.old.done.entries self.new.done.entries }
+    {
+        let Some(resolved) = goal.resolved() else {
+            return;
+        };
+        match (goal.is_done(), is_done) {
+            (false, true) => insert_reserved_at(&mut self.done, resolved.scratch(), number),
+            (true, false) => remove_at(&mut self.done, resolved.scratch(), number),
+            _ => {}
         }
     }
 }

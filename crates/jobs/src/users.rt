@@ -11,6 +11,7 @@ ghost use Rattle.jobs.specs.Owned.{goals_at, with_goals_at, goal_of, ChangesGoal
 ghost use Rattle.states.specs.States.{state_of};
 ghost use Rattle.jobs.specs.States.{is_building, planned_with, IsIdle};
 ghost use Rattle.jobs.specs.Joining.{running_at, least_with};
+ghost use Rattle.jobs.specs.Numbers.{numbers, is_done_under};
 
 use crate::goal::Goal;
 use crate::goals::Goals;
@@ -106,13 +107,26 @@ impl Jobs {
     }
 
     /// A goal is planned, and from now on built from that. Where it was built in a job, it leaves
-    /// it. It takes no memory.
-    pub fn keep(&mut self, place: usize, number: u16, resolved: Resolved)
+    /// it.
+    ///
+    /// # Errors
+    ///
+    /// - `Memory` only where memory was refused. Nothing has changed then.
+    pub fn keep(
+        &mut self,
+        alloc: Global,
+        place: usize,
+        number: u16,
+        resolved: Resolved,
+    ) -> Result<(), Refusal>
         requires of_run { place < length self.old.goals }
         requires there { is_some (goal_of place number self.old) ≡ true }
-        ensures { ChangesGoal place number (planned_with resolved) self.old self.new }
+        ensures planned { OnOk result
+            (ChangesGoal place number (planned_with resolved) self.old self.new) }
+        ensures kept { OnErr result (self.new ≡ self.old) }
+        ensures memory { IfErr result (λ e. e ≡ Memory) }
     {
-        self.all[place].keep(number, resolved);
+        self.all[place].keep(alloc, number, resolved)
     }
 
     /// A goal gets a state that is not `Building`; what it is built from is left. Where it was
@@ -155,6 +169,15 @@ impl Jobs {
         ensures { result.now ≡ members job.now 1 (goals_at place self.now) }
     {
         self.all[place].members(job)
+    }
+
+    /// The numbers of the goals of a user that are done and were built under a path, ascending. They
+    /// are found at once.
+    pub fn done_under(&self, place: usize, path: &StorePath) -> &[u16]
+        requires { place < length self.now.goals }
+        ensures { result.now ≡ numbers (is_done_under path.now) 1 (goals_at place self.now) }
+    {
+        self.all[place].done_under(path)
     }
 
     /// Of the jobs that the users at the places of a set lead, the least in which the same is built,

@@ -55,7 +55,7 @@ outcome_own setup s (Status n) = status_cases IsOwn s n (λ g there. refl) (λ a
 outcome_own setup s (Plan n) =
     plan_cases IsOwn s n
     (record { resolved = λ g r. refl; failed = λ g why. refl; unrealised = refl; unknown = refl; untimely = refl; absent = λ absent. refl })
-outcome_own setup s (Start n) = start_cases IsOwn setup s n (record { entered = λ g r. refl; over = λ g. refl; untimely = refl; absent = λ absent. refl })
+outcome_own setup s (Start n) = start_cases IsOwn setup s n (record { entered = λ g r. refl; had = λ g r q. refl; added = λ g r q. refl; full = λ g r. refl; over = λ g. refl; untimely = refl; absent = λ absent. refl })
 outcome_own setup s (Finish n bytes) = end_own setup s n (Output bytes)
 outcome_own setup s (Fail n status) = end_own setup s n Failure
 

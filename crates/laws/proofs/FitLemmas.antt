@@ -5,7 +5,7 @@ use Rattle.std.proofs.lemmas.Bool.{cond_both, and_from}
 use Rattle.std.proofs.lemmas.List.Elements.{All-head, All-tail, All-push, All-filter}
 use Rattle.model.specs.declared.refusal.Refusal.TheVariants.{Quota}
 use Rattle.model.specs.Orders.{lesser, least_from, least}
-use Rattle.model.specs.Worlds.{Setup, is_user, Resolved, Job, Building, Failed, Goal, Desk, Entry, with_trust, with_entries}
+use Rattle.model.specs.Worlds.{Setup, is_user, Resolved, Job, Building, Done, Failed, Goal, Desk, Entry, with_record, with_trust, with_entries}
 use Rattle.model.specs.Goals.{with_goal, new_goal, in_state, Running, running_before, same_resolved, job_or, job_of}
 use Rattle.model.specs.Endings.{End, Output, Failure}
 use Rattle.model.specs.Events.{Request, AddSource, AddDerivation, Offer, Fetch, Trust, Distrust, Pin, Unpin, Closure, Take, Build, Status, Plan, Start, Finish, Fail}
@@ -174,6 +174,15 @@ outcome_fits setup s (Start n) sound =
           let more = entries_added r.closure s.desk in
           fits_turned setup s _ (with_entries r.closure s.desk) n (in_state (Building job) g) more.trusted more.goals
           (λ set reached. reached job.leader (job_reached s n r sound));
+      had = λ g r q.
+          let more = entries_added r.closure s.desk in
+          fits_turned setup s _ (with_entries r.closure s.desk) n (in_state (Done q.path) g) more.trusted more.goals (λ set reached. refl);
+      added = λ g r q.
+          let more = entries_added r.closure s.desk in
+          fits_turned setup s _ (with_record q (with_entries r.closure s.desk)) n (in_state (Done q.path) g) more.trusted more.goals (λ set reached. refl);
+      full = λ g r.
+          let more = entries_added r.closure s.desk in
+          fits_turned setup s _ (with_entries r.closure s.desk) n (in_state (Failed Quota) g) more.trusted more.goals (λ set reached. refl);
       over = λ g. fits_turned setup s _ s.desk n (in_state (Failed Quota) g) refl refl (λ set reached. refl);
       untimely = tt;
       absent = λ absent. tt;

@@ -1,23 +1,25 @@
 -- A request does the same where goals wait whose leaders its user does not reach.
 use Rattle.std.proofs.Common.{◌≡◌, ℕ, suc, Bool, true, false, inl, inr, refl, sym, ◌∙◌, ap, List, [], ◌∷◌, length, map, Option, Some, None, Result, Ok, Err}
-use Rattle.std.specs.Prelude.{if◌then◌else◌, is_some, nat_lt, bytes_eq, option_map}
+use Rattle.std.specs.Prelude.{if◌then◌else◌, is_some, nat_lt, bytes_eq, option_map, filter, flat_map}
 use Rattle.std.proofs.lemmas.List.{length-map, map-append}
 use Rattle.std.proofs.lemmas.List.Folds.{flat_map-map}
 use Rattle.model.specs.declared.refusal.Refusal.{Refusal}
 use Rattle.model.specs.declared.refusal.Refusal.TheVariants.{UnknownUser, Quota, TooLarge, BadDerivation, UnknownDerivation, UnknownGoal, WrongState, NotRealised, NotHeld}
-use Rattle.model.specs.Archives.{Tree}
+use Rattle.model.specs.Archives.{Tree, bytes_before}
 use Rattle.model.specs.Limits.{most_goals}
 use Rattle.model.specs.Derivations.{Derivation}
 use Rattle.model.specs.DerivationTexts.{derivation_of_text}
 use Rattle.model.specs.Classes.{Admission, Known, known_at, derivation_path, admit}
 use Rattle.model.specs.Results.{then_do, unless_rewrite_refused}
-use Rattle.model.specs.Worlds.{Setup, Pin, Entry, OfSource, OfRecord, Resolved, Job, State, Waiting, Planned, Building, Done, Failed, Goal, Desk, known_of, held_at, with_entry, with_entries, with_derivation, with_trust, without_trust, pin_of, with_pin, is_within}
+use Rattle.model.specs.Worlds.{Setup, Pin, Entry, OfSource, OfRecord, Resolved, Job, State, Waiting, Planned, Building, Done, Failed, Goal, Desk, known_of, held_at, with_entry, with_entries, with_derivation, with_trust, without_trust, pin_of, with_pin, is_within, Record, has_record, with_record}
 use Rattle.model.specs.References.{candidates}
 use Rattle.model.specs.Outputs.{record_for}
 use Rattle.model.specs.Choices.{visible_records, visible_sources, choose_among, plan_by}
 use Rattle.model.specs.Closures as closures
 use Rattle.model.specs.Closures.{path_for, served_plan}
 use Rattle.model.specs.Resolutions.{input_classes, resolved_over, resolve}
+use Rattle.model.specs.FinishedBuilds.{built_in, built_on, is_labelled_by, finished_build, for_class}
+use Rattle.model.specs.Orders.{least}
 use Rattle.model.specs.Goals.{goal_at, with_goal, with_new_goal, new_goal, in_state, as_seen, is_waiting, planned_in, same_job, job_of}
 use Rattle.model.specs.Endings.{End, Output, Failure}
 use Rattle.model.specs.Events as events
@@ -27,7 +29,7 @@ use Rattle.model.specs.SourceRequests.{source_named}
 use Rattle.model.specs.DerivationRequests.{admit_new}
 use Rattle.model.specs.OfferRequests.{output_settled, offer}
 use Rattle.model.specs.ClosureRequests.{closure_for, take_entries}
-use Rattle.model.specs.GoalRequests.{turns, plan_resolved, resolve_for, plan, own_job, start_goal, start}
+use Rattle.model.specs.GoalRequests.{turns, plan_resolved, resolve_for, plan, own_job, done_again, start_copied, start_goal, start}
 use Rattle.model.specs.EndRequests.{told_of, end_job}
 use Rattle.model.specs.Steps.{outcome}
 use Rattle.model.specs.Timed.{state_in, goal_in, desk_in}
@@ -98,6 +100,25 @@ module _ (jobs : Job → Bool) where
       of None = refl
       of (Some x) = h x
 
+  -- what was built for goals that are done
+  built_same : (r : Resolved) (d : Desk) (g : Goal) (s : State) → built_in r (desk_in jobs d) (goal_in jobs g) (state_in jobs s) ≡ built_in r d g s
+  built_same r d g Waiting = refl
+  built_same r d g Planned = refl
+  built_same r d g (Building job) = elim (either (jobs job)) [ inl is ↦ rw is refl | inr f ↦ rw f refl ]
+  built_same r d g (Done path) = refl
+  built_same r d g (Failed why) = refl
+
+  built_on_same : (r : Resolved) (d : Desk) → built_on r (desk_in jobs d) ≡ built_on r d
+  built_on_same r d =
+      flat_map-map (λ g. built_in r (desk_in jobs d) g g.state) (goal_in jobs) d.goals
+      ∙ (λ i. flat_map (λ g. (built_same r d g g.state) i) d.goals)
+
+  finished_in : (view : List Desk) (r : Resolved) → finished_build (map (desk_in jobs) view) r ≡ finished_build view r
+  finished_in view r =
+      let built : flat_map (built_on r) (map (desk_in jobs) view) ≡ flat_map (built_on r) view =
+      flat_map-map (built_on r) (desk_in jobs) view ∙ (λ i. flat_map (λ d. (built_on_same r d) i) view) in
+      ap (λ rs. least (λ p q. bytes_before p.path q.path) (filter (is_labelled_by r) rs)) built
+
   planned_same : (s : State) (r : Option Resolved) → planned_in (state_in jobs s) r ≡ planned_in s r
   planned_same Waiting r = refl
   planned_same Planned r = refl
@@ -148,18 +169,44 @@ module _ (jobs : Job → Bool) where
         ap (plan_resolved t n (goal_in jobs g)) (resolve_in s.view s.desk.pins (known_of s.desk) a.derivation)
         ∙ plan_resolved_in n g (resolve_for s a.derivation))))
 
+    again_in : (d e : Desk) (n : ℕ) (g : Goal) (r : Record) → d ≡ desk_in jobs e → done_again setup t d n (goal_in jobs g) r ≡ outcome_in jobs (done_again setup s e n g r)
+    again_in d e n g r is =
+        let done : Goal = in_state (Done r.path) g in
+        let failed : Goal = in_state (Failed Quota) g in
+        let more : with_record r d ≡ desk_in jobs (with_record r e) = ap (with_record r) is in
+        either_in (has_record r d) (has_record r e) (turns t d n done)
+        (if is_within setup (with_record r d) then turns t (with_record r d) n done else turns t d n failed)
+        (turns s e n done) (if is_within setup (with_record r e) then turns s (with_record r e) n done else turns s e n failed)
+        (ap (has_record r) is) (turned_in d e n done is refl)
+        (either_in (is_within setup (with_record r d)) (is_within setup (with_record r e)) (turns t (with_record r d) n done) (turns t d n failed)
+        (turns s (with_record r e) n done) (turns s e n failed)
+        (ap (is_within setup) more ∙ within_in jobs setup (with_record r e))
+        (turned_in (with_record r d) (with_record r e) n done more refl) (turned_in d e n failed is refl))
+
+    joins_in : (d e : Desk) (n : ℕ) (g : Goal) (r : Resolved) → d ≡ desk_in jobs e
+        → turns t d n (in_state (Building (job_of s.running (own_job s n) r)) g) ≡ outcome_in jobs (turns s e n (in_state (Building (job_of s.running (own_job s n) r)) g))
+    joins_in d e n g r is =
+        let job : Job = job_of s.running (own_job s n) r in
+        let inside : jobs job ≡ true = covers job (job_reached s n r sound) in
+        turned_in d e n (in_state (Building job) g) is (rw inside refl)
+
+    copied_in : (d e : Desk) (n : ℕ) (g : Goal) (r : Resolved) (known : Option Admission) (built : Option Record) → d ≡ desk_in jobs e
+        → start_copied setup t d n (goal_in jobs g) r known built ≡ outcome_in jobs (start_copied setup s e n g r known built)
+    copied_in d e n g r (Some a) (Some q) is = again_in d e n g (for_class a.class q) is
+    copied_in d e n g r (Some a) None is = joins_in d e n g r is
+    copied_in d e n g r None built is = joins_in d e n g r is
+
     start_goal_in : (n : ℕ) (g : Goal) (r : Resolved) → start_goal setup t n (goal_in jobs g) r ≡ outcome_in jobs (start_goal setup s n g r)
     start_goal_in n g r =
         let now : Desk = with_entries r.closure t.desk in
         let old : Desk = with_entries r.closure s.desk in
         let copied : now ≡ desk_in jobs old = entries_in jobs r.closure s.desk in
-        let job : Job = job_of s.running (own_job s n) r in
-        let inside : jobs job ≡ true = covers job (job_reached s n r sound) in
+        let known : Option Admission = known_at (known_of s.desk) g.derivation in
         either_in (is_within setup now) (is_within setup old)
-        (turns t now n (in_state (Building job) g)) (turns t t.desk n (in_state (Failed Quota) g))
-        (turns s old n (in_state (Building job) g)) (turns s s.desk n (in_state (Failed Quota) g))
+        (start_copied setup t now n (goal_in jobs g) r known (finished_build t.view r)) (turns t t.desk n (in_state (Failed Quota) g))
+        (start_copied setup s old n g r known (finished_build s.view r)) (turns s s.desk n (in_state (Failed Quota) g))
         (ap (is_within setup) copied ∙ within_in jobs setup old)
-        (turned_in now old n (in_state (Building job) g) copied (rw inside refl))
+        (ap (start_copied setup t now n (goal_in jobs g) r known) (finished_in s.view r) ∙ copied_in now old n g r known (finished_build s.view r) copied)
         (turned_in t.desk s.desk n (in_state (Failed Quota) g) refl refl)
 
     start_in : (n : ℕ) → start setup t n ≡ outcome_in jobs (start setup s n)

@@ -17,7 +17,8 @@ use Rattle.model.specs.Closures as closures
 use Rattle.model.specs.Resolutions.{input_classes, resolved_over, resolve}
 use Rattle.model.specs.Events.{Request, AddSource, AddDerivation, Offer, Fetch, Trust, Distrust, Pin, Unpin, Closure, Take, Build, Status, Plan, Start, Finish, Fail, Event, Reply, GoalState}
 use Rattle.model.specs.Outcomes.{reaches, Sight, sight_of, News, Quiet, Ended, Change, Outcome, becomes, check, need, reply_of, heard, desk_after}
-use Rattle.model.specs.GoalRequests.{own_job, turns, plan_resolved, resolve_for, plan_goal, start_goal}
+use Rattle.model.specs.FinishedBuilds.{finished_build, for_class}
+use Rattle.model.specs.GoalRequests.{own_job, turns, plan_resolved, resolve_for, plan_goal, done_again, start_copied, start_goal}
 use Rattle.model.specs.GoalRequests as requests
 use Rattle.model.specs.EndRequests.{end_job}
 use Rattle.model.specs.Steps.{outcome, outcome_of, reply_to, after, world_after}
@@ -208,6 +209,37 @@ kept_in (Building job) kept r e = absurd (cc)
 kept_in (Done path) kept r e = absurd (cc)
 kept_in (Failed why) kept r e = absurd (cc)
 
+-- a goal that is done with what was built already, or for which there is no room
+again_fits : (setup : Setup) (s : Sight) (n : ℕ) (g : Goal) (q : Record) (d : Desk) → goal_at n d.goals ≡ Some g → d.goals ≡ s.desk.goals
+    → GoalsFollow s (done_again setup s d n g q)
+again_fits setup s n g q d there same =
+    let P : Outcome → Type 0 = GoalsFollow s in
+    let done : Goal = in_state (Done q.path) g in
+    let failed : Goal = in_state (Failed Quota) g in
+    let follows : (x : Goal) → Follows d.goals (with_goal_at n x d.goals) → Follows s.desk.goals (with_goal_at n x d.goals) =
+    λ x own. subst (λ goals. Follows goals (with_goal_at n x d.goals)) same own in
+    let is_done : Follows s.desk.goals (with_goal_at n done d.goals) = follows done (follows_state n (Done q.path) g d.goals there refl) in
+    let is_failed : Follows s.desk.goals (with_goal_at n failed d.goals) = follows failed (follows_state n (Failed Quota) g d.goals there refl) in
+    one_of P (has_record q d) (turns s d n done)
+    (if is_within setup (with_record q d) then turns s (with_record q d) n done else turns s d n failed)
+    (λ had. is_done)
+    (λ new. one_of P (is_within setup (with_record q d)) (turns s (with_record q d) n done) (turns s d n failed) (λ fits. is_done) (λ full. is_failed))
+
+-- a goal whose closure is copied
+copied_fits : (setup : Setup) (s : Sight) (n : ℕ) (g : Goal) (r : Resolved) (known : Option Admission) (built : Option Record) (d : Desk)
+    → goal_at n d.goals ≡ Some g → d.goals ≡ s.desk.goals → is_some g.resolved ≡ true → GoalsFollow s (start_copied setup s d n g r known built)
+copied_fits setup s n g r known built d there same keeps = of known built
+  where
+    entered : GoalsFollow s (turns s d n (in_state (Building (job_of s.running (own_job s n) r)) g))
+    entered =
+        let x : Goal = in_state (Building (job_of s.running (own_job s n) r)) g in
+        subst (λ goals. Follows goals (with_goal_at n x d.goals)) same (follows_put n x g d.goals there refl (λ planned. keeps))
+
+    of : (known : Option Admission) (built : Option Record) → GoalsFollow s (start_copied setup s d n g r known built)
+    of (Some a) (Some q) = again_fits setup s n g (for_class a.class q) d there same
+    of (Some a) None = entered
+    of None built = entered
+
 start_fits : (setup : Setup) (s : Sight) (n : ℕ) → GoalsFollow s (requests.start setup s n)
 start_fits setup s n =
     let P : Outcome → Type 0 = GoalsFollow s in
@@ -216,10 +248,10 @@ start_fits setup s n =
     (λ r is.
     let copied : Desk = with_entries r.closure s.desk in
     let same : copied.goals ≡ s.desk.goals = (entries_added r.closure s.desk).goals in
-    let built : Goal = in_state (Building (job_of s.running (own_job s n) r)) g in
-    let keeps : is_some g.resolved ≡ true = ap is_some (kept_in g.state g.resolved r is) in
-    one_of P (is_within setup copied) (turns s copied n built) (turns s s.desk n (in_state (Failed Quota) g))
-    (λ within. subst (λ goals. Follows s.desk.goals (with_goal_at n built goals)) (sym same) (follows_put n built g s.desk.goals there refl (λ planned. keeps)))
+    let known : Option Admission = known_at (known_of s.desk) g.derivation in
+    let built : Option Record = finished_build s.view r in
+    one_of P (is_within setup copied) (start_copied setup s copied n g r known built) (turns s s.desk n (in_state (Failed Quota) g))
+    (λ within. copied_fits setup s n g r known built copied (ap (goal_at n) same ∙ there) same (ap is_some (kept_in g.state g.resolved r is)))
     (λ outside. follows_state n (Failed Quota) g s.desk.goals there refl))
     (λ none. tt)) (λ absent. tt)
 

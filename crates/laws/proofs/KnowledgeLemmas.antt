@@ -7,7 +7,7 @@ use Rattle.model.specs.declared.refusal.Refusal.TheVariants.{UnknownUser, Quota}
 use Rattle.model.specs.Derivations.{Derivation}
 use Rattle.model.specs.DerivationTexts.{derivation_of_text}
 use Rattle.model.specs.Classes.{Admission, known_at, derivation_path, admit}
-use Rattle.model.specs.Worlds.{Source, Record, Building, Failed, Goal, Desk, World, nothing, Setup, is_user, with_source, known_of, with_derivation, with_record, with_trust, without_trust, with_pin, without_pin, Entry, with_entries}
+use Rattle.model.specs.Worlds.{Source, Record, Building, Done, Failed, Goal, Desk, World, nothing, Setup, is_user, with_source, known_of, with_derivation, with_record, with_trust, without_trust, with_pin, without_pin, Entry, with_entries}
 use Rattle.model.specs.Goals.{with_goal, with_new_goal, in_state, job_of}
 use Rattle.model.specs.Endings.{End, Output, Failure}
 use Rattle.model.specs.Events.{Request, AddSource, AddDerivation, Offer, Fetch, Trust, Distrust, Pin, Unpin, Closure, Take, Build, Status, Plan, Start, Finish, Fail, Event}
@@ -122,6 +122,12 @@ outcome_fits setup s (Start n) =
       entered = λ g r.
           inl (keeps_turned s.desk (with_entries r.closure s.desk) n (in_state (Building (job_of s.running (own_job s n) r)) g)
           (keeps_entries s.desk r.closure));
+      had = λ g r q. inl (keeps_turned s.desk (with_entries r.closure s.desk) n (in_state (Done q.path) g) (keeps_entries s.desk r.closure));
+      added = λ g r q.
+          let more = keeps_entries s.desk r.closure in
+          inl (keeps_turned s.desk (with_record q (with_entries r.closure s.desk)) n (in_state (Done q.path) g)
+          (record { derivations = more.derivations; added = more.added; sources = more.sources }));
+      full = λ g r. inl (keeps_turned s.desk (with_entries r.closure s.desk) n (in_state (Failed Quota) g) (keeps_entries s.desk r.closure));
       over = λ g. inl (keeps_turned s.desk s.desk n (in_state (Failed Quota) g) (keeps_itself s.desk));
       untimely = tt;
       absent = λ absent. tt;

@@ -69,6 +69,9 @@ module _ (setup : Setup) (s : Sight) (y : List ℕ) where
       (record { resolved = λ g r. refl; failed = λ g why. refl; unrealised = refl; unknown = refl; untimely = refl; absent = λ absent. refl })
   requested (Start n) = start_cases Stays setup s n (record {
     entered = λ g r. copied r.closure;
+    had = λ g r q. copied r.closure;
+    added = λ g r q. copied r.closure;
+    full = λ g r. copied r.closure;
     over = λ g. refl;
     untimely = refl;
     absent = λ absent. refl;

@@ -33,6 +33,7 @@ pub mod OfferRequests
 pub mod TrustRequests
 pub mod PinRequests
 pub mod ClosureRequests
+pub mod FinishedBuilds
 pub mod GoalRequests
 pub mod EndRequests
 pub mod Steps

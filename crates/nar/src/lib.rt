@@ -9,24 +9,36 @@
 //! |---|---|
 //! | [`Tree::file`], [`Tree::link`], [`Tree::dir`] | a tree of its parts |
 //! | [`encode`], [`decode`] | the archive of a tree, and the tree of an archive |
+//! | [`write_nar`], [`hand_archive`] | the archive of a tree, written to a writer or handed to a [`Sink`], and never made |
+//! | [`write_whole`] | a text, written to a writer that counts its failures ([`Faults`]) |
 //! | [`tree_text`], [`read_tree_text`] | the tree text of a tree, and the tree of a tree text |
 //! | [`str_text`], [`read_str`] | one string of an archive, and the content of the string in front |
 #![tactic(auto)]
 
 mod archive_reader;
 mod archive_writer;
+mod faults;
 mod law;
 mod measures;
 mod node;
+mod sink;
 mod strings;
+mod text;
 mod text_reader;
 mod text_writer;
+mod to_writer;
 mod tree;
+mod walk;
+mod writing;
 
 pub use archive_reader::decode;
-pub use archive_writer::{Nar, encode};
+pub use archive_writer::{Nar, encode, write_nar};
+pub use faults::{Faults, has_failed};
 pub use law::{archives_are_read, archives_differ, strings_are_read, texts_differ};
+pub use sink::Sink;
 pub use strings::{read_str, str_text};
 pub use text_reader::read_tree_text;
 pub use text_writer::tree_text;
 pub use tree::Tree;
+pub use walk::hand_archive;
+pub use writing::write_whole;

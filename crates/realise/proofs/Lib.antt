@@ -1,3 +1,4 @@
+pub mod AdditionLemmas
 pub mod PinLemmas
 pub mod DeskLemmas
 pub mod ChargingLemmas

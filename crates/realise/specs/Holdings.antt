@@ -8,7 +8,6 @@ use Rattle.records.specs.Recorded.{Recorded, same_recorded}
 use Rattle.records.specs.Entries.{entry_path}
 use Rattle.records.specs.declared.entry.Entry.{Entry}
 use Rattle.records.specs.declared.entry.Entry.TheVariants as entry
-use Rattle.realise.specs.Held.{paths_held, charged_beside, IsSetOf}
 
 -- ---- desks
 
@@ -130,20 +129,6 @@ pub record AreParts (entries : List (Entry × ℕ)) (paths : List (List ℕ)) (r
 pub record AreAbsent (entries : List Entry) (d : Holdings) : Type 0 where
   pub absent : All (λ e. is_on e d ≡ false) entries
   pub distinct : are_distinct (sources_in entries) ≡ true
-
--- ---- more records, beside a desk
-
--- records, the paths that are held with them, and the charge in bytes
-pub record Growth : Type 0 where
-  pub records : List Recorded
-  pub paths : List (List ℕ)
-  pub charge : ℕ
-
--- these are a desk's with records and archives more
-pub record IsGrown (d : Holdings) (added : List Recorded) (archives : List (List ℕ × ℕ)) (growth : Growth) : Type 0 where
-  pub records : growth.records ≡ d.records ++ added
-  pub paths : IsSetOf growth.paths (paths_of d ++ paths_held archives)
-  pub charge : growth.charge ≡ d.charge + charged_beside archives (paths_of d)
 
 -- ---- closed desks
 

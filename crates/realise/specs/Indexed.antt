@@ -1,5 +1,5 @@
 -- The table by which a desk finds the records of a class.
-use Rattle.std.specs.Prelude.{◌≡◌, ℕ, List, [], ◌∷◌, ◌++◌, filter, map, bytes_eq, Option, Some, None, if◌then◌else◌}
+use Rattle.std.specs.Prelude.{◌≡◌, ℕ, ◌-◌, List, [], ◌∷◌, ◌++◌, length, take, filter, map, bytes_eq, Option, Some, None, if◌then◌else◌}
 use Rattle.std.specs.Map.{lookup}
 use Rattle.std.specs.Global.{Vec}
 use Rattle.model.specs.Worlds.{Pin}
@@ -30,9 +30,14 @@ abbrev pub IsGrouped : List (List ℕ × Vec Recorded) → Recorded → List (Li
 IsGrouped old r new =
     (class : List ℕ) → group_at class new ≡ (if is_record_of class r then group_at class old ++ r ∷ [] else group_at class old)
 
+-- all but the last
+abbrev pub without_last : List Recorded → List Recorded
+without_last records = take (length records - 1) records
+
+-- the newest record of a class is gone from its group, and no other group has changed
+abbrev pub IsUngrouped : List (List ℕ × Vec Recorded) → List ℕ → List (List ℕ × Vec Recorded) → Type 0
+IsUngrouped old path new =
+    (class : List ℕ) → group_at class new ≡ (if bytes_eq path class then without_last (group_at class old) else group_at class old)
+
 abbrev pub HasSameGroups : List (List ℕ × Vec Recorded) → List (List ℕ × Vec Recorded) → Type 0
 HasSameGroups old new = (class : List ℕ) → group_at class new ≡ group_at class old
-
--- records more are in the groups of their classes, behind those that were there
-abbrev pub AddsRecords : List (List ℕ × Vec Recorded) → List Recorded → List (List ℕ × Vec Recorded) → Type 0
-AddsRecords old records new = (class : List ℕ) → group_at class new ≡ group_at class old ++ filter (is_record_of class) records

@@ -1,3 +1,4 @@
+pub mod Additions
 pub mod Held
 pub mod Holdings
 pub mod Indexed

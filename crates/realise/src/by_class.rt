@@ -1,10 +1,11 @@
 //! The records of one user.
 
-ghost use Rattle.std.specs.Prelude.{◌≡◌, ◌<◌, [], ◌∷◌, ◌++◌, filter, vec_len, vec_capacity, MatchResult};
+ghost use Rattle.std.specs.Prelude.{◌≡◌, ◌<◌, [], ◌∷◌, ◌++◌, filter, take, vec_len, vec_capacity, MatchResult};
 ghost use Rattle.realise.specs.Holdings.{is_record_of};
+ghost use Rattle.realise.specs.Indexed.{without_last};
 ghost use Rattle.model.specs.declared.refusal.Refusal.TheVariants.{Memory};
 
-use crate::groups::{grouped, put_in_group};
+use crate::groups::{put_in_group, take_from_group};
 use indexmap::IndexMap;
 use model::Refusal;
 use records::Record;
@@ -81,11 +82,6 @@ impl Records {
         }
     }
 
-    /// The keys of the hasher for classes.
-    pub(crate) fn hashing(&self) -> RandomState {
-        *self.by_class.hasher()
-    }
-
     /// Adds a record as the last. The one error is memory, and changes nothing: all that needs
     /// memory comes before the first change.
     pub(crate) fn push(&mut self, alloc: Global, added: Record) -> Result<(), Refusal>
@@ -100,15 +96,38 @@ impl Records {
         Ok(())
     }
 
-    /// Copies of these records, and of the added ones behind them. The one error is memory.
-    pub(crate) fn with(&self, alloc: Global, added: &[Record]) -> Result<Records, Refusal>
-        ensures { MatchResult result
-            (λ records. records ≡ self.now ++ added.now)
-            (λ e. e ≡ Memory) }
+    /// Takes the newest record away, if there is one.
+    fn pop(&mut self)
+        ensures { self.new ≡ without_last self.old }
     {
-        let mut list = self.as_slice().to_vec(alloc)?;
-        list.extend_from_slice(added)?;
-        let by_class = grouped(alloc, self.hashing(), self.as_slice(), added)?;
-        Ok(Records { list, by_class })
+        if let Some(record) = self.list.pop() {
+            take_from_group(&mut self.by_class, record.class().path());
+        }
+    }
+
+    /// Keeps so many of the oldest records, and takes the others away. It takes no memory.
+    pub(crate) fn truncate(&mut self, count: usize)
+        ensures { self.new ≡ take count self.old }
+    {
+        while count < self.as_slice().len() {
+            self.pop();
+        }
+    }
+
+    /// Adds records behind the others, all of them or none. The one error is memory, and changes
+    /// nothing.
+    pub(crate) fn push_all(&mut self, alloc: Global, added: Vec<Record>) -> Result<(), Refusal>
+        ensures { MatchResult result
+            (λ _. self.new ≡ self.old ++ added.items)
+            (λ e. (e ≡ Memory) × (self.new ≡ self.old)) }
+    {
+        let count = self.as_slice().len();
+        for record in added {
+            if let Err(why) = self.push(alloc, record) {
+                self.truncate(count);
+                return Err(why);
+            }
+        }
+        Ok(())
     }
 }

@@ -1,18 +1,17 @@
 //! What one user has.
 
-ghost use Rattle.std.specs.Prelude.{◌≡◌, ◌+◌, ◌<◌, ◌≤◌, ◌^◌, [], ◌∷◌, ◌++◌, None, false, length, map, MatchResult, IfOk, IfErr};
+ghost use Rattle.std.specs.Prelude.{◌≡◌, ◌⊎◌, ◌+◌, ◌<◌, ◌≤◌, ◌^◌, [], ◌∷◌, ◌++◌, Ok, Err, None, false, length, map, MatchResult};
 ghost use Rattle.std.specs.List.{list_any};
 ghost use Rattle.std.specs.Option.{option_copied};
 ghost use Rattle.model.specs.Classes.{known_at, is_one_of};
 ghost use Rattle.model.specs.Worlds.{pinned, unpinned};
-ghost use Rattle.realise.specs.Held.{bytes_held, with_archives, charged_beside, IsSetOf};
+ghost use Rattle.admitted.specs.Entries.{AreNew};
 ghost use Rattle.records.specs.Recorded.{same_recorded};
 ghost use Rattle.records.specs.Entries.{entry_path};
-ghost use Rattle.realise.specs.Holdings.{known_with, records_with, IsNewSource, records_of, paths_of, is_on, has_place, charged_more, holds_entry, holds_derivation, with_pins, bare, IsClosed, IsClosedWithEntry, holds_each, charged_all, AreAbsent, AreCountable, IsGrown};
+ghost use Rattle.realise.specs.Holdings.{known_with, records_with, IsNewSource, records_of, paths_of, is_on, has_place, charged_more, holds_entry, holds_derivation, with_pins, bare, IsClosed, IsClosedWithEntry, holds_each, charged_all, AreAbsent, AreCountable};
 ghost use Rattle.model.specs.declared.refusal.Refusal.TheVariants.{Memory};
 
 use crate::by_class::Records;
-use crate::grown::Grown;
 use crate::holding::Holding;
 use crate::limits::{MOST_RECORDS, MOST_SOURCES};
 use crate::parts::parted;
@@ -32,9 +31,9 @@ use storepath::StorePath;
 /// What the labels of its records name is on it.
 pub struct Desk {
     known: Known,
-    records: Records,
+    pub(crate) records: Records,
     pins: Pins,
-    holding: Holding,
+    pub(crate) holding: Holding,
 }
 
 impl Drop for Desk {
@@ -80,24 +79,58 @@ fn put_entry(
     }
 }
 
-/// What is held and the records, with these records more, at paths with so many bytes of archives. Both
-/// are made beside the old ones. The one error is memory.
-fn with_more(
+/// Puts records behind the others and sources that are not there yet with the others, all or none. The
+/// one error is memory, and changes nothing.
+fn put_parts(
     alloc: Global,
-    holding: &Holding,
-    records: &Records,
-    archives: Vec<(StorePath, u64)>,
-    added: &[Record],
-) -> Result<(Holding, Records), Refusal>
-    requires fits { bytes_held (with_archives archives.items holding.now.archives) < 2 ^ 64 }
-    ensures held { IfOk result (λ more.
-        more.0.archives ≡ with_archives archives.items holding.now.archives) }
-    ensures recorded { IfOk result (λ more. more.1 ≡ records.now ++ added.now) }
-    ensures memory { IfErr result (λ e. e ≡ Memory) }
+    known: &mut Known,
+    records: &mut Records,
+    sources: Vec<StorePath>,
+    added: Vec<Record>,
+) -> Result<(), Refusal>
+    requires absent { AreNew known.old.sources sources.items }
+    ensures { MatchResult result
+        (λ _. (known.new ≡ record known.old { sources = known.old.sources ++ sources.items })
+        × (records.new ≡ records.old ++ added.items))
+        (λ e. (e ≡ Memory) × (known.new ≡ known.old) × (records.new ≡ records.old)) }
 {
-    let holding = holding.with(archives)?;
-    let records = records.with(alloc, added)?;
-    Ok((holding, records))
+    let count = records.as_slice().len();
+    records.push_all(alloc, added)?;
+    if let Err(why) = known.add_sources(sources) {
+        records.truncate(count);
+        return Err(why);
+    }
+    Ok(())
+}
+
+/// Puts an entry as [`put_entry`] does, if `check` lets it, which is asked when no more memory is needed.
+/// Where it does not, nothing has changed.
+fn put_entry_if<F: FnOnce() -> Result<bool, Refusal>>(
+    alloc: Global,
+    known: &mut Known,
+    records: &mut Records,
+    entry: Entry,
+    check: F,
+) -> Result<bool, Refusal>
+    requires callable { F.IsAlwaysCallable check }
+    requires absent { IsNewSource entry known.old }
+    ensures { MatchResult result
+        (λ told. F.post check (Ok told)
+        × (known.new ≡ known_with entry known.old)
+        × (records.new ≡ records_with entry records.old))
+        (λ e. ((e ≡ Memory) ⊎ F.post check (Err e))
+        × (known.new ≡ known.old)
+        × (records.new ≡ records.old)) }
+{
+    let sources = known.source_count();
+    let count = records.as_slice().len();
+    put_entry(alloc, known, records, entry)?;
+    let told = check();
+    if told.is_err() {
+        known.truncate_sources(sources);
+        records.truncate(count);
+    }
+    told
 }
 
 impl Desk {
@@ -204,24 +237,35 @@ impl Desk {
     }
 
     /// Adds an entry that is not there yet, whose archive has so many bytes: they are charged unless
-    /// its path is held. What its labels name is on the desk.
+    /// its path is held. What its labels name is on the desk. `check` is asked when no more memory is
+    /// needed, and may still refuse it; the answer is what it told.
     ///
     /// # Errors
     ///
-    /// - `Memory` only where memory was refused. Then nothing has changed.
-    pub fn add(&mut self, alloc: Global, entry: Entry, archive: u64) -> Result<(), Refusal>
+    /// Nothing has changed then.
+    ///
+    /// - `Memory` only where memory was refused, or by `check`.
+    /// - What `check` refused it for.
+    pub fn add_if<F: FnOnce() -> Result<bool, Refusal>>(
+        &mut self,
+        alloc: Global,
+        entry: Entry,
+        archive: u64,
+        check: F,
+    ) -> Result<bool, Refusal>
+        requires callable { F.IsAlwaysCallable check }
         requires absent { is_on entry self.old ≡ false }
         requires fits { self.old.charge + charged_more (entry_path entry) archive self.old < 2 ^ 64 }
         requires closed { IsClosedWithEntry self.old entry }
         ensures { let more = charged_more (entry_path entry) archive self.old in MatchResult result
-            (λ _. self.new ≡ holds_entry entry more self.old)
-            (λ e. (e ≡ Memory) × (self.new ≡ self.old)) }
+            (λ told. F.post check (Ok told) × (self.new ≡ holds_entry entry more self.old))
+            (λ e. ((e ≡ Memory) ⊎ F.post check (Err e)) × (self.new ≡ self.old)) }
     {
         self.holding.reserve(1)?;
         let path = entry.path().clone()?;
-        put_entry(alloc, &mut self.known, &mut self.records, entry)?;
+        let told = put_entry_if(alloc, &mut self.known, &mut self.records, entry, check)?;
         self.holding.put_reserved(path, archive);
-        Ok(())
+        Ok(told)
     }
 
     /// What is charged more for entries whose archives have so many bytes: each path once, and
@@ -255,51 +299,16 @@ impl Desk {
             (λ e. (e ≡ Memory) × (self.new ≡ self.old)) }
     {
         let parts = parted(alloc, entries)?;
-        let (holding, records) = with_more(
+        self.holding.reserve(parts.archives.len())?;
+        put_parts(
             alloc,
-            &self.holding,
-            &self.records,
-            parts.archives,
-            &parts.records,
+            &mut self.known,
+            &mut self.records,
+            parts.sources,
+            parts.records,
         )?;
-        self.known.add_sources(parts.sources)?;
-        self.records = records;
-        self.holding = holding;
+        self.holding.put_all_reserved(parts.archives);
         Ok(())
-    }
-
-    /// The desk's records and what it holds, with these records more, at paths with so many bytes of
-    /// archives. It is made beside the desk, and may be put in its place later.
-    ///
-    /// # Errors
-    ///
-    /// - `Memory` only where memory was refused.
-    pub fn grown(
-        &self,
-        alloc: Global,
-        added: &[Record],
-        archives: Vec<(StorePath, u64)>,
-    ) -> Result<Grown, Refusal>
-        requires fits { self.now.charge + charged_beside archives.items (paths_of self.now) < 2 ^ 64 }
-        ensures { MatchResult result
-            (λ grown. IsGrown self.now added.now archives.items grown)
-            (λ e. e ≡ Memory) }
-    {
-        let (holding, records) = with_more(alloc, &self.holding, &self.records, archives, added)?;
-        Ok(Grown { records, holding })
-    }
-
-    /// Puts what was made beside the desk in the place of its records and of what it holds. What the
-    /// labels name is on the desk or among them. It takes no memory.
-    pub fn replace(&mut self, grown: Grown)
-        requires held { IsSetOf grown.paths (paths_of (record self.old { records = grown.records })) }
-        requires closed { IsClosed (record self.old { records = grown.records }) }
-        ensures { self.new ≡
-            record self.old { records = grown.records; charge = grown.charge } }
-    {
-        let (records, holding) = grown.into_parts();
-        self.records = records;
-        self.holding = holding;
     }
 
     /// Adds a derivation that is not there yet.

@@ -1,7 +1,7 @@
 //! Records by their classes.
 
 ghost use Rattle.std.specs.Prelude.{◌≡◌, ◌++◌, ◌∷◌, [], MatchResult};
-ghost use Rattle.realise.specs.Indexed.{IsGrouped, HasSameGroups, IsIndexed, AddsRecords};
+ghost use Rattle.realise.specs.Indexed.{IsGrouped, IsUngrouped, HasSameGroups};
 ghost use Rattle.model.specs.declared.refusal.Refusal.TheVariants.{Memory};
 
 use indexmap::IndexMap;
@@ -53,36 +53,14 @@ pub(crate) fn put_in_group(
     Ok(())
 }
 
-/// Puts copies of records into the groups of their classes. The one error is memory.
-fn put_all_in_groups(
-    alloc: Global,
+/// Takes the newest record out of the group of a class. The group stays, though it may be empty then.
+pub(crate) fn take_from_group(
     groups: &mut IndexMap<StorePath, Vec<Record>, RandomState>,
-    records: &[Record],
-) -> Result<(), Refusal>
-    ensures { MatchResult result
-        (λ _. AddsRecords groups.old.entries records.now groups.new.entries)
-        (λ e. e ≡ Memory) }
+    class: &StorePath,
+)
+    ensures { IsUngrouped groups.old.entries class.now groups.new.entries }
 {
-    for record in records {
-        put_in_group(alloc, groups, record.clone()?)?;
+    if let Some(group) = groups.get_mut(class) {
+        let _newest = group.pop();
     }
-    Ok(())
-}
-
-/// A table in which the records of each class are found, those from before first. The one error is
-/// memory.
-pub(crate) fn grouped(
-    alloc: Global,
-    hashing: RandomState,
-    before: &[Record],
-    added: &[Record],
-) -> Result<IndexMap<StorePath, Vec<Record>, RandomState>, Refusal>
-    ensures { MatchResult result
-        (λ groups. IsIndexed groups.entries (before.now ++ added.now))
-        (λ e. e ≡ Memory) }
-{
-    let mut groups = IndexMap::with_hasher(alloc, hashing);
-    put_all_in_groups(alloc, &mut groups, before)?;
-    put_all_in_groups(alloc, &mut groups, added)?;
-    Ok(groups)
 }

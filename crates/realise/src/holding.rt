@@ -135,33 +135,16 @@ impl Holding {
         let _absent = self.archives.insert(path, archive).unwrap();
     }
 
-    /// A copy, with room for so many paths more. The one error is memory.
-    fn copy(&self, additional: usize) -> Result<Holding, Refusal>
-        ensures copied { IfOk result (λ copy. copy.archives ≡ self.now.archives) }
-        ensures room { IfOk result (λ copy. additional ≤ copy.room) }
-        ensures memory { IfErr result (λ why. why ≡ Memory) }
-    {
-        let mut archives = self.archives.clone()?;
-        archives.reserve(additional)?;
-        Ok(Holding {
-            archives,
-            charge: self.charge,
-        })
-    }
-
-    /// What is held, and each of these paths with the length of its archive, beside it. The one error
-    /// is memory.
+    /// Puts paths with the lengths of their archives into room that was made by [`Holding::reserve`], one
+    /// after another, each unless it is held.
     #[tactic(auto, unfolding(crate::specs::Held::with_archives))]
-    pub(crate) fn with(&self, added: Vec<(StorePath, u64)>) -> Result<Holding, Refusal>
-        requires fits { bytes_held (with_archives added.items self.now.archives) < 2 ^ 64 }
-        ensures { MatchResult result
-            (λ more. more.archives ≡ with_archives added.items self.now.archives)
-            (λ e. e ≡ Memory) }
+    pub(crate) fn put_all_reserved(&mut self, added: Vec<(StorePath, u64)>)
+        requires room { length added.items ≤ self.old.room }
+        requires fits { bytes_held (with_archives added.items self.old.archives) < 2 ^ 64 }
+        ensures { self.new.archives ≡ with_archives added.items self.old.archives }
     {
-        let mut more = self.copy(added.len())?;
         for (path, archive) in added {
-            more.put_reserved(path, archive);
+            self.put_reserved(path, archive);
         }
-        Ok(more)
     }
 }

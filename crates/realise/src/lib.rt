@@ -1,17 +1,17 @@
 //! What one user has: his desk, with his records and pins (Dolstra 2006, section 6.2).
 #![tactic(auto)]
 
+mod additions;
 mod by_class;
 mod desk;
 mod groups;
-mod grown;
 mod holding;
 mod limits;
 mod parts;
 mod pins;
 
+pub use additions::{Addition, add_to_each};
 pub use desk::Desk;
-pub use grown::Grown;
 pub use limits::{LARGEST_CHARGE, Limits, MOST_DERIVATIONS, MOST_PINS, MOST_RECORDS, MOST_SOURCES};
 pub use pins::Pins;
 pub use records::{Entry, Label, Record, is_class_before, labels_in_order, labels_of};

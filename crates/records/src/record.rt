@@ -91,6 +91,25 @@ impl Record {
         self.labels.as_slice()
     }
 
+    /// The same output for another class. It shares the labels.
+    ///
+    /// # Errors
+    ///
+    /// - `Memory` only where memory was refused.
+    pub fn for_class(&self, class: Class) -> Result<Record, Refusal>
+        ensures { MatchResult result
+            (λ made. made ≡ record self.now { class = class })
+            (λ e. e ≡ Memory) }
+    {
+        let path = self.path.clone()?;
+        let labels = self.labels.clone()?;
+        Ok(Record {
+            class,
+            path,
+            labels,
+        })
+    }
+
     /// Whether two records are for one class at one path, with the same labels.
     pub fn same(&self, other: &Record) -> bool
         ensures { IsSame self.now other.now result }

@@ -1,6 +1,6 @@
 //! The occurrences of hash parts in a tree.
 
-ghost use Rattle.std.specs.Prelude.{◌≡◌, None, false, true, IfOk, IfErr};
+ghost use Rattle.std.specs.Prelude.{◌≡◌, ◌+◌, ◌^◌, ◌<◌, ◌≤◌, length, None, false, true, IfOk, IfErr};
 ghost use Rattle.model.specs.Occurrences.{among, occurrences, fault, crowded};
 ghost use Rattle.model.specs.Archives.{nar};
 ghost use Rattle.model.specs.Occurrences.{places_in};
@@ -8,8 +8,9 @@ ghost use Rattle.scan.specs.Refusing.{IsFault};
 ghost use Rattle.scan.specs.Searching.{Finds, text_places, tree_places};
 
 use crate::keys::Keys;
-use crate::names::a_name_holds;
-use crate::search::search;
+use crate::names::split_piece;
+use crate::search::{holds, search};
+use crate::seek::{Seek, Sought};
 use model::{Refusal, RewriteFault};
 use nar::Nar;
 use std::alloc::Global;
@@ -61,10 +62,13 @@ pub fn places_in(alloc: Global, text: &[u8], keys: &Keys) -> Result<Places, Refu
     ensures apart { IfOk result (λ places. crowded places ≡ false) }
     ensures refused { IfErr result (Finds (crowded (text_places keys.now text.now) ≡ true)) }
 {
-    match search(alloc, text, keys) {
-        Ok(places) => Ok(Places { places }),
-        Err(why) => Err(why),
+    let _len = text.len();
+    let mut seek = Sought { keys, asked: 0 };
+    let mut places = Vec::new(alloc);
+    if search(&mut places, text, 0, &mut seek)? {
+        return Err(Refusal::RewriteRefused(RewriteFault::Overlap));
     }
+    Ok(Places { places })
 }
 
 /// Where keys stand in an archive, whatever they stand in. The time is in proportion to its length,
@@ -82,8 +86,8 @@ pub fn places_of(alloc: Global, archive: &Nar, keys: &Keys) -> Result<Places, Re
     ensures refused { IfErr result (Finds (crowded (tree_places keys.now archive.now) ≡ true)) }
 {
     let _parts = keys.parts();
-    match search(alloc, archive.bytes(), keys) {
-        Ok(places) => Ok(Places { places }),
+    match places_in(alloc, archive.bytes(), keys) {
+        Ok(places) => Ok(places),
         Err(why) => Err(why),
     }
 }
@@ -102,12 +106,52 @@ pub fn occurrences(alloc: Global, archive: &Nar, keys: &Keys) -> Result<Places, 
     ensures sound { IfOk result (λ places. fault (among keys.now) archive.now ≡ None) }
     ensures refused { IfErr result (IsFault (fault (among keys.now) archive.now)) }
 {
-    let _parts = keys.parts();
-    if a_name_holds(archive, keys) {
-        return Err(Refusal::RewriteRefused(RewriteFault::InName));
+    let _bytes = archive.bytes();
+    occurrences_by(alloc, archive, &mut Sought { keys, asked: 0 })
+}
+
+/// The occurrences of the keys that `seek` tells, in one pass: each string of the tree is gone over
+/// once, so `seek` is asked at most once for each byte of the archive. That it can count so many
+/// questions more is the caller's to know.
+///
+/// # Errors
+///
+/// Those of [`occurrences`].
+pub fn occurrences_by<S: Seek>(
+    alloc: Global,
+    archive: &Nar,
+    seek: &mut S,
+) -> Result<Places, Refusal>
+    requires room { S.looked seek.old + length (nar archive.now) < 2 ^ 64 }
+    ensures found { IfOk result (λ places. places ≡ occurrences (S.keys seek.old) archive.now) }
+    ensures sound { IfOk result (λ places. fault (S.keys seek.old) archive.now ≡ None) }
+    ensures refused { IfErr result (IsFault (fault (S.keys seek.old) archive.now)) }
+    ensures kept { S.keys seek.new ≡ S.keys seek.old }
+    ensures looks { S.looked seek.new ≤ S.looked seek.old + length (nar archive.now) }
+{
+    let _looks = seek.looks();
+    let whole = archive.bytes();
+    let mut places = Vec::new(alloc);
+    let mut is_crowded = false;
+    let mut rest = whole;
+    for _ in 0..whole.len() {
+        let Some((part, behind)) = split_piece(rest) else {
+            break;
+        };
+        if let Some(part) = part {
+            if part.is_name {
+                if holds(part.bytes, seek) {
+                    return Err(Refusal::RewriteRefused(RewriteFault::InName));
+                }
+            } else if !is_crowded {
+                let start = whole.len() - rest.len() + 24;
+                is_crowded = search(&mut places, part.bytes, start, seek)?;
+            }
+        }
+        rest = behind;
     }
-    match places_of(alloc, archive, keys) {
-        Ok(places) => Ok(places),
-        Err(why) => Err(why),
+    if is_crowded {
+        return Err(Refusal::RewriteRefused(RewriteFault::Overlap));
     }
+    Ok(Places { places })
 }

@@ -1,14 +1,8 @@
-//! Whether a hash part stands in the name of an entry.
+//! The strings of an archive, one after another.
 
 ghost use Rattle.std.specs.Prelude.{◌≡◌};
-ghost use Rattle.std.specs.List.{list_any};
-ghost use Rattle.model.specs.Occurrences.{among, AreKeys, has_places, places_in, name_holds, pieces};
-ghost use Rattle.std.specs.Option.{option_map, option_copied};
+ghost use Rattle.std.specs.Option.{option_map};
 ghost use Rattle.scan.specs.Pieces.{string_front, text_front, piece_front};
-
-use crate::keys::Keys;
-use crate::search::holds;
-use nar::Nar;
 
 /// The string at the front of an archive's text, and what follows it.
 #[tactic(auto, unfolding(crate::specs::Pieces::string_front, model::specs::ArchiveReading::split_at, model::specs::ArchiveReading::length_at))]
@@ -32,39 +26,26 @@ fn split_text(text: &[u8]) -> Option<(&[u8], &[u8])>
     Some((string, rest))
 }
 
-/// The piece at the front of an archive's text: its string, if that is the name of an entry, and
-/// what follows it.
-#[tactic(auto, unfolding(crate::specs::Pieces::piece_front, crate::specs::Pieces::piece_behind))]
-fn split_piece(text: &[u8]) -> Option<(Option<&[u8]>, &[u8])>
-    ensures { option_map (λ r. (option_copied r.0, r.1.now)) result ≡ piece_front text.now }
-{
-    let (tag, behind) = split_string(text)?;
-    if tag == b"name".as_slice() {
-        let (name, rest) = split_text(behind)?;
-        return Some((Some(name), rest));
-    }
-    if tag == b"contents".as_slice() || tag == b"target".as_slice() {
-        let (_bytes, rest) = split_text(behind)?;
-        return Some((None, rest));
-    }
-    Some((None, behind))
+/// A string of a tree: the name of an entry, or bytes of a file or a link's target.
+#[derive(Clone, Copy)]
+pub(crate) struct Part<'a> {
+    /// Whether it is the name of an entry.
+    pub(crate) is_name: bool,
+    /// The string.
+    pub(crate) bytes: &'a [u8],
 }
 
-/// Whether a key stands in the name of an entry.
-pub(crate) fn a_name_holds(archive: &Nar, keys: &Keys) -> bool
-    ensures { result ≡ list_any (name_holds (among keys.now)) (pieces archive.now) }
+/// The piece at the front of an archive's text: its string, if it is more than a mark, and what
+/// follows it.
+#[tactic(auto, unfolding(crate::specs::Pieces::piece_front, crate::specs::Pieces::piece_behind))]
+pub(crate) fn split_piece(text: &[u8]) -> Option<(Option<Part<'_>>, &[u8])>
+    ensures { option_map (λ r. (option_map (λ p. (p.is_name, p.bytes.now)) r.0, r.1.now)) result ≡ piece_front text.now }
 {
-    let mut rest = archive.bytes();
-    for _ in 0..archive.bytes().len() {
-        let Some((name, behind)) = split_piece(rest) else {
-            return false;
-        };
-        if let Some(name) = name {
-            if holds(name, keys) {
-                return true;
-            }
-        }
-        rest = behind;
+    let (tag, behind) = split_string(text)?;
+    let is_name = tag == b"name".as_slice();
+    if is_name || tag == b"contents".as_slice() || tag == b"target".as_slice() {
+        let (bytes, rest) = split_text(behind)?;
+        return Some((Some(Part { is_name, bytes }), rest));
     }
-    false
+    Some((None, behind))
 }

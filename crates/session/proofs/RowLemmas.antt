@@ -7,6 +7,7 @@ use Rattle.std.specs.Io.KnownBytes.{Appends, Consumes, Keeps, prepend_known}
 use Rattle.model.specs.Lines.{Told}
 use Rattle.model.specs.Talk.{Row, Silent, Names, Refuses, Asks, Waits, Seen, GetsNext, after, after_all, Talks, text_from, row_text}
 use Rattle.session.specs.Serving.{Chain}
+pub use Rattle.nar.proofs.WritingLemmas.{appends-none, appends-more, take-seam, on_err}
 
 pub talks-more : (seen : Seen) (done : List (List ℕ)) (rows : List Row) (line : List ℕ) (row : Row) → Talks seen done rows
     → (after_all seen rows).refused ≡ false → GetsNext (after_all seen rows) line row → Talks seen (done ++ line ∷ []) (rows ++ row ∷ [])
@@ -41,41 +42,10 @@ text-more n (r ∷ rows) row =
     ap (λ t. row_text n r ++ t) (text-more (n + 1) rows row ∙ ap (λ k. text_from (n + 1) rows ++ row_text k row) (omega arith))
     ∙ sym (append_assoc (row_text n r) (text_from (n + 1) rows) (row_text (n + suc (length rows)) row))
 
-pub appends-none : (a : Option (List ℕ)) → Appends a a []
-appends-none None = tt
-appends-none (Some xs) = sym (append-nil xs)
-
-pub appends-more : (a b c : Option (List ℕ)) (xs ys : List ℕ) → Appends a b xs → Appends b c ys → Appends a c (xs ++ ys)
-appends-more None b c xs ys h k = tt
-appends-more (Some u) None c xs ys h k = absurd h
-appends-more (Some u) (Some v) None xs ys h k = absurd k
-appends-more (Some u) (Some v) (Some w) xs ys h k = k ∙ ap (λ t. t ++ ys) h ∙ append_assoc u xs ys
-
-pub take-seam : (a b : List ℕ) (n : ℕ) → take (length a + n) (a ++ b) ≡ a ++ take n b
-take-seam [] b n = ap (λ k. take k b) (omega arith)
-take-seam (x ∷ a) b n = let e : suc (length a) + n ≡ suc (length a + n) = omega arith in rw e (ap (λ t. x ∷ t) (take-seam a b n))
-
 pub appends-kept : (a b : Option (List ℕ)) → Keeps a b → Appends a b []
 appends-kept None b h = tt
 appends-kept (Some xs) None h = absurd h
 appends-kept (Some xs) (Some ys) h = h ∙ sym (append-nil xs)
-
-pub on_err : {T E P : Type 0} (r : Result T E) → P → OnErr r P
-on_err (Ok x) p = tt
-on_err (Err e) p = p
-
-pub text-step : (text front rest : List ℕ) (n : ℕ) → text ≡ front ++ rest → text ≡ (front ++ take n rest) ++ drop n rest
-text-step text front rest n e = e ∙ ap (λ t. front ++ t) (sym (take-append-drop n rest)) ∙ sym (append_assoc front (take n rest) (drop n rest))
-
--- a front of a text, of which some is left, is written
-pub front-written : (a b c : Option (List ℕ)) (text front rest : List ℕ) → text ≡ front ++ rest → 0 < length rest → Appends a b front → Appends b c []
-    → (n : ℕ) × (n < length text) × Appends a c (take n text)
-front-written a b c text front rest e some h k =
-    let same : take (length front) text ≡ front ++ [] = ap (take (length front)) e ∙ take_at front rest (length front) refl ∙ sym (append-nil front) in (
-      length front,
-      omega (arith, ap length e, length-append front rest, some),
-      subst (λ t. Appends a c t) (sym same) (appends-more a b c front [] h k),
-    )
 
 pub consumes-none : (a : Option (List ℕ)) → Consumes a a []
 consumes-none None = tt

@@ -9,6 +9,7 @@ use Rattle.model.specs.Events.{Event, Reply}
 use Rattle.model.specs.Worlds.{Job}
 use Rattle.model.specs.Lines.{lines_of}
 use Rattle.model.specs.Forms.{longest_line}
+pub use Rattle.nar.specs.Writing.{HasFailed, IsFault, MayBeFault, IsUnwritten}
 use Rattle.model.specs.Talk.{Row, Silent, Names, Refuses, Asks, Waits, Seen, fresh, after, after_all, Talks, row_text, text_from}
 
 -- one row's link of the chain: an event is one answer, a wait is one wait for its goals, and any other line leaves the answer alone
@@ -133,18 +134,6 @@ Gives Is link seen next old new text =
 abbrev pub StopsAt : {A : Type 0} → (Row → Type 0) → (A → Row → A → Type 0) → (old new : A) → Type 0
 StopsAt Is link old new = (new ≡ old) ⊎ ((row : Row) × Is row × link old row new)
 
--- a count of failures rose, or stands at its greatest number
-abbrev pub HasFailed : ℕ → ℕ → Type 0
-HasFailed old new = (old < new) ⊎ (new ≡ 2 ^ 64 - 1)
-
--- it is that fault, which comes of a failure
-abbrev pub IsFault : (fault : Refusal) (old new : ℕ) → Refusal → Type 0
-IsFault fault old new why = (why ≡ fault) × HasFailed old new
-
--- where it is that fault, it comes of a failure
-abbrev pub MayBeFault : (fault : Refusal) (old new : ℕ) → Refusal → Type 0
-MayBeFault fault old new why = why ≡ fault → HasFailed old new
-
 -- where it is 90, the count shows no failure
 abbrev pub IsNoFault : (old new : ℕ) → Refusal → Type 0
 IsNoFault old new why = why ≡ Memory → ¬ HasFailed old new
@@ -165,14 +154,6 @@ TellsEnd ended input output why = why ≡ ended
 abbrev pub HasRead : (start left : Option (List ℕ)) (chunk : List ℕ) → Option ℕ → Type 0
 HasRead start left chunk None = Consumes start left []
 HasRead start left chunk (Some n) = (n ≤ length chunk) × Consumes start left (take n chunk) × (n ≡ 0 → IsAtEnd left)
-
--- so many bytes were written
-abbrev pub HasWritten : (blank written : Option (List ℕ)) (bytes : List ℕ) → ℕ → Type 0
-HasWritten blank written bytes n = (n ≤ length bytes) × Appends blank written (take n bytes)
-
--- why a text may not have been written
-abbrev pub IsUnwritten : Refusal → Type 0
-IsUnwritten why = (why ≡ OutputFault) ⊎ (why ≡ Memory)
 
 -- what may end a session early while it answers
 abbrev pub IsOwn : Refusal → Type 0

@@ -7,13 +7,13 @@ ghost use Rattle.model.specs.Talk.{fresh};
 ghost use Rattle.session.specs.Ahead.{IsLook, NoUsersSoFar, LooksAhead, SearchesOn, SearchesLast};
 ghost use Rattle.session.specs.Serving.{HasFailed};
 
-use crate::faults::Faults;
 use crate::serving::{CHUNK, hold, is_begun};
 use crate::session::Session;
 use crate::streams::read_some;
 use answering::NoUsers;
 use lines::{Reading, cut};
 use model::{Mode, Refusal};
+use nar::Faults;
 use std::alloc::Global;
 use std::io::Read;
 use trust::User;

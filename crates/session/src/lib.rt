@@ -6,6 +6,7 @@
 //! | [`serve`] | answers the lines of a reader, and writes and flushes what is printed |
 //! | [`serve_behind`] | the same for a reader of which some was read ahead, but for the flush |
 //! | [`serve_whole_lines`] | the same for bytes of which more was to come |
+//! | [`write_whole`] | writes all of a text |
 //! | [`flush_after`] | shows what was written, and says how it ended |
 //! | [`read_ahead`] | finds the users of an input, and keeps what was read |
 //! | [`Counted`] | counts the failures of a reader or a writer |
@@ -17,7 +18,6 @@
 
 mod ahead;
 mod counted;
-mod faults;
 mod serving;
 mod session;
 mod streams;
@@ -25,9 +25,9 @@ mod streams;
 pub use ahead::{Ahead, read_ahead};
 pub use answering::{Answer, NoUsers};
 pub use counted::Counted;
-pub use faults::Faults;
 pub use lines::answer_text;
 pub use model::Mode;
+pub use nar::{Faults, write_whole};
 pub use serving::{serve, serve_behind, serve_whole_lines};
 pub use session::Session;
 pub use states::Job;

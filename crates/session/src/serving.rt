@@ -8,12 +8,12 @@ ghost use Rattle.model.specs.Talk.{fresh};
 ghost use Rattle.session.specs.Serving.{Link, GoesOn, EndsIn, Finishes, EndsAtLast, AnsweredSoFar, EndedEarly};
 ghost use Rattle.session.specs.Serving.{Finished, HoldsMore, IsFault, IsNoFault, IsOwn, MayBeFault, NotShown};
 
-use crate::faults::Faults;
 use crate::session::Session;
-use crate::streams::{flush, read_some, want_of, write_whole};
+use crate::streams::{flush, read_some, want_of};
 use answering::Answer;
 use lines::{LONGEST_LINE, cut};
 use model::{Mode, Refusal};
+use nar::{Faults, write_whole};
 use std::alloc::{AllocError, Global};
 use std::io::{Read, Write};
 

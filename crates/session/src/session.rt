@@ -1,6 +1,6 @@
 //! Sessions, a line at a time.
 
-ghost use Rattle.std.specs.Prelude.{◌≡◌, ◌⊎◌, ℕ, List, IfOk, IfErr, OnOk, OnErr};
+ghost use Rattle.std.specs.Prelude.{◌≡◌, ◌⊎◌, ℕ, List, length, IfOk, IfErr, OnOk, OnErr};
 ghost use Rattle.model.specs.declared.refusal.Refusal.TheVariants.{Memory};
 ghost use Rattle.model.specs.Talk.{Silent, Names, Refuses, fresh, form_of, GetsNext, is_bad_users, with_goal};
 ghost use Rattle.lines.specs.declared.line.Reading.TheVariants as readings;
@@ -66,11 +66,18 @@ impl Session {
         self.begun
     }
 
-    /// Whether a line of users was refused, which ends [`serve`](crate::serve).
-    pub(crate) fn is_refused(&self) -> bool
+    /// Whether a line of users was refused, which ends [`serve`](crate::serve): no line comes after it.
+    pub fn is_refused(&self) -> bool
         ensures { result ≡ self.now.refused }
     {
         self.refused
+    }
+
+    /// How many lines it has had, which is the number of the last of them.
+    pub fn line_count(&self) -> usize
+        ensures { result ≡ length self.now.told }
+    {
+        self.told.len()
     }
 
     /// What the next line comes to.

@@ -1,77 +1,13 @@
-//! Reading from a reader and writing to a writer that count their failures.
+//! Reading from a reader, and flushing a writer, that count their failures.
 
-ghost use Rattle.std.specs.Prelude.{◌≡◌, ◌<◌, ◌⊎◌, ℕ, [], Err, IsOk, MatchBool, OnOk, OnErr, IfOk, IfErr, MatchResult, take, length};
+ghost use Rattle.std.specs.Prelude.{◌≡◌, ◌<◌, ◌⊎◌, [], Err, IsOk, OnOk, OnErr, IfOk, IfErr, length};
 ghost use Rattle.std.specs.Io.KnownBytes.{Appends, Consumes};
 ghost use Rattle.model.specs.declared.refusal.Refusal.TheVariants.{InputFault, OutputFault};
-ghost use Rattle.session.specs.Serving.{HasFailed, IsFault, IsNoFault, IsUnwritten, IsWant, MayBeFault, HasRead, HasWritten, TellsEnd};
+ghost use Rattle.session.specs.Serving.{HasFailed, IsFault, IsNoFault, IsWant, MayBeFault, HasRead, TellsEnd};
 
-use crate::faults::Faults;
 use model::Refusal;
+use nar::{Faults, has_failed};
 use std::io::{Read, Write};
-
-/// Whether a count of failures says that there was one since it was `before`.
-fn has_failed(before: u64, now: u64) -> bool
-    ensures { MatchBool result (HasFailed before now) (¬ HasFailed before now) }
-{
-    now > before || now == u64::MAX
-}
-
-/// What becomes of a write or a flush that did nothing: the count of failures says whether it
-/// failed since `before`.
-fn stalled<W: Faults>(writer: &W, before: u64) -> Result<usize, Refusal>
-    ensures { MatchResult result (λ n. n ≡ 0) (IsFault OutputFault before (W.failed writer.now)) }
-{
-    if has_failed(before, writer.failures()) {
-        return Err(Refusal::OutputFault);
-    }
-    Ok(0)
-}
-
-/// Writes some of the bytes, which may be none.
-fn write_some<W: Write + Faults>(
-    writer: &mut W,
-    before: u64,
-    bytes: &[u8],
-) -> Result<usize, Refusal>
-    ensures ok { IfOk result
-        (HasWritten (W.contents writer.old) (W.contents writer.new) bytes.now) }
-    ensures err { OnErr result (Appends (W.contents writer.old) (W.contents writer.new) []) }
-    ensures fault { IfErr result (IsFault OutputFault before (W.failed writer.new)) }
-{
-    match writer.write(bytes) {
-        Ok(0) | Err(_) => stalled(writer, before),
-        Ok(n) => Ok(n),
-    }
-}
-
-/// Writes all of the text. Only a writer whose count of failures has risen above `before`, or
-/// stands at its greatest number, stops it with `OutputFault`. One that fails and does not count
-/// it is tried again, and after 2^64 times `Memory` is answered.
-pub(crate) fn write_whole<W: Write + Faults>(
-    writer: &mut W,
-    before: u64,
-    text: &[u8],
-) -> Result<(), Refusal>
-    ensures ok { OnOk result (Appends (W.contents writer.old) (W.contents writer.new) text.now) }
-    ensures err { OnErr result ((n : ℕ) × (n < length text.now)
-        × Appends (W.contents writer.old) (W.contents writer.new) (take n text.now)) }
-    ensures errors { IfErr result IsUnwritten }
-    ensures fault { IfErr result (MayBeFault OutputFault before (W.failed writer.new)) }
-{
-    let mut rest = text;
-    for _ in 0..u64::MAX {
-        if rest.is_empty() {
-            return Ok(());
-        }
-        let n = write_some(writer, before, rest)?;
-        let (_, after) = rest.split_at(n);
-        rest = after;
-    }
-    if rest.is_empty() {
-        return Ok(());
-    }
-    Err(Refusal::Memory)
-}
 
 /// Flushes once. Whether it was flushed.
 fn flush_once<W: Write + Faults>(writer: &mut W, before: u64) -> Result<bool, Refusal>
@@ -81,7 +17,9 @@ fn flush_once<W: Write + Faults>(writer: &mut W, before: u64) -> Result<bool, Re
     match writer.flush() {
         Ok(()) => Ok(true),
         Err(_) => {
-            stalled(writer, before)?;
+            if has_failed(before, writer.failures()) {
+                return Err(Refusal::OutputFault);
+            }
             Ok(false)
         }
     }

@@ -1,4 +1,4 @@
-//! Files whose goals are built by two workers at once.
+//! Files whose goals are built: by two workers at once, and by one that counts what it builds.
 
 ghost use Rattle.std.specs.Prelude.{◌≢◌, Err};
 ghost use Rattle.workers.specs.Outputs.{bytes_of};
@@ -10,7 +10,7 @@ use crate::devices::{Source, calls_of};
 use leading::RunningJob;
 use model::Refusal;
 use nar::{Tree, encode};
-use running::{Opening, Part, look_ahead};
+use running::{Opening, Output, Part, look_ahead};
 use schedule::Limits;
 use std::alloc::{AllocError, Global};
 use std::hash::RandomState;
@@ -101,6 +101,44 @@ fn two_runners<'a>(alloc: Global, gate: &'a Gate) -> Result<Vec<Held<'a>>, Alloc
     Ok(runners)
 }
 
+/// A runner that counts its runs.
+#[derive(Drop)]
+struct Counting<'a> {
+    runs: &'a AtomicU32,
+}
+
+impl Runner for Counting<'_> {
+    ghost gives = { λ old job given new. Unit {0} };
+
+    ghost failed = { λ _. 0 };
+
+    fn run(&mut self, alloc: Global, _job: &RunningJob) -> Result<Vec<u8>, RunFault> {
+        let _before = self.runs.fetch_add(1, Ordering::SeqCst);
+        output(alloc)
+    }
+
+    fn failures(&self) -> u64 {
+        0
+    }
+}
+
+/// `CALLS INPUT`: what these calls read of the input up to its users, and what gives the rest of it.
+fn opened(alloc: Global, argument: &str) -> Result<(Opening, Source), Refusal> {
+    let (reads, rest) = calls_of(argument)?;
+    let mut reader = Source::new(with_newlines(alloc, rest)?, reads);
+    let opening = look_ahead(alloc, &mut reader)?;
+    Ok((opening, reader))
+}
+
+/// Adds how the lines of each file ended, and what they gave.
+fn add_outputs(outputs: Vec<Output>, out: &mut Answer) {
+    for output in outputs {
+        out.add_end(output.ended);
+        out.add_text(": ");
+        out.add_bytes(&output.text);
+    }
+}
+
 /// `CALLS INPUT`: runs the lines of the input, read by these calls, with two workers. Prints how they ended,
 /// and what they gave.
 pub(crate) fn gate_two_workers<R: Threads + Wait + Sync>(
@@ -110,9 +148,8 @@ pub(crate) fn gate_two_workers<R: Threads + Wait + Sync>(
     argument: &str,
     out: &mut Answer,
 ) -> Result<(), Refusal> {
-    let (reads, rest) = calls_of(argument)?;
-    let mut reader = Source::new(with_newlines(alloc, rest)?, reads);
-    let Opening { bytes, users } = look_ahead(alloc, &mut reader)?;
+    let (opening, reader) = opened(alloc, argument)?;
+    let Opening { bytes, users } = opening;
     let gate = Gate {
         begun: AtomicU32::new(0),
         is_open: AtomicBool::new(false),
@@ -124,10 +161,35 @@ pub(crate) fn gate_two_workers<R: Threads + Wait + Sync>(
         runners,
     };
     let parts = vec![in alloc; part]?;
-    for output in running::run(rt, alloc, hashing, users, Limits::default(), parts)? {
-        out.add_end(output.ended);
-        out.add_text(": ");
-        out.add_bytes(&output.text);
-    }
+    let outputs = running::run(rt, alloc, hashing, users, Limits::default(), parts)?;
+    add_outputs(outputs, out);
+    Ok(())
+}
+
+/// `CALLS INPUT`: runs the lines of the input, read by these calls, with one worker. Prints how often it
+/// built, how they ended, and what they gave.
+pub(crate) fn built_once<R: Threads + Wait + Sync>(
+    rt: &R,
+    alloc: Global,
+    hashing: RandomState,
+    argument: &str,
+    out: &mut Answer,
+) -> Result<(), Refusal> {
+    let (opening, reader) = opened(alloc, argument)?;
+    let Opening { bytes, users } = opening;
+    let runs = AtomicU32::new(0);
+    let runner = Counting { runs: &runs };
+    let runners = vec![in alloc; runner]?;
+    let part = Part {
+        bytes,
+        reader,
+        runners,
+    };
+    let parts = vec![in alloc; part]?;
+    let outputs = running::run(rt, alloc, hashing, users, Limits::default(), parts)?;
+    out.add_text("runs: ");
+    out.add(&runs.load(Ordering::SeqCst));
+    out.add_text(", ");
+    add_outputs(outputs, out);
     Ok(())
 }

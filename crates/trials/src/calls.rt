@@ -45,6 +45,7 @@ fn of_line<R: Threads + Wait + Sync>(
         "derivation" => stores::reply_to_text(alloc, hashing, argument, out),
         "threads" => fronts::threads(rt, alloc, hashing, out),
         "gate_two_workers" => builds::gate_two_workers(rt, alloc, hashing, argument, out),
+        "built_once" => builds::built_once(rt, alloc, hashing, argument, out),
         "passes" => fronts::passes(alloc, hashing, out),
         _ => Err(Refusal::BadLine),
     }

@@ -93,6 +93,7 @@ fn of_bytes(alloc: Global, call: &str, bytes: &[u8], out: &mut Answer) -> Result
 fn of_tree(alloc: Global, call: &str, bytes: &[u8], out: &mut Answer) -> Result<(), Refusal> {
     match call {
         "tree" => trees::tree(alloc, bytes, out),
+        "written" => trees::written(alloc, bytes, out),
         "decode" => trees::decoded(alloc, bytes, out),
         "file" => trees::file(alloc, bytes, out),
         "link" => trees::link(alloc, bytes, out),

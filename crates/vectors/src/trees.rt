@@ -1,9 +1,9 @@
 //! Trees and their archives.
 
 use crate::answer::Answer;
-use hashmod::sha256;
+use hashmod::{Hasher, nar_digest, sha256};
 use model::Refusal;
-use nar::{Nar, Tree, decode, encode, read_tree_text, tree_text};
+use nar::{Nar, Tree, decode, encode, read_tree_text, tree_text, write_nar};
 use std::alloc::Global;
 
 /// Adds the text of a tree.
@@ -38,6 +38,20 @@ fn tell_archive(
     out.add_digits(&sha256(archive.bytes()));
     out.add_text(word_of(again.same(tree)));
     tell(alloc, &again, out)
+}
+
+/// `TREE`: the digest of the archive of a tree's text, which is not made for it, that of the archive as it is
+/// written to a hasher, and the archive as it is written to a text.
+pub(crate) fn written(alloc: Global, text: &[u8], out: &mut Answer) -> Result<(), Refusal> {
+    let tree = read_tree_text(alloc, text)?;
+    let mut hasher = Hasher::new();
+    write_nar(&tree, &mut hasher)?;
+    let mut archive = Vec::new(alloc);
+    write_nar(&tree, &mut archive)?;
+    out.add_digits(&nar_digest(&tree));
+    out.add_digits(&hasher.finish());
+    out.add_digits(&archive);
+    Ok(())
 }
 
 /// `TREE TREE`: whether two texts are of the same tree.

@@ -10,9 +10,10 @@ ghost use Rattle.trust.specs.Trusting.{trusts};
 ghost use Rattle.handling.specs.Sound.{IsSound, IsClosure};
 ghost use Rattle.handling.specs.Viewing.{desk_at};
 ghost use Rattle.handling.specs.Handling.{IsHandledBySight};
-ghost use Rattle.views.specs.Taking.{tree_with_path, counted, missing_on, are_roomy, CopiesEntries};
+ghost use Rattle.views.specs.Taking.{tree_with_path, counted, missing_on, are_roomy, AreCopyable, IsLabelledBy, has_built, with_built, CopiesEntries};
 
 use crate::given::entries_for;
+use closures::Realisation;
 use events::{CopiedReply, Reply};
 use model::Refusal;
 use nar::Tree;
@@ -125,13 +126,7 @@ fn has_room(desk: &Desk, limits: Limits, entries: &[(Entry, u64)], more: u64) ->
 
 /// Copies entries to a desk, those that it does not have, and their trees to the table where their
 /// paths are new there. All that needs memory comes before the first change.
-///
-/// # Errors
-///
-/// - `Clash` only where another tree is stored at the path of an entry.
-/// - `Quota` exactly where no other tree is at these paths and a limit of the desk would be passed.
-/// - `Memory` only where memory was refused; it may stand in the place of each answer.
-pub fn copy_all(
+fn copy_entries(
     alloc: Global,
     table: &mut Table,
     desk: &mut Desk,
@@ -139,7 +134,7 @@ pub fn copy_all(
     entries: &[closures::Entry],
 ) -> Result<(), Refusal>
     requires sound { IsSound table.old.sources limits.charge desk.old }
-    requires closure { IsClosure entries.now }
+    requires copyable { AreCopyable entries.now }
     ensures { CopiesEntries limits.charge table.old.sources desk.old entries.now result
         table.new.sources desk.new }
 {
@@ -154,6 +149,83 @@ pub fn copy_all(
     desk.add_all(alloc, found)?;
     table.put_all_reserved(trees);
     Ok(())
+}
+
+/// Copies the entries of a closure to a desk, those that it does not have, and their trees to the table
+/// where their paths are new there.
+///
+/// # Errors
+///
+/// - `Clash` only where another tree is stored at the path of an entry.
+/// - `Quota` exactly where no other tree is at these paths and a limit of the desk would be passed.
+/// - `Memory` only where memory was refused; it may stand in the place of each answer.
+///
+/// Where it is refused, nothing has changed.
+pub fn copy_all(
+    alloc: Global,
+    table: &mut Table,
+    desk: &mut Desk,
+    limits: Limits,
+    entries: &[closures::Entry],
+) -> Result<(), Refusal>
+    requires sound { IsSound table.old.sources limits.charge desk.old }
+    requires closure { IsClosure entries.now }
+    ensures { CopiesEntries limits.charge table.old.sources desk.old entries.now result
+        table.new.sources desk.new }
+{
+    copy_entries(alloc, table, desk, limits, entries)
+}
+
+/// Whether a record is that of one of the entries.
+fn is_among(entries: &[closures::Entry], built: &Realisation) -> bool
+    ensures { result ≡ has_built entries.now built.now }
+{
+    entries.iter().any(|entry| entry.is_of(built))
+}
+
+/// Entries with that of a record more, unless it is among them. The one error is memory.
+fn with_built(
+    alloc: Global,
+    entries: &[closures::Entry],
+    built: Realisation,
+) -> Result<Vec<closures::Entry>, Refusal>
+    ensures { MatchResult result
+        (λ all. all.items ≡ with_built entries.now built)
+        (λ e. e ≡ Memory) }
+{
+    let mut all = entries.to_vec(alloc)?;
+    if !is_among(entries, &built) {
+        all.push(closures::Entry::of_record(built))?;
+    }
+    Ok(all)
+}
+
+/// Copies the entries of a closure to a desk, and a record that refers to none but these, as
+/// [`copy_all`] does: all or none.
+///
+/// # Errors
+///
+/// - `Clash` only where another tree is stored at the path of an entry or of the record.
+/// - `Quota` exactly where no other tree is at these paths and a limit of the desk would be passed.
+/// - `Memory` only where memory was refused; it may stand in the place of each answer.
+///
+/// Where it is refused, nothing has changed.
+pub fn copy_with(
+    alloc: Global,
+    table: &mut Table,
+    desk: &mut Desk,
+    limits: Limits,
+    entries: &[closures::Entry],
+    built: Realisation,
+) -> Result<(), Refusal>
+    requires sound { IsSound table.old.sources limits.charge desk.old }
+    requires closure { IsClosure entries.now }
+    requires labelled { IsLabelledBy entries.now built }
+    ensures { CopiesEntries limits.charge table.old.sources desk.old
+        (with_built entries.now built) result table.new.sources desk.new }
+{
+    let entries = with_built(alloc, entries, built)?;
+    copy_entries(alloc, table, desk, limits, &entries)
 }
 
 /// Copies all that the closure of a class has for the user at a place to his desk, or nothing. The

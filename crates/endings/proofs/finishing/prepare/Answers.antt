@@ -7,10 +7,8 @@ use Rattle.states.specs.States.{state_of}
 use Rattle.trust.specs.Trusting.{trusts}
 use Rattle.store.specs.Stored.{put_all, sources_of, AreThere}
 use Rattle.building.specs.Gaining.{last_state, state_at}
-use Rattle.endings.specs.Committing.{Heard, trees_gained, states_for, states_heard, gains_at, MayCharge, AreGrown}
-use Rattle.handling.specs.Supported.{desk_at}
+use Rattle.endings.specs.Committing.{Heard, trees_gained, states_for, states_heard, AreToAdd}
 use Rattle.endings.proofs.CommitLemmas.{states_there}
-use Rattle.endings.proofs.InPlaceLemmas.{may_charge}
 use Rattle.endings.proofs.AllBuiltLemmas.{only_memory}
 use Rattle.endings.proofs.finishing.prepare.Goals as goal
 
@@ -33,17 +31,10 @@ returns-in_err-trees-clause-refused c =
     c.args.table.now.sources (option_copied c.args.archive) c.in_ok-heard.heard.items c.in_ok-heard.ensures.heard c.in_err-trees.field-0.0
     c.in_ok-gained_by_all.field-0.items are c.in_err-trees.ensures.refused))
 
-pub grown-requires-clause-may : goal.grown-requires-clause-may
-grown-requires-clause-may c p below =
-    subst (λ (heard : List Heard). MayCharge (desk_at c.args.desks.now p) (gains_at heard p)) (sym c.deref-2.ensures.value)
-    (may_charge c.args.table.now.sources (option_copied c.args.archive) (trusts c.args.trust.now) c.args.place c.args.limits.charge c.args.job.now
-    c.args.desks.now c.args.jobs.now.goals c.in_ok-heard.heard.items c.in_ok-heard.ensures.heard (search rules) p
-    (let count = c.in_ok-heard.ensures.count in omega (arith, count, below)))
-
-pub returns-in_err-grown : goal.returns-in_err-grown
-returns-in_err-grown c =
-    let p = err_from_is_err_and c.from_residual-in_err-grown.result c.from_residual-in_err-grown.ensures.1 in
-    rw (p.1, p.2) (record { prepared = tt; refused = inl c.in_err-grown.ensures.memory })
+pub returns-in_err-additions : goal.returns-in_err-additions
+returns-in_err-additions c =
+    let p = err_from_is_err_and c.from_residual-in_err-additions.result c.from_residual-in_err-additions.ensures.1 in
+    rw (p.1, p.2) (record { prepared = tt; refused = inl c.in_err-additions.ensures })
 
 pub returns-in_err-told : goal.returns-in_err-told
 returns-in_err-told c =
@@ -58,8 +49,7 @@ returns-clause-prepared c =
     record {
       made = c.in_ok-heard.ensures.heard;
       count = c.in_ok-heard.ensures.count;
-      grown = subst (λ (hs : List Heard). AreGrown c.args.desks.now hs c.in_ok-grown.grown.items) c.deref-2.ensures.value c.in_ok-grown.ensures.grown;
-      each = c.in_ok-grown.ensures.count;
+      additions = subst (λ (hs : List Heard). AreToAdd hs c.in_ok-additions.additions.items) c.deref-2.ensures.value c.in_ok-additions.ensures;
       all = sym (ap (λ ts. put_all (sources_of ts) c.args.table.now.sources) are) ∙ c.in_ok-trees.ensures.all;
       new = c.in_ok-trees.ensures.new;
       there = subst (AreThere c.args.table.now.sources) are c.in_ok-trees.ensures.there;

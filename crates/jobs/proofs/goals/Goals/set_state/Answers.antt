@@ -5,22 +5,37 @@ use Rattle.model.specs.Goals.{goal_at, in_state}
 use Rattle.jobs.specs.Owned.{Owned}
 use Rattle.states.specs.States.{state_of}
 use Rattle.jobs.proofs.NumberLemmas.{found, changed}
-use Rattle.jobs.proofs.IndexedLemmas.{indexed_left}
+use Rattle.jobs.proofs.IndexedLemmas.{indexed_left, room_for}
 use Rattle.jobs.proofs.goals.Goals.set_state.Goals as goal
+
+pub settle-requires : goal.settle-requires
+settle-requires c done =
+    let gs : List Goal = c.self.inside.goals.items in
+    let n : ℕ = c.args.number in
+    let x : Goal = c.index_mut-goal.result.now in
+    let same : gs ≡ c.args.self.now.goals = ap (λ (v : Owned). v.goals) c.self.view_is in
+    let there : is_some (goal_at n gs) ≡ true = rw same c.requires.there in
+    let at : goal_at n gs ≡ Some x = found n gs x c.index_mut-goal.ensures.value there in
+    let lists = c.self.inside.indexes in
+    rw c.leave.ensures.done (room_for c.self.inside.owner gs n x at lists.of_jobs.entries lists.leading.entries lists.built.entries lists.done.entries
+    c.self.invariant.1)
 
 pub invariant_of-self : goal.invariant_of-self
 invariant_of-self c =
     let gs : List Goal = c.self.inside.goals.items in
     let n : ℕ = c.args.number in
     let x : Goal = c.index_mut-goal.result.now in
-    let y : Goal = in_state (state_of c.args.state) x in
     let same : gs ≡ c.args.self.now.goals = ap (λ (v : Owned). v.goals) c.self.view_is in
     let there : is_some (goal_at n gs) ≡ true = rw same c.requires.there in
-    let at : goal_at n gs ≡ Some x = found n gs x c.index_mut-goal.ensures.value there in (
+    let at : goal_at n gs ≡ Some x = found n gs x c.index_mut-goal.ensures.value there in
+    let old = c.self.inside.indexes in
+    let mid = c.leave.new.self in
+    let new = c.settle.new.self in (
       rw (length-set {A = Goal}) c.self.invariant.0,
-      rw c.set_state.ensures (indexed_left c.self.inside.owner gs n x y c.self.inside.indexes.of_jobs.entries c.leave.new.self.of_jobs.entries
-          c.self.inside.indexes.of_paths.entries c.leave.new.self.of_paths.entries at c.requires.state c.leave.ensures.jobs c.leave.ensures.paths
-          c.self.invariant.1),
+      rw (c.set_state.ensures, c.settle.ensures.jobs, c.settle.ensures.leading, c.settle.ensures.built, c.leave.ensures.built)
+          (indexed_left c.self.inside.owner gs n x at (state_of c.args.state) old.of_jobs.entries mid.of_jobs.entries old.leading.entries mid.leading.entries
+          old.built.entries old.done.entries new.done.entries c.requires.state c.leave.ensures.jobs c.leave.ensures.leading
+          (rw (c.leave.ensures.done, c.is_done.ensures) at c.settle.ensures.done) (rw c.leave.ensures.done at c.settle.ensures.room) c.self.invariant.1),
     )
 
 pub returns : goal.returns

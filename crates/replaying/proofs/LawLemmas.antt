@@ -1,0 +1,160 @@
+-- What is printed for a user where only the events are run that can reach him, beside what is printed where all are.
+use Rattle.std.proofs.Common.{◌≡◌, ℕ, Bool, true, false, inl, List, [], ◌∷◌, ◌++◌, map, Option, Some, None, refl, sym, ap, ◌∙◌, subst}
+use Rattle.std.specs.Prelude.{◌||◌, not, filter, All, Result, Ok, Err, IfOk}
+use Rattle.std.specs.Global.{Vec}
+use Rattle.std.specs.List.{list_any}
+use Rattle.std.proofs.lemmas.List.{append-nil}
+use Rattle.std.proofs.lemmas.List.Elements.{All-tail, All-head}
+use Rattle.model.specs.declared.mode.Mode.TheVariants.{Service}
+use Rattle.model.specs.declared.refusal.Refusal.{Refusal}
+use Rattle.model.specs.Paths.{NoClash}
+use Rattle.model.specs.Worlds.{Setup, nothing}
+use Rattle.model.specs.Events.{Event, Reply, Done, Path, Derivation, Content, Entries, GoalNumber, GoalState, Refused}
+use Rattle.model.specs.Steps.{answers, replies_to, replies}
+use Rattle.model.specs.Replies.{is_refusal, is_memory, is_memory_refusal, is_stopped_refusal, is_unrecorded}
+use Rattle.model.specs.HashedTexts.{hashed}
+use Rattle.model.specs.Lines.{lines_of}
+use Rattle.model.specs.Reach.{is_among}
+use Rattle.model.specs.Talk as talk
+use Rattle.model.specs.Talk.{fresh, after_all, Talks, asked_in, users_in}
+use Rattle.laws.proofs.TalkLemmas.{same_users, no_users}
+use Rattle.trust.specs.declared.user.User.{User}
+use Rattle.events.specs.declared.event.Event.{Event as AskedEvent}
+use Rattle.events.specs.declared.reply.Reply.{Reply as GivenReply}
+use Rattle.events.specs.Terms.{event_of, answer_of}
+use Rattle.schedule.specs.Running.{HadMemory, IsRun}
+use Rattle.session.specs.Ahead.{LooksAhead}
+use Rattle.passes.specs.declared.row.Row.{Row}
+use Rattle.book.specs.Histories.{event_in, answer_in, events_of, answers_of, IsLegal}
+use Rattle.replaying.specs.declared.first_run.FirstRun.{FirstRun}
+use Rattle.replaying.specs.Replaying.{pair_of, IsGoing, AreOfOneStore}
+use Rattle.replaying.specs.Striking.{events_in, struck, numbers_of, text_for, lines_under, HadMemoryFor, HaveOneText, Rerun, IsStruck}
+use Rattle.replaying.specs.Recording.{IsFirstRun}
+use Rattle.replaying.proofs.StrikingLemmas.{answer_to, text-lines}
+
+-- ---- the first run
+
+both_not : (a b : Bool) → a ≡ false → b ≡ false → (a || b) ≡ false
+both_not a b e f = rw (e, f) refl
+
+is_recorded : (reply : Reply) → is_memory reply ≡ false → is_refusal is_stopped_refusal reply ≡ false → is_unrecorded reply ≡ false
+is_recorded Done m s = refl
+is_recorded (Path path) m s = refl
+is_recorded (Derivation path class) m s = refl
+is_recorded (Content tree) m s = refl
+is_recorded (Entries entries) m s = refl
+is_recorded (GoalNumber number) m s = refl
+is_recorded (GoalState state) m s = refl
+is_recorded (Refused why) m s = both_not (is_memory_refusal why) (is_stopped_refusal why) m s
+
+first_not : (a b : Bool) → (a || b) ≡ false → (a ≡ false) × (b ≡ false)
+first_not true b e = cc
+first_not false b e = (refl, e)
+
+-- where memory was refused to none of the events, all are recorded
+all_recorded : (pairs : List (Event × Reply)) → list_any (λ p. is_memory p.1) pairs ≡ false → All IsGoing pairs
+    → filter (λ p. not (is_unrecorded p.1)) pairs ≡ pairs
+all_recorded [] m g = refl
+all_recorded (p ∷ pairs) m g =
+    let parts = first_not (is_memory p.1) (list_any (λ q. is_memory q.1) pairs) m in
+    let kept : not (is_unrecorded p.1) ≡ true = ap not (is_recorded p.1 parts.0 (All-head IsGoing p pairs g)) in
+    rw kept (ap (λ t. p ∷ t) (all_recorded pairs parts.1 (All-tail IsGoing p pairs g)))
+
+history_events : (history : List Row) → map (λ (p : Event × Reply). p.0) (map pair_of history) ≡ events_of history
+history_events [] = refl
+history_events (r ∷ history) = ap (λ t. event_in r ∷ t) (history_events history)
+
+history_answers : (history : List Row) → map answer_to (map pair_of history) ≡ answers_of history
+history_answers [] = refl
+history_answers (r ∷ history) = ap (λ t. answer_in r ∷ t) (history_answers history)
+
+module _ (setup : Setup) (user : List ℕ) (rows : List talk.Row) where
+  -- his replies in a legal history
+  legal_replies : (timed : Bool) (history : List Row) → IsLegal setup history → NoClash (hashed setup nothing (events_of history))
+      → replies_to user (answers_of history) ≡ replies setup user (struck timed setup user (events_of history))
+  legal_replies true history legal clean = legal.timed clean user
+  legal_replies false history legal clean = legal.isolated clean user
+
+  -- his replies where all events are run are those to the events that can reach him
+  first_replies : (timed : Bool) → AreOfOneStore setup rows → NoClash (hashed setup nothing (events_in rows)) → HadMemoryFor rows
+      → replies_to user (map answer_to (asked_in rows)) ≡ replies setup user (struck timed setup user (events_in rows))
+  first_replies timed one clean memory =
+      let history = one.recorded.history in
+      let pairs : map pair_of history ≡ asked_in rows =
+      one.recorded.is ∙ all_recorded (asked_in rows) memory one.going in
+      let events : events_of history ≡ events_in rows =
+      sym (history_events history) ∙ ap (λ (t : List (Event × Reply)). map (λ p. p.0) t) pairs in
+      let told : answers_of history ≡ map answer_to (asked_in rows) =
+      sym (history_answers history) ∙ ap (λ (t : List (Event × Reply)). map answer_to t) pairs in
+      ap (replies_to user) (sym told)
+      ∙ legal_replies timed history one.recorded.legal (subst (λ es. NoClash (hashed setup nothing es)) (sym events) clean)
+      ∙ ap (λ es. replies setup user (struck timed setup user es)) events
+
+  -- so his lines are the same
+  same_text : (timed : Bool) (given : List (User × GivenReply)) → AreOfOneStore setup rows → Rerun setup user timed (events_in rows) given
+      → HaveOneText setup timed user rows → HadMemoryFor rows → HadMemory given
+      → lines_under user (numbers_of user 1 rows) (replies_to user (map answer_of given)) ≡ text_for user 1 rows
+  same_text timed given one second clean memory memory' =
+      ap (λ rs. lines_under user (numbers_of user 1 rows) rs)
+      (ap (replies_to user) (second.private clean.1 memory') ∙ sym (first_replies timed one clean.0 memory))
+      ∙ sym (text-lines user 1 rows)
+
+-- ---- the users
+
+named_as : (found named : Option (List (List ℕ))) (users : List (List ℕ)) → found ≡ Some users → (named ≡ None → found ≡ None)
+    → ((users users' : List (List ℕ)) → found ≡ Some users → named ≡ Some users' → users ≡ users') → named ≡ Some users
+named_as found None users is none some = let bad : found ≡ None = none refl in cc
+named_as found (Some others) users is none some = ap (λ us. Some us) (sym (some users others is refl))
+
+-- all lines name the users that were found ahead
+pub named_ahead : (input : List ℕ) (users : List (List ℕ)) (rows : List talk.Row) → LooksAhead Service input (Some users)
+    → Talks (fresh Service) (lines_of input) rows
+    → users_in rows ≡ Some users
+named_ahead input users rows found t =
+    let whole : lines_of input ++ [] ≡ found.done ++ found.rest = append-nil (lines_of input) ∙ found.cut in
+    named_as (users_in found.rows) (users_in rows) users found.named
+    (no_users (fresh Service) (lines_of input) found.done [] found.rest rows found.rows refl t found.talks whole (inl refl))
+    (same_users (fresh Service) found.done (lines_of input) found.rest [] found.rows rows refl found.talks t (sym whole))
+
+-- ---- the second run
+
+pub run_again : (setup : Setup) (user : List ℕ) (timed : Bool) (events : List Event) (kept : List AskedEvent) (r : Result (Vec (User × GivenReply)) Refusal)
+    → map event_of kept ≡ struck timed setup user events → IfOk r (λ given. IsRun setup kept given.items)
+    → (NoClash (hashed setup nothing (map event_of kept))
+    → IfOk r (λ given. HadMemory given.items → map answer_of given.items ≡ answers setup nothing (map event_of kept)))
+    → IfOk r (λ given. Rerun setup user timed events given.items)
+run_again setup user timed events kept (Ok given) is steps same = record {
+  kept = kept;
+  struck_out = is;
+  run = steps;
+  private = λ clean memory.
+      subst (λ es. map answer_of given.items ≡ answers setup nothing es) is (same (subst (λ es. NoClash (hashed setup nothing es)) (sym is) clean) memory);
+}
+run_again setup user timed events kept (Err why) is steps same = tt
+
+-- ---- both runs
+
+pub both_runs : (charge : ℕ) (user : List ℕ) (timed : Bool) (input : List ℕ) (users : List (List ℕ)) (run : FirstRun) (given : List (User × GivenReply))
+    → LooksAhead Service input (Some users) → is_among user users ≡ true
+    → IsFirstRun (record { users = users; charge = charge }) user (lines_of input) run
+    → Rerun (record { users = users; charge = charge }) user timed (map event_of run.events.items) given
+    → IsStruck charge user timed (lines_of input) (lines_under user run.numbers.items (replies_to user (map answer_of given)))
+both_runs charge user timed input users run given found listed first second =
+    let setup : Setup = record { users = users; charge = charge } in
+    let again : Rerun setup user timed (events_in first.rows) given = subst (λ es. Rerun setup user timed es given) first.events_are second in
+    let text_is = ap (λ ns. lines_under user ns (replies_to user (map answer_of given))) first.numbers_are in
+    record {
+      users = users;
+      rows = first.rows;
+      first = record {
+        talks = first.talks;
+        going = first.going;
+        named = named_ahead input users first.rows found first.talks;
+        listed = listed;
+        answered = first.answered;
+      };
+      given = given;
+      second = again;
+      text_is = text_is;
+      same = λ clean memory memory'. text_is ∙ same_text setup user first.rows timed given first.answered again clean memory memory';
+    }

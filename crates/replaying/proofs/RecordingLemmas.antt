@@ -1,0 +1,196 @@
+-- Lines whose events are kept.
+use Rattle.std.proofs.Common.{◌≡◌, ℕ, ◌+◌, ◌<◌, Bool, false, List, [], ◌∷◌, ◌++◌, length, map, refl, sym, ap, ◌∙◌, subst}
+use Rattle.std.proofs.Common.{arith, append_assoc, length-append, None, Some}
+use Rattle.std.specs.Prelude.{if◌then◌else◌, bytes_eq, slice_get, MatchOption}
+use Rattle.std.proofs.lemmas.List.{append-nil}
+use Rattle.model.specs.declared.mode.Mode.TheVariants.{Service}
+use Rattle.model.specs.Worlds.{Setup, Job}
+use Rattle.model.specs.Events.{Event as ModelEvent, Reply, Done}
+use Rattle.model.specs.Lines.{lines_of, cut_at}
+use Rattle.model.specs.Talk.{Row, Silent, Names, Refuses, Asks, Waits, Seen, fresh, after, after_all, GetsNext}
+use Rattle.events.specs.declared.event.Event.{Event}
+use Rattle.events.specs.Terms.{event_of}
+use Rattle.session.specs.Serving.{Link}
+use Rattle.session.proofs.RowLemmas.{talks-more, after_all-more, chain-more, length-after_all}
+use Rattle.session.proofs.LineLemmas.{lines-newline, lines-last}
+use Rattle.session.proofs.FeedLemmas.{cut-line, cut-rest}
+use Rattle.passes.specs.Callers.{Caller}
+use Rattle.replaying.specs.Replaying.{LinksOnly}
+use Rattle.replaying.specs.Striking.{events_in, is_of, numbers_of}
+use Rattle.replaying.specs.Recording.{Keeps, AsksOn, AllAsked, IsFirstRun}
+use Rattle.replaying.specs.declared.first_run.FirstRun.{FirstRun}
+use Rattle.replaying.proofs.ReplayLemmas.{one_store}
+use Rattle.replaying.proofs.StrikingLemmas.{numbers-more, events-more}
+
+-- ---- one line
+
+-- whether the first of some events is the user's
+abbrev is_first_of : List ℕ → List ModelEvent → Bool
+is_first_of user [] = false
+is_first_of user (event ∷ events) = bytes_eq event.actor user
+
+next_of : (user : List ℕ) (old new : List Event) (found : List ModelEvent) (his : Bool) → map event_of new ≡ map event_of old ++ found
+    → MatchOption (slice_get new (length old)) (his ≡ false) (λ event. his ≡ bytes_eq event.actor user) → his ≡ is_first_of user found
+next_of user [] [] [] his e h = h
+next_of user [] [] (f ∷ found) his e h = cc
+next_of user [] (x ∷ new) [] his e h = cc
+next_of user [] (x ∷ new) (f ∷ found) his e h =
+    let same : event_of x ≡ f = cc in
+    h ∙ ap (λ (event : ModelEvent). bytes_eq event.actor user) same
+next_of user (o ∷ old) [] found his e h = cc
+next_of user (o ∷ old) (x ∷ new) found his e h =
+    let rest : map event_of new ≡ map event_of old ++ found = cc in
+    next_of user old new found his rest h
+
+-- the event behind those that were kept before a line is the line's
+pub his_line : (user : List ℕ) (old new : List Event) (row : Row) (his : Bool) → map event_of new ≡ map event_of old ++ events_in (row ∷ [])
+    → MatchOption (slice_get new (length old)) (his ≡ false) (λ event. his ≡ bytes_eq event.actor user) → his ≡ is_of user row
+his_line user old new Silent his e h = next_of user old new [] his e h
+his_line user old new (Names users) his e h = next_of user old new [] his e h
+his_line user old new (Refuses why) his e h = next_of user old new [] his e h
+his_line user old new (Waits goals reply) his e h = next_of user old new [] his e h
+his_line user old new (Asks event reply) his e h = next_of user old new (event ∷ []) his e h
+
+module _ {A : Type 0} (setup : Setup) (store : A → Caller) (events : A → List ModelEvent) (lost : A → Bool) where
+  -- who answers as a store does, and keeps what is asked
+  abbrev pub answers : A → ModelEvent → Reply → A → Type 0
+  answers old event reply new = Keeps setup (store old) (events old) (lost old) event reply (store new) (events new) (lost new)
+
+  abbrev pub waited : A → List Job → Reply → A → Type 0
+  waited old goals reply new = (new ≡ old) × (reply ≡ Done)
+
+  abbrev IsKept : A → Row → A → Type 0
+  IsKept old row new = LinksOnly setup (store old) row (store new) × (events new ≡ events old ++ events_in (row ∷ []))
+
+  stays : (old new : A) → new ≡ old → events new ≡ events old ++ []
+  stays old new same = ap events same ∙ sym (append-nil (events old))
+
+  -- a line that was answered is one link of the store's chain, and its event is kept
+  pub link_kept : (old new : A) (row : Row) → Link answers waited old row new → lost new ≡ false → IsKept old row new
+  link_kept old new Silent h f = (ap store h, stays old new h)
+  link_kept old new (Names users) h f = (ap store h, stays old new h)
+  link_kept old new (Refuses why) h f = (ap store h, stays old new h)
+  link_kept old new (Waits goals reply) h f = ((ap store h.0, h.1), stays old new h.0)
+  link_kept old new (Asks event reply) h f = (h.0, (h.1 f).1)
+
+-- the same of who answered and who does then
+pub link_at : {A : Type 0} (old new : A) (setup : Setup) (store : A → Caller) (events : A → List ModelEvent) (lost : A → Bool) (row : Row)
+    → Link (answers setup store events lost) (waited setup store events lost) old row new → lost new ≡ false
+    → LinksOnly setup (store old) row (store new) × (events new ≡ events old ++ events_in (row ∷ []))
+link_at old new setup store events lost row h f = link_kept setup store events lost old new row h f
+
+-- the event at a place where this many were kept before a line
+pub his_at : (user : List ℕ) (old new items : List Event) (n : ℕ) (row : Row) (his : Bool) → items ≡ new → n ≡ length old
+    → map event_of new ≡ map event_of old ++ events_in (row ∷ [])
+    → MatchOption (slice_get items n) (his ≡ false) (λ event. his ≡ bytes_eq event.actor user) → his ≡ is_of user row
+his_at user old new items n row his same count e h =
+    his_line user old new row his e
+    (subst (λ k. MatchOption (slice_get new k) (his ≡ false) (λ event. his ≡ bytes_eq event.actor user)) count
+    (subst (λ es. MatchOption (slice_get es n) (his ≡ false) (λ event. his ≡ bytes_eq event.actor user)) same h))
+
+-- ---- all lines
+
+-- the first of all lines were asked, and the rest is left
+pub record SoFar (setup : Setup) (user : List ℕ) (all rest : List (List ℕ)) (seen : Seen) (old new : Caller) (events : List ModelEvent)
+    (numbers : List ℕ) : Type 0 where
+  pub done : List (List ℕ)
+  pub asked : AllAsked setup user done old new events numbers
+  pub seen_is : seen ≡ after_all (fresh Service) asked.rows
+  pub cut : all ≡ done ++ rest
+
+pub none_asked : (setup : Setup) (user : List ℕ) (all : List (List ℕ)) (old : Caller) → SoFar setup user all all (fresh Service) old old [] []
+none_asked setup user all old = record {
+  done = [];
+  asked = record { rows = []; talks = tt; going = refl; links = refl; events_are = refl; numbers_are = refl };
+  seen_is = refl;
+  cut = refl;
+}
+
+-- a new session has asked none
+pub begins : (setup : Setup) (user : List ℕ) (all : List (List ℕ)) (old : Caller) (seen : Seen) (events : List Event) (numbers : List ℕ)
+    → seen ≡ fresh Service → events ≡ [] → numbers ≡ [] → SoFar setup user all all seen old old (map event_of events) numbers
+begins setup user all old seen events numbers new none no_number =
+    subst (λ x. SoFar setup user all all x old old (map event_of events) numbers) (sym new)
+    (subst (λ es. SoFar setup user all all (fresh Service) old old (map event_of es) numbers) (sym none)
+    (subst (λ ns. SoFar setup user all all (fresh Service) old old [] ns) (sym no_number) (none_asked setup user all old)))
+
+module _ (setup : Setup) (user : List ℕ) (old : Caller) where
+  numbered : (rows : List Row) (row : Row) (seen' : Seen) (numbers numbers' : List ℕ) (his : Bool) → seen' ≡ after_all (fresh Service) (rows ++ row ∷ [])
+      → numbers ≡ numbers_of user 1 rows → his ≡ is_of user row → numbers' ≡ numbers ++ (if his then length seen'.told ∷ [] else [])
+      → numbers' ≡ numbers_of user 1 (rows ++ row ∷ [])
+  numbered rows row seen' numbers numbers' his seen_is numbers_are his_is more =
+      let after_row : length seen'.told ≡ 0 + length (rows ++ row ∷ []) =
+      ap (λ (s : Seen). length s.told) seen_is ∙ length-after_all (fresh Service) (rows ++ row ∷ []) in
+      let count : length seen'.told ≡ 1 + length rows = omega (arith, after_row, length-append rows (row ∷ [])) in
+      more
+      ∙ ap (λ (t : List ℕ). t ++ (if his then length seen'.told ∷ [] else [])) numbers_are
+      ∙ ap (λ (b : Bool). numbers_of user 1 rows ++ (if b then length seen'.told ∷ [] else [])) his_is
+      ∙ ap (λ (n : ℕ). numbers_of user 1 rows ++ (if is_of user row then n ∷ [] else [])) count
+      ∙ sym (numbers-more user 1 rows row)
+
+  one_more : (all rest : List (List ℕ)) (line : List ℕ) (seen seen' : Seen) (mid new : Caller) (events events' : List ModelEvent) (numbers numbers' : List ℕ)
+      → SoFar setup user all (line ∷ rest) seen old mid events numbers → AsksOn setup user line seen seen' mid events numbers new events' numbers'
+      → SoFar setup user all rest seen' old new events' numbers'
+  one_more all rest line seen seen' mid new events events' numbers numbers' s h =
+      let a = s.asked in
+      let l = h.asked in
+      let gets : GetsNext (after_all (fresh Service) a.rows) line l.row = subst (λ x. GetsNext x line l.row) s.seen_is l.gets in
+      let seen_is : seen' ≡ after_all (fresh Service) (a.rows ++ l.row ∷ []) =
+      l.seen_is ∙ ap (λ x. after x l.row) s.seen_is ∙ sym (after_all-more (fresh Service) a.rows l.row) in
+      record {
+        done = s.done ++ line ∷ [];
+        asked = record {
+          rows = a.rows ++ l.row ∷ [];
+          talks = talks-more (fresh Service) s.done a.rows line l.row a.talks a.going gets;
+          going = ap (λ (x : Seen). x.refused) (sym seen_is) ∙ l.going;
+          links = chain-more (LinksOnly setup) old a.rows mid l.row new a.links l.link;
+          events_are = l.events_are ∙ ap (λ (t : List ModelEvent). t ++ events_in (l.row ∷ [])) a.events_are ∙ sym (events-more a.rows l.row);
+          numbers_are = numbered a.rows l.row seen' numbers numbers' h.his seen_is a.numbers_are l.his_is h.numbers_are;
+        };
+        seen_is = seen_is;
+        cut = s.cut ∙ sym (append_assoc s.done (line ∷ []) rest);
+      }
+
+  -- the next line was asked
+  pub next_line : (all : List (List ℕ)) (rest line after : List ℕ) (seen seen' : Seen) (mid new : Caller) (events events' : List ModelEvent)
+      (numbers numbers' : List ℕ) → cut_at 10 rest ≡ Some (line, after) → SoFar setup user all (lines_of rest) seen old mid events numbers
+      → AsksOn setup user line seen seen' mid events numbers new events' numbers' → SoFar setup user all (lines_of after) seen' old new events' numbers'
+  next_line all rest line after seen seen' mid new events events' numbers numbers' cut s h =
+      let c = cut-line rest line after cut in
+      let lines : lines_of rest ≡ line ∷ lines_of after = ap lines_of c.0 ∙ lines-newline line after c.1 in
+      let so_far = subst (λ t. SoFar setup user all t seen old mid events numbers) lines s in
+      one_more all (lines_of after) line seen seen' mid new events events' numbers numbers' so_far h
+
+  all_done : (all : List (List ℕ)) (seen : Seen) (new : Caller) (events : List ModelEvent) (numbers : List ℕ)
+      → SoFar setup user all [] seen old new events numbers → AllAsked setup user all old new events numbers
+  all_done all seen new events numbers s = subst (λ t. AllAsked setup user t old new events numbers) (sym (s.cut ∙ append-nil s.done)) s.asked
+
+  -- nothing is left
+  pub all_lines : (all : List (List ℕ)) (rest : List ℕ) (seen : Seen) (new : Caller) (events : List ModelEvent) (numbers : List ℕ) → rest ≡ []
+      → SoFar setup user all (lines_of rest) seen old new events numbers → AllAsked setup user all old new events numbers
+  all_lines all rest seen new events numbers none s =
+      all_done all seen new events numbers (subst (λ t. SoFar setup user all (lines_of t) seen old new events numbers) none s)
+
+  -- the last line, which lacks its newline, was asked
+  pub last_line : (all : List (List ℕ)) (rest : List ℕ) (seen seen' : Seen) (mid new : Caller) (events events' : List ModelEvent)
+      (numbers numbers' : List ℕ) → cut_at 10 rest ≡ None → 0 < length rest → SoFar setup user all (lines_of rest) seen old mid events numbers
+      → AsksOn setup user rest seen seen' mid events numbers new events' numbers' → AllAsked setup user all old new events' numbers'
+  last_line all [] seen seen' mid new events events' numbers numbers' cut some s h = absurd (omega (arith, some))
+  last_line all (b ∷ rest) seen seen' mid new events events' numbers numbers' cut some s h =
+      let lines : lines_of (b ∷ rest) ≡ (b ∷ rest) ∷ [] = lines-last b rest (cut-rest (b ∷ rest) cut) in
+      let so_far = subst (λ t. SoFar setup user all t seen old mid events numbers) lines s in
+      all_done all seen' new events' numbers' (one_more all [] (b ∷ rest) seen seen' mid new events events' numbers numbers' so_far h)
+
+-- ---- a first run
+
+-- lines that a pass which had made no call was asked are one store's
+pub first_of : (setup : Setup) (user : List ℕ) (lines : List (List ℕ)) (old new : Caller) (run : FirstRun) → old.sure ≡ []
+    → AllAsked setup user lines old new (map event_of run.events.items) run.numbers.items → IsFirstRun setup user lines run
+first_of setup user lines old new run none a = record {
+  rows = a.rows;
+  talks = a.talks;
+  going = a.going;
+  answered = one_store setup old new a.rows none a.links;
+  events_are = a.events_are;
+  numbers_are = a.numbers_are;
+}

@@ -1,0 +1,80 @@
+-- How the end of `strike` is told once all was flushed.
+use Rattle.std.proofs.Common.{◌≡◌, ℕ, Bool, inl, inr, List, [], length, take, Option, refl, sym, subst, arith}
+use Rattle.std.specs.Prelude.{Result, Ok, Err, IfErr, OnOk, OnErr}
+use Rattle.std.proofs.lemmas.List.{take_all}
+use Rattle.std.specs.Io.KnownBytes.{Appends}
+use Rattle.model.specs.declared.refusal.Refusal.{Refusal}
+use Rattle.model.specs.declared.refusal.Refusal.TheVariants.{OutputFault}
+use Rattle.model.specs.Lines.{lines_of}
+use Rattle.session.specs.Serving.{IsUnwritten, TellsEnd}
+use Rattle.session.proofs.RowLemmas.{appends-none, appends-flushed, on_ok}
+use Rattle.replaying.specs.Striking.{IsStruck, Struck, StruckEarly}
+use Rattle.replaying.proofs.WholeLemmas.{Told}
+
+-- where it ended before anything was written
+pub nothing_written : {T : Type 0} (r : Result T Refusal) (charge : ℕ) (user : List ℕ) (timed : Bool) (lines : List (List ℕ)) (blank : Option (List ℕ))
+    → IfErr r (StruckEarly charge user timed blank blank lines)
+nothing_written (Ok t) charge user timed lines blank = tt
+nothing_written (Err why) charge user timed lines blank = inl (appends-none blank)
+
+pub nothing_known : {T : Type 0} (r : Result T Refusal) (charge : ℕ) (user : List ℕ) (timed : Bool) (known : List ℕ → Type 0) (blank : Option (List ℕ))
+    → IfErr r (λ why. (all : List ℕ) → known all → StruckEarly charge user timed blank blank (lines_of all) why)
+nothing_known (Ok t) charge user timed known blank = tt
+nothing_known (Err why) charge user timed known blank = λ all k. inl (appends-none blank)
+
+module _ {T : Type 0} (r : Result T Refusal) (charge : ℕ) (user : List ℕ) (timed : Bool) (lines : List (List ℕ)) (blank written : Option (List ℕ)) where
+  -- where a text was found, what was written of it
+  pub struck_all : (text : List ℕ) → IsStruck charge user timed lines text → OnOk r (Appends blank written text) → OnOk r (Struck charge user timed blank written lines)
+  struck_all text is h = on_ok r (λ all. record { text = text; is = is; all = all }) h
+
+pub struck_part : {T : Type 0} (r : Result T Refusal) (charge : ℕ) (user : List ℕ) (timed : Bool) (lines : List (List ℕ)) (blank written : Option (List ℕ)) (text : List ℕ)
+    → IsStruck charge user timed lines text → OnErr r ((count : ℕ) × Appends blank written (take count text)) → IfErr r IsUnwritten
+    → IfErr r (StruckEarly charge user timed blank written lines)
+struck_part (Ok t) charge user timed lines blank written text is h fault = tt
+struck_part (Err why) charge user timed lines blank written text is h fault = inr (record { text = text; is = is; count = h.0; part = h.1; fault = fault })
+
+-- a want of memory or a failure of the writer is told as one of them
+still_unwritten : (first why : Refusal) (input output : Type 0) → TellsEnd first input output why → IsUnwritten first → IsUnwritten why
+still_unwritten first why input output h (inl o) = elim (subst (λ x. TellsEnd x input output why) o h) [ inl f ↦ inl f.0 | inr m ↦ inr m.0 ]
+still_unwritten first why input output h (inr m) = elim (subst (λ x. TellsEnd x input output why) m h) [ inl f ↦ inl f.0 | inr m' ↦ inr m'.0 ]
+
+module _ (charge : ℕ) (user : List ℕ) (timed : Bool) (lines : List (List ℕ)) (blank written written' : Option (List ℕ)) (kept : Appends written written' []) where
+  pub all_flushed : Struck charge user timed blank written lines → Struck charge user timed blank written' lines
+  all_flushed h = record { text = h.text; is = h.is; all = appends-flushed blank written written' h.text h.all kept }
+
+  -- all of it was written, and was not flushed
+  pub not_flushed : Struck charge user timed blank written lines → StruckEarly charge user timed blank written' lines OutputFault
+  not_flushed h =
+      let whole : h.text ≡ take (length h.text) h.text = sym (take_all (length h.text) h.text (omega arith)) in
+      inr (record {
+        text = h.text;
+        is = h.is;
+        count = length h.text;
+        part = subst (Appends blank written') whole (appends-flushed blank written written' h.text h.all kept);
+        fault = inl refl;
+      })
+
+  -- an end that is told so
+  pub early_told : (first why : Refusal) → (IsUnwritten first → IsUnwritten why) → StruckEarly charge user timed blank written lines first
+      → StruckEarly charge user timed blank written' lines why
+  early_told first why told (inl none) = inl (appends-flushed blank written written' [] none kept)
+  early_told first why told (inr h) = inr (record {
+    text = h.text;
+    is = h.is;
+    count = h.count;
+    part = appends-flushed blank written written' (take h.count h.text) h.part kept;
+    fault = told h.fault;
+  })
+
+-- what an end is told as, where all was printed, or nothing or a beginning
+pub early_after : (old new : ℕ) (input output : Type 0) (r e : Result (Unit {0}) Refusal) (P : Type 0) (Q S : Refusal → Type 0)
+    → IfErr r (Told e old new input output) → OnOk e P → IfErr e Q → (P → S OutputFault)
+    → ((first why : Refusal) → (IsUnwritten first → IsUnwritten why) → Q first → S why) → IfErr r S
+early_after old new input output (Ok u) e P Q S is p q unshown later = tt
+early_after old new input output (Err why) (Ok v) P Q S (inl f) p q unshown later = subst S (sym f.0) (unshown p)
+early_after old new input output (Err why) (Err first) P Q S (inl f) p q unshown later = later first why (λ u. inl f.0) q
+early_after old new input output (Err why) (Ok v) P Q S (inr t) p q unshown later = let bad : Ok v ≡ Err t.0 = t.1 in cc
+early_after old new input output (Err why) (Err first) P Q S (inr t) p q unshown later =
+    let is : first ≡ t.0 = let e : Err first ≡ Err t.0 = t.1 in cc in
+    let tells : TellsEnd first input output why = subst (λ x. TellsEnd x input output why) (sym is) t.2 in
+    later first why (still_unwritten first why input output tells) q

@@ -1,0 +1,157 @@
+//! Running the lines of an input for the events that they make.
+
+ghost use Rattle.std.specs.Prelude.{◌≡◌, ◌≤◌, ◌<◌, false, [], length, map, slice_get, bytes_eq, MatchBool, MatchOption, IfOk, OnOk};
+ghost use Rattle.model.specs.Lines.{lines_of};
+ghost use Rattle.model.specs.Limits.{most_charge};
+ghost use Rattle.model.specs.Worlds.{nothing};
+ghost use Rattle.events.specs.Terms.{event_of};
+ghost use Rattle.schedule.specs.Standing.{setup_for, setup_of, world_of, stored_in};
+ghost use Rattle.replaying.specs.Recording.{Asked, AsksOn, AllAsked, IsFirstRun};
+
+use crate::one_pass::OnePass;
+use crate::recorder::Recorder;
+use book::{Blank, Front, Naming};
+use lines::cut;
+use model::Refusal;
+use schedule::{Core, Event, Limits, User};
+use session::{Mode, Session};
+use std::alloc::Global;
+use std::hash::RandomState;
+use std::marker::Brand;
+use std::sync::Wait;
+
+/// What the lines of an input asked, and the numbers of those lines that made an event of one user.
+#[derive(Drop)]
+pub(crate) struct FirstRun {
+    pub(crate) events: Vec<Event>,
+    pub(crate) numbers: Vec<usize>,
+}
+
+/// Whether there is an event behind so many others, and it is a user's.
+fn is_next_of(events: &[Event], before: usize, user: &User) -> bool
+    ensures { MatchOption (slice_get events.now before) (result ≡ false) (λ event. result ≡ bytes_eq event.actor user.now) }
+{
+    events.get(before).is_some_and(|event| event.actor == *user)
+}
+
+/// Runs a line. Whether it makes an event of the user.
+fn ask_line<J: Naming, H: Wait>(
+    alloc: Global,
+    session: &mut Session,
+    recorder: &mut Recorder<'_, J, H>,
+    line: &[u8],
+    user: &User,
+) -> Result<bool, Refusal>
+    requires { recorder.old.has_lost ≡ false }
+    ensures asked { IfOk result (λ his. Asked J.setup user.now line.now session.old session.new
+        recorder.old.store (map event_of recorder.old.events.items)
+        recorder.new.store (map event_of recorder.new.events.items) his) }
+    ensures kept { OnOk result (recorder.new.has_lost ≡ false) }
+{
+    let before = recorder.events.len();
+    session.line(alloc, line, recorder)?;
+    if recorder.has_lost {
+        return Err(Refusal::Memory);
+    }
+    if session.is_refused() {
+        return Err(Refusal::BadUsers);
+    }
+    Ok(is_next_of(recorder.events.as_slice(), before, user))
+}
+
+/// Runs a line, and adds its number to the others where it makes an event of the user.
+fn ask_numbered<J: Naming, H: Wait>(
+    alloc: Global,
+    session: &mut Session,
+    recorder: &mut Recorder<'_, J, H>,
+    line: &[u8],
+    user: &User,
+    numbers: &mut Vec<usize>,
+) -> Result<(), Refusal>
+    requires { recorder.old.has_lost ≡ false }
+    ensures asked { OnOk result (AsksOn J.setup user.now line.now session.old session.new
+        recorder.old.store (map event_of recorder.old.events.items) numbers.old.items
+        recorder.new.store (map event_of recorder.new.events.items) numbers.new.items) }
+    ensures kept { OnOk result (recorder.new.has_lost ≡ false) }
+{
+    if ask_line(alloc, session, recorder, line, user)? {
+        numbers.push(session.line_count())?;
+    }
+    Ok(())
+}
+
+/// Whether a last line is begun, which lacks its newline.
+fn is_begun(rest: &[u8]) -> bool
+    ensures { MatchBool result (0 < length rest.now) (rest.now ≡ []) }
+{
+    !rest.is_empty()
+}
+
+/// Runs the lines of an input. Gives the numbers of those that make an event of the user.
+fn ask_lines<J: Naming, H: Wait>(
+    alloc: Global,
+    recorder: &mut Recorder<'_, J, H>,
+    input: &[u8],
+    user: &User,
+) -> Result<Vec<usize>, Refusal>
+    requires { (recorder.old.has_lost ≡ false) × (recorder.old.events.items ≡ []) }
+    ensures { IfOk result (λ numbers. AllAsked J.setup user.now (lines_of input.now)
+        recorder.old.store recorder.new.store (map event_of recorder.new.events.items) numbers.items) }
+{
+    let mut session = Session::new(alloc, Mode::Service);
+    let mut numbers = Vec::new(alloc);
+    let mut rest = input;
+    while let Some((line, after)) = cut(b'\n', rest) {
+        ask_numbered(alloc, &mut session, recorder, line, user, &mut numbers)?;
+        rest = after;
+    }
+    if !is_begun(rest) {
+        return Ok(numbers);
+    }
+    ask_numbered(alloc, &mut session, recorder, rest, user, &mut numbers)?;
+    Ok(numbers)
+}
+
+/// Runs the lines of an input by a new core, behind a lock that one pass takes.
+fn ask_core<J: Naming, H: Wait>(
+    rt: &H,
+    alloc: Global,
+    blank: Blank,
+    core: Core,
+    input: &[u8],
+    user: &User,
+) -> Result<FirstRun, Refusal>
+    requires blank { (blank.calls.name ≡ J.name) × (blank.calls.parts ≡ J.parts) × (blank.calls.parts ≡ 1) }
+    requires log { blank.log.table.shared.table_id ≡ J.table }
+    requires core { (setup_of core ≡ J.setup) × (world_of core ≡ nothing) × (stored_in core ≡ []) }
+    ensures { IfOk result (λ run. IsFirstRun J.setup user.now (lines_of input.now) run) }
+{
+    let (front, mut passes) = Front::<J>::new(alloc, blank, core, 1)?;
+    let pass = passes.pop().unwrap();
+    let mut recorder = Recorder {
+        store: OnePass { rt, front, pass },
+        events: Vec::new(alloc),
+        has_lost: false,
+    };
+    let numbers = ask_lines(alloc, &mut recorder, input, user)?;
+    let Recorder { events, .. } = recorder;
+    Ok(FirstRun { events, numbers })
+}
+
+/// Runs the lines of an input by a new store for these users, whose charge is limited.
+pub(crate) fn first_run<H: Wait>(
+    rt: &H,
+    alloc: Global,
+    hashing: RandomState,
+    users: Vec<User>,
+    limits: Limits,
+    input: &[u8],
+    user: &User,
+) -> Result<FirstRun, Refusal>
+    requires { limits.charge ≤ most_charge }
+    ensures { IfOk result (λ run. IsFirstRun (setup_for users limits) user.now (lines_of input.now) run) }
+{
+    let core = Core::new(alloc, hashing, users, limits)?;
+    let blank = Blank::new(alloc, 1)?;
+    ask_core::<Brand, _>(rt, alloc, blank, core, input, user)
+}
