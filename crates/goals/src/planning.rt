@@ -135,8 +135,9 @@ fn keep(
     ensures refused { IfErr result (IsNotKept table.old.sources resolved) }
 {
     let trees = trees_of(alloc, resolved.closure())?;
+    let count = trees.len();
     let trees = table.missing(alloc, trees)?;
-    table.reserve(trees.len())?;
+    table.reserve(count)?;
     jobs.keep(alloc, place, number, resolved)?;
     table.put_all_reserved(trees);
     Ok(())

@@ -6,7 +6,7 @@ use Rattle.model.specs.Worlds.{Resolved, Job, Goal, State, Waiting, Planned, Bui
 use Rattle.model.specs.Goals.{goal_at, is_in, same_job, in_state, new_goal}
 use Rattle.model.proofs.BoolLemmas.{both_parts, bytes_same}
 use Rattle.jobs.specs.Owned.{Owned}
-use Rattle.jobs.specs.Numbers.{numbers, numbers_at, without_number, entered, left, moved, is_of, has_scratch, own_job, leads_at, is_built_under, is_done_under, HasSameNumbers, KeepsRoom, EntersJob, EntersPath, LeavesJob, LeavesPath, MovesPath, IsSettled, HasRoom, HasRoomFor, Finds, IsIndexed}
+use Rattle.jobs.specs.Numbers.{numbers, numbers_at, without_number, entered, left, moved, is_of, has_scratch, own_job, leads_at, is_built_under, is_done_under, HasSameNumbers, KeepsRoom, EntersJob, EntersPath, LeavesJob, LeavesPath, MovesPath, SetsDone, HasRoom, HasRoomFor, Finds, IsIndexed}
 use Rattle.jobs.specs.States.{is_building, is_done, planned_with, IsIdle}
 use Rattle.jobs.proofs.NumberLemmas.{set_left, set_entered, set_kept, set_moved, not_there, more, pushed, got}
 
@@ -90,48 +90,48 @@ module _ (owner : List ℕ) (gs : List Goal) (n : ℕ) (g : Goal) (at : goal_at 
   built_kept s built is p = is p ∙ set_kept (is_built_under p) n gs g (in_state s g) at refl
 
   -- where it is done from now on, or is not
-  done_settled : (y : Goal) (done : Bool) (lists new_lists : List (List ℕ × Vec ℕ))
+  done_set : (y : Goal) (done : Bool) (lists new_lists : List (List ℕ × Vec ℕ))
       → ((p : List ℕ) → is_done_under p n y ≡ (done && has_scratch p g.resolved))
-      → IsSettled g done n lists new_lists → Finds bytes_eq is_done_under gs lists → Finds bytes_eq is_done_under (slice_set gs (n - 1) y) new_lists
-  done_settled y done lists new_lists same settled is p =
-      settled p
+      → SetsDone g done n lists new_lists → Finds bytes_eq is_done_under gs lists → Finds bytes_eq is_done_under (slice_set gs (n - 1) y) new_lists
+  done_set y done lists new_lists same sets is p =
+      sets p
       ∙ ap (moved (is_done_under p n g) (done && has_scratch p g.resolved) n) (is p)
       ∙ set_moved (is_done_under p) n gs g y (is_done_under p n g) (done && has_scratch p g.resolved) at refl (same p)
 
   -- a goal that is built in no job now, and is built from the same
   pub indexed_left : (state : State) (jobs new_jobs : List (Job × Vec ℕ)) (leading new_leading built done new_done : List (List ℕ × Vec ℕ))
       → is_building state ≡ false → LeavesJob g.state n jobs new_jobs → LeavesPath (is_building g.state) g.resolved n leading new_leading
-      → IsSettled g (is_done state) n done new_done → KeepsRoom bytes_eq done new_done
+      → SetsDone g (is_done state) n done new_done → KeepsRoom bytes_eq done new_done
       → IsIndexed owner gs jobs leading built done → IsIndexed owner (slice_set gs (n - 1) (in_state state g)) new_jobs new_leading built new_done
-  indexed_left state jobs new_jobs leading new_leading built done new_done idle of_jobs of_leading settled kept is = record {
+  indexed_left state jobs new_jobs leading new_leading built done new_done idle of_jobs of_leading sets kept is = record {
     of_jobs = of_jobs_left (in_state state g) jobs new_jobs idle of_jobs is.of_jobs;
     of_leading = leading_left (in_state state g) leading new_leading idle of_leading is.of_leading;
     of_built = built_kept state built is.of_built;
-    of_done = done_settled (in_state state g) (is_done state) done new_done (λ p. refl) settled is.of_done;
+    of_done = done_set (in_state state g) (is_done state) done new_done (λ p. refl) sets is.of_done;
     room = λ p. (let had = is.room p in let more_room = kept p in omega (arith, had, more_room));
   }
 
   -- a goal that is planned
   pub indexed_planned : (r : Resolved) (jobs new_jobs : List (Job × Vec ℕ)) (leading new_leading built new_built done mid_done new_done : List (List ℕ × Vec ℕ))
       → LeavesJob g.state n jobs new_jobs → LeavesPath (is_building g.state) g.resolved n leading new_leading → MovesPath g.resolved (Some r) n built new_built
-      → HasSameNumbers bytes_eq done mid_done → IsSettled g false n mid_done new_done → HasRoom new_built mid_done → KeepsRoom bytes_eq mid_done new_done
+      → HasSameNumbers bytes_eq done mid_done → SetsDone g false n mid_done new_done → HasRoom new_built mid_done → KeepsRoom bytes_eq mid_done new_done
       → IsIndexed owner gs jobs leading built done → IsIndexed owner (slice_set gs (n - 1) (planned_with r g)) new_jobs new_leading new_built new_done
-  indexed_planned r jobs new_jobs leading new_leading built new_built done mid_done new_done of_jobs of_leading of_built alike settled room kept is = record {
+  indexed_planned r jobs new_jobs leading new_leading built new_built done mid_done new_done of_jobs of_leading of_built alike sets room kept is = record {
     of_jobs = of_jobs_left (planned_with r g) jobs new_jobs refl of_jobs is.of_jobs;
     of_leading = leading_left (planned_with r g) leading new_leading refl of_leading is.of_leading;
     of_built = λ p.
         of_built p ∙ ap (moved (has_scratch p g.resolved) (has_scratch p (Some r)) n) (is.of_built p)
         ∙ set_moved (is_built_under p) n gs g (planned_with r g) (has_scratch p g.resolved) (has_scratch p (Some r)) at refl refl;
-    of_done = done_settled (planned_with r g) false mid_done new_done (λ p. refl) settled (λ p. alike p ∙ is.of_done p);
+    of_done = done_set (planned_with r g) false mid_done new_done (λ p. refl) sets (λ p. alike p ∙ is.of_done p);
     room = λ p. (let had = room p in let more_room = kept p in omega (arith, had, more_room));
   }
 
   -- a goal that enters a job
   pub indexed_entered : (job : Job) (jobs new_jobs : List (Job × Vec ℕ)) (leading new_leading built done new_done : List (List ℕ × Vec ℕ))
       → is_building g.state ≡ false → EntersJob job n jobs new_jobs → EntersPath (same_job job (own_job owner n)) g.resolved n leading new_leading
-      → IsSettled g false n done new_done → KeepsRoom bytes_eq done new_done
+      → SetsDone g false n done new_done → KeepsRoom bytes_eq done new_done
       → IsIndexed owner gs jobs leading built done → IsIndexed owner (slice_set gs (n - 1) (in_state (Building job) g)) new_jobs new_leading built new_done
-  indexed_entered job jobs new_jobs leading new_leading built done new_done idle of_jobs of_leading settled kept is = record {
+  indexed_entered job jobs new_jobs leading new_leading built done new_done idle of_jobs of_leading sets kept is = record {
     of_jobs = λ k.
         of_jobs k
         ∙ ap (entered (is_in k (Building job)) n) (is.of_jobs k)
@@ -142,7 +142,7 @@ module _ (owner : List ℕ) (gs : List Goal) (n : ℕ) (g : Goal) (at : goal_at 
         ∙ set_entered (leads_at owner p) n gs g (in_state (Building job) g) (is_in (own_job owner n) (Building job) && has_scratch p g.resolved) at refl
         (idle_leads (own_job owner n) g.state (has_scratch p g.resolved) idle);
     of_built = built_kept (Building job) built is.of_built;
-    of_done = done_settled (in_state (Building job) g) false done new_done (λ p. refl) settled is.of_done;
+    of_done = done_set (in_state (Building job) g) false done new_done (λ p. refl) sets is.of_done;
     room = λ p. (let had = is.room p in let more_room = kept p in omega (arith, had, more_room));
   }
 

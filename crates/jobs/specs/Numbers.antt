@@ -135,8 +135,8 @@ MovesPath from to n old new =
     (path : List ℕ) → numbers_at (bytes_eq path) new ≡ moved (has_scratch path from) (has_scratch path to) n (numbers_at (bytes_eq path) old)
 
 -- a goal is done from now on, or is not: its number is put in for the path under which it is built, or taken out
-abbrev pub IsSettled : Goal → Bool → ℕ → List (List ℕ × Vec ℕ) → List (List ℕ × Vec ℕ) → Type 0
-IsSettled g done n old new =
+abbrev pub SetsDone : Goal → Bool → ℕ → List (List ℕ × Vec ℕ) → List (List ℕ × Vec ℕ) → Type 0
+SetsDone g done n old new =
     (path : List ℕ)
     → numbers_at (bytes_eq path) new ≡ moved (is_done_under path n g) (done && has_scratch path g.resolved) n (numbers_at (bytes_eq path) old)
 

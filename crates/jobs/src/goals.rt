@@ -135,7 +135,7 @@ impl Goals {
         let goal = &mut self.goals[number as usize - 1];
         self.indexes.plan(alloc, number, goal, &resolved)?;
         self.indexes.leave(number, goal);
-        self.indexes.settle(number, goal, false);
+        self.indexes.set_done(number, goal, false);
         goal.keep(resolved);
         Ok(())
     }
@@ -149,7 +149,7 @@ impl Goals {
     {
         let goal = &mut self.goals[number as usize - 1];
         self.indexes.leave(number, goal);
-        self.indexes.settle(number, goal, is_done(&state));
+        self.indexes.set_done(number, goal, is_done(&state));
         goal.set_state(state);
     }
 
@@ -163,7 +163,7 @@ impl Goals {
     {
         let goal = &mut self.goals[number as usize - 1];
         self.indexes.enter(alloc, &self.owner, number, goal, &job)?;
-        self.indexes.settle(number, goal, false);
+        self.indexes.set_done(number, goal, false);
         goal.set_state(State::Building(job));
         Ok(())
     }

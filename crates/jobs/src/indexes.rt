@@ -4,7 +4,7 @@ ghost use Rattle.std.specs.Prelude.{◌≡◌, true, [], Some, MatchResult};
 ghost use Rattle.std.specs.Str.{bytes_eq};
 ghost use Rattle.model.specs.Goals.{same_job};
 ghost use Rattle.model.specs.declared.refusal.Refusal.TheVariants.{Memory};
-ghost use Rattle.jobs.specs.Numbers.{numbers_at, with_number, own_job, ChangesAt, HasSameNumbers, KeepsRoom, HasRoom, HasRoomFor, EntersJob, EntersPath, LeavesJob, LeavesPath, MovesPath, IsSettled, IsUnlisted};
+ghost use Rattle.jobs.specs.Numbers.{numbers_at, with_number, own_job, ChangesAt, HasSameNumbers, KeepsRoom, HasRoom, HasRoomFor, EntersJob, EntersPath, LeavesJob, LeavesPath, MovesPath, SetsDone, IsUnlisted};
 ghost use Rattle.jobs.specs.States.{is_building};
 
 use crate::goal::Goal;
@@ -224,12 +224,12 @@ impl Indexes {
     }
 
     /// Has a goal be done from now on, or not. It takes no memory.
-    pub(crate) fn settle(&mut self, number: u16, goal: &Goal, is_done: bool)
+    pub(crate) fn set_done(&mut self, number: u16, goal: &Goal, is_done: bool)
         requires { is_done ≡ true → HasRoomFor goal.now self.old.done.entries }
         ensures jobs { self.new.of_jobs ≡ self.old.of_jobs }
         ensures leading { self.new.leading ≡ self.old.leading }
         ensures built { self.new.built ≡ self.old.built }
-        ensures done { IsSettled goal.now is_done number
+        ensures done { SetsDone goal.now is_done number
             self.old.done.entries self.new.done.entries }
         ensures room { KeepsRoom bytes_eq self.old.done.entries self.new.done.entries }
     {

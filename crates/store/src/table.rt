@@ -155,7 +155,9 @@ impl Table {
         }
     }
 
-    /// Those of the trees that are not stored at their paths yet, each path once, in order.
+    /// Those of the trees that are not stored at their paths yet, each path once, in order. Room is made
+    /// for all of them before one is looked for, so that what is asked of memory does not depend on what
+    /// is stored.
     ///
     /// # Errors
     ///
@@ -178,7 +180,8 @@ impl Table {
             ⊎ ((e ≡ Clash) × AreTaken self.now.sources trees.items)) }
     {
         let mut added = Table::new(alloc, *self.trees.hasher());
-        let mut missing = Vec::new(alloc);
+        added.reserve(trees.len())?;
+        let mut missing = Vec::with_capacity(alloc, trees.len())?;
         for (path, tree) in trees {
             collect(self, &mut added, &mut missing, path, tree)?;
         }

@@ -139,13 +139,14 @@ fn copy_entries(
         table.new.sources desk.new }
 {
     let trees = trees_of(alloc, entries)?;
+    let count = trees.len();
     let trees = table.missing(alloc, trees)?;
     let found = missing_on(alloc, desk, entries)?;
     let more = desk.charged_for_all(alloc, &found)?;
     if !has_room(desk, limits, &found, more) {
         return Err(Refusal::Quota);
     }
-    table.reserve(trees.len())?;
+    table.reserve(count)?;
     desk.add_all(alloc, found)?;
     table.put_all_reserved(trees);
     Ok(())

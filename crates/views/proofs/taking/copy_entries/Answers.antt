@@ -1,7 +1,8 @@
-use Rattle.std.proofs.Common.{◌≡◌, ◌≤◌, true, false, ◌++◌, rules, sym, ◌∙◌, ap, subst, List, ℕ}
+use Rattle.std.proofs.Common.{◌≡◌, ◌≤◌, true, false, ◌++◌, length, arith, rules, sym, ◌∙◌, ap, subst, List, ℕ}
 use Rattle.std.proofs.lemmas.Result.{err_from_is_err_and}
 use Rattle.model.specs.Worlds.{Source}
 use Rattle.store.specs.Stored.{AreNew, put_all, sources_of}
+use Rattle.store.proofs.PuttingLemmas.{few_missing}
 use Rattle.records.specs.declared.entry.Entry.{Entry}
 use Rattle.realise.specs.Holdings.{bare, AreAbsent, AreCountable, charged_all, holds_each}
 use Rattle.views.specs.Taking.{are_roomy}
@@ -52,7 +53,10 @@ returns c =
 
 pub put_all_reserved-requires-clause-room : goal.put_all_reserved-requires-clause-room
 put_all_reserved-requires-clause-room c =
-    subst (λ k. k ≤ c.reserve.new.self.room) (c.len.ensures ∙ c.in_ok-trees-2.trees.ok.0) c.in_ok-reserve.ensures.room
+    let few = few_missing c.in_ok-trees.trees.items c.in_ok-trees-2.trees.items c.args.table.now.sources c.in_ok-trees-2.ensures.all in
+    let count : c.len-count.result ≡ length c.in_ok-trees.trees.items = c.len-count.ensures ∙ c.in_ok-trees.trees.ok.0 in
+    let room = c.in_ok-reserve.ensures.room in
+    omega (arith, few, count, room)
 
 pub put_all_reserved-requires-clause-absent : goal.put_all_reserved-requires-clause-absent
 put_all_reserved-requires-clause-absent c =

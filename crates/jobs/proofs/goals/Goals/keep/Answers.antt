@@ -36,14 +36,14 @@ invariant_of-self-2 c =
     let old = c.self.inside.indexes in
     let planned = c.plan.new.self in
     let left = c.leave.new.self in
-    let new = c.settle.new.self in (
+    let new = c.set_done.new.self in (
       rw (length-set {A = Goal}) c.self.invariant.0,
-      rw (c.keep.ensures, c.settle.ensures.jobs, c.settle.ensures.leading, c.settle.ensures.built, c.leave.ensures.built)
+      rw (c.keep.ensures, c.set_done.ensures.jobs, c.set_done.ensures.leading, c.set_done.ensures.built, c.leave.ensures.built)
           (indexed_planned c.self.inside.owner gs n x at c.args.resolved old.of_jobs.entries left.of_jobs.entries old.leading.entries left.leading.entries
           old.built.entries planned.built.entries old.done.entries planned.done.entries new.done.entries
           (rw c.in_ok-plan.ensures.jobs at c.leave.ensures.jobs) (rw c.in_ok-plan.ensures.leading at c.leave.ensures.leading)
-          c.in_ok-plan.ensures.built c.in_ok-plan.ensures.done (rw c.leave.ensures.done at c.settle.ensures.done)
-          c.in_ok-plan.ensures.room (rw c.leave.ensures.done at c.settle.ensures.room) c.self.invariant.1),
+          c.in_ok-plan.ensures.built c.in_ok-plan.ensures.done (rw c.leave.ensures.done at c.set_done.ensures.done)
+          c.in_ok-plan.ensures.room (rw c.leave.ensures.done at c.set_done.ensures.room) c.self.invariant.1),
     )
 
 pub returns-clause-planned : goal.returns-clause-planned

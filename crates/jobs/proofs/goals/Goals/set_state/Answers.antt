@@ -8,8 +8,8 @@ use Rattle.jobs.proofs.NumberLemmas.{found, changed}
 use Rattle.jobs.proofs.IndexedLemmas.{indexed_left, room_for}
 use Rattle.jobs.proofs.goals.Goals.set_state.Goals as goal
 
-pub settle-requires : goal.settle-requires
-settle-requires c done =
+pub set_done-requires : goal.set_done-requires
+set_done-requires c done =
     let gs : List Goal = c.self.inside.goals.items in
     let n : ℕ = c.args.number in
     let x : Goal = c.index_mut-goal.result.now in
@@ -30,12 +30,12 @@ invariant_of-self c =
     let at : goal_at n gs ≡ Some x = found n gs x c.index_mut-goal.ensures.value there in
     let old = c.self.inside.indexes in
     let mid = c.leave.new.self in
-    let new = c.settle.new.self in (
+    let new = c.set_done.new.self in (
       rw (length-set {A = Goal}) c.self.invariant.0,
-      rw (c.set_state.ensures, c.settle.ensures.jobs, c.settle.ensures.leading, c.settle.ensures.built, c.leave.ensures.built)
+      rw (c.set_state.ensures, c.set_done.ensures.jobs, c.set_done.ensures.leading, c.set_done.ensures.built, c.leave.ensures.built)
           (indexed_left c.self.inside.owner gs n x at (state_of c.args.state) old.of_jobs.entries mid.of_jobs.entries old.leading.entries mid.leading.entries
           old.built.entries old.done.entries new.done.entries c.requires.state c.leave.ensures.jobs c.leave.ensures.leading
-          (rw (c.leave.ensures.done, c.is_done.ensures) at c.settle.ensures.done) (rw c.leave.ensures.done at c.settle.ensures.room) c.self.invariant.1),
+          (rw (c.leave.ensures.done, c.is_done.ensures) at c.set_done.ensures.done) (rw c.leave.ensures.done at c.set_done.ensures.room) c.self.invariant.1),
     )
 
 pub returns : goal.returns
