@@ -230,6 +230,19 @@ class Desk:
         self.pins.pop(out, None)
         return "ok", None, None
 
+    def forget(self, out, path):
+        """Has the records of a class at a path no longer, unless what he has needs one: a label of another record,
+        or a goal that is built, as he sees it. One that is built out of his sight waits."""
+        left = {record: tree for record, tree in self.records.items() if record[:2] != (out, path)}
+        need(len(left) < len(self.records), "53 NotHeld")
+        built = [goal for goal in self.goals if goal.job and any(record[:2] == (out, path) for record in goal.records)]
+        need(not any((path, out) in labels for _, _, labels in left), "55 InUse")
+        need(not any(self.reaches(goal.job[0]) for goal in built), "55 InUse")
+        for goal in built:
+            goal.becomes("waiting")
+        self.records = left
+        return "ok", None, None
+
     def view(self):
         """The desks of those whom he reaches, his own among them."""
         near, seen = [self], []

@@ -73,7 +73,7 @@ VERBS = {
     "trust": (user_word,), "distrust": (user_word,), "pin": (path_word, path_word), "unpin": (path_word,),
     "closure": (path_word,), "take": (path_word,), "build": (path_word,), "status": (goal_number,),
     "plan": (goal_number,), "start": (goal_number,), "finish": (goal_number, output),
-    "fail": (goal_number, exit_status),
+    "fail": (goal_number, exit_status), "forget": (path_word, path_word),
 }
 
 

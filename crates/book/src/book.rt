@@ -18,7 +18,7 @@ use crate::history::History;
 use laws::{isolation, timed_isolation};
 use model::Refusal;
 use passes::{Log, Naming, Pass, Row};
-use schedule::{Core, Event, Reply, RunningJob, User};
+use schedule::{Core, Event, Ready, Reply, RunningJob, User};
 use std::alloc::{AllocError, Global};
 use std::marker::Model;
 use std::sync::ledger;
@@ -109,6 +109,7 @@ fn step(
     pass: u64,
     event: Event,
     asked: Event,
+    ready: Ready,
 ) -> Result<(Reply, Row), Refusal>
     requires asked { asked ≡ event }
     ensures row { IfOk result (λ p. p.1 ≡ row pass event p.0) }
@@ -118,7 +119,7 @@ fn step(
     ensures refused { IfErr result (λ why. IsUnchanged core.old core.new) }
     ensures memory { IfErr result (λ why. why ≡ Memory) }
 {
-    let (reply, copy) = core.step_with_copy(alloc, event).into_both();
+    let (reply, copy) = core.step_ready_with_copy(alloc, event, ready).into_both();
     if let Some(why) = want_in(&reply) {
         return Err(why);
     }
@@ -180,6 +181,32 @@ impl<J: Naming> Book<J> {
         ensures going { result ≢ Refused Stopped }
         ensures legal { IsLegal J.setup self.new.rows }
     {
+        self.apply_ready(alloc, pass, event, Ready::none(alloc))
+    }
+
+    /// Answers one event of a pass as [`Book::apply`] does, with values that were made before. Whatever
+    /// they are, they make no difference but that the core need not make them itself.
+    pub fn apply_ready(
+        &mut self,
+        alloc: Global,
+        pass: &mut Pass<J>,
+        event: Event,
+        ready: Ready,
+    ) -> Reply
+        ensures row { gave_up result ≡ false
+            → self.new.rows ≡ self.old.rows ++ row pass.old.number event result ∷ [] }
+        ensures step { gave_up result ≡ false → Steps self.old.core event result self.new.core }
+        ensures reply { gave_up result ≡ false → IsModelReply J.setup self.old.rows event result }
+        ensures counted { gave_up result ≡ false → pass.new ≡ answered pass.old self.new.rows }
+        ensures matches { Matches self.old.rows false pass.old }
+        // The only pass knows all rows.
+        ensures alone { J.parts ≡ 1 → pass.old.sure ≡ self.old.rows }
+        ensures no_row { result ≡ Refused Memory → self.new.rows ≡ self.old.rows }
+        ensures memory { result ≡ Refused Memory → pass.new ≡ pass.old }
+        ensures unchanged { result ≡ Refused Memory → IsUnchanged self.old.core self.new.core }
+        ensures going { result ≢ Refused Stopped }
+        ensures legal { IsLegal J.setup self.new.rows }
+    {
         isolation();
         timed_isolation();
         let Book {
@@ -194,7 +221,7 @@ impl<J: Naming> Book<J> {
         let Ok(asked) = hold(history, &event) else {
             return refuse(Refusal::Memory, event);
         };
-        let (reply, row) = match step(alloc, core, pass.number(), event, asked) {
+        let (reply, row) = match step(alloc, core, pass.number(), event, asked, ready) {
             Ok(answered) => answered,
             Err(why) => return Reply::Refused(why),
         };

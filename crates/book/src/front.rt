@@ -15,7 +15,7 @@ use crate::history::History;
 use laws::kept_closures_are_good;
 use model::Refusal;
 use passes::{Blank, Log, Naming, Pass};
-use schedule::{Core, Event, Reply, RunningJob, User};
+use schedule::{Core, Event, Ready, Reply, RunningJob, User};
 use std::alloc::Global;
 use std::sync::ledger::Share;
 use std::sync::{Mutex, Wait};
@@ -102,7 +102,27 @@ impl<J: Naming> Front<J> {
         ensures memory { result ≡ Refused Memory → pass.new ≡ pass.old }
         ensures going { result ≢ Refused Stopped }
     {
-        self.book.lock(rt).apply(alloc, pass, event)
+        self.commit(rt, alloc, pass, event, Ready::none(alloc))
+    }
+
+    /// Answers one event of a pass as [`Front::call`] does, with values that were made before. Whatever
+    /// they are, they make no difference but that less is done under the lock.
+    pub fn commit(
+        &self,
+        rt: &impl Wait,
+        alloc: Global,
+        pass: &mut Pass<J>,
+        event: Event,
+        ready: Ready,
+    ) -> Reply
+        ensures answered { gave_up result ≡ false
+            → IsAnswered J.setup pass.old event result pass.new }
+        ensures alone { gave_up result ≡ false → J.parts ≡ 1
+            → pass.new.sure ≡ pass.old.sure ++ row pass.old.number event result ∷ [] }
+        ensures memory { result ≡ Refused Memory → pass.new ≡ pass.old }
+        ensures going { result ≢ Refused Stopped }
+    {
+        self.book.lock(rt).apply_ready(alloc, pass, event, ready)
     }
 
     /// The job that a user's goal of a number leads, and what it is built from, for a pass. It takes

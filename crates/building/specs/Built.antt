@@ -1,7 +1,6 @@
 -- What is built for a goal: the output of its job, settled for its derivation.
 use Rattle.std.specs.Prelude.{◌≡◌, ℕ, true, List, [], ◌∷◌, ◌++◌, All, Option, Some, None, Result, Ok, Err}
 use Rattle.model.specs.declared.refusal.Refusal.{Refusal}
-use Rattle.model.specs.declared.refusal.RewriteFault.{RewriteFault}
 use Rattle.model.specs.Archives.{Tree, IsTree}
 use Rattle.model.specs.Paths.{IsPath}
 use Rattle.model.specs.Occurrences.{IsHashPart}
@@ -10,7 +9,6 @@ use Rattle.model.specs.Settling.{hash_part_in}
 use Rattle.model.specs.declared.refusal.Refusal.TheVariants.{BadOutput}
 use Rattle.model.specs.Worlds.{Source, Label, Record, Resolved, Goal, tree_at}
 use Rattle.model.specs.Goals.{goal_at}
-use Rattle.model.specs.Derivations.{Derivation}
 use Rattle.model.specs.Classes.{Admission, Known}
 use Rattle.model.specs.References.{paths_of_labels}
 use Rattle.model.specs.Outputs.{settled_under, record_for}
@@ -18,33 +16,6 @@ use Rattle.model.specs.Endings.{labels_from, label_of_entry, output_record}
 use Rattle.model.specs.Results.{then_do, ok_or, unless_rewrite_refused}
 use Rattle.records.specs.Recorded.{Recorded, with_tree}
 use Rattle.realise.specs.Holdings.{Holdings, has_labelled, IsClosedWith}
-use Rattle.building.specs.declared.settling.Settled.{Settled}
-use Rattle.outputs.specs.Outputs.{input_settled, IsInputOf}
-
--- ---- settling
-
--- what came of settling a tree: the tree with its path, and what is its tree then, or why it has none
-abbrev pub IsOutcome : Result settling.Settled RewriteFault → Result (settling.Settled × Tree) Refusal → Type 0
-IsOutcome settled (Ok o) = (settled ≡ Ok o.0) × (o.1 ≡ o.0.tree)
-IsOutcome settled (Err why) = unless_rewrite_refused settled ≡ Err why
-
--- this came of a tree that was settled by its input
-abbrev pub IsSettled : Tree → Settled → Type 0
-IsSettled tree s = IsOutcome (input_settled s.input tree) s.outcome
-
--- and this of the tree that was settled last, if one was
-abbrev pub IsLastSettled : Tree → Option Settled → Type 0
-IsLastSettled tree None = Unit {0}
-IsLastSettled tree (Some s) = IsSettled tree s
-
--- what was settled last is an output of this derivation, which was built under a path and may refer to these
-abbrev pub IsLastOf : List ℕ → List Label → Derivation → Option Settled → Type 0
-IsLastOf path labels x None = ⊥
-IsLastOf path labels x (Some s) = IsInputOf path labels x s.input
-
-abbrev pub IsLastFrom : Option Tree → Option Settled → Type 0
-IsLastFrom None last = Unit {0}
-IsLastFrom (Some tree) last = IsLastSettled tree last
 
 -- ---- what is built
 
@@ -57,10 +28,9 @@ built_of (Err why) = Err why
 abbrev pub record_under : List ℕ → List Label → Admission → Tree → Result Record Refusal
 record_under path labels a tree = then_do (unless_rewrite_refused (settled_under path labels a tree)) (λ settled. Ok (record_for labels a settled))
 
--- it is the record of the tree that was settled
-abbrev pub IsBuiltBy : List Label → Admission → Settled → Result (Recorded × Tree) Refusal → Type 0
-IsBuiltBy labels a s built = (tree : Tree) → IsSettled tree s
-    → built_of built ≡ then_do (unless_rewrite_refused (input_settled s.input tree)) (λ settled. Ok (record_for labels a settled))
+-- it is the record of what came of settling a tree
+abbrev pub IsBuiltBy : List Label → Admission → Result settling.Settled Refusal → Result (Recorded × Tree) Refusal → Type 0
+IsBuiltBy labels a settled built = built_of built ≡ then_do settled (λ s. Ok (record_for labels a s))
 
 -- ---- on a desk
 

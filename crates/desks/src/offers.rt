@@ -20,11 +20,10 @@ use admitted::Admitted;
 use candidates::candidates;
 use events::CopiedReply;
 use model::Refusal;
-use nar::{Tree, encode};
-use outputs::{Input, record_of};
+use nar::Tree;
+use outputs::{Input, Output, Settlements, record_of};
 use realise::{Desk, Limits};
 use records::{Entry, Label, Record};
-use rewrite::Named;
 use std::alloc::Global;
 use store::Table;
 use storepath::StorePath;
@@ -32,21 +31,21 @@ use storepath::StorePath;
 /// An output of a derivation that may refer to these, with its path.
 fn output_of(
     alloc: Global,
+    settlements: &mut Settlements,
     admitted: &Admitted,
     labels: &[Label],
     tree: &Tree,
-) -> Result<Named, Refusal>
+) -> Result<Output, Refusal>
     ensures tree { IsTree tree.now }
     ensures paths { IfOk result (λ _. All IsPath (paths_of_labels labels.now)) }
     ensures own { IsHashPart (hash_part_in admitted.now.class.path) }
-    ensures settled { IfOk result (λ named. output_settled labels.now admitted.now tree.now ≡ Ok named) }
+    ensures settled { IfOk result (λ o. output_settled labels.now admitted.now tree.now ≡ Ok o) }
     ensures refused { IfErr result (IsNotSettled labels.now admitted.now tree.now) }
 {
     let _len = tree.nar_len();
     let own = admitted.class().path();
     let input = Input::new(alloc, own, labels, admitted.derivation())?;
-    let archive = encode(alloc, tree)?;
-    input.settle(alloc, &archive)
+    settlements.settle(alloc, input, tree)?
 }
 
 /// The record of an output that has its path, and its tree. The one error is memory.
@@ -54,20 +53,21 @@ fn recorded(
     alloc: Global,
     admitted: &Admitted,
     labels: &[Label],
-    named: &Named,
+    output: &Output,
 ) -> Result<(Record, Tree), Refusal>
     requires in_order { AreInPathOrder labels.now }
-    ensures record { IfOk result (λ o. IsRecordOf labels.now admitted.now named.now o.0) }
-    ensures tree { IfOk result (λ o. o.1 ≡ named.now.tree) }
+    ensures record { IfOk result (λ o. IsRecordOf labels.now admitted.now output.now o.0) }
+    ensures tree { IfOk result (λ o. o.1 ≡ output.now.tree) }
     ensures memory { IfErr result (λ why. why ≡ Memory) }
 {
-    let record = record_of(alloc, admitted, labels, named)?;
-    Ok((record, named.tree(alloc)?))
+    let record = record_of(alloc, admitted, labels, output.named())?;
+    Ok((record, output.tree().clone()?))
 }
 
 /// The record of an output, and its tree.
 fn output_for(
     alloc: Global,
+    settlements: &mut Settlements,
     desk: &Desk,
     admitted: &Admitted,
     tree: &Tree,
@@ -76,8 +76,8 @@ fn output_for(
     ensures refused { IfErr result (IsNoOutput desk.now admitted.now tree.now) }
 {
     let labels = candidates(alloc, desk.known(), admitted.derivation(), desk.records())?;
-    let named = output_of(alloc, admitted, &labels, tree)?;
-    recorded(alloc, admitted, &labels, &named)
+    let output = output_of(alloc, settlements, admitted, &labels, tree)?;
+    recorded(alloc, admitted, &labels, &output)
 }
 
 /// Adds an output of the derivation in the file at a path to a desk: its tree with the path of its
@@ -97,6 +97,7 @@ pub fn offer(
     table: &mut Table,
     desk: &mut Desk,
     limits: Limits,
+    settlements: &mut Settlements,
     path: &StorePath,
     tree: &Tree,
 ) -> Result<CopiedReply, Refusal>
@@ -107,6 +108,6 @@ pub fn offer(
     let Some(admitted) = desk.derivation(path) else {
         return Err(Refusal::UnknownDerivation);
     };
-    let (record, settled) = output_for(alloc, desk, admitted, tree)?;
+    let (record, settled) = output_for(alloc, settlements, desk, admitted, tree)?;
     add_entry(alloc, table, desk, limits, Entry::Record(record), settled)
 }

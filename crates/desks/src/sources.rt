@@ -2,8 +2,6 @@
 
 ghost use Rattle.std.specs.Prelude.{◌≡◌, ◌≤◌, IfOk, IfErr, None, if◌then◌else◌};
 ghost use Rattle.std.specs.Option.{option_copied};
-ghost use Rattle.model.specs.Archives.{IsTree};
-ghost use Rattle.model.specs.Paths.{source_path};
 ghost use Rattle.model.specs.Classes.{is_one_of};
 ghost use Rattle.model.specs.Worlds.{tree_at};
 ghost use Rattle.model.specs.Events.{AddSource as AddSourceRequest, Fetch as FetchRequest, Content};
@@ -15,23 +13,14 @@ ghost use Rattle.handling.specs.Handling.{IsHandledAtDesk, IsHandledByDesk};
 
 use crate::entries::add_entry;
 use events::{CopiedReply, Reply};
-use hashmod::nar_digest;
 use model::Refusal;
 use nar::Tree;
+use outputs::Sources;
 use realise::{Desk, Limits};
 use records::Entry;
 use std::alloc::Global;
 use store::Table;
-use storepath::{Kind, Name, StorePath, make_path};
-
-/// The path of a source. Its tree is hashed as it is, and its archive is never made.
-fn path_of_source(alloc: Global, name: &Name, tree: &Tree) -> Result<StorePath, Refusal>
-    ensures value { IfOk result (λ p. p ≡ source_path tree.now name.now) }
-    ensures tree { IfOk result (λ _. IsTree tree.now) }
-    ensures memory { IfErr result (λ e. e ≡ Memory) }
-{
-    make_path(alloc, &Kind::Source, &nar_digest(tree), name)
-}
+use storepath::{Name, StorePath};
 
 /// Adds a tree to a desk as a source of a name. The reply is its path; one that is there already
 /// changes nothing.
@@ -47,6 +36,7 @@ pub fn add_source(
     table: &mut Table,
     desk: &mut Desk,
     limits: Limits,
+    sources: &mut Sources,
     name: &Name,
     tree: Tree,
 ) -> Result<CopiedReply, Refusal>
@@ -54,7 +44,7 @@ pub fn add_source(
     ensures { IsHandledAtDesk limits.charge table.old.sources desk.old
         (AddSourceRequest name.now tree) result table.new.sources desk.new }
 {
-    let path = path_of_source(alloc, name, &tree)?;
+    let path = sources.path_of(alloc, name, &tree)?;
     add_entry(alloc, table, desk, limits, Entry::Source(path), tree)
 }
 

@@ -31,20 +31,21 @@ use events::{CopiedReply, Reply};
 use jobs::{Job, Jobs, State};
 use leading::leads;
 use model::Refusal;
-use nar::{Nar, Tree, decode, encode};
+use nar::{Tree, decode};
+use outputs::Settlements;
 use realise::{Addition, Desk, Limits, add_to_each};
 use std::alloc::{AllocError, Global};
 use store::Table;
 use storepath::StorePath;
 use trust::{Trust, User};
 
-/// The archive that a builder wrote, if its output is one. The one error is memory.
-fn archive_in(alloc: Global, output: &[u8]) -> Result<Option<Nar>, Refusal>
-    ensures archive { IfOk result (λ archive. archive ≡ tree_of_archive output.now) }
+/// The tree whose archive a builder wrote, if its output is one. The one error is memory.
+fn tree_in(alloc: Global, output: &[u8]) -> Result<Option<Tree>, Refusal>
+    ensures archive { IfOk result (λ tree. tree ≡ tree_of_archive output.now) }
     ensures memory { IfErr result (λ why. why ≡ Memory) }
 {
     match decode(alloc, output) {
-        Ok(tree) => Ok(Some(encode(alloc, &tree)?)),
+        Ok(tree) => Ok(Some(tree)),
         Err(Refusal::Memory) => Err(Refusal::Memory),
         Err(_) => Ok(None),
     }
@@ -92,7 +93,8 @@ fn prepare(
     jobs: &Jobs,
     place: usize,
     job: &Job,
-    archive: Option<&Nar>,
+    tree: Option<&Tree>,
+    settlements: &mut Settlements,
     number: u16,
 ) -> Result<Ending, Refusal>
     requires few { length desks.now ≤ 64 }
@@ -102,13 +104,22 @@ fn prepare(
     requires on_desks { AreAllBuiltOn job.now desks.now jobs.now.goals }
     requires records { All (λ d. length d.records ≤ most_records) desks.now }
     requires charge { All (λ d. d.charge ≤ limits.charge) desks.now }
-    ensures prepared { IfOk result (IsPrepared table.now.sources (option_copied archive.entry)
+    ensures prepared { IfOk result (IsPrepared table.now.sources (option_copied tree.entry)
         (trusts trust.now) place limits.charge job.now desks.now jobs.now.goals number) }
-    ensures refused { IfErr result (IsNotMade table.now.sources (option_copied archive.entry)
+    ensures refused { IfErr result (IsNotMade table.now.sources (option_copied tree.entry)
         (trusts trust.now) place job.now desks.now jobs.now.goals) }
 {
     let heard = heard_by_all(
-        alloc, trust, table, desks, limits, jobs, place, job, archive,
+        alloc,
+        trust,
+        table,
+        desks,
+        limits,
+        jobs,
+        place,
+        job,
+        tree,
+        settlements,
     )?;
     let trees = table.missing(alloc, gained_by_all(alloc, &heard)?)?;
     let additions = additions_of(alloc, &heard)?;
@@ -138,6 +149,7 @@ fn prepare_led(
     jobs: &Jobs,
     place: usize,
     number: u16,
+    settlements: &mut Settlements,
     output: &[u8],
 ) -> Result<Ending, Refusal>
     requires few { length desks.now ≤ 64 }
@@ -157,10 +169,20 @@ fn prepare_led(
         desks.now jobs.now.goals) }
 {
     let job = Job::new(users[place].clone()?, number);
-    let archive = archive_in(alloc, output)?;
-    let archive = archive.as_ref();
+    let tree = tree_in(alloc, output)?;
+    let tree = tree.as_ref();
     let ending = prepare(
-        alloc, trust, table, desks, limits, jobs, place, &job, archive, number,
+        alloc,
+        trust,
+        table,
+        desks,
+        limits,
+        jobs,
+        place,
+        &job,
+        tree,
+        settlements,
+        number,
     )?;
     Ok(ending)
 }
@@ -230,6 +252,7 @@ pub fn finish(
     place: usize,
     limits: Limits,
     number: u16,
+    settlements: &mut Settlements,
     output: &[u8],
 ) -> Result<CopiedReply, Refusal>
     requires listed { are_users users.now ≡ true }
@@ -248,7 +271,17 @@ pub fn finish(
 {
     leads(users, jobs, place, number)?;
     let ending = prepare_led(
-        alloc, users, trust, table, desks, limits, jobs, place, number, output,
+        alloc,
+        users,
+        trust,
+        table,
+        desks,
+        limits,
+        jobs,
+        place,
+        number,
+        settlements,
+        output,
     )?;
     let reply = put_in_place(alloc, jobs, table, desks, ending)?;
     Ok(reply)

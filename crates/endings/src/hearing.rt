@@ -9,14 +9,15 @@ ghost use Rattle.building.specs.Gaining.{gains_in, state_at};
 ghost use Rattle.std.specs.Option.{option_copied};
 ghost use Rattle.jobs.specs.Owned.{goals_at};
 ghost use Rattle.trust.specs.Trusting.{trusts};
-ghost use Rattle.building.specs.Built.{AreBuiltOn, IsLastFrom};
+ghost use Rattle.building.specs.Built.{AreBuiltOn};
 ghost use Rattle.endings.specs.Hearing.{Hears, trees_built, tree_built, all_trees, AreStored, IsBuiltAtPlace, AreAllBuiltOn, AreBuiltFor, IsHeardAtPlace, AreHeard, IsMadeBeside, IsNotMade};
 
-use building::{Built, Gains, Settled, built_on, gains_for, waiting};
+use building::{Built, Gains, built_on, gains_for, waiting};
 use jobs::{Job, Jobs, State};
 use leading::members_reached;
 use model::Refusal;
-use nar::{Nar, Tree};
+use nar::Tree;
+use outputs::Settlements;
 use realise::{Desk, Limits};
 use std::alloc::Global;
 use store::Table;
@@ -86,27 +87,25 @@ fn build_at(
     leader: usize,
     place: usize,
     job: &Job,
-    archive: Option<&Nar>,
-    last: &mut Option<Settled>,
+    tree: Option<&Tree>,
+    settlements: &mut Settlements,
 ) -> Result<Vec<(u16, Built)>, Refusal>
     requires leader { leader < 64 }
     requires place { place < 64 }
     requires of_run { place < length jobs.now.goals }
     requires on_desk { AreBuiltOn desk.now (goals_at place jobs.now)
         (members job.now 1 (goals_at place jobs.now)) }
-    requires last { IsLastFrom (option_copied archive) last.old }
-    ensures built { IfOk result (λ built. IsBuiltAtPlace (option_copied archive.entry)
+    ensures built { IfOk result (λ built. IsBuiltAtPlace (option_copied tree.entry)
         (trusts trust.now) leader job.now desk.now (goals_at place jobs.now) place built.items) }
     ensures memory { IfErr result (λ why. why ≡ Memory) }
-    ensures last { IsLastFrom (option_copied archive.entry) last.new }
 {
     let numbers = members_reached(trust, jobs, leader, place, job);
-    let built = built_on(alloc, desk, jobs, place, numbers, archive, last)?;
+    let built = built_on(alloc, desk, jobs, place, numbers, tree, settlements)?;
     Ok(built)
 }
 
 /// What is built for the goals in a job of each user who reaches its leader, in the order of users; for
-/// another user nothing. What was settled last is used again where an output is settled by the same.
+/// another user nothing. What was settled before is used again where an output is settled by the same.
 /// The one error is memory.
 fn build_from(
     alloc: Global,
@@ -115,15 +114,14 @@ fn build_from(
     jobs: &Jobs,
     leader: usize,
     job: &Job,
-    archive: Option<&Nar>,
-    last: &mut Option<Settled>,
+    tree: Option<&Tree>,
+    settlements: &mut Settlements,
 ) -> Result<Vec<Vec<(u16, Built)>>, Refusal>
     requires few { length desks.now ≤ 64 }
     requires of_run { leader < length desks.now }
     requires with_goals { length jobs.now.goals ≡ length desks.now }
     requires on_desks { AreAllBuiltOn job.now desks.now jobs.now.goals }
-    requires last { IsLastFrom (option_copied archive) last.old }
-    ensures built { IfOk result (λ built. AreBuiltFor (option_copied archive.entry)
+    ensures built { IfOk result (λ built. AreBuiltFor (option_copied tree.entry)
         (trusts trust.now) leader job.now desks.now jobs.now.goals built.items) }
     ensures count { IfOk result (λ built. length built.items ≡ length desks.now) }
     ensures memory { IfErr result (λ why. why ≡ Memory) }
@@ -131,33 +129,20 @@ fn build_from(
     let mut all = Vec::new(alloc);
     for place in 0..desks.len() {
         let desk = &desks[place];
-        let built = build_at(alloc, trust, desk, jobs, leader, place, job, archive, last)?;
+        let built = build_at(
+            alloc,
+            trust,
+            desk,
+            jobs,
+            leader,
+            place,
+            job,
+            tree,
+            settlements,
+        )?;
         all.push(built)?;
     }
     Ok(all)
-}
-
-/// The same where nothing was settled yet.
-pub(crate) fn build_all(
-    alloc: Global,
-    trust: &Trust,
-    desks: &[Desk],
-    jobs: &Jobs,
-    leader: usize,
-    job: &Job,
-    archive: Option<&Nar>,
-) -> Result<Vec<Vec<(u16, Built)>>, Refusal>
-    requires few { length desks.now ≤ 64 }
-    requires of_run { leader < length desks.now }
-    requires with_goals { length jobs.now.goals ≡ length desks.now }
-    requires on_desks { AreAllBuiltOn job.now desks.now jobs.now.goals }
-    ensures built { IfOk result (λ built. AreBuiltFor (option_copied archive.entry)
-        (trusts trust.now) leader job.now desks.now jobs.now.goals built.items) }
-    ensures count { IfOk result (λ built. length built.items ≡ length desks.now) }
-    ensures memory { IfErr result (λ why. why ≡ Memory) }
-{
-    let mut last = None;
-    build_from(alloc, trust, desks, jobs, leader, job, archive, &mut last)
 }
 
 /// What a user hears of a job that ended with an output, where he reaches its leader or not: what his
@@ -262,7 +247,8 @@ pub(crate) fn heard_by_all(
     jobs: &Jobs,
     leader: usize,
     job: &Job,
-    archive: Option<&Nar>,
+    tree: Option<&Tree>,
+    settlements: &mut Settlements,
 ) -> Result<Vec<(Gains, Vec<(u16, State)>)>, Refusal>
     requires few { length desks.now ≤ 64 }
     requires of_run { leader < length desks.now }
@@ -270,13 +256,13 @@ pub(crate) fn heard_by_all(
     requires on_desks { AreAllBuiltOn job.now desks.now jobs.now.goals }
     requires records { All (λ d. length d.records ≤ most_records) desks.now }
     requires charge { All (λ d. d.charge ≤ limits.charge) desks.now }
-    ensures heard { IfOk result (λ heard. IsMadeBeside table.now.sources (option_copied archive.entry)
+    ensures heard { IfOk result (λ heard. IsMadeBeside table.now.sources (option_copied tree.entry)
         (trusts trust.now) leader limits.charge job.now desks.now jobs.now.goals heard.items) }
     ensures count { IfOk result (λ heard. length heard.items ≡ length desks.now) }
-    ensures refused { IfErr result (IsNotMade table.now.sources (option_copied archive.entry)
+    ensures refused { IfErr result (IsNotMade table.now.sources (option_copied tree.entry)
         (trusts trust.now) leader job.now desks.now jobs.now.goals) }
 {
-    let built = build_all(alloc, trust, desks, jobs, leader, job, archive)?;
+    let built = build_from(alloc, trust, desks, jobs, leader, job, tree, settlements)?;
     tested(alloc, table, &built)?;
     let heard = hear_all(alloc, trust, desks, limits, jobs, leader, job, built)?;
     Ok(heard)

@@ -4,7 +4,7 @@ use Rattle.model.specs.Worlds as states
 use Rattle.model.specs.Events as events
 use Rattle.trust.specs.declared.user.User.{User}
 use Rattle.events.specs.declared.event.Request.{Request}
-use Rattle.events.specs.declared.event.Request.TheVariants.{AddSource, AddDerivation, Offer, Fetch, Trust, Distrust, Pin, Unpin, Closure, Take, Build, Status, Plan, Start, Finish, Fail}
+use Rattle.events.specs.declared.event.Request.TheVariants.{AddSource, AddDerivation, Offer, Fetch, Trust, Distrust, Pin, Unpin, Closure, Take, Build, Status, Plan, Start, Finish, Fail, Forget}
 use Rattle.events.specs.declared.event.Event.{Event}
 use Rattle.events.specs.declared.reply.Reply.{Reply}
 use Rattle.events.specs.declared.reply.Reply.TheVariants.{Done, Path, Derivation, Content, Entries, GoalNumber, GoalState, Refused}
@@ -27,6 +27,7 @@ request_of (Plan number) = events.Plan number
 request_of (Start number) = events.Start number
 request_of (Finish number output) = events.Finish number output
 request_of (Fail number status) = events.Fail number status
+request_of (Forget class path) = events.Forget class path
 
 abbrev pub event_of : Event → events.Event
 event_of e = record { actor = e.actor; request = request_of e.request }

@@ -52,6 +52,9 @@ pub enum Request {
     /// The job that the goal of a number leads has ended without an output, and its builder with this
     /// exit status. The reply is how far the goal is then.
     Fail(u16, u8),
+    /// To have the outputs of a class, at a path, on his desk no longer: nothing else there refers to
+    /// them, and no goal is built from them.
+    Forget(StorePath, StorePath),
 }
 
 /// A request, and the user who makes it.

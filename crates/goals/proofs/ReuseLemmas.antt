@@ -1,7 +1,7 @@
 -- What was built already, found goal by goal and user by user, is what the model's user finds in his view.
 use Rattle.std.proofs.Common.{◌≡◌, ℕ, zero, suc, ◌+◌, ◌<◌, ◌≤◌, Bool, true, false, inl, inr, List, [], ◌∷◌, ◌++◌, length, drop, get_or, refl, sym, ◌∙◌, ap, subst, arith, Option, Some, None}
 use Rattle.std.specs.Prelude.{All, Any, Contains, map, filter, flat_map, option_map, slice_get, slice_index_or, bytes_eq, is_some, if◌then◌else◌, ◌&&◌}
-use Rattle.std.specs.List.{list_any, list_all}
+use Rattle.std.specs.List.{list_any, list_all, range_with_len}
 use Rattle.std.proofs.Math.Seq.{drop-cons}
 use Rattle.std.proofs.lemmas.List.{map-append}
 use Rattle.std.proofs.lemmas.List.Elements.{filter-append}
@@ -76,6 +76,21 @@ number_next f best after ns i below is =
     ap (λ b. least_from path_before b (flat_map f (drop (i + 1) ns))) is
     ∙ sym (least_from_append path_before best (f n) (flat_map f (drop (i + 1) ns)))
     ∙ ap (λ ms. least_from path_before best (flat_map f ms)) (sym split)
+
+-- nothing is found for those of a set who are left out
+pub found_near : (found : ℕ → List Recorded) (set near : ℕ → Bool) (place count : ℕ) → ((v : ℕ) → near v ≡ true → set v ≡ true)
+    → ((v : ℕ) → near v ≡ false → set v ≡ true → found v ≡ [])
+    → flat_map found (filter near (range_with_len place count)) ≡ flat_map found (filter set (range_with_len place count))
+found_near found set near place zero within out = refl
+found_near found set near place (suc count) within out =
+    let rest = found_near found set near (place + 1) count within out in
+    elim (either (near place)) [
+      | inl t ↦ rw (t, within place t) (ap (λ xs. found place ++ xs) rest)
+      | inr f ↦ elim (either (set place)) [
+        | inl t ↦ rw (f, t) (rest ∙ ap (λ xs. xs ++ flat_map found (filter set (range_with_len (place + 1) count))) (sym (out place f t)))
+        | inr g ↦ rw (f, g) rest
+      ]
+    ]
 
 -- nothing is left
 pub nothing_left : (best : Option Recorded) (xs : List Recorded) → xs ≡ [] → best ≡ least_from path_before best xs

@@ -17,7 +17,6 @@ ghost use Rattle.handling.specs.Viewing.{desk_at};
 ghost use Rattle.handling.specs.Handling.{IsHandledAtPlace};
 ghost use Rattle.goals.specs.Planning.{IsResolvedAt, TellsToPlan, fails, IsNotKept};
 
-use crate::asking::is_reached;
 use choose::View;
 use classes::input_classes;
 use closures::Resolved;
@@ -28,11 +27,11 @@ use jobs::{Jobs, State};
 use laws::closures_are_whole;
 use model::Refusal;
 use realise::Desk;
-use repair::resolve;
+use repair::{Repairs, resolve_with};
 use serving::served_are_made;
 use std::alloc::Global;
 use store::Table;
-use trust::{Trust, User};
+use trust::{Trust, User, is_reached};
 use views::trees_of;
 
 /// What a derivation is built from, for the user at a place, of all that he sees.
@@ -42,6 +41,7 @@ fn resolved_for(
     table: &Table,
     desks: &[Desk],
     place: usize,
+    repairs: &mut Repairs,
     derivation: &Derivation,
 ) -> Result<Resolved, Refusal>
     requires of_run { place < length desks.now }
@@ -58,7 +58,7 @@ fn resolved_for(
     let classes = input_classes(alloc, desk.known(), derivation)?;
     let sources = &derivation.parts().sources;
     let plan = choose::plan(alloc, &view, desk.pins(), &classes, sources)?;
-    resolve(alloc, &plan, derivation, &classes)
+    resolve_with(alloc, &plan, derivation, &classes, repairs)
 }
 
 /// Whether a goal waits, as one sees it who reaches the users at the places of a word.
@@ -161,6 +161,7 @@ pub fn plan(
     table: &mut Table,
     desks: &[Desk],
     place: usize,
+    repairs: &mut Repairs,
     number: u16,
 ) -> Result<CopiedReply, Refusal>
     requires listed { are_users users.now ≡ true }
@@ -179,7 +180,7 @@ pub fn plan(
     served_are_made();
     let reached = trust.closure(place);
     let derivation = derivation_to_plan(users, reached, jobs, &desks[place], place, number)?;
-    match resolved_for(alloc, trust, table, desks, place, derivation) {
+    match resolved_for(alloc, trust, table, desks, place, repairs, derivation) {
         Ok(resolved) => {
             keep(alloc, jobs, table, place, number, resolved)?;
             Ok(CopiedReply::planned())

@@ -136,7 +136,8 @@ fn least_for_user<'a>(
     least
 }
 
-/// The least of what was built for the goals of the users at the places of a word.
+/// The least of what was built for the goals of the users at the places of a word. It looks only at
+/// those of them who have planned goals under the same path.
 fn least_for_all<'a>(
     word: u64,
     jobs: &Jobs,
@@ -149,9 +150,10 @@ fn least_for_all<'a>(
     ensures { option_copied result ≡ least path_before (found_in resolved.now labels.now desks.now
         jobs.now.goals (places_of (holds word) (length desks.now))) }
 {
+    let near = word & jobs.planners(resolved.scratch());
     let mut least = None;
     for place in 0..desks.len() {
-        if has_place(word, place) {
+        if has_place(near, place) {
             least = least_for_user(least, jobs, place, &desks[place], resolved, labels);
         }
     }

@@ -1,6 +1,6 @@
 -- What one entry more does to a desk.
-use Rattle.std.proofs.Common.{◌≡◌, ℕ, ◌+◌, ◌≤◌, Bool, true, false, inl, inr, List, [], ◌∷◌, ◌++◌, length, refl, sym, ◌∙◌, ap, arith, Some, None, Err, append-nil, append_assoc}
-use Rattle.std.specs.Prelude.{is_some, All, map, unwrap_or, bytes_eq, nat_lt, nat_le, ◌&&◌, if◌then◌else◌}
+use Rattle.std.proofs.Common.{◌≡◌, ℕ, ◌+◌, ◌≤◌, Bool, true, false, inl, inr, List, [], ◌∷◌, ◌++◌, length, refl, sym, ◌∙◌, ap, subst, arith, Some, None, Err, append-nil, append_assoc}
+use Rattle.std.specs.Prelude.{is_some, option_map, All, map, unwrap_or, bytes_eq, nat_lt, nat_le, ◌&&◌, if◌then◌else◌}
 use Rattle.std.specs.List.{list_any}
 use Rattle.std.proofs.lemmas.List.{length-append}
 use Rattle.std.proofs.lemmas.List.Elements.{All-cons, All-head, All-tail, All-push}
@@ -19,11 +19,12 @@ use Rattle.records.specs.declared.entry.Entry.{Entry}
 use Rattle.records.specs.declared.entry.Entry.TheVariants as entry
 use Rattle.store.specs.Stored.{Extends}
 use Rattle.records.specs.Entries.{entry_path, entry_with}
+use Rattle.realise.specs.Held.{with_archive}
 use Rattle.realise.specs.Holdings.{Holdings, paths_of, is_on, holds_entry, has_place, charged_more, is_roomy, IsClosedWithEntry}
-use Rattle.handling.specs.Sound.{sources_at, records_at, desk_of, IsSound, Beside}
+use Rattle.handling.specs.Sound.{sources_at, records_at, desk_of, IsSized, IsSound, Beside}
 use Rattle.handling.proofs.ChargeLemmas.{weight, AgreeAt, weight-between}
 use Rattle.handling.proofs.ClosedLemmas.{stays_closed}
-use Rattle.handling.proofs.DeskLemmas.{IsKnown, same_sources, same_records, sources_known, records_known, known_kept, held_found, held_known, held_paths, length-sources_at, length-records_at}
+use Rattle.handling.proofs.DeskLemmas.{IsKnown, same_sources, same_records, sources_known, records_known, known_kept, sized_kept, sized_with, held_found, held_known, held_paths, length-sources_at, length-records_at}
 
 -- ---- whether it is there
 
@@ -141,15 +142,15 @@ records_at-push table (q ∷ records) r tree e = rw (records_at-push table recor
 pub desk_with : Beside → Holdings → List Source → List Record → Desk
 desk_with beside d sources records = record { trusted = beside.trusted; sources = sources; derivations = d.known.derivations; records = records; pins = d.pins; goals = beside.goals }
 
-pub desk_of-entry : (beside : Beside) (old new : List Source) (limit : ℕ) (d : Holdings) (tree : Tree) (e : Entry) (more : ℕ) → Extends old new → IsSound old limit d
+pub desk_of-entry : (beside : Beside) (old new : List Source) (limit : ℕ) (d : Holdings) (tree : Tree) (e : Entry) (archive : ℕ) → Extends old new → IsSound old limit d
     → tree_at (entry_path e) new ≡ Some tree
-    → desk_of beside new (holds_entry e more d) ≡ with_entry (entry_with tree e) (desk_of beside old d)
+    → desk_of beside new (holds_entry e archive d) ≡ with_entry (entry_with tree e) (desk_of beside old d)
 unfolding desk_with
-desk_of-entry beside old new limit d tree (entry.Source path) more later sound there =
+desk_of-entry beside old new limit d tree (entry.Source path) archive later sound there =
     let sources = sources_at-push new d.known.sources path tree there ∙ ap (λ xs. xs ++ record { path = path; tree = tree } ∷ []) (same_sources old new later d.known.sources (sources_known old limit d sound)) in
     let records = same_records old new later d.records (records_known old limit d sound) in
     λ i. desk_with beside d (sources i) (records i)
-desk_of-entry beside old new limit d tree (entry.Record r) more later sound there =
+desk_of-entry beside old new limit d tree (entry.Record r) archive later sound there =
     let sources = same_sources old new later d.known.sources (sources_known old limit d sound) in
     let records = records_at-push new d.records r tree there ∙ ap (λ xs. xs ++ with_tree tree r ∷ []) (same_records old new later d.records (records_known old limit d sound)) in
     λ i. desk_with beside d (sources i) (records i)
@@ -164,53 +165,62 @@ known_between table [] ys path all one = All-cons (IsKnown table) path ys one al
 known_between table (x ∷ xs) ys path all one =
     All-cons (IsKnown table) x (xs ++ path ∷ ys) (All-head (IsKnown table) x (xs ++ ys) all) (known_between table xs ys path (All-tail (IsKnown table) x (xs ++ ys) all) one)
 
-pub known-entry : (table : List Source) (d : Holdings) (e : Entry) (more : ℕ) → All (IsKnown table) (paths_of d) → IsKnown table (entry_path e)
-    → All (IsKnown table) (paths_of (holds_entry e more d))
-known-entry table d (entry.Source path) more all one =
+pub known-entry : (table : List Source) (d : Holdings) (e : Entry) (archive : ℕ) → All (IsKnown table) (paths_of d) → IsKnown table (entry_path e)
+    → All (IsKnown table) (paths_of (holds_entry e archive d))
+known-entry table d (entry.Source path) archive all one =
     let back : List (List ℕ) = map (λ r. r.path) d.records in
     rw (append_assoc d.known.sources (path ∷ []) back) (known_between table d.known.sources back path all one)
-known-entry table d (entry.Record r) more all one =
+known-entry table d (entry.Record r) archive all one =
     let back : List (List ℕ) = map (λ q. q.path) d.records in
     rw (paths_more d.records r, ← append_assoc d.known.sources back (r.path ∷ [])) (All-push (IsKnown table) (d.known.sources ++ back) r.path all one)
 
-place_left : (e : Entry) (more : ℕ) (d : Holdings) → length d.known.sources ≤ most_sources → length d.records ≤ most_records → has_place e d ≡ true
-    → (length (holds_entry e more d).known.sources ≤ most_sources) × (length (holds_entry e more d).records ≤ most_records)
-place_left (entry.Source path) more d sources records place =
+place_left : (e : Entry) (archive : ℕ) (d : Holdings) → length d.known.sources ≤ most_sources → length d.records ≤ most_records → has_place e d ≡ true
+    → (length (holds_entry e archive d).known.sources ≤ most_sources) × (length (holds_entry e archive d).records ≤ most_records)
+place_left (entry.Source path) archive d sources records place =
     let room : length d.known.sources + 1 ≤ most_sources = grind (arith, nat_tests, place) in
     (omega (arith, room, length-append d.known.sources (path ∷ [])), records)
-place_left (entry.Record r) more d sources records place =
+place_left (entry.Record r) archive d sources records place =
     let room : length d.records + 1 ≤ most_records = grind (arith, nat_tests, place) in
     (sources, omega (arith, room, length-append d.records (r ∷ [])))
 
-derivations_stay : (e : Entry) (more : ℕ) (d : Holdings) → (holds_entry e more d).known.derivations ≡ d.known.derivations
-derivations_stay (entry.Source path) more d = refl
-derivations_stay (entry.Record r) more d = refl
+derivations_stay : (e : Entry) (archive : ℕ) (d : Holdings) → (holds_entry e archive d).known.derivations ≡ d.known.derivations
+derivations_stay (entry.Source path) archive d = refl
+derivations_stay (entry.Record r) archive d = refl
 
-pins_stay : (e : Entry) (more : ℕ) (d : Holdings) → (holds_entry e more d).pins ≡ d.pins
-pins_stay (entry.Source path) more d = refl
-pins_stay (entry.Record r) more d = refl
+pins_stay : (e : Entry) (archive : ℕ) (d : Holdings) → (holds_entry e archive d).pins ≡ d.pins
+pins_stay (entry.Source path) archive d = refl
+pins_stay (entry.Record r) archive d = refl
 
-pub charge_is : (e : Entry) (more : ℕ) (d : Holdings) → (holds_entry e more d).charge ≡ d.charge + more
-charge_is (entry.Source path) more d = refl
-charge_is (entry.Record r) more d = refl
+pub charge_is : (e : Entry) (archive : ℕ) (d : Holdings) → (holds_entry e archive d).charge ≡ d.charge + charged_more (entry_path e) archive d
+charge_is (entry.Source path) archive d = refl
+charge_is (entry.Record r) archive d = refl
+
+pub archives_are : (e : Entry) (archive : ℕ) (d : Holdings) → (holds_entry e archive d).archives ≡ with_archive (entry_path e, archive) d.archives
+archives_are (entry.Source path) archive d = refl
+archives_are (entry.Record r) archive d = refl
 
 pub sound-entry : (old new : List Source) (limit : ℕ) (d : Holdings) (tree : Tree) (e : Entry) → Extends old new → IsSound old limit d
     → IsThere old d (entry_path e) tree → tree_at (entry_path e) new ≡ Some tree
     → is_roomy e (charged_more (entry_path e) (length (nar tree)) d) limit d ≡ true → IsClosedWithEntry d e
-    → IsSound new limit (holds_entry e (charged_more (entry_path e) (length (nar tree)) d) d)
+    → IsSound new limit (holds_entry e (length (nar tree)) d)
 sound-entry old new limit d tree e later sound there stored roomy closed =
-    let more : ℕ = charged_more (entry_path e) (length (nar tree)) d in
+    let archive : ℕ = length (nar tree) in
+    let more : ℕ = charged_more (entry_path e) archive d in
     let parts = both_parts (has_place e d) (nat_le (d.charge + more) limit) roomy in
-    let few = place_left e more d sound.few_sources sound.few_records parts.0 in
+    let few = place_left e archive d sound.few_sources sound.few_records parts.0 in
     record {
-      charged = λ beside. charge_is e more d ∙ sym (charge_of-entry beside old d tree e (sound.charged beside) there) ∙ ap charge_of (sym (desk_of-entry beside old new limit d tree e more later sound stored));
-      within = (let fits : d.charge + more ≤ limit = grind (arith, nat_tests, parts.1) in rw (charge_is e more d) fits);
+      charged = λ beside.
+          charge_is e archive d ∙ sym (charge_of-entry beside old d tree e (sound.charged beside) there)
+          ∙ ap charge_of (sym (desk_of-entry beside old new limit d tree e archive later sound stored));
+      sized = subst (All (IsSized new)) (sym (archives_are e archive d))
+          (sized_with new (entry_path e, archive) d.archives (ap (option_map (λ t. length (nar t))) stored) (sized_kept old new later d.archives sound.sized));
+      within = (let fits : d.charge + more ≤ limit = grind (arith, nat_tests, parts.1) in rw (charge_is e archive d) fits);
       few_sources = few.0;
-      few_derivations = rw (derivations_stay e more d) sound.few_derivations;
+      few_derivations = rw (derivations_stay e archive d) sound.few_derivations;
       few_records = few.1;
-      few_pins = rw (pins_stay e more d) sound.few_pins;
-      known = known-entry new d e more (known_kept old new later (paths_of d) sound.known) (rw stored refl);
-      closed = stays_closed d e more sound.closed closed;
+      few_pins = rw (pins_stay e archive d) sound.few_pins;
+      known = known-entry new d e archive (known_kept old new later (paths_of d) sound.known) (rw stored refl);
+      closed = stays_closed d e archive sound.closed closed;
     }
 
 -- ---- adding it

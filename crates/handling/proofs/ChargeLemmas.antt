@@ -32,7 +32,7 @@ has_path-between path (x ∷ xs) ys s =
     ap (λ b. bytes_eq x.path path || b) (has_path-between path xs ys s) ∙ or_swap (bytes_eq x.path path) (bytes_eq s.path path) (has_path path (xs ++ ys))
 
 -- what one adds that stands first
-first_adds : (s : Source) (ys : List Source) → weight (s ∷ ys) ≡ weight ys + (if has_path s.path ys then 0 else length (nar s.tree))
+pub first_adds : (s : Source) (ys : List Source) → weight (s ∷ ys) ≡ weight ys + (if has_path s.path ys then 0 else length (nar s.tree))
 unfolding one_of_each
 first_adds s ys = elim (either (has_path s.path ys)) [
   | inl t ↦ rw t (omega arith)

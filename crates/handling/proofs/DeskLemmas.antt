@@ -1,20 +1,21 @@
 -- What a desk holds in the table.
 use Rattle.std.proofs.Common.{◌≡◌, ℕ, suc, ◌+◌, ◌≤◌, Bool, true, false, inl, inr, List, [], ◌∷◌, ◌++◌, length, refl, sym, ◌∙◌, ap, subst, arith, Option, Some, None}
-use Rattle.std.specs.Prelude.{is_some, All, map, unwrap_or, bytes_eq, nat_le, ◌&&◌, if◌then◌else◌}
+use Rattle.std.specs.Prelude.{is_some, option_map, All, map, unwrap_or, bytes_eq, nat_le, ◌&&◌, if◌then◌else◌}
 use Rattle.std.specs.List.{list_any}
-use Rattle.std.proofs.lemmas.List.Elements.{All-nil, All-cons, All-head, All-tail, All-weaker}
+use Rattle.std.proofs.lemmas.List.Elements.{All-nil, All-cons, All-head, All-tail, All-push, All-weaker}
 use Rattle.std.proofs.lemmas.List.{length-append}
 use Rattle.std.proofs.lemmas.Bool.Decides.{nat_tests}
-use Rattle.model.specs.Archives.{Tree, Link}
+use Rattle.model.specs.Archives.{Tree, Link, nar}
 use Rattle.model.specs.Classes.{Known, Admission}
 use Rattle.model.specs.Limits.{most_sources, most_derivations, most_records, most_pins}
 use Rattle.model.specs.Worlds.{Source, tree_at, tree_of_record, held, held_at, one_of_each, charge_of, is_within, known_of, with_derivation}
 use Rattle.model.proofs.BoolLemmas.{either, same_bytes}
 use Rattle.records.specs.Recorded.{Recorded, without_tree}
 use Rattle.store.specs.Stored.{Extends}
+use Rattle.realise.specs.Held.{paths_held, with_archive, with_archives}
 use Rattle.realise.specs.Holdings.{Holdings, paths_of, holds_derivation, IsClosedWith}
 use Rattle.closures.specs.Trees.{source_at}
-use Rattle.handling.specs.Sound.{sources_at, records_at, desk_of, IsSound, IsEmpty, Beside}
+use Rattle.handling.specs.Sound.{sources_at, records_at, desk_of, IsSized, IsSound, IsEmpty, Beside}
 
 -- a path of the table
 abbrev pub IsKnown : List Source → List ℕ → Type 0
@@ -39,6 +40,32 @@ same_records old new later [] known = refl
 same_records old new later (r ∷ records) known =
     let paths : List (List ℕ) = map (λ q. q.path) records in
     rw (later r.path (All-head (IsKnown old) r.path paths known), same_records old new later records (All-tail (IsKnown old) r.path paths known)) refl
+
+-- the archives have as many bytes there
+is_sized_there : (o : Option Tree) (n : ℕ) → option_map (λ t. length (nar t)) o ≡ Some n → is_some o ≡ true
+is_sized_there None n e = cc
+is_sized_there (Some t) n e = refl
+
+pub sized_kept : (old new : List Source) → Extends old new → (archives : List (List ℕ × ℕ)) → All (IsSized old) archives → All (IsSized new) archives
+sized_kept old new later archives sized =
+    All-weaker (IsSized old) (IsSized new)
+    (λ a is. ap (option_map (λ t. length (nar t))) (later a.0 (is_sized_there (tree_at a.0 old) a.1 is)) ∙ is) archives sized
+
+-- with one more, or with several
+pub sized_with : (table : List Source) (a : List ℕ × ℕ) (held : List (List ℕ × ℕ)) → IsSized table a → All (IsSized table) held
+    → All (IsSized table) (with_archive a held)
+sized_with table a held one all = elim (either (list_any (bytes_eq a.0) (paths_held held))) [
+  | inl t ↦ rw t all
+  | inr f ↦ rw f (All-push (IsSized table) held a all one)
+]
+
+pub sized_with_all : (table : List Source) (archives held : List (List ℕ × ℕ)) → All (IsSized table) archives → All (IsSized table) held
+    → All (IsSized table) (with_archives archives held)
+unfolding with_archives
+sized_with_all table [] held some all = all
+sized_with_all table (a ∷ archives) held some all =
+    sized_with_all table archives (with_archive a held) (All-tail (IsSized table) a archives some)
+    (sized_with table a held (All-head (IsSized table) a archives some) all)
 
 -- what is known in front, and behind
 known_front : (table : List Source) (xs ys : List (List ℕ)) → All (IsKnown table) (xs ++ ys) → All (IsKnown table) xs
@@ -65,6 +92,7 @@ desk_kept beside old new limit d later sound =
 pub sound_kept : (old new : List Source) (limit : ℕ) (d : Holdings) → Extends old new → IsSound old limit d → IsSound new limit d
 sound_kept old new limit d later sound = record {
   charged = λ beside. rw (desk_kept beside old new limit d later sound) (sound.charged beside);
+  sized = sized_kept old new later d.archives sound.sized;
   within = sound.within;
   few_sources = sound.few_sources;
   few_derivations = sound.few_derivations;
@@ -178,6 +206,7 @@ pub sound-derivation : (table : List Source) (limit : ℕ) (d : Holdings) (a : A
 unfolding charge_of
 sound-derivation table limit d a sound few = record {
   charged = sound.charged;
+  sized = sound.sized;
   within = sound.within;
   few_sources = sound.few_sources;
   few_derivations = omega (arith, few, length-append d.known.derivations (a ∷ []));
@@ -205,6 +234,7 @@ pub empty_sound : (table : List Source) (limit : ℕ) (d : Holdings) → IsEmpty
 unfolding charge_of one_of_each
 empty_sound table limit d e = record {
   charged = λ beside. rw (e.known, e.records, e.charge) refl;
+  sized = subst (All (IsSized table)) (sym e.archives) (All-nil (IsSized table));
   within = rw e.charge (omega arith);
   few_sources = rw e.known (omega arith);
   few_derivations = rw e.known (omega arith);

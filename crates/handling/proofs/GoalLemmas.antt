@@ -1,5 +1,5 @@
 -- The goals of users, and the trees that they are built from.
-use Rattle.std.proofs.Common.{◌≡◌, ◌≢◌, ℕ, zero, suc, ◌<◌, Bool, List, [], ◌∷◌, ◌++◌, length, get_or, refl, sym, ◌∙◌, ap, Option, Some, None}
+use Rattle.std.proofs.Common.{◌≡◌, ◌≢◌, ℕ, zero, suc, ◌<◌, Bool, true, List, [], ◌∷◌, ◌++◌, length, get_or, refl, sym, ◌∙◌, ap, Option, Some, None}
 use Rattle.std.specs.Prelude.{All, map, slice_set}
 use Rattle.std.proofs.lemmas.List.{get_or-set_same, get_or-set_other, set-get_or}
 use Rattle.std.proofs.lemmas.List.Elements.{All-nil, All-cons, All-head, All-tail, All-get_or, All-push, All-weaker}
@@ -8,6 +8,7 @@ use Rattle.model.specs.Worlds.{Source, Entry, path_of_entry, Resolved, Goal}
 use Rattle.model.specs.Goals.{goal_at, new_goal}
 use Rattle.trust.specs.Naming.{trusted_at}
 use Rattle.store.specs.Stored.{Extends}
+use Rattle.model.specs.KeptClosures.{is_planned}
 use Rattle.handling.specs.Sound.{Beside, IsStored, IsResolvedIn, AreGoalsSound}
 use Rattle.handling.specs.Parts.{goals_of, beside_at}
 
@@ -16,16 +17,15 @@ use Rattle.handling.specs.Parts.{goals_of, beside_at}
 stored_kept : (old new : List Source) → Extends old new → (e : Entry) → IsStored old e → IsStored new e
 stored_kept old new later e there = later (path_of_entry e) (rw there refl) ∙ there
 
-resolved_kept : (old new : List Source) → Extends old new → (o : Option Resolved) → IsResolvedIn old o → IsResolvedIn new o
-resolved_kept old new later o sound r is =
+resolved_kept : (old new : List Source) → Extends old new → (g : Goal) → IsResolvedIn old g → IsResolvedIn new g
+resolved_kept old new later g sound r is =
     let own = sound r is in
-    (own.0, All-weaker (IsStored old) (IsStored new) (stored_kept old new later) r.closure own.1)
+    (own.0, λ needs. All-weaker (IsStored old) (IsStored new) (stored_kept old new later) r.closure (own.1 needs))
 
 -- sound goals stay so
 pub goals_kept : (old new : List Source) → Extends old new → (goals : List Goal) → AreGoalsSound old goals → AreGoalsSound new goals
 goals_kept old new later goals sound =
-    All-weaker (λ (g : Goal). IsResolvedIn old g.resolved) (λ (g : Goal). IsResolvedIn new g.resolved)
-    (λ g is. resolved_kept old new later g.resolved is) goals sound
+    All-weaker (IsResolvedIn old) (IsResolvedIn new) (resolved_kept old new later) goals sound
 
 pub all_goals_kept : (old new : List Source) → Extends old new → (goals : List (List Goal)) → All (AreGoalsSound old) goals → All (AreGoalsSound new) goals
 all_goals_kept old new later goals sound = All-weaker (AreGoalsSound old) (AreGoalsSound new) (goals_kept old new later) goals sound
@@ -34,19 +34,19 @@ all_goals_kept old new later goals sound = All-weaker (AreGoalsSound old) (AreGo
 
 -- those at a place of the list, or past its end
 pub goals_sound_at : (table : List Source) (goals : List (List Goal)) (i : ℕ) → All (AreGoalsSound table) goals → AreGoalsSound table (goals_of goals i)
-goals_sound_at table [] i sound = All-nil (λ (g : Goal). IsResolvedIn table g.resolved)
+goals_sound_at table [] i sound = All-nil (IsResolvedIn table)
 goals_sound_at table (first ∷ rest) zero sound = All-head (AreGoalsSound table) first rest sound
 goals_sound_at table (first ∷ rest) (suc i) sound = goals_sound_at table rest i (All-tail (AreGoalsSound table) first rest sound)
 
--- what a goal is built from is stored
+-- what a goal may yet be built from is stored
 pub goal_stored : (table : List Source) (goals : List Goal) (n : ℕ) (g : Goal) (r : Resolved) → AreGoalsSound table goals → goal_at n goals ≡ Some g
-    → g.resolved ≡ Some r → All (IsStored table) r.closure
-goal_stored table goals zero g r sound there resolved = cc
-goal_stored table goals (suc n) g r sound there resolved =
+    → is_planned g.state ≡ true → g.resolved ≡ Some r → All (IsStored table) r.closure
+goal_stored table goals zero g r sound there needs resolved = cc
+goal_stored table goals (suc n) g r sound there needs resolved =
     let at : get_or goals n g ≡ g = get_or_from_slice_get goals n g g there in
-    let own : IsResolvedIn table (get_or goals n g).resolved =
-    All-get_or (λ (x : Goal). IsResolvedIn table x.resolved) goals n g (slice_get_within goals n g there) sound in
-    (own r (ap (λ (x : Goal). x.resolved) at ∙ resolved)).1
+    let own : IsResolvedIn table (get_or goals n g) =
+    All-get_or (IsResolvedIn table) goals n g (slice_get_within goals n g there) sound in
+    (own r (ap (λ (x : Goal). x.resolved) at ∙ resolved)).1 (ap (λ (x : Goal). is_planned x.state) at ∙ needs)
 
 -- ---- users who have no goals yet
 
@@ -65,7 +65,7 @@ none_counted (u ∷ users) = ap (λ n. suc n) (none_counted users)
 pub none_sound : {X : Type 0} (table : List Source) (users : List X) → All (AreGoalsSound table) (none_of users)
 none_sound table [] = All-nil (AreGoalsSound table)
 none_sound table (u ∷ users) =
-    All-cons (AreGoalsSound table) [] (none_of users) (All-nil (λ (g : Goal). IsResolvedIn table g.resolved)) (none_sound table users)
+    All-cons (AreGoalsSound table) [] (none_of users) (All-nil (IsResolvedIn table)) (none_sound table users)
 
 -- ---- the goals of the user at a place are others
 
@@ -90,7 +90,7 @@ goals_put_back goals i changed same = ap (λ own. slice_set goals i own) same �
 
 -- one more
 pub goals_more : (table : List Source) (goals : List Goal) (path : List ℕ) → AreGoalsSound table goals → AreGoalsSound table (goals ++ new_goal path ∷ [])
-goals_more table goals path sound = All-push (λ (g : Goal). IsResolvedIn table g.resolved) goals (new_goal path) sound (λ r resolved. absurd (none_is resolved))
+goals_more table goals path sound = All-push (IsResolvedIn table) goals (new_goal path) sound (λ r resolved. absurd (none_is resolved))
   where
     none_is : {r : Resolved} → None ≡ Some r → ⊥
     none_is e = cc

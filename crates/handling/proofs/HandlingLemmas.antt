@@ -32,7 +32,7 @@ use Rattle.events.specs.Terms.{reply_of}
 use Rattle.handling.specs.Parts.{goals_of, beside_at, Parts, parts, world_in, desk_among}
 use Rattle.handling.specs.Viewing.{bare}
 use Rattle.handling.specs.Given.{HasSoundPlan}
-use Rattle.handling.specs.Handling.{Fits, Serves, ServesAtOnce, Stores, IsKept, AreKept, IsHandledIn, IsHandledBeside, IsHandledAtDesk, IsHandledByDesk, IsHandledWithGoals, IsHandledBySight, IsHandledAtPlace, IsHandledByGoals, IsReadAtPlace, AddsEntry, AddsDerivation, IsHandled, is_fault}
+use Rattle.handling.specs.Handling.{Fits, Serves, ServesAtOnce, Stores, IsKept, AreKept, IsHandledKeeping, IsHandledBeside, IsHandledAtDesk, IsHandledByDesk, IsHandledWithGoals, IsHandledBySight, IsHandledAtPlace, IsHandledByGoals, IsReadAtPlace, AddsEntry, AddsDerivation, IsHandled, is_fault}
 use Rattle.handling.proofs.DeskLemmas.{sound_kept}
 use Rattle.handling.proofs.DerivationLemmas.{derivation_read}
 use Rattle.store.proofs.TableLemmas.{put_once-Extends, put_once-All, found_holds}
@@ -156,18 +156,18 @@ module _ (old : Parts) (e : Event) (i : ℕ) (asks : Asks old e.actor i) where
 
   -- where his goals stay
   pub in_world_kept : (new : List Source) (before now : Holdings) (result : Result Rust.Reply Refusal) → slice_get old.desks i ≡ Some before
-      → IsHandledIn old.setup w e.actor (beside_at old.setup.users old.trust old.goals i) old.table before e.request result new now
+      → IsHandledKeeping old.setup w e.actor (beside_at old.setup.users old.trust old.goals i) old.table before e.request result new now
       → IsHandled old e result (parts old.setup.users old.setup.charge old.trust old.goals new (slice_set old.desks i now))
-  in_world_kept new before now result here handled =
+  in_world_kept new before now result here is =
       let goals : List Goal = goals_of old.goals i in
       let same : OnErr result (goals ≡ goals) = on_err_any result (goals ≡ goals) refl in
       subst (λ (all : List (List Goal)). IsHandled old e result (parts old.setup.users old.setup.charge old.trust all new (slice_set old.desks i now)))
       (goals_put_back old.goals i goals refl)
       (in_world new before now goals result here (record {
-        handled = handled;
+        handled = is.handled;
         kept = same;
-        sound = goals_kept old.table new handled.grows goals (goals_sound_at old.table old.goals i asks.goals_sound);
-        supported = still_supported before now goals handled.gains;
+        sound = goals_kept old.table new is.handled.grows goals (goals_sound_at old.table old.goals i asks.goals_sound);
+        supported = still_supported before now goals is.gains;
       }))
 
   -- his desk, whatever is read past the end of the desks
@@ -278,19 +278,21 @@ pub left : (beside : Beside) (limit : ℕ) (table : List Source) (desk : Holding
     → OnOk result (Stores table (desk_of beside table desk) request table)
     → IsHandledBeside beside limit table desk request result table desk
 left beside limit table desk request result sound plans serves at_once takes answered no_clash stored users w u here = record {
-  serves = serves users (sight_of (record { users = users; charge = limit }) w u) here;
-  answered = answered;
-  at_once = at_once (record { users = users; charge = limit }) (sight_of (record { users = users; charge = limit }) w u) here;
-  no_memory = may_lack request (outcome (record { users = users; charge = limit }) (sight_of (record { users = users; charge = limit }) w u) request) result takes;
-  kept = is_left table desk result;
-  sound = sound;
+  handled = record {
+    serves = serves users (sight_of (record { users = users; charge = limit }) w u) here;
+    answered = answered;
+    at_once = at_once (record { users = users; charge = limit }) (sight_of (record { users = users; charge = limit }) w u) here;
+    no_memory = may_lack request (outcome (record { users = users; charge = limit }) (sight_of (record { users = users; charge = limit }) w u) request) result takes;
+    kept = is_left table desk result;
+    sound = sound;
+    grows = λ path there. refl;
+    hashed = λ texts hashed inside. hashed;
+    taken = λ clash. (let no = rw clash at no_clash in cc);
+    clashes = λ clash. (let no = rw clash at no_clash in cc);
+    stored = on_ok_weaker result (λ stores. stores (record { users = users; charge = limit }) w u here) stored;
+    given = on_ok_any result _ (plans (record { users = users; charge = limit }) w u);
+  };
   gains = gains_nothing desk;
-  grows = λ path there. refl;
-  hashed = λ texts hashed inside. hashed;
-  taken = λ clash. (let no = rw clash at no_clash in cc);
-  clashes = λ clash. (let no = rw clash at no_clash in cc);
-  stored = on_ok_weaker result (λ stores. stores (record { users = users; charge = limit }) w u here) stored;
-  given = on_ok_any result _ (plans (record { users = users; charge = limit }) w u);
 }
 
 -- an entry is added with its tree
@@ -313,30 +315,32 @@ entry_handled beside limit old new before now request entry tree result sound as
     let s : Source = record { path = entry_path entry; tree = tree } in
     let setup : Setup = record { users = users; charge = limit } in
     record {
-      serves = rw (asks setup (sight_of setup w u) here) (adds users beside);
-      answered = answered;
-      at_once = at_once setup (sight_of setup w u) here;
-      no_memory = may_lack request (outcome setup (sight_of setup w u) request) result takes;
-      kept = kept;
-      sound = either_way result (IsSound new limit now) sound_now (on_err_weaker result (kept_sound old new before now limit sound) kept);
+      handled = record {
+        serves = rw (asks setup (sight_of setup w u) here) (adds users beside);
+        answered = answered;
+        at_once = at_once setup (sight_of setup w u) here;
+        no_memory = may_lack request (outcome setup (sight_of setup w u) request) result takes;
+        kept = kept;
+        sound = either_way result (IsSound new limit now) sound_now (on_err_weaker result (kept_sound old new before now limit sound) kept);
+        grows = either_way result _ (on_ok_weaker result (λ more. rw more (put_once-Extends s old)) stored)
+            (on_err_weaker result (kept_later old new before now) kept);
+        hashed = λ texts hashed inside.
+            either_way result _ (on_ok_weaker result (λ more. rw more (put_once-All (IsHashed texts) s old hashed (hashes texts setup w u here inside))) stored)
+            (on_err_weaker result (λ k. rw k.sources hashed) kept);
+        taken = λ clash. record { before = []; source = s; behind = []; parts = tries setup w u ∙ stores setup w u here; taken = taken clash };
+        clashes = λ clash texts hashed inside.
+            let had = taken clash in record {
+              one = record { path = s.path; tree = had.had };
+              other = s;
+              one_hashed = found_holds (IsHashed texts) old s.path had.had hashed had.there;
+              other_hashed = hashes texts setup w u here inside;
+              one_path = refl;
+              two_trees = had.other;
+            };
+        stored = on_ok_weaker result (λ more. rw (stores setup w u here) more) stored;
+        given = on_ok_any result _ (plans setup w u);
+      };
       gains = gains;
-      grows = either_way result _ (on_ok_weaker result (λ more. rw more (put_once-Extends s old)) stored)
-          (on_err_weaker result (kept_later old new before now) kept);
-      hashed = λ texts hashed inside.
-          either_way result _ (on_ok_weaker result (λ more. rw more (put_once-All (IsHashed texts) s old hashed (hashes texts setup w u here inside))) stored)
-          (on_err_weaker result (λ k. rw k.sources hashed) kept);
-      taken = λ clash. record { before = []; source = s; behind = []; parts = tries setup w u ∙ stores setup w u here; taken = taken clash };
-      clashes = λ clash texts hashed inside.
-          let had = taken clash in record {
-            one = record { path = s.path; tree = had.had };
-            other = s;
-            one_hashed = found_holds (IsHashed texts) old s.path had.had hashed had.there;
-            other_hashed = hashes texts setup w u here inside;
-            one_path = refl;
-            two_trees = had.other;
-          };
-      stored = on_ok_weaker result (λ more. rw (stores setup w u here) more) stored;
-      given = on_ok_any result _ (plans setup w u);
     }
 
 -- a source is added
@@ -391,18 +395,20 @@ pub derivation_handled : (beside : Beside) (limit : ℕ) (table : List Source) (
     → IsHandledBeside beside limit table before (AddDerivation text) result table now
 unfolding outcome
 derivation_handled beside limit table before now text derivation result within read adds answered sound gains kept no_clash users w u here = record {
-  serves = rw (here, derivation_read users beside table limit before text derivation within read) (adds users beside);
-  answered = answered;
-  at_once = derivation_at_once (desk_of beside table before) text result (λ large. let no : true ≡ false = sym within ∙ large in cc)
-      (record { users = users; charge = limit }) (sight_of (record { users = users; charge = limit }) w u) here;
-  no_memory = λ free. cc;
-  kept = on_err_weaker result (λ same. record { sources = refl; desk = same }) kept;
-  sound = sound;
+  handled = record {
+    serves = rw (here, derivation_read users beside table limit before text derivation within read) (adds users beside);
+    answered = answered;
+    at_once = derivation_at_once (desk_of beside table before) text result (λ large. let no : true ≡ false = sym within ∙ large in cc)
+        (record { users = users; charge = limit }) (sight_of (record { users = users; charge = limit }) w u) here;
+    no_memory = λ free. cc;
+    kept = on_err_weaker result (λ same. record { sources = refl; desk = same }) kept;
+    sound = sound;
+    grows = λ path there. refl;
+    hashed = λ texts hashed inside. hashed;
+    taken = λ clash. (let no = rw clash at no_clash in cc);
+    clashes = λ clash. (let no = rw clash at no_clash in cc);
+    stored = on_ok_any result _ refl;
+    given = on_ok_any result _ tt;
+  };
   gains = gains;
-  grows = λ path there. refl;
-  hashed = λ texts hashed inside. hashed;
-  taken = λ clash. (let no = rw clash at no_clash in cc);
-  clashes = λ clash. (let no = rw clash at no_clash in cc);
-  stored = on_ok_any result _ refl;
-  given = on_ok_any result _ tt;
 }

@@ -11,3 +11,4 @@ pub mod TrustLemmas
 pub mod ViewLemmas
 pub mod PuttingLemmas
 pub mod ClosedLemmas
+pub mod ForgettingLemmas

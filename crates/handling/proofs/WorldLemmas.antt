@@ -169,8 +169,8 @@ among_stored beside table limit (name ∷ names) (d ∷ desks) u path sound h = 
 -- all that goals are built from is stored
 pub among_goals : (beside : ℕ → Beside) (table : List Source) (names : List (List ℕ)) (desks : List Holdings) (u : List ℕ)
     → ((k : ℕ) → AreGoalsSound table (beside k).goals) → AreGoalsSound table (desk_among beside table names desks u).goals
-among_goals beside table [] desks u sound = All-nil (λ (g : Goal). IsResolvedIn table g.resolved)
-among_goals beside table (name ∷ names) [] u sound = All-nil (λ (g : Goal). IsResolvedIn table g.resolved)
+among_goals beside table [] desks u sound = All-nil (IsResolvedIn table)
+among_goals beside table (name ∷ names) [] u sound = All-nil (IsResolvedIn table)
 among_goals beside table (name ∷ names) (d ∷ desks) u sound = elim (either (bytes_eq name u)) [
   | inl t ↦ rw t (sound 0)
   | inr f ↦ rw f (among_goals (λ k. beside (suc k)) table names desks u (λ k. sound (suc k)))

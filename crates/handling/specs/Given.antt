@@ -4,7 +4,7 @@ use Rattle.model.specs.Classes.{Admission, known_at}
 use Rattle.model.specs.Worlds.{Setup, World, Resolved, Goal, known_of}
 use Rattle.model.specs.Goals.{goal_at}
 use Rattle.model.specs.Resolutions.{input_classes}
-use Rattle.model.specs.Events.{Request, AddSource, AddDerivation, Offer, Fetch, Trust, Distrust, Pin, Unpin, Closure, Take, Build, Status, Plan, Start, Finish, Fail}
+use Rattle.model.specs.Events.{Request, AddSource, AddDerivation, Offer, Fetch, Trust, Distrust, Pin, Unpin, Closure, Take, Build, Status, Plan, Start, Finish, Fail, Forget}
 use Rattle.model.specs.Choices as choices
 use Rattle.model.specs.Outcomes.{view_of, sight_of}
 use Rattle.model.specs.GoalRequests.{resolve_for}
@@ -37,3 +37,4 @@ HasSoundPlan setup w u (Plan number) = HasSoundGoalPlan setup w u number
 HasSoundPlan setup w u (Start number) = Unit {0}
 HasSoundPlan setup w u (Finish number bytes) = Unit {0}
 HasSoundPlan setup w u (Fail number status) = Unit {0}
+HasSoundPlan setup w u (Forget class path) = Unit {0}

@@ -7,7 +7,7 @@ use Rattle.model.specs.Derivations.{Derivation}
 use Rattle.model.specs.Classes.{known_at, derivation_path}
 use Rattle.model.specs.Worlds.{Source, Setup, Desk, World, Goal, are_users}
 use Rattle.model.specs.Events as events
-use Rattle.model.specs.Events.{Request, Trust, Distrust, Unpin, Status, Fail, Event}
+use Rattle.model.specs.Events.{Request, Trust, Distrust, Unpin, Status, Fail, Forget, Event}
 use Rattle.model.specs.Replies.{is_memory_refusal, is_clash_refusal, is_refused, needs_no_memory}
 use Rattle.model.specs.Outcomes as outcomes
 use Rattle.model.specs.Outcomes.{Sight, sight_of, Outcome, becomes, add_entry}
@@ -39,6 +39,7 @@ takes_no_memory (Distrust user) reply = true
 takes_no_memory (Unpin class) reply = true
 takes_no_memory (Status number) reply = shares_nothing reply
 takes_no_memory (Fail number status) reply = true
+takes_no_memory (Forget class path) reply = true
 takes_no_memory request reply = false
 
 -- where a request takes no memory, the result is never that memory was refused
@@ -87,8 +88,6 @@ pub record IsHandledIn (setup : Setup) (w : World) (u : List ℕ) (beside : Besi
   pub kept : OnErr result (IsKept old new before after)
   -- the desk is within its limits, and what it holds is stored
   pub sound : IsSound new setup.charge after
-  -- what it has labelled it keeps
-  pub gains : GainsOnly before after
   -- the table only grows, by what was hashed
   pub grows : Extends old new
   pub hashed : (texts : List (List ℕ)) → All (IsHashed texts) old → All (Contains texts) (texts_of setup w u request) → All (IsHashed texts) new
@@ -99,11 +98,17 @@ pub record IsHandledIn (setup : Setup) (w : World) (u : List ℕ) (beside : Besi
   -- a closure that is given is of sound records
   pub given : OnOk result (HasSoundPlan setup w u request)
 
+-- the same where his goals stay: what his desk has labelled it keeps, so that what they are built from stays on it
+pub record IsHandledKeeping (setup : Setup) (w : World) (u : List ℕ) (beside : Beside) (old : List Source) (before : Holdings) (request : Request)
+    (result : Result Reply Refusal) (new : List Source) (after : Holdings) : Type 0 where
+  pub handled : IsHandledIn setup w u beside old before request result new after
+  pub gains : GainsOnly before after
+
 -- what a handler promises that reads and changes the desk of the user alone, and the table, where he has these beside it: who he
 -- is, and what else he sees, makes no difference
 abbrev pub IsHandledBeside : Beside → ℕ → List Source → Holdings → Request → Result Reply Refusal → List Source → Holdings → Type 0
 IsHandledBeside beside limit old before request result new after = (users : List (List ℕ)) (w : World) (u : List ℕ) → w u ≡ desk_of beside old before
-    → IsHandledIn (record { users = users; charge = limit }) w u beside old before request result new after
+    → IsHandledKeeping (record { users = users; charge = limit }) w u beside old before request result new after
 
 -- the same whomever the user trusts and whatever his goals are, and these are the same afterwards
 abbrev pub IsHandledAtDesk : ℕ → List Source → Holdings → Request → Result Reply Refusal → List Source → Holdings → Type 0
@@ -207,7 +212,7 @@ IsHandledBySight trust limit old desks place request result new after = (users :
     → are_users users ≡ true → place_of users actor ≡ Some place → length desks ≡ length users → All (IsSound old limit) desks
     → IsWithin (length users) trust
     → let before = parts users limit trust goals old desks in
-    IsHandledIn before.setup (world_in before) actor (beside_at users trust goals place) old (desk_at desks place) request result new after
+    IsHandledKeeping before.setup (world_in before) actor (beside_at users trust goals place) old (desk_at desks place) request result new after
 
 -- the same of one that may change the goals of the user at a place, and reads those of all
 abbrev pub IsHandledAtPlace : List (List ℕ) → ℕ → (ℕ → ℕ → Bool) → List (List Goal) → List Source → List Holdings → ℕ → Request → Result Reply Refusal

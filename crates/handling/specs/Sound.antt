@@ -1,9 +1,10 @@
 -- What the desks of the store keep, and what the table keeps for them.
-use Rattle.std.specs.Prelude.{◌≡◌, ◌≢◌, ℕ, ◌≤◌, Bool, true, List, [], length, map, is_some, All, Option, Some}
+use Rattle.std.specs.Prelude.{◌≡◌, ◌≢◌, ℕ, ◌≤◌, Bool, true, List, [], length, map, is_some, option_map, All, Option, Some}
 use Rattle.model.specs.Archives.{nar}
 use Rattle.model.specs.Limits.{most_sources, most_derivations, most_records, most_pins, most_entries}
 use Rattle.model.specs.Settling.{Settled, IsMade}
 use Rattle.model.specs.Worlds.{Source, Record, Desk, Entry, path_of_entry, Resolved, Goal, tree_at, charge_of}
+use Rattle.model.specs.KeptClosures.{is_planned}
 use Rattle.model.specs.Closures.{tree_of_entry, entry_before, IsWhole}
 use Rattle.records.specs.Recorded.{Recorded}
 use Rattle.closures.specs.Ordered.{Ascends}
@@ -34,9 +35,14 @@ desk_of beside table d = record {
   goals = beside.goals;
 }
 
--- the paths that a desk holds are in the table, its charge is theirs, it is within the limits, and what its labels name is on it
+-- the table has a tree at a path, whose archive has so many bytes
+abbrev pub IsSized : List Source → List ℕ × ℕ → Type 0
+IsSized table a = option_map (λ t. length (nar t)) (tree_at a.0 table) ≡ Some a.1
+
+-- the paths that a desk holds are in the table, with archives of so many bytes, its charge is theirs, it is within the limits, and what its labels name is on it
 pub record IsSound (table : List Source) (limit : ℕ) (d : Holdings) : Type 0 where
   pub charged : (beside : Beside) → d.charge ≡ charge_of (desk_of beside table d)
+  pub sized : All (IsSized table) d.archives
   pub within : d.charge ≤ limit
   pub few_sources : length d.known.sources ≤ most_sources
   pub few_derivations : length d.known.derivations ≤ most_derivations
@@ -66,6 +72,7 @@ pub record IsEmpty (d : Holdings) : Type 0 where
   pub known : d.known ≡ record { derivations = []; sources = [] }
   pub records : d.records ≡ []
   pub pins : d.pins ≡ []
+  pub archives : d.archives ≡ []
   pub charge : d.charge ≡ 0
 
 -- ---- goals
@@ -80,10 +87,10 @@ pub record IsClosure (entries : List Entry) : Type 0 where
 abbrev pub IsStored : List Source → Entry → Type 0
 IsStored table e = tree_at (path_of_entry e) table ≡ Some (tree_of_entry e)
 
--- what a goal is built from is the closure of its inputs, of which the table has all trees
-abbrev pub IsResolvedIn : List Source → Option Resolved → Type 0
-IsResolvedIn table resolved = (r : Resolved) → resolved ≡ Some r → ∥ IsClosure r.closure ∥₁ × All (IsStored table) r.closure
+-- what a goal is built from is the closure of its inputs, of which the table has all trees while the goal may yet be built from them
+abbrev pub IsResolvedIn : List Source → Goal → Type 0
+IsResolvedIn table g = (r : Resolved) → g.resolved ≡ Some r → ∥ IsClosure r.closure ∥₁ × (is_planned g.state ≡ true → All (IsStored table) r.closure)
 
 -- so it is with each of a user's goals
 abbrev pub AreGoalsSound : List Source → List Goal → Type 0
-AreGoalsSound table goals = All (λ g. IsResolvedIn table g.resolved) goals
+AreGoalsSound table goals = All (IsResolvedIn table) goals

@@ -7,7 +7,7 @@ use Rattle.model.specs.Classes.{Admission, Known, known_at}
 use Rattle.model.specs.Settling.{Settled}
 use Rattle.model.specs.Worlds.{Source, Record, Setup, Desk, World, known_of, Entry, path_of_entry, Resolved, Job, Goal, tree_of_record}
 use Rattle.model.specs.References.{candidates}
-use Rattle.model.specs.Events.{Request, AddSource, AddDerivation, Offer, Fetch, Trust, Distrust, Pin, Unpin, Closure, Take, Build, Status, Plan, Start, Finish, Fail, Event}
+use Rattle.model.specs.Events.{Request, AddSource, AddDerivation, Offer, Fetch, Trust, Distrust, Pin, Unpin, Closure, Take, Build, Status, Plan, Start, Finish, Fail, Forget, Event}
 use Rattle.model.specs.Outcomes.{Sight, sight_of, reaches}
 use Rattle.model.specs.Goals.{goal_at, members}
 use Rattle.model.specs.Endings.{built_record}
@@ -74,6 +74,7 @@ stored_by setup w u (Plan number) = planned_sources (sight_of setup w u) (goal_a
 stored_by setup w u (Start number) = []
 stored_by setup w u (Finish number bytes) = gained_sources setup w (record { actor = u; request = Finish number bytes })
 stored_by setup w u (Fail number status) = []
+stored_by setup w u (Forget class path) = []
 
 -- the tree that is settled for a goal of which this is built, with its path
 abbrev pub record_tried : Result Record Refusal → List Source

@@ -7,7 +7,7 @@ use Rattle.realise.specs.Holdings.{Holdings, has_labelled}
 
 -- an empty desk
 abbrev pub bare : Holdings
-bare = record { known = record { derivations = []; sources = [] }; records = []; pins = []; charge = 0 }
+bare = record { known = record { derivations = []; sources = [] }; records = []; pins = []; archives = []; charge = 0 }
 
 -- the desk at a place, an empty one past the end of the desks
 abbrev pub desk_at : List Holdings → ℕ → Holdings

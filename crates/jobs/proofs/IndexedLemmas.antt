@@ -3,11 +3,11 @@ use Rattle.std.proofs.Common.{◌≡◌, ◌<◌, ℕ, ◌-◌, Bool, true, fals
 use Rattle.std.specs.Prelude.{slice_set, slice_index_or, ◌&&◌, bytes_eq}
 use Rattle.std.specs.Global.{Vec}
 use Rattle.model.specs.Worlds.{Resolved, Job, Goal, State, Waiting, Planned, Building, Done, Failed}
-use Rattle.model.specs.Goals.{goal_at, is_in, same_job, in_state, new_goal}
+use Rattle.model.specs.Goals.{goal_at, is_in, same_job, in_state, new_goal, is_building}
 use Rattle.model.proofs.BoolLemmas.{both_parts, bytes_same}
 use Rattle.jobs.specs.Owned.{Owned}
 use Rattle.jobs.specs.Numbers.{numbers, numbers_at, without_number, entered, left, moved, is_of, has_scratch, own_job, leads_at, is_built_under, is_done_under, HasSameNumbers, KeepsRoom, EntersJob, EntersPath, LeavesJob, LeavesPath, MovesPath, SetsDone, HasRoom, HasRoomFor, Finds, IsIndexed}
-use Rattle.jobs.specs.States.{is_building, is_done, planned_with, IsIdle}
+use Rattle.jobs.specs.States.{is_done, planned_with, IsIdle}
 use Rattle.jobs.proofs.NumberLemmas.{set_left, set_entered, set_kept, set_moved, not_there, more, pushed, got}
 
 not_in : (job : Job) (s : State) → is_building s ≡ false → is_in job s ≡ false

@@ -5,14 +5,15 @@ use Rattle.std.specs.Cmp.Lexicographic.{pointwise}
 use Rattle.std.proofs.Math.Seq.{drop-cons}
 use Rattle.std.proofs.Math.ListN.{drop_of_length-le}
 use Rattle.model.specs.Worlds.{Resolved, Job, State, Waiting, Planned, Building, Done, Failed, Goal}
-use Rattle.model.specs.Goals.{goal_at, is_in, job_before, running_before, job_or, job_of, same_entry, same_resolved, Running, running_in, led_by}
+use Rattle.model.specs.Goals.{goal_at, is_in, job_before, running_before, job_or, job_of, same_entry, same_resolved, Running, running_in, led_by, job_in}
 use Rattle.model.specs.Orders.{least_from, lesser}
-use Rattle.model.proofs.BoolLemmas.{either}
-use Rattle.jobs.specs.Owned.{OwnedByAll}
-use Rattle.jobs.specs.Numbers.{numbers, own_job, has_scratch, leads_at}
-use Rattle.jobs.specs.States.{job_in}
+use Rattle.model.proofs.BoolLemmas.{either, both_parts}
+use Rattle.trust.specs.Naming.{name_at}
+use Rattle.jobs.specs.Owned.{OwnedByAll, goals_at}
+use Rattle.jobs.specs.Numbers.{numbers, own_job, has_scratch, leads_at, is_built_under}
 use Rattle.jobs.specs.Joining.{lesser_of, same_as, job_with, listed, jobs_among, jobs_with, places_from, led_at}
 use Rattle.jobs.proofs.IndexLemmas.{job_same}
+use Rattle.jobs.proofs.PlannerLemmas.{none_fewer}
 
 least_append : (best : Option Job) (xs ys : List Job) → least_from job_before best (xs ++ ys) ≡ least_from job_before (least_from job_before best xs) ys
 unfolding least_from
@@ -154,6 +155,33 @@ unfolding least_from
 places_done all r set place count least total above before =
     let none : places_from set place (count - place) ≡ [] = no_range set place (count - place) (omega arith) in
     sym (ap (λ ps. least_from job_before least (jobs_with r (flat_map (led_at all) ps))) none) ∙ before
+
+-- who has no goal under the path leads no job in which the same is built
+none_led : (all : OwnedByAll) (r : Resolved) (place : ℕ) → numbers (is_built_under r.scratch) 1 (goals_at place all) ≡ [] → jobs_with r (led_at all place) ≡ []
+none_led all r place none =
+    let gs : List Goal = goals_at place all in
+    let owner : List ℕ = name_at all.users place in
+    sym (led_among r owner gs)
+    ∙ ap (jobs_among r gs) (none_fewer (leads_at owner r.scratch) (is_built_under r.scratch) 1 gs
+    (λ n g t. (both_parts (is_in (own_job owner n) g.state) (has_scratch r.scratch g.resolved) t).1) none)
+
+-- those of a set who are left out lead no such job
+pub jobs_near : (all : OwnedByAll) (r : Resolved) (set near : ℕ → Bool) (place count : ℕ) → ((v : ℕ) → near v ≡ true → set v ≡ true)
+    → ((v : ℕ) → near v ≡ false → set v ≡ true → numbers (is_built_under r.scratch) 1 (goals_at v all) ≡ [])
+    → jobs_with r (flat_map (led_at all) (places_from near place count)) ≡ jobs_with r (flat_map (led_at all) (places_from set place count))
+jobs_near all r set near place zero within out = refl
+jobs_near all r set near place (suc count) within out =
+    let rest : List Running = flat_map (led_at all) (places_from set (place + 1) count) in
+    let fewer : List Running = flat_map (led_at all) (places_from near (place + 1) count) in
+    let same : jobs_with r fewer ≡ jobs_with r rest = jobs_near all r set near (place + 1) count within out in
+    elim (either (near place)) [
+      | inl t ↦ rw (t, within place t) (with_append r (led_at all place) fewer ∙ ap (λ js. jobs_with r (led_at all place) ++ js) same
+          ∙ sym (with_append r (led_at all place) rest))
+      | inr f ↦ elim (either (set place)) [
+        | inl t ↦ rw (f, t) (same ∙ ap (λ js. js ++ jobs_with r rest) (sym (none_led all r place (out place f t))) ∙ sym (with_append r (led_at all place) rest))
+        | inr g ↦ rw (f, g) same
+      ]
+    ]
 
 -- ---- the job that is entered
 

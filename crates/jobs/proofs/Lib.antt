@@ -2,5 +2,7 @@ pub mod PlaceLemmas
 pub mod IndexLemmas
 pub mod NumberLemmas
 pub mod IndexedLemmas
+pub mod PlannerLemmas
 pub mod JoinLemmas
 pub mod UserLemmas
+pub mod ForgettingLemmas

@@ -246,7 +246,7 @@ some_at (Some g) h = (g, refl)
 pub found : (n : ℕ) (gs : List Goal) (x : Goal) → x ≡ slice_index_or gs (n - 1) x → is_some (goal_at n gs) ≡ true → goal_at n gs ≡ Some x
 found n gs x e h = let there = some_at (goal_at n gs) h in there.1 ∙ ap (λ y. Some y) (sym (got n gs x there.0 e there.1))
 
-written : (n : ℕ) (gs : List Goal) (y : Goal) (g : Goal) → goal_at n gs ≡ Some g → slice_set gs (n - 1) y ≡ with_goal_at n y gs
+pub written : (n : ℕ) (gs : List Goal) (y : Goal) (g : Goal) → goal_at n gs ≡ Some g → slice_set gs (n - 1) y ≡ with_goal_at n y gs
 written zero gs y g at = cc
 written (suc n) gs y g at = rw sub-one refl
 

@@ -2,12 +2,11 @@
 use Rattle.std.specs.Prelude.{ℕ, Bool, false, if◌then◌else◌, List, [], ◌∷◌, length, map, filter, flat_map, Option, None, Some}
 use Rattle.std.specs.List.{range_with_len}
 use Rattle.model.specs.Worlds.{Resolved, Job, Goal}
-use Rattle.model.specs.Goals.{goal_at, job_before, same_resolved, Running, led_by, job_of}
+use Rattle.model.specs.Goals.{goal_at, job_before, same_resolved, Running, led_by, job_of, job_in}
 use Rattle.model.specs.Orders.{lesser, least_from}
 use Rattle.trust.specs.Naming.{name_at}
 use Rattle.jobs.specs.Owned.{OwnedByAll, goals_at}
 use Rattle.jobs.specs.Numbers.{own_job}
-use Rattle.jobs.specs.States.{job_in}
 
 -- the best so far, or another job, if there is one, that goes before it
 abbrev pub lesser_of : Option Job → Option Job → Option Job

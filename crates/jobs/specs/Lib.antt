@@ -2,4 +2,5 @@ pub mod Owned
 pub mod Codes
 pub mod States
 pub mod Numbers
+pub mod Planners
 pub mod Joining

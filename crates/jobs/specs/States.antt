@@ -1,17 +1,7 @@
 -- How far goals are.
-use Rattle.std.specs.Prelude.{◌≡◌, Bool, true, false, Option, None, Some, is_some}
+use Rattle.std.specs.Prelude.{◌≡◌, Bool, true, false, Option, None, Some}
 use Rattle.model.specs.Worlds as model
-
--- the job in which a goal is built
-abbrev pub job_in : model.State → Option model.Job
-job_in model.Waiting = None
-job_in model.Planned = None
-job_in (model.Building job) = Some job
-job_in (model.Done path) = None
-job_in (model.Failed why) = None
-
-abbrev pub is_building : model.State → Bool
-is_building state = is_some (job_in state)
+use Rattle.model.specs.Goals.{is_building}
 
 abbrev pub is_done : model.State → Bool
 is_done model.Waiting = false

@@ -1,9 +1,9 @@
 //! One goal.
 
 ghost use Rattle.std.specs.Prelude.{◌≡◌, None, Some, option_copied};
-ghost use Rattle.model.specs.Goals.{in_state, new_goal};
+ghost use Rattle.model.specs.Goals.{in_state, new_goal, job_in};
 ghost use Rattle.states.specs.States.{state_of};
-ghost use Rattle.jobs.specs.States.{job_in, is_done, planned_with};
+ghost use Rattle.jobs.specs.States.{is_done, planned_with};
 ghost use Rattle.jobs.specs.Joining.{same_as};
 
 use crate::same::same_resolved;

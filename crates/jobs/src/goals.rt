@@ -4,12 +4,12 @@ ghost use Rattle.std.specs.Prelude.{◌≡◌, ◌≤◌, ◌+◌, ◌⊎◌, �
 ghost use Rattle.model.specs.declared.refusal.Refusal.TheVariants.{Memory, Quota};
 ghost use Rattle.model.specs.Limits.{most_goals};
 ghost use Rattle.model.specs.Worlds.{Building};
-ghost use Rattle.model.specs.Goals.{goal_at, in_state, new_goal, members, led_by};
+ghost use Rattle.model.specs.Goals.{goal_at, in_state, new_goal, members, led_by, is_building};
 ghost use Rattle.jobs.specs.Joining.{job_with, least_with, lesser_of};
 ghost use Rattle.jobs.specs.Owned.{with_goals, ChangesOwn};
 ghost use Rattle.jobs.specs.Numbers.{numbers, leads_at, is_done_under};
 ghost use Rattle.states.specs.States.{state_of};
-ghost use Rattle.jobs.specs.States.{is_building, planned_with, IsIdle};
+ghost use Rattle.jobs.specs.States.{planned_with, IsIdle};
 
 use crate::goal::{Goal, is_done};
 use crate::indexes::Indexes;
@@ -106,6 +106,14 @@ impl Goals {
         }
         self.goals.push(Goal::new(derivation))?;
         Ok(self.goals.len() as u16)
+    }
+
+    /// All of them, that of number 1 first.
+    pub(crate) fn as_slice(&self) -> &[Goal]
+        ensures goals { result.now ≡ self.now.goals }
+        ensures few { length self.now.goals ≤ most_goals }
+    {
+        self.goals.as_slice()
     }
 
     /// The goal of a number.

@@ -2,10 +2,9 @@
 
 ghost use Rattle.std.specs.Prelude.{◌≡◌, true, [], Some, MatchResult};
 ghost use Rattle.std.specs.Str.{bytes_eq};
-ghost use Rattle.model.specs.Goals.{same_job};
+ghost use Rattle.model.specs.Goals.{same_job, is_building};
 ghost use Rattle.model.specs.declared.refusal.Refusal.TheVariants.{Memory};
 ghost use Rattle.jobs.specs.Numbers.{numbers_at, with_number, own_job, ChangesAt, HasSameNumbers, KeepsRoom, HasRoom, HasRoomFor, EntersJob, EntersPath, LeavesJob, LeavesPath, MovesPath, SetsDone, IsUnlisted};
-ghost use Rattle.jobs.specs.States.{is_building};
 
 use crate::goal::Goal;
 use crate::index::{insert_at, insert_reserved_at, numbers_at, remove_at, reserve_at};

@@ -2,10 +2,12 @@
 #![tactic(auto)]
 
 mod ascending;
+mod forgetting;
 mod goal;
 mod goals;
 mod index;
 mod indexes;
+mod planners;
 mod same;
 mod users;
 

@@ -4,17 +4,21 @@ ghost use Rattle.std.specs.Prelude.{◌≡◌, ◌≤◌, ◌<◌, ◌+◌, ◌�
 ghost use Rattle.model.specs.declared.refusal.Refusal.TheVariants.{Memory, Quota};
 ghost use Rattle.model.specs.Limits.{most_goals};
 ghost use Rattle.model.specs.Worlds.{Building};
-ghost use Rattle.model.specs.Goals.{in_state, new_goal, members};
+ghost use Rattle.std.specs.List.{list_any};
+ghost use Rattle.model.specs.ForgetRequests.{builds_with, let_go};
+ghost use Rattle.model.specs.Goals.{in_state, new_goal, members, is_building};
 ghost use Rattle.trust.specs.Trusting.{holds};
-ghost use Rattle.trust.specs.Naming.{name_at};
+ghost use Rattle.trust.specs.Naming.{name_at, names};
 ghost use Rattle.jobs.specs.Owned.{goals_at, with_goals_at, goal_of, ChangesGoal};
 ghost use Rattle.states.specs.States.{state_of};
-ghost use Rattle.jobs.specs.States.{is_building, planned_with, IsIdle};
+ghost use Rattle.jobs.specs.States.{planned_with, IsIdle};
 ghost use Rattle.jobs.specs.Joining.{running_at, least_with};
 ghost use Rattle.jobs.specs.Numbers.{numbers, is_done_under};
+ghost use Rattle.jobs.specs.Planners.{HasPlanners};
 
 use crate::goal::Goal;
 use crate::goals::Goals;
+use crate::planners::Planners;
 use closures::Resolved;
 use model::Refusal;
 use states::{Job, State};
@@ -28,11 +32,15 @@ use trust::{User, has_place};
 /// and a goal of his by its number, from 1 on.
 pub struct Jobs {
     all: Vec<Goals>,
+    planners: Planners,
 }
 
 impl Drop for Jobs {
     fn drop(self) {
-        let Jobs { all: _ } = self;
+        let Jobs {
+            all: _,
+            planners: _,
+        } = self;
     }
 }
 
@@ -40,6 +48,7 @@ impl Model for Jobs {
     ghost use Rattle.std.specs.Prelude.{length, map, ◌≤◌};
     ghost use Rattle.jobs.specs.Owned.{Owned, OwnedByAll, all_of};
     ghost use Rattle.jobs.specs.Codes.{owned_by_all_code};
+    ghost use Rattle.jobs.specs.Planners.{HasPlannersOfAll};
 
     ghost Value = { OwnedByAll };
 
@@ -47,7 +56,8 @@ impl Model for Jobs {
 
     ghost view = { λ j. all_of j.all.items };
 
-    ghost invariant = { λ j. length j.all.items ≤ 64 };
+    ghost invariant = { λ j. (length j.all.items ≤ 64)
+        × HasPlannersOfAll j.planners.words.entries (all_of j.all.items) };
 }
 
 impl Jobs {
@@ -66,7 +76,10 @@ impl Jobs {
         for user in users {
             all.push(Goals::new(alloc, hashing, user.clone()?))?;
         }
-        Ok(Jobs { all })
+        Ok(Jobs {
+            all,
+            planners: Planners::new(alloc, hashing),
+        })
     }
 
     /// The user at a place.
@@ -126,6 +139,7 @@ impl Jobs {
         ensures kept { OnErr result (self.new ≡ self.old) }
         ensures memory { IfErr result (λ e. e ≡ Memory) }
     {
+        self.planners.insert(resolved.scratch().clone()?, place)?;
         self.all[place].keep(alloc, number, resolved)
     }
 
@@ -180,17 +194,56 @@ impl Jobs {
         self.all[place].done_under(path)
     }
 
+    /// The places of users, as the bits of a word, among whom are all who have a goal that was planned
+    /// and is built under a path. They are found at once; it may have some whose goals were built
+    /// under it once.
+    pub fn planners(&self, path: &StorePath) -> u64
+        ensures { HasPlanners path.now (holds result) self.now }
+    {
+        self.planners.at(path)
+    }
+
+    /// Whether a goal of a user is built from the output of a class at a path, in a job whose leader is at
+    /// one of the places of a word in the list of users.
+    pub fn build_with(
+        &self,
+        place: usize,
+        users: &[User],
+        reached: u64,
+        class: &StorePath,
+        path: &StorePath,
+    ) -> bool
+        requires of_run { place < length self.now.goals }
+        requires few { length users.now ≤ 64 }
+        ensures { result ≡ list_any
+            (builds_with (names users.now (holds reached)) class.now path.now)
+            (goals_at place self.now) }
+    {
+        self.all[place].build_with(users, reached, class, path)
+    }
+
+    /// The goals of a user that are built in jobs from the output of a class at a path wait, whoever leads
+    /// the jobs. It takes no memory.
+    pub fn let_go(&mut self, place: usize, class: &StorePath, path: &StorePath)
+        requires { place < length self.old.goals }
+        ensures { self.new ≡ with_goals_at place
+            (map (let_go class.now path.now) (goals_at place self.old)) self.old }
+    {
+        self.all[place].let_go(class, path);
+    }
+
     /// Of the jobs that the users at the places of a set lead, the least in which the same is built,
     /// by the names of the leaders and then by number. A goal of theirs that is built from that
-    /// enters it or, where there is none, its own. It looks only at goals that lead jobs under the
-    /// path of `resolved`, and takes no memory.
+    /// enters it or, where there is none, its own. It looks only at those who have planned goals under
+    /// the path of `resolved`, and of their goals at those that lead jobs under it. It takes no memory.
     pub fn join(&self, set: u64, resolved: &Resolved) -> Option<&Job>
         ensures { option_copied result
             ≡ least_with None resolved.now (running_at (holds set) self.now) }
     {
+        let near = set & self.planners.at(resolved.scratch());
         let mut least = None;
         for place in 0..self.all.len() {
-            if has_place(set, place) {
+            if has_place(near, place) {
                 least = self.all[place].least_job(resolved, least);
             }
         }

@@ -1,10 +1,11 @@
 -- A request does the same where goals wait whose leaders its user does not reach.
 use Rattle.std.proofs.Common.{◌≡◌, ℕ, suc, Bool, true, false, inl, inr, refl, sym, ◌∙◌, ap, List, [], ◌∷◌, length, map, Option, Some, None, Result, Ok, Err}
-use Rattle.std.specs.Prelude.{if◌then◌else◌, is_some, nat_lt, bytes_eq, option_map, filter, flat_map}
+use Rattle.std.specs.Prelude.{if◌then◌else◌, ◌&&◌, ◌||◌, not, is_some, nat_lt, bytes_eq, option_map, filter, flat_map}
+use Rattle.std.specs.List.{list_any}
 use Rattle.std.proofs.lemmas.List.{length-map, map-append}
 use Rattle.std.proofs.lemmas.List.Folds.{flat_map-map}
 use Rattle.model.specs.declared.refusal.Refusal.{Refusal}
-use Rattle.model.specs.declared.refusal.Refusal.TheVariants.{UnknownUser, Quota, TooLarge, BadDerivation, UnknownDerivation, UnknownGoal, WrongState, NotRealised, NotHeld}
+use Rattle.model.specs.declared.refusal.Refusal.TheVariants.{UnknownUser, Quota, TooLarge, BadDerivation, UnknownDerivation, UnknownGoal, WrongState, NotRealised, NotHeld, InUse}
 use Rattle.model.specs.Archives.{Tree, bytes_before}
 use Rattle.model.specs.Limits.{most_goals}
 use Rattle.model.specs.Derivations.{Derivation}
@@ -20,10 +21,10 @@ use Rattle.model.specs.Closures.{path_for, served_plan}
 use Rattle.model.specs.Resolutions.{input_classes, resolved_over, resolve}
 use Rattle.model.specs.FinishedBuilds.{built_in, built_on, is_labelled_by, finished_build, for_class}
 use Rattle.model.specs.Orders.{least}
-use Rattle.model.specs.Goals.{goal_at, with_goal, with_new_goal, new_goal, in_state, as_seen, is_waiting, planned_in, same_job, job_of}
+use Rattle.model.specs.Goals.{goal_at, with_goal, with_new_goal, new_goal, in_state, as_seen, is_waiting, is_building, planned_in, same_job, job_of}
 use Rattle.model.specs.Endings.{End, Output, Failure}
 use Rattle.model.specs.Events as events
-use Rattle.model.specs.Events.{Request, AddSource, AddDerivation, Offer, Fetch, Trust, Distrust, Pin as PinIt, Unpin, Closure, Take, Build, Status, Plan, Start, Finish, Fail, Reply, Path, Content, Entries, GoalNumber, GoalState}
+use Rattle.model.specs.Events.{Request, AddSource, AddDerivation, Offer, Fetch, Trust, Distrust, Pin as PinIt, Unpin, Closure, Take, Build, Status, Plan, Start, Finish, Fail, Forget, Reply, Path, Content, Entries, GoalNumber, GoalState}
 use Rattle.model.specs.Outcomes.{Sight, Ended, Outcome, becomes, check, need, room, add_entry, heard}
 use Rattle.model.specs.SourceRequests.{source_named}
 use Rattle.model.specs.DerivationRequests.{admit_new}
@@ -31,6 +32,7 @@ use Rattle.model.specs.OfferRequests.{output_settled, offer}
 use Rattle.model.specs.ClosureRequests.{closure_for, take_entries}
 use Rattle.model.specs.GoalRequests.{turns, plan_resolved, resolve_for, plan, own_job, done_again, start_copied, start_goal, start}
 use Rattle.model.specs.EndRequests.{told_of, end_job}
+use Rattle.model.specs.ForgetRequests.{refers_to_class, is_built_from, builds_with, remaining, let_go, forget}
 use Rattle.model.specs.Steps.{outcome}
 use Rattle.model.specs.Timed.{state_in, goal_in, desk_in}
 use Rattle.model.proofs.BoolLemmas.{either, both_parts, same_bytes}
@@ -244,6 +246,43 @@ module _ (jobs : Job → Bool) where
         then_done_in (unless_rewrite_refused (output_settled (candidates s.desk a.derivation) a tree)) _ _ (λ settled.
         entry_added_in setup s.desk (OfRecord (record_for (candidates s.desk a.derivation) a settled))))
 
+    -- ---- forgetting
+
+    let_go_in : (class path : List ℕ) (g : Goal) → let_go class path (goal_in jobs g) ≡ goal_in jobs (let_go class path g)
+    let_go_in class path g = of g.state
+      where
+        of : (state : State) → let_go class path (in_state (state_in jobs state) g) ≡ goal_in jobs (let_go class path (in_state state g))
+        of Waiting = refl
+        of Planned = refl
+        of (Building job) = elim (either (jobs job)) [
+          | inl is ↦ elim (either (is_built_from class path g.resolved)) [ inl from ↦ rw (is, from) refl | inr other ↦ rw (is, other) (rw is refl) ]
+          | inr f ↦ elim (either (is_built_from class path g.resolved)) [ inl from ↦ rw (f, from) refl | inr other ↦ rw (f, other) (rw f refl) ]
+        ]
+        of (Done path) = refl
+        of (Failed why) = refl
+
+    all_let_go_in : (class path : List ℕ) (goals : List Goal) → map (let_go class path) (map (goal_in jobs) goals) ≡ map (goal_in jobs) (map (let_go class path) goals)
+    all_let_go_in class path [] = refl
+    all_let_go_in class path (g ∷ goals) =
+        let one = let_go_in class path g in
+        let rest = all_let_go_in class path goals in
+        λ i. one i ∷ rest i
+
+    builds_in : (class path : List ℕ) (goals : List Goal)
+        → list_any (builds_with s.reach class path) (map (goal_in jobs) goals) ≡ list_any (builds_with s.reach class path) goals
+    builds_in class path [] = refl
+    builds_in class path (g ∷ goals) =
+        let one = seen_in g.state in
+        let rest = builds_in class path goals in
+        λ i. (is_building (one i) && is_built_from class path g.resolved) || rest i
+
+    forget_in : (class path : List ℕ) → forget t class path ≡ outcome_in jobs (forget s class path)
+    forget_in class path =
+        let records : Bool = list_any (refers_to_class class path) (remaining class path s.desk.records) in
+        checked_in NotHeld _ _ _ _ refl
+        (checked_in InUse _ _ _ _ (ap (λ b. not (records || b)) (builds_in class path s.desk.goals))
+        (ap (λ gs. becomes (record s.desk { records = remaining class path s.desk.records; goals = gs }) events.Done) (all_let_go_in class path s.desk.goals)))
+
     pub requested_in : (request : Request) → outcome setup t request ≡ outcome_in jobs (outcome setup s request)
     unfolding outcome
     requested_in (AddSource name tree) = entry_added_in setup s.desk (OfSource (source_named name tree))
@@ -277,3 +316,4 @@ module _ (jobs : Job → Bool) where
     requested_in (Start n) = start_in n
     requested_in (Finish n bytes) = end_in n (Output bytes)
     requested_in (Fail n status) = end_in n Failure
+    requested_in (Forget class path) = forget_in class path

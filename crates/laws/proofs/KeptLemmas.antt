@@ -1,6 +1,6 @@
 -- What goals keep was found when they were planned, and nothing else changes it.
 use Rattle.std.proofs.Common.{◌≡◌, ℕ, zero, suc, Bool, true, false, ◌⊎◌, inl, inr, refl, sym, ◌∙◌, ap, subst, List, [], ◌∷◌, ◌++◌, Option, Some, None, Result, Ok, Err}
-use Rattle.std.specs.Prelude.{All, if◌then◌else◌, is_some, bytes_eq, slice_get, slice_set}
+use Rattle.std.specs.Prelude.{All, ◌&&◌, if◌then◌else◌, is_some, bytes_eq, map, slice_get, slice_set}
 use Rattle.std.proofs.lemmas.Bool.{cond_both}
 use Rattle.std.proofs.lemmas.List.{append-nil, append_assoc}
 use Rattle.std.proofs.lemmas.List.Elements.{All-nil, All-cons, All-append, All-set, All-head, All-tail}
@@ -10,17 +10,18 @@ use Rattle.model.specs.Derivations.{Derivation}
 use Rattle.model.specs.Classes.{Admission, Known, known_at}
 use Rattle.model.specs.Worlds.{Setup, Resolved, Record, State, Waiting, Planned, Building, Done, Failed, Goal, Desk, World, nothing, is_user, known_of, has_record, with_record, is_within, with_trust, Entry, with_entries}
 use Rattle.model.specs.Worlds as worlds
-use Rattle.model.specs.Goals.{goal_at, with_goal_at, with_goal, in_state, new_goal, as_seen, is_waiting, planned_in, members, job_of}
+use Rattle.model.specs.Goals.{goal_at, with_goal_at, with_goal, in_state, new_goal, as_seen, is_waiting, is_building, planned_in, members, job_of}
 use Rattle.model.specs.Endings.{End, Output, Failure, built_record, done_with, with_output, ended_with, ended_goal, ended_goals}
 use Rattle.model.specs.Choices as choices
 use Rattle.model.specs.Closures as closures
 use Rattle.model.specs.Resolutions.{input_classes, resolved_over, resolve}
-use Rattle.model.specs.Events.{Request, AddSource, AddDerivation, Offer, Fetch, Trust, Distrust, Pin, Unpin, Closure, Take, Build, Status, Plan, Start, Finish, Fail, Event, Reply, GoalState}
+use Rattle.model.specs.Events.{Request, AddSource, AddDerivation, Offer, Fetch, Trust, Distrust, Pin, Unpin, Closure, Take, Build, Status, Plan, Start, Finish, Fail, Forget, Event, Reply, GoalState}
 use Rattle.model.specs.Outcomes.{reaches, Sight, sight_of, News, Quiet, Ended, Change, Outcome, becomes, check, need, reply_of, heard, desk_after}
 use Rattle.model.specs.FinishedBuilds.{finished_build, for_class}
 use Rattle.model.specs.GoalRequests.{own_job, turns, plan_resolved, resolve_for, plan_goal, done_again, start_copied, start_goal}
 use Rattle.model.specs.GoalRequests as requests
 use Rattle.model.specs.EndRequests.{end_job}
+use Rattle.model.specs.ForgetRequests.{is_built_from, let_go}
 use Rattle.model.specs.Steps.{outcome, outcome_of, reply_to, after, world_after}
 use Rattle.model.specs.GivenClosures.{IsGoodFor, KeepsGoodClosure, GiveGoodClosures}
 use Rattle.model.specs.KeptClosures.{planning, IsWellKept, KeptClosuresAreGood, is_planned, PlannedGoalsKeep}
@@ -34,6 +35,7 @@ use Rattle.laws.proofs.PinRequestLemmas.{pin_cases}
 use Rattle.laws.proofs.ClosureRequestLemmas.{closure_cases, take_cases}
 use Rattle.laws.proofs.GoalRequestLemmas.{planned_goal, build_cases, status_cases}
 use Rattle.laws.proofs.EndRequestLemmas.{end_job_cases}
+use Rattle.laws.proofs.ForgetRequestLemmas.{forget_cases}
 use Rattle.laws.proofs.EntriesLemmas.{entries_added}
 use Rattle.laws.proofs.ServedLemmas.{then_ok, some_same}
 use Rattle.laws.proofs.KnowledgeLemmas.{world_after-push}
@@ -109,6 +111,37 @@ follows_new derivation goals = record {
     kept : (n : ℕ) (y : Goal) → goal_at n (goals ++ new_goal derivation ∷ []) ≡ Some y → HasKept goals n y
     kept zero y at = absurd (cc)
     kept (suc i) y at = pushed_kept derivation goals i y at
+
+-- ---- what is forgotten
+
+-- whatever becomes of a goal whose record is forgotten, it keeps the same
+let_go_keeps : (class path : List ℕ) (g : Goal) → (let_go class path g).resolved ≡ g.resolved
+let_go_keeps class path g =
+    cond_both (is_building g.state && is_built_from class path g.resolved) (in_state Waiting g) g (λ h. h.resolved ≡ g.resolved) (λ waits. refl) (λ stays. refl)
+
+let_go_stands : (class path : List ℕ) (g : Goal) → Stands g → Stands (let_go class path g)
+let_go_stands class path g stands =
+    cond_both (is_building g.state && is_built_from class path g.resolved) (in_state Waiting g) g Stands (λ waits planned. absurd (cc)) (λ stays. stands)
+
+all_let_go_kept : (class path : List ℕ) (goals : List Goal) (i : ℕ) (y : Goal) → slice_get (map (let_go class path) goals) i ≡ Some y
+    → (h : Goal) × (slice_get goals i ≡ Some h) × (y.resolved ≡ h.resolved)
+all_let_go_kept class path [] i y at = absurd (cc)
+all_let_go_kept class path (g ∷ goals) zero y at =
+    (g, refl, sym (ap (λ (q : Goal). q.resolved) (some_same (let_go class path g) y at)) ∙ let_go_keeps class path g)
+all_let_go_kept class path (g ∷ goals) (suc i) y at = all_let_go_kept class path goals i y at
+
+all_let_go_stand : (class path : List ℕ) (goals : List Goal) → All Stands goals → All Stands (map (let_go class path) goals)
+all_let_go_stand class path [] all = All-nil Stands
+all_let_go_stand class path (g ∷ goals) all =
+    All-cons Stands (let_go class path g) (map (let_go class path) goals) (let_go_stands class path g (All-head Stands g goals all))
+    (all_let_go_stand class path goals (All-tail Stands g goals all))
+
+follows_let_go : (class path : List ℕ) (goals : List Goal) → Follows goals (map (let_go class path) goals)
+follows_let_go class path goals = record { kept = kept; stand = all_let_go_stand class path goals }
+  where
+    kept : (n : ℕ) (y : Goal) → goal_at n (map (let_go class path) goals) ≡ Some y → HasKept goals n y
+    kept zero y at = absurd (cc)
+    kept (suc i) y at = inr (all_let_go_kept class path goals i y at)
 
 -- ---- the end of a job
 
@@ -287,6 +320,7 @@ outcome_fits setup s (Plan n) = plan_fits s n
 outcome_fits setup s (Start n) = inl (start_fits setup s n)
 outcome_fits setup s (Finish n bytes) = inl (end_fits setup s n (Output bytes))
 outcome_fits setup s (Fail n status) = inl (end_fits setup s n Failure)
+outcome_fits setup s (Forget class path) = inl (forget_cases (GoalsFollow s) s class path (follows_let_go class path s.desk.goals) tt tt)
 
 -- ---- one event
 

@@ -10,6 +10,7 @@ pub mod GoalRequestLemmas
 pub mod EndRequestLemmas
 pub mod FailureLemmas
 pub mod GoalLemmas
+pub mod ForgetRequestLemmas
 pub mod FitLemmas
 pub mod AgreeLemmas
 pub mod StrikeLemmas

@@ -4,7 +4,7 @@ use Rattle.std.specs.Prelude.{◌&&◌, bytes_eq, if◌then◌else◌}
 use Rattle.model.specs.declared.refusal.Refusal.TheVariants.{UnknownUser}
 use Rattle.model.specs.Worlds.{Setup, is_user, Desk, World, Entry, with_entries}
 use Rattle.model.specs.Endings.{End, Output, Failure}
-use Rattle.model.specs.Events.{Request, AddSource, AddDerivation, Offer, Fetch, Trust, Distrust, Pin, Unpin, Closure, Take, Build, Status, Plan, Start, Finish, Fail, Event}
+use Rattle.model.specs.Events.{Request, AddSource, AddDerivation, Offer, Fetch, Trust, Distrust, Pin, Unpin, Closure, Take, Build, Status, Plan, Start, Finish, Fail, Forget, Event}
 use Rattle.model.specs.Outcomes.{trusts, reaches, Sight, sight_of, Outcome, check, desk_after}
 use Rattle.model.specs.EndRequests.{end_job}
 use Rattle.model.specs.Steps.{outcome, outcome_of, after}
@@ -19,6 +19,7 @@ use Rattle.laws.proofs.EntriesLemmas.{entries_added}
 use Rattle.laws.proofs.ClosureRequestLemmas.{closure_cases, take_cases}
 use Rattle.laws.proofs.GoalRequestLemmas.{build_cases, status_cases, plan_cases, start_cases}
 use Rattle.laws.proofs.EndRequestLemmas.{end_job_cases}
+use Rattle.laws.proofs.ForgetRequestLemmas.{forget_cases}
 
 module _ (setup : Setup) (s : Sight) (y : List ℕ) where
   -- whether the user trusts y after an outcome; a refusal changes nothing
@@ -78,6 +79,7 @@ module _ (setup : Setup) (s : Sight) (y : List ℕ) where
   })
   requested (Finish n bytes) = ends n (Output bytes)
   requested (Fail n status) = ends n Failure
+  requested (Forget class path) = forget_cases Stays s class path refl refl refl
 
   -- nor does the news change whom he trusts
   own_after : (actor : List ℕ) (o : Outcome) (reached : Bool) (d : Desk) → d ≡ s.desk → (desk_after setup actor o actor reached d).trusted y ≡ trusts_then o

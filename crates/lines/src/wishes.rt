@@ -171,6 +171,15 @@ fn pin_request(alloc: Global, first: &[u8], second: &[u8]) -> Result<Request, Re
     Ok(Request::Pin(class, read_path(alloc, second)?))
 }
 
+/// The request of the verb `forget`.
+fn forget_request(alloc: Global, first: &[u8], second: &[u8]) -> Result<Request, Refusal>
+    ensures { let wish = wish_of verbs.Forget (first.now ∷ second.now ∷ []) in
+        MatchResult result (IsRequestOfWish wish) (IsNoRequest wish) }
+{
+    let class = read_path(alloc, first)?;
+    Ok(Request::Forget(class, read_path(alloc, second)?))
+}
+
 /// The request of the verb `finish`.
 fn finish_request(alloc: Global, first: &[u8], second: &[u8]) -> Result<Request, Refusal>
     ensures { let wish = wish_of verbs.Finish (first.now ∷ second.now ∷ []) in
@@ -195,6 +204,7 @@ fn request_of_two(
         Verb::Source => source_request(alloc, first, second),
         Verb::Offer => offer_request(alloc, first, second),
         Verb::Pin => pin_request(alloc, first, second),
+        Verb::Forget => forget_request(alloc, first, second),
         Verb::Finish => finish_request(alloc, first, second),
         Verb::Fail => Ok(Request::Fail(read_number(first)?, read_exit_status(second)?)),
         _ => Err(Refusal::BadLine),

@@ -36,6 +36,7 @@ pub mod ClosureRequests
 pub mod FinishedBuilds
 pub mod GoalRequests
 pub mod EndRequests
+pub mod ForgetRequests
 pub mod Steps
 pub mod Striking
 pub mod Timed

@@ -1,7 +1,7 @@
 -- Tests of refusals and of replies.
 use Rattle.std.specs.Prelude.{Bool, true, false, ◌||◌}
 use Rattle.model.specs.declared.refusal.Refusal.{Refusal}
-use Rattle.model.specs.declared.refusal.Refusal.TheVariants.{UnknownUser, TooLarge, UnknownDerivation, UnknownGoal, WrongState, NotHeld, Memory, Clash, Stopped}
+use Rattle.model.specs.declared.refusal.Refusal.TheVariants.{UnknownUser, TooLarge, UnknownDerivation, UnknownGoal, WrongState, NotHeld, InUse, Memory, Clash, Stopped}
 use Rattle.model.specs.Events.{Reply, Done, Refused}
 
 -- ---- refusals
@@ -22,11 +22,12 @@ is_stopped_refusal why = false
 abbrev pub is_failure_refusal : Refusal → Bool
 is_failure_refusal why = is_memory_refusal why || (is_clash_refusal why || is_stopped_refusal why)
 
--- whether no memory is needed to find it: that of a stranger, of a path that is not held, of a text that is too long, of a derivation or a goal that
--- is not there, and of a goal that is not so far, or further
+-- whether no memory is needed to find it: that of a stranger, of a path that is not held, of a record that is in use, of a text that is too long, of
+-- a derivation or a goal that is not there, and of a goal that is not so far, or further
 abbrev pub needs_no_memory : Refusal → Bool
 needs_no_memory UnknownUser = true
 needs_no_memory NotHeld = true
+needs_no_memory InUse = true
 needs_no_memory TooLarge = true
 needs_no_memory UnknownDerivation = true
 needs_no_memory UnknownGoal = true

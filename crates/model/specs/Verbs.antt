@@ -4,7 +4,7 @@ use Rattle.std.specs.Option.{option_and_then}
 use Rattle.model.specs.declared.mode.Mode.{Mode}
 use Rattle.model.specs.declared.mode.Mode.TheVariants.{Service, Run}
 use Rattle.model.specs.declared.verb.Verb.{Verb}
-use Rattle.model.specs.declared.verb.Verb.TheVariants.{Source, Derivation, Offer, Fetch, Trust, Distrust, Pin, Unpin, Closure, Take, Build, Status, Plan, Start, Finish, Fail}
+use Rattle.model.specs.declared.verb.Verb.TheVariants.{Source, Derivation, Offer, Fetch, Trust, Distrust, Pin, Unpin, Closure, Take, Build, Status, Plan, Start, Finish, Fail, Forget}
 use Rattle.model.specs.declared.verb.WordKind.{WordKind}
 use Rattle.model.specs.declared.verb.WordKind.TheVariants as kind
 use Rattle.model.specs.Archives.{Tree}
@@ -31,6 +31,7 @@ verb_of word =
     else if bytes_eq word (codes "start") then Some Start
     else if bytes_eq word (codes "finish") then Some Finish
     else if bytes_eq word (codes "fail") then Some Fail
+    else if bytes_eq word (codes "forget") then Some Forget
     else None
 
 -- whether lines of the mode have the verb: in a run no line plans, starts or ends what is built
@@ -64,6 +65,7 @@ kinds_of Plan = kind.Number ∷ []
 kinds_of Start = kind.Number ∷ []
 kinds_of Finish = kind.Number ∷ kind.Output ∷ []
 kinds_of Fail = kind.Number ∷ kind.ExitStatus ∷ []
+kinds_of Forget = kind.Path ∷ kind.Path ∷ []
 
 -- the request that it makes of its words
 abbrev pub IsRequestOf : Verb → List (List ℕ) → Request → Type 0
@@ -83,4 +85,5 @@ IsRequestOf Plan (number ∷ []) request = request ≡ events.Plan (number_in nu
 IsRequestOf Start (number ∷ []) request = request ≡ events.Start (number_in number)
 IsRequestOf Finish (number ∷ output ∷ []) request = (bytes : List ℕ) × IsOutputText output bytes × (request ≡ events.Finish (number_in number) bytes)
 IsRequestOf Fail (number ∷ status ∷ []) request = request ≡ events.Fail (number_in number) (number_in status)
+IsRequestOf Forget (class ∷ path ∷ []) request = request ≡ events.Forget class path
 IsRequestOf verb words request = ⊥

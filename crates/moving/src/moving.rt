@@ -13,6 +13,7 @@ ghost use Rattle.closures.specs.Sound.{IsSoundRecord};
 
 use crate::images::images_of;
 use crate::moves::{Move, is_any_replaced, is_any_replaced_by, moved_labels, moves_of};
+use crate::repairs::Repairs;
 use closures::Realisation;
 use indexmap::IndexMap;
 use model::{Refusal, RewriteFault};
@@ -90,7 +91,11 @@ fn settled_as(
 }
 
 // The record with its labels moved, at the path of its new tree.
-fn repaired(alloc: Global, chosen: &Realisation, moves: &[Move]) -> Result<Realisation, Refusal>
+pub(crate) fn repaired(
+    alloc: Global,
+    chosen: &Realisation,
+    moves: &[Move],
+) -> Result<Realisation, Refusal>
     ensures { let answer = repaired chosen.now moves.now in MatchResult result
         (λ made. answer ≡ Ok made)
         (λ e. (e ≡ Memory) ⊎ (answer ≡ Err e)) }
@@ -113,19 +118,20 @@ fn repaired(alloc: Global, chosen: &Realisation, moves: &[Move]) -> Result<Reali
 pub(crate) fn moved(
     alloc: Global,
     chosen: &Realisation,
-    moves: &[Move],
+    moves: Vec<Move>,
+    repairs: &mut Repairs,
 ) -> Result<Realisation, Refusal>
-    ensures { let answer = moved chosen.now moves.now in MatchResult result
+    ensures { let answer = moved chosen.now moves.items in MatchResult result
         (λ made. answer ≡ Ok made)
         (λ e. (e ≡ Memory) ⊎ (answer ≡ Err e)) }
 {
-    if !is_any_replaced(moves) {
+    if !is_any_replaced(&moves) {
         return Ok(chosen.clone()?);
     }
-    if is_any_replaced_by(chosen.path(), moves) {
+    if is_any_replaced_by(chosen.path(), &moves) {
         return Err(Refusal::RewriteRefused(RewriteFault::Accidental));
     }
-    repaired(alloc, chosen, moves)
+    repairs.repaired(alloc, chosen, moves)
 }
 
 /// A chosen record, moved to what serves the classes of its labels, of those that are served so
@@ -140,6 +146,7 @@ pub fn serve(
     alloc: Global,
     chosen: &Realisation,
     served: &IndexMap<StorePath, Realisation>,
+    repairs: &mut Repairs,
 ) -> Result<Realisation, Refusal>
     ensures served { let answer = served_from served.now.entries chosen.now in
         MatchResult result
@@ -151,5 +158,5 @@ pub fn serve(
     let _len = chosen.tree().nar_len();
     let _part = chosen.path().hash_part();
     let moves = moves_of(alloc, chosen.labels(), served, chosen.class().rank())?;
-    moved(alloc, chosen, &moves)
+    moved(alloc, chosen, moves, repairs)
 }

@@ -3,7 +3,15 @@
 #![tactic(auto)]
 
 mod input;
+mod output;
+mod placed;
 mod record;
+mod settlement;
+mod settlements;
+mod sources;
 
 pub use input::Input;
+pub use output::Output;
 pub use record::record_of;
+pub use settlements::Settlements;
+pub use sources::Sources;

@@ -29,8 +29,9 @@ module _ (d : Inside) (is : IsConsistent d) (a : Addition) (held : Held) (same :
     -- the desk then
     pub addition_view : holdings_of (record d { records = records; holding = new }) ≡ with_addition a before
     addition_view =
+        let there = put ∙ ap (with_archives a.archives.items) same in
         let bytes = ap bytes_held put ∙ addition_bytes in
-        λ i. record before { records = pushed i; charge = bytes i }
+        λ i. record before { records = pushed i; archives = there i; charge = bytes i }
 
     paths_then : map (λ r. r.path) a.records.items ≡ paths_held a.archives.items
         → paths_of before ++ paths_held a.archives.items ≡ paths_of (with_addition a before)

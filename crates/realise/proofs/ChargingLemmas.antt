@@ -114,10 +114,10 @@ any_moved test xs ys path =
     ∙ ap (λ b. b || list_any test ys) (sym (list_any-append test xs (path ∷ []))) ∙ sym (list_any-append test (xs ++ path ∷ []) ys)
 
 -- the paths of a desk with one entry more
-pub paths_more : (test : List ℕ → Bool) (e : Entry) (more : ℕ) (d : Holdings)
-    → list_any test (paths_of d ++ entry_path e ∷ []) ≡ list_any test (paths_of (holds_entry e more d))
-paths_more test (entry.Source path) more d = any_moved test d.known.sources (map (λ r. r.path) d.records) path
-paths_more test (entry.Record r) more d =
+pub paths_more : (test : List ℕ → Bool) (e : Entry) (archive : ℕ) (d : Holdings)
+    → list_any test (paths_of d ++ entry_path e ∷ []) ≡ list_any test (paths_of (holds_entry e archive d))
+paths_more test (entry.Source path) archive d = any_moved test d.known.sources (map (λ r. r.path) d.records) path
+paths_more test (entry.Record r) archive d =
     let path = λ (q : Recorded). q.path in
     ap (list_any test)
     (append_assoc d.known.sources (map path d.records) (r.path ∷ []) ∙ ap (λ ps. d.known.sources ++ ps) (sym (map-append path d.records (r ∷ []))))

@@ -12,7 +12,7 @@ use Rattle.realise.specs.Holdings.{is_record_of}
 use Rattle.realise.specs.Indexed.{IsIndexed, IsGrouped}
 
 -- what passes one test only where it passes another is sought among those that pass the other
-found_among : (test group : Recorded → Bool) (records : List Recorded) → ((q : Recorded) → test q ≡ true → group q ≡ true)
+pub found_among : (test group : Recorded → Bool) (records : List Recorded) → ((q : Recorded) → test q ≡ true → group q ≡ true)
     → list_any test (filter group records) ≡ list_any test records
 found_among test group [] within = refl
 found_among test group (q ∷ records) within = elim (either (group q)) [

@@ -107,10 +107,10 @@ charged_entries (e ∷ es) paths d set =
     let more = charged_more path e.1 d in
     let same : is_one_of paths path ≡ is_one_of (paths_of d) path = sym (one_of_keys path paths) ∙ set path ∙ one_of_keys path (paths_of d) in
     let first : (if is_one_of paths path then 0 else e.1) ≡ more = ap (λ b. if b then 0 else e.1) same in
-    let next : IsSetOf (paths ++ path ∷ []) (paths_of (holds_entry e.0 more d)) =
+    let next : IsSetOf (paths ++ path ∷ []) (paths_of (holds_entry e.0 e.1 d)) =
     λ q. list_any-append (bytes_eq q) paths (path ∷ []) ∙ ap (λ b. b || list_any (bytes_eq q) (path ∷ [])) (set q)
-    ∙ sym (list_any-append (bytes_eq q) (paths_of d) (path ∷ [])) ∙ paths_more (bytes_eq q) e.0 more d in
-    let rest = charged_entries es (paths ++ path ∷ []) (holds_entry e.0 more d) next in
+    ∙ sym (list_any-append (bytes_eq q) (paths_of d) (path ∷ [])) ∙ paths_more (bytes_eq q) e.0 e.1 d in
+    let rest = charged_entries es (paths ++ path ∷ []) (holds_entry e.0 e.1 d) next in
     λ i. first i + rest i
 
 -- the paths that are held with them
@@ -119,9 +119,8 @@ pub held_entries : (es : List (Entry × ℕ)) (paths : List (List ℕ)) (d : Hol
 held_entries [] paths d set q = ap (list_any (bytes_eq q)) (append-nil paths) ∙ set q
 held_entries (e ∷ es) paths d set q =
     let path = entry_path e.0 in
-    let more = charged_more path e.1 d in
-    let next : IsSetOf (paths ++ path ∷ []) (paths_of (holds_entry e.0 more d)) =
+    let next : IsSetOf (paths ++ path ∷ []) (paths_of (holds_entry e.0 e.1 d)) =
     λ q. list_any-append (bytes_eq q) paths (path ∷ []) ∙ ap (λ b. b || list_any (bytes_eq q) (path ∷ [])) (set q)
-    ∙ sym (list_any-append (bytes_eq q) (paths_of d) (path ∷ [])) ∙ paths_more (bytes_eq q) e.0 more d in
+    ∙ sym (list_any-append (bytes_eq q) (paths_of d) (path ∷ [])) ∙ paths_more (bytes_eq q) e.0 e.1 d in
     sym (ap (list_any (bytes_eq q)) (append_assoc paths (path ∷ []) (paths_held (map archive_of es))))
-    ∙ held_entries es (paths ++ path ∷ []) (holds_entry e.0 more d) next q
+    ∙ held_entries es (paths ++ path ∷ []) (holds_entry e.0 e.1 d) next q

@@ -70,48 +70,49 @@ module _ (d : Inside) (is : IsConsistent d) where
   -- the desk then
   pub entry_view : (e : Entry) (archive : ℕ) (held new : Held) → held.archives ≡ d.holding.archives
       → new.archives ≡ with_archive (entry_path e, archive) held.archives
-      → holdings_of (record (has_entry e held d) { holding = new }) ≡ holds_entry e (charged_more (entry_path e) archive (holdings_of d)) (holdings_of d)
+      → holdings_of (record (has_entry e held d) { holding = new }) ≡ holds_entry e archive (holdings_of d)
   entry_view (entry.Source path) archive held new same put =
+      let there = put ∙ ap (with_archive (path, archive)) same in
       let bytes = ap bytes_held put ∙ entry_bytes d is (entry.Source path) archive held same in
-      λ i. record (holdings_of d) { known = record d.known { sources = d.known.sources ++ path ∷ [] }; charge = bytes i }
+      λ i. record (holdings_of d) { known = record d.known { sources = d.known.sources ++ path ∷ [] }; archives = there i; charge = bytes i }
   entry_view (entry.Record r) archive held new same put =
+      let there = put ∙ ap (with_archive (r.path, archive)) same in
       let bytes = ap bytes_held put ∙ entry_bytes d is (entry.Record r) archive held same in
-      λ i. record (holdings_of d) { records = d.records ++ r ∷ []; charge = bytes i }
+      λ i. record (holdings_of d) { records = d.records ++ r ∷ []; archives = there i; charge = bytes i }
 
 -- what a label names is on the desk still
-still_labelled : (e : Entry) (more : ℕ) (d : Holdings) (path : List ℕ) (class : Option Class) → has_labelled d path class ≡ true
-    → has_labelled (holds_entry e more d) path class ≡ true
-still_labelled (entry.Source own) more d path None is = list_any-append (λ p. bytes_eq p path) d.known.sources (own ∷ []) ∙ rw is refl
-still_labelled (entry.Source own) more d path (Some class) is = is
-still_labelled (entry.Record r) more d path None is = is
-still_labelled (entry.Record r) more d path (Some class) is = list_any-append (is_at path class) d.records (r ∷ []) ∙ rw is refl
+still_labelled : (e : Entry) (archive : ℕ) (d : Holdings) (path : List ℕ) (class : Option Class) → has_labelled d path class ≡ true
+    → has_labelled (holds_entry e archive d) path class ≡ true
+still_labelled (entry.Source own) archive d path None is = list_any-append (λ p. bytes_eq p path) d.known.sources (own ∷ []) ∙ rw is refl
+still_labelled (entry.Source own) archive d path (Some class) is = is
+still_labelled (entry.Record r) archive d path None is = is
+still_labelled (entry.Record r) archive d path (Some class) is = list_any-append (is_at path class) d.records (r ∷ []) ∙ rw is refl
 
-still_closed : (e : Entry) (more : ℕ) (d : Holdings) (r : Recorded) → IsClosedWith d r → IsClosedWith (holds_entry e more d) r
-still_closed e more d r =
-    All-weaker (λ (l : Label). has_labelled d l.path l.class ≡ true) (λ (l : Label). has_labelled (holds_entry e more d) l.path l.class ≡ true)
-    (λ l is. still_labelled e more d l.path l.class is) r.labels
+still_closed : (e : Entry) (archive : ℕ) (d : Holdings) (r : Recorded) → IsClosedWith d r → IsClosedWith (holds_entry e archive d) r
+still_closed e archive d r =
+    All-weaker (λ (l : Label). has_labelled d l.path l.class ≡ true) (λ (l : Label). has_labelled (holds_entry e archive d) l.path l.class ≡ true)
+    (λ l is. still_labelled e archive d l.path l.class is) r.labels
 
-closed_with : (e : Entry) (more : ℕ) (d : Holdings) → IsClosed d → IsClosedWithEntry d e → IsClosed (holds_entry e more d)
-closed_with (entry.Source path) more d closed own =
-    All-weaker (IsClosedWith d) (IsClosedWith (holds_entry (entry.Source path) more d)) (still_closed (entry.Source path) more d) d.records closed
-closed_with (entry.Record r) more d closed own =
-    let now = holds_entry (entry.Record r) more d in
-    All-push (IsClosedWith now) d.records r (All-weaker (IsClosedWith d) (IsClosedWith now) (still_closed (entry.Record r) more d) d.records closed)
-    (still_closed (entry.Record r) more d r own)
+closed_with : (e : Entry) (archive : ℕ) (d : Holdings) → IsClosed d → IsClosedWithEntry d e → IsClosed (holds_entry e archive d)
+closed_with (entry.Source path) archive d closed own =
+    All-weaker (IsClosedWith d) (IsClosedWith (holds_entry (entry.Source path) archive d)) (still_closed (entry.Source path) archive d) d.records closed
+closed_with (entry.Record r) archive d closed own =
+    let now = holds_entry (entry.Record r) archive d in
+    All-push (IsClosedWith now) d.records r (All-weaker (IsClosedWith d) (IsClosedWith now) (still_closed (entry.Record r) archive d) d.records closed)
+    (still_closed (entry.Record r) archive d r own)
 
 -- it keeps what its type keeps
 pub entry_kept : (d : Inside) → IsConsistent d → (e : Entry) (archive : ℕ) (held new : Held) → IsClosedWithEntry (holdings_of d) e
     → held.archives ≡ d.holding.archives → new.archives ≡ with_archive (entry_path e, archive) held.archives
     → IsConsistent (record (has_entry e held d) { holding = new })
 entry_kept d is e archive held new own same put =
-    let more = charged_more (entry_path e) archive (holdings_of d) in
     let view = entry_view d is e archive held new same put in
     let put_there : new.archives ≡ with_archive (entry_path e, archive) d.holding.archives = put ∙ ap (with_archive (entry_path e, archive)) same in
     record {
-      closed = subst IsClosed (sym view) (closed_with e more (holdings_of d) is.closed own);
+      closed = subst IsClosed (sym view) (closed_with e archive (holdings_of d) is.closed own);
       held = subst (λ (h : Holdings). IsSetOf (paths_held new.archives) (paths_of h)) (sym view)
-          (subst (λ held. IsSetOf (paths_held held) (paths_of (holds_entry e more (holdings_of d)))) (sym put_there)
-          (λ q. held_with (entry_path e, archive) d.holding.archives (paths_of (holdings_of d)) is.held q ∙ paths_more (bytes_eq q) e more (holdings_of d)));
+          (subst (λ held. IsSetOf (paths_held held) (paths_of (holds_entry e archive (holdings_of d)))) (sym put_there)
+          (λ q. held_with (entry_path e, archive) d.holding.archives (paths_of (holdings_of d)) is.held q ∙ paths_more (bytes_eq q) e archive (holdings_of d)));
     }
 
 -- ---- several entries more

@@ -5,3 +5,4 @@ pub mod ChargingLemmas
 pub mod SeveralLemmas
 pub mod HoldingLemmas
 pub mod KeepingLemmas
+pub mod ForgettingLemmas

@@ -13,73 +13,67 @@ use Rattle.records.specs.Recorded.{Recorded}
 use Rattle.records.specs.declared.entry.Entry.{Entry}
 use Rattle.records.specs.declared.entry.Entry.TheVariants as entry
 use Rattle.records.specs.Entries.{entry_path}
-use Rattle.realise.specs.Holdings.{Holdings, is_on, holds_entry, holds_all, holds_each, charged_more, charged_all, bare, sources_in, records_in, AreAbsent}
+use Rattle.realise.specs.Held.{with_archive, with_archives}
+use Rattle.realise.specs.Holdings.{Holdings, archive_of, is_on, holds_entry, holds_each, charged_more, charged_all, bare, sources_in, records_in, AreAbsent}
 
 -- ---- what is on the desk then
 
--- a desk with these sources and records more, which are charged so many bytes
-abbrev pub with_parts : List (List ℕ) → List Recorded → ℕ → Holdings → Holdings
-with_parts sources records more d = record d {
+-- a desk with these sources and records more, whose archives are these, and which are charged so many bytes
+abbrev pub with_parts : List (List ℕ) → List Recorded → List (List ℕ × ℕ) → ℕ → Holdings → Holdings
+with_parts sources records archives more d = record d {
   known = record d.known { sources = d.known.sources ++ sources };
   records = d.records ++ records;
-  charge = d.charge + more;
-}
-
-no_parts : (more : ℕ) (d : Holdings) → record d { charge = d.charge + more } ≡ with_parts [] [] more d
-no_parts more d = λ i. record d {
-  known = record d.known { sources = sym (append-nil d.known.sources) i };
-  records = sym (append-nil d.records) i;
+  archives = with_archives archives d.archives;
   charge = d.charge + more;
 }
 
 -- one entry first, and then the parts of the others
-parts_after : (e : Entry) (one more all : ℕ) (es : List Entry) (d : Holdings) → one + more ≡ all
-    → with_parts (sources_in es) (records_in es) more (holds_entry e one d) ≡ with_parts (sources_in (e ∷ es)) (records_in (e ∷ es)) all d
-parts_after (entry.Source path) one more all es d sum =
-    let charge : (d.charge + one) + more ≡ d.charge + all = omega (arith, sum) in
+parts_after : (e : Entry) (archive more : ℕ) (es : List Entry) (archives : List (List ℕ × ℕ)) (d : Holdings)
+    → with_parts (sources_in es) (records_in es) archives more (holds_entry e archive d)
+    ≡ with_parts (sources_in (e ∷ es)) (records_in (e ∷ es)) ((entry_path e, archive) ∷ archives) (charged_more (entry_path e) archive d + more) d
+unfolding with_archives
+parts_after (entry.Source path) archive more es archives d =
+    let charge : (d.charge + charged_more path archive d) + more ≡ d.charge + (charged_more path archive d + more) = omega arith in
     λ i. record d {
       known = record d.known { sources = append_assoc d.known.sources (path ∷ []) (sources_in es) i };
       records = d.records ++ records_in es;
+      archives = with_archives archives (with_archive (path, archive) d.archives);
       charge = charge i;
     }
-parts_after (entry.Record r) one more all es d sum =
-    let charge : (d.charge + one) + more ≡ d.charge + all = omega (arith, sum) in
+parts_after (entry.Record r) archive more es archives d =
+    let charge : (d.charge + charged_more r.path archive d) + more ≡ d.charge + (charged_more r.path archive d + more) = omega arith in
     λ i. record d {
       known = record d.known { sources = d.known.sources ++ sources_in es };
       records = append_assoc d.records (r ∷ []) (records_in es) i;
+      archives = with_archives archives (with_archive (r.path, archive) d.archives);
       charge = charge i;
     }
 
--- entries added one after another are their sources and their records
-pub all_parts : (es : List Entry) (more : ℕ) (d : Holdings) → holds_all es more d ≡ with_parts (sources_in es) (records_in es) more d
-all_parts [] more d = no_parts more d
-all_parts (e ∷ es) more d =
-    let sum : 0 + more ≡ more = omega arith in
-    all_parts es more (holds_entry e 0 d) ∙ parts_after e 0 more more es d sum
-
-each_parts : (es : List (Entry × ℕ)) (d : Holdings)
-    → holds_each es d ≡ with_parts (sources_in (map (λ e. e.0) es)) (records_in (map (λ e. e.0) es)) (charged_all es d) d
+-- entries added one after another are their sources, their records and their archives
+pub each_parts : (es : List (Entry × ℕ)) (d : Holdings)
+    → holds_each es d ≡ with_parts (sources_in (bare es)) (records_in (bare es)) (map archive_of es) (charged_all es d) d
+unfolding with_archives
 each_parts [] d =
     let none : d.charge ≡ d.charge + 0 = omega arith in
-    (λ i. record d { charge = none i }) ∙ no_parts 0 d
+    λ i. record d {
+      known = record d.known { sources = sym (append-nil d.known.sources) i };
+      records = sym (append-nil d.records) i;
+      charge = none i;
+    }
 each_parts (e ∷ es) d =
-    let more = charged_more (entry_path e.0) e.1 d in
-    let next = holds_entry e.0 more d in
-    each_parts es next ∙ parts_after e.0 more (charged_all es next) (more + charged_all es next) (map (λ e. e.0) es) d refl
+    let next = holds_entry e.0 e.1 d in
+    each_parts es next ∙ parts_after e.0 e.1 (charged_all es next) (bare es) (map archive_of es) d
 
--- all entries with what is charged for all is each with what is charged for it, one after another
-pub all_is_each : (es : List (Entry × ℕ)) (d : Holdings) → holds_all (map (λ e. e.0) es) (charged_all es d) d ≡ holds_each es d
-all_is_each es d = all_parts (map (λ e. e.0) es) (charged_all es d) d ∙ sym (each_parts es d)
-
--- what is known, the records and the charge together
-pub made : (es : List (Entry × ℕ)) (d : Holdings) (known : Known) (paths : List (List ℕ)) (added new : List Recorded) (charge : ℕ)
+-- what is known, the records, the archives and the charge together
+pub made : (es : List (Entry × ℕ)) (d : Holdings) (known : Known) (paths : List (List ℕ)) (added new : List Recorded) (archives : List (List ℕ × ℕ)) (charge : ℕ)
     → paths ≡ sources_in (bare es) → added ≡ records_in (bare es) → known ≡ record d.known { sources = d.known.sources ++ paths } → new ≡ d.records ++ added
-    → charge ≡ d.charge + charged_all es d → record d { known = known; records = new; charge = charge } ≡ holds_each es d
-made es d known paths added new charge are_paths are_added known_is new_is charge_is =
+    → archives ≡ with_archives (map archive_of es) d.archives → charge ≡ d.charge + charged_all es d
+    → record d { known = known; records = new; archives = archives; charge = charge } ≡ holds_each es d
+made es d known paths added new archives charge are_paths are_added known_is new_is archives_are charge_is =
     let sources : known ≡ record d.known { sources = d.known.sources ++ sources_in (bare es) } =
     known_is ∙ ap (λ ps. record d.known { sources = d.known.sources ++ ps }) are_paths in
     let all : new ≡ d.records ++ records_in (bare es) = new_is ∙ ap (λ rs. d.records ++ rs) are_added in
-    (λ i. record d { known = sources i; records = all i; charge = charge_is i }) ∙ sym (each_parts es d)
+    (λ i. record d { known = sources i; records = all i; archives = archives_are i; charge = charge_is i }) ∙ sym (each_parts es d)
 
 -- ---- the sources among them
 

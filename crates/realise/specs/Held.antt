@@ -1,6 +1,7 @@
 -- What a desk holds: its paths, each once, with the bytes of their archives.
-use Rattle.std.specs.Prelude.{ℕ, ◌+◌, List, [], ◌∷◌, ◌++◌, ◌≡◌, map, sum_by, bytes_eq, if◌then◌else◌}
+use Rattle.std.specs.Prelude.{ℕ, ◌+◌, List, [], ◌∷◌, ◌++◌, ◌≡◌, map, sum_by, bytes_eq, unwrap_or, if◌then◌else◌}
 use Rattle.std.specs.List.{list_any}
+use Rattle.std.specs.Map.{lookup, remove_entry}
 use Rattle.model.specs.Classes.{is_one_of}
 
 -- the paths with the bytes of their archives, and for how many more there is room
@@ -18,6 +19,14 @@ bytes_held archives = sum_by (λ a. a.1) archives
 -- with one path more, unless it is held
 abbrev pub with_archive : List ℕ × ℕ → List (List ℕ × ℕ) → List (List ℕ × ℕ)
 with_archive a held = if list_any (bytes_eq a.0) (paths_held held) then held else held ++ a ∷ []
+
+-- without a path
+abbrev pub without_archive : List ℕ → List (List ℕ × ℕ) → List (List ℕ × ℕ)
+without_archive path held = remove_entry (bytes_eq path) held
+
+-- the bytes of the archive of a path, none where it is not held
+abbrev pub bytes_at : List ℕ → List (List ℕ × ℕ) → ℕ
+bytes_at path held = unwrap_or (lookup (bytes_eq path) held) 0
 
 -- with each of others, one after another
 unfoldable pub with_archives : List (List ℕ × ℕ) → List (List ℕ × ℕ) → List (List ℕ × ℕ)

@@ -1,21 +1,24 @@
 -- What contracts see of a desk, and of what is put on it.
-use Rattle.std.specs.Prelude.{◌≡◌, ℕ, ◌<◌, ◌^◌, Bool, true, false, ◌&&◌, List, [], ◌∷◌, ◌++◌, ◌+◌, nat_lt, nat_le, length, map, filter, sum_by, bytes_eq, All, Option, Some, None, if◌then◌else◌}
+use Rattle.std.specs.Prelude.{◌≡◌, ℕ, ◌<◌, ◌^◌, Bool, true, false, ◌&&◌, not, List, [], ◌∷◌, ◌++◌, ◌+◌, ◌-◌, nat_lt, nat_le, length, map, filter, sum_by, bytes_eq, All, Option, Some, None, if◌then◌else◌}
 use Rattle.std.specs.List.{list_any}
 use Rattle.model.specs.Classes.{Class, Admission, Known, is_one_of}
 use Rattle.model.specs.Worlds.{Pin, are_distinct}
 use Rattle.model.specs.Limits.{most_sources, most_records}
+use Rattle.model.specs.ForgetRequests.{is_class_at}
 use Rattle.records.specs.Recorded.{Recorded, same_recorded}
 use Rattle.records.specs.Entries.{entry_path}
 use Rattle.records.specs.declared.entry.Entry.{Entry}
 use Rattle.records.specs.declared.entry.Entry.TheVariants as entry
+use Rattle.realise.specs.Held.{with_archive, without_archive, bytes_at}
 
 -- ---- desks
 
--- what a desk knows, its records, its pins, and the charge of what it holds in bytes
+-- what a desk knows, its records, its pins, the paths that it holds, each once, with the bytes of their archives, and the charge of what it holds in bytes
 pub record Holdings : Type 0 where
   pub known : Known
   pub records : List Recorded
   pub pins : List Pin
+  pub archives : List (List ℕ × ℕ)
   pub charge : ℕ
 
 -- the paths that a desk holds, those of its sources and of its records
@@ -38,6 +41,36 @@ holds_derivation a d = record d { known = record d.known { derivations = d.known
 abbrev pub with_pins : List Pin → Holdings → Holdings
 with_pins pins d = record d { pins = pins }
 
+-- ---- what is forgotten
+
+-- whether a record is of a class, at a path
+abbrev pub is_recorded_at : List ℕ → List ℕ → Recorded → Bool
+is_recorded_at class path r = bytes_eq r.class.path class && bytes_eq r.path path
+
+-- the others
+abbrev pub remaining : List ℕ → List ℕ → List Recorded → List Recorded
+remaining class path records = filter (λ r. not (is_recorded_at class path r)) records
+
+-- whether a record has a label of a class at a path
+abbrev pub refers_to : List ℕ → List ℕ → Recorded → Bool
+refers_to class path r = list_any (λ l. is_class_at class path l.path l.class) r.labels
+
+-- whether a record that remains has such a label
+abbrev pub is_needed : List ℕ → List ℕ → Holdings → Bool
+is_needed class path d = list_any (refers_to class path) (remaining class path d.records)
+
+-- whether a source, or a record that remains, is at the path
+abbrev pub stays_held : List ℕ → List ℕ → Holdings → Bool
+stays_held class path d = is_one_of (d.known.sources ++ map (λ r. r.path) (remaining class path d.records)) path
+
+-- a desk without the records of a class at a path: where nothing else is at the path, it is held and charged no longer
+abbrev pub without_records : List ℕ → List ℕ → Holdings → Holdings
+without_records class path d = record d {
+  records = remaining class path d.records;
+  archives = if stays_held class path d then d.archives else without_archive path d.archives;
+  charge = d.charge - (if stays_held class path d then 0 else bytes_at path d.archives);
+}
+
 -- ---- entries
 
 -- whether an entry is on a desk
@@ -45,10 +78,22 @@ abbrev pub is_on : Entry → Holdings → Bool
 is_on (entry.Source path) d = is_one_of d.known.sources path
 is_on (entry.Record r) d = list_any (λ q. same_recorded q r) d.records
 
--- a desk with one entry more, which is charged so many bytes
+-- what a desk is charged more for a path whose archive has so many bytes
+abbrev pub charged_more : List ℕ → ℕ → Holdings → ℕ
+charged_more path archive d = if is_one_of (paths_of d) path then 0 else archive
+
+-- a desk with one entry more, whose archive has so many bytes: they are charged unless its path is held
 abbrev pub holds_entry : Entry → ℕ → Holdings → Holdings
-holds_entry (entry.Source path) more d = record d { known = record d.known { sources = d.known.sources ++ path ∷ [] }; charge = d.charge + more }
-holds_entry (entry.Record r) more d = record d { records = d.records ++ r ∷ []; charge = d.charge + more }
+holds_entry (entry.Source path) archive d = record d {
+  known = record d.known { sources = d.known.sources ++ path ∷ [] };
+  archives = with_archive (path, archive) d.archives;
+  charge = d.charge + charged_more path archive d;
+}
+holds_entry (entry.Record r) archive d = record d {
+  records = d.records ++ r ∷ [];
+  archives = with_archive (r.path, archive) d.archives;
+  charge = d.charge + charged_more r.path archive d;
+}
 
 -- what is known, and the records, with one entry more
 abbrev pub known_with : Entry → Known → Known
@@ -69,32 +114,21 @@ abbrev pub has_place : Entry → Holdings → Bool
 has_place (entry.Source path) d = nat_lt (length d.known.sources) most_sources
 has_place (entry.Record r) d = nat_lt (length d.records) most_records
 
--- what a desk is charged more for a path whose archive has so many bytes
-abbrev pub charged_more : List ℕ → ℕ → Holdings → ℕ
-charged_more path archive d = if is_one_of (paths_of d) path then 0 else archive
-
 -- whether a desk may have one such entry more, and be charged so many bytes more
 abbrev pub is_roomy : Entry → ℕ → ℕ → Holdings → Bool
 is_roomy e more limit d = has_place e d && nat_le (d.charge + more) limit
 
 -- ---- several entries
 
--- a desk with these entries more, one after another, which are charged so many bytes together
-abbrev pub holds_all : List Entry → ℕ → Holdings → Holdings
-holds_all [] more d = record d { charge = d.charge + more }
-holds_all (e ∷ es) more d = holds_all es more (holds_entry e 0 d)
-
 -- what a desk is charged more for entries whose archives have so many bytes, one after another
 abbrev pub charged_all : List (Entry × ℕ) → Holdings → ℕ
 charged_all [] d = 0
-charged_all (e ∷ es) d =
-    let more = charged_more (entry_path e.0) e.1 d in
-    more + charged_all es (holds_entry e.0 more d)
+charged_all (e ∷ es) d = charged_more (entry_path e.0) e.1 d + charged_all es (holds_entry e.0 e.1 d)
 
--- a desk with these entries more, one after another, each with what is charged for it
+-- a desk with these entries more, one after another
 abbrev pub holds_each : List (Entry × ℕ) → Holdings → Holdings
 holds_each [] d = d
-holds_each (e ∷ es) d = holds_each es (holds_entry e.0 (charged_more (entry_path e.0) e.1 d) d)
+holds_each (e ∷ es) d = holds_each es (holds_entry e.0 e.1 d)
 
 -- the archives have fewer bytes together than can be counted
 abbrev pub AreCountable : List (Entry × ℕ) → Type 0

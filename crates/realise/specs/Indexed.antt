@@ -4,7 +4,7 @@ use Rattle.std.specs.Map.{lookup}
 use Rattle.std.specs.Global.{Vec}
 use Rattle.model.specs.Worlds.{Pin}
 use Rattle.records.specs.Recorded.{Recorded}
-use Rattle.realise.specs.Holdings.{is_record_of}
+use Rattle.realise.specs.Holdings.{is_record_of, remaining}
 
 -- the pins of a map's entries
 abbrev pub pin_at : List ℕ × List ℕ → Pin
@@ -38,6 +38,11 @@ without_last records = take (length records - 1) records
 abbrev pub IsUngrouped : List (List ℕ × Vec Recorded) → List ℕ → List (List ℕ × Vec Recorded) → Type 0
 IsUngrouped old path new =
     (class : List ℕ) → group_at class new ≡ (if bytes_eq path class then without_last (group_at class old) else group_at class old)
+
+-- the records at a path are gone from the group of a class, and no other group has changed
+abbrev pub IsCleared : List (List ℕ × Vec Recorded) → List ℕ → List ℕ → List (List ℕ × Vec Recorded) → Type 0
+IsCleared old class path new =
+    (c : List ℕ) → group_at c new ≡ (if bytes_eq class c then remaining class path (group_at c old) else group_at c old)
 
 abbrev pub HasSameGroups : List (List ℕ × Vec Recorded) → List (List ℕ × Vec Recorded) → Type 0
 HasSameGroups old new = (class : List ℕ) → group_at class new ≡ group_at class old

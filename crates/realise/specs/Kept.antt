@@ -4,7 +4,7 @@ use Rattle.realise.specs.Held.{paths_held, bytes_held, IsSetOf}
 use Rattle.realise.specs.Holdings.{Holdings, paths_of, IsClosed}
 
 abbrev pub holdings_of : Inside → Holdings
-holdings_of d = record { known = d.known; records = d.records; pins = d.pins; charge = bytes_held d.holding.archives }
+holdings_of d = record { known = d.known; records = d.records; pins = d.pins; archives = d.holding.archives; charge = bytes_held d.holding.archives }
 
 -- a desk has what the labels of its records name, and is charged for the distinct paths that it holds
 pub record IsConsistent (d : Inside) : Type 0 where

@@ -1,11 +1,12 @@
 //! The records of one user.
 
 ghost use Rattle.std.specs.Prelude.{◌≡◌, ◌<◌, [], ◌∷◌, ◌++◌, filter, take, vec_len, vec_capacity, MatchResult};
-ghost use Rattle.realise.specs.Holdings.{is_record_of};
+ghost use Rattle.realise.specs.Holdings.{is_record_of, remaining};
 ghost use Rattle.realise.specs.Indexed.{without_last};
 ghost use Rattle.model.specs.declared.refusal.Refusal.TheVariants.{Memory};
 
-use crate::groups::{put_in_group, take_from_group};
+use crate::forgetting::remove_records;
+use crate::groups::{put_in_group, remove_from_group, take_from_group};
 use indexmap::IndexMap;
 use model::Refusal;
 use records::Record;
@@ -112,6 +113,14 @@ impl Records {
         while count < self.as_slice().len() {
             self.pop();
         }
+    }
+
+    /// Takes the records of a class at a path away. It takes no memory.
+    pub(crate) fn remove(&mut self, class: &StorePath, path: &StorePath)
+        ensures { self.new ≡ remaining class.now path.now self.old }
+    {
+        remove_records(&mut self.list, class, path);
+        remove_from_group(&mut self.by_class, class, path);
     }
 
     /// Adds records behind the others, all of them or none. The one error is memory, and changes

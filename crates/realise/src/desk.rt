@@ -30,7 +30,7 @@ use storepath::StorePath;
 ///
 /// What the labels of its records name is on it.
 pub struct Desk {
-    known: Known,
+    pub(crate) known: Known,
     pub(crate) records: Records,
     pins: Pins,
     pub(crate) holding: Holding,
@@ -141,6 +141,7 @@ impl Desk {
           known = record { derivations = []; sources = [] };
           records = [];
           pins = [];
+          archives = [];
           charge = 0;
         } }
     {
@@ -257,8 +258,8 @@ impl Desk {
         requires absent { is_on entry self.old ≡ false }
         requires fits { self.old.charge + charged_more (entry_path entry) archive self.old < 2 ^ 64 }
         requires closed { IsClosedWithEntry self.old entry }
-        ensures { let more = charged_more (entry_path entry) archive self.old in MatchResult result
-            (λ told. F.post check (Ok told) × (self.new ≡ holds_entry entry more self.old))
+        ensures { MatchResult result
+            (λ told. F.post check (Ok told) × (self.new ≡ holds_entry entry archive self.old))
             (λ e. ((e ≡ Memory) ⊎ F.post check (Err e)) × (self.new ≡ self.old)) }
     {
         self.holding.reserve(1)?;

@@ -1,9 +1,10 @@
 //! Records by their classes.
 
 ghost use Rattle.std.specs.Prelude.{◌≡◌, ◌++◌, ◌∷◌, [], MatchResult};
-ghost use Rattle.realise.specs.Indexed.{IsGrouped, IsUngrouped, HasSameGroups};
+ghost use Rattle.realise.specs.Indexed.{IsGrouped, IsUngrouped, IsCleared, HasSameGroups};
 ghost use Rattle.model.specs.declared.refusal.Refusal.TheVariants.{Memory};
 
+use crate::forgetting::remove_records;
 use indexmap::IndexMap;
 use model::Refusal;
 use records::Record;
@@ -62,5 +63,18 @@ pub(crate) fn take_from_group(
 {
     if let Some(group) = groups.get_mut(class) {
         let _newest = group.pop();
+    }
+}
+
+/// Takes the records at a path out of the group of a class. The group stays, though it may be empty then.
+pub(crate) fn remove_from_group(
+    groups: &mut IndexMap<StorePath, Vec<Record>, RandomState>,
+    class: &StorePath,
+    path: &StorePath,
+)
+    ensures { IsCleared groups.old.entries class.now path.now groups.new.entries }
+{
+    if let Some(group) = groups.get_mut(class) {
+        remove_records(group, class, path);
     }
 }

@@ -1,9 +1,9 @@
 //! The paths that a desk holds.
 
-ghost use Rattle.std.specs.Prelude.{◌≡◌, ◌<◌, ◌≤◌, ◌+◌, ◌^◌, [], length, map, MatchResult, OnOk, IfOk, IfErr};
+ghost use Rattle.std.specs.Prelude.{◌≡◌, ◌<◌, ◌≤◌, ◌+◌, ◌^◌, false, [], length, map, MatchResult, OnOk, IfOk, IfErr};
 ghost use Rattle.std.specs.List.{list_any};
 ghost use Rattle.std.specs.Prelude.{bytes_eq};
-ghost use Rattle.realise.specs.Held.{paths_held, bytes_held, with_archive, with_archives, charged_beside};
+ghost use Rattle.realise.specs.Held.{paths_held, bytes_held, with_archive, without_archive, with_archives, charged_beside};
 ghost use Rattle.realise.specs.Holdings.{archive_of, AreCountable};
 ghost use Rattle.model.specs.declared.refusal.Refusal.TheVariants.{Memory};
 
@@ -133,6 +133,16 @@ impl Holding {
         }
         self.charge += archive;
         let _absent = self.archives.insert(path, archive).unwrap();
+    }
+
+    /// Takes a path away, if it is held. It takes no memory.
+    pub(crate) fn remove(&mut self, path: &StorePath)
+        ensures removed { self.new.archives ≡ without_archive path.now self.old.archives }
+        ensures gone { list_any (bytes_eq path.now) (paths_held self.new.archives) ≡ false }
+    {
+        if let Some(archive) = self.archives.shift_remove(path) {
+            self.charge -= archive;
+        }
     }
 
     /// Puts paths with the lengths of their archives into room that was made by [`Holding::reserve`], one

@@ -4,6 +4,7 @@
 mod additions;
 mod by_class;
 mod desk;
+mod forgetting;
 mod groups;
 mod holding;
 mod limits;

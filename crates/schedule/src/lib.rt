@@ -11,6 +11,7 @@ mod state;
 mod step;
 mod striking;
 mod undoing;
+mod work;
 
 pub use events::{CopiedReply, Event, Output, Reply, Request};
 pub use leading::RunningJob;
@@ -19,3 +20,4 @@ pub use runs::run;
 pub use state::Core;
 pub use striking::{strike, strike_timed};
 pub use trust::{User, are_users};
+pub use work::Ready;

@@ -1,5 +1,5 @@
 -- What contracts see of the table.
-use Rattle.std.specs.Prelude.{◌≡◌, ◌≢◌, ◌⊎◌, ℕ, List, [], ◌∷◌, ◌++◌, map, true, is_some, Some, None, All, if◌then◌else◌, refl}
+use Rattle.std.specs.Prelude.{◌≡◌, ◌≢◌, ◌⊎◌, ℕ, Bool, List, [], ◌∷◌, ◌++◌, map, filter, true, is_some, Some, None, All, if◌then◌else◌, refl}
 use Rattle.std.specs.Coded.{Coded, code_by, coded×, coded_ℕ, coded_list}
 use Rattle.model.specs.Archives.{Tree, nar}
 use Rattle.model.specs.TreeCode.{tree_code}
@@ -29,6 +29,10 @@ IsAdded path tree old new = new ≡ put_once (record { path = path; tree = tree 
 abbrev pub put_all : List Source → List Source → List Source
 put_all [] sources = sources
 put_all (s ∷ others) sources = put_all others (put_once s sources)
+
+-- those of the sources whose paths pass a test
+abbrev pub kept_at : (List ℕ → Bool) → List Source → List Source
+kept_at test sources = filter (λ s. test s.path) sources
 
 -- none of others has a path that is there, or that one before it has
 abbrev pub AreNew : List Source → List Source → Type 0

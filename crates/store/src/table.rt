@@ -2,11 +2,13 @@
 
 ghost use Rattle.std.specs.Prelude.{◌≡◌, ◌<◌, ◌≤◌, ◌+◌, ◌++◌, ◌∷◌, ◌⊎◌, ◌↔◌, [], length, OnOk, OnErr, IfOk, IfErr, Err, Some, None, if◌then◌else◌};
 ghost use Rattle.std.specs.Option.{option_copied};
+ghost use Rattle.std.specs.Str.{bytes_eq};
+ghost use Rattle.indexmap.specs.IndexSet.{contains};
 ghost use Rattle.model.specs.Worlds.{tree_at};
 ghost use Rattle.model.specs.declared.refusal.Refusal.TheVariants.{Memory, Clash};
-ghost use Rattle.store.specs.Stored.{IsAdded, IsTaken, IsCollected, AreNew, AreTaken, AreThere, put_all, sources_of};
+ghost use Rattle.store.specs.Stored.{IsAdded, IsTaken, IsCollected, AreNew, AreTaken, AreThere, put_all, sources_of, kept_at};
 
-use indexmap::IndexMap;
+use indexmap::{IndexMap, IndexSet};
 use model::Refusal;
 use nar::Tree;
 use std::alloc::{AllocError, Global};
@@ -208,5 +210,12 @@ impl Table {
             self.put_reserved(path, tree);
         }
         Ok(())
+    }
+
+    /// Keeps the trees at the paths of a set, with no change, and no others. It takes no memory.
+    pub fn sweep(&mut self, held: &IndexSet<StorePath, RandomState>)
+        ensures { self.new.sources ≡ kept_at (contains bytes_eq held.now) self.old.sources }
+    {
+        self.trees.retain(|path, _tree| held.contains(path));
     }
 }

@@ -195,6 +195,7 @@ fn question_in(request: &Request) -> Result<Option<Request>, AllocError> {
         Request::Closure(class)
         | Request::Take(class)
         | Request::Pin(class, _)
+        | Request::Forget(class, _)
         | Request::Unpin(class) => Ok(Some(Request::Closure(class.clone()?))),
         Request::Status(goal)
         | Request::Plan(goal)

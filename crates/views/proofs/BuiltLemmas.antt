@@ -194,8 +194,7 @@ more_records (OfRecord r ∷ es) q = let rest = more_records es q in omega (arit
 more_charged : (xs : List (Entry × ℕ)) (y : Entry × ℕ) (d : Holdings) → charged_all xs d ≤ charged_all (xs ++ y ∷ []) d
 more_charged [] y d = omega arith
 more_charged (x ∷ xs) y d =
-    let more : ℕ = charged_more (entry_path x.0) x.1 d in
-    let rest = more_charged xs y (holds_entry x.0 more d) in
+    let rest = more_charged xs y (holds_entry x.0 x.1 d) in
     omega (arith, rest)
 
 map_push : (es : List worlds.Entry) (q : Record) → map counted (es ++ OfRecord q ∷ []) ≡ map counted es ++ counted (OfRecord q) ∷ []

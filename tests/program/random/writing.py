@@ -28,6 +28,7 @@ SMALL_CHARGE, LARGEST_CHARGE = 6000, 1 << 30
 WEIGHTS = {
     "source": 20, "derivation": 30, "offer": 30, "fetch": 15, "trust": 15, "distrust": 6, "pin": 10, "unpin": 5,
     "closure": 20, "take": 15, "build": 20, "status": 10, "plan": 30, "start": 30, "finish": 25, "fail": 4,
+    "forget": 12,
 }
 
 
@@ -149,6 +150,12 @@ class Writer:
     def unpin(self, desk):
         out = self.one_of(desk.pins, self.tellers)
         return out and self.path(out)
+
+    def forget(self, desk):
+        """A record that he has, or, now and then, one that another has or none."""
+        own = sorted({(out, path) for out, path, _ in desk.records})
+        pair = self.one_of(own, ((out, path) for out in self.tellers for path in self.tellers))
+        return pair and " ".join(map(self.path, pair))
 
     def closure(self, desk):
         out = self.one_of(realised(desk), self.tellers)

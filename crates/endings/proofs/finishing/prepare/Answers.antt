@@ -28,7 +28,7 @@ returns-in_err-trees-clause-refused c =
     let are : c.in_ok-gained_by_all.field-0.items ≡ trees_gained c.in_ok-heard.heard.items =
     c.in_ok-gained_by_all.ensures ∙ ap trees_gained c.deref.ensures.value in
     rw (p.1, p.2) (inl (only_memory (trusts c.args.trust.now) c.args.place c.args.limits.charge c.args.job.now c.args.desks.now c.args.jobs.now.goals
-    c.args.table.now.sources (option_copied c.args.archive) c.in_ok-heard.heard.items c.in_ok-heard.ensures.heard c.in_err-trees.field-0.0
+    c.args.table.now.sources (option_copied c.args.tree) c.in_ok-heard.heard.items c.in_ok-heard.ensures.heard c.in_err-trees.field-0.0
     c.in_ok-gained_by_all.field-0.items are c.in_err-trees.ensures.refused))
 
 pub returns-in_err-additions : goal.returns-in_err-additions

@@ -10,5 +10,5 @@ use Rattle.jobs.proofs.users.Jobs.join.Given as goal
 abbrev pub invariant-loop-place : goal.invariant-loop-place
 invariant-loop-place l =
     least_from job_before (option_copied l.least)
-    (jobs_with l.resolved (flat_map (led_at l.self) (places_from (holds l.set) l.place (length l.self.goals - l.place))))
-    ≡ least_from job_before None (jobs_with l.resolved (running_at (holds l.set) l.self))
+    (jobs_with l.resolved (flat_map (led_at l.self) (places_from (holds l.near) l.place (length l.self.goals - l.place))))
+    ≡ least_from job_before None (jobs_with l.resolved (running_at (holds l.near) l.self))

@@ -1,8 +1,22 @@
-use Rattle.std.proofs.Common.{◌≡◌, Some, ap, sym, ◌∙◌}
+use Rattle.std.proofs.Common.{◌≡◌, ◌<◌, Some, ap, sym, ◌∙◌, length, length-set, List}
 use Rattle.model.specs.Goals.{goal_at, with_goal_at, in_state}
 use Rattle.states.specs.States.{state_of}
 use Rattle.jobs.proofs.UserLemmas.{goals_read, goals_written}
+use Rattle.jobs.specs.Owned.{Owned, OwnedByAll}
+use Rattle.jobs.proofs.PlannerLemmas.{state_written}
 use Rattle.jobs.proofs.users.Jobs.set_state.Goals as goal
+
+pub invariant_of-self : goal.invariant_of-self
+invariant_of-self c =
+    let each : List Owned = c.self.inside.all.items in
+    let below : c.args.place < length c.args.self.now.goals = c.requires.of_run in
+    let words = c.self.inside.planners.words.entries in
+    let x : Owned = c.index_mut.result.now in
+    let y : Owned = c.set_state.new.self in (
+      rw (length-set {A = Owned}) c.self.invariant.0,
+      state_written c.args.self.now each c.args.place x y c.self.view_is below c.index_mut.ensures.value words c.args.number (state_of c.args.state)
+          c.requires.there c.set_state.ensures c.self.invariant.1,
+    )
 
 pub returns : goal.returns
 returns c g at =

@@ -48,7 +48,7 @@ module _ (c : goal.After-put_all_reserved) where
   archives = c.put_all_reserved.new.self.archives
 
   abbrev after : Holdings
-  after = record before { known = c.put_parts.new.known; records = c.put_parts.new.records; charge = bytes_held archives }
+  after = record before { known = c.put_parts.new.known; records = c.put_parts.new.records; archives = archives; charge = bytes_held archives }
 
   held : archives ≡ with_archives c.in_ok-parts.parts.archives.items c.self.inside.holding.archives
   held = c.put_all_reserved.ensures ∙ ap (with_archives c.in_ok-parts.parts.archives.items) c.in_ok-reserve.ensures.kept
@@ -58,8 +58,8 @@ module _ (c : goal.After-put_all_reserved) where
       let parts = c.in_ok-parts.parts in
       let are = c.in_ok-parts.ensures in
       let bytes = ap bytes_held held ∙ entries_bytes c.self.inside c.self.invariant entries parts.archives.items are.archives_are in
-      made entries before c.put_parts.new.known parts.sources.items parts.records.items c.put_parts.new.records (bytes_held archives)
-      are.paths_are are.records_are c.in_ok-put_parts.ensures.0 c.in_ok-put_parts.ensures.1 bytes
+      made entries before c.put_parts.new.known parts.sources.items parts.records.items c.put_parts.new.records archives (bytes_held archives)
+      are.paths_are are.records_are c.in_ok-put_parts.ensures.0 c.in_ok-put_parts.ensures.1 (held ∙ ap (λ more. with_archives more before.archives) are.archives_are) bytes
 
 pub invariant_of-self-2 : goal.invariant_of-self-2
 invariant_of-self-2 c =

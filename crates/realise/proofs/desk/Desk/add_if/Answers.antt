@@ -65,5 +65,5 @@ returns g c =
       told.0,
       (λ i. holdings_of (record d { known = told.1 i; records = told.2 i; holding = c.put_reserved.new.self }))
           ∙ entry_view d c.self.invariant e c.args.archive c.reserve.new.self c.put_reserved.new.self c.in_ok-reserve.ensures.kept (put g c)
-          ∙ ap (λ (h : Holdings). holds_entry e (charged_more (entry_path e) c.args.archive h) h) c.self.view_is,
+          ∙ ap (holds_entry e c.args.archive) c.self.view_is,
     )

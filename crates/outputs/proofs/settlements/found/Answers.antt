@@ -1,0 +1,13 @@
+use Rattle.std.proofs.Common.{rules, sym, subst}
+use Rattle.std.specs.Prelude.{Contains}
+use Rattle.std.proofs.lemmas.List.Elements.{Contains-get_or}
+use Rattle.outputs.proofs.settlements.found.Goals as goal
+
+pub returns-in-Some-clause-has : goal.returns-in-Some-clause-has
+returns-in-Some-clause-has c = record {
+  one = c.one-item.result;
+  among = subst (Contains c.args.settled.now) (sym c.one-item.is)
+      (Contains-get_or c.args.settled.now c.loop-one.one-index c.one-item.result c.loop-one-test.true);
+  input_is = search rules;
+  tree_is = search rules;
+}

@@ -1,0 +1,21 @@
+-- What is kept of sources and of trees that were settled.
+use Rattle.std.specs.Prelude.{◌≡◌, ℕ, List, Contains}
+use Rattle.model.specs.Archives.{Tree}
+use Rattle.outputs.specs.declared.input.Input.{Input}
+use Rattle.outputs.specs.declared.placed.Placed.{Placed}
+use Rattle.outputs.specs.declared.settlement.Settlement.{Settlement}
+use Rattle.outputs.specs.Outputs.{IsSameInput}
+
+-- the path of a tree under a name is among these
+pub record HasPlaced (all : List Placed) (name : List ℕ) (tree : Tree) : Type 0 where
+  pub one : Placed
+  pub among : Contains all one
+  pub name_is : one.name ≡ name
+  pub tree_is : one.tree ≡ tree
+
+-- what came of a tree that was settled by an input is among these
+pub record HasSettled (all : List Settlement) (input : Input) (tree : Tree) : Type 0 where
+  pub one : Settlement
+  pub among : Contains all one
+  pub input_is : IsSameInput one.input input
+  pub tree_is : one.tree ≡ tree

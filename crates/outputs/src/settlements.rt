@@ -1,0 +1,88 @@
+//! Trees that were settled, each once.
+
+ghost use Rattle.std.specs.Prelude.{◌≡◌, IfOk, IfErr, IfSome};
+ghost use Rattle.model.specs.Archives.{IsTree};
+ghost use Rattle.model.specs.Results.{unless_rewrite_refused};
+ghost use Rattle.model.specs.declared.refusal.Refusal.TheVariants.{Memory};
+ghost use Rattle.outputs.specs.Outputs.{input_settled};
+ghost use Rattle.outputs.specs.Kept.{HasSettled};
+
+use crate::input::Input;
+use crate::output::Output;
+use crate::settlement::{Settlement, copy_of};
+use model::Refusal;
+use nar::Tree;
+use std::alloc::Global;
+
+/// What came of a tree that was settled by an input, if it is among these.
+fn found<'a>(
+    settled: &'a [Settlement],
+    input: &Input,
+    tree: &Tree,
+) -> Option<&'a Result<Output, Refusal>>
+    ensures outcome { IfSome result (λ o.
+        o.now ≡ unless_rewrite_refused (input_settled input.now tree.now)) }
+    ensures has { IfSome result (λ _. HasSettled settled.now input.now tree.now) }
+{
+    for one in settled {
+        if let Some(outcome) = one.outcome_for(input, tree) {
+            return Some(outcome);
+        }
+    }
+    None
+}
+
+/// Trees that were settled before, and how many had to be settled since. Each of these is kept too.
+pub struct Settlements {
+    settled: Vec<Settlement>,
+    computed: u64,
+}
+
+impl Drop for Settlements {
+    fn drop(self) {
+        let Settlements {
+            settled: _,
+            computed: _,
+        } = self;
+    }
+}
+
+impl Settlements {
+    /// None. It takes no memory.
+    pub fn none(alloc: Global) -> Settlements {
+        Settlements {
+            settled: Vec::new(alloc),
+            computed: 0,
+        }
+    }
+
+    /// How many trees had to be settled; at the greatest number it stays there.
+    pub fn computed(&self) -> u64 {
+        self.computed
+    }
+
+    /// What comes of a tree that is settled by an input: what came of it before, or else what comes of
+    /// it now, which is kept. That is the tree with its path, or `RewriteRefused` where it cannot be
+    /// settled, with its reason. The one error beside it is memory.
+    pub fn settle(
+        &mut self,
+        alloc: Global,
+        input: Input,
+        tree: &Tree,
+    ) -> Result<Result<Output, Refusal>, Refusal>
+        ensures tree { IsTree tree.now }
+        ensures outcome { IfOk result (λ o. o ≡ unless_rewrite_refused (input_settled input tree.now)) }
+        ensures kept { IfOk result (λ _. HasSettled self.new.settled.items input tree.now) }
+        ensures memory { IfErr result (λ why. why ≡ Memory) }
+    {
+        let _len = tree.nar_len();
+        if let Some(outcome) = found(self.settled.as_slice(), &input, tree) {
+            return Ok(copy_of(outcome)?);
+        }
+        let made = Settlement::new(alloc, input, tree)?;
+        let outcome = copy_of(made.outcome())?;
+        self.settled.push(made)?;
+        self.computed = self.computed.saturating_add(1);
+        Ok(outcome)
+    }
+}

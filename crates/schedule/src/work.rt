@@ -1,0 +1,60 @@
+//! Values that were made before a step, and how many a step had to make.
+
+use moving::Repairs;
+use outputs::{Settlements, Sources};
+use std::alloc::Global;
+
+/// What a step is done with: paths of sources, settled trees and repaired records that were made
+/// before. Each names all that it was made of, and is used only where that is at hand; else the step
+/// makes the value itself, and counts it.
+#[derive(Drop)]
+pub(crate) struct Work {
+    pub(crate) sources: Sources,
+    pub(crate) settlements: Settlements,
+    pub(crate) repairs: Repairs,
+}
+
+impl Work {
+    /// Nothing was made before.
+    pub(crate) fn none(alloc: Global) -> Work {
+        Work {
+            sources: Sources::none(alloc),
+            settlements: Settlements::none(alloc),
+            repairs: Repairs::none(alloc),
+        }
+    }
+
+    /// How many values had to be made; at the greatest number it stays there.
+    pub(crate) fn computed(&self) -> u64 {
+        self.sources
+            .computed()
+            .saturating_add(self.settlements.computed())
+            .saturating_add(self.repairs.computed())
+    }
+}
+
+/// Values that were made outside a step. Whatever they are, a step answers as it does without them.
+pub struct Ready {
+    work: Work,
+}
+
+impl Drop for Ready {
+    fn drop(self) {
+        let Ready { work: _ } = self;
+    }
+}
+
+impl Ready {
+    /// No values. It takes no memory.
+    pub fn none(alloc: Global) -> Ready {
+        Ready {
+            work: Work::none(alloc),
+        }
+    }
+
+    /// The values.
+    pub(crate) fn into_work(self) -> Work {
+        let Ready { work } = self;
+        work
+    }
+}
