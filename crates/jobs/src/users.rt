@@ -111,6 +111,14 @@ impl Jobs {
         self.all[place].add(derivation)
     }
 
+    /// The goals of a user, that of number 1 first.
+    pub fn of_user(&self, place: usize) -> &[Goal]
+        requires { place < length self.now.goals }
+        ensures { result.now ≡ goals_at place self.now }
+    {
+        self.all[place].as_slice()
+    }
+
     /// The goal of a number.
     pub fn get(&self, place: usize, number: u16) -> Option<&Goal>
         requires { place < length self.now.goals }

@@ -8,6 +8,8 @@ ghost use Rattle.model.specs.Worlds.{pinned, unpinned};
 ghost use Rattle.admitted.specs.Entries.{AreNew};
 ghost use Rattle.records.specs.Recorded.{same_recorded};
 ghost use Rattle.records.specs.Entries.{entry_path};
+ghost use Rattle.std.specs.Map.Iter.{ShowsInOrder, deref};
+ghost use Rattle.realise.specs.Held.{paths_held, IsSetOf};
 ghost use Rattle.realise.specs.Holdings.{known_with, records_with, IsNewSource, records_of, paths_of, is_on, has_place, charged_more, holds_entry, holds_derivation, with_pins, bare, IsClosed, IsClosedWithEntry, holds_each, charged_all, AreAbsent, AreCountable};
 ghost use Rattle.model.specs.declared.refusal.Refusal.TheVariants.{Memory};
 
@@ -17,6 +19,7 @@ use crate::limits::{MOST_RECORDS, MOST_SOURCES};
 use crate::parts::parted;
 use crate::pins::Pins;
 use admitted::{Admitted, Known};
+use indexmap::map::Keys;
 use model::Refusal;
 use records::{Entry, Record};
 use std::alloc::Global;
@@ -201,6 +204,15 @@ impl Desk {
         ensures { result ≡ is_one_of (paths_of self.now) path.now }
     {
         self.holding.has(path)
+    }
+
+    /// The paths of its sources and of its records, each once.
+    pub fn paths(&self) -> Keys<'_, StorePath, u64>
+        ensures paths { result ≡ paths_held self.now.archives }
+        ensures all { IsSetOf (paths_held self.now.archives) (paths_of self.now) }
+        ensures runs { ShowsInOrder (deref {X = StorePath}) }
+    {
+        self.holding.paths()
     }
 
     /// Whether a record is on the desk. Only those of its class are looked at.

@@ -3,10 +3,12 @@
 ghost use Rattle.std.specs.Prelude.{◌≡◌, ◌<◌, ◌≤◌, ◌+◌, ◌^◌, false, [], length, map, MatchResult, OnOk, IfOk, IfErr};
 ghost use Rattle.std.specs.List.{list_any};
 ghost use Rattle.std.specs.Prelude.{bytes_eq};
+ghost use Rattle.std.specs.Map.Iter.{ShowsInOrder, deref};
 ghost use Rattle.realise.specs.Held.{paths_held, bytes_held, with_archive, without_archive, with_archives, charged_beside};
 ghost use Rattle.realise.specs.Holdings.{archive_of, AreCountable};
 ghost use Rattle.model.specs.declared.refusal.Refusal.TheVariants.{Memory};
 
+use indexmap::map::Keys;
 use indexmap::{IndexMap, IndexSet};
 use model::Refusal;
 use records::Entry;
@@ -69,6 +71,14 @@ impl Holding {
         ensures { result ≡ list_any (bytes_eq path.now) (paths_held self.now.archives) }
     {
         self.archives.contains_key(path)
+    }
+
+    /// The paths that are held, each once.
+    pub(crate) fn paths(&self) -> Keys<'_, StorePath, u64>
+        ensures paths { result ≡ paths_held self.now.archives }
+        ensures runs { ShowsInOrder (deref {X = StorePath}) }
+    {
+        self.archives.keys()
     }
 
     /// As [`Holding::charged_for_all`], with an empty set to which the paths that are charged are

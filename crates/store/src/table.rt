@@ -87,6 +87,18 @@ impl Table {
         }
     }
 
+    /// How many paths are stored, each once.
+    pub fn len(&self) -> usize
+        ensures { result ≡ length self.now.sources }
+    {
+        self.trees.len()
+    }
+
+    /// The keys of its hasher. They are told to nobody outside.
+    pub fn hashing(&self) -> RandomState {
+        *self.trees.hasher()
+    }
+
     /// The tree at a path, if there is one.
     pub fn get(&self, path: &StorePath) -> Option<&Tree>
         ensures { option_copied result ≡ tree_at path.now self.now.sources }
