@@ -4,12 +4,14 @@
 //! both promise is said in the terms of the crate `model`: the store is as good as private desks.
 #![tactic(auto)]
 
+mod holding;
 mod requests;
 mod running;
 mod runs;
 mod state;
 mod step;
 mod striking;
+mod sweeping;
 mod undoing;
 mod work;
 
