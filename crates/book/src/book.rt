@@ -1,6 +1,6 @@
 //! What lies under the lock.
 
-ghost use Rattle.std.specs.Prelude.{◌≡◌, ◌≢◌, ◌+◌, ◌++◌, ◌<◌, ◌∷◌, [], length, vec_len, map, sum, All, true, false, OnOk, IfOk, IfErr, IfSome, IfNone, Err};
+ghost use Rattle.std.specs.Prelude.{◌≡◌, ◌≢◌, ◌+◌, ◌++◌, ◌<◌, ◌∷◌, [], length, vec_len, map, sum, All, true, false, OnOk, OnErr, IfOk, IfErr, IfSome, IfNone, Err};
 ghost use Rattle.std.specs.Vec.{vec_capacity};
 ghost use Rattle.model.specs.Paths.{NoClash};
 ghost use Rattle.model.specs.Worlds.{nothing};
@@ -9,6 +9,8 @@ ghost use Rattle.model.specs.declared.refusal.Refusal.TheVariants.{Memory, Stopp
 ghost use Rattle.schedule.specs.Standing.{world_of, setup_of, stored_in, IsUnchanged};
 ghost use Rattle.leading.specs.Asking.{IsAnswerTo};
 ghost use Rattle.schedule.specs.Asking.{job_asked_for};
+ghost use Rattle.schedule.specs.Sweeping.{is_held};
+ghost use Rattle.store.specs.Stored.{kept_at};
 ghost use Rattle.events.specs.declared.reply.Reply.TheVariants.{Refused};
 ghost use Rattle.passes.specs.Callers.{answered, Matches};
 ghost use Rattle.book.specs.Keeping.{IsNew, Steps, IsModelReply, StandsFor};
@@ -264,6 +266,23 @@ impl<J: Naming> Book<J> {
         pass.compare(log);
         pass.audit(calls);
         core.request(user, number)
+    }
+
+    /// Has the core keep the paths that a desk holds, or that a goal keeps which is planned or is being
+    /// built, and no others, as [`Core::sweep`] does. There is no row of it, and no reply changes.
+    ///
+    /// # Errors
+    ///
+    /// - `Memory` only where memory was refused. Nothing has changed then.
+    pub fn sweep(&mut self, alloc: Global) -> Result<(), Refusal>
+        ensures swept { OnOk result (stored_in self.new.core
+            ≡ kept_at (is_held self.old.core) (stored_in self.old.core)) }
+        ensures kept { OnErr result (stored_in self.new.core ≡ stored_in self.old.core) }
+        ensures world { world_of self.new.core ≡ world_of self.old.core }
+        ensures rows { self.new.rows ≡ self.old.rows }
+        ensures memory { IfErr result (λ e. e ≡ Memory) }
+    {
+        self.core.sweep(alloc)
     }
 
     /// The rows, the oldest first.

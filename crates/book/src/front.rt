@@ -159,6 +159,24 @@ impl<J: Naming> Front<J> {
         self.book.lock(rt).request(pass, user, number)
     }
 
+    /// Gives back the trees that no desk holds and that no goal keeps which is planned or is being built,
+    /// as [`Book::sweep`] does. It takes the lock, so it may wait. It is no event: there is no row of it,
+    /// and no reply changes.
+    ///
+    /// # Errors
+    ///
+    /// - `Memory` only where memory was refused. Nothing has changed then.
+    pub fn sweep(&self, rt: &impl Wait, alloc: Global) -> Result<(), Refusal>
+        ensures { IfErr result (λ why. why ≡ Memory) }
+    {
+        self.book.lock(rt).sweep(alloc)
+    }
+
+    /// How many paths the core stores. It takes the lock, so it may wait.
+    pub fn stored(&self, rt: &impl Wait) -> u64 {
+        self.book.lock(rt).core().stored()
+    }
+
     /// The history. The passes are all that [`Front::new`] gave with the front, so it has a row for
     /// each of their calls that was answered otherwise than with 90, and no other. It begins with the
     /// sure rows of each pass.

@@ -1,0 +1,13 @@
+use Rattle.book.proofs.SweepingLemmas.{kept_swept}
+use Rattle.book.proofs.book.Book.sweep.Goals as goal
+
+pub invariant_of-self : goal.invariant_of-self
+invariant_of-self g c =
+    let old = c.self.inside in (
+      kept_swept g.J.Naming.setup old.core c.sweep.new.self old.history.items c.self.invariant.0 c.sweep.ensures.setup c.sweep.ensures.world c.sweep.ensures.hashed,
+      c.self.invariant.1,
+      c.self.invariant.2,
+      c.self.invariant.3,
+      c.self.invariant.4,
+      c.self.invariant.5,
+    )
