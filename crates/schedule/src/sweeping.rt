@@ -56,7 +56,7 @@ impl Core {
     ///
     /// Nothing has changed then.
     ///
-    /// - `Stopped` exactly where the core is stopped.
+    /// - `Stopped` only where the core is stopped.
     /// - `Memory` only where memory was refused.
     pub fn sweep(&mut self, alloc: Global) -> Result<(), Refusal>
         ensures swept { OnOk result
