@@ -64,9 +64,10 @@ pub(crate) fn run_lines<H: Wait, R: Read + Faults, W: Write + Faults>(
             reader,
             writer,
         ),
-        Action::Replay(_) | Action::Run(_) => {
-            replay(wait, alloc, hashing, limits, reader, writer)
+        Action::Replay { sweep, .. } => {
+            replay(wait, alloc, hashing, limits, *sweep, reader, writer)
         }
+        Action::Run(_) => replay(wait, alloc, hashing, limits, false, reader, writer),
     }
 }
 

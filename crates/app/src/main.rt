@@ -69,7 +69,7 @@ fn exit_status(rt: &HostRuntime, ended: io::Result<u8>) -> io::Result<u8> {
 fn main(rt: HostRuntime) -> io::Result<ExitCode> {
     let ended = match read_words(&rt) {
         Ok(Asked::For(options)) => match &options.action {
-            Action::Replay(file) => run_file(&rt, &rt, &options, file.as_str()),
+            Action::Replay { file, .. } => run_file(&rt, &rt, &options, file.as_str()),
             Action::Strike { file, .. } => run_file(&rt, &rt, &options, file.as_str()),
             Action::Run(run) => match runs::runners_for(&rt, &rt, run) {
                 Ok(runners) => runs::run_files(&rt, &rt, &options, run, runners),

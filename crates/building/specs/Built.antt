@@ -9,13 +9,15 @@ use Rattle.model.specs.Settling.{hash_part_in}
 use Rattle.model.specs.declared.refusal.Refusal.TheVariants.{BadOutput}
 use Rattle.model.specs.Worlds.{Source, Label, Record, Resolved, Goal, tree_at}
 use Rattle.model.specs.Goals.{goal_at}
-use Rattle.model.specs.Classes.{Admission, Known}
+use Rattle.model.specs.Classes.{Admission, Known, known_at}
 use Rattle.model.specs.References.{paths_of_labels}
 use Rattle.model.specs.Outputs.{settled_under, record_for}
 use Rattle.model.specs.Endings.{labels_from, label_of_entry, output_record}
 use Rattle.model.specs.Results.{then_do, ok_or, unless_rewrite_refused}
 use Rattle.records.specs.Recorded.{Recorded, with_tree}
 use Rattle.realise.specs.Holdings.{Holdings, has_labelled, IsClosedWith}
+use Rattle.outputs.specs.Kept.{HasOutput}
+use Rattle.outputs.specs.declared.settlement.Settlement.{Settlement}
 
 -- ---- what is built
 
@@ -100,3 +102,10 @@ numbered x = (x.0, built_of x.1)
 abbrev pub IsStoredBuilt : List Source → Result (Recorded × Tree) Refusal → Type 0
 IsStoredBuilt table (Ok b) = tree_at b.0.path table ≡ Some b.1
 IsStoredBuilt table (Err why) = Unit {0}
+
+-- ---- what is settled before a job ends
+
+-- what comes of a job's output for a goal is among these: built under the path of what the goal keeps, it may refer to what that has
+abbrev pub HasBuilt : Known → Goal → Tree → List Settlement → Type 0
+HasBuilt known g tree settled = (a : Admission) (r : Resolved) → known_at known g.derivation ≡ Some a → g.resolved ≡ Some r
+    → HasOutput settled r.scratch (labels_from r) a.derivation tree

@@ -19,7 +19,7 @@ use closures::Resolved;
 use jobs::{Goal, Jobs};
 use model::Refusal;
 use nar::Tree;
-use outputs::{Input, Output, Settlements, record_of};
+use outputs::{Output, Settlements, record_of};
 use realise::Desk;
 use records::{Label, Record};
 use std::alloc::Global;
@@ -66,8 +66,8 @@ fn built_under(
     ensures paths { IfOk result (λ _. All IsPath (paths_of_labels labels.now)) }
     ensures memory { IfErr result (λ why. why ≡ Memory) }
 {
-    let input = Input::new(alloc, path, labels, admitted.derivation())?;
-    let settled = settlements.settle(alloc, input, tree)?;
+    let derivation = admitted.derivation();
+    let settled = settlements.settle_output(alloc, path, labels, derivation, tree)?;
     built_by(alloc, admitted, labels, settled)
 }
 

@@ -57,6 +57,13 @@ timed_rule = record (new_rule (codes "timed")) {
   action = Some SetTrue;
 }
 
+-- `--sweep`
+abbrev pub sweep_rule : Rule
+sweep_rule = record (new_rule (codes "sweep")) {
+  long = Some (codes "sweep");
+  action = Some SetTrue;
+}
+
 -- `--workers N`: a number from 1 to 7
 abbrev pub workers_rule : Rule
 workers_rule = record (new_rule (codes "workers")) {
@@ -97,9 +104,9 @@ abbrev pub with_rules : App → List Rule → App
 with_rules a [] = a
 with_rules a (r ∷ rs) = with_rules (with_rule a r) rs
 
--- `replay [--charge N] FILE`
+-- `replay [--sweep] [--charge N] FILE`
 abbrev pub replay : App
-replay = with_rules (new_app (codes "replay")) (charge_rule ∷ file_rule ∷ [])
+replay = with_rules (new_app (codes "replay")) (sweep_rule ∷ charge_rule ∷ file_rule ∷ [])
 
 -- `strike --user U [--timed] [--charge N] FILE`
 abbrev pub strike : App

@@ -63,8 +63,9 @@ IsRunOf rows run = IsWorkersOf (one_of (codes "workers") rows) run.workers
 
 -- the action is that of the subcommand with this name, for what its matches name
 abbrev pub IsActionOf : Text → List Row → Action → Type 0
-IsActionOf name rows (action.Replay file) =
-    (name ≡ codes "replay") × (first_of (codes "file") rows ≡ Some (string_bytes file))
+IsActionOf name rows (action.Replay sweep file) =
+    (name ≡ codes "replay") × IsFlagOf (one_of (codes "sweep") rows) sweep
+    × (first_of (codes "file") rows ≡ Some (string_bytes file))
 IsActionOf name rows (action.Strike user timed file) =
     (name ≡ codes "strike") × (first_of (codes "user") rows ≡ Some (string_bytes user))
     × IsFlagOf (one_of (codes "timed") rows) timed

@@ -2,7 +2,7 @@
 
 ghost use Rattle.std.specs.Prelude.{IfOk, map, string_bytes};
 ghost use Rattle.command_line.specs.Intstore.{builders_rule, charge_rule, file_rule, files_rule};
-ghost use Rattle.command_line.specs.Intstore.{timed_rule, user_rule, verbose_rule, work_rule, workers_rule};
+ghost use Rattle.command_line.specs.Intstore.{sweep_rule, timed_rule, user_rule, verbose_rule, work_rule, workers_rule};
 ghost use Rattle.command_line.specs.Intstore.{intstore, replay, run, strike};
 ghost use Rattle.command_line.specs.Intstore.{subcommands as described_subcommands};
 ghost use Rattle.command_line.specs.Named.{AnswersWords};
@@ -72,6 +72,16 @@ fn timed_argument<'a>(alloc: Global) -> Arg<'a>
         .help("Counts trust only while it is held, and not all that is ever given")
 }
 
+/// The flag `--sweep`.
+fn sweep_argument<'a>(alloc: Global) -> Arg<'a>
+    ensures { IsArgument sweep_rule result }
+{
+    Arg::new(alloc, "sweep")
+        .long("sweep")
+        .action(ArgAction::SetTrue)
+        .help("Gives back after each event what nobody holds; the replies stay the same")
+}
+
 /// The option `--workers`.
 fn workers_argument<'a>(alloc: Global) -> Arg<'a>
     ensures { IsArgument workers_rule result }
@@ -123,7 +133,11 @@ fn verbose_argument<'a>(alloc: Global) -> Arg<'a>
 fn replay_command<'a>(alloc: Global) -> Result<Command<'a>, AllocError>
     ensures { IfOk result (IsCommand replay) }
 {
-    let arguments = vec![in alloc; charge_argument(alloc), file_argument(alloc)]?;
+    let arguments = vec![in alloc;
+        sweep_argument(alloc),
+        charge_argument(alloc),
+        file_argument(alloc),
+    ]?;
     Command::new(alloc, "replay")
         .about("Runs the lines of FILE one after another, and prints their replies")
         .args(arguments)

@@ -100,7 +100,10 @@ fn replay_of(alloc: Global, matches: &ArgMatches<'_>) -> Result<Option<Action>, 
     ensures { IfOk result (IsFound (IsActionOf (codes "replay") (rows_in matches.now))) }
 {
     match text_of(alloc, matches, "file")? {
-        Some(file) => Ok(Some(Action::Replay(file))),
+        Some(file) => {
+            let sweep = matches.get_flag("sweep");
+            Ok(Some(Action::Replay { sweep, file }))
+        }
         None => Ok(None),
     }
 }

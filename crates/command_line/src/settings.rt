@@ -13,8 +13,13 @@ pub(crate) const MOST_FILES: usize = 8;
 /// What is done, and with which files.
 #[derive(Drop)]
 pub enum Action {
-    /// All lines of this file are run, and their replies are printed.
-    Replay(String),
+    /// All lines of a file are run, and their replies are printed.
+    Replay {
+        /// Whether after each event the store gives back what nobody holds.
+        sweep: bool,
+        /// The file whose lines are run.
+        file: String,
+    },
     /// Those of its events that can reach the user of that name are run, and his replies are printed.
     Strike {
         /// The name of the user.

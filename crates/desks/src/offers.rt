@@ -1,6 +1,6 @@
 //! Offering an output.
 
-ghost use Rattle.std.specs.Prelude.{◌≡◌, IfOk, IfErr, Ok, All};
+ghost use Rattle.std.specs.Prelude.{◌≡◌, IfOk, IfErr, OnOk, Ok, All};
 ghost use Rattle.model.specs.Archives.{IsTree};
 ghost use Rattle.model.specs.Paths.{IsPath};
 ghost use Rattle.model.specs.Occurrences.{IsHashPart};
@@ -8,12 +8,14 @@ ghost use Rattle.model.specs.Settling.{hash_part_in};
 ghost use Rattle.model.specs.References.{paths_of_labels};
 ghost use Rattle.model.specs.Events.{Offer as OfferRequest};
 ghost use Rattle.model.specs.OfferRequests.{output_settled};
+ghost use Rattle.model.specs.Results.{unless_rewrite_refused};
 ghost use Rattle.model.specs.declared.refusal.Refusal.TheVariants.{Memory};
 ghost use Rattle.records.specs.Recorded.{AreInPathOrder};
 ghost use Rattle.handling.specs.Sound.{IsSound};
 ghost use Rattle.handling.specs.Handling.{IsHandledAtDesk};
 ghost use Rattle.outputs.specs.Outputs.{IsRecordOf};
-ghost use Rattle.desks.specs.Offering.{IsOutput, IsNotSettled, IsNoOutput};
+ghost use Rattle.outputs.specs.Kept.{HasOutput};
+ghost use Rattle.desks.specs.Offering.{IsOutput, IsNotSettled, IsNoOutput, HasOffered};
 
 use crate::entries::add_entry;
 use admitted::Admitted;
@@ -21,12 +23,33 @@ use candidates::candidates;
 use events::CopiedReply;
 use model::Refusal;
 use nar::Tree;
-use outputs::{Input, Output, Settlements, record_of};
+use outputs::{Output, Settlements, record_of};
 use realise::{Desk, Limits};
 use records::{Entry, Label, Record};
 use std::alloc::Global;
 use store::Table;
 use storepath::StorePath;
+
+/// What comes of an output of a derivation that may refer to these. The one error beside it is memory.
+fn settled_output(
+    alloc: Global,
+    settlements: &mut Settlements,
+    admitted: &Admitted,
+    labels: &[Label],
+    tree: &Tree,
+) -> Result<Result<Output, Refusal>, Refusal>
+    ensures tree { IfOk result (λ _. IsTree tree.now) }
+    ensures paths { IfOk result (λ _. All IsPath (paths_of_labels labels.now)) }
+    ensures own { IfOk result (λ _. IsHashPart (hash_part_in admitted.now.class.path)) }
+    ensures outcome { IfOk result (λ o.
+        o ≡ unless_rewrite_refused (output_settled labels.now admitted.now tree.now)) }
+    ensures kept { IfOk result (λ _. HasOutput settlements.new.settled.items
+        admitted.now.class.path labels.now admitted.now.derivation tree.now) }
+    ensures memory { IfErr result (λ why. why ≡ Memory) }
+{
+    let own = admitted.class().path();
+    settlements.settle_output(alloc, own, labels, admitted.derivation(), tree)
+}
 
 /// An output of a derivation that may refer to these, with its path.
 fn output_of(
@@ -36,16 +59,13 @@ fn output_of(
     labels: &[Label],
     tree: &Tree,
 ) -> Result<Output, Refusal>
-    ensures tree { IsTree tree.now }
+    ensures tree { IfOk result (λ _. IsTree tree.now) }
     ensures paths { IfOk result (λ _. All IsPath (paths_of_labels labels.now)) }
-    ensures own { IsHashPart (hash_part_in admitted.now.class.path) }
+    ensures own { IfOk result (λ _. IsHashPart (hash_part_in admitted.now.class.path)) }
     ensures settled { IfOk result (λ o. output_settled labels.now admitted.now tree.now ≡ Ok o) }
     ensures refused { IfErr result (IsNotSettled labels.now admitted.now tree.now) }
 {
-    let _len = tree.nar_len();
-    let own = admitted.class().path();
-    let input = Input::new(alloc, own, labels, admitted.derivation())?;
-    settlements.settle(alloc, input, tree)?
+    settled_output(alloc, settlements, admitted, labels, tree)?
 }
 
 /// The record of an output that has its path, and its tree. The one error is memory.
@@ -110,4 +130,28 @@ pub fn offer(
     };
     let (record, settled) = output_for(alloc, settlements, desk, admitted, tree)?;
     add_entry(alloc, table, desk, limits, Entry::Record(record), settled)
+}
+
+/// Settles an output before it is offered, as [`offer`] does when it is: what came of it is among the
+/// settlements then. Where the desk has no such derivation there is nothing to be settled.
+///
+/// # Errors
+///
+/// - `Memory` only where memory was refused.
+pub fn prepare_offer(
+    alloc: Global,
+    desk: &Desk,
+    settlements: &mut Settlements,
+    path: &StorePath,
+    tree: &Tree,
+) -> Result<(), Refusal>
+    ensures kept { OnOk result (HasOffered desk.now path.now tree.now settlements.new.settled.items) }
+    ensures memory { IfErr result (λ why. why ≡ Memory) }
+{
+    let Some(admitted) = desk.derivation(path) else {
+        return Ok(());
+    };
+    let labels = candidates(alloc, desk.known(), admitted.derivation(), desk.records())?;
+    let _outcome = settled_output(alloc, settlements, admitted, &labels, tree)?;
+    Ok(())
 }

@@ -27,7 +27,7 @@ use jobs::{Jobs, State};
 use laws::closures_are_whole;
 use model::Refusal;
 use realise::Desk;
-use repair::{Repairs, resolve_with};
+use repair::{Cache, resolve_with};
 use serving::served_are_made;
 use std::alloc::Global;
 use store::Table;
@@ -41,7 +41,7 @@ fn resolved_for(
     table: &Table,
     desks: &[Desk],
     place: usize,
-    repairs: &mut Repairs,
+    cache: &mut Cache,
     derivation: &Derivation,
 ) -> Result<Resolved, Refusal>
     requires of_run { place < length desks.now }
@@ -58,7 +58,7 @@ fn resolved_for(
     let classes = input_classes(alloc, desk.known(), derivation)?;
     let sources = &derivation.parts().sources;
     let plan = choose::plan(alloc, &view, desk.pins(), &classes, sources)?;
-    resolve_with(alloc, &plan, derivation, &classes, repairs)
+    resolve_with(alloc, &plan, derivation, &classes, cache)
 }
 
 /// Whether a goal waits, as one sees it who reaches the users at the places of a word.
@@ -161,7 +161,7 @@ pub fn plan(
     table: &mut Table,
     desks: &[Desk],
     place: usize,
-    repairs: &mut Repairs,
+    cache: &mut Cache,
     number: u16,
 ) -> Result<CopiedReply, Refusal>
     requires listed { are_users users.now ≡ true }
@@ -180,7 +180,7 @@ pub fn plan(
     served_are_made();
     let reached = trust.closure(place);
     let derivation = derivation_to_plan(users, reached, jobs, &desks[place], place, number)?;
-    match resolved_for(alloc, trust, table, desks, place, repairs, derivation) {
+    match resolved_for(alloc, trust, table, desks, place, cache, derivation) {
         Ok(resolved) => {
             keep(alloc, jobs, table, place, number, resolved)?;
             Ok(CopiedReply::planned())

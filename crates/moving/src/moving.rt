@@ -11,9 +11,9 @@ ghost use Rattle.records.specs.Recorded.{AreInPathOrder};
 ghost use Rattle.moving.specs.Served.{served_from};
 ghost use Rattle.closures.specs.Sound.{IsSoundRecord};
 
+use crate::cache::Cache;
 use crate::images::images_of;
 use crate::moves::{Move, is_any_replaced, is_any_replaced_by, moved_labels, moves_of};
-use crate::repairs::Repairs;
 use closures::Realisation;
 use indexmap::IndexMap;
 use model::{Refusal, RewriteFault};
@@ -119,7 +119,7 @@ pub(crate) fn moved(
     alloc: Global,
     chosen: &Realisation,
     moves: Vec<Move>,
-    repairs: &mut Repairs,
+    cache: &mut Cache,
 ) -> Result<Realisation, Refusal>
     ensures { let answer = moved chosen.now moves.items in MatchResult result
         (λ made. answer ≡ Ok made)
@@ -131,7 +131,7 @@ pub(crate) fn moved(
     if is_any_replaced_by(chosen.path(), &moves) {
         return Err(Refusal::RewriteRefused(RewriteFault::Accidental));
     }
-    repairs.repaired(alloc, chosen, moves)
+    cache.repaired(alloc, chosen, moves)
 }
 
 /// A chosen record, moved to what serves the classes of its labels, of those that are served so
@@ -146,7 +146,7 @@ pub fn serve(
     alloc: Global,
     chosen: &Realisation,
     served: &IndexMap<StorePath, Realisation>,
-    repairs: &mut Repairs,
+    cache: &mut Cache,
 ) -> Result<Realisation, Refusal>
     ensures served { let answer = served_from served.now.entries chosen.now in
         MatchResult result
@@ -158,5 +158,5 @@ pub fn serve(
     let _len = chosen.tree().nar_len();
     let _part = chosen.path().hash_part();
     let moves = moves_of(alloc, chosen.labels(), served, chosen.class().rank())?;
-    moved(alloc, chosen, moves, repairs)
+    moved(alloc, chosen, moves, cache)
 }

@@ -1,10 +1,12 @@
 -- What is kept of sources and of trees that were settled.
 use Rattle.std.specs.Prelude.{◌≡◌, ℕ, List, Contains}
 use Rattle.model.specs.Archives.{Tree}
+use Rattle.model.specs.Derivations.{Derivation}
+use Rattle.model.specs.Worlds.{Label}
 use Rattle.outputs.specs.declared.input.Input.{Input}
 use Rattle.outputs.specs.declared.placed.Placed.{Placed}
 use Rattle.outputs.specs.declared.settlement.Settlement.{Settlement}
-use Rattle.outputs.specs.Outputs.{IsSameInput}
+use Rattle.outputs.specs.Outputs.{IsInputOf, IsSameInput}
 
 -- the path of a tree under a name is among these
 pub record HasPlaced (all : List Placed) (name : List ℕ) (tree : Tree) : Type 0 where
@@ -19,3 +21,9 @@ pub record HasSettled (all : List Settlement) (input : Input) (tree : Tree) : Ty
   pub among : Contains all one
   pub input_is : IsSameInput one.input input
   pub tree_is : one.tree ≡ tree
+
+-- what came of the output of a derivation is among these, which was built under a path and may refer to these
+pub record HasOutput (all : List Settlement) (own : List ℕ) (labels : List Label) (x : Derivation) (tree : Tree) : Type 0 where
+  pub input : Input
+  pub input_is : IsInputOf own labels x input
+  pub has : HasSettled all input tree

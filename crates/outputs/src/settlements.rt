@@ -1,18 +1,26 @@
 //! Trees that were settled, each once.
 
-ghost use Rattle.std.specs.Prelude.{◌≡◌, IfOk, IfErr, IfSome};
+ghost use Rattle.std.specs.Prelude.{◌≡◌, All, IfOk, IfErr, IfSome};
 ghost use Rattle.model.specs.Archives.{IsTree};
+ghost use Rattle.model.specs.Derivations.{name_of};
+ghost use Rattle.model.specs.Occurrences.{IsHashPart};
+ghost use Rattle.model.specs.Paths.{IsPath};
+ghost use Rattle.model.specs.References.{paths_of_labels};
+ghost use Rattle.model.specs.Settling.{hash_part_in, settled};
 ghost use Rattle.model.specs.Results.{unless_rewrite_refused};
 ghost use Rattle.model.specs.declared.refusal.Refusal.TheVariants.{Memory};
 ghost use Rattle.outputs.specs.Outputs.{input_settled};
-ghost use Rattle.outputs.specs.Kept.{HasSettled};
+ghost use Rattle.outputs.specs.Kept.{HasOutput, HasSettled};
 
 use crate::input::Input;
 use crate::output::Output;
 use crate::settlement::{Settlement, copy_of};
+use derivation::Derivation;
 use model::Refusal;
 use nar::Tree;
+use records::Label;
 use std::alloc::Global;
+use storepath::StorePath;
 
 /// What came of a tree that was settled by an input, if it is among these.
 fn found<'a>(
@@ -84,5 +92,28 @@ impl Settlements {
         self.settled.push(made)?;
         self.computed = self.computed.saturating_add(1);
         Ok(outcome)
+    }
+
+    /// What comes of the output of a derivation that was built under a path and may refer to these, as
+    /// [`Settlements::settle`] gives it. The one error beside it is memory.
+    pub fn settle_output(
+        &mut self,
+        alloc: Global,
+        own: &StorePath,
+        labels: &[Label],
+        derivation: &Derivation,
+        tree: &Tree,
+    ) -> Result<Result<Output, Refusal>, Refusal>
+        ensures tree { IfOk result (λ _. IsTree tree.now) }
+        ensures own { IfOk result (λ _. IsHashPart (hash_part_in own.now)) }
+        ensures paths { IfOk result (λ _. All IsPath (paths_of_labels labels.now)) }
+        ensures outcome { IfOk result (λ o. o ≡ unless_rewrite_refused
+            (settled tree.now (hash_part_in own.now) (paths_of_labels labels.now) (name_of derivation.now))) }
+        ensures kept { IfOk result (λ _.
+            HasOutput self.new.settled.items own.now labels.now derivation.now tree.now) }
+        ensures memory { IfErr result (λ why. why ≡ Memory) }
+    {
+        let input = Input::new(alloc, own, labels, derivation)?;
+        self.settle(alloc, input, tree)
     }
 }

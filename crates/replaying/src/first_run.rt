@@ -129,7 +129,12 @@ fn ask_core<J: Naming, H: Wait>(
     let (front, mut passes) = Front::<J>::new(alloc, blank, core, 1)?;
     let pass = passes.pop().unwrap();
     let mut recorder = Recorder {
-        store: OnePass { rt, front, pass },
+        store: OnePass {
+            rt,
+            front,
+            pass,
+            sweeps: false,
+        },
         events: Vec::new(alloc),
         has_lost: false,
     };

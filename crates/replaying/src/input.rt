@@ -33,6 +33,7 @@ fn serve_core<J: Naming, H: Wait, R: Read + Faults, W: Write + Faults>(
     alloc: Global,
     blank: Blank,
     core: Core,
+    sweeps: bool,
     bytes: &[u8],
     reader: &mut R,
     writer: &mut W,
@@ -51,7 +52,12 @@ fn serve_core<J: Naming, H: Wait, R: Read + Faults, W: Write + Faults>(
 {
     let (front, mut passes) = Front::<J>::new(alloc, blank, core, 1)?;
     let pass = passes.pop().unwrap();
-    let mut store = OnePass { rt, front, pass };
+    let mut store = OnePass {
+        rt,
+        front,
+        pass,
+        sweeps,
+    };
     let ended = serve_behind(alloc, Mode::Service, bytes, reader, writer, &mut store);
     mem::forget(store);
     ended
@@ -65,6 +71,7 @@ fn serve_users<H: Wait, R: Read + Faults, W: Write + Faults>(
     hashing: RandomState,
     users: Vec<User>,
     limits: Limits,
+    sweeps: bool,
     bytes: &[u8],
     reader: &mut R,
     writer: &mut W,
@@ -81,7 +88,7 @@ fn serve_users<H: Wait, R: Read + Faults, W: Write + Faults>(
 {
     let core = Core::new(alloc, hashing, users, limits)?;
     let blank = Blank::new(alloc, 1)?;
-    serve_core::<Brand, _, _, _>(rt, alloc, blank, core, bytes, reader, writer)
+    serve_core::<Brand, _, _, _>(rt, alloc, blank, core, sweeps, bytes, reader, writer)
 }
 
 /// Answers the lines of an input whose first lines are read ahead. Where the reader failed before it
@@ -91,6 +98,7 @@ fn answer_lines<H: Wait, R: Read + Faults, W: Write + Faults>(
     alloc: Global,
     hashing: RandomState,
     limits: Limits,
+    sweeps: bool,
     ahead: Ahead,
     reader: &mut R,
     writer: &mut W,
@@ -115,7 +123,9 @@ fn answer_lines<H: Wait, R: Read + Faults, W: Write + Faults>(
     let Some(users) = users else {
         return serve_behind(alloc, Mode::Service, &bytes, reader, writer, &mut NoUsers);
     };
-    serve_users(rt, alloc, hashing, users, limits, &bytes, reader, writer)
+    serve_users(
+        rt, alloc, hashing, users, limits, sweeps, &bytes, reader, writer,
+    )
 }
 
 /// Answers the lines that a reader gives, in a store for the users whom they name first and under these
@@ -125,6 +135,7 @@ fn answer_input<H: Wait, R: Read + Faults, W: Write + Faults>(
     alloc: Global,
     hashing: RandomState,
     limits: Limits,
+    sweeps: bool,
     reader: &mut R,
     writer: &mut W,
 ) -> Result<(), Refusal>
@@ -139,12 +150,15 @@ fn answer_input<H: Wait, R: Read + Faults, W: Write + Faults>(
     ensures output_fault { IfErr result (MayBeFault OutputFault (W.failed writer.old) (W.failed writer.new)) }
 {
     let ahead = read_ahead(alloc, Mode::Service, reader)?;
-    answer_lines(rt, alloc, hashing, limits, ahead, reader, writer)
+    answer_lines(rt, alloc, hashing, limits, sweeps, ahead, reader, writer)
 }
 
 /// Answers the lines that a reader gives, in a store for the users whom they name first and under
 /// these limits, and writes the replies. What is written is flushed, whatever the end, but for a failure of
 /// the writer.
+///
+/// Where it sweeps, what nobody holds is given back after each event, as far as there is memory to find it.
+/// What is promised of the text is the same.
 ///
 /// # Errors
 ///
@@ -161,6 +175,7 @@ pub fn replay<H: Wait, R: Read + Faults, W: Write + Faults>(
     alloc: Global,
     hashing: RandomState,
     limits: Limits,
+    sweeps: bool,
     reader: &mut R,
     writer: &mut W,
 ) -> Result<(), Refusal>
@@ -183,6 +198,6 @@ pub fn replay<H: Wait, R: Read + Faults, W: Write + Faults>(
 {
     let reader_before = reader.failures();
     let writer_before = writer.failures();
-    let ended = answer_input(rt, alloc, hashing, limits, reader, writer);
+    let ended = answer_input(rt, alloc, hashing, limits, sweeps, reader, writer);
     flush_after(reader, reader_before, writer, writer_before, ended)
 }

@@ -5,6 +5,7 @@
 #![tactic(auto)]
 
 mod holding;
+mod preparing;
 mod requests;
 mod running;
 mod runs;

@@ -1,6 +1,8 @@
 //! Values that were made before a step, and how many a step had to make.
 
-use moving::Repairs;
+ghost use Rattle.std.specs.Prelude.{◌≡◌};
+
+use moving::Cache;
 use outputs::{Settlements, Sources};
 use std::alloc::Global;
 
@@ -11,7 +13,7 @@ use std::alloc::Global;
 pub(crate) struct Work {
     pub(crate) sources: Sources,
     pub(crate) settlements: Settlements,
-    pub(crate) repairs: Repairs,
+    pub(crate) cache: Cache,
 }
 
 impl Work {
@@ -20,7 +22,7 @@ impl Work {
         Work {
             sources: Sources::none(alloc),
             settlements: Settlements::none(alloc),
-            repairs: Repairs::none(alloc),
+            cache: Cache::none(alloc),
         }
     }
 
@@ -29,7 +31,7 @@ impl Work {
         self.sources
             .computed()
             .saturating_add(self.settlements.computed())
-            .saturating_add(self.repairs.computed())
+            .saturating_add(self.cache.computed())
     }
 }
 
@@ -50,6 +52,13 @@ impl Ready {
         Ready {
             work: Work::none(alloc),
         }
+    }
+
+    /// These values.
+    pub(crate) fn of(work: Work) -> Ready
+        ensures { result.work ≡ work }
+    {
+        Ready { work }
     }
 
     /// The values.

@@ -4,7 +4,7 @@
 //! - `CALL ARGUMENT` runs a call.
 
 use crate::answer::Answer;
-use crate::{builds, faults, fronts, sessions, stores};
+use crate::{builds, faults, fronts, prepared, repairs, sessions, stores, sweeps};
 use model::Refusal;
 use session::Mode;
 use std::alloc::Global;
@@ -43,10 +43,14 @@ fn of_line<R: Threads + Wait + Sync>(
         "users" => stores::users(alloc, hashing, argument, out),
         "run" => stores::run(alloc, hashing, out),
         "derivation" => stores::reply_to_text(alloc, hashing, argument, out),
+        "repairs" => repairs::repairs(alloc, hashing, argument, out),
         "threads" => fronts::threads(rt, alloc, hashing, out),
         "gate_two_workers" => builds::gate_two_workers(rt, alloc, hashing, argument, out),
         "built_once" => builds::built_once(rt, alloc, hashing, argument, out),
         "passes" => fronts::passes(alloc, hashing, out),
+        "sweeps" => sweeps::sweeps(rt, alloc, hashing, argument, out),
+        "prepared" => prepared::prepare_each(alloc, hashing, argument, out),
+        "exchanged" => prepared::exchange_each(rt, alloc, hashing, argument, out),
         _ => Err(Refusal::BadLine),
     }
 }

@@ -56,7 +56,7 @@ struct Trial {
 }
 
 /// The users whom an input names.
-fn users_in(alloc: Global, input: &[u8]) -> Result<Vec<User>, Refusal> {
+pub(crate) fn users_in(alloc: Global, input: &[u8]) -> Result<Vec<User>, Refusal> {
     let mut rest = input;
     let Ahead { users, .. } = read_ahead(alloc, Mode::Service, &mut rest)?;
     match users {

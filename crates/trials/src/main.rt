@@ -11,8 +11,11 @@ mod calls;
 mod devices;
 mod faults;
 mod fronts;
+mod prepared;
+mod repairs;
 mod sessions;
 mod stores;
+mod sweeps;
 
 use crate::answer::Answer;
 use crate::calls::answer_line;

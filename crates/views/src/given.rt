@@ -16,7 +16,7 @@ use handling::desks_in_view;
 use laws::closures_are_whole;
 use model::Refusal;
 use realise::Desk;
-use serving::Repairs;
+use serving::Cache;
 use std::alloc::Global;
 use store::Table;
 use storepath::StorePath;
@@ -29,7 +29,7 @@ pub(crate) fn entries_for(
     table: &Table,
     desks: &[Desk],
     place: usize,
-    repairs: &mut Repairs,
+    cache: &mut Cache,
     class: &StorePath,
 ) -> Result<Vec<Entry>, Refusal>
     requires of_run { place < length desks.now }
@@ -43,7 +43,7 @@ pub(crate) fn entries_for(
     let seen = desks_in_view(alloc, trust, place, desks)?;
     let view = View::new(table, seen);
     let classes = [class.clone()?];
-    serving::closure(alloc, &view, desks[place].pins(), &classes, &[], repairs)
+    serving::closure(alloc, &view, desks[place].pins(), &classes, &[], cache)
 }
 
 /// The closure of a class for the user at a place, of all that he sees.
@@ -61,7 +61,7 @@ pub fn closure(
     table: &Table,
     desks: &[Desk],
     place: usize,
-    repairs: &mut Repairs,
+    cache: &mut Cache,
     class: &StorePath,
 ) -> Result<CopiedReply, Refusal>
     requires of_run { place < length desks.now }
@@ -70,6 +70,6 @@ pub fn closure(
     ensures { (limit : ℕ) → IsHandledBySight (trusts trust.now) limit table.now.sources desks.now
         place (ClosureRequest class.now) result table.now.sources (desk_at desks.now place) }
 {
-    let entries = entries_for(alloc, trust, table, desks, place, repairs, class)?;
+    let entries = entries_for(alloc, trust, table, desks, place, cache, class)?;
     Ok(CopiedReply::new(Reply::Entries(Closure::new(entries)?))?)
 }

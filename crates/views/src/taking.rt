@@ -19,7 +19,7 @@ use model::Refusal;
 use nar::Tree;
 use realise::{Desk, Limits, MOST_RECORDS, MOST_SOURCES};
 use records::Entry;
-use serving::{Repairs, served_are_made};
+use serving::{Cache, served_are_made};
 use std::alloc::Global;
 use store::Table;
 use storepath::StorePath;
@@ -248,7 +248,7 @@ pub fn take(
     desks: &mut [Desk],
     place: usize,
     limits: Limits,
-    repairs: &mut Repairs,
+    cache: &mut Cache,
     class: &StorePath,
 ) -> Result<CopiedReply, Refusal>
     requires of_run { place < length desks.old }
@@ -259,7 +259,7 @@ pub fn take(
     ensures others { desks.new ≡ slice_set desks.old place (desk_at desks.new place) }
 {
     served_are_made();
-    let entries = entries_for(alloc, trust, table, desks, place, repairs, class)?;
+    let entries = entries_for(alloc, trust, table, desks, place, cache, class)?;
     let path = path_for(class, &entries)?;
     let reply = CopiedReply::new(Reply::Path(path))?;
     copy_all(alloc, table, &mut desks[place], limits, &entries)?;

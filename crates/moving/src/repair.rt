@@ -1,6 +1,6 @@
-//! Records that were repaired, with what they were repaired by.
+//! A record that was repaired, with what it was repaired by.
 
-ghost use Rattle.std.specs.Prelude.{◌≡◌, ◌⊎◌, true, IfOk, IfErr, IfSome, MatchResult, Ok, Err, length, option_copied};
+ghost use Rattle.std.specs.Prelude.{◌≡◌, true, IfOk, IfErr, IfSome, option_copied};
 ghost use Rattle.model.specs.Repairs.{repaired};
 ghost use Rattle.model.specs.declared.refusal.Refusal.TheVariants.{Memory};
 ghost use Rattle.moving.specs.Repaired.{repaired_of};
@@ -15,7 +15,7 @@ use admitted::Class;
 use closures::Realisation;
 use model::Refusal;
 use nar::Tree;
-use std::alloc::Global;
+use std::alloc::{AllocError, Global};
 use storepath::StorePath;
 
 /// Whether two classes are one, of one rank.
@@ -62,7 +62,7 @@ fn same_moves(one: &[Move], other: &[Move]) -> bool
 
 /// What a record of a class, at a path, with a tree, was repaired to, whose labels moved so.
 #[derive(Drop)]
-pub struct Repair {
+pub(crate) struct Repair {
     class: Class,
     path: StorePath,
     tree: Tree,
@@ -71,20 +71,20 @@ pub struct Repair {
     ghost is: { outcome ≡ repaired_of class path tree moves.items } by { Prim.hlevel (props, codes, tree_code, record_code) },
 }
 
-/// A copy of what came of a record. The error of the copy itself is memory.
-fn copy_of(outcome: &Result<Realisation, Refusal>) -> Result<Realisation, Refusal>
-    ensures { MatchResult result
-        (λ made. outcome.now ≡ Ok made)
-        (λ why. (why ≡ Memory) ⊎ (outcome.now ≡ Err why)) }
+/// A copy of what came of a record. It shares what is large.
+pub(crate) fn copy_of(
+    outcome: &Result<Realisation, Refusal>,
+) -> Result<Result<Realisation, Refusal>, AllocError>
+    ensures { IfOk result (λ copy. copy ≡ outcome.now) }
 {
     match outcome {
-        Ok(made) => Ok(made.clone()?),
-        Err(why) => Err(*why),
+        Ok(made) => Ok(Ok(made.clone()?)),
+        Err(why) => Ok(Err(*why)),
     }
 }
 
 /// What comes of a record whose labels move. The one error is memory.
-fn tried(
+pub(crate) fn tried(
     alloc: Global,
     chosen: &Realisation,
     moves: &[Move],
@@ -100,20 +100,18 @@ fn tried(
 }
 
 impl Repair {
-    /// What comes of a record whose labels move. The one error is memory.
+    /// What came of a record whose labels move so, with that record. The one error is memory.
     pub(crate) fn new(
-        alloc: Global,
         chosen: &Realisation,
         moves: Vec<Move>,
-    ) -> Result<Repair, Refusal>
-        ensures outcome { IfOk result (λ made.
-            made.outcome ≡ repaired chosen.now moves.items) }
-        ensures memory { IfErr result (λ why. why ≡ Memory) }
+        outcome: &Result<Realisation, Refusal>,
+    ) -> Result<Repair, AllocError>
+        requires { outcome.now ≡ repaired chosen.now moves.items }
     {
         let class = chosen.class().clone()?;
         let path = chosen.path().clone()?;
         let tree = chosen.tree().clone()?;
-        let outcome = tried(alloc, chosen, &moves)?;
+        let outcome = copy_of(outcome)?;
         Ok(Repair {
             class,
             path,
@@ -123,90 +121,31 @@ impl Repair {
         })
     }
 
+    /// Whether it is that of this record, whose labels move so. Its own labels make no difference.
+    fn is_of(&self, chosen: &Realisation, moves: &[Move]) -> bool
+        ensures path { result ≡ true → self.now.path ≡ chosen.now.path }
+        ensures moves { result ≡ true → self.now.moves.items ≡ moves.now }
+        ensures class { result ≡ true → self.now.class ≡ chosen.now.class }
+        ensures tree { result ≡ true → self.now.tree ≡ chosen.now.tree }
+    {
+        self.path.bytes() == chosen.path().bytes()
+            && same_moves(&self.moves, moves)
+            && same_class(&self.class, chosen.class())
+            && self.tree.same(chosen.tree())
+    }
+
     /// What came of it, if it is that of this record, whose labels move so.
-    fn outcome_for(
+    pub(crate) fn outcome_for(
         &self,
         chosen: &Realisation,
         moves: &[Move],
     ) -> Option<&Result<Realisation, Refusal>>
         ensures { IfSome result (λ o. o.now ≡ repaired chosen.now moves.now) }
     {
-        if self.path.bytes() == chosen.path().bytes()
-            && same_moves(&self.moves, moves)
-            && same_class(&self.class, chosen.class())
-            && self.tree.same(chosen.tree())
-        {
+        if self.is_of(chosen, moves) {
             Some(&self.outcome)
         } else {
             None
         }
-    }
-}
-
-/// What came of a record whose labels move so, if it is among these.
-fn found<'a>(
-    made: &'a [Repair],
-    chosen: &Realisation,
-    moves: &[Move],
-) -> Option<&'a Result<Realisation, Refusal>>
-    ensures { IfSome result (λ o. o.now ≡ repaired chosen.now moves.now) }
-{
-    for one in made {
-        if let Some(outcome) = one.outcome_for(chosen, moves) {
-            return Some(outcome);
-        }
-    }
-    None
-}
-
-/// Records that were repaired before, and how many had to be repaired since. Each of these is kept
-/// too.
-pub struct Repairs {
-    made: Vec<Repair>,
-    computed: u64,
-}
-
-impl Drop for Repairs {
-    fn drop(self) {
-        let Repairs {
-            made: _,
-            computed: _,
-        } = self;
-    }
-}
-
-impl Repairs {
-    /// None. It takes no memory.
-    pub fn none(alloc: Global) -> Repairs {
-        Repairs {
-            made: Vec::new(alloc),
-            computed: 0,
-        }
-    }
-
-    /// How many records had to be repaired.
-    pub fn computed(&self) -> u64 {
-        self.computed
-    }
-
-    /// Repairs a record whose labels move, unless that was done before.
-    pub(crate) fn repaired(
-        &mut self,
-        alloc: Global,
-        chosen: &Realisation,
-        moves: Vec<Move>,
-    ) -> Result<Realisation, Refusal>
-        ensures { let answer = repaired chosen.now moves.items in MatchResult result
-            (λ made. answer ≡ Ok made)
-            (λ e. (e ≡ Memory) ⊎ (answer ≡ Err e)) }
-    {
-        if let Some(outcome) = found(self.made.as_slice(), chosen, &moves) {
-            return copy_of(outcome);
-        }
-        let made = Repair::new(alloc, chosen, moves)?;
-        let outcome = copy_of(&made.outcome);
-        self.made.push(made)?;
-        self.computed = self.computed.saturating_add(1);
-        outcome
     }
 }

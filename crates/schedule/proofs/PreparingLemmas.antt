@@ -1,0 +1,66 @@
+-- What is prepared on the desk of a place is prepared for its user, in the world that the core stands for.
+use Rattle.std.proofs.Common.{◌≡◌, ◌∙◌, ℕ, Bool, true, false, List, length, refl, sym, subst, ap, Some, None, Result, Ok, Err}
+use Rattle.std.specs.Prelude.{OnOk}
+use Rattle.model.specs.declared.refusal.Refusal.{Refusal}
+use Rattle.model.specs.Archives.{Tree}
+use Rattle.model.specs.Classes.{Admission, known_at}
+use Rattle.model.specs.Events.{Event, Request, Offer, Finish}
+use Rattle.model.specs.References.{candidates}
+use Rattle.model.specs.Worlds.{Source, Desk, Goal, Job, Label, known_of, are_users}
+use Rattle.trust.specs.Naming.{place_of, name_at, IsWithin}
+use Rattle.trust.proofs.PlaceLemmas.{name_found}
+use Rattle.realise.specs.Holdings.{Holdings}
+use Rattle.outputs.specs.Kept.{HasOutput}
+use Rattle.desks.specs.Offering.{HasOffered}
+use Rattle.building.specs.Built.{HasBuilt}
+use Rattle.endings.specs.Preparing.{HasLedOutput}
+use Rattle.handling.specs.Parts.{desk_among, beside_at, goals_of}
+use Rattle.handling.specs.Sound.{Beside, desk_of}
+use Rattle.handling.specs.Viewing.{desk_at}
+use Rattle.handling.proofs.DeskLemmas.{known_of-desk_of}
+use Rattle.views.proofs.ClosureLemmas.{his_desk}
+use Rattle.outputs.specs.declared.settlements.Settlements.{Settlements}
+use Rattle.schedule.specs.Preparing.{HasOutcome}
+
+-- ---- on one desk, as the model sees it
+
+offered_on : (beside : Beside) (table : List Source) (d : Holdings) (user path : List ℕ) (tree : Tree) (made : Settlements)
+    → HasOffered d path tree made.settled.items → HasOutcome (desk_of beside table d) user (Offer path tree) made
+offered_on beside table d user path tree made offered a known =
+    let has = offered a (subst (λ k. known_at k path ≡ Some a) (known_of-desk_of beside table d) known) in
+    subst (λ (ls : List Label). HasOutput made.settled.items a.class.path ls a.derivation tree) (has.1 beside table) has.2
+
+ended_on : (beside : Beside) (table : List Source) (d : Holdings) (user : List ℕ) (n : ℕ) (output : List ℕ) (made : Settlements)
+    → HasLedOutput d (record { leader = user; number = n }) beside.goals output made.settled.items
+    → HasOutcome (desk_of beside table d) user (Finish n output) made
+ended_on beside table d user n output made led g tree at leads is =
+    subst (λ k. HasBuilt k g tree made.settled.items) (sym (known_of-desk_of beside table d)) (led g tree at leads is)
+
+-- ---- in the world
+
+module _ (users : List (List ℕ)) (limit : ℕ) (trust : ℕ → ℕ → Bool) (goals : List (List Goal)) (table : List Source) (desks : List Holdings) (user : List ℕ) (place : ℕ)
+    (listed : are_users users ≡ true) (found : place_of users user ≡ Some place) (paired : length desks ≡ length users) (within : IsWithin (length users) trust) where
+  abbrev his : Desk
+  his = desk_among (beside_at users trust goals) table users desks user
+
+  his_is : his ≡ desk_of (beside_at users trust goals place) table (desk_at desks place)
+  his_is = his_desk users limit trust goals table desks user place listed found paired within
+
+  pub offered_by : (result : Result (Unit {0}) Refusal) (path : List ℕ) (tree : Tree) (made : Settlements)
+      → OnOk result (HasOffered (desk_at desks place) path tree made.settled.items) → OnOk result (HasOutcome his user (Offer path tree) made)
+  offered_by (Ok u) path tree made offered =
+      subst (λ d. HasOutcome d user (Offer path tree) made) (sym his_is)
+      (offered_on (beside_at users trust goals place) table (desk_at desks place) user path tree made offered)
+  offered_by (Err why) path tree made offered = tt
+
+  pub ended_by : (result : Result (Unit {0}) Refusal) (n : ℕ) (output : List ℕ) (made : Settlements)
+      → OnOk result (HasLedOutput (desk_at desks place) (record { leader = name_at users place; number = n }) (goals_of goals place) output
+      made.settled.items)
+      → OnOk result (HasOutcome his user (Finish n output) made)
+  ended_by (Ok u) n output made led =
+      let named = (name_found users user place found).1 in
+      let his_led = subst (λ (leader : List ℕ). HasLedOutput (desk_at desks place) (record { leader = leader; number = n }) (goals_of goals place) output
+      made.settled.items) named led in
+      subst (λ d. HasOutcome d user (Finish n output) made) (sym his_is)
+      (ended_on (beside_at users trust goals place) table (desk_at desks place) user n output made his_led)
+  ended_by (Err why) n output made led = tt

@@ -1,0 +1,37 @@
+-- Values that are made before a step.
+use Rattle.std.specs.Prelude.{◌≡◌, ℕ, true, List, Some, Ok}
+use Rattle.model.specs.Archives.{Tree}
+use Rattle.model.specs.ArchiveReading.{tree_of_archive}
+use Rattle.model.specs.Classes.{Admission, known_at}
+use Rattle.model.specs.Events.{Event, Request, AddSource, Offer, Finish}
+use Rattle.model.specs.Goals.{goal_at}
+use Rattle.model.specs.Reach.{is_among}
+use Rattle.model.specs.References.{candidates}
+use Rattle.model.specs.Worlds.{Desk, Goal, known_of}
+use Rattle.leading.specs.Leading.{leading}
+use Rattle.outputs.specs.Kept.{HasOutput, HasPlaced}
+use Rattle.outputs.specs.declared.settlements.Settlements.{Settlements}
+use Rattle.outputs.specs.declared.sources.Sources.{Sources}
+use Rattle.building.specs.Built.{HasBuilt}
+use Rattle.schedule.specs.declared.state.Core.{Core}
+use Rattle.schedule.specs.declared.work.Ready.{Ready}
+use Rattle.schedule.specs.Standing.{world_of, setup_of}
+
+-- the path of a source is there
+abbrev pub HasPath : Request → Sources → Type 0
+HasPath (AddSource name tree) sources = HasPlaced sources.placed.items name tree
+HasPath request sources = Unit {0}
+
+-- what comes of the tree that a user with this desk offers is there, and what comes of the output of a job for the goal that leads it
+abbrev pub HasOutcome : Desk → List ℕ → Request → Settlements → Type 0
+HasOutcome d user (Offer path tree) settlements = (a : Admission) → known_at (known_of d) path ≡ Some a
+    → HasOutput settlements.settled.items a.class.path (candidates d a.derivation) a.derivation tree
+HasOutcome d user (Finish n output) settlements = (g : Goal) (tree : Tree) → goal_at n d.goals ≡ Some g
+    → leading (record { leader = user; number = n }) (Some g) ≡ Ok tt → tree_of_archive output ≡ Some tree
+    → HasBuilt (known_of d) g tree settlements.settled.items
+HasOutcome d user request settlements = Unit {0}
+
+-- the values that an event needs are there, which a user of the run asks in the world that the core stands for
+pub record IsPrepared (core : Core) (event : Event) (ready : Ready) : Type 0 where
+  pub path : HasPath event.request ready.work.sources
+  pub outcome : is_among event.actor (setup_of core).users ≡ true → HasOutcome (world_of core event.actor) event.actor event.request ready.work.settlements
