@@ -75,6 +75,8 @@ VERBS = {
     "plan": (goal_number,), "start": (goal_number,), "finish": (goal_number, output),
     "fail": (goal_number, exit_status), "forget": (path_word, path_word),
 }
+# What is asked so changes nothing, and is answered after the store was stopped as well.
+QUERIES = "fetch", "closure", "status"
 
 
 # ---- lines
@@ -83,7 +85,7 @@ class Session:
     verbs = VERBS
 
     def __init__(self, limit):
-        self.limit, self.desks, self.told, self.ended = limit, None, [], False
+        self.limit, self.desks, self.told, self.ended, self.stopped = limit, None, [], False, False
 
     def expanded(self, line):
         def expand(found):
@@ -128,6 +130,7 @@ class Session:
                 return self.name_users(line.split(" "))
             user, verb, words = self.wish(line)
             actor = user
+            need(verb in QUERIES or not self.stopped, "92 Stopped")
             need(user in self.desks, "11 UnknownUser")
             return actor, getattr(self.desks[user], verb)(*words)
         except Refused as why:

@@ -1,8 +1,9 @@
 -- What is told of the job that a goal leads.
-use Rattle.std.proofs.Common.{◌≡◌, ℕ, Bool, true, false, List, refl, sym, ◌∙◌, ap, subst, Option, Some, None, Result, Ok, Err}
-use Rattle.std.specs.Prelude.{if◌then◌else◌}
+use Rattle.std.proofs.Common.{◌≡◌, ℕ, Bool, true, false, inl, inr, List, refl, sym, ◌∙◌, ap, subst, Option, Some, None, Result, Ok, Err}
+use Rattle.std.specs.Prelude.{if◌then◌else◌, ◌≢◌}
 use Rattle.model.specs.declared.refusal.Refusal.{Refusal}
-use Rattle.model.specs.declared.refusal.Refusal.TheVariants.{UnknownUser, WrongState}
+use Rattle.model.specs.declared.refusal.Refusal.TheVariants.{UnknownUser, WrongState, Stopped}
+use Rattle.model.proofs.BoolLemmas.{either}
 use Rattle.model.specs.Paths.{NoClash}
 use Rattle.model.specs.Reach.{is_among}
 use Rattle.model.specs.Worlds.{Setup, World, nothing, Resolved, Job, Goal}
@@ -17,7 +18,7 @@ use Rattle.passes.specs.Callers.{Caller, Matches}
 use Rattle.schedule.specs.declared.state.Core.{Core}
 use Rattle.schedule.specs.Standing.{setup_of}
 use Rattle.schedule.specs.Asking.{job_asked_for}
-use Rattle.book.specs.Histories.{events_of, IsLegal}
+use Rattle.passes.specs.Histories.{events_of, IsLegal}
 use Rattle.book.specs.Keeping.{Contents, StandsFor}
 use Rattle.book.specs.Asking.{IsAsked, IsAskedAfter}
 
@@ -70,16 +71,20 @@ after_rows law setup core rows user number told legal given stands is = record {
 
 -- what a book ensures where it is asked
 module _ (setup : Setup) (book : Contents) (user : List ℕ) (number : ℕ) (told : Result Running Refusal) (law : KeptClosuresAreGood)
-    (legal : IsLegal setup book.rows) (given : setup_of book.core ≡ setup) (reached : StandsFor setup book.core book.rows)
-    (value : IsAnswerTo (job_asked_for book.core user number) told) where
+    (legal : IsLegal setup book.rows) (given : setup_of book.core ≡ setup) (reached : book.stopped ≡ false → StandsFor setup book.core book.rows)
+    (value : book.stopped ≡ false → IsAnswerTo (job_asked_for book.core user number) told) (stopped : book.stopped ≡ true → told ≡ Err Stopped) where
+  -- it is not stopped where it does not say so
+  is_going : told ≢ Err Stopped → book.stopped ≡ false
+  is_going going = elim (either book.stopped) [ inl t ↦ absurd (going (stopped t)) | inr f ↦ f ]
+
   -- what it tells is so after all its rows
-  after_all : IsAskedAfter setup book.rows user number told
-  after_all = after_rows law setup book.core book.rows user number told legal given reached value
+  after_all : told ≢ Err Stopped → IsAskedAfter setup book.rows user number told
+  after_all going = after_rows law setup book.core book.rows user number told legal given (reached (is_going going)) (value (is_going going))
 
   -- so it is after rows that begin with the sure rows of a pass
-  pub is_asked : (pass : Caller) → Matches book.rows false pass → IsAsked setup pass user number told
-  is_asked pass matches = record { rows = book.rows; longer = matches.sure; after = after_all }
+  pub is_asked : (pass : Caller) → Matches book.rows book.stopped pass → told ≢ Err Stopped → IsAsked setup pass user number told
+  is_asked pass matches going = record { rows = book.rows; longer = matches.sure; after = after_all going }
 
   -- and after those of the only pass
-  pub is_asked_alone : (sure : List Row) (parts : ℕ) → (parts ≡ 1 → sure ≡ book.rows) → parts ≡ 1 → IsAskedAfter setup sure user number told
-  is_asked_alone sure parts alone only = subst (λ (rows : List Row). IsAskedAfter setup rows user number told) (sym (alone only)) after_all
+  pub is_asked_alone : (sure : List Row) (parts : ℕ) → (parts ≡ 1 → sure ≡ book.rows) → told ≢ Err Stopped → parts ≡ 1 → IsAskedAfter setup sure user number told
+  is_asked_alone sure parts alone going only = subst (λ (rows : List Row). IsAskedAfter setup rows user number told) (sym (alone only)) (after_all going)

@@ -1,15 +1,16 @@
 -- The passes of a new front.
 use Rattle.std.proofs.Common.{◌≡◌, ℕ, suc, ◌+◌, List, [], ◌∷◌, ◌++◌, map, ap, sym, ◌∙◌, arith}
 use Rattle.std.proofs.lemmas.List.{map-append}
-use Rattle.passes.specs.Callers.{Caller, newcomer, below}
+use Rattle.passes.specs.Callers.{below}
+use Rattle.passes.specs.Callers.{Known, new_pass}
 
 more : (n : ℕ) → suc n ≡ n + 1
 more n = omega arith
 
 -- one pass more
-pub newcomers_next : (n : ℕ) (passes next : List Caller) (pass : Caller) → passes ≡ map newcomer (below n) → next ≡ passes ++ pass ∷ [] → pass ≡ newcomer n
-    → next ≡ map newcomer (below (n + 1))
+pub newcomers_next : (n : ℕ) (passes next : List Known) (pass : Known) → passes ≡ map new_pass (below n) → next ≡ passes ++ pass ∷ [] → pass ≡ new_pass n
+    → next ≡ map new_pass (below (n + 1))
 newcomers_next n passes next pass all one new =
-    one ∙ (ap (λ (made : List Caller). made ++ pass ∷ []) all
-    ∙ (ap (λ (p : Caller). map newcomer (below n) ++ p ∷ []) new
-    ∙ (sym (map-append newcomer (below n) (n ∷ [])) ∙ ap (λ m. map newcomer (below m)) (more n))))
+    one ∙ (ap (λ (made : List Known). made ++ pass ∷ []) all
+    ∙ (ap (λ (p : Known). map new_pass (below n) ++ p ∷ []) new
+    ∙ (sym (map-append new_pass (below n) (n ∷ [])) ∙ ap (λ m. map new_pass (below m)) (more n))))

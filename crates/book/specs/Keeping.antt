@@ -1,5 +1,5 @@
 -- What a book keeps.
-use Rattle.std.specs.Prelude.{◌≡◌, ℕ, false, List, [], ◌∷◌, ◌++◌, All, Contains}
+use Rattle.std.specs.Prelude.{◌≡◌, ℕ, Bool, true, false, List, [], ◌∷◌, ◌++◌, All, Contains}
 use Rattle.model.specs.Paths.{NoClash}
 use Rattle.model.specs.Worlds.{Setup, nothing}
 use Rattle.model.specs.Steps.{world_after, answers, reply_to}
@@ -8,38 +8,50 @@ use Rattle.model.specs.GivenClosures.{GiveGoodClosures}
 use Rattle.schedule.specs.declared.state.Core.{Core}
 use Rattle.events.specs.declared.event.Event.{Event}
 use Rattle.events.specs.declared.reply.Reply.{Reply}
-use Rattle.schedule.specs.Standing.{world_of, setup_of, stored_in, HasHashed}
+use Rattle.schedule.specs.Standing.{world_of, setup_of, stored_in, IsUnchanged}
 use Rattle.events.specs.Terms.{event_of, reply_of}
 use Rattle.schedule.specs.Stepping.{IsCoreStep}
 use Rattle.passes.specs.declared.row.Row.{Row}
-use Rattle.book.specs.Histories.{events_of, answers_of, gave_up}
+use Rattle.passes.specs.Histories.{events_of, answers_of, gave_up}
+use Rattle.snapshots.specs.Following.{HasReached}
 
--- a book as contracts see it: its core, and its rows
+-- a book as contracts see it: its core, its rows, and whether it is stopped
 pub record Contents : Type 0 where
   pub core : Core
   pub rows : List Row
+  pub stopped : Bool
 
 -- a core that has taken no event
 abbrev pub IsNew : Setup → Core → Type 0
 IsNew setup core = (setup_of core ≡ setup) × (world_of core ≡ nothing) × (stored_in core ≡ [])
 
--- the core is that of the world which the events reach, and its trees were made by texts that were hashed
-pub record HasReached (setup : Setup) (core : Core) (texts : List (List ℕ)) (rows : List Row) : Type 0 where
-  pub world : world_of core ≡ world_after setup nothing (events_of rows)
-  pub hashes : HasHashed texts core
-
 -- the core takes the event, gives the reply and becomes the new one
 abbrev pub Steps : Core → Event → Reply → Core → Type 0
 Steps old event reply new = IsCoreStep old (event_of event) (reply_of reply) new
 
+-- the core has taken an event
+pub record TookEvent (old : Core) (event : Event) (new : Core) : Type 0 where
+  pub reply : Reply
+  pub step : Steps old event reply new
+
 -- the replies of the rows are the model's and the closures that are given are good, wherever texts have no clash and all
--- that the events hash is among them; and the core is that of the world reached
-pub record Kept (setup : Setup) (core : Core) (rows : List Row) : Type 0 where
+-- that the events hash is among them; and unless the book is stopped, the core is that of the world reached
+pub record Kept (setup : Setup) (core : Core) (stopped : Bool) (rows : List Row) : Type 0 where
   pub given : setup_of core ≡ setup
   pub answered : All (λ r. gave_up r.reply ≡ false) rows
   pub told : (texts : List (List ℕ)) → NoClash texts → All (Contains texts) (hashed setup nothing (events_of rows)) → answers_of rows ≡ answers setup nothing (events_of rows)
   pub good : (texts : List (List ℕ)) → NoClash texts → All (Contains texts) (hashed setup nothing (events_of rows)) → GiveGoodClosures setup nothing (events_of rows)
-  pub reached : (texts : List (List ℕ)) → NoClash texts → All (Contains texts) (hashed setup nothing (events_of rows)) → HasReached setup core texts rows
+  pub reached : stopped ≡ false → (texts : List (List ℕ)) → NoClash texts → All (Contains texts) (hashed setup nothing (events_of rows)) → HasReached setup core texts rows
+
+-- ---- what a call changes
+
+-- the book was not stopped, and is now
+abbrev pub Stops : Contents → Contents → Type 0
+Stops old new = (old.stopped ≡ false) × (new.stopped ≡ true)
+
+-- the core is as it was, unless the book was stopped
+abbrev pub KeepsCore : Contents → Contents → Type 0
+KeepsCore old new = new.stopped ≡ old.stopped → IsUnchanged old.core new.core
 
 -- ---- what a book tells
 

@@ -1,4 +1,3 @@
-pub mod Histories
 pub mod Keeping
-pub mod Answering
 pub mod Asking
+pub mod Shelves

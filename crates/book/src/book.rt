@@ -1,7 +1,8 @@
 //! What lies under the lock.
 
-ghost use Rattle.std.specs.Prelude.{◌≡◌, ◌≢◌, ◌+◌, ◌++◌, ◌<◌, ◌∷◌, [], length, vec_len, map, sum, All, true, false, OnOk, OnErr, IfOk, IfErr, IfSome, IfNone, Err};
+ghost use Rattle.std.specs.Prelude.{◌≡◌, ◌≢◌, ◌+◌, ◌++◌, ◌<◌, ◌∷◌, ◌⊎◌, [], length, vec_len, map, sum, All, true, false, OnOk, OnErr, IfOk, IfErr, IfSome, IfNone, Err};
 ghost use Rattle.std.specs.Vec.{vec_capacity};
+ghost use mathlib.Core.List.{IsPrefix};
 ghost use Rattle.model.specs.Paths.{NoClash};
 ghost use Rattle.model.specs.Worlds.{nothing};
 ghost use Rattle.model.specs.HashedTexts.{hashed};
@@ -12,32 +13,36 @@ ghost use Rattle.schedule.specs.Asking.{job_asked_for};
 ghost use Rattle.schedule.specs.Sweeping.{is_held};
 ghost use Rattle.store.specs.Stored.{kept_at};
 ghost use Rattle.events.specs.declared.reply.Reply.TheVariants.{Refused};
-ghost use Rattle.passes.specs.Callers.{answered, Matches};
-ghost use Rattle.book.specs.Keeping.{IsNew, Steps, IsModelReply, StandsFor};
-ghost use Rattle.book.specs.Histories.{row, gave_up, IsLegal};
+ghost use Rattle.passes.specs.Callers.{answered, told_stopped, Matches};
+ghost use Rattle.passes.specs.Histories.{row, gave_up, IsLegal};
+ghost use Rattle.book.specs.Keeping.{IsNew, Kept, Steps, TookEvent, Stops, KeepsCore, IsModelReply, StandsFor};
 
 use crate::history::History;
+use crate::pass::Pass as Seer;
+use crate::shelf::{Shelf, insist};
 use laws::{isolation, timed_isolation};
 use model::Refusal;
-use passes::{Log, Naming, Pass, Row};
+use passes::{Beginning, Log, Naming, Pass, Row};
 use schedule::{Core, Event, Ready, Reply, RunningJob, User};
 use std::alloc::{AllocError, Global};
 use std::marker::Model;
-use std::sync::ledger;
 use std::sync::ledger::Share;
+use std::sync::{Arc, Wait, ledger};
 
 /// A core with the history of its calls. Whoever holds it may call [`Book::apply`] for any pass.
 ///
 /// Wherever no two texts that the history's events hash have one folded digest, its replies are
-/// those of private desks, and the core stands for the desks that the events reach. An event that the
-/// core has taken always gets its row: room for it and the copies are made before, so nothing stops
-/// the book.
+/// those of private desks, and the core stands for the desks that the events reach. Each row is
+/// published before it is told. If memory is refused for that, once the core has taken the event, the
+/// book is stopped: the core is not used any more, and what was published before stays to be read.
 pub struct Book<J: Naming> {
     core: Core,
     history: Vec<Row>,
     calls: ledger::Book<J>,
     spare: Share<J>,
     log: Log<J>,
+    shelf: Shelf<J>,
+    stopped: bool,
 }
 
 impl<J: Naming> Drop for Book<J> {
@@ -48,12 +53,14 @@ impl<J: Naming> Drop for Book<J> {
             calls: _,
             spare: _,
             log: _,
+            shelf: _,
+            stopped: _,
         } = self;
     }
 }
 
 impl<J: Naming> Model for Book<J> {
-    ghost use Rattle.std.specs.Prelude.{◌≡◌, false, length};
+    ghost use Rattle.std.specs.Prelude.{◌≡◌, true, false, length};
     ghost use Rattle.book.specs.Keeping.{Contents, Kept};
 
     ghost Value = { Contents };
@@ -63,11 +70,12 @@ impl<J: Naming> Model for Book<J> {
 
     ghost coded = { Prim.hlevel (codes, tree_code) };
 
-    ghost view = { λ b. record { core = b.core; rows = b.history.items } };
+    ghost view = { λ b. record { core = b.core; rows = b.history.items; stopped = b.stopped } };
 
-    ghost invariant = { λ b. Kept J.setup b.core b.history.items
+    ghost invariant = { λ b. Kept J.setup b.core b.stopped b.history.items
         × (length b.history.items ≡ b.calls.total) × (b.spare.parts ≡ 0) × (b.spare.amount ≡ 0)
-        × (b.log.rows ≡ b.history.items) × (b.log.stopped ≡ false) };
+        × (b.log.rows ≡ b.history.items) × (b.log.stopped ≡ b.stopped)
+        × (b.shelf.rows ≡ b.history.items) × (b.stopped ≡ false → b.shelf.whole ≡ true) };
 }
 
 /// Makes room for a row, and copies the event that it is to have.
@@ -102,26 +110,91 @@ fn want_in(reply: &Reply) -> Option<Refusal>
     }
 }
 
-/// Lets a core take an event, and gives its reply and the row. The error is the core's own want of
-/// memory, at which the core is as it was.
+/// A copy of the event of a row.
+fn event_again(row: &Row) -> Result<Event, AllocError>
+    ensures { IfOk result (λ event. event ≡ row.now.event) }
+{
+    row.event.clone()
+}
+
+/// A copy of its reply.
+fn reply_again(row: &Row) -> Result<Reply, AllocError>
+    ensures { IfOk result (λ reply. reply ≡ row.now.reply) }
+{
+    row.reply.clone()
+}
+
+/// A copy of a row.
+fn row_again(row: &Row) -> Result<Row, AllocError>
+    ensures { IfOk result (λ copy. copy ≡ row.now) }
+{
+    let event = event_again(row)?;
+    let reply = reply_again(row)?;
+    Ok(Row {
+        pass: row.pass,
+        event,
+        reply,
+    })
+}
+
+/// Publishes a copy of a row, with the values that were made for its event, and says whether it did.
+fn show<J: Naming, R: Wait>(
+    rt: &R,
+    alloc: Global,
+    shelf: &mut Shelf<J>,
+    row: &Row,
+    ready: Ready,
+) -> bool
+    requires whole { shelf.old.whole ≡ true }
+    requires legal { IsLegal J.setup (shelf.old.rows ++ row.now ∷ []) }
+    ensures shown { result ≡ true
+        → shelf.new ≡ record { rows = shelf.old.rows ++ row.now ∷ []; whole = true } }
+    ensures lost { result ≡ false → shelf.new.rows ≡ shelf.old.rows }
+{
+    let Ok(copy) = row_again(row) else {
+        return false;
+    };
+    let Ok(shared) = Arc::new(alloc, copy) else {
+        return false;
+    };
+    shelf.put(rt, shared, ready)
+}
+
+/// Lets a core take an event and publishes the row, and gives its reply and the row. There is none
+/// where the core has taken the event, and memory is refused for publishing the row. The error is the
+/// core's own want of memory, at which the core is as it was.
 #[tactic(auto, using(crate::proofs::ReplyLemmas::wants_memory))]
-fn step(
+fn step<J: Naming, R: Wait>(
+    rt: &R,
     alloc: Global,
     core: &mut Core,
+    shelf: &mut Shelf<J>,
     pass: u64,
     event: Event,
     asked: Event,
     ready: Ready,
-) -> Result<(Reply, Row), Refusal>
+) -> Result<Option<(Reply, Row)>, Refusal>
     requires asked { asked ≡ event }
-    ensures row { IfOk result (λ p. p.1 ≡ row pass event p.0) }
-    ensures some { IfOk result (λ p. gave_up p.0 ≡ false) }
-    ensures step { IfOk result (λ p. Steps core.old event p.0 core.new) }
+    requires whole { shelf.old.whole ≡ true }
+    requires kept { Kept J.setup core.old false shelf.old.rows }
+    ensures row { IfOk result (λ found. IfSome found (λ p. p.1 ≡ row pass event p.0)) }
+    ensures some { IfOk result (λ found. IfSome found (λ p. gave_up p.0 ≡ false)) }
+    ensures step { IfOk result (λ found. IfSome found (λ p. Steps core.old event p.0 core.new)) }
+    ensures shown { IfOk result (λ found. IfSome found (λ p.
+        shelf.new ≡ record { rows = shelf.old.rows ++ p.1 ∷ []; whole = true })) }
+    ensures lost { IfOk result (λ found. IfNone found (TookEvent core.old event core.new)) }
+    ensures not_shown { IfOk result (λ found. IfNone found (shelf.new.rows ≡ shelf.old.rows)) }
     ensures given { setup_of core.new ≡ setup_of core.old }
     ensures refused { IfErr result (λ why. IsUnchanged core.old core.new) }
+    ensures kept { IfErr result (λ why. shelf.new ≡ shelf.old) }
     ensures memory { IfErr result (λ why. why ≡ Memory) }
 {
-    let (reply, copy) = core.step_ready_with_copy(alloc, event, ready).into_both();
+    isolation();
+    timed_isolation();
+    let mut ready = ready;
+    let (reply, copy) = core
+        .step_ready_with_copy(alloc, event, &mut ready)
+        .into_both();
     if let Some(why) = want_in(&reply) {
         return Err(why);
     }
@@ -130,11 +203,14 @@ fn step(
         event: asked,
         reply: copy,
     };
-    Ok((reply, row))
+    if !show(rt, alloc, shelf, &row, ready) {
+        return Ok(None);
+    }
+    Ok(Some((reply, row)))
 }
 
 /// A refusal of an event that is let go.
-fn refuse(why: Refusal, _event: Event) -> Reply
+pub(crate) fn refuse(why: Refusal, _event: Event) -> Reply
     ensures { result ≡ Refused why }
 {
     Reply::Refused(why)
@@ -148,11 +224,13 @@ impl<J: Naming> Book<J> {
         calls: ledger::Book<J>,
         spare: Share<J>,
         log: Log<J>,
+        shelf: Shelf<J>,
     ) -> Book<J>
         requires core { IsNew J.setup core }
         requires calls { (calls.total ≡ 0) × (spare.parts ≡ 0) × (spare.amount ≡ 0) }
         requires log { (log.rows ≡ []) × (log.stopped ≡ false) }
-        ensures { result ≡ record { core = core; rows = [] } }
+        requires shelf { (shelf.rows ≡ []) × (shelf.whole ≡ true) }
+        ensures { result ≡ record { core = core; rows = []; stopped = false } }
     {
         Book {
             core,
@@ -160,36 +238,51 @@ impl<J: Naming> Book<J> {
             calls,
             spare,
             log,
+            shelf,
+            stopped: false,
         }
     }
 
-    /// Answers one event of a pass.
+    /// Answers one event of a pass. It may wait for readers of what was published before.
     ///
     /// The reply is the core's, and a row of the history has it, which is the last of the sure rows
-    /// of the pass. There is no row at 90 `Memory`, where nothing has changed. It is never 92
-    /// `Stopped`.
-    pub fn apply(&mut self, alloc: Global, pass: &mut Pass<J>, event: Event) -> Reply
+    /// of the pass, and is published. There is no row at 90 `Memory`, where memory was refused, and at
+    /// 92 `Stopped`, where the book was stopped before. At 90 nothing has changed, or the core had taken
+    /// the event and the book is stopped now. At 92 the pass knows that it is.
+    pub fn apply<R: Wait>(
+        &mut self,
+        rt: &R,
+        alloc: Global,
+        pass: &mut Pass<J>,
+        event: Event,
+    ) -> Reply
         ensures row { gave_up result ≡ false
             → self.new.rows ≡ self.old.rows ++ row pass.old.number event result ∷ [] }
         ensures step { gave_up result ≡ false → Steps self.old.core event result self.new.core }
         ensures reply { gave_up result ≡ false → IsModelReply J.setup self.old.rows event result }
         ensures counted { gave_up result ≡ false → pass.new ≡ answered pass.old self.new.rows }
-        ensures matches { Matches self.old.rows false pass.old }
+        ensures matches { Matches self.old.rows self.old.stopped pass.old }
         // The only pass knows all rows.
         ensures alone { J.parts ≡ 1 → pass.old.sure ≡ self.old.rows }
-        ensures no_row { result ≡ Refused Memory → self.new.rows ≡ self.old.rows }
+        ensures no_row { gave_up result ≡ true → self.new.rows ≡ self.old.rows }
         ensures memory { result ≡ Refused Memory → pass.new ≡ pass.old }
-        ensures unchanged { result ≡ Refused Memory → IsUnchanged self.old.core self.new.core }
-        ensures going { result ≢ Refused Stopped }
+        ensures unchanged { gave_up result ≡ true → KeepsCore self.old self.new }
+        ensures stopped { self.old.stopped ≡ true → result ≡ Refused Stopped }
+        ensures stays { self.old.stopped ≡ true → self.new ≡ self.old }
+        ensures only_then { result ≡ Refused Stopped → self.old.stopped ≡ true }
+        ensures told { result ≡ Refused Stopped → pass.new ≡ told_stopped pass.old }
+        ensures stops { Stops self.old self.new → result ≡ Refused Memory }
+        ensures taken { Stops self.old self.new → TookEvent self.old.core event self.new.core }
         ensures legal { IsLegal J.setup self.new.rows }
     {
-        self.apply_ready(alloc, pass, event, Ready::none(alloc))
+        self.apply_ready(rt, alloc, pass, event, Ready::none(alloc))
     }
 
     /// Answers one event of a pass as [`Book::apply`] does, with values that were made before. Whatever
     /// they are, they make no difference but that the core need not make them itself.
-    pub fn apply_ready(
+    pub fn apply_ready<R: Wait>(
         &mut self,
+        rt: &R,
         alloc: Global,
         pass: &mut Pass<J>,
         event: Event,
@@ -200,13 +293,18 @@ impl<J: Naming> Book<J> {
         ensures step { gave_up result ≡ false → Steps self.old.core event result self.new.core }
         ensures reply { gave_up result ≡ false → IsModelReply J.setup self.old.rows event result }
         ensures counted { gave_up result ≡ false → pass.new ≡ answered pass.old self.new.rows }
-        ensures matches { Matches self.old.rows false pass.old }
+        ensures matches { Matches self.old.rows self.old.stopped pass.old }
         // The only pass knows all rows.
         ensures alone { J.parts ≡ 1 → pass.old.sure ≡ self.old.rows }
-        ensures no_row { result ≡ Refused Memory → self.new.rows ≡ self.old.rows }
+        ensures no_row { gave_up result ≡ true → self.new.rows ≡ self.old.rows }
         ensures memory { result ≡ Refused Memory → pass.new ≡ pass.old }
-        ensures unchanged { result ≡ Refused Memory → IsUnchanged self.old.core self.new.core }
-        ensures going { result ≢ Refused Stopped }
+        ensures unchanged { gave_up result ≡ true → KeepsCore self.old self.new }
+        ensures stopped { self.old.stopped ≡ true → result ≡ Refused Stopped }
+        ensures stays { self.old.stopped ≡ true → self.new ≡ self.old }
+        ensures only_then { result ≡ Refused Stopped → self.old.stopped ≡ true }
+        ensures told { result ≡ Refused Stopped → pass.new ≡ told_stopped pass.old }
+        ensures stops { Stops self.old self.new → result ≡ Refused Memory }
+        ensures taken { Stops self.old self.new → TookEvent self.old.core event self.new.core }
         ensures legal { IsLegal J.setup self.new.rows }
     {
         isolation();
@@ -216,16 +314,27 @@ impl<J: Naming> Book<J> {
             history,
             calls,
             log,
+            shelf,
+            stopped,
             ..
         } = self;
         pass.compare(log);
         pass.audit(calls);
+        if *stopped {
+            return refuse(Refusal::Stopped, event);
+        }
         let Ok(asked) = hold(history, &event) else {
             return refuse(Refusal::Memory, event);
         };
-        let (reply, row) = match step(alloc, core, pass.number(), event, asked, ready) {
+        let number = pass.number();
+        let answered = match step(rt, alloc, core, shelf, number, event, asked, ready) {
             Ok(answered) => answered,
             Err(why) => return Reply::Refused(why),
+        };
+        let Some((reply, row)) = answered else {
+            *stopped = true;
+            log.stop();
+            return Reply::Refused(Refusal::Memory);
         };
         pass.add_row(calls, log, &row);
         push(history, row);
@@ -237,23 +346,28 @@ impl<J: Naming> Book<J> {
     ///
     /// # Errors
     ///
-    /// Those of [`Core::request`], which is not stopped.
+    /// - `Stopped` exactly where the book is stopped. The pass knows it then.
+    /// - Else those of [`Core::request`].
     pub fn request(
         &mut self,
         pass: &mut Pass<J>,
         user: &User,
         number: u16,
     ) -> Result<RunningJob, Refusal>
-        ensures value { IsAnswerTo (job_asked_for self.old.core user.now number) result }
-        ensures going { result ≢ Err Stopped }
-        ensures matches { Matches self.old.rows false pass.old }
+        ensures value { self.old.stopped ≡ false
+            → IsAnswerTo (job_asked_for self.old.core user.now number) result }
+        ensures stopped { self.old.stopped ≡ true → result ≡ Err Stopped }
+        ensures only_then { result ≡ Err Stopped → self.old.stopped ≡ true }
+        ensures matches { Matches self.old.rows self.old.stopped pass.old }
         // The only pass knows all rows.
         ensures alone { J.parts ≡ 1 → pass.old.sure ≡ self.old.rows }
-        ensures kept { pass.new ≡ pass.old }
+        ensures told { result ≡ Err Stopped → pass.new ≡ told_stopped pass.old }
+        ensures going { result ≢ Err Stopped → pass.new ≡ pass.old }
         ensures stays { self.new ≡ self.old }
         ensures legal { IsLegal J.setup self.old.rows }
         ensures given { setup_of self.old.core ≡ J.setup }
-        ensures reached { StandsFor J.setup self.old.core self.old.rows }
+        ensures reached { self.old.stopped ≡ false
+            → StandsFor J.setup self.old.core self.old.rows }
     {
         isolation();
         timed_isolation();
@@ -261,28 +375,47 @@ impl<J: Naming> Book<J> {
             core,
             calls,
             log,
+            stopped,
             ..
         } = self;
         pass.compare(log);
         pass.audit(calls);
+        if *stopped {
+            return Err(Refusal::Stopped);
+        }
         core.request(user, number)
     }
 
     /// Has the core keep the paths that a desk holds, or that a goal keeps which is planned or is being
-    /// built, and no others, as [`Core::sweep`] does. There is no row of it, and no reply changes.
+    /// built, and no others, as [`Core::sweep`] does, and then what is published. There is no row of it,
+    /// and no reply changes. It may wait for readers of what was published before.
     ///
     /// # Errors
     ///
-    /// - `Memory` only where memory was refused. Nothing has changed then.
-    pub fn sweep(&mut self, alloc: Global) -> Result<(), Refusal>
+    /// - `Stopped` exactly where the book is stopped. Nothing has changed then.
+    /// - `Memory` only where memory was refused. The core, or what is published, may not be swept then.
+    pub fn sweep<R: Wait>(&mut self, rt: &R, alloc: Global) -> Result<(), Refusal>
         ensures swept { OnOk result (stored_in self.new.core
             ≡ kept_at (is_held self.old.core) (stored_in self.old.core)) }
-        ensures kept { OnErr result (stored_in self.new.core ≡ stored_in self.old.core) }
+        ensures kept { OnErr result ((stored_in self.new.core ≡ stored_in self.old.core)
+            ⊎ (stored_in self.new.core
+            ≡ kept_at (is_held self.old.core) (stored_in self.old.core))) }
         ensures world { world_of self.new.core ≡ world_of self.old.core }
         ensures rows { self.new.rows ≡ self.old.rows }
-        ensures memory { IfErr result (λ e. e ≡ Memory) }
+        ensures stays { self.new.stopped ≡ self.old.stopped }
+        ensures stopped { self.old.stopped ≡ true → (result ≡ Err Stopped) × (self.new ≡ self.old) }
+        ensures refused { IfErr result (λ e. (e ≡ Memory)
+            ⊎ ((e ≡ Stopped) × (self.old.stopped ≡ true))) }
     {
-        self.core.sweep(alloc)
+        if self.stopped {
+            return Err(Refusal::Stopped);
+        }
+        self.core.sweep(alloc)?;
+        if self.shelf.sweep(rt) {
+            Ok(())
+        } else {
+            Err(Refusal::Memory)
+        }
     }
 
     /// The rows, the oldest first.
@@ -295,22 +428,50 @@ impl<J: Naming> Book<J> {
         self.history.as_slice()
     }
 
-    /// The core. It stands for the desks that the history's events reach.
+    /// The core. Unless the book is stopped, it stands for the desks that the history's events reach.
     pub fn core(&self) -> &Core
         ensures core { result.now ≡ self.now.core }
         ensures given { setup_of self.now.core ≡ J.setup }
-        ensures reached { StandsFor J.setup self.now.core self.now.rows }
+        ensures reached { self.now.stopped ≡ false
+            → StandsFor J.setup self.now.core self.now.rows }
     {
         &self.core
     }
 
-    /// The history. The passes are all that there are.
-    pub(crate) fn end(self, passes: Vec<Pass<J>>) -> History
+    /// Whether memory was refused once the core had taken an event. Then [`Book::apply`] answers 92.
+    pub fn is_stopped(&self) -> bool
+        ensures { result ≡ self.now.stopped }
+    {
+        self.stopped
+    }
+
+    /// All rows, as a pass may have seen them.
+    pub(crate) fn seen(&self) -> Beginning
+        ensures { (result.seen.log ≡ self.now.rows) × (result.seen.book ≡ J.book) }
+    {
+        self.shelf.seen()
+    }
+
+    /// Compares what a pass knows.
+    pub(crate) fn compare(&mut self, pass: &mut Pass<J>)
+        ensures matches { Matches self.old.rows self.old.stopped pass.old }
+        ensures sure { pass.new.sure ≡ pass.old.sure }
+        ensures calls { pass.new.calls ≡ pass.old.calls }
+        ensures number { pass.new.number ≡ pass.old.number }
+        ensures same { self.new ≡ self.old }
+    {
+        pass.compare(&mut self.log);
+    }
+
+    /// The history. The passes are all that there are. It waits for readers of what was published.
+    pub(crate) fn end<R: Wait>(self, rt: &R, passes: Vec<Seer<J>>) -> History
         requires { length passes.items ≡ J.parts }
         ensures rows { result.rows.items ≡ self.rows }
         ensures legal { IsLegal J.setup result.rows.items }
-        ensures count { length result.rows.items ≡ sum (map (λ p. p.calls) passes.items) }
-        ensures matches { All (Matches result.rows.items false) passes.items }
+        ensures count { length result.rows.items ≡ sum (map (λ p. p.caller.calls) passes.items) }
+        ensures stopped { result.stopped ≡ self.stopped }
+        ensures matches { All (λ p. Matches result.rows.items result.stopped p.caller) passes.items }
+        ensures seen { All (λ p. IsPrefix p.seen result.rows.items) passes.items }
     {
         isolation();
         timed_isolation();
@@ -320,24 +481,40 @@ impl<J: Naming> Book<J> {
             mut calls,
             spare,
             mut log,
+            shelf,
+            stopped,
         } = self;
-        let mut all = merged(spare, passes, &mut log);
+        let rows = shelf.seen();
+        let mut all = merged(rt, spare, passes, &mut log, &rows);
         calls.audit(&mut all);
-        History { rows: history }
+        shelf.take(rt);
+        History {
+            rows: history,
+            stopped,
+        }
     }
 }
 
 /// The parts of all passes, and those of a share that has none. What each pass knows is compared
-/// with what is recorded.
-fn merged<J: Naming>(mut all: Share<J>, mut passes: Vec<Pass<J>>, log: &mut Log<J>) -> Share<J>
-    requires { (all.parts ≡ 0) × (all.amount ≡ 0) }
+/// with what is recorded, and what it has seen with all rows.
+fn merged<J: Naming, R: Wait>(
+    rt: &R,
+    mut all: Share<J>,
+    mut passes: Vec<Seer<J>>,
+    log: &mut Log<J>,
+    rows: &Beginning,
+) -> Share<J>
+    requires all { (all.parts ≡ 0) × (all.amount ≡ 0) }
+    requires rows { rows.now.seen.book ≡ J.book }
     ensures parts { result.parts ≡ length passes.items }
-    ensures amount { result.amount ≡ sum (map (λ p. p.calls) passes.items) }
-    ensures matches { All (Matches log.old.rows log.old.stopped) passes.items }
+    ensures amount { result.amount ≡ sum (map (λ p. p.caller.calls) passes.items) }
+    ensures matches { All (λ p. Matches log.old.rows log.old.stopped p.caller) passes.items }
+    ensures seen { All (λ p. IsPrefix p.seen rows.now.seen.log) passes.items }
 {
-    while let Some(mut pass) = passes.pop() {
-        pass.compare(log);
-        all.merge(pass.into_calls());
+    while let Some(pass) = passes.pop() {
+        let mut caller = pass.into_caller(rt, rows);
+        caller.compare(log);
+        all.merge(caller.into_calls());
     }
     all
 }

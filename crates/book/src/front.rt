@@ -1,27 +1,35 @@
 //! What threads share.
 
-ghost use Rattle.std.specs.Prelude.{◌≡◌, ◌≢◌, ◌<◌, ◌≤◌, ◌++◌, ◌∷◌, [], false, length, map, sum, All, IfOk, IfErr, Err};
+ghost use Rattle.std.specs.Prelude.{◌≡◌, ◌≢◌, ◌<◌, ◌≤◌, ◌++◌, ◌∷◌, ◌⊎◌, [], true, false, drop, length, map, sum, All, IfOk, IfErr, Err};
 ghost use mathlib.Core.List.{IsPrefix};
+ghost use Rattle.left_right.specs.Sides.{view};
 ghost use Rattle.model.specs.declared.refusal.Refusal.TheVariants.{Memory, Stopped};
 ghost use Rattle.events.specs.declared.reply.Reply.TheVariants.{Refused};
-ghost use Rattle.book.specs.Keeping.{IsNew};
-ghost use Rattle.passes.specs.Callers.{newcomer, below, rows_of};
+ghost use Rattle.passes.specs.Callers.{told_stopped, below, rows_of, new_pass, with_caller};
 ghost use Rattle.passes.specs.Tokens.{nothing_recorded};
-ghost use Rattle.book.specs.Histories.{row, gave_up, IsLegal, IsAnswered};
+ghost use Rattle.passes.specs.Histories.{row, gave_up, IsLegal, IsAnswered};
+ghost use Rattle.snapshots.specs.Naming.{name_of};
+ghost use Rattle.snapshots.specs.Tied.{knower};
 ghost use Rattle.book.specs.Asking.{IsAsked, IsAskedAfter};
+ghost use Rattle.book.specs.Keeping.{IsNew};
 
-use crate::book::Book;
+use crate::book::{Book, refuse};
 use crate::history::History;
-use laws::kept_closures_are_good;
+use crate::pass::Pass;
+use crate::shelf::Shelf;
 use model::Refusal;
-use passes::{Blank, Log, Naming, Pass};
+use passes::{Beginning, Blank, Log, Naming, Pass as Caller};
 use schedule::{Core, Event, Ready, Reply, RunningJob, User};
+use snapshots::{Snapshot, SnapshotWriter, begin, reader_of};
 use std::alloc::Global;
 use std::sync::ledger::Share;
-use std::sync::{Mutex, Wait};
+use std::sync::{Mutex, MutexGuard, Wait};
 
-/// A core with the history of its calls, under a lock. Threads share it by reference, and each
-/// calls it through a [`Pass`] of its own.
+/// The most readers that there can be at once: one for each pass.
+const MOST_READERS: usize = 64;
+
+/// A core with the history of its calls, under a lock, and what is published of it. Threads share it by
+/// reference, and each calls it through a [`Pass`] of its own.
 pub struct Front<J: Naming> {
     book: Mutex<Book<J>>,
 }
@@ -32,16 +40,33 @@ impl<J: Naming> Drop for Front<J> {
     }
 }
 
-/// So many passes, each with a part of the count.
+/// While it lasts, no call is answered. Reads are.
+pub struct Hold<'a, J: Naming> {
+    _book: MutexGuard<'a, Book<J>>,
+}
+
+impl<J: Naming> Drop for Hold<'_, J> {
+    fn drop(self) {
+        let Hold { _book: _ } = self;
+    }
+}
+
+/// So many passes, each with a part of the count and a reader.
 fn passes_of<J: Naming>(
     alloc: Global,
     n: u64,
     all: &mut Share<J>,
     log: &mut Log<J>,
+    writer: &mut SnapshotWriter,
+    none: &Beginning,
 ) -> Result<Vec<Pass<J>>, Refusal>
     requires all { (all.old.parts ≡ n) × (all.old.amount ≡ 0) }
     requires log { log.old ≡ nothing_recorded }
-    ensures passes { IfOk result (λ passes. passes.items ≡ map newcomer (below n)) }
+    requires none { (none.now.seen.log ≡ []) × (none.now.seen.book ≡ J.book) }
+    requires knows { view writer.old.desk.place ≡ knower (name_of J.book J.setup) }
+    ensures passes { IfOk result (λ passes. passes.items ≡ map new_pass (below n)) }
+    ensures writer { (writer.new.desk.shown ≡ writer.old.desk.shown)
+        × (writer.new.log ≡ writer.old.log) × (writer.new.behind ≡ writer.old.behind) }
     ensures all { IfOk result (λ _. (all.new.parts ≡ 0) × (all.new.amount ≡ 0)) }
     ensures log { (log.new.rows ≡ []) × (log.new.stopped ≡ false) }
     ensures memory { IfErr result (λ why. why ≡ Memory) }
@@ -49,13 +74,44 @@ fn passes_of<J: Naming>(
     let mut passes = Vec::new(alloc);
     for number in 0..n {
         let calls = all.split_off(1, 0);
-        passes.push(Pass::new(number, calls, log.next_claim()))?;
+        let reader = reader_of(writer)?;
+        let caller = Caller::new(number, calls, log.next_claim());
+        passes.push(Pass::new(caller, none.again(), reader))?;
     }
     Ok(passes)
 }
 
+/// A writer of two new copies of a core, which is new.
+fn writer_of<J: Naming, R: Wait>(
+    rt: &R,
+    alloc: Global,
+    core: &Core,
+    none: &Beginning,
+) -> Result<SnapshotWriter, Refusal>
+    requires core { IsNew J.setup core.now }
+    requires none { (none.now.seen.log ≡ []) × (none.now.seen.book ≡ J.book) }
+    ensures rows { IfOk result (λ writer. writer.desk.shown.value.rows ≡ []) }
+    ensures name { IfOk result (λ writer.
+        writer.desk.shown.value.name ≡ name_of J.book J.setup) }
+    ensures ready { IfOk result (λ writer. drop writer.behind writer.log.items ≡ []) }
+    ensures knows { IfOk result (λ writer.
+        view writer.desk.place ≡ knower (name_of J.book J.setup)) }
+    ensures memory { IfErr result (λ why. why ≡ Memory) }
+{
+    let first = Snapshot::new(alloc, core.another(alloc)?, none.again());
+    let second = Snapshot::new(alloc, core.another(alloc)?, none.again());
+    let writer = SnapshotWriter::new(alloc, first, second, MOST_READERS)?;
+    let (writer, knows) = begin(rt, writer);
+    if knows {
+        return Ok(writer);
+    }
+    writer.take(rt);
+    Err(Refusal::Memory)
+}
+
 impl<J: Naming> Front<J> {
-    /// A front over a new core, and its passes, of the numbers 0 to n - 1.
+    /// A front over a new core, and its passes, of the numbers 0 to n - 1. It publishes two copies of the
+    /// core, so it may wait.
     ///
     /// The core is as [`Core::new`] gave it, and the front is named for its users and limits. There
     /// are 1 to 64 passes, and the blank has as many parts.
@@ -63,7 +119,8 @@ impl<J: Naming> Front<J> {
     /// # Errors
     ///
     /// - `Memory` only where memory was refused.
-    pub fn new(
+    pub fn new<R: Wait>(
+        rt: &R,
         alloc: Global,
         blank: Blank,
         core: Core,
@@ -73,43 +130,65 @@ impl<J: Naming> Front<J> {
         requires blank { (blank.calls.name ≡ J.name) × (blank.calls.parts ≡ J.parts) }
         requires parts { blank.calls.parts ≡ n }
         requires log { blank.log.table.shared.table_id ≡ J.table }
+        requires rows { blank.rows.seen.book ≡ J.book }
         requires some { (0 < n) × (n ≤ 64) }
-        ensures passes { IfOk result (λ made. made.1.items ≡ map newcomer (below n)) }
+        ensures passes { IfOk result (λ made. made.1.items ≡ map new_pass (below n)) }
         ensures memory { IfErr result (λ why. why ≡ Memory) }
     {
-        let Blank { calls, log } = blank;
+        let Blank { calls, log, rows } = blank;
         let (calls, mut all) = calls.open::<J>();
         let mut log = log.named::<J>();
-        let passes = passes_of(alloc, n, &mut all, &mut log)?;
-        let book = Book::new(alloc, core, calls, all, log);
-        let front = Front {
-            book: Mutex::new(book),
-        };
-        Ok((front, passes))
+        let (head, none) = rows.named::<J>();
+        let mut writer = writer_of::<J, R>(rt, alloc, &core, &none)?;
+        match passes_of(alloc, n, &mut all, &mut log, &mut writer, &none) {
+            Ok(passes) => {
+                let shelf = Shelf::new(head, none, writer);
+                let book = Book::new(alloc, core, calls, all, log, shelf);
+                let front = Front {
+                    book: Mutex::new(book),
+                };
+                Ok((front, passes))
+            }
+            Err(why) => {
+                writer.take(rt);
+                Err(why)
+            }
+        }
     }
 
-    /// Answers one event of a pass. It takes the lock, so it may wait.
+    /// Answers one event of a pass. It makes what the event needs ([`Pass::prepare`]), then takes the lock
+    /// ([`Front::commit`]), so it may wait.
     ///
-    /// The reply is that of [`Book::apply`]. After a call that has a row the sure rows of the pass
-    /// begin with the old ones, end with that row, and are legal; those of the only pass are the old
-    /// ones and that row. There is no row at 90 `Memory`, which leaves the pass as it was. The reply is
-    /// never 92 `Stopped`.
-    pub fn call(&self, rt: &impl Wait, alloc: Global, pass: &mut Pass<J>, event: Event) -> Reply
+    /// The reply is that of [`Book::apply`]. After a call that has a row the sure rows of the pass, which
+    /// are then what it has seen, begin with all that it had seen, end with that row, and are legal; those
+    /// of the only pass are the old ones and that row. There is no row at 90 `Memory`, which leaves what
+    /// the pass knows of its calls, and at 92 `Stopped`, after which the pass knows that the front is
+    /// stopped: each later call of it is answered 92, or 90 where memory is refused before the lock is
+    /// taken. What the pass has seen is only lengthened.
+    pub fn call<R: Wait>(&self, rt: &R, alloc: Global, pass: &mut Pass<J>, event: Event) -> Reply
         ensures answered { gave_up result ≡ false
             → IsAnswered J.setup pass.old event result pass.new }
-        ensures alone { gave_up result ≡ false → J.parts ≡ 1
-            → pass.new.sure ≡ pass.old.sure ++ row pass.old.number event result ∷ [] }
-        ensures memory { result ≡ Refused Memory → pass.new ≡ pass.old }
-        ensures going { result ≢ Refused Stopped }
+        ensures alone { gave_up result ≡ false → J.parts ≡ 1 → pass.new.caller.sure
+            ≡ pass.old.caller.sure ++ row pass.old.caller.number event result ∷ [] }
+        ensures memory { result ≡ Refused Memory → pass.new.caller ≡ pass.old.caller }
+        ensures stopped { result ≡ Refused Stopped
+            → pass.new.caller ≡ told_stopped pass.old.caller }
+        ensures remains { pass.old.caller.stopped ≡ true
+            → (result ≡ Refused Stopped) ⊎ (result ≡ Refused Memory) }
+        ensures seen { IsPrefix pass.old.seen pass.new.seen }
     {
-        self.commit(rt, alloc, pass, event, Ready::none(alloc))
+        match pass.prepare(&event) {
+            Ok(ready) => self.commit(rt, alloc, pass, event, ready),
+            Err(why) => refuse(why, event),
+        }
     }
 
-    /// Answers one event of a pass as [`Front::call`] does, with values that were made before. Whatever
-    /// they are, they make no difference but that less is done under the lock.
-    pub fn commit(
+    /// Answers one event of a pass under the lock, as [`Front::call`] does, with values that were made
+    /// before. Whatever they are, they make no difference but that less is done under the lock. A pass that
+    /// knows that the front is stopped is answered 92.
+    pub fn commit<R: Wait>(
         &self,
-        rt: &impl Wait,
+        rt: &R,
         alloc: Global,
         pass: &mut Pass<J>,
         event: Event,
@@ -117,12 +196,15 @@ impl<J: Naming> Front<J> {
     ) -> Reply
         ensures answered { gave_up result ≡ false
             → IsAnswered J.setup pass.old event result pass.new }
-        ensures alone { gave_up result ≡ false → J.parts ≡ 1
-            → pass.new.sure ≡ pass.old.sure ++ row pass.old.number event result ∷ [] }
-        ensures memory { result ≡ Refused Memory → pass.new ≡ pass.old }
-        ensures going { result ≢ Refused Stopped }
+        ensures alone { gave_up result ≡ false → J.parts ≡ 1 → pass.new.caller.sure
+            ≡ pass.old.caller.sure ++ row pass.old.caller.number event result ∷ [] }
+        ensures memory { result ≡ Refused Memory → pass.new.caller ≡ pass.old.caller }
+        ensures stopped { result ≡ Refused Stopped
+            → pass.new.caller ≡ told_stopped pass.old.caller }
+        ensures remains { pass.old.caller.stopped ≡ true → result ≡ Refused Stopped }
+        ensures seen { IsPrefix pass.old.seen pass.new.seen }
     {
-        self.book.lock(rt).apply_ready(alloc, pass, event, ready)
+        pass.call(rt, alloc, &mut *self.book.lock(rt), event, ready)
     }
 
     /// The job that a user's goal of a number leads, and what it is built from, for a pass. It takes
@@ -139,24 +221,52 @@ impl<J: Naming> Front<J> {
     /// They are looked for in this order, and all but the last are told whether there is memory or
     /// not.
     ///
+    /// - `Stopped` where the front is stopped. The pass knows it then: each later call of it is
+    ///   answered so too.
     /// - `UnknownUser`, `UnknownGoal` and `WrongState` where the user is none of the run, has no goal
     ///   of that number, or the goal leads no job that is built now.
     /// - `Memory` only where memory was refused.
-    pub fn request(
+    pub fn request<R: Wait>(
         &self,
-        rt: &impl Wait,
+        rt: &R,
         pass: &mut Pass<J>,
         user: &User,
         number: u16,
     ) -> Result<RunningJob, Refusal>
-        ensures asked { IsAsked J.setup pass.old user.now number result }
-        ensures alone { J.parts ≡ 1
-            → IsAskedAfter J.setup pass.old.sure user.now number result }
-        ensures kept { pass.new ≡ pass.old }
-        ensures going { result ≢ Err Stopped }
+        ensures asked { result ≢ Err Stopped
+            → IsAsked J.setup pass.old.caller user.now number result }
+        ensures alone { result ≢ Err Stopped → J.parts ≡ 1
+            → IsAskedAfter J.setup pass.old.caller.sure user.now number result }
+        ensures going { result ≢ Err Stopped → pass.new ≡ pass.old }
+        ensures stopped { result ≡ Err Stopped
+            → pass.new ≡ with_caller pass.old (told_stopped pass.old.caller) }
+        ensures remains { pass.old.caller.stopped ≡ true → result ≡ Err Stopped }
     {
-        kept_closures_are_good();
-        self.book.lock(rt).request(pass, user, number)
+        pass.request(&mut *self.book.lock(rt), user, number)
+    }
+
+    /// Takes the lock and adds no row. Then the first pass has seen all rows that the second is sure of.
+    pub fn meet<R: Wait>(&self, rt: &R, first: &mut Pass<J>, second: &mut Pass<J>)
+        ensures first_sure { first.new.caller.sure ≡ first.old.caller.sure }
+        ensures first_calls { first.new.caller.calls ≡ first.old.caller.calls }
+        ensures first_number { first.new.caller.number ≡ first.old.caller.number }
+        ensures first_seen { IsPrefix first.old.seen first.new.seen }
+        ensures second_sure { second.new.caller.sure ≡ second.old.caller.sure }
+        ensures second_calls { second.new.caller.calls ≡ second.old.caller.calls }
+        ensures second_number { second.new.caller.number ≡ second.old.caller.number }
+        ensures second_seen { IsPrefix second.old.seen second.new.seen }
+        ensures met { IsPrefix second.old.caller.sure first.new.seen }
+    {
+        let mut book = self.book.lock(rt);
+        first.show(&mut *book);
+        second.show(&mut *book);
+    }
+
+    /// Takes the lock until it is let go, and changes nothing.
+    pub fn hold<R: Wait>(&self, rt: &R) -> Hold<'_, J> {
+        Hold {
+            _book: self.book.lock(rt),
+        }
     }
 
     /// Gives back the trees that no desk holds and that no goal keeps which is planned or is being built,
@@ -165,29 +275,34 @@ impl<J: Naming> Front<J> {
     ///
     /// # Errors
     ///
-    /// - `Memory` only where memory was refused. Nothing has changed then.
-    pub fn sweep(&self, rt: &impl Wait, alloc: Global) -> Result<(), Refusal>
-        ensures { IfErr result (λ why. why ≡ Memory) }
+    /// - `Stopped` where the front is stopped.
+    /// - `Memory` only where memory was refused. Not all may be given back then.
+    pub fn sweep<R: Wait>(&self, rt: &R, alloc: Global) -> Result<(), Refusal>
+        ensures { IfErr result (λ why. (why ≡ Memory) ⊎ (why ≡ Stopped)) }
     {
-        self.book.lock(rt).sweep(alloc)
+        self.book.lock(rt).sweep(rt, alloc)
     }
 
     /// How many paths the core stores. It takes the lock, so it may wait.
-    pub fn stored(&self, rt: &impl Wait) -> u64 {
+    pub fn stored<R: Wait>(&self, rt: &R) -> u64 {
         self.book.lock(rt).core().stored()
     }
 
     /// The history. The passes are all that [`Front::new`] gave with the front, so it has a row for
-    /// each of their calls that was answered otherwise than with 90, and no other. It begins with the
-    /// sure rows of each pass.
-    pub fn close(self, passes: Vec<Pass<J>>) -> History
+    /// each of their calls that was answered otherwise than with 90 and 92, and no other. It begins
+    /// with the sure rows of each pass and with what it has seen, and says that the front was stopped if
+    /// one of them was told so. It waits for readers of what was published.
+    pub fn close<R: Wait>(self, rt: &R, passes: Vec<Pass<J>>) -> History
         requires { length passes.items ≡ J.parts }
         ensures legal { IsLegal J.setup result.rows.items }
-        ensures rows { length result.rows.items ≡ sum (map (λ p. p.calls) passes.items) }
-        ensures sure { All (λ p. IsPrefix p.sure result.rows.items) passes.items }
-        ensures each { All (λ p. rows_of p.number result.rows.items ≡ p.calls) passes.items }
+        ensures rows { length result.rows.items ≡ sum (map (λ p. p.caller.calls) passes.items) }
+        ensures sure { All (λ p. IsPrefix p.caller.sure result.rows.items) passes.items }
+        ensures seen { All (λ p. IsPrefix p.seen result.rows.items) passes.items }
+        ensures each { All (λ p. rows_of p.caller.number result.rows.items ≡ p.caller.calls)
+            passes.items }
+        ensures stopped { All (λ p. p.caller.stopped ≡ true → result.stopped ≡ true) passes.items }
     {
         let Front { book } = self;
-        book.into_inner().end(passes)
+        book.into_inner().end(rt, passes)
     }
 }

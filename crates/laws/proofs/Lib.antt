@@ -9,6 +9,7 @@ pub mod ClosureRequestLemmas
 pub mod GoalRequestLemmas
 pub mod EndRequestLemmas
 pub mod FailureLemmas
+pub mod QueryLemmas
 pub mod GoalLemmas
 pub mod ForgetRequestLemmas
 pub mod FitLemmas

@@ -1,6 +1,6 @@
 //! Laws over every list of events.
 
-ghost use Rattle.model.specs.Laws.{IsIsolated, IsTimelyIsolated, KnowledgeIsAdmitted, KnowledgeIsRecursive, NeverFails, TrustFollows};
+ghost use Rattle.model.specs.Laws.{IsIsolated, IsTimelyIsolated, KnowledgeIsAdmitted, KnowledgeIsRecursive, NeverFails, QueriesChangeNothing, TrustFollows};
 ghost use Rattle.model.specs.KeptClosures.{KeptClosuresAreGood, PlannedGoalsKeep};
 
 /// Whatever users outside his trust closure do, a user's replies are those that he would get
@@ -25,6 +25,11 @@ pub fn trust_follows()
 /// Private desks never refuse with 90 `Memory`, 91 `Clash` or 92 `Stopped`.
 pub fn never_fails()
     ensures { NeverFails }
+{}
+
+/// A query, which is `Status`, `Closure` or `Fetch`, leaves the desks of all as they are.
+pub fn queries_change_nothing()
+    ensures { QueriesChangeNothing }
 {}
 
 /// What a desk knows of each derivation was admitted by an event of its user: it is what the

@@ -5,7 +5,7 @@ use Rattle.model.specs.DerivationTexts.{derivation_of_text}
 use Rattle.model.specs.Classes.{Admission, Known, known_at, derivation_path, admission_of, has_all, admit}
 use Rattle.model.specs.Reach.{leads, is_among}
 use Rattle.model.specs.Worlds.{Setup, Source, Desk, World, nothing, known_of}
-use Rattle.model.specs.Events.{AddDerivation, Event}
+use Rattle.model.specs.Events.{AddDerivation, is_query, Event}
 use Rattle.model.specs.Replies.{is_failure}
 use Rattle.model.specs.Outcomes.{trusts}
 use Rattle.model.specs.Steps.{reply_to, after, world_after, replies}
@@ -46,6 +46,10 @@ TrustFollows = (setup : Setup) (w : World) (e : Event) (x y : List ℕ) → trus
 -- private desks never refuse for memory, for a clash of digests, or because the store is stopped
 abbrev pub NeverFails : Type 0
 NeverFails = (setup : Setup) (w : World) (e : Event) → is_failure (reply_to setup w e) ≡ false
+
+-- a query leaves the desks of all as they are
+abbrev pub QueriesChangeNothing : Type 0
+QueriesChangeNothing = (setup : Setup) (w : World) (e : Event) → is_query e.request ≡ true → after setup w e ≡ w
 
 -- the desk that a user has after events, from empty desks on
 abbrev pub desk_reached : Setup → List Event → List ℕ → Desk

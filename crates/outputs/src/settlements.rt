@@ -19,7 +19,7 @@ use derivation::Derivation;
 use model::Refusal;
 use nar::Tree;
 use records::Label;
-use std::alloc::Global;
+use std::alloc::{AllocError, Global};
 use storepath::StorePath;
 
 /// What came of a tree that was settled by an input, if it is among these.
@@ -62,6 +62,18 @@ impl Settlements {
             settled: Vec::new(alloc),
             computed: 0,
         }
+    }
+
+    /// A copy, of which none counts as settled since. It shares what is large. The one error is memory.
+    pub fn again(&self, alloc: Global) -> Result<Settlements, AllocError> {
+        let mut settled = Vec::with_capacity(alloc, self.settled.len())?;
+        for one in &self.settled {
+            settled.push(one.again(alloc)?)?;
+        }
+        Ok(Settlements {
+            settled,
+            computed: 0,
+        })
     }
 
     /// How many trees had to be settled; at the greatest number it stays there.

@@ -1,2 +1,4 @@
 pub mod Callers
 pub mod Tokens
+pub mod Beginnings
+pub mod Histories

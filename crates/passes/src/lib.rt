@@ -4,12 +4,14 @@
 //! which have no bytes: the [`Log`] lies under the lock, and each pass has a claim.
 #![tactic(auto)]
 
+mod beginning;
 mod log;
 mod naming;
 mod pass;
 mod row;
 
+pub use beginning::{Beginning, Empty, Head, Lengths};
 pub use log::{Blank, Claim, Log, Opened};
 pub use naming::Naming;
 pub use pass::Pass;
-pub use row::Row;
+pub use row::{Row, has_given_up};

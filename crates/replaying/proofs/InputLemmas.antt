@@ -17,7 +17,7 @@ use Rattle.session.specs.declared.ahead.Ahead.{Ahead}
 use Rattle.session.specs.Ahead.{NoUsersSoFar, LooksAhead}
 use Rattle.session.proofs.LineLemmas.{lines-newline, HasNoNewline-append}
 use Rattle.session.proofs.RowLemmas.{appends-none, appends-flushed, consumes-behind, consumes-none}
-use Rattle.passes.specs.Callers.{newcomer}
+use Rattle.replaying.specs.OnlyPass.{unasked}
 use Rattle.replaying.specs.Replaying.{AreOfOneStore, AreAnswered, LinksOnly, Served, ServedInPart, IsReadAhead, Replayed, ReplayedInPart}
 use Rattle.replaying.proofs.ReplayLemmas.{one_store}
 
@@ -124,10 +124,10 @@ pub nothing_served : (setup : Setup) (bytes : List ℕ) (rest blank : Option (Li
 nothing_served setup bytes rest blank why own = record {
   input = bytes ++ [];
   read = consumes-behind bytes rest rest [] (consumes-none rest);
-  first = newcomer 0;
-  last = newcomer 0;
+  first = unasked;
+  last = unasked;
   new = refl;
-  done = nothing_answered (LinksOnly setup) (newcomer 0) blank (bytes ++ []) (IsAtEnd rest) why own;
+  done = nothing_answered (LinksOnly setup) unasked blank (bytes ++ []) (IsAtEnd rest) why own;
 }
 
 -- nothing was answered, and nobody was named

@@ -1,22 +1,23 @@
 -- What is printed for a user where only the events are run that can reach him, beside what is printed where all are.
-use Rattle.std.proofs.Common.{◌≡◌, ℕ, Bool, true, false, inl, List, [], ◌∷◌, ◌++◌, map, Option, Some, None, refl, sym, ap, ◌∙◌, subst}
-use Rattle.std.specs.Prelude.{◌||◌, not, filter, All, Result, Ok, Err, IfOk}
+use Rattle.std.proofs.Common.{◌≡◌, ℕ, Bool, true, false, inl, inr, List, [], ◌∷◌, ◌++◌, map, Option, Some, None, refl, sym, ap, ◌∙◌, subst}
+use Rattle.std.proofs.Common.{append_assoc}
+use Rattle.std.specs.Prelude.{◌&&◌, ◌||◌, not, filter, Result, Ok, Err, IfOk}
 use Rattle.std.specs.Global.{Vec}
 use Rattle.std.specs.List.{list_any}
 use Rattle.std.proofs.lemmas.List.{append-nil}
-use Rattle.std.proofs.lemmas.List.Elements.{All-tail, All-head}
 use Rattle.model.specs.declared.mode.Mode.TheVariants.{Service}
 use Rattle.model.specs.declared.refusal.Refusal.{Refusal}
 use Rattle.model.specs.Paths.{NoClash}
 use Rattle.model.specs.Worlds.{Setup, nothing}
-use Rattle.model.specs.Events.{Event, Reply, Done, Path, Derivation, Content, Entries, GoalNumber, GoalState, Refused}
+use Rattle.model.specs.Events.{is_query, Event, Reply, Refused}
 use Rattle.model.specs.Steps.{answers, replies_to, replies}
-use Rattle.model.specs.Replies.{is_refusal, is_memory, is_memory_refusal, is_stopped_refusal, is_unrecorded}
+use Rattle.model.specs.Replies.{is_memory, is_unrecorded}
 use Rattle.model.specs.HashedTexts.{hashed}
 use Rattle.model.specs.Lines.{lines_of}
 use Rattle.model.specs.Reach.{is_among}
 use Rattle.model.specs.Talk as talk
 use Rattle.model.specs.Talk.{fresh, after_all, Talks, asked_in, users_in}
+use Rattle.model.proofs.BoolLemmas.{either}
 use Rattle.laws.proofs.TalkLemmas.{same_users, no_users}
 use Rattle.trust.specs.declared.user.User.{User}
 use Rattle.events.specs.declared.event.Event.{Event as AskedEvent}
@@ -25,40 +26,74 @@ use Rattle.events.specs.Terms.{event_of, answer_of}
 use Rattle.schedule.specs.Running.{HadMemory, IsRun}
 use Rattle.session.specs.Ahead.{LooksAhead}
 use Rattle.passes.specs.declared.row.Row.{Row}
-use Rattle.book.specs.Histories.{event_in, answer_in, events_of, answers_of, IsLegal}
+use Rattle.passes.specs.Histories.{event_in, answer_in, events_of, answers_of, IsLegal}
 use Rattle.replaying.specs.declared.first_run.FirstRun.{FirstRun}
-use Rattle.replaying.specs.Replaying.{pair_of, IsGoing, AreOfOneStore}
+use Rattle.replaying.specs.OnlyPass.{lacks_memory, says_stopped}
+use Rattle.replaying.specs.Replaying.{pair_of, StopsByMemory, AreOfOneStore}
 use Rattle.replaying.specs.Striking.{events_in, struck, numbers_of, text_for, lines_under, HadMemoryFor, HaveOneText, Rerun, IsStruck}
 use Rattle.replaying.specs.Recording.{IsFirstRun}
 use Rattle.replaying.proofs.StrikingLemmas.{answer_to, text-lines}
 
 -- ---- the first run
 
-both_not : (a b : Bool) → a ≡ false → b ≡ false → (a || b) ≡ false
-both_not a b e f = rw (e, f) refl
+or_front : (a b : Bool) → (a || b) ≡ false → a ≡ false
+or_front true b h = cc
+or_front false b h = refl
 
-is_recorded : (reply : Reply) → is_memory reply ≡ false → is_refusal is_stopped_refusal reply ≡ false → is_unrecorded reply ≡ false
-is_recorded Done m s = refl
-is_recorded (Path path) m s = refl
-is_recorded (Derivation path class) m s = refl
-is_recorded (Content tree) m s = refl
-is_recorded (Entries entries) m s = refl
-is_recorded (GoalNumber number) m s = refl
-is_recorded (GoalState state) m s = refl
-is_recorded (Refused why) m s = both_not (is_memory_refusal why) (is_stopped_refusal why) m s
+or_back : (a b : Bool) → (a || b) ≡ false → b ≡ false
+or_back true b h = cc
+or_back false b h = h
 
-first_not : (a b : Bool) → (a || b) ≡ false → (a ≡ false) × (b ≡ false)
-first_not true b e = cc
-first_not false b e = (refl, e)
+is_recorded : (reply : Reply) → is_memory reply ≡ false → says_stopped reply ≡ false → is_unrecorded reply ≡ false
+is_recorded (Refused why) m s = rw (m, s) refl
+is_recorded reply m s = refl
 
--- where memory was refused to none of the events, all are recorded
-all_recorded : (pairs : List (Event × Reply)) → list_any (λ p. is_memory p.1) pairs ≡ false → All IsGoing pairs
-    → filter (λ p. not (is_unrecorded p.1)) pairs ≡ pairs
-all_recorded [] m g = refl
-all_recorded (p ∷ pairs) m g =
-    let parts = first_not (is_memory p.1) (list_any (λ q. is_memory q.1) pairs) m in
-    let kept : not (is_unrecorded p.1) ≡ true = ap not (is_recorded p.1 parts.0 (All-head IsGoing p pairs g)) in
-    rw kept (ap (λ t. p ∷ t) (all_recorded pairs parts.1 (All-tail IsGoing p pairs g)))
+lacks_none : (other memory : Bool) → memory ≡ false → (not other && memory) ≡ false
+lacks_none true memory none = refl
+lacks_none false memory none = none
+
+-- memory was refused to none of some events
+abbrev HadMemoryIn : List (Event × Reply) → Type 0
+HadMemoryIn pairs = list_any (λ p. is_memory p.1) pairs ≡ false
+
+none_lacked : (pairs : List (Event × Reply)) → HadMemoryIn pairs → list_any (λ p. lacks_memory p.0 p.1) pairs ≡ false
+none_lacked [] m = refl
+none_lacked (p ∷ pairs) m =
+    rw (lacks_none (is_query p.0.request) (is_memory p.1) (or_front (is_memory p.1) (list_any (λ q. is_memory q.1) pairs) m))
+    (none_lacked pairs (or_back (is_memory p.1) (list_any (λ q. is_memory q.1) pairs) m))
+
+had_front : (before pairs : List (Event × Reply)) → HadMemoryIn (before ++ pairs) → HadMemoryIn before
+had_front [] pairs m = refl
+had_front (p ∷ before) pairs m =
+    rw (or_front (is_memory p.1) (list_any (λ q. is_memory q.1) (before ++ pairs)) m)
+    (had_front before pairs (or_back (is_memory p.1) (list_any (λ q. is_memory q.1) (before ++ pairs)) m))
+
+-- so none was told that the store is stopped
+none_stopped : (pairs before later : List (Event × Reply)) (event : Event) (reply : Reply) → StopsByMemory pairs → HadMemoryIn pairs
+    → pairs ≡ before ++ (event, reply) ∷ later → says_stopped reply ≡ false
+none_stopped pairs before later event reply stops memory cut = elim (either (says_stopped reply)) [
+  | inl says ↦
+      let lacked = (stops before later event reply cut says).cause in
+      let none = none_lacked before (had_front before ((event, reply) ∷ later) (subst HadMemoryIn cut memory)) in
+      let bad : true ≡ false = sym lacked ∙ none in
+      cc
+  | inr not_so ↦ not_so
+]
+
+-- and all are recorded, those behind some events too
+all_recorded_behind : (pairs before rest : List (Event × Reply)) → StopsByMemory pairs → HadMemoryIn pairs → HadMemoryIn rest → pairs ≡ before ++ rest
+    → filter (λ p. not (is_unrecorded p.1)) rest ≡ rest
+all_recorded_behind pairs before [] stops memory none cut = refl
+all_recorded_behind pairs before (p ∷ rest) stops memory none cut =
+    let going : says_stopped p.1 ≡ false = none_stopped pairs before rest p.0 p.1 stops memory cut in
+    let kept : not (is_unrecorded p.1) ≡ true = ap not (is_recorded p.1 (or_front (is_memory p.1) (list_any (λ q. is_memory q.1) rest) none) going) in
+    rw kept
+    (ap (λ t. p ∷ t)
+    (all_recorded_behind pairs (before ++ p ∷ []) rest stops memory (or_back (is_memory p.1) (list_any (λ q. is_memory q.1) rest) none)
+    (cut ∙ sym (append_assoc before (p ∷ []) rest))))
+
+all_recorded : (pairs : List (Event × Reply)) → StopsByMemory pairs → HadMemoryIn pairs → filter (λ p. not (is_unrecorded p.1)) pairs ≡ pairs
+all_recorded pairs stops memory = all_recorded_behind pairs [] pairs stops memory memory refl
 
 history_events : (history : List Row) → map (λ (p : Event × Reply). p.0) (map pair_of history) ≡ events_of history
 history_events [] = refl
@@ -81,7 +116,7 @@ module _ (setup : Setup) (user : List ℕ) (rows : List talk.Row) where
   first_replies timed one clean memory =
       let history = one.recorded.history in
       let pairs : map pair_of history ≡ asked_in rows =
-      one.recorded.is ∙ all_recorded (asked_in rows) memory one.going in
+      one.recorded.is ∙ all_recorded (asked_in rows) one.stopped memory in
       let events : events_of history ≡ events_in rows =
       sym (history_events history) ∙ ap (λ (t : List (Event × Reply)). map (λ p. p.0) t) pairs in
       let told : answers_of history ≡ map answer_to (asked_in rows) =

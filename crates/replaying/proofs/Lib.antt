@@ -1,3 +1,5 @@
+pub mod OnlyPassLemmas
+pub mod ReadRowLemmas
 pub mod ReplayLemmas
 pub mod InputLemmas
 pub mod WholeLemmas

@@ -14,7 +14,7 @@ use Rattle.session.specs.Serving.{Link}
 use Rattle.session.proofs.RowLemmas.{talks-more, after_all-more, chain-more, length-after_all}
 use Rattle.session.proofs.LineLemmas.{lines-newline, lines-last}
 use Rattle.session.proofs.FeedLemmas.{cut-line, cut-rest}
-use Rattle.passes.specs.Callers.{Caller}
+use Rattle.replaying.specs.OnlyPass.{Only, unasked}
 use Rattle.replaying.specs.Replaying.{LinksOnly}
 use Rattle.replaying.specs.Striking.{events_in, is_of, numbers_of}
 use Rattle.replaying.specs.Recording.{Keeps, AsksOn, AllAsked, IsFirstRun}
@@ -51,7 +51,7 @@ his_line user old new (Refuses why) his e h = next_of user old new [] his e h
 his_line user old new (Waits goals reply) his e h = next_of user old new [] his e h
 his_line user old new (Asks event reply) his e h = next_of user old new (event ∷ []) his e h
 
-module _ {A : Type 0} (setup : Setup) (store : A → Caller) (events : A → List ModelEvent) (lost : A → Bool) where
+module _ {A : Type 0} (setup : Setup) (store : A → Only) (events : A → List ModelEvent) (lost : A → Bool) where
   -- who answers as a store does, and keeps what is asked
   abbrev pub answers : A → ModelEvent → Reply → A → Type 0
   answers old event reply new = Keeps setup (store old) (events old) (lost old) event reply (store new) (events new) (lost new)
@@ -71,10 +71,10 @@ module _ {A : Type 0} (setup : Setup) (store : A → Caller) (events : A → Lis
   link_kept old new (Names users) h f = (ap store h, stays old new h)
   link_kept old new (Refuses why) h f = (ap store h, stays old new h)
   link_kept old new (Waits goals reply) h f = ((ap store h.0, h.1), stays old new h.0)
-  link_kept old new (Asks event reply) h f = (h.0, (h.1 f).1)
+  link_kept old new (Asks event reply) h f = let k = h f in (k.1, k.2)
 
 -- the same of who answered and who does then
-pub link_at : {A : Type 0} (old new : A) (setup : Setup) (store : A → Caller) (events : A → List ModelEvent) (lost : A → Bool) (row : Row)
+pub link_at : {A : Type 0} (old new : A) (setup : Setup) (store : A → Only) (events : A → List ModelEvent) (lost : A → Bool) (row : Row)
     → Link (answers setup store events lost) (waited setup store events lost) old row new → lost new ≡ false
     → LinksOnly setup (store old) row (store new) × (events new ≡ events old ++ events_in (row ∷ []))
 link_at old new setup store events lost row h f = link_kept setup store events lost old new row h f
@@ -91,14 +91,14 @@ his_at user old new items n row his same count e h =
 -- ---- all lines
 
 -- the first of all lines were asked, and the rest is left
-pub record SoFar (setup : Setup) (user : List ℕ) (all rest : List (List ℕ)) (seen : Seen) (old new : Caller) (events : List ModelEvent)
+pub record SoFar (setup : Setup) (user : List ℕ) (all rest : List (List ℕ)) (seen : Seen) (old new : Only) (events : List ModelEvent)
     (numbers : List ℕ) : Type 0 where
   pub done : List (List ℕ)
   pub asked : AllAsked setup user done old new events numbers
   pub seen_is : seen ≡ after_all (fresh Service) asked.rows
   pub cut : all ≡ done ++ rest
 
-pub none_asked : (setup : Setup) (user : List ℕ) (all : List (List ℕ)) (old : Caller) → SoFar setup user all all (fresh Service) old old [] []
+pub none_asked : (setup : Setup) (user : List ℕ) (all : List (List ℕ)) (old : Only) → SoFar setup user all all (fresh Service) old old [] []
 none_asked setup user all old = record {
   done = [];
   asked = record { rows = []; talks = tt; going = refl; links = refl; events_are = refl; numbers_are = refl };
@@ -107,14 +107,14 @@ none_asked setup user all old = record {
 }
 
 -- a new session has asked none
-pub begins : (setup : Setup) (user : List ℕ) (all : List (List ℕ)) (old : Caller) (seen : Seen) (events : List Event) (numbers : List ℕ)
+pub begins : (setup : Setup) (user : List ℕ) (all : List (List ℕ)) (old : Only) (seen : Seen) (events : List Event) (numbers : List ℕ)
     → seen ≡ fresh Service → events ≡ [] → numbers ≡ [] → SoFar setup user all all seen old old (map event_of events) numbers
 begins setup user all old seen events numbers new none no_number =
     subst (λ x. SoFar setup user all all x old old (map event_of events) numbers) (sym new)
     (subst (λ es. SoFar setup user all all (fresh Service) old old (map event_of es) numbers) (sym none)
     (subst (λ ns. SoFar setup user all all (fresh Service) old old [] ns) (sym no_number) (none_asked setup user all old)))
 
-module _ (setup : Setup) (user : List ℕ) (old : Caller) where
+module _ (setup : Setup) (user : List ℕ) (old : Only) where
   numbered : (rows : List Row) (row : Row) (seen' : Seen) (numbers numbers' : List ℕ) (his : Bool) → seen' ≡ after_all (fresh Service) (rows ++ row ∷ [])
       → numbers ≡ numbers_of user 1 rows → his ≡ is_of user row → numbers' ≡ numbers ++ (if his then length seen'.told ∷ [] else [])
       → numbers' ≡ numbers_of user 1 (rows ++ row ∷ [])
@@ -128,7 +128,7 @@ module _ (setup : Setup) (user : List ℕ) (old : Caller) where
       ∙ ap (λ (n : ℕ). numbers_of user 1 rows ++ (if is_of user row then n ∷ [] else [])) count
       ∙ sym (numbers-more user 1 rows row)
 
-  one_more : (all rest : List (List ℕ)) (line : List ℕ) (seen seen' : Seen) (mid new : Caller) (events events' : List ModelEvent) (numbers numbers' : List ℕ)
+  one_more : (all rest : List (List ℕ)) (line : List ℕ) (seen seen' : Seen) (mid new : Only) (events events' : List ModelEvent) (numbers numbers' : List ℕ)
       → SoFar setup user all (line ∷ rest) seen old mid events numbers → AsksOn setup user line seen seen' mid events numbers new events' numbers'
       → SoFar setup user all rest seen' old new events' numbers'
   one_more all rest line seen seen' mid new events events' numbers numbers' s h =
@@ -152,7 +152,7 @@ module _ (setup : Setup) (user : List ℕ) (old : Caller) where
       }
 
   -- the next line was asked
-  pub next_line : (all : List (List ℕ)) (rest line after : List ℕ) (seen seen' : Seen) (mid new : Caller) (events events' : List ModelEvent)
+  pub next_line : (all : List (List ℕ)) (rest line after : List ℕ) (seen seen' : Seen) (mid new : Only) (events events' : List ModelEvent)
       (numbers numbers' : List ℕ) → cut_at 10 rest ≡ Some (line, after) → SoFar setup user all (lines_of rest) seen old mid events numbers
       → AsksOn setup user line seen seen' mid events numbers new events' numbers' → SoFar setup user all (lines_of after) seen' old new events' numbers'
   next_line all rest line after seen seen' mid new events events' numbers numbers' cut s h =
@@ -161,18 +161,18 @@ module _ (setup : Setup) (user : List ℕ) (old : Caller) where
       let so_far = subst (λ t. SoFar setup user all t seen old mid events numbers) lines s in
       one_more all (lines_of after) line seen seen' mid new events events' numbers numbers' so_far h
 
-  all_done : (all : List (List ℕ)) (seen : Seen) (new : Caller) (events : List ModelEvent) (numbers : List ℕ)
+  all_done : (all : List (List ℕ)) (seen : Seen) (new : Only) (events : List ModelEvent) (numbers : List ℕ)
       → SoFar setup user all [] seen old new events numbers → AllAsked setup user all old new events numbers
   all_done all seen new events numbers s = subst (λ t. AllAsked setup user t old new events numbers) (sym (s.cut ∙ append-nil s.done)) s.asked
 
   -- nothing is left
-  pub all_lines : (all : List (List ℕ)) (rest : List ℕ) (seen : Seen) (new : Caller) (events : List ModelEvent) (numbers : List ℕ) → rest ≡ []
+  pub all_lines : (all : List (List ℕ)) (rest : List ℕ) (seen : Seen) (new : Only) (events : List ModelEvent) (numbers : List ℕ) → rest ≡ []
       → SoFar setup user all (lines_of rest) seen old new events numbers → AllAsked setup user all old new events numbers
   all_lines all rest seen new events numbers none s =
       all_done all seen new events numbers (subst (λ t. SoFar setup user all (lines_of t) seen old new events numbers) none s)
 
   -- the last line, which lacks its newline, was asked
-  pub last_line : (all : List (List ℕ)) (rest : List ℕ) (seen seen' : Seen) (mid new : Caller) (events events' : List ModelEvent)
+  pub last_line : (all : List (List ℕ)) (rest : List ℕ) (seen seen' : Seen) (mid new : Only) (events events' : List ModelEvent)
       (numbers numbers' : List ℕ) → cut_at 10 rest ≡ None → 0 < length rest → SoFar setup user all (lines_of rest) seen old mid events numbers
       → AsksOn setup user rest seen seen' mid events numbers new events' numbers' → AllAsked setup user all old new events' numbers'
   last_line all [] seen seen' mid new events events' numbers numbers' cut some s h = absurd (omega (arith, some))
@@ -184,7 +184,7 @@ module _ (setup : Setup) (user : List ℕ) (old : Caller) where
 -- ---- a first run
 
 -- lines that a pass which had made no call was asked are one store's
-pub first_of : (setup : Setup) (user : List ℕ) (lines : List (List ℕ)) (old new : Caller) (run : FirstRun) → old.sure ≡ []
+pub first_of : (setup : Setup) (user : List ℕ) (lines : List (List ℕ)) (old new : Only) (run : FirstRun) → old ≡ unasked
     → AllAsked setup user lines old new (map event_of run.events.items) run.numbers.items → IsFirstRun setup user lines run
 first_of setup user lines old new run none a = record {
   rows = a.rows;

@@ -1,12 +1,13 @@
 -- What the lines of a file mean for the store of the program.
-use Rattle.std.specs.Prelude.{◌≡◌, ◌⊎◌, true, false, not, ℕ, List, [], ◌++◌, map, filter, All, Option, option_map, MatchOption, take}
+use Rattle.std.specs.Prelude.{◌≡◌, ◌⊎◌, true, false, not, ℕ, List, [], ◌∷◌, ◌++◌, map, filter, All, Option, option_map, MatchOption, take}
+use Rattle.std.specs.List.{list_any}
 use mathlib.Core.List.{IsPrefix}
 use Rattle.std.specs.Io.KnownBytes.{Appends, Consumes, IsAtEnd}
 use Rattle.model.specs.declared.mode.Mode.TheVariants.{Service}
 use Rattle.model.specs.declared.refusal.Refusal.{Refusal}
 use Rattle.model.specs.declared.refusal.Refusal.TheVariants.{BadUsers, OutputFault}
-use Rattle.model.specs.Worlds.{Setup, Job}
-use Rattle.model.specs.Events.{Event, Reply, Done}
+use Rattle.model.specs.Worlds.{Setup}
+use Rattle.model.specs.Events.{is_query, Event, Reply}
 use Rattle.model.specs.Lines.{lines_of}
 use Rattle.model.specs.Talk as talk
 use Rattle.model.specs.Talk.{fresh, after_all, Talks, text_from, asked_in, users_in}
@@ -15,12 +16,11 @@ use Rattle.session.specs.Serving.{Link, Finished, EndedEarly, HasRefused}
 use Rattle.session.specs.declared.ahead.Ahead.{Ahead}
 use Rattle.session.specs.Ahead.{NoUsersSoFar, LooksAhead}
 use Rattle.passes.specs.declared.row.Row.{Row}
-use Rattle.book.specs.Histories.{event_in, IsLegal}
-use Rattle.passes.specs.Callers.{Caller}
-use Rattle.model.specs.Replies.{is_refusal, is_stopped_refusal, is_unrecorded}
-use Rattle.book.specs.Answering.{IsOnlyAnswer}
+use Rattle.passes.specs.Histories.{event_in, IsLegal}
+use Rattle.model.specs.Replies.{is_unrecorded}
+use Rattle.replaying.specs.OnlyPass.{Only, unasked, lacks_memory, says_stopped, IsOnlyAnswer, DoesNothing}
 
--- the events that the lines made, with their replies, but for those that were answered 90
+-- the events that the lines made, with their replies, but for those that were answered 90 or 92
 abbrev pub recorded_in : List talk.Row → List (Event × Reply)
 recorded_in rows = filter (λ p. not (is_unrecorded p.1)) (asked_in rows)
 
@@ -34,14 +34,23 @@ pub record IsOneHistory (setup : Setup) (pairs : List (Event × Reply)) : Type 0
   pub is : map pair_of history ≡ pairs
   pub legal : IsLegal setup history
 
--- a reply does not say that the store is stopped
-abbrev pub IsGoing : Event × Reply → Type 0
-IsGoing p = is_refusal is_stopped_refusal p.1 ≡ false
+-- what is so where an event was told that the store is stopped: it was no query; memory had been refused to an event before that was
+-- none; and each later event that is none was told 90 or 92
+pub record IsStopped (before : List (Event × Reply)) (event : Event) (later : List (Event × Reply)) : Type 0 where
+  pub called : is_query event.request ≡ false
+  pub cause : list_any (λ p. lacks_memory p.0 p.1) before ≡ true
+  pub remains : All (λ p. is_query p.0.request ≡ false → is_unrecorded p.1 ≡ true) later
 
--- one store answered all lines: one legal history has the events that were recorded, and it was never stopped
+-- a store is stopped by want of memory alone, and answers nothing but queries then
+abbrev pub StopsByMemory : List (Event × Reply) → Type 0
+StopsByMemory pairs = (before later : List (Event × Reply)) (event : Event) (reply : Reply) → pairs ≡ before ++ (event, reply) ∷ later
+    → says_stopped reply ≡ true → IsStopped before event later
+
+-- one store answered all lines: one legal history has the events that were recorded, queries among them where they were read, and the store
+-- was stopped by want of memory alone
 pub record AreOfOneStore (setup : Setup) (rows : List talk.Row) : Type 0 where
   pub recorded : IsOneHistory setup (recorded_in rows)
-  pub going : All IsGoing (asked_in rows)
+  pub stopped : StopsByMemory (asked_in rows)
 
 -- the replies are those of one store, for the users whom the lines name and under that charge; where they name none, no event was made
 abbrev pub AreAnswered : ℕ → List talk.Row → Type 0
@@ -71,12 +80,8 @@ pub record ReplayedInPart (charge : ℕ) (blank written : Option (List ℕ)) (li
 
 -- ---- on the way there
 
--- a wait does nothing, since no line of the service waits
-abbrev pub DoesNothing : Caller → List Job → Reply → Caller → Type 0
-DoesNothing old goals reply new = (new ≡ old) × (reply ≡ Done)
-
 -- what a row is to the one pass of a store
-abbrev pub LinksOnly : Setup → Caller → talk.Row → Caller → Type 0
+abbrev pub LinksOnly : Setup → Only → talk.Row → Only → Type 0
 LinksOnly setup = Link (IsOnlyAnswer setup) DoesNothing
 
 -- all that a reader gave was answered by a new store, through its one pass
@@ -84,18 +89,18 @@ pub record Served (setup : Setup) (start end blank written : Option (List ℕ)) 
   pub input : List ℕ
   pub read : Consumes start end input
   pub ended : IsAtEnd end
-  pub first : Caller
-  pub last : Caller
-  pub new : first.sure ≡ []
+  pub first : Only
+  pub last : Only
+  pub new : first ≡ unasked
   pub done : Finished Service (LinksOnly setup) first last blank written (lines_of input)
 
 -- the first lines of what it gave were
 pub record ServedInPart (setup : Setup) (start end blank written : Option (List ℕ)) (why : Refusal) : Type 0 where
   pub input : List ℕ
   pub read : Consumes start end input
-  pub first : Caller
-  pub last : Caller
-  pub new : first.sure ≡ []
+  pub first : Only
+  pub last : Only
+  pub new : first ≡ unasked
   pub done : EndedEarly Service (LinksOnly setup) first last blank written input (IsAtEnd end) why
 
 -- this was found by reading ahead in an input, of which that is left behind the bytes that were read

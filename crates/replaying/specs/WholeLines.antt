@@ -1,11 +1,11 @@
 -- What the lines of a file mean for the store of the program where its reader failed.
-use Rattle.std.specs.Prelude.{◌≡◌, ℕ, List, [], Option, Some}
+use Rattle.std.specs.Prelude.{◌≡◌, ℕ, List, Option, Some}
 use Rattle.std.specs.Io.KnownBytes.{Appends, Consumes}
 use Rattle.model.specs.declared.mode.Mode.TheVariants.{Service}
 use Rattle.model.specs.Worlds.{Setup}
 use Rattle.model.specs.Talk.{Row, text_from}
 use Rattle.session.specs.Serving.{WholeLines, AnsweredSoFar}
-use Rattle.passes.specs.Callers.{Caller}
+use Rattle.replaying.specs.OnlyPass.{Only, unasked}
 use Rattle.replaying.specs.Replaying.{AreAnswered, LinksOnly}
 
 -- so much of the file was read, but for what is left; the lines that were read whole were answered, and all of their text was written
@@ -23,7 +23,7 @@ pub record ReplayedSoFar (charge : ℕ) (blank written : Option (List ℕ)) (all
 pub record ServedSoFar (setup : Setup) (start end blank written : Option (List ℕ)) : Type 0 where
   pub input : List ℕ
   pub read : Consumes start end input
-  pub first : Caller
-  pub last : Caller
-  pub new : first.sure ≡ []
+  pub first : Only
+  pub last : Only
+  pub new : first ≡ unasked
   pub done : AnsweredSoFar Service (LinksOnly setup) first last blank written input

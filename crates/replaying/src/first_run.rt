@@ -18,6 +18,7 @@ use session::{Mode, Session};
 use std::alloc::Global;
 use std::hash::RandomState;
 use std::marker::Brand;
+use std::mem;
 use std::sync::Wait;
 
 /// What the lines of an input asked, and the numbers of those lines that made an event of one user.
@@ -123,10 +124,11 @@ fn ask_core<J: Naming, H: Wait>(
 ) -> Result<FirstRun, Refusal>
     requires blank { (blank.calls.name ≡ J.name) × (blank.calls.parts ≡ J.parts) × (blank.calls.parts ≡ 1) }
     requires log { blank.log.table.shared.table_id ≡ J.table }
+    requires rows { blank.rows.seen.book ≡ J.book }
     requires core { (setup_of core ≡ J.setup) × (world_of core ≡ nothing) × (stored_in core ≡ []) }
     ensures { IfOk result (λ run. IsFirstRun J.setup user.now (lines_of input.now) run) }
 {
-    let (front, mut passes) = Front::<J>::new(alloc, blank, core, 1)?;
+    let (front, mut passes) = Front::<J>::new(rt, alloc, blank, core, 1)?;
     let pass = passes.pop().unwrap();
     let mut recorder = Recorder {
         store: OnePass {
@@ -134,12 +136,13 @@ fn ask_core<J: Naming, H: Wait>(
             front,
             pass,
             sweeps: false,
+            has_lacked: false,
         },
         events: Vec::new(alloc),
         has_lost: false,
     };
     let numbers = ask_lines(alloc, &mut recorder, input, user)?;
-    let Recorder { events, .. } = recorder;
+    let events = mem::replace(&mut recorder.events, Vec::new(alloc));
     Ok(FirstRun { events, numbers })
 }
 

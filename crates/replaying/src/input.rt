@@ -40,6 +40,7 @@ fn serve_core<J: Naming, H: Wait, R: Read + Faults, W: Write + Faults>(
 ) -> Result<(), Refusal>
     requires blank { (blank.calls.name ≡ J.name) × (blank.calls.parts ≡ J.parts) × (blank.calls.parts ≡ 1) }
     requires log { blank.log.table.shared.table_id ≡ J.table }
+    requires rows { blank.rows.seen.book ≡ J.book }
     requires core { (setup_of core ≡ J.setup) × (world_of core ≡ nothing) × (stored_in core ≡ []) }
     ensures ok { OnOk result (Served J.setup
         (prepend_known bytes.now (R.remaining reader.old)) (R.remaining reader.new) (W.contents writer.old) (W.contents writer.new)) }
@@ -50,13 +51,14 @@ fn serve_core<J: Naming, H: Wait, R: Read + Faults, W: Write + Faults>(
     ensures errors { IfErr result (λ why. (why ≡ InputFault) ⊎ IsOwn why) }
     ensures output_fault { IfErr result (MayBeFault OutputFault (W.failed writer.old) (W.failed writer.new)) }
 {
-    let (front, mut passes) = Front::<J>::new(alloc, blank, core, 1)?;
+    let (front, mut passes) = Front::<J>::new(rt, alloc, blank, core, 1)?;
     let pass = passes.pop().unwrap();
     let mut store = OnePass {
         rt,
         front,
         pass,
         sweeps,
+        has_lacked: false,
     };
     let ended = serve_behind(alloc, Mode::Service, bytes, reader, writer, &mut store);
     mem::forget(store);
@@ -157,8 +159,8 @@ fn answer_input<H: Wait, R: Read + Faults, W: Write + Faults>(
 /// these limits, and writes the replies. What is written is flushed, whatever the end, but for a failure of
 /// the writer.
 ///
-/// Where it sweeps, what nobody holds is given back after each event, as far as there is memory to find it.
-/// What is promised of the text is the same.
+/// Where it sweeps, what nobody holds is given back after each event that is no query, as far as there is
+/// memory to find it. What is promised of the text is the same.
 ///
 /// # Errors
 ///

@@ -1,4 +1,5 @@
 mod StandLemmas
+mod MergeLemmas
 mod Sending
 mod WaitLemmas
 mod ServedLemmas

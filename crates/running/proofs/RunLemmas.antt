@@ -1,71 +1,75 @@
--- What a session calls through its pass stands in one history.
-use Rattle.std.proofs.Common.{◌≡◌, refl, sym, ◌∙◌, ap, subst, List, [], ◌∷◌, ◌++◌, ℕ, Option, Some, Result, Ok, Err}
+-- What a session calls and reads through its pass stands in one history.
+use Rattle.std.proofs.Common.{◌≡◌, refl, sym, subst, append_assoc, append-nil, List, [], ◌∷◌, ◌++◌, ℕ, Option, Result, Ok, Err}
 use Rattle.std.specs.Prelude.{MatchResult}
 use Rattle.model.specs.declared.refusal.Refusal.{Refusal}
 use Rattle.model.specs.Worlds.{Setup}
+use Rattle.model.specs.Laws.{IsIsolated, IsTimelyIsolated}
 use Rattle.model.specs.Talk as talk
-use Rattle.passes.specs.Callers.{Caller, newcomer}
+use Rattle.passes.specs.Callers.{Known, new_pass}
 use Rattle.workers.specs.Working.{Call}
-use Rattle.book.proofs.HistoryLemmas.{legal_none}
 use Rattle.session.specs.Serving.{Link, Chain}
-use Rattle.running.specs.declared.sessions.Output.{Output}
-use Rattle.running.specs.Calling.{IsCalled, StandIn}
-use Rattle.running.specs.Sessions.{Answers, Waits, Calls, Served, ServedInPart, Outputs}
+use Rattle.running.specs.Calling.{IsTold}
+use Rattle.running.specs.Sessions.{Answers, Waits, Calls, Served, ServedInPart}
 use Rattle.running.specs.Runs.{Makes, StandInOne, Ran, RanInPart}
-use Rattle.running.proofs.StandLemmas.{stand_same, stand_further, call_stands}
+use Rattle.running.proofs.MergeLemmas.{HasCalled, called_none, called_more}
 
-module _ (setup : Setup) where
+module _ (setup : Setup) (isolated : IsIsolated) (timed : IsTimelyIsolated) (number : ℕ) where
   -- a row is a call, or the calls of a wait, or none
-  abbrev RowLink : Caller → talk.Row → Caller → Type 0
-  RowLink = Link (Answers (IsCalled setup)) (Waits (IsCalled setup))
+  abbrev RowLink : Known → talk.Row → Known → Type 0
+  RowLink = Link (Answers (IsTold setup)) (Waits (IsTold setup))
+
+  -- what the pass of a session has called
+  abbrev Has : List Call → Known → Type 0
+  Has = HasCalled setup number
+
+  -- no call more
+  same_pass : (done : List Call) (old new : Known) → new ≡ old → Has done old → Has done new
+  same_pass done old new same has = subst (Has done) (sym same) has
 
   -- calls of one wait
-  calls_stand : (calls : List Call) (old new : Caller) → Calls (IsCalled setup) old calls new → StandIn setup old calls new
-  calls_stand [] old new same = stand_same setup old new same
-  calls_stand (c ∷ cs) old new chain =
-      stand_further setup old chain.0 new (c ∷ []) cs (call_stands setup old chain.0 c.0 c.1 chain.1) (calls_stand cs chain.0 new chain.2)
-
-  -- a row that makes no call
-  silent : (rows : List talk.Row) (old between new : Caller) → between ≡ old
-      → ((calls : List Call) × Makes rows calls × StandIn setup between calls new) → (calls : List Call) × Makes rows calls × StandIn setup old calls new
-  silent rows old between new same rest = (rest.0, rest.1, stand_further setup old between new [] rest.0 (stand_same setup old between same) rest.2)
+  calls_stand : (calls done : List Call) (old new : Known) → Calls (IsTold setup) old calls new → Has done old → Has (done ++ calls) new
+  calls_stand [] done old new same has = subst (λ (cs : List Call). Has cs new) (sym (append-nil done)) (same_pass done old new same has)
+  calls_stand (c ∷ cs) done old new chain has =
+      subst (λ (ds : List Call). Has ds new) (append_assoc done (c ∷ []) cs)
+      (calls_stand cs (done ++ c ∷ []) chain.0 new chain.2 (called_more setup isolated timed number done old has c.0 c.1 chain.0 chain.1))
 
   -- the calls of all rows
-  rows_stand : (rows : List talk.Row) (old new : Caller) → Chain RowLink old rows new → (calls : List Call) × Makes rows calls × StandIn setup old calls new
-  rows_stand [] old new same = ([], refl, stand_same setup old new same)
-  rows_stand (talk.Silent ∷ rows) old new chain = silent rows old chain.0 new chain.1 (rows_stand rows chain.0 new chain.2)
-  rows_stand (talk.Names users ∷ rows) old new chain = silent rows old chain.0 new chain.1 (rows_stand rows chain.0 new chain.2)
-  rows_stand (talk.Refuses why ∷ rows) old new chain = silent rows old chain.0 new chain.1 (rows_stand rows chain.0 new chain.2)
-  rows_stand (talk.Asks event reply ∷ rows) old new chain =
-      let rest = rows_stand rows chain.0 new chain.2 in
-      let call = chain.1 in (
+  rows_stand : (rows : List talk.Row) (done : List Call) (old new : Known) → Chain RowLink old rows new → Has done old → (calls : List Call) × Makes rows calls × Has (done ++ calls) new
+  rows_stand [] done old new same has = ([], refl, calls_stand [] done old new same has)
+  rows_stand (talk.Silent ∷ rows) done old new chain has = rows_stand rows done chain.0 new chain.2 (same_pass done old chain.0 chain.1 has)
+  rows_stand (talk.Names users ∷ rows) done old new chain has = rows_stand rows done chain.0 new chain.2 (same_pass done old chain.0 chain.1 has)
+  rows_stand (talk.Refuses why ∷ rows) done old new chain has = rows_stand rows done chain.0 new chain.2 (same_pass done old chain.0 chain.1 has)
+  rows_stand (talk.Asks event reply ∷ rows) done old new chain has =
+      let call = chain.1 in
+      let one : List Call = (call.0, call.1) ∷ [] in
+      let rest = rows_stand rows (done ++ one) chain.0 new chain.2 (called_more setup isolated timed number done old has call.0 call.1 chain.0 call.4) in (
         (call.0, call.1) ∷ rest.0,
         (call.0, call.1, rest.0, refl, call.2, call.3, rest.1),
-        stand_further setup old chain.0 new ((call.0, call.1) ∷ []) rest.0 (call_stands setup old chain.0 call.0 call.1 call.4) rest.2,
+        subst (λ (ds : List Call). Has ds new) (append_assoc done one rest.0) rest.2,
       )
-  rows_stand (talk.Waits goals reply ∷ rows) old new chain =
-      let rest = rows_stand rows chain.0 new chain.2 in
-      let wait = chain.1 in (
+  rows_stand (talk.Waits goals reply ∷ rows) done old new chain has =
+      let wait = chain.1 in
+      let rest = rows_stand rows (done ++ wait.0) chain.0 new chain.2 (calls_stand wait.0 done old chain.0 wait.2 has) in (
         wait.0 ++ rest.0,
         (wait.0, rest.0, refl, wait.1, rest.1),
-        stand_further setup old chain.0 new wait.0 rest.0 (calls_stand wait.0 old chain.0 wait.2) rest.2,
+        subst (λ (ds : List Call). Has ds new) (append_assoc done wait.0 rest.0) rest.2,
       )
 
   -- from a pass that has made no call
-  one_history : (number : ℕ) (rows : List talk.Row) (last : Caller) → Chain RowLink (newcomer number) rows last → StandInOne setup rows
-  one_history number rows last chain =
-      let all = rows_stand rows (newcomer number) last chain in
+  one_history : (rows : List talk.Row) (last : Known) → Chain RowLink (new_pass number) rows last → StandInOne setup rows
+  one_history rows last chain =
+      let all = rows_stand rows [] (new_pass number) last chain (called_none setup number) in
       record {
         number = number;
         calls = all.0;
         makes = all.1;
-        history = last.sure;
+        history = all.2.history;
         own = all.2.own;
-        legal = all.2.legal (legal_none setup);
+        legal = all.2.stands.legal;
       }
 
-  ran : (number : ℕ) (start : Option (List ℕ)) (text : List ℕ) → Served (IsCalled setup) (newcomer number) start text → Ran setup start text
-  ran number start text served = record {
+  ran : (start : Option (List ℕ)) (text : List ℕ) → Served (IsTold setup) (new_pass number) start text → Ran setup start text
+  ran start text served = record {
     input = served.input;
     end = served.end;
     read = served.read;
@@ -74,12 +78,12 @@ module _ (setup : Setup) where
     talks = served.done.talks;
     going = served.done.going;
     text = served.done.text;
-    stand = one_history number served.done.rows served.last served.done.chain;
+    stand = one_history served.done.rows served.last served.done.chain;
   }
 
-  ran_in_part : (number : ℕ) (start : Option (List ℕ)) (text : List ℕ) (why : Refusal) → ServedInPart (IsCalled setup) (newcomer number) start text why
+  ran_in_part : (start : Option (List ℕ)) (text : List ℕ) (why : Refusal) → ServedInPart (IsTold setup) (new_pass number) start text why
       → RanInPart setup start text why
-  ran_in_part number start text why served = record {
+  ran_in_part start text why served = record {
     input = served.input;
     end = served.end;
     read = served.read;
@@ -91,11 +95,11 @@ module _ (setup : Setup) where
     text = served.done.text;
     users = served.done.users;
     told = served.done.told;
-    stand = one_history number served.done.rows served.last served.done.chain;
+    stand = one_history served.done.rows served.last served.done.chain;
   }
 
-  pub output_ran : (number : ℕ) (start : Option (List ℕ)) (ended : Result (Unit {0}) Refusal) (text : List ℕ)
-      → MatchResult ended (λ _. Served (IsCalled setup) (newcomer number) start text) (ServedInPart (IsCalled setup) (newcomer number) start text)
+  pub output_ran : (start : Option (List ℕ)) (ended : Result (Unit {0}) Refusal) (text : List ℕ)
+      → MatchResult ended (λ _. Served (IsTold setup) (new_pass number) start text) (ServedInPart (IsTold setup) (new_pass number) start text)
       → MatchResult ended (λ _. Ran setup start text) (RanInPart setup start text)
-  output_ran number start (Ok _) text served = ran number start text served
-  output_ran number start (Err why) text served = ran_in_part number start text why served
+  output_ran start (Ok _) text served = ran start text served
+  output_ran start (Err why) text served = ran_in_part start text why served

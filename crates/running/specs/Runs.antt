@@ -14,7 +14,7 @@ use Rattle.events.specs.declared.reply.Reply.{Reply}
 use Rattle.events.specs.Terms.{event_of, reply_of}
 use Rattle.passes.specs.declared.row.Row.{Row}
 use Rattle.workers.specs.Working.{Call}
-use Rattle.book.specs.Histories.{IsLegal}
+use Rattle.passes.specs.Histories.{IsLegal}
 use Rattle.session.specs.Serving.{HasRefused}
 use Rattle.running.specs.declared.sessions.Output.{Output}
 use Rattle.running.specs.declared.sessions.Part.{Part}

@@ -7,17 +7,17 @@ ghost use Rattle.model.specs.Worlds.{are_users};
 ghost use Rattle.model.specs.declared.refusal.Refusal.TheVariants.{Memory, Quota};
 ghost use Rattle.schedule.specs.Standing.{setup_for};
 ghost use Rattle.book.specs.Keeping.{IsNew};
-ghost use Rattle.running.specs.Calling.{IsCalled};
+ghost use Rattle.running.specs.Calling.{IsTold};
 ghost use Rattle.running.specs.Sessions.{Outputs, CannotBegin, kept_fault};
 ghost use Rattle.running.specs.Desks.{IsUnused, AreUnused, IsDeskOf, AreDesksOf, AllOutputs};
 ghost use Rattle.running.specs.Runs.{AreOutputs};
 
 use crate::crews::{Crew, start_building};
-use crate::rounds::SharedWorker;
-use crate::shared::SharedStore;
+use crate::shared::SessionStore;
 use crate::waiting::Station;
 use book::{Blank, Front, Naming, Pass};
 use crossbeam_channel::bounded;
+use laws::{isolation, timed_isolation};
 use model::{Mode, Refusal};
 use schedule::{Core, Limits, User};
 use session::{Counted, Faults, serve_behind};
@@ -59,8 +59,11 @@ struct Desk<S: Drop, Q: Drop, I: Drop> {
     reader: I,
 }
 
+/// A worker of such a session.
+type SessionWorker<'a, J, R, Q> = Worker<SessionStore<'a, J, R>, Q>;
+
 /// The desk of a session that shares a front with others.
-type SharedDesk<'a, J, R, Q, I> = Desk<SharedStore<'a, J, R>, Q, I>;
+type SharedDesk<'a, J, R, Q, I> = Desk<SessionStore<'a, J, R>, Q, I>;
 
 /// How a session ended whose text is kept in memory: what could not be written found none.
 fn kept_end(ended: Result<(), Refusal>) -> Result<(), Refusal>
@@ -168,7 +171,7 @@ fn serve_all<
     Q: Runner + Send + Drop,
     I: Read + Faults + Send + Drop,
 >(rt: &R, alloc: Global, desks: Vec<SharedDesk<'a, J, R, Q, I>>) -> Result<Vec<Output>, Refusal>
-    ensures outputs { IfOk result (λ outputs. AllOutputs (IsCalled J.setup) I.remaining desks.entry.items outputs.items) }
+    ensures outputs { IfOk result (λ outputs. AllOutputs (IsTold J.setup) I.remaining desks.entry.items outputs.items) }
     ensures memory { IfErr result (λ why. why ≡ Memory) }
 {
     all_at_once(rt, alloc, desks)
@@ -194,7 +197,7 @@ fn workers_with<'a, J: Naming, R: Wait, Q: Runner + Drop>(
     front: &'a Front<J>,
     passes: &mut Vec<Pass<J>>,
     runners: Vec<Q>,
-) -> Result<Vec<SharedWorker<'a, J, R, Q>>, Refusal>
+) -> Result<Vec<SessionWorker<'a, J, R, Q>>, Refusal>
     requires { AreUnused passes.old.items }
     ensures left { AreUnused passes.new.items }
     ensures why { IfErr result CannotBegin }
@@ -202,7 +205,7 @@ fn workers_with<'a, J: Naming, R: Wait, Q: Runner + Drop>(
     let mut workers = Vec::new(alloc);
     for runner in runners {
         let pass = next_pass(passes)?;
-        let store = SharedStore { rt, front, pass };
+        let store = SessionStore { rt, front, pass };
         workers.push(Worker { store, runner })?;
     }
     Ok(workers)
@@ -228,7 +231,7 @@ fn desk_for<'a, J: Naming, R: Wait, Q: Runner + Drop, I: Drop>(
     } = part;
     let pass = next_pass(passes)?;
     let workers = workers_with(rt, alloc, front, passes, runners)?;
-    let store = SharedStore { rt, front, pass };
+    let store = SessionStore { rt, front, pass };
     Ok(Desk {
         store,
         workers,
@@ -287,12 +290,15 @@ fn run_core<
 ) -> Result<Vec<Output>, Refusal>
     requires blank { (blank.calls.name ≡ J.name) × (blank.calls.parts ≡ J.parts) × (blank.calls.parts ≡ count) }
     requires log { blank.log.table.shared.table_id ≡ J.table }
+    requires rows { blank.rows.seen.book ≡ J.book }
     requires core { IsNew J.setup core }
     requires some { (0 < count) × (count ≤ 64) }
     ensures outputs { IfOk result (λ outputs. AreOutputs J.setup I.remaining parts.items outputs.items) }
     ensures why { IfErr result CannotBegin }
 {
-    let (front, passes) = Front::<J>::new(alloc, blank, core, count)?;
+    isolation();
+    timed_isolation();
+    let (front, passes) = Front::<J>::new(rt, alloc, blank, core, count)?;
     let desks = desks_for(rt, alloc, &front, passes, parts)?;
     let outputs = serve_all(rt, alloc, desks);
     mem::forget(front);

@@ -1,9 +1,15 @@
 //! A store that workers share: a front, called through a pass.
 
+ghost use Rattle.std.specs.Prelude.{◌≡◌, false};
+ghost use Rattle.model.specs.Events.{is_query};
+ghost use Rattle.events.specs.Terms.{request_of};
+ghost use Rattle.schedule.specs.Queries.{event_for};
+ghost use Rattle.running.specs.Calling.{IsTold};
+
 use book::{Front, Naming, Pass};
 use leading::RunningJob;
 use model::Refusal;
-use schedule::{Event, Reply, User};
+use schedule::{Event, Query, Reply, User};
 use std::alloc::Global;
 use std::marker::Model;
 use std::sync::Wait;
@@ -24,9 +30,9 @@ pub struct SharedStore<'a, J: Naming, R: Wait> {
 impl<'a, J: Naming, R: Wait> Model for SharedStore<'a, J, R> {
     ghost use Rattle.std.specs.Coded.{codes};
     ghost use Rattle.model.specs.TreeCode.{tree_code};
-    ghost use Rattle.passes.specs.Callers.{Caller};
+    ghost use Rattle.passes.specs.Callers.{Known};
 
-    ghost Value = { Caller };
+    ghost Value = { Known };
 
     ghost coded = { Prim.hlevel (codes, tree_code) };
 
@@ -43,10 +49,78 @@ impl<J: Naming, R: Wait> Store for SharedStore<'_, J, R> {
     ghost asked = { λ old user number told new. IsAskedBy J.setup old user number told new };
 
     fn call(&mut self, alloc: Global, event: Event) -> Reply {
+        self.pass.sure_rows_are_seen();
         self.pass.rows_are_counted();
         let reply = self.front.call(self.rt, alloc, &mut self.pass, event);
         self.pass.rows_are_counted();
         reply
+    }
+
+    fn running_job(&mut self, user: &User, number: u16) -> Result<RunningJob, Refusal> {
+        self.front.request(self.rt, &mut self.pass, user, number)
+    }
+}
+
+/// A front that threads share, and the pass of a session. What is only read is answered from what is
+/// published, and waits for nobody.
+#[derive(Drop)]
+pub(crate) struct SessionStore<'a, J: Naming, R: Wait> {
+    /// What waits for the lock.
+    pub(crate) rt: &'a R,
+    /// What is shared.
+    pub(crate) front: &'a Front<J>,
+    /// What it is called through.
+    pub(crate) pass: Pass<J>,
+}
+
+/// Contracts see it as its pass.
+impl<'a, J: Naming, R: Wait> Model for SessionStore<'a, J, R> {
+    ghost use Rattle.std.specs.Coded.{codes};
+    ghost use Rattle.model.specs.TreeCode.{tree_code};
+    ghost use Rattle.passes.specs.Callers.{Known};
+
+    ghost Value = { Known };
+
+    ghost coded = { Prim.hlevel (codes, tree_code) };
+
+    ghost view = { λ s. s.pass };
+}
+
+/// Answers a query from what is published.
+fn read<J: Naming>(pass: &mut Pass<J>, query: Query) -> Reply
+    ensures { IsTold J.setup pass.old (event_for query) result pass.new }
+{
+    pass.read(query)
+}
+
+/// Hands an event that is no query to a front.
+fn call<J: Naming, R: Wait>(
+    rt: &R,
+    alloc: Global,
+    front: &Front<J>,
+    pass: &mut Pass<J>,
+    event: Event,
+) -> Reply
+    requires { is_query (request_of event.request) ≡ false }
+    ensures { IsTold J.setup pass.old event result pass.new }
+{
+    front.call(rt, alloc, pass, event)
+}
+
+/// What is only read is so after rows that the pass has seen then, and each other event that is answered
+/// has a row of the pass in the history.
+impl<J: Naming, R: Wait> Store for SessionStore<'_, J, R> {
+    ghost use Rattle.running.specs.Calling.{IsTold, IsAskedBy};
+
+    ghost called = { λ old event reply new. IsTold J.setup old event reply new };
+
+    ghost asked = { λ old user number told new. IsAskedBy J.setup old user number told new };
+
+    fn call(&mut self, alloc: Global, event: Event) -> Reply {
+        match Query::of(event) {
+            Ok(query) => read(&mut self.pass, query),
+            Err(event) => call(self.rt, alloc, self.front, &mut self.pass, event),
+        }
     }
 
     fn running_job(&mut self, user: &User, number: u16) -> Result<RunningJob, Refusal> {

@@ -6,6 +6,8 @@
 
 mod holding;
 mod preparing;
+mod query;
+mod reads;
 mod requests;
 mod running;
 mod runs;
@@ -18,6 +20,7 @@ mod work;
 
 pub use events::{CopiedReply, Event, Output, Reply, Request};
 pub use leading::RunningJob;
+pub use query::{Query, Question};
 pub use realise::{LARGEST_CHARGE, Limits};
 pub use runs::run;
 pub use state::Core;

@@ -4,7 +4,7 @@ ghost use Rattle.std.specs.Prelude.{◌≡◌};
 
 use moving::Cache;
 use outputs::{Settlements, Sources};
-use std::alloc::Global;
+use std::alloc::{AllocError, Global};
 
 /// What a step is done with: paths of sources, settled trees and repaired records that were made
 /// before. Each names all that it was made of, and is used only where that is at hand; else the step
@@ -61,9 +61,23 @@ impl Ready {
         Ready { work }
     }
 
+    /// A copy of the paths of sources and of the settled trees. It shares what is large.
+    ///
+    /// # Errors
+    ///
+    /// - `AllocError` only where memory was refused.
+    pub fn again(&self, alloc: Global) -> Result<Ready, AllocError> {
+        Ok(Ready {
+            work: Work {
+                sources: self.work.sources.again(alloc)?,
+                settlements: self.work.settlements.again(alloc)?,
+                cache: Cache::none(alloc),
+            },
+        })
+    }
+
     /// The values.
-    pub(crate) fn into_work(self) -> Work {
-        let Ready { work } = self;
-        work
+    pub(crate) fn work(&mut self) -> &mut Work {
+        &mut self.work
     }
 }

@@ -4,7 +4,7 @@
 //! - `CALL ARGUMENT` runs a call.
 
 use crate::answer::Answer;
-use crate::{builds, faults, fronts, prepared, repairs, sessions, stores, sweeps};
+use crate::{builds, faults, fronts, prepared, reads, repairs, sessions, stores, sweeps};
 use model::Refusal;
 use session::Mode;
 use std::alloc::Global;
@@ -47,9 +47,14 @@ fn of_line<R: Threads + Wait + Sync>(
         "threads" => fronts::threads(rt, alloc, hashing, out),
         "gate_two_workers" => builds::gate_two_workers(rt, alloc, hashing, argument, out),
         "built_once" => builds::built_once(rt, alloc, hashing, argument, out),
-        "passes" => fronts::passes(alloc, hashing, out),
+        "passes" => fronts::passes(rt, alloc, hashing, out),
+        "held" => reads::held(rt, alloc, hashing, argument, out),
+        "crowd" => reads::crowd(rt, alloc, hashing, argument, out),
+        "reads" => reads::reads(rt, alloc, hashing, argument, out),
         "sweeps" => sweeps::sweeps(rt, alloc, hashing, argument, out),
         "prepared" => prepared::prepare_each(alloc, hashing, argument, out),
+        "another" => prepared::another(alloc, hashing, argument, out),
+        "followed" => prepared::followed(alloc, hashing, argument, out),
         "exchanged" => prepared::exchange_each(rt, alloc, hashing, argument, out),
         _ => Err(Refusal::BadLine),
     }

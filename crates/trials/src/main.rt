@@ -12,10 +12,13 @@ mod devices;
 mod faults;
 mod fronts;
 mod prepared;
+mod reads;
 mod repairs;
 mod sessions;
 mod stores;
 mod sweeps;
+mod traces;
+mod turns;
 
 use crate::answer::Answer;
 use crate::calls::answer_line;

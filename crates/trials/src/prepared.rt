@@ -97,6 +97,42 @@ fn tell_lines<A: session::Answer>(
     Ok(())
 }
 
+/// A core, and another one that takes each event after it, with a copy of the values that the first one made.
+#[derive(Drop)]
+struct Followers {
+    core: Core,
+    behind: Core,
+}
+
+impl Followers {
+    /// Lets both take an event. The reply is that of the second.
+    fn step(&mut self, alloc: Global, event: Event) -> Result<Reply, Refusal> {
+        let mut ready = Ready::none(alloc);
+        let copy = event.clone()?;
+        let _same = self.core.step_ready_with_copy(alloc, copy, &mut ready);
+        let values = ready.again(alloc)?;
+        Ok(self.behind.step_ready(alloc, event, values))
+    }
+}
+
+/// No line of the service waits.
+impl session::Answer for Followers {
+    ghost answers = { λ old event reply new. Unit {0} };
+
+    ghost waited = { λ old goals reply new. Unit {0} };
+
+    fn call(&mut self, alloc: Global, event: Event) -> Reply {
+        match self.step(alloc, event) {
+            Ok(reply) => reply,
+            Err(why) => Reply::Refused(why),
+        }
+    }
+
+    fn wait(&mut self, _alloc: Global, _goals: &[Job]) -> Reply {
+        Reply::Done
+    }
+}
+
 /// A core for the users whom an input names.
 fn core_for(alloc: Global, hashing: RandomState, input: &str) -> Result<Core, Refusal>
     ensures { IfOk result (λ core. (world_of core ≡ nothing) × (stored_in core ≡ [])) }
@@ -122,6 +158,42 @@ pub(crate) fn prepare_each(
     Ok(())
 }
 
+/// `INPUT`: answers the lines of the input, to the users whom it names, by a store, and once more by another
+/// one of the same users. Prints what each line gets of both.
+pub(crate) fn another(
+    alloc: Global,
+    hashing: RandomState,
+    input: &str,
+    out: &mut Answer,
+) -> Result<(), Refusal> {
+    let mut store = Prepared {
+        core: core_for(alloc, hashing, input)?,
+    };
+    tell_lines(alloc, &mut store, input, out)?;
+    let mut other = Prepared {
+        core: store.core.another(alloc)?,
+    };
+    tell_lines(alloc, &mut other, input, out)
+}
+
+/// `INPUT`: answers the lines of the input, to the users whom it names, by a store and by another one behind
+/// it, which gets the values that the first one made. Prints what each line gets of the second, and how many
+/// values its steps had to make themselves.
+pub(crate) fn followed(
+    alloc: Global,
+    hashing: RandomState,
+    input: &str,
+    out: &mut Answer,
+) -> Result<(), Refusal> {
+    let core = core_for(alloc, hashing, input)?;
+    let behind = core.another(alloc)?;
+    let mut store = Followers { core, behind };
+    tell_lines(alloc, &mut store, input, out)?;
+    out.add(&store.behind.computed());
+    out.add_text(" made in steps");
+    Ok(())
+}
+
 /// Answers the lines by a new front.
 fn answer_by_front<J: Naming, R: Wait>(
     rt: &R,
@@ -135,9 +207,10 @@ fn answer_by_front<J: Naming, R: Wait>(
     requires blank { (blank.calls.name ≡ J.name) × (blank.calls.parts ≡ J.parts) }
     requires parts { blank.calls.parts ≡ 1 }
     requires log { blank.log.table.shared.table_id ≡ J.table }
+    requires rows { blank.rows.seen.book ≡ J.book }
     requires core { IsNew J.setup core }
 {
-    let (front, mut passes) = Front::<J>::new(alloc, blank, core, 1)?;
+    let (front, mut passes) = Front::<J>::new(rt, alloc, blank, core, 1)?;
     let pass = passes.pop().unwrap();
     let mut store = Exchanged {
         rt,

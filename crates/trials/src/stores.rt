@@ -87,7 +87,7 @@ pub(crate) fn users(
 }
 
 /// Adds what a reply says, in the words of its line.
-fn tell(alloc: Global, reply: &Reply, out: &mut Answer) -> Result<(), Refusal> {
+pub(crate) fn tell(alloc: Global, reply: &Reply, out: &mut Answer) -> Result<(), Refusal> {
     match reply {
         Reply::Path(path) => out.add(path),
         Reply::Content(tree) => out.add_bytes(&tree_text(alloc, tree)?),

@@ -81,9 +81,10 @@ fn answer_by_front<J: Naming, R: Wait>(
     requires blank { (blank.calls.name ≡ J.name) × (blank.calls.parts ≡ J.parts) }
     requires parts { blank.calls.parts ≡ 1 }
     requires log { blank.log.table.shared.table_id ≡ J.table }
+    requires rows { blank.rows.seen.book ≡ J.book }
     requires core { IsNew J.setup core }
 {
-    let (front, mut passes) = Front::<J>::new(alloc, blank, core, 1)?;
+    let (front, mut passes) = Front::<J>::new(rt, alloc, blank, core, 1)?;
     let pass = passes.pop().unwrap();
     let mut store = Swept { rt, front, pass };
     tell_lines(alloc, &mut store, lines.as_str(), out)

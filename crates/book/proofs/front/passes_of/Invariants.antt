@@ -1,8 +1,13 @@
 use Rattle.std.specs.Prelude.{◌≡◌, ◌+◌, map, [], false}
-use Rattle.passes.specs.Callers.{newcomer, below}
+use Rattle.passes.specs.Callers.{below}
+use Rattle.left_right.specs.Sides.{view}
+use Rattle.snapshots.specs.Naming.{name_of}
+use Rattle.snapshots.specs.Tied.{knower}
+use Rattle.passes.specs.Callers.{new_pass}
 use Rattle.book.proofs.front.passes_of.Given as goal
 
 abbrev pub invariant-loop-number : goal.invariant-loop-number
 invariant-loop-number g l =
-    (l.all.parts + l.number ≡ l.n) × (l.all.amount ≡ 0) × (l.passes.items ≡ map newcomer (below l.number))
+    (l.all.parts + l.number ≡ l.n) × (l.all.amount ≡ 0) × (l.passes.items ≡ map new_pass (below l.number))
+    × (view l.writer.desk.place ≡ knower (name_of g.J.Naming.book g.J.Naming.setup)) × (l.writer.desk.shown ≡ l.fn.writer.desk.shown) × (l.writer.log ≡ l.fn.writer.log) × (l.writer.behind ≡ l.fn.writer.behind)
     × (l.log.rows ≡ []) × (l.log.next ≡ l.number) × (l.log.stopped ≡ false)

@@ -1,7 +1,10 @@
-use Rattle.std.proofs.Common.{rules}
+use Rattle.std.proofs.Common.{ap, rules}
 use Rattle.model.specs.Lines.{lines_of}
 use Rattle.replaying.proofs.RecordingLemmas.{first_of}
 use Rattle.replaying.proofs.first_run.ask_core.Goals as goal
 
 pub returns : goal.returns
-returns g c = first_of g.J.Naming.setup c.args.user.now (lines_of c.args.input.now) _ _ _ (search rules) c.in_ok-numbers.ensures
+returns g c =
+    rw c.replace-events.ensures.value
+    (rw (ap (λ recorder. recorder.events) c.recorder.view_is)
+    (first_of g.J.Naming.setup c.args.user.now (lines_of c.args.input.now) _ _ _ (search rules) c.in_ok-numbers.ensures))

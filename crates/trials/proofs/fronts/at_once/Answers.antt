@@ -1,17 +1,37 @@
 use denote.RattleType.{RattleType}
 use denote.Ref.{NamedLft}
-use denote.Param.Send.{IsSend, IsSync, arg_send, param_send, struct_send, recorded_send, shr_send}
+use denote.Exit.{yes}
+use denote.Param.{param}
+use denote.Param.Send.{IsSend, IsSync, sendable, arg_send, param_send, shr_send, view_send}
 use denote.Param.SendFields.{declared_send, as_row_send}
-use Rattle.std.proofs.Crossing.{send}
+use denote.Struct.Field.{shr_ref_field}
+use mir.Syntax.{named}
+use Rattle.std.proofs.Crossing.{send, crosses}
 use Rattle.std.specs.declared.sync.ledger.Ledger as Ledger
 use Rattle.passes.specs.declared.naming.Naming as Naming
+use Rattle.book.specs.contracts.front.Front as Front
 use Rattle.trials.specs.contracts.fronts.Caller as Caller
+use Rattle.trials.specs.contracts.fronts.Caller.TheInside as Inside
 use Rattle.book.proofs.Crossing.{front_sync, pass_send}
 use Rattle.trials.proofs.fronts.at_once.Goals as goal
 
-caller_send : (a : NamedLft) (J R : RattleType) (n : Naming.Ghosts J.Denot) (l : Ledger.Ghosts J.Denot) → IsSync R → IsSend (Caller.the_row a J R n l)
-caller_send a J R n l y =
-    declared_send (Caller.the_type a J R n l) (search (as_row_send, recorded_send, shr_send, y) depth 5, (send, (search (as_row_send, recorded_send, shr_send, front_sync) depth 5, (pass_send J n l, tt))))
+inside_send : (a : NamedLft) (J R : RattleType) (n : Naming.Ghosts J.Denot) (l : Ledger.Ghosts J.Denot) → IsSync R → IsSend (Inside.the_row a J R n l)
+inside_send a J R n l y =
+    let front : IsSync (Front.the_row J n l) = front_sync J n l in
+    declared_send (Inside.the_type a J R n l) (
+      search (shr_send, y) depth 5,
+      (
+        send,
+        (
+          as_row_send (shr_ref_field a (Front.the_row J n l) tt) (shr_send a.mir a.lft (Front.the_row J n l) front),
+          (pass_send J n l, (search (sendable, crosses) depth 60 fits 5000, tt)),
+        ),
+      ),
+    )
 
-pub join-requires-send-F : goal.join-requires-send-F
-join-requires-send-F g c κs within = search (tt, arg_send, param_send, recorded_send, struct_send, caller_send, c.type_bounds.sync-R) depth 20
+caller_send : (a : NamedLft) (J R : RattleType) (n : Naming.Ghosts J.Denot) (l : Ledger.Ghosts J.Denot) → IsSync R → IsSend (Caller.the_row a J R n l)
+caller_send a J R n l y = let inside : IsSend (Inside.the_row a J R n l) = inside_send a J R n l y in search (view_send, inside) depth 5
+
+pub each_at_once-requires-send-S : goal.each_at_once-requires-send-S
+each_at_once-requires-send-S g c κs within =
+    param_send _ _ (arg_send _ yes _ (caller_send (record { mir = named 1; lft = κs.1.0 }) (param 0 g.row.J) (param 1 g.row.R) g.J.Naming g.J.Ledger c.type_bounds.sync-R))

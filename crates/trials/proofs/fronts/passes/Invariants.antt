@@ -2,7 +2,7 @@ use Rattle.schedule.specs.Standing.{setup_of}
 use Rattle.trials.proofs.fronts.passes.Given as goal
 
 abbrev pub ghosts-closed_at_once-J-Ledger : goal.ghosts-closed_at_once-J-Ledger
-ghosts-closed_at_once-J-Ledger a = record { name = a.blank.calls.name; parts = a.blank.calls.parts }
+ghosts-closed_at_once-J-Ledger g a = record { name = a.blank.calls.name; parts = a.blank.calls.parts }
 
 abbrev pub ghosts-closed_at_once-J-Naming : goal.ghosts-closed_at_once-J-Naming
-ghosts-closed_at_once-J-Naming a = record { setup = setup_of a.core; table = a.blank.log.table.shared.table_id }
+ghosts-closed_at_once-J-Naming g a = record { setup = setup_of a.core; table = a.blank.log.table.shared.table_id; book = a.blank.rows.seen.book }

@@ -9,16 +9,20 @@ use Rattle.schedule.specs.Standing.{world_of, setup_of, stored_in, IsUnchanged}
 use Rattle.passes.specs.declared.row.Row.{Row}
 use Rattle.passes.specs.declared.log.Recorded.{Recorded}
 use Rattle.passes.specs.Callers.{Caller, answered, Matches}
-use Rattle.book.specs.Histories.{row, gave_up, IsLegal}
-use Rattle.book.specs.Keeping.{Contents, Kept, Steps, IsModelReply}
-use Rattle.book.proofs.KeepingLemmas.{goes_on, stays, replied, is_legal, sure_of_all}
+use Rattle.passes.specs.Histories.{row, gave_up, IsLegal}
+use Rattle.book.specs.Shelves.{Shelved}
+use Rattle.book.specs.Keeping.{Contents, Kept, Steps, IsModelReply, TookEvent}
+use Rattle.book.proofs.KeepingLemmas.{goes_on, stops, stays, replied, is_legal, sure_of_all}
 use Rattle.book.proofs.book.Book.apply_ready.Given.{Over}
 use Rattle.book.proofs.book.Book.apply_ready.Goals.{After-audit}
 use Rattle.book.proofs.book.Book.apply_ready.Goals as goal
 
 -- ---- replies
 
--- a reply is one refusal, or another
+-- a refusal that has no row
+has_none : (reply : Reply) (why : Refusal) → reply ≡ Refused why → gave_up (Refused why) ≡ true → gave_up reply ≡ false → ⊥
+has_none reply why is gave some = true≢false (sym gave ∙ (sym (ap gave_up is) ∙ some))
+
 not_both : (reply : Reply) → reply ≡ Refused Memory → reply ≡ Refused Stopped → ⊥
 not_both reply memory stopped = cc
 
@@ -33,8 +37,12 @@ core_then g c = ap (λ (b : Contents). b.core) c.self.view_is
 rows_then : (g : Over) (c : After-audit g) → c.self.inside.history.items ≡ c.args.self.now.rows
 rows_then g c = ap (λ (b : Contents). b.rows) c.self.view_is
 
-matching : (g : Over) (c : After-audit g) → Matches c.args.self.now.rows false c.args.pass.now
-matching g c = subst (λ (x : List Row × Bool). Matches x.0 x.1 c.args.pass.now) (λ i. ((c.self.invariant.4 ∙ rows_then g c) i, c.self.invariant.5 i))
+stopped_then : (g : Over) (c : After-audit g) → c.self.inside.stopped ≡ c.args.self.now.stopped
+stopped_then g c = ap (λ (b : Contents). b.stopped) c.self.view_is
+
+matching : (g : Over) (c : After-audit g) → Matches c.args.self.now.rows c.args.self.now.stopped c.args.pass.now
+matching g c = subst (λ (b : Contents). Matches b.rows b.stopped c.args.pass.now)
+    (λ i. record { core = c.args.self.now.core; rows = (c.self.invariant.4 ∙ rows_then g c) i; stopped = (c.self.invariant.5 ∙ stopped_then g c) i })
     c.compare.ensures.matches
 
 -- the only pass
@@ -47,25 +55,53 @@ only_pass g c one =
 legal_then : (g : Over) (c : After-audit g) → IsLegal g.J.Naming.setup c.self.inside.history.items
 legal_then g c =
     let inside = c.self.inside in
-    is_legal g.J.Naming.setup inside.core inside.history.items c.self.invariant.0 c.isolation.ensures c.timed_isolation.ensures
+    is_legal g.J.Naming.setup inside.core inside.stopped inside.history.items c.self.invariant.0 c.isolation.ensures c.timed_isolation.ensures
 
-pass_then : (g : Over) (c : After-audit g) → c.audit.new.self ≡ c.args.pass.now
-pass_then g c = c.audit.ensures.same.0 ∙ c.compare.ensures.going c.self.invariant.5
+-- ---- where the book was stopped before
 
--- a mark that is not set
-not_true : {mark : Bool} → mark ≡ false → mark ≡ true → ⊥
-not_true unset set = true≢false (sym set ∙ unset)
+pub returns-then-stopped : goal.returns-then-stopped
+returns-then-stopped g c =
+    let then = (goal.at.returns-then-stopped g c).After-audit in
+    let was : c.args.self.now.stopped ≡ true = sym (stopped_then g then) ∙ c.if-stopped.true in
+    let none : gave_up c.refuse.result ≡ false → ⊥ = has_none _ Stopped c.refuse.ensures refl in
+    record {
+      row = λ some. absurd (none some);
+      step = λ some. absurd (none some);
+      reply = λ some. absurd (none some);
+      counted = λ some. absurd (none some);
+      matches = matching g then;
+      alone = only_pass g then;
+      no_row = λ _. rows_then g then;
+      memory = λ memory. absurd (not_both _ memory c.refuse.ensures);
+      unchanged = λ _ _. is_unchanged _ _ (core_then g then);
+      stopped = λ _. c.refuse.ensures;
+      stays = λ _. c.self.view_is;
+      only_then = λ _. was;
+      told = λ _. c.audit.ensures.same.0 ∙ c.compare.ensures.stopped (c.self.invariant.5 ∙ c.if-stopped.true);
+      stops = λ stops. absurd (true≢false (sym was ∙ stops.0));
+      taken = λ stops. absurd (true≢false (sym was ∙ stops.0));
+      legal = legal_then g then;
+    }
 
--- a refusal for want of memory has no row
-has_none : (reply : Reply) → reply ≡ Refused Memory → gave_up reply ≡ false → ⊥
-has_none reply is some = not_true some (ap gave_up is)
+-- ---- where it went on
+
+not_stopped : (g : Over) (c : After-audit g) → c.self.inside.stopped ≡ false → c.args.self.now.stopped ≡ true → ⊥
+not_stopped g c going stopped = true≢false (sym stopped ∙ (sym (stopped_then g c) ∙ going))
+
+-- a mark that stays
+not_true : {stopped : Bool} → stopped ≡ false → stopped ≡ true → ⊥
+not_true going stopped = true≢false (sym stopped ∙ going)
+
+pass_then : (g : Over) (c : After-audit g) → c.self.inside.stopped ≡ false → c.audit.new.self ≡ c.args.pass.now
+pass_then g c going = c.audit.ensures.same.0 ∙ c.compare.ensures.going (c.self.invariant.5 ∙ going)
 
 -- ---- where no room is made for a row
 
 pub returns-in_default : goal.returns-in_default
 returns-in_default g c =
     let then = (goal.at.returns-in_default g c).After-audit in
-    let none : gave_up c.refuse.result ≡ false → ⊥ = has_none _ c.refuse.ensures in
+    let none : gave_up c.refuse-in_default.result ≡ false → ⊥ = has_none _ Memory c.refuse-in_default.ensures refl in
+    let goes : c.args.self.now.stopped ≡ true → ⊥ = not_stopped g then c.if-stopped.false in
     record {
       row = λ some. absurd (none some);
       step = λ some. absurd (none some);
@@ -74,9 +110,14 @@ returns-in_default g c =
       matches = matching g then;
       alone = only_pass g then;
       no_row = λ _. c.hold.ensures.rows ∙ rows_then g then;
-      memory = λ _. pass_then g then;
-      unchanged = λ _. is_unchanged _ _ (core_then g then);
-      going = not_both _ c.refuse.ensures;
+      memory = λ _. pass_then g then c.if-stopped.false;
+      unchanged = λ _ _. is_unchanged _ _ (core_then g then);
+      stopped = λ stopped. absurd (goes stopped);
+      stays = λ stopped. absurd (goes stopped);
+      only_then = λ stopped. absurd (not_both _ c.refuse-in_default.ensures stopped);
+      told = λ stopped. absurd (not_both _ c.refuse-in_default.ensures stopped);
+      stops = λ _. c.refuse-in_default.ensures;
+      taken = λ stops. absurd (not_true c.if-stopped.false stops.1);
       legal = rw c.hold.ensures.rows (legal_then g then);
     }
 
@@ -85,19 +126,22 @@ returns-in_default g c =
 pub invariant_of-self-in-Err : goal.invariant_of-self-in-Err
 invariant_of-self-in-Err g c =
     let old = c.self.inside in (
-      rw c.hold.ensures.rows (stays g.J.Naming.setup old.core c.step.new.core old.history.items c.self.invariant.0 c.in-Err.ensures.refused),
+      rw c.hold.ensures.rows (stays g.J.Naming.setup old.core c.step.new.core old.stopped old.history.items c.self.invariant.0 c.in-Err.ensures.refused),
       ap (λ (rows : List Row). length rows) c.hold.ensures.rows ∙ (c.self.invariant.1 ∙ sym c.audit.ensures.same.1),
       c.self.invariant.2,
       c.self.invariant.3,
       ap (λ (log : Recorded). log.rows) c.compare.ensures.same ∙ (c.self.invariant.4 ∙ sym c.hold.ensures.rows),
       ap (λ (log : Recorded). log.stopped) c.compare.ensures.same ∙ c.self.invariant.5,
+      ap (λ (shelf : Shelved). shelf.rows) c.in-Err.ensures.kept ∙ (c.self.invariant.6 ∙ sym c.hold.ensures.rows),
+      λ going. ap (λ (shelf : Shelved). shelf.whole) c.in-Err.ensures.kept ∙ c.self.invariant.7 going,
     )
 
 pub returns-in-Err : goal.returns-in-Err
 returns-in-Err g c =
     let then = (goal.at.returns-in-Err g c).After-audit in
     let memory : Refused c.in-Err.why ≡ Refused Memory = ap (λ (why : Refusal). Refused why) c.in-Err.ensures.memory in
-    let none : gave_up (Refused c.in-Err.why) ≡ false → ⊥ = has_none (Refused c.in-Err.why) memory in
+    let none : gave_up (Refused c.in-Err.why) ≡ false → ⊥ = has_none (Refused c.in-Err.why) Memory memory refl in
+    let goes : c.args.self.now.stopped ≡ true → ⊥ = not_stopped g then c.if-stopped.false in
     record {
       row = λ some. absurd (none some);
       step = λ some. absurd (none some);
@@ -106,9 +150,54 @@ returns-in-Err g c =
       matches = matching g then;
       alone = only_pass g then;
       no_row = λ _. c.hold.ensures.rows ∙ rows_then g then;
-      memory = λ _. pass_then g then;
-      unchanged = λ _. subst (λ (core : Core). IsUnchanged core c.step.new.core) (core_then g then) c.in-Err.ensures.refused;
-      going = not_both _ memory;
+      memory = λ _. pass_then g then c.if-stopped.false;
+      unchanged = λ _ _. subst (λ (core : Core). IsUnchanged core c.step.new.core) (core_then g then) c.in-Err.ensures.refused;
+      stopped = λ stopped. absurd (goes stopped);
+      stays = λ stopped. absurd (goes stopped);
+      only_then = λ stopped. absurd (not_both _ memory stopped);
+      told = λ stopped. absurd (not_both _ memory stopped);
+      stops = λ _. memory;
+      taken = λ stops. absurd (not_true c.if-stopped.false stops.1);
+      legal = rw c.hold.ensures.rows (legal_then g then);
+    }
+
+-- ---- where memory is refused after that
+
+pub invariant_of-self-in_default-answered : goal.invariant_of-self-in_default-answered
+invariant_of-self-in_default-answered g c =
+    let old = c.self.inside in (
+      rw c.hold.ensures.rows (stops g.J.Naming.setup old.core c.step.new.core old.stopped old.history.items c.self.invariant.0 c.step.ensures.given),
+      ap (λ (rows : List Row). length rows) c.hold.ensures.rows ∙ (c.self.invariant.1 ∙ sym c.audit.ensures.same.1),
+      c.self.invariant.2,
+      c.self.invariant.3,
+      ap (λ (log : Recorded). log.rows) c.stop.ensures
+          ∙ (ap (λ (log : Recorded). log.rows) c.compare.ensures.same ∙ (c.self.invariant.4 ∙ sym c.hold.ensures.rows)),
+      ap (λ (log : Recorded). log.stopped) c.stop.ensures,
+      (rw c.in_default-answered.is at c.in-Ok-step.ensures.not_shown) ∙ (c.self.invariant.6 ∙ sym c.hold.ensures.rows),
+      λ going. absurd (true≢false going),
+    )
+
+pub returns-in_default-answered : goal.returns-in_default-answered
+returns-in_default-answered g c =
+    let then = (goal.at.returns-in_default-answered g c).After-audit in
+    let taken : TookEvent c.self.inside.core c.args.event c.step.new.core = rw c.in_default-answered.is at c.in-Ok-step.ensures.lost in
+    let goes : c.args.self.now.stopped ≡ true → ⊥ = not_stopped g then c.if-stopped.false in
+    record {
+      row = λ some. absurd (true≢false some);
+      step = λ some. absurd (true≢false some);
+      reply = λ some. absurd (true≢false some);
+      counted = λ some. absurd (true≢false some);
+      matches = matching g then;
+      alone = only_pass g then;
+      no_row = λ _. c.hold.ensures.rows ∙ rows_then g then;
+      memory = λ _. pass_then g then c.if-stopped.false;
+      unchanged = λ _ same. absurd (goes (sym same));
+      stopped = λ stopped. absurd (goes stopped);
+      stays = λ stopped. absurd (goes stopped);
+      only_then = λ stopped. absurd (not_both _ refl stopped);
+      told = λ stopped. absurd (not_both _ refl stopped);
+      stops = λ _. refl;
+      taken = λ _. subst (λ (core : Core). TookEvent core c.args.event c.step.new.core) (core_then g then) taken;
       legal = rw c.hold.ensures.rows (legal_then g then);
     }
 
@@ -117,62 +206,89 @@ returns-in-Err g c =
 pub add_row-requires : goal.add_row-requires
 add_row-requires g c =
     let then = (goal.at.add_row-requires g c).After-audit in
+    let last : c.in-Some.row ≡ row c.number-number.result c.args.event c.in-Some.reply = rw c.in-Some.is at c.in-Ok-step.ensures.row in
     let log : c.compare.new.log ≡ c.self.inside.log = c.compare.ensures.same in
-    let pass : c.audit.new.self ≡ c.args.pass.now = pass_then g then in
+    let pass : c.audit.new.self ≡ c.args.pass.now = pass_then g then c.if-stopped.false in
     let rows : length c.compare.new.log.rows ≡ c.self.inside.calls.total =
     ap (λ (l : Recorded). length l.rows) log ∙ (ap (λ (rows : List Row). length rows) c.self.invariant.4 ∙ c.self.invariant.1) in
     record {
-      mine = ap (λ (r : Row). r.pass) c.in-Ok-step.ensures.row ∙ c.number.ensures;
+      mine = ap (λ (r : Row). r.pass) last ∙ c.number-number.ensures;
       matches = subst (λ (x : Recorded × Caller). Matches x.0.rows x.0.stopped x.1) (λ i. (sym log i, sym pass i)) c.compare.ensures.matches;
       alone = λ one. rows ∙ (sym (c.audit.ensures.alone one).1 ∙ ap (λ (p : Caller). p.calls) (sym c.audit.ensures.same.0));
     }
 
-some_row : (g : Over) (c : goal.After-push g) → gave_up c.in-Ok-step.answered.1.reply ≡ false
-some_row g c = subst (λ (r : Row). gave_up r.reply ≡ false) (sym c.in-Ok-step.ensures.row) c.in-Ok-step.ensures.some
+going : (g : Over) (c : goal.After-push g) → Kept g.J.Naming.setup c.self.inside.core false c.self.inside.history.items
+going g c = rw c.if-stopped.false at c.self.invariant.0
 
-step_of : (g : Over) (c : goal.After-push g) → Steps c.self.inside.core c.in-Ok-step.answered.1.event c.in-Ok-step.answered.1.reply c.step.new.core
-step_of g c = subst (λ (r : Row). Steps c.self.inside.core r.event r.reply c.step.new.core) (sym c.in-Ok-step.ensures.row) c.in-Ok-step.ensures.step
+last_row : (g : Over) (c : goal.After-push g) → c.in-Some.row ≡ row c.number-number.result c.args.event c.in-Some.reply
+last_row g c = rw c.in-Some.is at c.in-Ok-step.ensures.row
 
-rows_now : (g : Over) (c : goal.After-push g) → c.push.new.history.items ≡ c.self.inside.history.items ++ c.in-Ok-step.answered.1 ∷ []
-rows_now g c = c.push.ensures ∙ ap (λ (rows : List Row). rows ++ c.in-Ok-step.answered.1 ∷ []) c.hold.ensures.rows
+some_row : (g : Over) (c : goal.After-push g) → gave_up c.in-Some.row.reply ≡ false
+some_row g c = subst (λ (r : Row). gave_up r.reply ≡ false) (sym (last_row g c)) (rw c.in-Some.is at c.in-Ok-step.ensures.some)
 
-kept_now : (g : Over) (c : goal.After-push g) → Kept g.J.Naming.setup c.step.new.core (c.self.inside.history.items ++ c.in-Ok-step.answered.1 ∷ [])
-kept_now g c = goes_on g.J.Naming.setup c.self.inside.core c.step.new.core c.self.inside.history.items c.in-Ok-step.answered.1 c.self.invariant.0 (some_row g c) (step_of g c)
+step_of : (g : Over) (c : goal.After-push g) → Steps c.self.inside.core c.in-Some.row.event c.in-Some.row.reply c.step.new.core
+step_of g c = subst (λ (r : Row). Steps c.self.inside.core r.event r.reply c.step.new.core) (sym (last_row g c)) (rw c.in-Some.is at c.in-Ok-step.ensures.step)
+
+rows_now : (g : Over) (c : goal.After-push g) → c.push.new.history.items ≡ c.self.inside.history.items ++ c.in-Some.row ∷ []
+rows_now g c = c.push.ensures ∙ ap (λ (rows : List Row). rows ++ c.in-Some.row ∷ []) c.hold.ensures.rows
+
+kept_now : (g : Over) (c : goal.After-push g) → Kept g.J.Naming.setup c.step.new.core false (c.self.inside.history.items ++ c.in-Some.row ∷ [])
+kept_now g c = goes_on g.J.Naming.setup c.self.inside.core c.step.new.core c.self.inside.history.items c.in-Some.row (going g c) (some_row g c) (step_of g c)
+
+shown_now : (g : Over) (c : goal.After-push g) → c.step.new.shelf ≡ record { rows = c.self.inside.shelf.rows ++ c.in-Some.row ∷ []; whole = true }
+shown_now g c = rw c.in-Some.is at c.in-Ok-step.ensures.shown
+
+pub step-requires-clause-whole : goal.step-requires-clause-whole
+step-requires-clause-whole g c = c.self.invariant.7 c.if-stopped.false
+
+pub step-requires-clause-kept : goal.step-requires-clause-kept
+step-requires-clause-kept g c =
+    subst (λ (rows : List Row). Kept g.J.Naming.setup c.self.inside.core false rows) (sym c.self.invariant.6) (rw c.if-stopped.false at c.self.invariant.0)
 
 pub invariant_of-self-2 : goal.invariant_of-self-2
 invariant_of-self-2 g c =
     let old = c.self.inside in
-    let r : Row = c.in-Ok-step.answered.1 in
+    let r : Row = c.in-Some.row in
     let log : c.compare.new.log.rows ≡ old.history.items = ap (λ (l : Recorded). l.rows) c.compare.ensures.same ∙ c.self.invariant.4 in (
-      rw (rows_now g c) (kept_now g c),
+      rw (c.if-stopped.false, rows_now g c) (kept_now g c),
       ap (λ (rows : List Row). length rows) (rows_now g c)
           ∙ omega (arith, length_push old.history.items r, c.self.invariant.1, c.audit.ensures.same.1, c.add_row.ensures.calls),
       c.self.invariant.2,
       c.self.invariant.3,
       ap (λ (l : Recorded). l.rows) c.add_row.ensures.log ∙ (ap (λ (rows : List Row). rows ++ r ∷ []) log ∙ sym (rows_now g c)),
       ap (λ (l : Recorded). l.stopped) c.add_row.ensures.log ∙ (ap (λ (l : Recorded). l.stopped) c.compare.ensures.same ∙ c.self.invariant.5),
+      ap (λ (shelf : Shelved). shelf.rows) (shown_now g c) ∙ (ap (λ (rows : List Row). rows ++ r ∷ []) c.self.invariant.6 ∙ sym (rows_now g c)),
+      λ _. ap (λ (shelf : Shelved). shelf.whole) (shown_now g c),
     )
 
 pub returns : goal.returns
 returns g c =
     let then = (goal.at.returns g c).After-audit in
     let old = c.self.inside in
-    let none : (why : Refusal) → gave_up (Refused why) ≡ true → c.in-Ok-step.answered.0 ≡ Refused why → ⊥ = λ why gave is. not_true c.in-Ok-step.ensures.some (ap gave_up is ∙ gave) in
-    let pass : c.audit.new.self ≡ c.args.pass.now = pass_then g then in
-    let number : c.number.result ≡ c.args.pass.now.number = c.number.ensures ∙ ap (λ (p : Caller). p.number) pass in
+    let some : gave_up c.in-Some.reply ≡ false = rw c.in-Some.is at c.in-Ok-step.ensures.some in
+    let none : gave_up c.in-Some.reply ≡ true → ⊥ = not_true some in
+    let stepped : Steps old.core c.args.event c.in-Some.reply c.step.new.core = rw c.in-Some.is at c.in-Ok-step.ensures.step in
+    let goes : c.args.self.now.stopped ≡ true → ⊥ = not_stopped g then c.if-stopped.false in
+    let pass : c.audit.new.self ≡ c.args.pass.now = pass_then g then c.if-stopped.false in
+    let number : c.number-number.result ≡ c.args.pass.now.number = c.number-number.ensures ∙ ap (λ (p : Caller). p.number) pass in
     let log : c.compare.new.log.rows ≡ old.history.items = ap (λ (l : Recorded). l.rows) c.compare.ensures.same ∙ c.self.invariant.4 in
     record {
-      row = λ _. rows_now g c ∙ (λ i. rows_then g then i ++ (c.in-Ok-step.ensures.row ∙ ap (λ n. row n c.args.event c.in-Ok-step.answered.0) number) i ∷ []);
-      step = λ _. subst (λ (core : Core). Steps core c.args.event c.in-Ok-step.answered.0 c.step.new.core) (core_then g then) c.in-Ok-step.ensures.step;
+      row = λ _. rows_now g c ∙ (λ i. rows_then g then i ++ (last_row g c ∙ ap (λ n. row n c.args.event c.in-Some.reply) number) i ∷ []);
+      step = λ _. subst (λ (core : Core). Steps core c.args.event c.in-Some.reply c.step.new.core) (core_then g then) stepped;
       reply = λ _.
-          subst (λ (x : List Row × Row). IsModelReply g.J.Naming.setup x.0 x.1.event x.1.reply) (λ i. (rows_then g then i, c.in-Ok-step.ensures.row i))
-          (replied g.J.Naming.setup old.core c.step.new.core old.history.items c.in-Ok-step.answered.1 c.self.invariant.0 (some_row g c) (step_of g c));
-      counted = λ _. c.add_row.ensures.pass ∙ (λ i. answered (pass i) ((ap (λ (rows : List Row). rows ++ c.in-Ok-step.answered.1 ∷ []) log ∙ sym (rows_now g c)) i));
+          subst (λ (x : List Row × Row). IsModelReply g.J.Naming.setup x.0 x.1.event x.1.reply) (λ i. (rows_then g then i, last_row g c i))
+          (replied g.J.Naming.setup old.core c.step.new.core old.history.items c.in-Some.row (going g c) (some_row g c) (step_of g c));
+      counted = λ _. c.add_row.ensures.pass ∙ (λ i. answered (pass i) ((ap (λ (rows : List Row). rows ++ c.in-Some.row ∷ []) log ∙ sym (rows_now g c)) i));
       matches = matching g then;
       alone = only_pass g then;
-      no_row = λ memory. absurd (none Memory refl memory);
-      memory = λ memory. absurd (none Memory refl memory);
-      unchanged = λ memory. absurd (none Memory refl memory);
-      going = none Stopped refl;
-      legal = rw (rows_now g c) (is_legal g.J.Naming.setup c.step.new.core _ (kept_now g c) c.isolation.ensures c.timed_isolation.ensures);
+      no_row = λ gave. absurd (none gave);
+      memory = λ memory. absurd (has_none _ Memory memory refl some);
+      unchanged = λ gave. absurd (none gave);
+      stopped = λ stopped. absurd (goes stopped);
+      stays = λ stopped. absurd (goes stopped);
+      only_then = λ stopped. absurd (has_none _ Stopped stopped refl some);
+      told = λ stopped. absurd (has_none _ Stopped stopped refl some);
+      stops = λ stops. absurd (not_true c.if-stopped.false stops.1);
+      taken = λ stops. absurd (not_true c.if-stopped.false stops.1);
+      legal = rw (rows_now g c) (is_legal g.J.Naming.setup c.step.new.core false _ (kept_now g c) c.isolation.ensures c.timed_isolation.ensures);
     }

@@ -1,13 +1,30 @@
+use Rattle.std.proofs.Common.{ap, ◌∙◌}
+use Rattle.book.specs.Shelves.{Shelved}
 use Rattle.book.proofs.SweepingLemmas.{kept_swept}
 use Rattle.book.proofs.book.Book.sweep.Goals as goal
 
 pub invariant_of-self : goal.invariant_of-self
 invariant_of-self g c =
     let old = c.self.inside in (
-      kept_swept g.J.Naming.setup old.core c.sweep.new.self old.history.items c.self.invariant.0 c.sweep.ensures.setup c.sweep.ensures.world c.sweep.ensures.hashed,
+      kept_swept g.J.Naming.setup old.core c.sweep.new.self old.stopped old.history.items c.self.invariant.0 c.sweep.ensures.setup c.sweep.ensures.world c.sweep.ensures.hashed,
       c.self.invariant.1,
       c.self.invariant.2,
       c.self.invariant.3,
       c.self.invariant.4,
       c.self.invariant.5,
+      c.self.invariant.6,
+      c.self.invariant.7,
+    )
+
+pub invariant_of-self-2 : goal.invariant_of-self-2
+invariant_of-self-2 g c =
+    let old = c.self.inside in (
+      kept_swept g.J.Naming.setup old.core c.sweep.new.self old.stopped old.history.items c.self.invariant.0 c.sweep.ensures.setup c.sweep.ensures.world c.sweep.ensures.hashed,
+      c.self.invariant.1,
+      c.self.invariant.2,
+      c.self.invariant.3,
+      c.self.invariant.4,
+      c.self.invariant.5,
+      ap (λ (s : Shelved). s.rows) c.sweep-2.ensures ∙ c.self.invariant.6,
+      λ going. ap (λ (s : Shelved). s.whole) c.sweep-2.ensures ∙ c.self.invariant.7 going,
     )

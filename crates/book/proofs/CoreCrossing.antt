@@ -1,0 +1,281 @@
+-- What crosses threads of a core, of what is published, and of who publishes and looks.
+use denote.Param.Send.{IsSend, IsSync, sendable, view_send, view_sync}
+use denote.Param.SendFields.{declared_send, declared_sync, variants_send}
+use Rattle.std.specs.contracts.alloc.Global as Global
+use Rattle.std.specs.contracts.impls.GlobalAllocator.TheImpl.{ghosts}
+use Rattle.std.proofs.Crossing.{crosses}
+use Rattle.std.proofs.Crossing as heap
+use Rattle.nar.proofs.node.Node.TheLaws.TheKnot.{both_send-Node, both_sync-Node}
+use Rattle.nar.specs.contracts.tree.Tree as Tree
+use Rattle.model.specs.contracts.refusal.Refusal as Refusal
+use Rattle.model.proofs.refusal.Refusal.TheSendSync as refusals
+use Rattle.storepath.specs.contracts.path.StorePath as StorePath
+use Rattle.storepath.proofs.path.StorePath.TheSendSync as paths
+use Rattle.storepath.proofs.name.Name.TheSendSync as names
+use Rattle.trust.proofs.pairs.Trust.TheSendSync as trusts
+use Rattle.records.specs.contracts.record.Record as Record
+use Rattle.records.proofs.record.Record.TheSendSync as records
+use Rattle.realise.specs.contracts.desk.Desk as Desk
+use Rattle.realise.proofs.desk.Desk.TheSendSync as desks
+use Rattle.rewrite.specs.contracts.named.Named as Named
+use Rattle.rewrite.proofs.named.Named.TheSendSync as nameds
+use Rattle.store.specs.contracts.table.Table as Table
+use Rattle.closures.specs.contracts.realisation.Realisation as Realisation
+use Rattle.closures.specs.contracts.realisation.Source as Source
+use Rattle.closures.specs.contracts.entry.Entry as Entry
+use Rattle.closures.specs.contracts.entry.Closure as Closure
+use Rattle.closures.specs.contracts.resolved.Resolved as Resolved
+use Rattle.moving.specs.contracts.repair.Repair as Repair
+use Rattle.moving.specs.contracts.moves.Move as Move
+use Rattle.moving.proofs.moves.Move.TheSendSync as moves
+use Rattle.moving.specs.contracts.cache.Kept as Kept
+use Rattle.moving.specs.contracts.cache.Cache as Cache
+use Rattle.jobs.specs.contracts.goal.Goal as Goal
+use Rattle.jobs.specs.contracts.goals.Goals as Goals
+use Rattle.jobs.specs.contracts.users.Jobs as Jobs
+use Rattle.outputs.proofs.input.Input.TheSendSync as inputs
+use Rattle.outputs.specs.contracts.output.Output as Output
+use Rattle.outputs.specs.contracts.placed.Placed as Placed
+use Rattle.outputs.specs.contracts.settlement.Settlement as Settlement
+use Rattle.outputs.specs.contracts.settlements.Settlements as Settlements
+use Rattle.outputs.specs.contracts.sources.Sources as Sources
+use Rattle.events.specs.contracts.event.Event as Event
+use Rattle.events.specs.contracts.reply.Reply as Reply
+use Rattle.schedule.specs.contracts.state.Core as Core
+use Rattle.schedule.specs.contracts.work.Work as Work
+use Rattle.schedule.specs.contracts.work.Ready as Ready
+use Rattle.passes.specs.contracts.row.Row as Row
+use Rattle.passes.proofs.beginning.Beginning.TheSendSync as beginnings
+use Rattle.left_right.specs.contracts.reader.Reader as Reader
+use Rattle.left_right.proofs.reader.Reader.TheSendSync as readers
+use Rattle.left_right.proofs.writer.Writer.TheSendSync as writers
+use Rattle.snapshots.specs.contracts.snapshot.Snapshot as Snapshot
+use Rattle.snapshots.specs.contracts.snapshot.Snapshot.TheInside as Inside
+use Rattle.snapshots.specs.contracts.snapshot.NewRow as NewRow
+use Rattle.snapshots.specs.contracts.snapshot.Operation as Operation
+use Rattle.snapshots.specs.contracts.snapshot.SnapshotAbsorbOperation.TheImpl as absorbing
+use Rattle.snapshots.specs.contracts.law.End as End
+use Rattle.snapshots.specs.contracts.law.Law as Law
+use Rattle.snapshots.specs.contracts.law.Shown as Shown
+use Rattle.snapshots.specs.contracts.law.View as View
+use Rattle.snapshots.specs.contracts.law.LawProtocolSnapshotView.TheImpl as law
+use Rattle.book.proofs.CacheCrossing.{LruCache-send, LruCache-sync}
+
+-- ---- trees, and what holds them
+
+tree_send : IsSend Tree.the_row
+tree_send = search (sendable, crosses, both_send-Node, both_sync-Node) depth 60
+
+tree_sync : IsSync Tree.the_row
+tree_sync = search (sendable, crosses, both_send-Node, both_sync-Node) depth 60
+
+path_send : IsSend StorePath.the_row
+path_send = paths.the_send
+
+path_sync : IsSync StorePath.the_row
+path_sync = paths.the_sync
+
+refusal_send : IsSend Refusal.the_row
+refusal_send = refusals.the_send
+
+refusal_sync : IsSync Refusal.the_row
+refusal_sync = refusals.the_sync
+
+table_send : IsSend Table.the_row
+table_send = search (sendable, crosses, tree_send, path_send) depth 60 fits 5000
+
+table_sync : IsSync Table.the_row
+table_sync = search (sendable, crosses, tree_sync, path_sync) depth 60 fits 5000
+
+record_send : IsSend Record.the_row
+record_send = records.the_send
+
+record_sync : IsSync Record.the_row
+record_sync = records.the_sync
+
+realisation_send : IsSend Realisation.the_row
+realisation_send = search (sendable, crosses, record_send, tree_send) depth 60 fits 5000
+
+realisation_sync : IsSync Realisation.the_row
+realisation_sync = search (sendable, crosses, record_sync, tree_sync) depth 60 fits 5000
+
+source_send : IsSend Source.the_row
+source_send = search (sendable, crosses, path_send, tree_send) depth 60 fits 5000
+
+source_sync : IsSync Source.the_row
+source_sync = search (sendable, crosses, path_sync, tree_sync) depth 60 fits 5000
+
+entry_send : IsSend Entry.the_row
+entry_send = search (sendable, crosses, realisation_send, source_send) depth 60 fits 5000
+
+entry_sync : IsSync Entry.the_row
+entry_sync = search (sendable, crosses, realisation_sync, source_sync) depth 60 fits 5000
+
+closure_send : IsSend Closure.the_row
+closure_send = search (sendable, crosses, entry_send, entry_sync) depth 60 fits 5000
+
+closure_sync : IsSync Closure.the_row
+closure_sync = search (sendable, crosses, entry_send, entry_sync) depth 60 fits 5000
+
+resolved_send : IsSend Resolved.the_row
+resolved_send = search (sendable, crosses, path_send, closure_send) depth 60 fits 5000
+
+resolved_sync : IsSync Resolved.the_row
+resolved_sync = search (sendable, crosses, path_sync, closure_sync) depth 60 fits 5000
+
+-- ---- rows
+
+event_send : IsSend Event.the_row
+event_send = search (sendable, crosses, tree_send, path_send) depth 60 fits 5000
+
+event_sync : IsSync Event.the_row
+event_sync = search (sendable, crosses, tree_sync, path_sync) depth 60 fits 5000
+
+reply_send : IsSend Reply.the_row
+reply_send = search (sendable, crosses, tree_send, path_send, closure_send) depth 60 fits 5000
+
+reply_sync : IsSync Reply.the_row
+reply_sync = search (sendable, crosses, tree_sync, path_sync, closure_sync) depth 60 fits 5000
+
+pub row_send : IsSend Row.the_row
+row_send = declared_send Row.the_type (search sendable, (event_send, (reply_send, tt)))
+
+pub row_sync : IsSync Row.the_row
+row_sync = declared_sync Row.the_type (search sendable, (event_sync, (reply_sync, tt)))
+
+-- ---- goals
+
+goal_send : IsSend Goal.the_row
+goal_send = search (sendable, crosses, path_send, resolved_send) depth 60 fits 5000
+
+goal_sync : IsSync Goal.the_row
+goal_sync = search (sendable, crosses, path_sync, resolved_sync) depth 60 fits 5000
+
+goals_send : IsSend Goals.the_row
+goals_send = search (sendable, crosses, goal_send) depth 60 fits 5000
+
+goals_sync : IsSync Goals.the_row
+goals_sync = search (sendable, crosses, goal_sync) depth 60 fits 5000
+
+jobs_send : IsSend Jobs.the_row
+jobs_send = search (sendable, crosses, goals_send) depth 60 fits 5000
+
+jobs_sync : IsSync Jobs.the_row
+jobs_sync = search (sendable, crosses, goals_sync) depth 60 fits 5000
+
+-- ---- records that were repaired
+
+move_send : IsSend Move.the_row
+move_send = moves.the_send
+
+move_sync : IsSync Move.the_row
+move_sync = moves.the_sync
+
+repair_send : IsSend Repair.the_row
+repair_send = search (sendable, crosses, path_send, tree_send, move_send, realisation_send, refusal_send) depth 60 fits 5000
+
+repair_sync : IsSync Repair.the_row
+repair_sync = search (sendable, crosses, path_sync, tree_sync, move_sync, realisation_sync, refusal_sync) depth 60 fits 5000
+
+kept_send : IsSend Kept.the_row
+kept_send = declared_send Kept.the_type (search (LruCache-send, sendable, crosses, path_send, path_sync, repair_send) depth 40, (search sendable, tt))
+
+kept_sync : IsSync Kept.the_row
+kept_sync = declared_sync Kept.the_type (search (LruCache-sync, sendable, crosses, path_sync, repair_sync) depth 40, (search sendable, tt))
+
+cache_send : IsSend Cache.the_row
+cache_send = search (sendable, crosses, repair_send, kept_send) depth 60 fits 5000
+
+cache_sync : IsSync Cache.the_row
+cache_sync = search (sendable, crosses, repair_sync, kept_sync) depth 60 fits 5000
+
+-- ---- cores
+
+desk_send : IsSend Desk.the_row
+desk_send = desks.the_send
+
+desk_sync : IsSync Desk.the_row
+desk_sync = desks.the_sync
+
+pub core_send : IsSend Core.the_row
+core_send = declared_send Core.the_type (
+  search (sendable, crosses) depth 60,
+  (trusts.the_send, (jobs_send, (search (sendable, crosses, desk_send) depth 60 fits 5000, (table_send, (search sendable depth 20, (cache_send, (search sendable, tt))))))),
+)
+
+pub core_sync : IsSync Core.the_row
+core_sync = declared_sync Core.the_type (
+  search (sendable, crosses) depth 60,
+  (trusts.the_sync, (jobs_sync, (search (sendable, crosses, desk_sync) depth 60 fits 5000, (table_sync, (search sendable depth 20, (cache_sync, (search sendable, tt))))))),
+)
+
+-- ---- values that were made before a step
+
+placed_send : IsSend Placed.the_row
+placed_send = declared_send Placed.the_type (tree_send, (names.the_send, (path_send, tt)))
+
+placed_sync : IsSync Placed.the_row
+placed_sync = declared_sync Placed.the_type (tree_sync, (names.the_sync, (path_sync, tt)))
+
+sources_send : IsSend Sources.the_row
+sources_send = declared_send Sources.the_type (search (crosses, placed_send) depth 5, (search sendable, tt))
+
+sources_sync : IsSync Sources.the_row
+sources_sync = declared_sync Sources.the_type (search (crosses, placed_sync) depth 5, (search sendable, tt))
+
+named_send : IsSend Named.the_row
+named_send = nameds.the_send
+
+named_sync : IsSync Named.the_row
+named_sync = nameds.the_sync
+
+output_send : IsSend Output.the_row
+output_send = search (sendable, crosses, named_send, named_sync, tree_send) depth 40 fits 5000
+
+output_sync : IsSync Output.the_row
+output_sync = search (sendable, crosses, named_send, named_sync, tree_sync) depth 40 fits 5000
+
+settlement_send : IsSend Settlement.the_row
+settlement_send = declared_send Settlement.the_type (inputs.the_send, (tree_send, (search (sendable, crosses, output_send, refusal_send) depth 20, tt)))
+
+settlement_sync : IsSync Settlement.the_row
+settlement_sync = declared_sync Settlement.the_type (inputs.the_sync, (tree_sync, (search (sendable, crosses, output_sync, refusal_sync) depth 20, tt)))
+
+settlements_send : IsSend Settlements.the_row
+settlements_send = declared_send Settlements.the_type (search (crosses, settlement_send) depth 5, (search sendable, tt))
+
+settlements_sync : IsSync Settlements.the_row
+settlements_sync = declared_sync Settlements.the_type (search (crosses, settlement_sync) depth 5, (search sendable, tt))
+
+ready_send : IsSend Ready.the_row
+ready_send = declared_send Ready.the_type (declared_send Work.the_type (sources_send, (settlements_send, (cache_send, tt))), tt)
+
+-- ---- what is published
+
+snapshot_send : IsSend Snapshot.the_row
+snapshot_send =
+    let inside : IsSend Inside.the_row = declared_send Inside.the_type (core_send, (search (sendable, crosses, row_send, row_sync) depth 20, (beginnings.the_send, (heap.send, tt)))) in
+    search view_send depth 5
+
+snapshot_sync : IsSync Snapshot.the_row
+snapshot_sync =
+    let inside : IsSync Inside.the_row = declared_sync Inside.the_type (core_sync, (search (sendable, crosses, row_send, row_sync) depth 20, (beginnings.the_sync, (heap.sync, tt)))) in
+    search view_sync depth 5
+
+new_row_send : IsSend NewRow.the_row
+new_row_send = declared_send NewRow.the_type (search (sendable, crosses, row_send, row_sync) depth 20, (ready_send, (beginnings.the_send, tt)))
+
+operation_send : IsSend Operation.the_row
+operation_send = variants_send Operation.enum ((new_row_send, tt), (tt, tt))
+
+-- ---- who publishes, and who looks
+
+pub end_send : IsSend End.the_row
+end_send = declared_send End.the_type (
+  writers.the_send Snapshot.the_row Operation.the_row View.the_row Law.the_row Global.the_row Shown.the_row absorbing.ghosts law.ghosts ghosts snapshot_send
+      operation_send heap.send snapshot_sync heap.sync heap.frees,
+  tt,
+)
+
+pub reader_send : IsSend (Reader.the_row Snapshot.the_row View.the_row Law.the_row Global.the_row law.ghosts ghosts)
+reader_send = readers.the_send Snapshot.the_row View.the_row Law.the_row Global.the_row law.ghosts ghosts heap.send snapshot_sync heap.sync heap.frees

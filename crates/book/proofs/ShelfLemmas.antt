@@ -1,0 +1,18 @@
+-- What is published at first.
+use Rattle.std.proofs.Common.{◌≡◌, ℕ, zero, suc, true, true≢false, List, [], ◌∷◌, sym, ap, ◌∙◌, subst}
+use mathlib.Core.Option.{some}
+use lib.ListN.{get_elem?}
+use Rattle.passes.specs.Histories.{IsLegal}
+use Rattle.passes.proofs.HistoryLemmas.{legal_none}
+use Rattle.snapshots.specs.declared.law.Shown.{Shown}
+use Rattle.snapshots.specs.declared.law.View.{View}
+use Rattle.snapshots.specs.Naming.{setup_in}
+use Rattle.snapshots.specs.Tied.{stranger, Tied}
+
+-- where nothing is shown yet, and nobody knows anything, the rule holds
+pub tied_first : (x : Shown) → x.rows ≡ [] → x.seen ≡ [] → Tied x (stranger ∷ [])
+tied_first x none unseen = (none ∙ sym unseen, subst (IsLegal (setup_in x.name)) (sym none) (legal_none (setup_in x.name)), nobody)
+  where
+    nobody : (seat : ℕ) (v : View) → get_elem? (stranger ∷ []) seat ≡ some v → v.knows ≡ true → v.name ≡ x.name
+    nobody zero v is knows = (let same : stranger ≡ v = cc in absurd (true≢false (sym knows ∙ sym (ap (λ (u : View). u.knows) same))))
+    nobody (suc k) v is knows = absurd (cc)

@@ -1,0 +1,1 @@
+use Rattle.book.proofs.pass.Pass.show.Goals as goal

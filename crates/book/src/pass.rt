@@ -1,0 +1,298 @@
+//! The callers of a front, with what they have seen.
+
+ghost use Rattle.std.specs.Prelude.{◌≡◌, ◌≢◌, ◌<◌, ◌++◌, ◌∷◌, [], true, false, length, IfOk, IfErr, IfSome, Err, MatchBool};
+ghost use mathlib.Core.List.{IsPrefix};
+ghost use Rattle.left_right.specs.Sides.{view};
+ghost use Rattle.model.specs.declared.refusal.Refusal.TheVariants.{Memory, Stopped};
+ghost use Rattle.events.specs.declared.reply.Reply.TheVariants.{Refused};
+ghost use Rattle.schedule.specs.Queries.{event_for};
+ghost use Rattle.passes.specs.Callers.{told_stopped, rows_of, seeing, with_caller};
+ghost use Rattle.passes.specs.Histories.{row, gave_up, IsLegal, IsAnswered, IsReadAfter};
+ghost use Rattle.events.specs.Terms.{event_of};
+ghost use Rattle.snapshots.specs.Following.{IsModelRead, IsPreparedAfter};
+ghost use Rattle.snapshots.specs.Naming.{name_of, book_in, setup_in};
+ghost use Rattle.snapshots.specs.Tied.{knower};
+ghost use Rattle.book.specs.Asking.{IsAsked, IsAskedAfter};
+
+use crate::book::Book;
+use crate::shelf::insist;
+use core::mem::replace_with;
+use laws::{isolation, kept_closures_are_good, timed_isolation};
+use model::Refusal;
+use passes::{Beginning, Naming, Pass as Caller, has_given_up};
+use schedule::{Event, Query, Ready, Reply, RunningJob, User};
+use snapshots::{SnapshotReader, look, prepare};
+use std::alloc::Global;
+use std::marker::Model;
+use std::sync::Wait;
+
+/// One caller of a front, with what it has seen of the history.
+pub struct Pass<J: Naming> {
+    caller: Caller<J>,
+    /// How many rows it is sure of.
+    sure: u64,
+    seen: Beginning,
+    reader: SnapshotReader,
+}
+
+impl<J: Naming> Drop for Pass<J> {
+    fn drop(self) {
+        let Pass {
+            caller: _,
+            sure: _,
+            seen: _,
+            reader: _,
+        } = self;
+    }
+}
+
+/// Contracts see a pass as what it knows of its calls, and the rows that it has seen, which begin with
+/// those that it is sure of.
+impl<J: Naming> Model for Pass<J> {
+    ghost use Rattle.std.specs.Prelude.{◌≡◌, length};
+    ghost use mathlib.Core.List.{IsPrefix};
+    ghost use Rattle.passes.specs.Callers.{Known};
+    ghost use Rattle.snapshots.specs.Naming.{name_of};
+    ghost use Rattle.snapshots.specs.Tied.{knower};
+
+    ghost Value = { Known };
+
+    ghost use Rattle.std.specs.Coded.{codes};
+    ghost use Rattle.model.specs.TreeCode.{tree_code};
+
+    ghost coded = { Prim.hlevel (codes, tree_code) };
+
+    ghost view = { λ p. record { caller = p.caller; seen = p.seen.seen.log } };
+
+    ghost invariant = { λ p. IsPrefix p.caller.sure p.seen.seen.log × (p.seen.seen.book ≡ J.book)
+        × (p.reader.place.me.0.client ≡ knower (name_of J.book J.setup))
+        × (p.sure ≡ length p.caller.sure) };
+}
+
+/// Answers a query after the rows that are published, with these rows.
+fn read_by(reader: SnapshotReader, query: Query) -> (SnapshotReader, Option<(Reply, Beginning)>)
+    requires { (view reader.place).knows ≡ true }
+    ensures view { view result.0.place ≡ view reader.place }
+    ensures rows { IfSome result.1 (λ t. t.1.seen.book ≡ book_in (view reader.place).name) }
+    ensures legal { IfSome result.1
+        (λ t. IsLegal (setup_in (view reader.place).name) t.1.seen.log) }
+    ensures reply { IfSome result.1
+        (λ t. IsModelRead (setup_in (view reader.place).name) t.1.seen.log (event_for query) t.0) }
+{
+    look(reader, query)
+}
+
+/// Makes values that an event needs after the rows that are published, with these rows.
+fn prepare_by(
+    reader: SnapshotReader,
+    event: &Event,
+) -> (SnapshotReader, Option<(Result<Ready, Refusal>, Beginning)>)
+    requires { (view reader.place).knows ≡ true }
+    ensures view { view result.0.place ≡ view reader.place }
+    ensures rows { IfSome result.1 (λ t. t.1.seen.book ≡ book_in (view reader.place).name) }
+    ensures prepared { IfSome result.1 (λ t. IfOk t.0 (IsPreparedAfter
+        (setup_in (view reader.place).name) t.1.seen.log (event_of event.now))) }
+    ensures memory { IfSome result.1 (λ t. IfErr t.0 (λ why. why ≡ Memory)) }
+{
+    prepare(reader, event)
+}
+
+/// How many rows a pass is sure of after a reply: as many as before it, or where it has a row all.
+fn sure_after(reply: &Reply, before: u64, all: u64) -> u64
+    ensures { MatchBool (gave_up reply.now) (result ≡ before) (result ≡ all) }
+{
+    if has_given_up(reply) { before } else { all }
+}
+
+impl<J: Naming> Pass<J> {
+    /// A pass that has made no call, and seen nothing.
+    pub(crate) fn new(caller: Caller<J>, seen: Beginning, reader: SnapshotReader) -> Pass<J>
+        requires caller { caller.sure ≡ [] }
+        requires seen { (seen.seen.log ≡ []) × (seen.seen.book ≡ J.book) }
+        requires reader { view reader.place ≡ knower (name_of J.book J.setup) }
+        ensures { result ≡ record { caller = caller; seen = [] } }
+    {
+        Pass {
+            caller,
+            sure: 0,
+            seen,
+            reader,
+        }
+    }
+
+    /// The number of the pass, from 0 on. It stands in the rows of its calls.
+    pub fn number(&self) -> u64
+        ensures { result ≡ self.now.caller.number }
+    {
+        self.caller.number()
+    }
+
+    /// Its calls that have a row are counted: they are those of its number among its sure rows.
+    pub fn rows_are_counted(&self)
+        ensures { rows_of self.now.caller.number self.now.caller.sure ≡ self.now.caller.calls }
+    {
+        self.caller.rows_are_counted()
+    }
+
+    /// What it has seen begins with the rows that it is sure of.
+    pub fn sure_rows_are_seen(&self)
+        ensures { IsPrefix self.now.caller.sure self.now.seen }
+    {
+        let _ = &self.seen;
+    }
+
+    /// Whether it has seen no rows but those that it is sure of.
+    pub fn is_sure_of_all(&self) -> bool
+        ensures { MatchBool result (self.now.seen ≡ self.now.caller.sure)
+            (length self.now.caller.sure < length self.now.seen) }
+    {
+        self.seen.len() <= self.sure
+    }
+
+    /// Sees rows, if they begin with all that it had seen, and says whether it does.
+    fn see(&mut self, rows: Beginning) -> bool
+        requires { rows.seen.book ≡ J.book }
+        ensures { MatchBool result (IsPrefix self.old.seen rows.seen.log
+            × (self.new ≡ seeing self.old rows.seen.log)) (self.new ≡ self.old) }
+    {
+        if !self.seen.begins(&rows) {
+            return false;
+        }
+        self.seen = rows;
+        true
+    }
+
+    /// Answers a query after rows that are published. They begin with all that the pass had seen, its own
+    /// answered calls among them, and are what it has seen then; with the query as one row more they are
+    /// a legal history. It takes no lock, and waits for nobody. The reply is 90 `Memory` where memory was
+    /// refused, and never 92 `Stopped`.
+    pub fn read(&mut self, query: Query) -> Reply
+        ensures read { gave_up result ≡ false
+            → IsReadAfter J.setup self.old.caller.number self.new.seen (event_for query) result }
+        ensures seen { IsPrefix self.old.seen self.new.seen }
+        ensures same { self.new ≡ seeing self.old self.new.seen }
+        ensures going { result ≢ Refused Stopped }
+    {
+        isolation();
+        timed_isolation();
+        let Some((reply, rows)) = replace_with(&mut self.reader, query, read_by) else {
+            return Reply::Refused(Refusal::Memory);
+        };
+        if self.see(rows) {
+            reply
+        } else {
+            Reply::Refused(Refusal::Memory)
+        }
+    }
+
+    /// Makes values that an event needs, so that [`Front::commit`](crate::Front::commit) need not make them
+    /// under the lock. They are made after rows that are published, which begin with all that the pass had
+    /// seen, and are what it has seen then: the path of a source, what comes of a tree that is offered, and
+    /// what comes of the output of a job for the goal that leads it. It takes no lock, and waits for nobody.
+    ///
+    /// # Errors
+    ///
+    /// - `Memory` only where memory was refused.
+    pub fn prepare(&mut self, event: &Event) -> Result<Ready, Refusal>
+        ensures prepared { IfOk result
+            (IsPreparedAfter J.setup self.new.seen (event_of event.now)) }
+        ensures seen { IsPrefix self.old.seen self.new.seen }
+        ensures same { self.new ≡ seeing self.old self.new.seen }
+        ensures memory { IfErr result (λ why. why ≡ Memory) }
+    {
+        let Some((ready, rows)) = replace_with(&mut self.reader, event, prepare_by) else {
+            return Err(Refusal::Memory);
+        };
+        if self.see(rows) {
+            ready
+        } else {
+            Err(Refusal::Memory)
+        }
+    }
+
+    /// Answers one event of the pass by the book. Then it has seen all rows.
+    pub(crate) fn call<R: Wait>(
+        &mut self,
+        rt: &R,
+        alloc: Global,
+        book: &mut Book<J>,
+        event: Event,
+        ready: Ready,
+    ) -> Reply
+        ensures answered { gave_up result ≡ false
+            → IsAnswered J.setup self.old event result self.new }
+        ensures alone { gave_up result ≡ false → J.parts ≡ 1 → self.new.caller.sure
+            ≡ self.old.caller.sure ++ row self.old.caller.number event result ∷ [] }
+        ensures memory { result ≡ Refused Memory → self.new.caller ≡ self.old.caller }
+        ensures stopped { result ≡ Refused Stopped
+            → self.new.caller ≡ told_stopped self.old.caller }
+        ensures remains { self.old.caller.stopped ≡ true → result ≡ Refused Stopped }
+        ensures seen { IsPrefix self.old.seen self.new.seen }
+    {
+        let Pass {
+            caller,
+            sure,
+            seen,
+            ..
+        } = self;
+        insist(rt, seen.begins(&book.seen()));
+        let reply = book.apply_ready(rt, alloc, caller, event, ready);
+        *seen = book.seen();
+        *sure = sure_after(&reply, *sure, seen.len());
+        reply
+    }
+
+    /// Asks the book for the job that a user's goal of a number leads.
+    pub(crate) fn request(
+        &mut self,
+        book: &mut Book<J>,
+        user: &User,
+        number: u16,
+    ) -> Result<RunningJob, Refusal>
+        ensures asked { result ≢ Err Stopped
+            → IsAsked J.setup self.old.caller user.now number result }
+        ensures alone { result ≢ Err Stopped → J.parts ≡ 1
+            → IsAskedAfter J.setup self.old.caller.sure user.now number result }
+        ensures going { result ≢ Err Stopped → self.new ≡ self.old }
+        ensures stopped { result ≡ Err Stopped
+            → self.new ≡ with_caller self.old (told_stopped self.old.caller) }
+        ensures remains { self.old.caller.stopped ≡ true → result ≡ Err Stopped }
+    {
+        kept_closures_are_good();
+        book.request(&mut self.caller, user, number)
+    }
+
+    /// It has seen all rows of the book then, among them those that it is sure of.
+    pub(crate) fn show(&mut self, book: &mut Book<J>)
+        ensures begins { IsPrefix self.old.caller.sure book.old.rows }
+        ensures sure { self.new.caller.sure ≡ self.old.caller.sure }
+        ensures calls { self.new.caller.calls ≡ self.old.caller.calls }
+        ensures number { self.new.caller.number ≡ self.old.caller.number }
+        ensures seen { IsPrefix self.old.seen self.new.seen }
+        ensures all { IsPrefix book.old.rows self.new.seen }
+        ensures same { book.new ≡ book.old }
+    {
+        let Pass { caller, seen, .. } = self;
+        book.compare(caller);
+        let rows = book.seen();
+        if seen.begins(&rows) {
+            *seen = rows;
+        }
+    }
+
+    /// What it is without what it has seen, which are the first of all rows.
+    pub(crate) fn into_caller<R: Wait>(self, rt: &R, rows: &Beginning) -> Caller<J>
+        requires { rows.now.seen.book ≡ J.book }
+        ensures caller { result ≡ self.caller }
+        ensures seen { IsPrefix self.seen rows.now.seen.log }
+    {
+        let Pass {
+            caller,
+            sure: _,
+            seen,
+            reader: _reader,
+        } = self;
+        insist(rt, seen.begins(rows));
+        caller
+    }
+}

@@ -1,0 +1,3 @@
+pub mod FollowLemmas
+pub mod Ties
+pub mod LegalLemmas

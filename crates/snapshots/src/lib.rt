@@ -1,0 +1,14 @@
+//! What is published of a book, and read without its lock.
+//!
+//! A [`Snapshot`] is a core that has taken the events of all rows up to a moment, with these rows. Its
+//! writer, an [`End`], publishes each row behind the others, and each sweep; a reader looks at what is
+//! published and waits for nobody.
+#![tactic(auto)]
+
+mod ends;
+mod law;
+mod snapshot;
+
+pub use ends::{begin, look, prepare, publish, reader_of, sweep};
+pub use law::{End, Law, Looks, Name, Shown, SnapshotReader, SnapshotWriter, Tells, View};
+pub use snapshot::{NewRow, Operation, Snapshot};
