@@ -86,5 +86,6 @@ module _ (setup : Setup) (book : Contents) (user : List ℕ) (number : ℕ) (tol
   is_asked pass matches going = record { rows = book.rows; longer = matches.sure; after = after_all going }
 
   -- and after those of the only pass
-  pub is_asked_alone : (sure : List Row) (parts : ℕ) → (parts ≡ 1 → sure ≡ book.rows) → told ≢ Err Stopped → parts ≡ 1 → IsAskedAfter setup sure user number told
+  pub is_asked_alone : (sure : List Row) (parts : ℕ) → (parts ≡ 1 → sure ≡ book.rows) → told ≢ Err Stopped → parts ≡ 1
+      → IsAskedAfter setup sure user number told
   is_asked_alone sure parts alone going only = subst (λ (rows : List Row). IsAskedAfter setup rows user number told) (sym (alone only)) (after_all going)

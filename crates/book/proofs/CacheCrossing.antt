@@ -33,20 +33,23 @@ module _ (K V : RattleType) where
   slot_sync : IsSync (Slot.the_row K V Global.the_row ghosts)
   slot_sync = search (sendable, deed_sync) depth 20
 
-module _ (K V S H : RattleType) (q : total.Ghosts K.Denot) (e : eq.Ghosts K.Denot) (h : hash.Ghosts K.Denot) (b : builder.Ghosts S.Denot H.Denot) (w : hasher.Ghosts H.Denot) where
+module _ (K V S H : RattleType) (q : total.Ghosts K.Denot) (e : eq.Ghosts K.Denot) (h : hash.Ghosts K.Denot)
+    (b : builder.Ghosts S.Denot H.Denot) (w : hasher.Ghosts H.Denot) where
   nodes_send : IsSend K → IsSync K → IsSend V → IsSend S → IsSend (Linked.the_row K V S Global.the_row H q e h b w ghosts)
   nodes_send sk yk sv ss =
       let key : IsSend (KeyRef.the_row K) = KeyRef-send K yk in
       let slot : IsSend (Slot.the_row K V Global.the_row ghosts) = slot_send K V in
       let list : IsSend (Nodes.the_row K V) = List-send K V sk yk sv in
-      declared_send (Linked.the_type K V S Global.the_row H q e h b w ghosts) (search (as_row_send, recorded_send, HashMap-send) depth 8, (slot, (slot, (list, (heap.send, tt)))))
+      declared_send (Linked.the_type K V S Global.the_row H q e h b w ghosts)
+      (search (as_row_send, recorded_send, HashMap-send) depth 8, (slot, (slot, (list, (heap.send, tt)))))
 
   nodes_sync : IsSync K → IsSync V → IsSync S → IsSync (Linked.the_row K V S Global.the_row H q e h b w ghosts)
   nodes_sync yk yv ys =
       let key : IsSync (KeyRef.the_row K) = KeyRef-sync K yk in
       let slot : IsSync (Slot.the_row K V Global.the_row ghosts) = slot_sync K V in
       let list : IsSync (Nodes.the_row K V) = List-sync K V yk yv in
-      declared_sync (Linked.the_type K V S Global.the_row H q e h b w ghosts) (search (as_row_sync, recorded_sync, HashMap-sync) depth 8, (slot, (slot, (list, (heap.sync, tt)))))
+      declared_sync (Linked.the_type K V S Global.the_row H q e h b w ghosts)
+      (search (as_row_sync, recorded_sync, HashMap-sync) depth 8, (slot, (slot, (list, (heap.sync, tt)))))
 
   inside_send : IsSend K → IsSync K → IsSend V → IsSend S → IsSend (Inside.the_row K V S Global.the_row H q e h b w ghosts)
   inside_send sk yk sv ss = declared_send (Inside.the_type K V S Global.the_row H q e h b w ghosts) (nodes_send sk yk sv ss, (search sendable depth 8, tt))

@@ -14,7 +14,8 @@ use Rattle.passes.specs.Histories.{gave_up}
 use Rattle.passes.proofs.Prefixes.{prefix_self, prefix_push, prefix_trans}
 
 -- the sure rows stay where a call has no row
-pub sure_stays : (old new : Caller) (reply : Reply) → gave_up reply ≡ true → (reply ≡ Refused Memory → new ≡ old) → (reply ≡ Refused Stopped → new ≡ told_stopped old) → new.sure ≡ old.sure
+pub sure_stays : (old new : Caller) (reply : Reply) → gave_up reply ≡ true → (reply ≡ Refused Memory → new ≡ old)
+    → (reply ≡ Refused Stopped → new ≡ told_stopped old) → new.sure ≡ old.sure
 sure_stays old new (Refused Memory) none memory told = ap (λ (p : Caller). p.sure) (memory refl)
 sure_stays old new (Refused Stopped) none memory told = ap (λ (p : Caller). p.sure) (told refl)
 sure_stays old new (Refused why) none memory told = cc
@@ -40,14 +41,16 @@ module _ (old new : Caller) (reply : Reply) (before rows : List Row) (counted : 
   ]
 
   -- and are so many
-  pub sure_counted : (count all now : ℕ) → count ≡ length old.sure → all ≡ length rows → MatchBool (gave_up reply) (now ≡ count) (now ≡ all) → now ≡ length new.sure
+  pub sure_counted : (count all now : ℕ) → count ≡ length old.sure → all ≡ length rows → MatchBool (gave_up reply) (now ≡ count) (now ≡ all)
+      → now ≡ length new.sure
   sure_counted count all now is_count is_all is = elim (either (gave_up reply)) [
     | inl t ↦ (rw t at is) ∙ (is_count ∙ ap length (sym (sure_stays old new reply t memory told)))
     | inr f ↦ (rw f at is) ∙ (is_all ∙ ap (λ (p : Caller). length p.sure) (sym (counted f)))
   ]
 
 -- what it has seen is only lengthened
-pub seen_grows : (reply : Reply) (seen before rows : List Row) (r : Row) → (gave_up reply ≡ false → rows ≡ before ++ r ∷ []) → (gave_up reply ≡ true → rows ≡ before)
+pub seen_grows : (reply : Reply) (seen before rows : List Row) (r : Row) → (gave_up reply ≡ false → rows ≡ before ++ r ∷ [])
+    → (gave_up reply ≡ true → rows ≡ before)
     → IsPrefix seen before → IsPrefix seen rows
 seen_grows reply seen before rows r added stays begins = elim (either (gave_up reply)) [
   | inl t ↦ subst (IsPrefix seen) (sym (stays t)) begins
@@ -55,7 +58,8 @@ seen_grows reply seen before rows r added stays begins = elim (either (gave_up r
 ]
 
 -- they stay where a pass asks for a job
-pub sure_asked : (old new : Caller) (told : Result Running Refusal) → (told ≢ Err Stopped → new ≡ old) → (told ≡ Err Stopped → new ≡ told_stopped old) → new.sure ≡ old.sure
+pub sure_asked : (old new : Caller) (told : Result Running Refusal) → (told ≢ Err Stopped → new ≡ old) → (told ≡ Err Stopped → new ≡ told_stopped old)
+    → new.sure ≡ old.sure
 sure_asked old new (Ok job) going stopped = ap (λ (p : Caller). p.sure) (going (λ is. cc))
 sure_asked old new (Err Stopped) going stopped = ap (λ (p : Caller). p.sure) (stopped refl)
 sure_asked old new (Err why) going stopped = ap (λ (p : Caller). p.sure) (going (λ is. cc))

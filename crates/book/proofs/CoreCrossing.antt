@@ -183,7 +183,7 @@ kept_send = declared_send Kept.the_type (search (LruCache-send, sendable, crosse
 kept_sync : IsSync Kept.the_row
 kept_sync = declared_sync Kept.the_type (search (LruCache-sync, sendable, crosses, path_sync, repair_sync) depth 40, (search sendable, tt))
 
-cache_send : IsSend Cache.the_row
+pub cache_send : IsSend Cache.the_row
 cache_send = search (sendable, crosses, repair_send, kept_send) depth 60 fits 5000
 
 cache_sync : IsSync Cache.the_row
@@ -254,12 +254,14 @@ ready_send = declared_send Ready.the_type (declared_send Work.the_type (sources_
 
 snapshot_send : IsSend Snapshot.the_row
 snapshot_send =
-    let inside : IsSend Inside.the_row = declared_send Inside.the_type (core_send, (search (sendable, crosses, row_send, row_sync) depth 20, (beginnings.the_send, (heap.send, tt)))) in
+    let inside : IsSend Inside.the_row =
+    declared_send Inside.the_type (core_send, (search (sendable, crosses, row_send, row_sync) depth 20, (beginnings.the_send, (heap.send, tt)))) in
     search view_send depth 5
 
 snapshot_sync : IsSync Snapshot.the_row
 snapshot_sync =
-    let inside : IsSync Inside.the_row = declared_sync Inside.the_type (core_sync, (search (sendable, crosses, row_send, row_sync) depth 20, (beginnings.the_sync, (heap.sync, tt)))) in
+    let inside : IsSync Inside.the_row =
+    declared_sync Inside.the_type (core_sync, (search (sendable, crosses, row_send, row_sync) depth 20, (beginnings.the_sync, (heap.sync, tt)))) in
     search view_sync depth 5
 
 new_row_send : IsSend NewRow.the_row

@@ -6,7 +6,8 @@ use Rattle.schedule.specs.Standing.{world_of, setup_of, HasHashed}
 use Rattle.passes.specs.declared.row.Row.{Row}
 use Rattle.book.specs.Keeping.{Kept}
 
-pub kept_swept : (setup : Setup) (old new : Core) (stopped : Bool) (rows : List Row) → Kept setup old stopped rows → setup_of new ≡ setup_of old → world_of new ≡ world_of old
+pub kept_swept : (setup : Setup) (old new : Core) (stopped : Bool) (rows : List Row) → Kept setup old stopped rows → setup_of new ≡ setup_of old
+    → world_of new ≡ world_of old
     → ((texts : List (List ℕ)) → HasHashed texts old → HasHashed texts new) → Kept setup new stopped rows
 kept_swept setup old new stopped rows kept same_setup same_world hashed = record {
   given = same_setup ∙ kept.given;

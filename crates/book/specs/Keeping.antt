@@ -39,9 +39,12 @@ pub record TookEvent (old : Core) (event : Event) (new : Core) : Type 0 where
 pub record Kept (setup : Setup) (core : Core) (stopped : Bool) (rows : List Row) : Type 0 where
   pub given : setup_of core ≡ setup
   pub answered : All (λ r. gave_up r.reply ≡ false) rows
-  pub told : (texts : List (List ℕ)) → NoClash texts → All (Contains texts) (hashed setup nothing (events_of rows)) → answers_of rows ≡ answers setup nothing (events_of rows)
-  pub good : (texts : List (List ℕ)) → NoClash texts → All (Contains texts) (hashed setup nothing (events_of rows)) → GiveGoodClosures setup nothing (events_of rows)
-  pub reached : stopped ≡ false → (texts : List (List ℕ)) → NoClash texts → All (Contains texts) (hashed setup nothing (events_of rows)) → HasReached setup core texts rows
+  pub told : (texts : List (List ℕ)) → NoClash texts → All (Contains texts) (hashed setup nothing (events_of rows))
+      → answers_of rows ≡ answers setup nothing (events_of rows)
+  pub good : (texts : List (List ℕ)) → NoClash texts → All (Contains texts) (hashed setup nothing (events_of rows))
+      → GiveGoodClosures setup nothing (events_of rows)
+  pub reached : stopped ≡ false → (texts : List (List ℕ)) → NoClash texts → All (Contains texts) (hashed setup nothing (events_of rows))
+      → HasReached setup core texts rows
 
 -- ---- what a call changes
 
@@ -58,7 +61,8 @@ KeepsCore old new = new.stopped ≡ old.stopped → IsUnchanged old.core new.cor
 -- where no two texts that the events hash have one folded digest, the reply to one event more is the model's
 abbrev pub IsModelReply : Setup → List Row → Event → Reply → Type 0
 IsModelReply setup rows event reply =
-    NoClash (hashed setup nothing (events_of rows ++ event_of event ∷ [])) → reply_of reply ≡ reply_to setup (world_after setup nothing (events_of rows)) (event_of event)
+    NoClash (hashed setup nothing (events_of rows ++ event_of event ∷ []))
+    → reply_of reply ≡ reply_to setup (world_after setup nothing (events_of rows)) (event_of event)
 
 -- where no two texts that the events hash have one folded digest, the core stands for the desks that they reach
 abbrev pub StandsFor : Setup → Core → List Row → Type 0

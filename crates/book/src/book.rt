@@ -1,25 +1,26 @@
 //! What lies under the lock.
 
-ghost use Rattle.std.specs.Prelude.{◌≡◌, ◌≢◌, ◌+◌, ◌++◌, ◌<◌, ◌∷◌, ◌⊎◌, [], length, vec_len, map, sum, All, true, false, OnOk, OnErr, IfOk, IfErr, IfSome, IfNone, Err};
+ghost use Rattle.std.specs.Prelude.{◌≡◌, ◌≢◌, ◌+◌, ◌++◌, ◌<◌, ◌∷◌, ◌⊎◌, [], length, vec_len, map, sum, All, true, false, OnOk, OnErr, IfOk, IfErr, Err};
 ghost use Rattle.std.specs.Vec.{vec_capacity};
 ghost use mathlib.Core.List.{IsPrefix};
 ghost use Rattle.model.specs.Paths.{NoClash};
 ghost use Rattle.model.specs.Worlds.{nothing};
 ghost use Rattle.model.specs.HashedTexts.{hashed};
 ghost use Rattle.model.specs.declared.refusal.Refusal.TheVariants.{Memory, Stopped};
-ghost use Rattle.schedule.specs.Standing.{world_of, setup_of, stored_in, IsUnchanged};
+ghost use Rattle.schedule.specs.Standing.{world_of, setup_of, stored_in};
 ghost use Rattle.leading.specs.Asking.{IsAnswerTo};
 ghost use Rattle.schedule.specs.Asking.{job_asked_for};
 ghost use Rattle.schedule.specs.Sweeping.{is_held};
 ghost use Rattle.store.specs.Stored.{kept_at};
 ghost use Rattle.events.specs.declared.reply.Reply.TheVariants.{Refused};
-ghost use Rattle.passes.specs.Callers.{answered, told_stopped, Matches};
+ghost use Rattle.passes.specs.Callers.{answered, told_stopped, knowing, Matches};
 ghost use Rattle.passes.specs.Histories.{row, gave_up, IsLegal};
-ghost use Rattle.book.specs.Keeping.{IsNew, Kept, Steps, TookEvent, Stops, KeepsCore, IsModelReply, StandsFor};
+ghost use Rattle.book.specs.Keeping.{IsNew, Steps, TookEvent, Stops, KeepsCore, IsModelReply, StandsFor};
 
 use crate::history::History;
 use crate::pass::Pass as Seer;
-use crate::shelf::{Shelf, insist};
+use crate::shelf::Shelf;
+use crate::steps::step;
 use laws::{isolation, timed_isolation};
 use model::Refusal;
 use passes::{Beginning, Log, Naming, Pass, Row};
@@ -27,7 +28,7 @@ use schedule::{Core, Event, Ready, Reply, RunningJob, User};
 use std::alloc::{AllocError, Global};
 use std::marker::Model;
 use std::sync::ledger::Share;
-use std::sync::{Arc, Wait, ledger};
+use std::sync::{Wait, ledger};
 
 /// A core with the history of its calls. Whoever holds it may call [`Book::apply`] for any pass.
 ///
@@ -94,119 +95,6 @@ fn push(history: &mut Vec<Row>, row: Row)
     ensures { history.new.items ≡ history.old.items ++ row ∷ [] }
 {
     history.push_reserved(row);
-}
-
-/// Why a reply has no row, if it has none.
-fn want_in(reply: &Reply) -> Option<Refusal>
-    ensures want { IfSome result (λ why. (reply.now ≡ Refused why) × (gave_up reply.now ≡ true)) }
-    ensures none { IfNone result (gave_up reply.now ≡ false) }
-{
-    match reply {
-        Reply::Refused(why) => match why {
-            Refusal::Memory | Refusal::Stopped => Some(*why),
-            _ => None,
-        },
-        _ => None,
-    }
-}
-
-/// A copy of the event of a row.
-fn event_again(row: &Row) -> Result<Event, AllocError>
-    ensures { IfOk result (λ event. event ≡ row.now.event) }
-{
-    row.event.clone()
-}
-
-/// A copy of its reply.
-fn reply_again(row: &Row) -> Result<Reply, AllocError>
-    ensures { IfOk result (λ reply. reply ≡ row.now.reply) }
-{
-    row.reply.clone()
-}
-
-/// A copy of a row.
-fn row_again(row: &Row) -> Result<Row, AllocError>
-    ensures { IfOk result (λ copy. copy ≡ row.now) }
-{
-    let event = event_again(row)?;
-    let reply = reply_again(row)?;
-    Ok(Row {
-        pass: row.pass,
-        event,
-        reply,
-    })
-}
-
-/// Publishes a copy of a row, with the values that were made for its event, and says whether it did.
-fn show<J: Naming, R: Wait>(
-    rt: &R,
-    alloc: Global,
-    shelf: &mut Shelf<J>,
-    row: &Row,
-    ready: Ready,
-) -> bool
-    requires whole { shelf.old.whole ≡ true }
-    requires legal { IsLegal J.setup (shelf.old.rows ++ row.now ∷ []) }
-    ensures shown { result ≡ true
-        → shelf.new ≡ record { rows = shelf.old.rows ++ row.now ∷ []; whole = true } }
-    ensures lost { result ≡ false → shelf.new.rows ≡ shelf.old.rows }
-{
-    let Ok(copy) = row_again(row) else {
-        return false;
-    };
-    let Ok(shared) = Arc::new(alloc, copy) else {
-        return false;
-    };
-    shelf.put(rt, shared, ready)
-}
-
-/// Lets a core take an event and publishes the row, and gives its reply and the row. There is none
-/// where the core has taken the event, and memory is refused for publishing the row. The error is the
-/// core's own want of memory, at which the core is as it was.
-#[tactic(auto, using(crate::proofs::ReplyLemmas::wants_memory))]
-fn step<J: Naming, R: Wait>(
-    rt: &R,
-    alloc: Global,
-    core: &mut Core,
-    shelf: &mut Shelf<J>,
-    pass: u64,
-    event: Event,
-    asked: Event,
-    ready: Ready,
-) -> Result<Option<(Reply, Row)>, Refusal>
-    requires asked { asked ≡ event }
-    requires whole { shelf.old.whole ≡ true }
-    requires kept { Kept J.setup core.old false shelf.old.rows }
-    ensures row { IfOk result (λ found. IfSome found (λ p. p.1 ≡ row pass event p.0)) }
-    ensures some { IfOk result (λ found. IfSome found (λ p. gave_up p.0 ≡ false)) }
-    ensures step { IfOk result (λ found. IfSome found (λ p. Steps core.old event p.0 core.new)) }
-    ensures shown { IfOk result (λ found. IfSome found (λ p.
-        shelf.new ≡ record { rows = shelf.old.rows ++ p.1 ∷ []; whole = true })) }
-    ensures lost { IfOk result (λ found. IfNone found (TookEvent core.old event core.new)) }
-    ensures not_shown { IfOk result (λ found. IfNone found (shelf.new.rows ≡ shelf.old.rows)) }
-    ensures given { setup_of core.new ≡ setup_of core.old }
-    ensures refused { IfErr result (λ why. IsUnchanged core.old core.new) }
-    ensures kept { IfErr result (λ why. shelf.new ≡ shelf.old) }
-    ensures memory { IfErr result (λ why. why ≡ Memory) }
-{
-    isolation();
-    timed_isolation();
-    let mut ready = ready;
-    let (reply, copy) = core
-        .step_ready_with_copy(alloc, event, &mut ready)
-        .into_both();
-    if let Some(why) = want_in(&reply) {
-        return Err(why);
-    }
-    let row = Row {
-        pass,
-        event: asked,
-        reply: copy,
-    };
-    if !show(rt, alloc, shelf, &row, ready) {
-        return Ok(None);
-    }
-    Ok(Some((reply, row)))
 }
 
 /// A refusal of an event that is let go.
@@ -452,12 +340,10 @@ impl<J: Naming> Book<J> {
         self.shelf.seen()
     }
 
-    /// Compares what a pass knows.
+    /// Compares what a pass knows, and tells it whether the book is stopped.
     pub(crate) fn compare(&mut self, pass: &mut Pass<J>)
         ensures matches { Matches self.old.rows self.old.stopped pass.old }
-        ensures sure { pass.new.sure ≡ pass.old.sure }
-        ensures calls { pass.new.calls ≡ pass.old.calls }
-        ensures number { pass.new.number ≡ pass.old.number }
+        ensures knows { pass.new ≡ knowing self.old.stopped pass.old }
         ensures same { self.new ≡ self.old }
     {
         pass.compare(&mut self.log);

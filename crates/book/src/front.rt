@@ -5,7 +5,7 @@ ghost use mathlib.Core.List.{IsPrefix};
 ghost use Rattle.left_right.specs.Sides.{view};
 ghost use Rattle.model.specs.declared.refusal.Refusal.TheVariants.{Memory, Stopped};
 ghost use Rattle.events.specs.declared.reply.Reply.TheVariants.{Refused};
-ghost use Rattle.passes.specs.Callers.{told_stopped, below, rows_of, new_pass, with_caller};
+ghost use Rattle.passes.specs.Callers.{told_stopped, knowing, below, rows_of, new_pass, with_caller};
 ghost use Rattle.passes.specs.Tokens.{nothing_recorded};
 ghost use Rattle.passes.specs.Histories.{row, gave_up, IsLegal, IsAnswered};
 ghost use Rattle.snapshots.specs.Naming.{name_of};
@@ -22,11 +22,16 @@ use passes::{Beginning, Blank, Log, Naming, Pass as Caller};
 use schedule::{Core, Event, Ready, Reply, RunningJob, User};
 use snapshots::{Snapshot, SnapshotWriter, begin, reader_of};
 use std::alloc::Global;
+use std::num::NonZeroUsize;
 use std::sync::ledger::Share;
 use std::sync::{Mutex, MutexGuard, Wait};
 
 /// The most readers that there can be at once: one for each pass.
 const MOST_READERS: usize = 64;
+
+/// How many repaired records the passes of a front keep at most, all together: as many as a closure may
+/// have entries.
+const MOST_REPAIRED: usize = 1_024;
 
 /// A core with the history of its calls, under a lock, and what is published of it. Threads share it by
 /// reference, and each calls it through a [`Pass`] of its own.
@@ -51,15 +56,24 @@ impl<J: Naming> Drop for Hold<'_, J> {
     }
 }
 
+/// How many repaired records each of so many passes keeps at most.
+fn most_repaired(n: u64) -> NonZeroUsize
+    requires { 0 < n }
+{
+    NonZeroUsize::new(MOST_REPAIRED / n as usize).unwrap_or(NonZeroUsize::MIN)
+}
+
 /// So many passes, each with a part of the count and a reader.
 fn passes_of<J: Naming>(
     alloc: Global,
+    core: &Core,
     n: u64,
     all: &mut Share<J>,
     log: &mut Log<J>,
     writer: &mut SnapshotWriter,
     none: &Beginning,
 ) -> Result<Vec<Pass<J>>, Refusal>
+    requires some { 0 < n }
     requires all { (all.old.parts ≡ n) × (all.old.amount ≡ 0) }
     requires log { log.old ≡ nothing_recorded }
     requires none { (none.now.seen.log ≡ []) × (none.now.seen.book ≡ J.book) }
@@ -71,12 +85,14 @@ fn passes_of<J: Naming>(
     ensures log { (log.new.rows ≡ []) × (log.new.stopped ≡ false) }
     ensures memory { IfErr result (λ why. why ≡ Memory) }
 {
+    let most = most_repaired(n);
     let mut passes = Vec::new(alloc);
     for number in 0..n {
         let calls = all.split_off(1, 0);
         let reader = reader_of(writer)?;
         let caller = Caller::new(number, calls, log.next_claim());
-        passes.push(Pass::new(caller, none.again(), reader))?;
+        let repaired = core.cache_for(alloc, most)?;
+        passes.push(Pass::new(caller, none.again(), reader, repaired, alloc))?;
     }
     Ok(passes)
 }
@@ -140,7 +156,7 @@ impl<J: Naming> Front<J> {
         let mut log = log.named::<J>();
         let (head, none) = rows.named::<J>();
         let mut writer = writer_of::<J, R>(rt, alloc, &core, &none)?;
-        match passes_of(alloc, n, &mut all, &mut log, &mut writer, &none) {
+        match passes_of(alloc, &core, n, &mut all, &mut log, &mut writer, &none) {
             Ok(passes) => {
                 let shelf = Shelf::new(head, none, writer);
                 let book = Book::new(alloc, core, calls, all, log, shelf);
@@ -245,17 +261,17 @@ impl<J: Naming> Front<J> {
         pass.request(&mut *self.book.lock(rt), user, number)
     }
 
-    /// Takes the lock and adds no row. Then the first pass has seen all rows that the second is sure of.
+    /// Takes the lock and adds no row. Then each pass has seen all rows that the other is sure of, and both
+    /// know whether the front is stopped. Nothing else of what they know of their calls changes.
     pub fn meet<R: Wait>(&self, rt: &R, first: &mut Pass<J>, second: &mut Pass<J>)
-        ensures first_sure { first.new.caller.sure ≡ first.old.caller.sure }
-        ensures first_calls { first.new.caller.calls ≡ first.old.caller.calls }
-        ensures first_number { first.new.caller.number ≡ first.old.caller.number }
+        ensures first { first.new.caller ≡ knowing first.new.caller.stopped first.old.caller }
+        ensures second { second.new.caller ≡ knowing first.new.caller.stopped second.old.caller }
+        ensures first_remains { first.old.caller.stopped ≡ true → first.new.caller.stopped ≡ true }
+        ensures second_remains { second.old.caller.stopped ≡ true → first.new.caller.stopped ≡ true }
         ensures first_seen { IsPrefix first.old.seen first.new.seen }
-        ensures second_sure { second.new.caller.sure ≡ second.old.caller.sure }
-        ensures second_calls { second.new.caller.calls ≡ second.old.caller.calls }
-        ensures second_number { second.new.caller.number ≡ second.old.caller.number }
         ensures second_seen { IsPrefix second.old.seen second.new.seen }
         ensures met { IsPrefix second.old.caller.sure first.new.seen }
+        ensures met_by { IsPrefix first.old.caller.sure second.new.seen }
     {
         let mut book = self.book.lock(rt);
         first.show(&mut *book);

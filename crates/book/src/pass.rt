@@ -6,10 +6,10 @@ ghost use Rattle.left_right.specs.Sides.{view};
 ghost use Rattle.model.specs.declared.refusal.Refusal.TheVariants.{Memory, Stopped};
 ghost use Rattle.events.specs.declared.reply.Reply.TheVariants.{Refused};
 ghost use Rattle.schedule.specs.Queries.{event_for};
-ghost use Rattle.passes.specs.Callers.{told_stopped, rows_of, seeing, with_caller};
+ghost use Rattle.passes.specs.Callers.{told_stopped, knowing, rows_of, seeing, with_caller};
 ghost use Rattle.passes.specs.Histories.{row, gave_up, IsLegal, IsAnswered, IsReadAfter};
 ghost use Rattle.events.specs.Terms.{event_of};
-ghost use Rattle.snapshots.specs.Following.{IsModelRead, IsPreparedAfter};
+ghost use Rattle.snapshots.specs.Following.{FindsRead, IsNeedAfter, IsPreparedAfter};
 ghost use Rattle.snapshots.specs.Naming.{name_of, book_in, setup_in};
 ghost use Rattle.snapshots.specs.Tied.{knower};
 ghost use Rattle.book.specs.Asking.{IsAsked, IsAskedAfter};
@@ -20,8 +20,8 @@ use core::mem::replace_with;
 use laws::{isolation, kept_closures_are_good, timed_isolation};
 use model::Refusal;
 use passes::{Beginning, Naming, Pass as Caller, has_given_up};
-use schedule::{Event, Query, Ready, Reply, RunningJob, User};
-use snapshots::{SnapshotReader, look, prepare};
+use schedule::{Cache, Event, Finding, Need, Query, Ready, Reply, RunningJob, User};
+use snapshots::{SnapshotReader, look, need};
 use std::alloc::Global;
 use std::marker::Model;
 use std::sync::Wait;
@@ -33,6 +33,9 @@ pub struct Pass<J: Naming> {
     sure: u64,
     seen: Beginning,
     reader: SnapshotReader,
+    /// Records that were repaired for its closures.
+    repaired: Cache,
+    alloc: Global,
 }
 
 impl<J: Naming> Drop for Pass<J> {
@@ -42,6 +45,8 @@ impl<J: Naming> Drop for Pass<J> {
             sure: _,
             seen: _,
             reader: _,
+            repaired: _,
+            alloc: _,
         } = self;
     }
 }
@@ -69,32 +74,32 @@ impl<J: Naming> Model for Pass<J> {
         × (p.sure ≡ length p.caller.sure) };
 }
 
-/// Answers a query after the rows that are published, with these rows.
-fn read_by(reader: SnapshotReader, query: Query) -> (SnapshotReader, Option<(Reply, Beginning)>)
+/// Looks for the answer to a query after the rows that are published, with these rows.
+fn look_by(reader: SnapshotReader, query: Query) -> (SnapshotReader, Option<(Finding, Beginning)>)
     requires { (view reader.place).knows ≡ true }
     ensures view { view result.0.place ≡ view reader.place }
     ensures rows { IfSome result.1 (λ t. t.1.seen.book ≡ book_in (view reader.place).name) }
     ensures legal { IfSome result.1
         (λ t. IsLegal (setup_in (view reader.place).name) t.1.seen.log) }
-    ensures reply { IfSome result.1
-        (λ t. IsModelRead (setup_in (view reader.place).name) t.1.seen.log (event_for query) t.0) }
+    ensures found { IfSome result.1
+        (λ t. FindsRead (setup_in (view reader.place).name) t.1.seen.log (event_for query) t.0) }
 {
     look(reader, query)
 }
 
-/// Makes values that an event needs after the rows that are published, with these rows.
-fn prepare_by(
+/// What an event needs to be made after the rows that are published, with these rows.
+fn need_by(
     reader: SnapshotReader,
     event: &Event,
-) -> (SnapshotReader, Option<(Result<Ready, Refusal>, Beginning)>)
+) -> (SnapshotReader, Option<(Result<Need, Refusal>, Beginning)>)
     requires { (view reader.place).knows ≡ true }
     ensures view { view result.0.place ≡ view reader.place }
     ensures rows { IfSome result.1 (λ t. t.1.seen.book ≡ book_in (view reader.place).name) }
-    ensures prepared { IfSome result.1 (λ t. IfOk t.0 (IsPreparedAfter
+    ensures need { IfSome result.1 (λ t. IfOk t.0 (IsNeedAfter
         (setup_in (view reader.place).name) t.1.seen.log (event_of event.now))) }
     ensures memory { IfSome result.1 (λ t. IfErr t.0 (λ why. why ≡ Memory)) }
 {
-    prepare(reader, event)
+    need(reader, event)
 }
 
 /// How many rows a pass is sure of after a reply: as many as before it, or where it has a row all.
@@ -106,7 +111,13 @@ fn sure_after(reply: &Reply, before: u64, all: u64) -> u64
 
 impl<J: Naming> Pass<J> {
     /// A pass that has made no call, and seen nothing.
-    pub(crate) fn new(caller: Caller<J>, seen: Beginning, reader: SnapshotReader) -> Pass<J>
+    pub(crate) fn new(
+        caller: Caller<J>,
+        seen: Beginning,
+        reader: SnapshotReader,
+        repaired: Cache,
+        alloc: Global,
+    ) -> Pass<J>
         requires caller { caller.sure ≡ [] }
         requires seen { (seen.seen.log ≡ []) × (seen.seen.book ≡ J.book) }
         requires reader { view reader.place ≡ knower (name_of J.book J.setup) }
@@ -117,6 +128,8 @@ impl<J: Naming> Pass<J> {
             sure: 0,
             seen,
             reader,
+            repaired,
+            alloc,
         }
     }
 
@@ -164,8 +177,9 @@ impl<J: Naming> Pass<J> {
 
     /// Answers a query after rows that are published. They begin with all that the pass had seen, its own
     /// answered calls among them, and are what it has seen then; with the query as one row more they are
-    /// a legal history. It takes no lock, and waits for nobody. The reply is 90 `Memory` where memory was
-    /// refused, and never 92 `Stopped`.
+    /// a legal history. It takes no lock, and waits for nobody; and nobody waits for it while the records of
+    /// a closure are repaired. Those that it repaired last are kept, for as long as the pass lives. The
+    /// reply is 90 `Memory` where memory was refused, and never 92 `Stopped`.
     pub fn read(&mut self, query: Query) -> Reply
         ensures read { gave_up result ≡ false
             → IsReadAfter J.setup self.old.caller.number self.new.seen (event_for query) result }
@@ -175,11 +189,11 @@ impl<J: Naming> Pass<J> {
     {
         isolation();
         timed_isolation();
-        let Some((reply, rows)) = replace_with(&mut self.reader, query, read_by) else {
+        let Some((found, rows)) = replace_with(&mut self.reader, query, look_by) else {
             return Reply::Refused(Refusal::Memory);
         };
         if self.see(rows) {
-            reply
+            found.serve(self.alloc, &mut self.repaired)
         } else {
             Reply::Refused(Refusal::Memory)
         }
@@ -188,7 +202,8 @@ impl<J: Naming> Pass<J> {
     /// Makes values that an event needs, so that [`Front::commit`](crate::Front::commit) need not make them
     /// under the lock. They are made after rows that are published, which begin with all that the pass had
     /// seen, and are what it has seen then: the path of a source, what comes of a tree that is offered, and
-    /// what comes of the output of a job for the goal that leads it. It takes no lock, and waits for nobody.
+    /// what comes of the output of a job for the goal that leads it. It takes no lock, and waits for nobody;
+    /// and nobody waits for it while they are made.
     ///
     /// # Errors
     ///
@@ -200,11 +215,11 @@ impl<J: Naming> Pass<J> {
         ensures same { self.new ≡ seeing self.old self.new.seen }
         ensures memory { IfErr result (λ why. why ≡ Memory) }
     {
-        let Some((ready, rows)) = replace_with(&mut self.reader, event, prepare_by) else {
+        let Some((needed, rows)) = replace_with(&mut self.reader, event, need_by) else {
             return Err(Refusal::Memory);
         };
         if self.see(rows) {
-            ready
+            needed?.make(self.alloc, event)
         } else {
             Err(Refusal::Memory)
         }
@@ -262,12 +277,12 @@ impl<J: Naming> Pass<J> {
         book.request(&mut self.caller, user, number)
     }
 
-    /// It has seen all rows of the book then, among them those that it is sure of.
+    /// It has seen all rows of the book then, among them those that it is sure of, and knows whether the
+    /// book is stopped.
     pub(crate) fn show(&mut self, book: &mut Book<J>)
         ensures begins { IsPrefix self.old.caller.sure book.old.rows }
-        ensures sure { self.new.caller.sure ≡ self.old.caller.sure }
-        ensures calls { self.new.caller.calls ≡ self.old.caller.calls }
-        ensures number { self.new.caller.number ≡ self.old.caller.number }
+        ensures knows { self.new.caller ≡ knowing book.old.stopped self.old.caller }
+        ensures remains { self.old.caller.stopped ≡ true → book.old.stopped ≡ true }
         ensures seen { IsPrefix self.old.seen self.new.seen }
         ensures all { IsPrefix book.old.rows self.new.seen }
         ensures same { book.new ≡ book.old }
@@ -291,6 +306,8 @@ impl<J: Naming> Pass<J> {
             sure: _,
             seen,
             reader: _reader,
+            repaired: _,
+            alloc: _,
         } = self;
         insist(rt, seen.begins(rows));
         caller

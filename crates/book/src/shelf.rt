@@ -71,6 +71,7 @@ pub(crate) fn insist<R: Wait>(rt: &R, holds: bool)
 }
 
 /// What is published next, and how to wait for readers.
+#[derive(Drop)]
 struct Publishing<'a, R> {
     rt: &'a R,
     new: NewRow,

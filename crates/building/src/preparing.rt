@@ -1,42 +1,36 @@
-//! A job's output, settled before the job ends.
+//! What a job's output is settled by, found before the job ends.
 
-ghost use Rattle.std.specs.Prelude.{◌≡◌, IfErr, OnOk};
+ghost use Rattle.std.specs.Prelude.{◌≡◌, List, IfOk, IfErr};
+ghost use Rattle.model.specs.Archives.{Tree as TreeValue};
 ghost use Rattle.model.specs.declared.refusal.Refusal.TheVariants.{Memory};
+ghost use Rattle.outputs.specs.declared.settlement.Settlement.{Settlement};
+ghost use Rattle.outputs.specs.Kept.{HasNeeded};
 ghost use Rattle.building.specs.Built.{HasBuilt};
 
 use jobs::Goal;
 use model::Refusal;
-use nar::Tree;
-use outputs::Settlements;
+use outputs::Input;
 use realise::Desk;
 use std::alloc::Global;
 
-/// Settles a job's output for a goal on its user's desk, as it is settled when the job has ended: what came
-/// of it is among the settlements then. Where the desk has no such derivation, or the goal was not planned,
-/// there is nothing to be settled.
+/// What a job's output is settled by for a goal on its user's desk once the job has ended, whatever its tree
+/// is. Nothing is settled where the desk has no such derivation, or the goal was not planned.
 ///
 /// # Errors
 ///
 /// - `Memory` only where memory was refused.
-pub fn prepare_output(
-    alloc: Global,
-    desk: &Desk,
-    goal: &Goal,
-    tree: &Tree,
-    settlements: &mut Settlements,
-) -> Result<(), Refusal>
-    ensures kept { OnOk result
-        (HasBuilt desk.now.known goal.now tree.now settlements.new.settled.items) }
+pub fn input_for_goal(alloc: Global, desk: &Desk, goal: &Goal) -> Result<Option<Input>, Refusal>
+    ensures needed { IfOk result (λ input. (tree : TreeValue) (settled : List Settlement)
+        → HasNeeded settled input tree → HasBuilt desk.now.known goal.now tree settled) }
     ensures memory { IfErr result (λ why. why ≡ Memory) }
 {
     let Some(admitted) = desk.derivation(goal.derivation()) else {
-        return Ok(());
+        return Ok(None);
     };
     let Some(resolved) = goal.resolved() else {
-        return Ok(());
+        return Ok(None);
     };
     let labels = resolved.labels(alloc)?;
-    let own = resolved.scratch();
-    let _outcome = settlements.settle_output(alloc, own, &labels, admitted.derivation(), tree)?;
-    Ok(())
+    let input = Input::new(alloc, resolved.scratch(), &labels, admitted.derivation())?;
+    Ok(Some(input))
 }

@@ -1,7 +1,7 @@
 //! Offering an output.
 
-ghost use Rattle.std.specs.Prelude.{◌≡◌, IfOk, IfErr, OnOk, Ok, All};
-ghost use Rattle.model.specs.Archives.{IsTree};
+ghost use Rattle.std.specs.Prelude.{◌≡◌, List, IfOk, IfErr, Ok, All};
+ghost use Rattle.model.specs.Archives.{Tree as TreeValue, IsTree};
 ghost use Rattle.model.specs.Paths.{IsPath};
 ghost use Rattle.model.specs.Occurrences.{IsHashPart};
 ghost use Rattle.model.specs.Settling.{hash_part_in};
@@ -14,7 +14,8 @@ ghost use Rattle.records.specs.Recorded.{AreInPathOrder};
 ghost use Rattle.handling.specs.Sound.{IsSound};
 ghost use Rattle.handling.specs.Handling.{IsHandledAtDesk};
 ghost use Rattle.outputs.specs.Outputs.{IsRecordOf};
-ghost use Rattle.outputs.specs.Kept.{HasOutput};
+ghost use Rattle.outputs.specs.declared.settlement.Settlement.{Settlement};
+ghost use Rattle.outputs.specs.Kept.{HasNeeded};
 ghost use Rattle.desks.specs.Offering.{IsOutput, IsNotSettled, IsNoOutput, HasOffered};
 
 use crate::entries::add_entry;
@@ -23,7 +24,7 @@ use candidates::candidates;
 use events::CopiedReply;
 use model::Refusal;
 use nar::Tree;
-use outputs::{Output, Settlements, record_of};
+use outputs::{Input, Output, Settlements, record_of};
 use realise::{Desk, Limits};
 use records::{Entry, Label, Record};
 use std::alloc::Global;
@@ -43,8 +44,6 @@ fn settled_output(
     ensures own { IfOk result (λ _. IsHashPart (hash_part_in admitted.now.class.path)) }
     ensures outcome { IfOk result (λ o.
         o ≡ unless_rewrite_refused (output_settled labels.now admitted.now tree.now)) }
-    ensures kept { IfOk result (λ _. HasOutput settlements.new.settled.items
-        admitted.now.class.path labels.now admitted.now.derivation tree.now) }
     ensures memory { IfErr result (λ why. why ≡ Memory) }
 {
     let own = admitted.class().path();
@@ -132,26 +131,26 @@ pub fn offer(
     add_entry(alloc, table, desk, limits, Entry::Record(record), settled)
 }
 
-/// Settles an output before it is offered, as [`offer`] does when it is: what came of it is among the
-/// settlements then. Where the desk has no such derivation there is nothing to be settled.
+/// What [`offer`] settles an output by, whatever its tree is, so that it can be settled before it is offered.
+/// Nothing is settled where the desk has no such derivation.
 ///
 /// # Errors
 ///
 /// - `Memory` only where memory was refused.
-pub fn prepare_offer(
+pub fn input_for_offer(
     alloc: Global,
     desk: &Desk,
-    settlements: &mut Settlements,
     path: &StorePath,
-    tree: &Tree,
-) -> Result<(), Refusal>
-    ensures kept { OnOk result (HasOffered desk.now path.now tree.now settlements.new.settled.items) }
+) -> Result<Option<Input>, Refusal>
+    ensures needed { IfOk result (λ input. (tree : TreeValue) (settled : List Settlement)
+        → HasNeeded settled input tree → HasOffered desk.now path.now tree settled) }
     ensures memory { IfErr result (λ why. why ≡ Memory) }
 {
     let Some(admitted) = desk.derivation(path) else {
-        return Ok(());
+        return Ok(None);
     };
     let labels = candidates(alloc, desk.known(), admitted.derivation(), desk.records())?;
-    let _outcome = settled_output(alloc, settlements, admitted, &labels, tree)?;
-    Ok(())
+    let own = admitted.class().path();
+    let input = Input::new(alloc, own, &labels, admitted.derivation())?;
+    Ok(Some(input))
 }

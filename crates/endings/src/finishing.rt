@@ -40,7 +40,7 @@ use storepath::StorePath;
 use trust::{Trust, User};
 
 /// The tree whose archive a builder wrote, if its output is one. The one error is memory.
-pub(crate) fn tree_in(alloc: Global, output: &[u8]) -> Result<Option<Tree>, Refusal>
+pub fn tree_in(alloc: Global, output: &[u8]) -> Result<Option<Tree>, Refusal>
     ensures archive { IfOk result (λ tree. tree ≡ tree_of_archive output.now) }
     ensures memory { IfErr result (λ why. why ≡ Memory) }
 {

@@ -1,5 +1,5 @@
 -- What is kept of sources and of trees that were settled.
-use Rattle.std.specs.Prelude.{◌≡◌, ℕ, List, Contains}
+use Rattle.std.specs.Prelude.{◌≡◌, ℕ, List, Contains, Option, Some, None}
 use Rattle.model.specs.Archives.{Tree}
 use Rattle.model.specs.Derivations.{Derivation}
 use Rattle.model.specs.Worlds.{Label}
@@ -27,3 +27,8 @@ pub record HasOutput (all : List Settlement) (own : List ℕ) (labels : List Lab
   pub input : Input
   pub input_is : IsInputOf own labels x input
   pub has : HasSettled all input tree
+
+-- and what comes of a tree where it is to be settled by an input, if it is to be at all
+abbrev pub HasNeeded : List Settlement → Option Input → Tree → Type 0
+HasNeeded all None tree = Unit {0}
+HasNeeded all (Some input) tree = HasSettled all input tree

@@ -18,7 +18,6 @@ use session::{Mode, Session};
 use std::alloc::Global;
 use std::hash::RandomState;
 use std::marker::Brand;
-use std::mem;
 use std::sync::Wait;
 
 /// What the lines of an input asked, and the numbers of those lines that made an event of one user.
@@ -142,7 +141,7 @@ fn ask_core<J: Naming, H: Wait>(
         has_lost: false,
     };
     let numbers = ask_lines(alloc, &mut recorder, input, user)?;
-    let events = mem::replace(&mut recorder.events, Vec::new(alloc));
+    let Recorder { events, .. } = recorder;
     Ok(FirstRun { events, numbers })
 }
 

@@ -13,6 +13,7 @@ use Rattle.running.specs.declared.sessions.Output.{Output}
 use Rattle.running.specs.declared.sessions.Part.{Part}
 use Rattle.model.specs.Laws.{IsIsolated, IsTimelyIsolated}
 use Rattle.running.specs.Calling.{IsTold}
+use Rattle.running.specs.Meeting.{HasMet}
 use Rattle.running.specs.Sessions.{Outputs}
 use Rattle.running.specs.Desks.{IsUnused, AreUnused, IsDeskOf, AreDesksOf, OutputOf, AllOutputs}
 use Rattle.running.specs.Runs.{AreOutputs}
@@ -44,7 +45,8 @@ new_unused (suc n) = subst AreUnused (sym (new_append (below n) n)) (unused_appe
 -- ---- desks
 
 -- no file gives no output
-pub no_outputs : {I Q : Type 0} (setup : Setup) (remaining : I → Option (List ℕ)) (parts : List (Part I Q)) (outputs : List Output) → parts ≡ [] → outputs ≡ [] → AreOutputs setup remaining parts outputs
+pub no_outputs : {I Q : Type 0} (setup : Setup) (remaining : I → Option (List ℕ)) (parts : List (Part I Q)) (outputs : List Output)
+    → parts ≡ [] → outputs ≡ [] → AreOutputs setup remaining parts outputs
 no_outputs setup remaining parts outputs none empty = rw (none, empty) tt
 
 module _ {I Q : Type 0} where
@@ -56,14 +58,15 @@ module _ {I Q : Type 0} where
   desks_push (p ∷ ps) part [] desk all one = absurd all
 
   -- what the desks of files give is what the files give
-  pub outputs_of : (setup : Setup) → IsIsolated → IsTimelyIsolated → (remaining : I → Option (List ℕ)) (parts : List (Part I Q)) (desks : List (Desk Known Q I)) (outputs : List Output)
-      → AreDesksOf parts desks → AllOutputs (IsTold setup) remaining desks outputs → AreOutputs setup remaining parts outputs
+  pub outputs_of : (setup : Setup) → IsIsolated → IsTimelyIsolated → (remaining : I → Option (List ℕ))
+      (parts : List (Part I Q)) (desks : List (Desk Known Q I)) (outputs : List Output)
+      → AreDesksOf parts desks → AllOutputs (IsTold setup) HasMet remaining desks outputs → AreOutputs setup remaining parts outputs
   outputs_of setup isolated timed remaining [] [] [] desks all = tt
   outputs_of setup isolated timed remaining (p ∷ ps) (d ∷ ds) (o ∷ os) desks all = (
     output_ran setup isolated timed d.store.caller.number (prepend_known p.bytes.items (remaining p.reader)) o.ended o.text.items
-        (subst (λ (store : Known). Outputs (IsTold setup) store (prepend_known p.bytes.items (remaining p.reader)) o) desks.0.2
-        (subst (λ (reader : I). Outputs (IsTold setup) d.store (prepend_known p.bytes.items (remaining reader)) o) desks.0.1
-        (subst (λ bytes. Outputs (IsTold setup) d.store (prepend_known bytes.items (remaining d.reader)) o) desks.0.0 all.0))),
+        (subst (λ (store : Known). Outputs (IsTold setup) HasMet store (prepend_known p.bytes.items (remaining p.reader)) o) desks.0.2
+        (subst (λ (reader : I). Outputs (IsTold setup) HasMet d.store (prepend_known p.bytes.items (remaining reader)) o) desks.0.1
+        (subst (λ bytes. Outputs (IsTold setup) HasMet d.store (prepend_known bytes.items (remaining d.reader)) o) desks.0.0 all.0))),
     outputs_of setup isolated timed remaining ps ds os desks.1 all.1,
   )
   outputs_of setup isolated timed remaining [] [] (o ∷ os) desks all = absurd all
@@ -72,24 +75,25 @@ module _ {I Q : Type 0} where
   outputs_of setup isolated timed remaining (p ∷ ps) (d ∷ ds) [] desks all = absurd all
 
   -- where there are any
-  pub if_outputs : (setup : Setup) → IsIsolated → IsTimelyIsolated → (remaining : I → Option (List ℕ)) (parts : List (Part I Q)) (desks : List (Desk Known Q I)) (result : Result (Vec Output) Refusal)
-      → AreDesksOf parts desks → IfOk result (λ outputs. AllOutputs (IsTold setup) remaining desks outputs.items)
+  pub if_outputs : (setup : Setup) → IsIsolated → IsTimelyIsolated → (remaining : I → Option (List ℕ))
+      (parts : List (Part I Q)) (desks : List (Desk Known Q I)) (result : Result (Vec Output) Refusal)
+      → AreDesksOf parts desks → IfOk result (λ outputs. AllOutputs (IsTold setup) HasMet remaining desks outputs.items)
       → IfOk result (λ outputs. AreOutputs setup remaining parts outputs.items)
   if_outputs setup isolated timed remaining parts desks (Ok outputs) are all = outputs_of setup isolated timed remaining parts desks outputs.items are all
   if_outputs setup isolated timed remaining parts desks (Err why) are all = tt
 
 -- ---- outputs that threads gave
 
-module _ {S Q I : Type 0} (called : S → Event → Reply → S → Type 0) (remaining : I → Option (List ℕ)) where
+module _ {S Q I : Type 0} (called : S → Event → Reply → S → Type 0) (met : S → S → Type 0) (remaining : I → Option (List ℕ)) where
   -- where each place has the output of its desk, all have
   pub each_output : (desks : List (Desk S Q I)) (outputs : List Output) → length outputs ≡ length desks
       → ((i : ℕ) (d : Output) → i < length desks
-      → (desk : Desk S Q I) × ((e : Desk S Q I) → slice_index_or desks i e ≡ desk) × OutputOf called remaining desk (slice_index_or outputs i d))
-      → AllOutputs called remaining desks outputs
+      → (desk : Desk S Q I) × ((e : Desk S Q I) → slice_index_or desks i e ≡ desk) × OutputOf called met remaining desk (slice_index_or outputs i d))
+      → AllOutputs called met remaining desks outputs
   each_output [] [] same each = tt
   each_output (d ∷ ds) (o ∷ os) same each =
       let first = each 0 o (omega arith) in (
-        subst (λ (desk : Desk S Q I). OutputOf called remaining desk o) (sym (first.1 d)) first.2,
+        subst (λ (desk : Desk S Q I). OutputOf called met remaining desk o) (sym (first.1 d)) first.2,
         each_output ds os (omega (arith, same)) (λ i e inside. each (suc i) e (omega (arith, inside))),
       )
   each_output [] (o ∷ os) same each = absurd (omega (arith, same))

@@ -1,8 +1,10 @@
 -- What is read stands in a legal history, among the rows that were seen.
-use Rattle.std.proofs.Common.{◌≡◌, ℕ, suc, Bool, true, false, inl, inr, refl, sym, ◌∙◌, ap, subst, arith, append_assoc, append-nil, List, [], ◌∷◌, ◌++◌, length, drop, true≢false}
+use Rattle.std.proofs.Common.{◌≡◌, ℕ, suc, Bool, true, false, true≢false, inl, inr, refl, sym, ◌∙◌, ap, subst, arith}
+use Rattle.std.proofs.Common.{List, [], ◌∷◌, ◌++◌, length, drop, append_assoc, append-nil}
 use Rattle.std.specs.Prelude.{◌==◌, if◌then◌else◌, All, Contains}
 use Rattle.std.proofs.lemmas.List.{map-append, length-map}
-use Rattle.std.proofs.lemmas.List.Elements.{All-nil, All-cons, All-head, All-tail, All-append, Contains-append_left, Contains-append_right, Contains-append_cases}
+use Rattle.std.proofs.lemmas.List.Elements.{All-nil, All-cons, All-head, All-tail, All-append}
+use Rattle.std.proofs.lemmas.List.Elements.{Contains-append_left, Contains-append_right, Contains-append_cases}
 use Rattle.std.proofs.lemmas.Bool.Decides.{nat_tests}
 use mathlib.Core.List.{IsPrefix}
 use lib.Seq.{drop-append_seam}
@@ -33,6 +35,7 @@ use Rattle.passes.proofs.HistoryLemmas.{hashed_push, events_push, legal_none}
 use Rattle.passes.proofs.Prefixes.{prefix_self, prefix_trans}
 use Rattle.workers.specs.Working.{Call}
 use Rattle.running.specs.Calling.{IsTold, own_rows, rows_for}
+use Rattle.running.specs.Meeting.{HasMet}
 use Rattle.running.proofs.StandLemmas.{own_append, own_one, rows_append, gave_up_cases}
 
 -- ---- events one after another
@@ -42,29 +45,34 @@ unfolding world_after
 world_append setup w [] ys = refl
 world_append setup w (x ∷ xs) ys = world_append setup (after setup w x) xs ys
 
-answers_append : (setup : Setup) (w : World) (xs ys : List model.Event) → answers setup w (xs ++ ys) ≡ answers setup w xs ++ answers setup (world_after setup w xs) ys
+answers_append : (setup : Setup) (w : World) (xs ys : List model.Event)
+    → answers setup w (xs ++ ys) ≡ answers setup w xs ++ answers setup (world_after setup w xs) ys
 unfolding world_after answers
 answers_append setup w [] ys = refl
-answers_append setup w (x ∷ xs) ys = ap (λ (rest : List Answer). record { actor = x.actor; reply = reply_to setup w x } ∷ rest) (answers_append setup (after setup w x) xs ys)
+answers_append setup w (x ∷ xs) ys =
+    ap (λ (rest : List Answer). record { actor = x.actor; reply = reply_to setup w x } ∷ rest) (answers_append setup (after setup w x) xs ys)
 
 answers_length : (setup : Setup) (w : World) (xs : List model.Event) → length (answers setup w xs) ≡ length xs
 unfolding answers
 answers_length setup w [] = refl
 answers_length setup w (x ∷ xs) = let rest = answers_length setup (after setup w x) xs in omega (arith, rest)
 
-hashed_append : (setup : Setup) (w : World) (xs ys : List model.Event) → hashed setup w (xs ++ ys) ≡ hashed setup w xs ++ hashed setup (world_after setup w xs) ys
+hashed_append : (setup : Setup) (w : World) (xs ys : List model.Event)
+    → hashed setup w (xs ++ ys) ≡ hashed setup w xs ++ hashed setup (world_after setup w xs) ys
 unfolding world_after hashed
 hashed_append setup w [] ys = refl
 hashed_append setup w (x ∷ xs) ys =
     ap (λ (rest : List (List ℕ)). texts_of_event setup w x ++ rest) (hashed_append setup (after setup w x) xs ys)
     ∙ sym (append_assoc (texts_of_event setup w x) (hashed setup (after setup w x) xs) (hashed setup (world_after setup (after setup w x) xs) ys))
 
-good_both : (setup : Setup) (w : World) (xs ys : List model.Event) → GiveGoodClosures setup w xs → GiveGoodClosures setup (world_after setup w xs) ys → GiveGoodClosures setup w (xs ++ ys)
+good_both : (setup : Setup) (w : World) (xs ys : List model.Event) → GiveGoodClosures setup w xs
+    → GiveGoodClosures setup (world_after setup w xs) ys → GiveGoodClosures setup w (xs ++ ys)
 unfolding world_after GiveGoodClosures
 good_both setup w [] ys first next = next
 good_both setup w (x ∷ xs) ys first next = (first.0, first.1, good_both setup (after setup w x) xs ys first.2 next)
 
-good_last : (setup : Setup) (w : World) (xs ys : List model.Event) → GiveGoodClosures setup w (xs ++ ys) → GiveGoodClosures setup (world_after setup w xs) ys
+good_last : (setup : Setup) (w : World) (xs ys : List model.Event)
+    → GiveGoodClosures setup w (xs ++ ys) → GiveGoodClosures setup (world_after setup w xs) ys
 unfolding world_after GiveGoodClosures
 good_last setup w [] ys all = all
 good_last setup w (x ∷ xs) ys all = good_last setup (after setup w x) xs ys all.2
@@ -83,7 +91,8 @@ pub record Stands (setup : Setup) (history rows : List Row) : Type 0 where
   pub hashes : (text : List ℕ) → Contains (hashed setup nothing (events_of rows)) text → Contains (hashed setup nothing (events_of history)) text
 
 -- so does one with more rows, where they ask and answer what more of the other rows do, with which these are legal
-module _ (setup : Setup) (isolated : IsIsolated) (timed : IsTimelyIsolated) (history rows : List Row) (stands : Stands setup history rows) (more shown : List Row)
+module _ (setup : Setup) (isolated : IsIsolated) (timed : IsTimelyIsolated)
+    (history rows : List Row) (stands : Stands setup history rows) (more shown : List Row)
     (events : events_of shown ≡ events_of more) (replies : answers_of shown ≡ answers_of more) (some : All (λ r. gave_up r.reply ≡ false) shown)
     (legal : IsLegal setup (rows ++ more)) where
   abbrev there : World
@@ -100,7 +109,8 @@ module _ (setup : Setup) (isolated : IsIsolated) (timed : IsTimelyIsolated) (his
 
   world_then : world_after setup nothing (events_of (history ++ shown)) ≡ world_after setup nothing (events_of (rows ++ more))
   world_then =
-      ap (world_after setup nothing) with_shown ∙ world_append setup nothing (events_of history) (events_of more) ∙ ap (λ w. world_after setup w (events_of more)) stands.world
+      ap (world_after setup nothing) with_shown ∙ world_append setup nothing (events_of history) (events_of more)
+      ∙ ap (λ w. world_after setup w (events_of more)) stands.world
       ∙ sym (ap (world_after setup nothing) with_more ∙ world_append setup nothing (events_of rows) (events_of more))
 
   hashed_new : texts ≡ hashed setup nothing (events_of history) ++ hashed setup there (events_of more)
@@ -115,7 +125,8 @@ module _ (setup : Setup) (isolated : IsIsolated) (timed : IsTimelyIsolated) (his
   hashes_then text has =
       let first = hashed setup nothing (events_of history) in
       let next = hashed setup there (events_of more) in
-      let both : Contains (first ++ next) text = elim (Contains-append_cases (hashed setup nothing (events_of rows)) next text (subst (λ (ts : List (List ℕ)). Contains ts text) hashed_old has)) [
+      let old : Contains (hashed setup nothing (events_of rows) ++ next) text = subst (λ (ts : List (List ℕ)). Contains ts text) hashed_old has in
+      let both : Contains (first ++ next) text = elim (Contains-append_cases (hashed setup nothing (events_of rows)) next text old) [
         | inl before ↦ Contains-append_left first next text (stands.hashes text before)
         | inr behind ↦ Contains-append_right first next text behind
       ] in
@@ -136,7 +147,8 @@ module _ (setup : Setup) (isolated : IsIsolated) (timed : IsTimelyIsolated) (his
   replies_more clean =
       same_end (answers_of rows) (answers setup nothing (events_of rows)) (answers_of more) (answers setup there (events_of more))
       (length-map rows answer_in ∙ sym (answers_length setup nothing (events_of rows) ∙ length-map rows event_in))
-      (sym (map-append answer_in rows more) ∙ legal.same (clean_old clean) ∙ ap (answers setup nothing) with_more ∙ answers_append setup nothing (events_of rows) (events_of more))
+      (sym (map-append answer_in rows more) ∙ legal.same (clean_old clean) ∙ ap (answers setup nothing) with_more
+      ∙ answers_append setup nothing (events_of rows) (events_of more))
 
   same_then : NoClash texts → answers_of (history ++ shown) ≡ answers setup nothing (events_of (history ++ shown))
   same_then clean =
@@ -166,7 +178,8 @@ module _ (setup : Setup) (isolated : IsIsolated) (timed : IsTimelyIsolated) (his
   }
 
 -- and so does the same history without a query at the end of the rows
-pub stand_without : (setup : Setup) (history rows : List Row) (q : Row) → is_query (event_in q).request ≡ true → Stands setup history (rows ++ q ∷ []) → Stands setup history rows
+pub stand_without : (setup : Setup) (history rows : List Row) (q : Row) → is_query (event_in q).request ≡ true
+    → Stands setup history (rows ++ q ∷ []) → Stands setup history rows
 stand_without setup history rows q asks stands = record {
   legal = stands.legal;
   world =
@@ -218,7 +231,8 @@ IsGiven r = gave_up r.reply ≡ false
 
 others_given : (n : ℕ) (rows : List Row) → All IsGiven rows → All IsGiven (others n rows)
 others_given n [] all = All-nil IsGiven
-others_given n (r ∷ rows) all = All-cons IsGiven (row (suc n) r.event r.reply) (others n rows) (All-head IsGiven r rows all) (others_given n rows (All-tail IsGiven r rows all))
+others_given n (r ∷ rows) all =
+    All-cons IsGiven (row (suc n) r.event r.reply) (others n rows) (All-head IsGiven r rows all) (others_given n rows (All-tail IsGiven r rows all))
 
 -- a legal history has these calls as the rows of the pass of a number, and comes to the same as the first rows that the pass has seen
 pub record HasCalled (setup : Setup) (n : ℕ) (calls : List Call) (known : Known) : Type 0 where
@@ -239,7 +253,20 @@ called_none setup n = record {
   own = refl;
 }
 
-module _ (setup : Setup) (isolated : IsIsolated) (timed : IsTimelyIsolated) (n : ℕ) (calls : List Call) (old : Known) (has : HasCalled setup n calls old) (e : Event) (r : Reply) where
+-- after it met others
+pub called_met : (setup : Setup) (n : ℕ) (calls : List Call) (old new : Known) → HasMet old new
+    → HasCalled setup n calls old → HasCalled setup n calls new
+called_met setup n calls old new met has = record {
+  number = ap (λ (p : Caller). p.number) met.caller ∙ has.number;
+  history = has.history;
+  rows = has.rows;
+  begins = prefix_trans has.rows old.seen new.seen has.begins met.seen;
+  stands = has.stands;
+  own = has.own;
+}
+
+module _ (setup : Setup) (isolated : IsIsolated) (timed : IsTimelyIsolated) (n : ℕ) (calls : List Call)
+    (old : Known) (has : HasCalled setup n calls old) (e : Event) (r : Reply) where
   abbrev last : Row
   last = row n e r
 
@@ -252,21 +279,27 @@ module _ (setup : Setup) (isolated : IsIsolated) (timed : IsTimelyIsolated) (n :
   one_more_call : (before : List Row) → IsPrefix has.rows before → gave_up r ≡ false → IsLegal setup (before ++ last ∷ []) → HasOneMore before
   one_more_call before begins some legal =
       let more : List Row = begins.0 in
-      let whole : before ++ last ∷ [] ≡ has.rows ++ (more ++ last ∷ []) = ap (λ rows. rows ++ last ∷ []) (sym begins.1) ∙ append_assoc has.rows more (last ∷ []) in
+      let whole : before ++ last ∷ [] ≡ has.rows ++ (more ++ last ∷ []) =
+      ap (λ rows. rows ++ last ∷ []) (sym begins.1) ∙ append_assoc has.rows more (last ∷ []) in
       let shown : List Row = others n more ++ last ∷ [] in
       let all : IsLegal setup (has.rows ++ (more ++ last ∷ [])) = subst (IsLegal setup) whole legal in
       let given : All IsGiven (more ++ last ∷ []) = all_last IsGiven has.rows (more ++ last ∷ []) all.answered in
       let one : rows_for n ((e, r) ∷ []) ≡ last ∷ [] = ap (λ (b : Bool). if b then [] else last ∷ []) some in
       record {
         history = has.history ++ shown;
-        stands = subst (Stands setup (has.history ++ shown)) (sym whole) (stand_with setup isolated timed has.history has.rows has.stands (more ++ last ∷ []) shown
-            (map-append event_in (others n more) (last ∷ []) ∙ ap (λ es. es ++ event_in last ∷ []) (others_events n more) ∙ sym (map-append event_in more (last ∷ [])))
-            (map-append answer_in (others n more) (last ∷ []) ∙ ap (λ rs. rs ++ answer_in last ∷ []) (others_answers n more) ∙ sym (map-append answer_in more (last ∷ [])))
-            (All-append IsGiven (others n more) (last ∷ []) (others_given n more (all_first IsGiven more (last ∷ []) given)) (all_last IsGiven more (last ∷ []) given))
+        stands = subst (Stands setup (has.history ++ shown)) (sym whole)
+            (stand_with setup isolated timed has.history has.rows has.stands (more ++ last ∷ []) shown
+            (map-append event_in (others n more) (last ∷ []) ∙ ap (λ es. es ++ event_in last ∷ []) (others_events n more)
+            ∙ sym (map-append event_in more (last ∷ [])))
+            (map-append answer_in (others n more) (last ∷ []) ∙ ap (λ rs. rs ++ answer_in last ∷ []) (others_answers n more)
+            ∙ sym (map-append answer_in more (last ∷ [])))
+            (All-append IsGiven (others n more) (last ∷ []) (others_given n more (all_first IsGiven more (last ∷ []) given))
+            (all_last IsGiven more (last ∷ []) given))
             all);
         own =
             own_append n has.history shown
-            ∙ ap (λ rows. own_rows n has.history ++ rows) (own_append n (others n more) (last ∷ []) ∙ ap (λ rows. rows ++ own_rows n (last ∷ [])) (others_own n more) ∙ own_one n e r)
+            ∙ ap (λ rows. own_rows n has.history ++ rows)
+            (own_append n (others n more) (last ∷ []) ∙ ap (λ rows. rows ++ own_rows n (last ∷ [])) (others_own n more) ∙ own_one n e r)
             ∙ ap (λ rows. rows ++ last ∷ []) has.own
             ∙ sym (rows_append n calls ((e, r) ∷ []) ∙ ap (λ rows. rows_for n calls ++ rows) one);
       }
@@ -286,7 +319,8 @@ module _ (setup : Setup) (isolated : IsIsolated) (timed : IsTimelyIsolated) (n :
         }
     | inr some ↦ elim (either (is_query (request_of e.request))) [
       | inl asks ↦
-          let legal : IsLegal setup (new.seen ++ last ∷ []) = subst (λ (k : ℕ). IsLegal setup (new.seen ++ row k e r ∷ [])) has.number (told.read some asks) in
+          let legal : IsLegal setup (new.seen ++ last ∷ []) =
+          subst (λ (k : ℕ). IsLegal setup (new.seen ++ row k e r ∷ [])) has.number (told.read some asks) in
           let more = one_more_call new.seen (prefix_trans has.rows old.seen new.seen has.begins told.seen) some legal in
           record {
             number = told.number ∙ has.number;
@@ -323,7 +357,8 @@ is_asked q = asked q.question
     asked (Fetch path) = refl
 
 -- a query was read
-pub told_read : (setup : Setup) (old new : Known) (q : Query) (reply : Reply) → (gave_up reply ≡ false → IsReadAfter setup old.caller.number new.seen (event_for q) reply)
+pub told_read : (setup : Setup) (old new : Known) (q : Query) (reply : Reply)
+    → (gave_up reply ≡ false → IsReadAfter setup old.caller.number new.seen (event_for q) reply)
     → IsPrefix old.seen new.seen → new ≡ seeing old new.seen → IsTold setup old (event_for q) reply new
 told_read setup old new q reply read longer same = record {
   answered = λ some other. absurd (true≢false (sym (is_asked q) ∙ other));

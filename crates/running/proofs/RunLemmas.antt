@@ -9,14 +9,15 @@ use Rattle.passes.specs.Callers.{Known, new_pass}
 use Rattle.workers.specs.Working.{Call}
 use Rattle.session.specs.Serving.{Link, Chain}
 use Rattle.running.specs.Calling.{IsTold}
+use Rattle.running.specs.Meeting.{HasMet}
 use Rattle.running.specs.Sessions.{Answers, Waits, Calls, Served, ServedInPart}
 use Rattle.running.specs.Runs.{Makes, StandInOne, Ran, RanInPart}
-use Rattle.running.proofs.MergeLemmas.{HasCalled, called_none, called_more}
+use Rattle.running.proofs.MergeLemmas.{HasCalled, called_none, called_more, called_met}
 
 module _ (setup : Setup) (isolated : IsIsolated) (timed : IsTimelyIsolated) (number : ℕ) where
   -- a row is a call, or the calls of a wait, or none
   abbrev RowLink : Known → talk.Row → Known → Type 0
-  RowLink = Link (Answers (IsTold setup)) (Waits (IsTold setup))
+  RowLink = Link (Answers (IsTold setup)) (Waits (IsTold setup) HasMet)
 
   -- what the pass of a session has called
   abbrev Has : List Call → Known → Type 0
@@ -27,15 +28,17 @@ module _ (setup : Setup) (isolated : IsIsolated) (timed : IsTimelyIsolated) (num
   same_pass done old new same has = subst (Has done) (sym same) has
 
   -- calls of one wait
-  calls_stand : (calls done : List Call) (old new : Known) → Calls (IsTold setup) old calls new → Has done old → Has (done ++ calls) new
-  calls_stand [] done old new same has = subst (λ (cs : List Call). Has cs new) (sym (append-nil done)) (same_pass done old new same has)
+  calls_stand : (calls done : List Call) (old new : Known) → Calls (IsTold setup) HasMet old calls new → Has done old → Has (done ++ calls) new
+  calls_stand [] done old new met has = subst (λ (cs : List Call). Has cs new) (sym (append-nil done)) (called_met setup number done old new met has)
   calls_stand (c ∷ cs) done old new chain has =
       subst (λ (ds : List Call). Has ds new) (append_assoc done (c ∷ []) cs)
-      (calls_stand cs (done ++ c ∷ []) chain.0 new chain.2 (called_more setup isolated timed number done old has c.0 c.1 chain.0 chain.1))
+      (calls_stand cs (done ++ c ∷ []) chain.1 new chain.4
+      (called_more setup isolated timed number done chain.0 (called_met setup number done old chain.0 chain.2 has) c.0 c.1 chain.1 chain.3))
 
   -- the calls of all rows
-  rows_stand : (rows : List talk.Row) (done : List Call) (old new : Known) → Chain RowLink old rows new → Has done old → (calls : List Call) × Makes rows calls × Has (done ++ calls) new
-  rows_stand [] done old new same has = ([], refl, calls_stand [] done old new same has)
+  rows_stand : (rows : List talk.Row) (done : List Call) (old new : Known) → Chain RowLink old rows new → Has done old
+      → (calls : List Call) × Makes rows calls × Has (done ++ calls) new
+  rows_stand [] done old new same has = ([], refl, subst (λ (cs : List Call). Has cs new) (sym (append-nil done)) (same_pass done old new same has))
   rows_stand (talk.Silent ∷ rows) done old new chain has = rows_stand rows done chain.0 new chain.2 (same_pass done old chain.0 chain.1 has)
   rows_stand (talk.Names users ∷ rows) done old new chain has = rows_stand rows done chain.0 new chain.2 (same_pass done old chain.0 chain.1 has)
   rows_stand (talk.Refuses why ∷ rows) done old new chain has = rows_stand rows done chain.0 new chain.2 (same_pass done old chain.0 chain.1 has)
@@ -68,7 +71,7 @@ module _ (setup : Setup) (isolated : IsIsolated) (timed : IsTimelyIsolated) (num
         legal = all.2.stands.legal;
       }
 
-  ran : (start : Option (List ℕ)) (text : List ℕ) → Served (IsTold setup) (new_pass number) start text → Ran setup start text
+  ran : (start : Option (List ℕ)) (text : List ℕ) → Served (IsTold setup) HasMet (new_pass number) start text → Ran setup start text
   ran start text served = record {
     input = served.input;
     end = served.end;
@@ -81,7 +84,7 @@ module _ (setup : Setup) (isolated : IsIsolated) (timed : IsTimelyIsolated) (num
     stand = one_history served.done.rows served.last served.done.chain;
   }
 
-  ran_in_part : (start : Option (List ℕ)) (text : List ℕ) (why : Refusal) → ServedInPart (IsTold setup) (new_pass number) start text why
+  ran_in_part : (start : Option (List ℕ)) (text : List ℕ) (why : Refusal) → ServedInPart (IsTold setup) HasMet (new_pass number) start text why
       → RanInPart setup start text why
   ran_in_part start text why served = record {
     input = served.input;
@@ -99,7 +102,7 @@ module _ (setup : Setup) (isolated : IsIsolated) (timed : IsTimelyIsolated) (num
   }
 
   pub output_ran : (start : Option (List ℕ)) (ended : Result (Unit {0}) Refusal) (text : List ℕ)
-      → MatchResult ended (λ _. Served (IsTold setup) (new_pass number) start text) (ServedInPart (IsTold setup) (new_pass number) start text)
+      → MatchResult ended (λ _. Served (IsTold setup) HasMet (new_pass number) start text) (ServedInPart (IsTold setup) HasMet (new_pass number) start text)
       → MatchResult ended (λ _. Ran setup start text) (RanInPart setup start text)
   output_ran start (Ok _) text served = ran start text served
   output_ran start (Err why) text served = ran_in_part start text why served

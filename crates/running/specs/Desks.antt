@@ -30,9 +30,9 @@ module _ {I Q : Type 0} where
   AreDesksOf parts desks = ⊥
 
 -- each session has its output, in their order
-module _ {S Q I : Type 0} (called : S → Event → Reply → S → Type 0) (remaining : I → Option (List ℕ)) where
+module _ {S Q I : Type 0} (called : S → Event → Reply → S → Type 0) (met : S → S → Type 0) (remaining : I → Option (List ℕ)) where
   abbrev pub OutputOf : Desk S Q I → Output → Type 0
-  OutputOf desk output = Outputs called desk.store (prepend_known desk.bytes.items (remaining desk.reader)) output
+  OutputOf desk output = Outputs called met desk.store (prepend_known desk.bytes.items (remaining desk.reader)) output
 
   abbrev pub AllOutputs : List (Desk S Q I) → List Output → Type 0
   AllOutputs [] [] = Unit {0}

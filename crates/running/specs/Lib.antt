@@ -1,4 +1,5 @@
 pub mod Calling
+pub mod Meeting
 pub mod Sessions
 pub mod Desks
 pub mod Runs

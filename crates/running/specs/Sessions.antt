@@ -11,6 +11,8 @@ use Rattle.events.specs.declared.event.Event.{Event}
 use Rattle.events.specs.declared.event.Request.TheVariants.{Status}
 use Rattle.events.specs.declared.reply.Reply.{Reply}
 use Rattle.events.specs.Terms.{event_of, reply_of}
+use Rattle.workers.specs.declared.ticket.Ticket.{Ticket}
+use Rattle.workers.specs.declared.ticket.Ticket.TheVariants.{Goal}
 use Rattle.workers.specs.Working.{Call, asking}
 use Rattle.session.specs.Serving.{Link, Finished, EndedEarly}
 use Rattle.running.specs.declared.sessions.Output.{Output}
@@ -30,6 +32,10 @@ abbrev pub kept_fault : Refusal → Refusal
 kept_fault OutputFault = Memory
 kept_fault why = why
 
+-- a ticket for a goal, which is named as the job that it would lead
+abbrev pub ticket_for : Job → Ticket
+ticket_for goal = Goal goal.leader goal.number
+
 -- an event asks how far one of these goals is, each named as the job that it would lead
 abbrev pub IsStatusOf : List Job → Event → Type 0
 IsStatusOf goals event =
@@ -42,17 +48,18 @@ AsksStatus goals [] = Unit {0}
 AsksStatus goals (c ∷ cs) = IsStatusOf goals c.0 × AsksStatus goals cs
 
 module _ {S : Type 0} (called : S → Event → Reply → S → Type 0) where
-  -- calls of a store, one after another
-  abbrev pub Calls : S → List Call → S → Type 0
-  Calls old [] new = new ≡ old
-  Calls old (c ∷ cs) new = (between : S) × called old c.0 c.1 between × Calls between cs new
-
   -- a store was handed an event and gave a reply, in the terms of the model
   abbrev pub Answers : S → model.Event → model.Reply → S → Type 0
   Answers old event reply new =
       (asked : Event) × (told : Reply) × (event_of asked ≡ event) × (reply_of told ≡ reply) × called old asked told new
 
-  -- in a wait for goals a session asks how far they are, and nothing else
+module _ {S : Type 0} (called : S → Event → Reply → S → Type 0) (met : S → S → Type 0) where
+  -- calls of a store, one after another; before each of them, and after the last, it met others, or none
+  abbrev pub Calls : S → List Call → S → Type 0
+  Calls old [] new = met old new
+  Calls old (c ∷ cs) new = (ready : S) × (between : S) × met old ready × called ready c.0 c.1 between × Calls between cs new
+
+  -- in a wait for goals a session asks how far they are and meets others, and nothing else
   abbrev pub Waits : S → List Job → model.Reply → S → Type 0
   Waits old goals reply new = (calls : List Call) × AsksStatus goals calls × Calls old calls new
 
@@ -63,7 +70,7 @@ module _ {S : Type 0} (called : S → Event → Reply → S → Type 0) where
     pub read : Consumes start end input
     pub ended : IsAtEnd end
     pub last : S
-    pub done : Finished Run (Link Answers Waits) first last (Some []) (Some text) (lines_of input)
+    pub done : Finished Run (Link (Answers called) Waits) first last (Some []) (Some text) (lines_of input)
 
   -- the first lines of it were, and this is a beginning of the text
   pub record ServedInPart (first : S) (start : Option (List ℕ)) (text : List ℕ) (why : Refusal) : Type 0 where
@@ -71,7 +78,7 @@ module _ {S : Type 0} (called : S → Event → Reply → S → Type 0) where
     pub end : Option (List ℕ)
     pub read : Consumes start end input
     pub last : S
-    pub done : EndedEarly Run (Link Answers Waits) first last (Some []) (Some text) input (IsAtEnd end) why
+    pub done : EndedEarly Run (Link (Answers called) Waits) first last (Some []) (Some text) input (IsAtEnd end) why
 
   -- the session of an input has this output
   abbrev pub Outputs : S → Option (List ℕ) → Output → Type 0

@@ -9,6 +9,7 @@
 #![tactic(auto)]
 
 mod crews;
+mod meeting;
 mod openings;
 mod rounds;
 mod sessions;

@@ -8,15 +8,16 @@ ghost use Rattle.model.specs.declared.refusal.Refusal.TheVariants.{Memory, Quota
 ghost use Rattle.schedule.specs.Standing.{setup_for};
 ghost use Rattle.book.specs.Keeping.{IsNew};
 ghost use Rattle.running.specs.Calling.{IsTold};
+ghost use Rattle.running.specs.Meeting.{HasMet};
 ghost use Rattle.running.specs.Sessions.{Outputs, CannotBegin, kept_fault};
-ghost use Rattle.running.specs.Desks.{IsUnused, AreUnused, IsDeskOf, AreDesksOf, AllOutputs};
+ghost use Rattle.running.specs.Desks.{IsUnused, AreUnused, IsDeskOf, AreDesksOf, OutputOf, AllOutputs};
 ghost use Rattle.running.specs.Runs.{AreOutputs};
 
 use crate::crews::{Crew, start_building};
+use crate::meeting::Meet;
 use crate::shared::SessionStore;
 use crate::waiting::Station;
 use book::{Blank, Front, Naming, Pass};
-use crossbeam_channel::bounded;
 use laws::{isolation, timed_isolation};
 use model::{Mode, Refusal};
 use schedule::{Core, Limits, User};
@@ -28,7 +29,7 @@ use std::marker::Brand;
 use std::sync::Wait;
 use std::thread::Threads;
 use std::{mem, thread};
-use workers::{Runner, Store, Worker};
+use workers::{Runner, Worker};
 
 /// A file whose lines are run, and what builds for it.
 #[derive(Drop)]
@@ -76,13 +77,14 @@ fn kept_end(ended: Result<(), Refusal>) -> Result<(), Refusal>
 }
 
 /// Serves the lines of a file.
-fn serve_lines<S: Store + Drop, I: Read + Faults + Drop, R: Wait>(
+fn serve_lines<S: Meet + Drop, Q: Drop, I: Read + Faults + Drop, R: Wait>(
     alloc: Global,
     bytes: Vec<u8>,
     reader: I,
-    station: &mut Station<'_, S, R>,
+    station: &mut Station<'_, S, Q, R>,
 ) -> Output
-    ensures { Outputs S.called station.old (prepend_known bytes.items (I.remaining reader)) result }
+    ensures { Outputs S.called S.met station.old (prepend_known bytes.items (I.remaining reader))
+        result }
 {
     let mut reader = reader;
     let mut writer = Counted::new(Vec::new(alloc));
@@ -105,12 +107,12 @@ fn nothing_served(alloc: Global) -> Output
 
 /// Serves a session beside a thread in which its workers build.
 fn serve_beside<
-    S: Store + Send + Drop,
+    S: Meet + Send + Drop,
     Q: Runner + Send + Drop,
     I: Read + Faults + Send + Drop,
     R: Threads + Wait + Sync,
 >(rt: &R, alloc: Global, desk: Desk<S, Q, I>) -> Output
-    ensures { Outputs S.called desk.store (prepend_known desk.bytes.items (I.remaining desk.reader)) result }
+    ensures { OutputOf S.called S.met I.remaining desk result }
 {
     let Desk {
         store,
@@ -118,30 +120,18 @@ fn serve_beside<
         bytes,
         reader,
     } = desk;
-    let Ok((orders, ordered)) = bounded(alloc, 1) else {
+    let Ok((crew, workshop)) = Crew::new(alloc, workers) else {
         return nothing_served(alloc);
-    };
-    let Ok((answers, answered)) = bounded(alloc, 1) else {
-        return nothing_served(alloc);
-    };
-    let crew = Crew {
-        workers,
-        orders: ordered,
-        answers,
     };
     thread::scope(
         thread::scope_env(),
         rt,
         move |scope| -> Output
-            ensures { Outputs S.called store (prepend_known bytes.items (I.remaining reader)) result }
+            ensures { Outputs S.called S.met store (prepend_known bytes.items (I.remaining reader))
+                result }
         {
-            start_building(rt, alloc, scope, crew);
-            let mut station = Station {
-                rt,
-                store,
-                orders,
-                answers: answered,
-            };
+            start_building(rt, alloc, scope, workshop);
+            let mut station = Station { rt, store, crew };
             serve_lines(alloc, bytes, reader, &mut station)
         },
     )
@@ -149,16 +139,16 @@ fn serve_beside<
 
 /// Serves sessions at once, each in a thread of its own where one can be made.
 fn all_at_once<
-    S: Store + Send + Drop,
+    S: Meet + Send + Drop,
     Q: Runner + Send + Drop,
     I: Read + Faults + Send + Drop,
     R: Threads + Wait + Sync,
 >(rt: &R, alloc: Global, desks: Vec<Desk<S, Q, I>>) -> Result<Vec<Output>, Refusal>
-    ensures outputs { IfOk result (λ outputs. AllOutputs S.called I.remaining desks.items outputs.items) }
+    ensures outputs { IfOk result (λ outputs. AllOutputs S.called S.met I.remaining desks.items outputs.items) }
     ensures memory { IfErr result (λ why. why ≡ Memory) }
 {
     let serve = |desk: Desk<S, Q, I>| -> Output
-        ensures { Outputs S.called desk.store (prepend_known desk.bytes.items (I.remaining desk.reader)) result }
+        ensures { OutputOf S.called S.met I.remaining desk result }
     { serve_beside(rt, alloc, desk) };
     Ok(thread::map_vec(rt, desks, &serve)?)
 }
@@ -171,7 +161,7 @@ fn serve_all<
     Q: Runner + Send + Drop,
     I: Read + Faults + Send + Drop,
 >(rt: &R, alloc: Global, desks: Vec<SharedDesk<'a, J, R, Q, I>>) -> Result<Vec<Output>, Refusal>
-    ensures outputs { IfOk result (λ outputs. AllOutputs (IsTold J.setup) I.remaining desks.entry.items outputs.items) }
+    ensures outputs { IfOk result (λ outputs. AllOutputs (IsTold J.setup) HasMet I.remaining desks.entry.items outputs.items) }
     ensures memory { IfErr result (λ why. why ≡ Memory) }
 {
     all_at_once(rt, alloc, desks)

@@ -6,6 +6,7 @@ ghost use Rattle.events.specs.Terms.{request_of};
 ghost use Rattle.schedule.specs.Queries.{event_for};
 ghost use Rattle.running.specs.Calling.{IsTold};
 
+use crate::meeting::Meet;
 use book::{Front, Naming, Pass};
 use leading::RunningJob;
 use model::Refusal;
@@ -126,4 +127,25 @@ impl<J: Naming, R: Wait> Store for SessionStore<'_, J, R> {
     fn running_job(&mut self, user: &User, number: u16) -> Result<RunningJob, Refusal> {
         self.front.request(self.rt, &mut self.pass, user, number)
     }
+}
+
+/// After it the pass has seen all rows that the other one's is sure of.
+impl<J: Naming, R: Wait> Meet for SessionStore<'_, J, R> {
+    ghost use Rattle.running.specs.Meeting.{HasMet, HasSeen, met_none, met_more, seen_met, seen_told};
+
+    ghost met = { HasMet };
+
+    ghost knows = { HasSeen };
+
+    fn meet(&mut self, other: &mut Self) {
+        self.front.meet(self.rt, &mut self.pass, &mut other.pass);
+    }
+
+    ghost met_none = { met_none };
+
+    ghost met_more = { met_more };
+
+    ghost knows_met = { seen_met };
+
+    ghost knows_called = { seen_told J.setup };
 }

@@ -1,11 +1,12 @@
 //! Sessions whose goals are built by workers in a thread beside them.
 
-ghost use Rattle.std.specs.Prelude.{◌≡◌, ◌∷◌, [], List, IfOk, IfErr, OnOk, OnErr};
+ghost use Rattle.std.specs.Prelude.{◌≡◌, ◌⊎◌, ◌∷◌, [], List, All, IfOk, IfErr, OnOk, OnErr};
 ghost use Rattle.model.specs.Worlds.{Job as Goal};
 ghost use Rattle.workers.specs.Working.{Call};
 ghost use Rattle.running.specs.Sessions.{IsStatusOf, AsksStatus, Calls, GivesUp};
 
-use crossbeam_channel::{Receiver, Sender};
+use crate::crews::Crew;
+use crate::meeting::{Meet, meet_each};
 use events::{Event, Reply, Request};
 use model::Refusal;
 use session::{Answer, Job};
@@ -13,23 +14,20 @@ use states::State;
 use std::alloc::Global;
 use std::marker::Model;
 use std::sync::Wait;
-use workers::Store;
 
-/// A store that answers the events of a session, and the channels by which goals are handed to workers.
+/// A store that answers the events of a session, and the workers that build its goals.
 #[derive(Drop)]
-pub(crate) struct Station<'a, S: Drop, R> {
+pub(crate) struct Station<'a, S: Drop, Q: Drop, R> {
     /// What waits.
     pub(crate) rt: &'a R,
     /// What answers.
     pub(crate) store: S,
-    /// Where goals are handed over, each list for a round.
-    pub(crate) orders: Sender<Vec<Job>>,
-    /// What each round came to.
-    pub(crate) answers: Receiver<Result<(), Refusal>>,
+    /// Who builds.
+    pub(crate) crew: Crew<S, Q>,
 }
 
 /// Contracts see it as its store.
-impl<'a, S: Drop, R> Model for Station<'a, S, R> {
+impl<'a, S: Drop, Q: Drop, R> Model for Station<'a, S, Q, R> {
     ghost Value = { S };
 
     ghost view = { λ s. s.store };
@@ -51,8 +49,9 @@ fn is_waiting(reply: &Reply) -> bool {
 }
 
 /// Asks a store whether a goal waits.
-fn waits<S: Store>(alloc: Global, store: &mut S, goal: &Job) -> Result<bool, Refusal>
-    ensures calls { (calls : List Call) × AsksStatus (goal.now ∷ []) calls × Calls S.called store.old calls store.new }
+fn waits<S: Meet>(alloc: Global, store: &mut S, goal: &Job) -> Result<bool, Refusal>
+    ensures calls { (calls : List Call) × AsksStatus (goal.now ∷ []) calls
+        × Calls S.called S.met store.old calls store.new }
     ensures why { IfErr result GivesUp }
 {
     let event = Event {
@@ -65,8 +64,9 @@ fn waits<S: Store>(alloc: Global, store: &mut S, goal: &Job) -> Result<bool, Ref
 }
 
 /// Those of some goals that wait, as a store says.
-fn waiting<S: Store>(alloc: Global, store: &mut S, goals: &[Job]) -> Result<Vec<Job>, Refusal>
-    ensures calls { (calls : List Call) × AsksStatus goals.now calls × Calls S.called store.old calls store.new }
+fn waiting<S: Meet>(alloc: Global, store: &mut S, goals: &[Job]) -> Result<Vec<Job>, Refusal>
+    ensures calls { (calls : List Call) × AsksStatus goals.now calls
+        × Calls S.called S.met store.old calls store.new }
     ensures why { IfErr result GivesUp }
 {
     let mut found = Vec::new(alloc);
@@ -78,36 +78,36 @@ fn waiting<S: Store>(alloc: Global, store: &mut S, goals: &[Job]) -> Result<Vec<
     Ok(found)
 }
 
-/// Has goals built in one round. Where there are no workers any more, or no memory, that is 90.
-fn build<R: Wait>(
-    rt: &R,
-    orders: &Sender<Vec<Job>>,
-    answers: &Receiver<Result<(), Refusal>>,
-    goals: Vec<Job>,
-) -> Result<(), Refusal>
-    ensures { IfErr result GivesUp }
-{
-    if orders.send(rt, goals).is_err() {
-        return Err(Refusal::Memory);
-    }
-    match answers.recv(rt) {
-        Ok(Err(Refusal::Stopped)) => Err(Refusal::Stopped),
-        Ok(Ok(())) => Ok(()),
-        _ => Err(Refusal::Memory),
-    }
-}
-
-/// Has those of some goals that wait built, in rounds, as long as each leaves fewer of them waiting than it
-/// found.
-fn build_all<S: Store, R: Wait>(
+/// Has goals built in one round, after which the store meets those of the workers. Where there are no
+/// workers any more, or no memory, that is 90.
+fn build<S: Meet + Drop, Q: Drop, R: Wait>(
     rt: &R,
     alloc: Global,
     store: &mut S,
-    orders: &Sender<Vec<Job>>,
-    answers: &Receiver<Result<(), Refusal>>,
+    crew: &mut Crew<S, Q>,
+    goals: Vec<Job>,
+) -> Result<(), Refusal>
+    ensures met { S.met store.old store.new }
+    ensures knows { All (λ w. S.knows store.new w.store) crew.new.workers.items }
+    ensures why { IfErr result GivesUp }
+{
+    let answer = crew.build(rt, alloc, goals);
+    meet_each(store, &mut crew.workers);
+    answer
+}
+
+/// Has those of some goals that wait built, in rounds, as long as each leaves fewer of them waiting than it
+/// found. If there was one, the store knows all that the workers were answered.
+fn build_all<S: Meet + Drop, Q: Drop, R: Wait>(
+    rt: &R,
+    alloc: Global,
+    store: &mut S,
+    crew: &mut Crew<S, Q>,
     goals: &[Job],
 ) -> Result<(), Refusal>
-    ensures calls { (calls : List Call) × AsksStatus goals.now calls × Calls S.called store.old calls store.new }
+    ensures calls { (calls : List Call) × AsksStatus goals.now calls
+        × Calls S.called S.met store.old calls store.new }
+    ensures knows { (crew.new ≡ crew.old) ⊎ All (λ w. S.knows store.new w.store) crew.new.workers.items }
     ensures why { IfErr result GivesUp }
 {
     let mut left = waiting(alloc, store, goals)?;
@@ -116,7 +116,7 @@ fn build_all<S: Store, R: Wait>(
         if found == 0 {
             return Ok(());
         }
-        build(rt, orders, answers, left)?;
+        build(rt, alloc, store, crew, left)?;
         left = waiting(alloc, store, goals)?;
         if left.len() >= found {
             return Ok(());
@@ -125,27 +125,21 @@ fn build_all<S: Store, R: Wait>(
     Ok(())
 }
 
-/// Each event is handed to the store. A wait asks it how far goals are, and nothing else.
-impl<S: Store + Drop, R: Wait> Answer for Station<'_, S, R> {
+/// Each event is handed to the store. In a wait it is asked how far goals are and meets those of workers,
+/// and nothing else.
+impl<S: Meet + Drop, Q: Drop, R: Wait> Answer for Station<'_, S, Q, R> {
     ghost use Rattle.running.specs.Sessions.{Answers, Waits};
 
     ghost answers = { Answers S.called };
 
-    ghost waited = { Waits S.called };
+    ghost waited = { Waits S.called S.met };
 
     fn call(&mut self, alloc: Global, event: Event) -> Reply {
         self.store.call(alloc, event)
     }
 
     fn wait(&mut self, alloc: Global, goals: &[Job]) -> Reply {
-        match build_all(
-            self.rt,
-            alloc,
-            &mut self.store,
-            &self.orders,
-            &self.answers,
-            goals,
-        ) {
+        match build_all(self.rt, alloc, &mut self.store, &mut self.crew, goals) {
             Ok(()) => Reply::Done,
             Err(why) => Reply::Refused(why),
         }

@@ -1,6 +1,6 @@
 -- What is prepared on the desk of a place is prepared for its user, in the world that the core stands for.
 use Rattle.std.proofs.Common.{◌≡◌, ◌∙◌, ℕ, Bool, true, false, List, length, refl, sym, subst, ap, Some, None, Result, Ok, Err}
-use Rattle.std.specs.Prelude.{OnOk}
+use Rattle.std.specs.Prelude.{IfOk, Option}
 use Rattle.model.specs.declared.refusal.Refusal.{Refusal}
 use Rattle.model.specs.Archives.{Tree}
 use Rattle.model.specs.Classes.{Admission, known_at}
@@ -10,17 +10,19 @@ use Rattle.model.specs.Worlds.{Source, Desk, Goal, Job, Label, known_of, are_use
 use Rattle.trust.specs.Naming.{place_of, name_at, IsWithin}
 use Rattle.trust.proofs.PlaceLemmas.{name_found}
 use Rattle.realise.specs.Holdings.{Holdings}
-use Rattle.outputs.specs.Kept.{HasOutput}
+use Rattle.outputs.specs.Kept.{HasOutput, HasNeeded}
+use Rattle.outputs.specs.declared.input.Input.{Input}
+use Rattle.outputs.specs.declared.settlement.Settlement.{Settlement}
 use Rattle.desks.specs.Offering.{HasOffered}
 use Rattle.building.specs.Built.{HasBuilt}
-use Rattle.endings.specs.Preparing.{HasLedOutput}
+use Rattle.endings.specs.Preparing.{HasLedOutput, HasNeededFor}
 use Rattle.handling.specs.Parts.{desk_among, beside_at, goals_of}
 use Rattle.handling.specs.Sound.{Beside, desk_of}
 use Rattle.handling.specs.Viewing.{desk_at}
 use Rattle.handling.proofs.DeskLemmas.{known_of-desk_of}
 use Rattle.views.proofs.ClosureLemmas.{his_desk}
 use Rattle.outputs.specs.declared.settlements.Settlements.{Settlements}
-use Rattle.schedule.specs.Preparing.{HasOutcome}
+use Rattle.schedule.specs.Preparing.{HasInput, HasOutcome}
 
 -- ---- on one desk, as the model sees it
 
@@ -46,21 +48,22 @@ module _ (users : List (List ℕ)) (limit : ℕ) (trust : ℕ → ℕ → Bool) 
   his_is : his ≡ desk_of (beside_at users trust goals place) table (desk_at desks place)
   his_is = his_desk users limit trust goals table desks user place listed found paired within
 
-  pub offered_by : (result : Result (Unit {0}) Refusal) (path : List ℕ) (tree : Tree) (made : Settlements)
-      → OnOk result (HasOffered (desk_at desks place) path tree made.settled.items) → OnOk result (HasOutcome his user (Offer path tree) made)
-  offered_by (Ok u) path tree made offered =
+  pub offered_by : (result : Result (Option Input) Refusal) (path : List ℕ) (tree : Tree)
+      → IfOk result (λ input. (t : Tree) (settled : List Settlement) → HasNeeded settled input t → HasOffered (desk_at desks place) path t settled)
+      → IfOk result (λ input. (made : Settlements) → HasInput (Offer path tree) input made → HasOutcome his user (Offer path tree) made)
+  offered_by (Ok input) path tree needed = λ made has.
       subst (λ d. HasOutcome d user (Offer path tree) made) (sym his_is)
-      (offered_on (beside_at users trust goals place) table (desk_at desks place) user path tree made offered)
-  offered_by (Err why) path tree made offered = tt
+      (offered_on (beside_at users trust goals place) table (desk_at desks place) user path tree made (needed tree made.settled.items (has tree refl)))
+  offered_by (Err why) path tree needed = tt
 
-  pub ended_by : (result : Result (Unit {0}) Refusal) (n : ℕ) (output : List ℕ) (made : Settlements)
-      → OnOk result (HasLedOutput (desk_at desks place) (record { leader = name_at users place; number = n }) (goals_of goals place) output
-      made.settled.items)
-      → OnOk result (HasOutcome his user (Finish n output) made)
-  ended_by (Ok u) n output made led =
+  pub ended_by : (result : Result (Option Input) Refusal) (n : ℕ) (output : List ℕ)
+      → IfOk result (λ input. (bytes : List ℕ) (settled : List Settlement) → HasNeededFor bytes settled input
+      → HasLedOutput (desk_at desks place) (record { leader = name_at users place; number = n }) (goals_of goals place) bytes settled)
+      → IfOk result (λ input. (made : Settlements) → HasInput (Finish n output) input made → HasOutcome his user (Finish n output) made)
+  ended_by (Ok input) n output needed = λ made has.
       let named = (name_found users user place found).1 in
-      let his_led = subst (λ (leader : List ℕ). HasLedOutput (desk_at desks place) (record { leader = leader; number = n }) (goals_of goals place) output
-      made.settled.items) named led in
+      let led = subst (λ (leader : List ℕ). HasLedOutput (desk_at desks place) (record { leader = leader; number = n }) (goals_of goals place) output
+      made.settled.items) named (needed output made.settled.items has) in
       subst (λ d. HasOutcome d user (Finish n output) made) (sym his_is)
-      (ended_on (beside_at users trust goals place) table (desk_at desks place) user n output made his_led)
-  ended_by (Err why) n output made led = tt
+      (ended_on (beside_at users trust goals place) table (desk_at desks place) user n output made led)
+  ended_by (Err why) n output needed = tt

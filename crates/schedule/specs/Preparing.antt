@@ -1,5 +1,5 @@
 -- Values that are made before a step.
-use Rattle.std.specs.Prelude.{◌≡◌, ℕ, true, List, Some, Ok}
+use Rattle.std.specs.Prelude.{◌≡◌, ℕ, true, List, Option, Some, None, Ok}
 use Rattle.model.specs.Archives.{Tree}
 use Rattle.model.specs.ArchiveReading.{tree_of_archive}
 use Rattle.model.specs.Classes.{Admission, known_at}
@@ -9,11 +9,13 @@ use Rattle.model.specs.Reach.{is_among}
 use Rattle.model.specs.References.{candidates}
 use Rattle.model.specs.Worlds.{Desk, Goal, known_of}
 use Rattle.leading.specs.Leading.{leading}
-use Rattle.outputs.specs.Kept.{HasOutput, HasPlaced}
+use Rattle.outputs.specs.Kept.{HasOutput, HasPlaced, HasNeeded}
+use Rattle.outputs.specs.declared.input.Input.{Input}
 use Rattle.outputs.specs.declared.settlements.Settlements.{Settlements}
 use Rattle.outputs.specs.declared.sources.Sources.{Sources}
 use Rattle.building.specs.Built.{HasBuilt}
 use Rattle.schedule.specs.declared.state.Core.{Core}
+use Rattle.schedule.specs.declared.preparing.Need.{Need}
 use Rattle.schedule.specs.declared.work.Ready.{Ready}
 use Rattle.schedule.specs.Standing.{world_of, setup_of}
 
@@ -30,6 +32,21 @@ HasOutcome d user (Finish n output) settlements = (g : Goal) (tree : Tree) → g
     → leading (record { leader = user; number = n }) (Some g) ≡ Ok tt → tree_of_archive output ≡ Some tree
     → HasBuilt (known_of d) g tree settlements.settled.items
 HasOutcome d user request settlements = Unit {0}
+
+-- the tree that a request hands in as an output, if it does
+abbrev pub output_of : Request → Option Tree
+output_of (Offer path tree) = Some tree
+output_of (Finish n output) = tree_of_archive output
+output_of request = None
+
+-- what comes of that tree is there, where it is to be settled by an input
+abbrev pub HasInput : Request → Option Input → Settlements → Type 0
+HasInput request input settlements = (tree : Tree) → output_of request ≡ Some tree → HasNeeded settlements.settled.items input tree
+
+-- what a request needs was made
+pub record IsMade (need : Need) (request : Request) (ready : Ready) : Type 0 where
+  pub path : HasPath request ready.work.sources
+  pub output : HasInput request need.input ready.work.settlements
 
 -- the values that an event needs are there, which a user of the run asks in the world that the core stands for
 pub record IsPrepared (core : Core) (event : Event) (ready : Ready) : Type 0 where

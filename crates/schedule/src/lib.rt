@@ -4,6 +4,7 @@
 //! both promise is said in the terms of the crate `model`: the store is as good as private desks.
 #![tactic(auto)]
 
+mod finding;
 mod holding;
 mod preparing;
 mod query;
@@ -19,7 +20,10 @@ mod undoing;
 mod work;
 
 pub use events::{CopiedReply, Event, Output, Reply, Request};
+pub use finding::Finding;
 pub use leading::RunningJob;
+pub use moving::Cache;
+pub use preparing::Need;
 pub use query::{Query, Question};
 pub use realise::{LARGEST_CHARGE, Limits};
 pub use runs::run;

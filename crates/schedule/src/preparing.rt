@@ -2,19 +2,35 @@
 
 ghost use Rattle.std.specs.Prelude.{◌≡◌, ◌<◌, ℕ, List, Some, length, IfOk, IfErr, OnOk};
 ghost use Rattle.model.specs.declared.refusal.Refusal.TheVariants.{Memory};
+ghost use Rattle.outputs.specs.declared.settlements.Settlements.{Settlements as SettlementsValue};
 ghost use Rattle.events.specs.Terms.{event_of, request_of};
 ghost use Rattle.trust.specs.Naming.{place_of};
+ghost use Rattle.schedule.specs.declared.work.Ready.{Ready as ReadyValue};
 ghost use Rattle.schedule.specs.Standing.{world_of};
-ghost use Rattle.schedule.specs.Preparing.{HasPath, HasOutcome, IsPrepared};
+ghost use Rattle.schedule.specs.Preparing.{output_of, HasPath, HasInput, HasOutcome, IsPrepared, IsMade};
 
 use crate::state::Core;
 use crate::work::{Ready, Work};
-use desks::prepare_offer;
-use endings::prepare_finish;
+use desks::input_for_offer;
+use endings::{input_for_finish, tree_in};
 use events::{Event, Request};
 use handling::place_of;
 use model::Refusal;
+use nar::Tree;
+use outputs::{Input, Settlements};
 use std::alloc::Global;
+
+/// What an event needs to be made before a step, as far as a core has to tell it.
+pub struct Need {
+    /// What its output is settled by, if it has one that is.
+    input: Option<Input>,
+}
+
+impl Drop for Need {
+    fn drop(self) {
+        let Need { input: _ } = self;
+    }
+}
 
 /// Makes the path of a source, if it is to be added. The one error is memory.
 fn prepare_source(alloc: Global, work: &mut Work, request: &Request) -> Result<(), Refusal>
@@ -27,40 +43,104 @@ fn prepare_source(alloc: Global, work: &mut Work, request: &Request) -> Result<(
     Ok(())
 }
 
+/// The tree that a request hands in as an output, if it does. The one error is memory.
+fn output_in(alloc: Global, request: &Request) -> Result<Option<Tree>, Refusal>
+    ensures output { IfOk result (λ tree. tree ≡ output_of (request_of request.now)) }
+    ensures memory { IfErr result (λ why. why ≡ Memory) }
+{
+    match request {
+        Request::Offer(_, tree) => Ok(Some(tree.clone()?)),
+        Request::Finish(_, output) => tree_in(alloc, output.bytes()),
+        _ => Ok(None),
+    }
+}
+
+/// Settles the output of a request by an input, if there is one. The one error is memory.
+fn prepare_output(
+    alloc: Global,
+    settlements: &mut Settlements,
+    input: Option<Input>,
+    request: &Request,
+) -> Result<(), Refusal>
+    ensures output { OnOk result (HasInput (request_of request.now) input settlements.new) }
+    ensures memory { IfErr result (λ why. why ≡ Memory) }
+{
+    let Some(input) = input else {
+        return Ok(());
+    };
+    let Some(tree) = output_in(alloc, request)? else {
+        return Ok(());
+    };
+    let _outcome = settlements.settle(alloc, input, &tree)?;
+    Ok(())
+}
+
+impl Need {
+    /// Makes the values that the event needs. That takes long: the path of a source, and what comes of a tree
+    /// that is offered or built, are hashed.
+    ///
+    /// # Errors
+    ///
+    /// - `Memory` only where memory was refused.
+    pub fn make(self, alloc: Global, event: &Event) -> Result<Ready, Refusal>
+        ensures made { IfOk result (IsMade self (event_of event.now).request) }
+        ensures memory { IfErr result (λ why. why ≡ Memory) }
+    {
+        let Need { input } = self;
+        let mut work = Work::none(alloc);
+        prepare_source(alloc, &mut work, &event.request)?;
+        prepare_output(alloc, &mut work.settlements, input, &event.request)?;
+        Ok(Ready::of(work))
+    }
+}
+
 impl Core {
-    /// Settles what the user at a place offers, or ends his job with. The one error is memory.
-    fn prepare_outcome(
+    /// What the output is settled by that the user at a place offers, or ends his job with. The one error is
+    /// memory.
+    fn input_for(
         &self,
         alloc: Global,
-        work: &mut Work,
         place: usize,
         request: &Request,
-    ) -> Result<(), Refusal>
+    ) -> Result<Option<Input>, Refusal>
         requires of_run { place < length self.now.users.items }
-        ensures outcome { (user : List ℕ) → place_of self.now.users.items user ≡ Some place
-            → OnOk result (HasOutcome (world_of self.now user) user (request_of request.now)
-            work.new.settlements) }
-        ensures sources { work.new.sources ≡ work.old.sources }
+        ensures needed { (user : List ℕ) → place_of self.now.users.items user ≡ Some place
+            → IfOk result (λ input. (settlements : SettlementsValue)
+            → HasInput (request_of request.now) input settlements
+            → HasOutcome (world_of self.now user) user (request_of request.now) settlements) }
         ensures memory { IfErr result (λ why. why ≡ Memory) }
     {
         let desks = self.desks.as_slice();
-        let settlements = &mut work.settlements;
         match request {
-            Request::Offer(path, tree) => {
-                prepare_offer(alloc, &desks[place], settlements, path, tree)
-            }
-            Request::Finish(number, output) => prepare_finish(
+            Request::Offer(path, _) => input_for_offer(alloc, &desks[place], path),
+            Request::Finish(number, _) => input_for_finish(
                 alloc,
                 self.users.as_slice(),
                 &self.jobs,
                 desks,
                 place,
                 *number,
-                settlements,
-                output.bytes(),
             ),
-            _ => Ok(()),
+            _ => Ok(None),
         }
+    }
+
+    /// What an event needs to be made before a step. Whatever [`Need::make`] makes of that are the values that
+    /// a step by this core needs. The core stays as it is, and may have taken other events when they are used.
+    ///
+    /// # Errors
+    ///
+    /// - `Memory` only where memory was refused.
+    pub fn need(&self, alloc: Global, event: &Event) -> Result<Need, Refusal>
+        ensures need { IfOk result (λ need. (ready : ReadyValue)
+            → IsMade need (event_of event.now).request ready → IsPrepared self.now (event_of event.now) ready) }
+        ensures memory { IfErr result (λ why. why ≡ Memory) }
+    {
+        let Some(place) = place_of(self.users.as_slice(), &event.actor) else {
+            return Ok(Need { input: None });
+        };
+        let input = self.input_for(alloc, place, &event.request)?;
+        Ok(Need { input })
     }
 
     /// Makes values that a step needs for an event, so that [`Core::step_ready`] need not make them: the path
@@ -74,11 +154,6 @@ impl Core {
         ensures prepared { IfOk result (IsPrepared self.now (event_of event.now)) }
         ensures memory { IfErr result (λ why. why ≡ Memory) }
     {
-        let mut work = Work::none(alloc);
-        prepare_source(alloc, &mut work, &event.request)?;
-        if let Some(place) = place_of(self.users.as_slice(), &event.actor) {
-            self.prepare_outcome(alloc, &mut work, place, &event.request)?;
-        }
-        Ok(Ready::of(work))
+        self.need(alloc, event)?.make(alloc, event)
     }
 }

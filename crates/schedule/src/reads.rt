@@ -1,6 +1,7 @@
-//! Answering what is only read.
+//! Looking for what is only read.
 
-ghost use Rattle.std.specs.Prelude.{◌≡◌, ◌<◌, true, length, All};
+ghost use Rattle.std.specs.Prelude.{◌≡◌, ◌<◌, true, length, All, Result};
+ghost use Rattle.model.specs.declared.refusal.Refusal.{Refusal as RefusalValue};
 ghost use Rattle.model.specs.Worlds.{are_users};
 ghost use Rattle.trust.specs.Trusting.{trusts};
 ghost use Rattle.trust.specs.Naming.{IsWithin};
@@ -8,12 +9,17 @@ ghost use Rattle.handling.specs.Sound.{IsSound, AreGoalsSound};
 ghost use Rattle.handling.specs.Parts.{parts};
 ghost use Rattle.handling.specs.Handling.{IsHandled, IsHandledByAll};
 ghost use Rattle.events.specs.Terms.{request_of, event_of, reply_of};
+ghost use Rattle.events.specs.declared.reply.Reply.{Reply as ReplyValue};
+ghost use Rattle.views.specs.Serving.{MayServe};
 ghost use Rattle.schedule.specs.Standing.{parts_of};
 ghost use Rattle.schedule.specs.Queries.{request_in, event_for};
+ghost use Rattle.schedule.specs.Findings.{MayGive, IsServedFrom};
 ghost use Rattle.schedule.specs.Stepping.{IsCoreStep};
 
+use crate::finding::Finding;
 use crate::query::{Query, Question};
 use crate::state::Core;
+use choose::Plan;
 use desks::fetch;
 use events::{CopiedReply, Reply};
 use goals::status;
@@ -21,16 +27,29 @@ use handling::place_of;
 use jobs::Jobs;
 use laws::never_fails;
 use model::Refusal;
-use moving::Cache;
 use realise::{Desk, Limits};
 use rewrite::one_tree_at_a_path;
 use std::alloc::Global;
 use store::Table;
 use trust::{Trust, User};
-use views::closure;
+use views::plan_for;
 
-/// Answers what the user at a place asks.
-fn read_at(
+/// What is found where a reply is made.
+fn told(reply: Result<CopiedReply, Refusal>) -> Result<Finding, Refusal>
+    ensures { (given : Result ReplyValue RefusalValue) → MayGive result given → given ≡ reply }
+{
+    Ok(Finding::Told(reply?.into_reply()))
+}
+
+/// What is found where a closure is planned.
+fn planned(plan: Result<Plan, Refusal>) -> Result<Finding, Refusal>
+    ensures { (given : Result ReplyValue RefusalValue) → MayGive result given → MayServe plan given }
+{
+    Ok(Finding::Planned(plan?))
+}
+
+/// What is found for what the user at a place asks.
+fn find_at(
     alloc: Global,
     users: &[User],
     trust: &Trust,
@@ -40,7 +59,7 @@ fn read_at(
     limits: Limits,
     place: usize,
     question: &Question,
-) -> Result<CopiedReply, Refusal>
+) -> Result<Finding, Refusal>
     requires listed { are_users users.now ≡ true }
     requires within { IsWithin (length users.now) (trusts trust.now) }
     requires paired { length desks.now ≡ length users.now }
@@ -48,39 +67,30 @@ fn read_at(
     requires with_goals { length jobs.now.goals ≡ length users.now }
     requires goals_sound { All (AreGoalsSound table.now.sources) jobs.now.goals }
     requires of_run { place < length users.now }
-    ensures { IsHandledByAll
+    ensures { (given : Result ReplyValue RefusalValue) → MayGive result given → IsHandledByAll
         (parts users.now limits.charge (trusts trust.now) jobs.now.goals table.now.sources desks.now)
-        place (request_of (request_in question.now)) result
+        place (request_of (request_in question.now)) given
         (parts users.now limits.charge (trusts trust.now) jobs.now.goals table.now.sources desks.now) }
 {
     let _limits = limits;
     match question {
-        Question::Status(number) => status(users, trust, jobs, place, *number),
-        Question::Closure(class) => {
-            closure(
-                alloc,
-                trust,
-                table,
-                desks,
-                place,
-                &mut Cache::none(alloc),
-                class,
-            )
-        },
-        Question::Fetch(path) => fetch(table, &desks[place], path),
+        Question::Status(number) => told(status(users, trust, jobs, place, *number)),
+        Question::Closure(class) => planned(plan_for(alloc, trust, table, desks, place, class)),
+        Question::Fetch(path) => told(fetch(table, &desks[place], path)),
     }
 }
 
 impl Core {
-    /// Answers a query by the parts of the core.
-    fn answer(&self, alloc: Global, query: &Query) -> Result<CopiedReply, Refusal>
-        ensures { IsHandled (parts_of self.now) (event_of (event_for query.now)) result (parts_of self.now) }
+    /// Looks for the answer to a query in the parts of the core.
+    fn find(&self, alloc: Global, query: &Query) -> Result<Finding, Refusal>
+        ensures { (given : Result ReplyValue RefusalValue) → MayGive result given
+            → IsHandled (parts_of self.now) (event_of (event_for query.now)) given (parts_of self.now) }
     {
         let users = self.users.as_slice();
         let Some(place) = place_of(users, &query.actor) else {
             return Err(Refusal::UnknownUser);
         };
-        read_at(
+        find_at(
             alloc,
             users,
             &self.trust,
@@ -93,16 +103,17 @@ impl Core {
         )
     }
 
-    /// Answers a query as [`Core::step`] answers the event that it is. The core stays as it is, and its
-    /// cache is not used: records are repaired for each query anew.
-    pub fn read(&self, alloc: Global, query: &Query) -> Reply
-        ensures { IsCoreStep self.now (event_of (event_for query.now)) (reply_of result) self.now }
+    /// Looks for the answer to a query. Whatever reply [`Finding::serve`] gives of what is found, it is one
+    /// that [`Core::step`] may give to the event that the query is. The core stays as it is.
+    pub fn look(&self, alloc: Global, query: &Query) -> Finding
+        ensures { (reply : ReplyValue) → IsServedFrom result reply
+            → IsCoreStep self.now (event_of (event_for query.now)) (reply_of reply) self.now }
     {
         one_tree_at_a_path();
         never_fails();
-        match self.answer(alloc, query) {
-            Ok(reply) => reply.into_reply(),
-            Err(refusal) => Reply::Refused(refusal),
+        match self.find(alloc, query) {
+            Ok(finding) => finding,
+            Err(refusal) => Finding::Told(Reply::Refused(refusal)),
         }
     }
 }

@@ -23,8 +23,11 @@ use Rattle.passes.specs.declared.row.Row.{Row}
 use Rattle.passes.specs.Histories.{event_in, events_of}
 use Rattle.passes.proofs.HistoryLemmas.{all_front, hashed_push, events_push, some_memory}
 use Rattle.schedule.specs.declared.work.Ready.{Ready}
-use Rattle.schedule.specs.Preparing.{HasOutcome, IsPrepared}
-use Rattle.snapshots.specs.Following.{HasReached, Follows, Takes, IsModelRead, IsPreparedAfter}
+use Rattle.schedule.specs.declared.preparing.Need.{Need}
+use Rattle.schedule.specs.Preparing.{HasOutcome, IsPrepared, IsMade}
+use Rattle.schedule.specs.declared.finding.Finding.{Finding}
+use Rattle.schedule.specs.Findings.{IsServedFrom}
+use Rattle.snapshots.specs.Following.{HasReached, Follows, Takes, IsModelRead, FindsRead, IsPreparedAfter, IsNeedAfter}
 
 -- a new core follows no rows
 pub starts : (core : Core) → world_of core ≡ nothing → stored_in core ≡ [] → Follows (setup_of core) core []
@@ -59,8 +62,10 @@ record Goes (setup : Setup) (rows : List Row) (e : events.Event) (given : events
   hashes : HasHashed texts new
   good : GivesGoodClosure setup (world_after setup nothing (events_of rows)) e × KeepsGoodClosure setup (world_after setup nothing (events_of rows)) e
 
-goes : (old new : Core) (rows : List Row) (e : events.Event) (reply : events.Reply) → Follows (setup_of old) old rows → is_memory reply ≡ false → IsCoreStep old e reply new
-    → (texts : List (List ℕ)) → NoClash texts → All (Contains texts) (hashed (setup_of old) nothing (events_of rows ++ e ∷ [])) → Goes (setup_of old) rows e reply new texts
+goes : (old new : Core) (rows : List Row) (e : events.Event) (reply : events.Reply) → Follows (setup_of old) old rows → is_memory reply ≡ false
+    → IsCoreStep old e reply new
+    → (texts : List (List ℕ)) → NoClash texts → All (Contains texts) (hashed (setup_of old) nothing (events_of rows ++ e ∷ []))
+    → Goes (setup_of old) rows e reply new texts
 goes old new rows e reply f some steps texts clean inside =
     let setup : Setup = setup_of old in
     let es : List events.Event = events_of rows in
@@ -92,7 +97,7 @@ followed old new rows r f takes =
     })
 
 -- what it answers to what is only read
-pub reads : (core : Core) (rows : List Row) (e : Event) (reply : Reply) → Follows (setup_of core) core rows → IsCoreStep core (event_of e) (reply_of reply) core
+reads : (core : Core) (rows : List Row) (e : Event) (reply : Reply) → Follows (setup_of core) core rows → IsCoreStep core (event_of e) (reply_of reply) core
     → IsModelRead (setup_of core) rows e reply
 reads core rows e reply f steps = record {
   told = λ some.
@@ -103,8 +108,13 @@ reads core rows e reply f steps = record {
   going = λ stopped. steps.going refl (ap reply_of stopped);
 }
 
+-- so does what is served of what it finds
+pub finds : (core : Core) (rows : List Row) (e : Event) (found : Finding) → Follows (setup_of core) core rows
+    → ((reply : Reply) → IsServedFrom found reply → IsCoreStep core (event_of e) (reply_of reply) core) → FindsRead (setup_of core) rows e found
+finds core rows e found f steps = λ reply from. reads core rows e reply f (steps reply from)
+
 -- the values that it makes are those that are needed after the rows
-pub prepares : (core : Core) (rows : List Row) (e : events.Event) (ready : Ready) → Follows (setup_of core) core rows → IsPrepared core e ready
+prepares : (core : Core) (rows : List Row) (e : events.Event) (ready : Ready) → Follows (setup_of core) core rows → IsPrepared core e ready
     → IsPreparedAfter (setup_of core) rows e ready
 prepares core rows e ready f prepared = record {
   path = prepared.path;
@@ -114,7 +124,7 @@ prepares core rows e ready f prepared = record {
       (prepared.outcome known);
 }
 
-pub prepares_ok : (core : Core) (rows : List Row) (e : events.Event) (result : Result Ready Refusal) → Follows (setup_of core) core rows
-    → IfOk result (IsPrepared core e) → IfOk result (IsPreparedAfter (setup_of core) rows e)
-prepares_ok core rows e (Ok ready) f prepared = prepares core rows e ready f prepared
-prepares_ok core rows e (Err why) f prepared = tt
+pub needs : (core : Core) (rows : List Row) (e : events.Event) (result : Result Need Refusal) → Follows (setup_of core) core rows
+    → IfOk result (λ need. (ready : Ready) → IsMade need e.request ready → IsPrepared core e ready) → IfOk result (IsNeedAfter (setup_of core) rows e)
+needs core rows e (Ok need) f made = λ ready is. prepares core rows e ready f (made ready is)
+needs core rows e (Err why) f made = tt

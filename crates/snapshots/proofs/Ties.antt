@@ -21,14 +21,16 @@ use Rattle.snapshots.specs.Tied.{knower, stranger, added, absorbed, IsQuiet, Tie
 abbrev Fits : Name → View → Type 0
 Fits n v = v.knows ≡ true → v.name ≡ n
 
-fits_set : (n : Name) (views : List View) (seat : ℕ) (w : View) → ((j : ℕ) (u : View) → get_elem? views j ≡ some u → Fits n u) → Fits n w → (j : ℕ) (u : View) → get_elem? (set views seat w) j ≡ some u → Fits n u
+fits_set : (n : Name) (views : List View) (seat : ℕ) (w : View) → ((j : ℕ) (u : View) → get_elem? views j ≡ some u → Fits n u) → Fits n w → (j : ℕ) (u : View)
+    → get_elem? (set views seat w) j ≡ some u → Fits n u
 fits_set n views seat w others mine j u e =
     ⊎_elim
     (λ (x : (j ≡ seat) × (w ≡ u)). subst (Fits n) x.1 mine)
     (λ (x : (j ≢ seat) × (get_elem? views j ≡ some u)). others j u x.1)
     (at_set views seat j w u e)
 
-fits_snoc : (n : Name) (views : List View) (w : View) → ((j : ℕ) (u : View) → get_elem? views j ≡ some u → Fits n u) → Fits n w → (j : ℕ) (u : View) → get_elem? (views ++ w ∷ []) j ≡ some u → Fits n u
+fits_snoc : (n : Name) (views : List View) (w : View) → ((j : ℕ) (u : View) → get_elem? views j ≡ some u → Fits n u) → Fits n w → (j : ℕ) (u : View)
+    → get_elem? (views ++ w ∷ []) j ≡ some u → Fits n u
 fits_snoc n views w others mine j u e = ⊎_elim (λ was. others j u was) (λ (same : w ≡ u). subst (Fits n) same mine) (at_snoc views w u j e)
 
 estranged : (n : Name) → Fits n stranger
@@ -61,7 +63,9 @@ forks seat v x views h at =
 
 pub merges : (seat : ℕ) (v : View) (other : ℕ) (w : View) → Merges Tied seat v other w w stranger
 merges seat v other w x views h at apart there =
-    let theirs : Fits x.name w = ⊎_elim (λ (t : (other ≡ seat) × (w ≡ w)). absurd (apart t.0)) (λ (t : (other ≢ seat) × (get_elem? views other ≡ some w)). h.2 other w t.1) (at_set views seat other w w there) in
+    let theirs : Fits x.name w =
+    ⊎_elim (λ (t : (other ≡ seat) × (w ≡ w)). absurd (apart t.0)) (λ (t : (other ≢ seat) × (get_elem? views other ≡ some w)). h.2 other w t.1)
+    (at_set views seat other w w there) in
     (h.0, h.1, fits_set x.name (set views seat w) other stranger (fits_set x.name views seat w h.2 theirs) (estranged x.name))
 
 -- ---- what is pending
@@ -71,7 +75,8 @@ pub behind_quiet : (x : Shown) (pending : List Operation) (o : Operation) → Is
 behind_quiet x pending o quiet = fold-append absorbed x pending (o ∷ []) ∙ ap (λ (t : Shown). absorbed t o) quiet
 
 -- what is shown after what was pending and a row more
-pub value_added : (x next : Shown) (pending all : List Operation) (n : NewRow) → IsQuiet x pending → all ≡ pending ++ Add n ∷ [] → next ≡ fold absorbed x all → next ≡ added x n
+pub value_added : (x next : Shown) (pending all : List Operation) (n : NewRow) → IsQuiet x pending → all ≡ pending ++ Add n ∷ [] → next ≡ fold absorbed x all
+    → next ≡ added x n
 value_added x next pending all n quiet are is = is ∙ (ap (fold absorbed x) are ∙ behind_quiet x pending (Add n) quiet)
 
 -- and after a sweep
@@ -83,7 +88,8 @@ pub quiet_swept : (x : Shown) (pending all : List Operation) → IsQuiet x pendi
 quiet_swept x pending all quiet are = ap (fold absorbed x) are ∙ behind_quiet x pending Sweep quiet
 
 -- what publishing what was pending and a row comes to
-pub is_added : (x y next : Shown) (pending all : List Operation) (n : NewRow) (b : Bool) (left : List Operation) → y ≡ x → IsQuiet x pending → all ≡ pending ++ Add n ∷ []
+pub is_added : (x y next : Shown) (pending all : List Operation) (n : NewRow) (b : Bool) (left : List Operation) → y ≡ x → IsQuiet x pending
+    → all ≡ pending ++ Add n ∷ []
     → MatchBool b ((next ≡ fold absorbed y all) × (left ≡ [])) ((next ≡ y) × (left ≡ all)) → MatchBool b ((next ≡ added x n) × (left ≡ [])) (next ≡ x)
 is_added x y next pending all n true left same quiet are is =
     (value_added x next pending all n quiet are (is.0 ∙ ap (λ (t : Shown). fold absorbed t all) same), is.1)

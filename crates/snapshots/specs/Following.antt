@@ -11,7 +11,10 @@ use Rattle.schedule.specs.declared.state.Core.{Core}
 use Rattle.schedule.specs.Standing.{world_of, setup_of, stored_in, HasHashed}
 use Rattle.schedule.specs.Stepping.{IsCoreStep}
 use Rattle.schedule.specs.declared.work.Ready.{Ready}
-use Rattle.schedule.specs.Preparing.{HasPath, HasOutcome}
+use Rattle.schedule.specs.declared.preparing.Need.{Need}
+use Rattle.schedule.specs.Preparing.{HasPath, HasOutcome, IsMade}
+use Rattle.schedule.specs.declared.finding.Finding.{Finding}
+use Rattle.schedule.specs.Findings.{IsServedFrom}
 use Rattle.events.specs.declared.event.Event.{Event}
 use Rattle.events.specs.declared.reply.Reply.{Reply}
 use Rattle.events.specs.declared.reply.Reply.TheVariants.{Refused}
@@ -43,9 +46,17 @@ pub record IsModelRead (setup : Setup) (rows : List Row) (event : Event) (reply 
   pub told : gave_up reply ≡ false → IsToldAfter setup rows (event_of event) (reply_of reply)
   pub going : reply ≢ Refused Stopped
 
+-- whatever reply is served of a finding is one to an event that is read after these rows
+abbrev pub FindsRead : Setup → List Row → Event → Finding → Type 0
+FindsRead setup rows event found = (reply : Reply) → IsServedFrom found reply → IsModelRead setup rows event reply
+
 -- the values that an event needs after these rows are there: the path of a source; and, where no two texts that the rows' events hash have
 -- one folded digest, what comes of an offer, and of the output of a job for the goal that leads it
 pub record IsPreparedAfter (setup : Setup) (rows : List Row) (e : events.Event) (ready : Ready) : Type 0 where
   pub path : HasPath e.request ready.work.sources
   pub outcome : NoClash (hashed setup nothing (events_of rows)) → is_among e.actor setup.users ≡ true
       → HasOutcome (world_after setup nothing (events_of rows) e.actor) e.actor e.request ready.work.settlements
+
+-- whatever is made of a need are the values that an event needs after these rows
+abbrev pub IsNeedAfter : Setup → List Row → events.Event → Need → Type 0
+IsNeedAfter setup rows e need = (ready : Ready) → IsMade need e.request ready → IsPreparedAfter setup rows e ready

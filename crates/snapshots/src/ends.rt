@@ -7,7 +7,7 @@ ghost use Rattle.schedule.specs.Queries.{event_for};
 ghost use Rattle.passes.specs.Histories.{IsLegal};
 ghost use Rattle.model.specs.declared.refusal.Refusal.TheVariants.{Memory};
 ghost use Rattle.events.specs.Terms.{event_of};
-ghost use Rattle.snapshots.specs.Following.{IsModelRead, IsPreparedAfter};
+ghost use Rattle.snapshots.specs.Following.{FindsRead, IsNeedAfter};
 ghost use Rattle.snapshots.specs.Naming.{book_in, setup_in};
 ghost use Rattle.crossbeam_utils.specs.Register.{TurnsAt};
 ghost use Rattle.snapshots.specs.declared.law.Shown.{Shown};
@@ -17,51 +17,52 @@ use crate::law::{Looks, SnapshotReader, SnapshotWriter, Tells};
 use crate::snapshot::{NewRow, Operation};
 use model::Refusal;
 use passes::Beginning;
-use schedule::{Event, Query, Ready, Reply};
+use schedule::{Event, Finding, Need, Query};
 use std::alloc::AllocError;
 use std::sync::Wait;
 
-/// Answers what is only read after the rows that are published, with these rows, which are a legal
-/// history. It waits for nobody. There is no answer where the writer is gone.
-pub fn look(reader: SnapshotReader, query: Query) -> (SnapshotReader, Option<(Reply, Beginning)>)
+/// Looks for what is only read after the rows that are published, with these rows, which are a legal
+/// history. It waits for nobody, and what it finds is served once the snapshot is left. Nothing is found
+/// where the writer is gone.
+pub fn look(reader: SnapshotReader, query: Query) -> (SnapshotReader, Option<(Finding, Beginning)>)
     requires { (view reader.place).knows ≡ true }
     ensures view { view result.0.place ≡ view reader.place }
     ensures rows { IfSome result.1 (λ t. t.1.seen.book ≡ book_in (view reader.place).name) }
     ensures legal { IfSome result.1
         (λ t. IsLegal (setup_in (view reader.place).name) t.1.seen.log) }
-    ensures reply { IfSome result.1
-        (λ t. IsModelRead (setup_in (view reader.place).name) t.1.seen.log (event_for query) t.0) }
+    ensures found { IfSome result.1
+        (λ t. FindsRead (setup_in (view reader.place).name) t.1.seen.log (event_for query) t.0) }
 {
     match reader.enter_as::<Looks>() {
         Ok(reading) => {
             let snapshot = reading.get();
-            let reply = snapshot.read(&query);
+            let found = snapshot.look(&query);
             let rows = snapshot.seen();
-            (reading.leave(), Some((reply, rows)))
+            (reading.leave(), Some((found, rows)))
         }
         Err(reader) => (reader, None),
     }
 }
 
-/// Makes values that an event needs after the rows that are published, with these rows. It waits for
-/// nobody. There is no answer where the writer is gone.
-pub fn prepare(
+/// What an event needs to be made after the rows that are published, with these rows. It waits for nobody,
+/// and what is needed is made once the snapshot is left. There is no answer where the writer is gone.
+pub fn need(
     reader: SnapshotReader,
     event: &Event,
-) -> (SnapshotReader, Option<(Result<Ready, Refusal>, Beginning)>)
+) -> (SnapshotReader, Option<(Result<Need, Refusal>, Beginning)>)
     requires { (view reader.place).knows ≡ true }
     ensures view { view result.0.place ≡ view reader.place }
     ensures rows { IfSome result.1 (λ t. t.1.seen.book ≡ book_in (view reader.place).name) }
-    ensures prepared { IfSome result.1 (λ t. IfOk t.0 (IsPreparedAfter
+    ensures need { IfSome result.1 (λ t. IfOk t.0 (IsNeedAfter
         (setup_in (view reader.place).name) t.1.seen.log (event_of event.now))) }
     ensures memory { IfSome result.1 (λ t. IfErr t.0 (λ why. why ≡ Memory)) }
 {
     match reader.enter_as::<Looks>() {
         Ok(reading) => {
             let snapshot = reading.get();
-            let ready = snapshot.prepare(event);
+            let needed = snapshot.need(event);
             let rows = snapshot.seen();
-            (reading.leave(), Some((ready, rows)))
+            (reading.leave(), Some((needed, rows)))
         }
         Err(reader) => (reader, None),
     }

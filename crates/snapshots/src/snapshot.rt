@@ -10,7 +10,7 @@ ghost use Rattle.events.specs.Terms.{event_of, reply_of};
 ghost use Rattle.events.specs.declared.reply.Reply.{Reply as GivenReply};
 ghost use Rattle.passes.specs.Histories.{gave_up, event_in};
 ghost use Rattle.model.specs.declared.refusal.Refusal.TheVariants.{Memory};
-ghost use Rattle.snapshots.specs.Following.{IsFresh, IsModelRead, IsPreparedAfter, Takes};
+ghost use Rattle.snapshots.specs.Following.{IsFresh, FindsRead, IsNeedAfter, Takes};
 ghost use Rattle.snapshots.specs.Naming.{name_of, setup_in};
 ghost use Rattle.snapshots.specs.Tied.{absorbed, added};
 
@@ -18,7 +18,7 @@ use crate::law::Shown;
 use left_right::Absorb;
 use model::Refusal;
 use passes::{Beginning, Row, has_given_up};
-use schedule::{Core, Event, Query, Ready, Reply};
+use schedule::{Core, Event, Finding, Need, Query, Ready};
 use std::alloc::{AllocError, Global};
 use std::marker::Model;
 use std::sync::Arc;
@@ -183,20 +183,20 @@ impl Snapshot {
         }
     }
 
-    /// Answers what is only read after the rows.
-    pub fn read(&self, query: &Query) -> Reply
-        ensures { IsModelRead (setup_in self.now.name) self.now.rows (event_for query.now) result }
+    /// Looks for what is only read after the rows. Whatever reply is served of it is one to the query then.
+    pub fn look(&self, query: &Query) -> Finding
+        ensures { FindsRead (setup_in self.now.name) self.now.rows (event_for query.now) result }
     {
-        self.core.read(self.alloc, query)
+        self.core.look(self.alloc, query)
     }
 
-    /// Makes values that an event needs after the rows. The one error is memory.
-    pub fn prepare(&self, event: &Event) -> Result<Ready, Refusal>
-        ensures prepared { IfOk result
-            (IsPreparedAfter (setup_in self.now.name) self.now.rows (event_of event.now)) }
+    /// What an event needs to be made after the rows. The one error is memory.
+    pub fn need(&self, event: &Event) -> Result<Need, Refusal>
+        ensures need { IfOk result
+            (IsNeedAfter (setup_in self.now.name) self.now.rows (event_of event.now)) }
         ensures memory { IfErr result (λ why. why ≡ Memory) }
     {
-        self.core.prepare(self.alloc, event)
+        self.core.need(self.alloc, event)
     }
 
     /// The rows of the history that were published with it.

@@ -1,5 +1,7 @@
-use Rattle.workers.specs.Tickets.{AreGoals}
+use Rattle.std.specs.Prelude.{◌≡◌, map, take}
+use Rattle.running.specs.Sessions.{ticket_for}
 use Rattle.running.proofs.crews.tickets_for.Given as goal
 
+-- so many goals have their tickets
 abbrev pub invariant-loop-goal : goal.invariant-loop-goal
-invariant-loop-goal l = AreGoals l.tickets.items
+invariant-loop-goal l = l.tickets.items ≡ map ticket_for (take l.goal-index l.goals)

@@ -1,8 +1,9 @@
-use Rattle.std.specs.Prelude.{List}
-use Rattle.workers.specs.Working.{Call}
-use Rattle.running.specs.Sessions.{AsksStatus, Calls}
+use Rattle.std.specs.Prelude.{◌≡◌, ◌⊎◌, All}
+use Rattle.running.proofs.WaitLemmas.{Asked}
 use Rattle.running.proofs.waiting.build_all.Given as goal
 
--- the store was asked how far the goals are
+-- the store was asked how far the goals are, and after a round it knows what the workers did
 abbrev pub invariant-loop : goal.invariant-loop
-invariant-loop g l = (calls : List Call) × AsksStatus l.goals calls × Calls g.S.Store.called l.fn.store calls l.store
+invariant-loop g l =
+    Asked g.S.Store.called g.S.Meet.met l.goals l.fn.store l.store
+    × ((l.crew ≡ l.fn.crew) ⊎ All (λ w. g.S.Meet.knows l.store w.store) l.crew.workers.items)

@@ -6,7 +6,7 @@ use Rattle.schedule.specs.Queries.{event_for}
 use Rattle.snapshots.specs.declared.law.Name.{Name}
 use Rattle.snapshots.specs.declared.law.Shown.{Shown}
 use Rattle.snapshots.specs.Naming.{setup_in}
-use Rattle.snapshots.specs.Following.{IsModelRead}
+use Rattle.snapshots.specs.Following.{FindsRead}
 use Rattle.snapshots.proofs.Ties.{turns_still, name_seen, rows_seen}
 use Rattle.snapshots.proofs.ends.look.Goals as goal
 
@@ -21,10 +21,10 @@ returns-in-Ok-clause-legal c =
     let rows = rows_seen _ _ _ c.get-snapshot.result.now c.seen-rows.result.seen.log sees same c.seen-rows.ensures.log in
     subst (λ (t : Name × List Row). IsLegal (setup_in t.0) t.1) (λ i. (name i, rows i)) (subst (λ (t : Shown). IsLegal (setup_in t.name) t.rows) (sym same) sees.1)
 
-pub returns-in-Ok-clause-reply : goal.returns-in-Ok-clause-reply
-returns-in-Ok-clause-reply c =
+pub returns-in-Ok-clause-found : goal.returns-in-Ok-clause-found
+returns-in-Ok-clause-found c =
     let sees = c.in-Ok.ensures.1 in
     let same = c.get-snapshot.ensures in
     let name = name_seen _ _ _ c.get-snapshot.result.now sees c.requires same in
     let rows = rows_seen _ _ _ c.get-snapshot.result.now c.seen-rows.result.seen.log sees same c.seen-rows.ensures.log in
-    subst (λ (t : Name × List Row). IsModelRead (setup_in t.0) t.1 (event_for c.args.query) c.read-reply.result) (λ i. (name i, rows i)) c.read-reply.ensures
+    subst (λ (t : Name × List Row). FindsRead (setup_in t.0) t.1 (event_for c.args.query) c.look-found.result) (λ i. (name i, rows i)) c.look-found.ensures

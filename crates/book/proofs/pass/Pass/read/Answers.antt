@@ -1,11 +1,11 @@
-use Rattle.std.proofs.Common.{◌≡◌, List, [], ◌∷◌, ◌++◌, ap, sym, subst}
+use Rattle.std.proofs.Common.{◌≡◌, List, [], ◌∷◌, ◌++◌, ap, sym, ◌∙◌, subst}
 use Rattle.model.specs.Worlds.{Setup}
 use Rattle.passes.specs.declared.row.Row.{Row}
 use Rattle.passes.specs.Callers.{Known}
 use Rattle.passes.specs.Histories.{row, IsLegal}
 use Rattle.schedule.specs.Queries.{event_for}
 use Rattle.snapshots.specs.Naming.{setup_in}
-use Rattle.snapshots.specs.Following.{IsModelRead}
+use Rattle.snapshots.specs.Following.{FindsRead}
 use Rattle.snapshots.proofs.LegalLemmas.{legal_with}
 use Rattle.book.proofs.pass.Pass.read.Goals as goal
 
@@ -13,10 +13,17 @@ pub returns-then-see-clause-read : goal.returns-then-see-clause-read
 returns-then-see-clause-read g c some =
     let rows : List Row = c.in-Some.rows.seen.log in
     let event = event_for c.args.query in
-    let r : Row = row c.args.self.now.caller.number event c.in-Some.reply in
+    let reply = c.serve.result in
+    let r : Row = row c.args.self.now.caller.number event reply in
     let setup = ap (λ v. setup_in v.name) c.self.invariant.2 in
     let legal = subst (λ (s : Setup). IsLegal s rows) setup (rw c.in-Some.is at c.replace_with.ensures.1.1.0) in
-    let told = subst (λ (s : Setup). IsModelRead s rows event c.in-Some.reply) setup (rw c.in-Some.is at c.replace_with.ensures.1.1.1) in
-    let seen = ap (λ (k : Known). k.seen) (rw c.if-see.true at c.see.ensures).1 in
+    let finds = subst (λ (s : Setup). FindsRead s rows event c.in-Some.found) setup (rw c.in-Some.is at c.replace_with.ensures.1.1.1) in
+    let told = finds reply c.serve.ensures in
+    let seen = ap (λ (k : Known). k.seen) (c.self-2.view_is ∙ (rw c.if-see.true at c.see.ensures).1) in
     subst (λ (all : List Row). IsLegal g.J.Naming.setup (all ++ r ∷ [])) (sym seen)
     (legal_with g.J.Naming.setup rows r legal (told.told some) c.isolation.ensures c.timed_isolation.ensures some)
+
+pub returns-then-see-clause-going : goal.returns-then-see-clause-going
+returns-then-see-clause-going g c =
+    let finds = rw c.in-Some.is at c.replace_with.ensures.1.1.1 in
+    (finds c.serve.result c.serve.ensures).going

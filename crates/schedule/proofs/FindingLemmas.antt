@@ -1,0 +1,36 @@
+-- What comes of what a core finds is a step that leaves the core.
+use Rattle.std.proofs.Common.{◌≡◌, refl, sym, ◌∙◌, ap, subst, Result, Ok, Err}
+use Rattle.model.specs.declared.refusal.Refusal.{Refusal}
+use Rattle.model.specs.Events as events
+use Rattle.model.specs.Laws.{NeverFails}
+use Rattle.rewrite.specs.Laws.{OneTreeAtAPath}
+use Rattle.handling.specs.Handling.{IsHandled}
+use Rattle.events.specs.declared.reply.Reply.{Reply}
+use Rattle.events.specs.declared.reply.Reply.TheVariants.{Refused}
+use Rattle.events.specs.Terms.{reply_of}
+use Rattle.schedule.specs.declared.state.Core.{Core}
+use Rattle.schedule.specs.declared.finding.Finding.{Finding}
+use Rattle.schedule.specs.declared.finding.Finding.TheVariants.{Told}
+use Rattle.schedule.specs.Standing.{parts_of}
+use Rattle.schedule.specs.Stepping.{IsCoreStep}
+use Rattle.schedule.specs.Findings.{Gives, told, IsServedFrom}
+use Rattle.schedule.proofs.StepLemmas.{served_step, refused_step}
+
+handled_step : OneTreeAtAPath → NeverFails → (core : Core) (e : events.Event) (given : Result Reply Refusal) → IsHandled (parts_of core) e given (parts_of core)
+    → IsCoreStep core e (reply_of (told given)) core
+handled_step one never core e (Ok reply) handled = served_step core core e reply handled core.sound
+handled_step one never core e (Err why) handled = refused_step one never core core e why handled
+
+pub found_step : OneTreeAtAPath → NeverFails → (core : Core) (e : events.Event) (finding : Finding)
+    → ((given : Result Reply Refusal) → Gives finding given → IsHandled (parts_of core) e given (parts_of core))
+    → (reply : Reply) → IsServedFrom finding reply → IsCoreStep core e (reply_of reply) core
+found_step one never core e finding handled reply from =
+    subst (λ (r : Reply). IsCoreStep core e (reply_of r) core) (sym from.is) (handled_step one never core e from.given (handled from.given from.gives))
+
+-- where nothing is found, that is told
+pub not_found_step : OneTreeAtAPath → NeverFails → (core : Core) (e : events.Event) (why : Refusal)
+    → ((given : Result Reply Refusal) → given ≡ Err why → IsHandled (parts_of core) e given (parts_of core))
+    → (reply : Reply) → IsServedFrom (Told (Refused why)) reply → IsCoreStep core e (reply_of reply) core
+not_found_step one never core e why handled reply from =
+    subst (λ (r : Reply). IsCoreStep core e (reply_of r) core) (sym (from.is ∙ ap told from.gives))
+    (handled_step one never core e (Err why) (handled (Err why) refl))

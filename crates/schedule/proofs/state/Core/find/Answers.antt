@@ -1,0 +1,34 @@
+use Rattle.std.proofs.Common.{sym, ◌∙◌, subst, Result}
+use Rattle.model.specs.declared.refusal.Refusal.{Refusal}
+use Rattle.events.specs.declared.reply.Reply.{Reply}
+use Rattle.handling.specs.Handling.{IsHandled}
+use Rattle.trust.specs.Trusting.{trusts}
+use Rattle.events.specs.Terms.{event_of}
+use Rattle.schedule.specs.Queries.{event_for}
+use Rattle.schedule.specs.Standing.{parts_of}
+use Rattle.handling.proofs.HandlingLemmas.{stranger}
+use Rattle.handling.proofs.WorldLemmas.{place_below}
+use Rattle.schedule.proofs.state.Core.find.Goals as goal
+
+pub find_at-requires : goal.find_at-requires
+find_at-requires c =
+    let core = c.args.self.now in
+    rw (c.as_slice-users.ensures.value, c.as_slice.ensures.value) (record {
+      listed = core.listed;
+      within = core.within;
+      paired = core.paired;
+      sound = core.sound;
+      with_goals = core.with_goals;
+      goals_sound = core.goals_sound;
+      of_run = place_below core.users.items c.args.query.now.actor c.in-Some.place (rw c.as_slice-users.ensures.value at (sym c.place_of.ensures ∙ c.in-Some.is));
+    })
+
+pub returns-in_default : goal.returns-in_default
+returns-in_default c given gives =
+    let core = c.args.self.now in
+    subst (λ (o : Result Reply Refusal). IsHandled (parts_of core) (event_of (event_for c.args.query.now)) o (parts_of core)) (sym gives)
+    (stranger (parts_of core) (event_of (event_for c.args.query.now)) core.sound core.goals_sound core.within (rw (← c.as_slice-users.ensures.value) (sym c.in_default.ensures)))
+
+pub returns : goal.returns
+returns c given gives =
+    rw (c.as_slice-users.ensures.value, c.as_slice.ensures.value) at (c.find_at.ensures given gives c.args.query.now.actor (sym c.place_of.ensures ∙ c.in-Some.is))

@@ -1,0 +1,54 @@
+use Rattle.std.proofs.Common.{◌≡◌, ◌<◌, ◌∙◌, ℕ, List, length, ap, rules, subst, sym}
+use Rattle.std.specs.Prelude.{IfOk}
+use Rattle.model.specs.Archives.{Tree}
+use Rattle.realise.specs.Holdings.{Holdings}
+use Rattle.trust.specs.Trusting.{trusts}
+use Rattle.trust.specs.Naming.{name_at}
+use Rattle.events.specs.Terms.{request_of}
+use Rattle.outputs.specs.Kept.{HasNeeded}
+use Rattle.outputs.specs.declared.settlement.Settlement.{Settlement}
+use Rattle.outputs.specs.declared.settlements.Settlements.{Settlements}
+use Rattle.desks.specs.Offering.{HasOffered}
+use Rattle.endings.specs.Preparing.{HasLedOutput, HasNeededFor}
+use Rattle.endings.proofs.MadeLemmas.{at_place}
+use Rattle.handling.specs.Parts.{goals_of}
+use Rattle.handling.specs.Viewing.{desk_at}
+use Rattle.schedule.specs.Standing.{world_of}
+use Rattle.schedule.specs.Preparing.{HasInput, HasOutcome}
+use Rattle.schedule.proofs.PreparingLemmas.{offered_by, ended_by}
+use Rattle.schedule.proofs.state.Core.input_for.Goals as goal
+
+pub returns-in-Offer-clause-needed : goal.returns-in-Offer-clause-needed
+unfolding world_of
+returns-in-Offer-clause-needed c user found =
+    let core = c.args.self.now in
+    let place = c.args.place in
+    let path = c.in-Offer.path in
+    let result = c.input_for_offer.result in
+    let below : place < length c.as_slice-desks.result.now = search rules in
+    let desk : c.index-desks-place.result ≡ desk_at core.desks.items place =
+    at_place c.as_slice-desks.result.now place c.index-desks-place.result below c.index-desks-place.is
+    ∙ ap (λ ds. desk_at ds place) c.as_slice-desks.ensures.value in
+    let his = subst (λ (d : Holdings). IfOk result (λ input. (t : Tree) (settled : List Settlement) → HasNeeded settled input t → HasOffered d path t settled))
+    desk c.input_for_offer.ensures.needed in
+    subst (λ r. IfOk result (λ input. (made : Settlements) → HasInput r input made → HasOutcome (world_of core user) user r made)) (ap request_of (sym c.in-Offer.is))
+    (offered_by core.users.items core.limits.charge (trusts core.trust) core.jobs.goals core.table.sources core.desks.items user place
+    core.listed found core.paired core.within result path _ his)
+
+pub returns-in-Finish-clause-needed : goal.returns-in-Finish-clause-needed
+unfolding world_of
+returns-in-Finish-clause-needed c user found =
+    let core = c.args.self.now in
+    let place = c.args.place in
+    let n = c.in-Finish.number in
+    let result = c.input_for_finish.result in
+    let goals = goals_of core.jobs.goals place in
+    let led = subst (λ ds. IfOk result (λ input. (bytes : List ℕ) (settled : List Settlement) → HasNeededFor bytes settled input
+    → HasLedOutput (desk_at ds place) (record { leader = name_at c.as_slice.result.now place; number = n }) goals bytes settled))
+    c.as_slice-desks.ensures.value c.input_for_finish.ensures.needed in
+    let his = subst (λ us. IfOk result (λ input. (bytes : List ℕ) (settled : List Settlement) → HasNeededFor bytes settled input
+    → HasLedOutput (desk_at core.desks.items place) (record { leader = name_at us place; number = n }) goals bytes settled))
+    c.as_slice.ensures.value led in
+    subst (λ r. IfOk result (λ input. (made : Settlements) → HasInput r input made → HasOutcome (world_of core user) user r made)) (ap request_of (sym c.in-Finish.is))
+    (ended_by core.users.items core.limits.charge (trusts core.trust) core.jobs.goals core.table.sources core.desks.items user place
+    core.listed found core.paired core.within result n _ his)

@@ -1,0 +1,29 @@
+-- What comes of what a core finds for a query.
+use Rattle.std.specs.Prelude.{◌≡◌, Result, Ok, Err}
+use Rattle.model.specs.declared.refusal.Refusal.{Refusal}
+use Rattle.events.specs.declared.reply.Reply.{Reply}
+use Rattle.events.specs.declared.reply.Reply.TheVariants.{Refused}
+use Rattle.views.specs.Serving.{IsServedOf}
+use Rattle.schedule.specs.declared.finding.Finding.{Finding}
+use Rattle.schedule.specs.declared.finding.Finding.TheVariants.{Told, Planned}
+
+-- a result that may come of a finding: its reply, or what is served of its plan
+abbrev pub Gives : Finding → Result Reply Refusal → Type 0
+Gives (Told reply) given = given ≡ Ok reply
+Gives (Planned plan) given = IsServedOf plan given
+
+-- and where nothing is found: why
+abbrev pub MayGive : Result Finding Refusal → Result Reply Refusal → Type 0
+MayGive (Ok finding) given = Gives finding given
+MayGive (Err why) given = given ≡ Err why
+
+-- a result as it is told
+abbrev pub told : Result Reply Refusal → Reply
+told (Ok reply) = reply
+told (Err why) = Refused why
+
+-- a reply that serving a finding may give
+pub record IsServedFrom (finding : Finding) (reply : Reply) : Type 0 where
+  pub given : Result Reply Refusal
+  pub gives : Gives finding given
+  pub is : reply ≡ told given

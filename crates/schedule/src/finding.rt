@@ -1,0 +1,37 @@
+//! What is found for a query, and told without the core.
+
+ghost use Rattle.std.specs.Prelude.{◌≡◌};
+ghost use Rattle.schedule.specs.Findings.{IsServedFrom};
+
+use choose::Plan;
+use events::Reply;
+use moving::Cache;
+use std::alloc::Global;
+use views::serve_plan;
+
+/// What a core finds for a query. What takes long of a closure, its repairs, is left to [`Finding::serve`],
+/// which needs no core.
+#[derive(Drop)]
+pub enum Finding {
+    /// The reply.
+    Told(Reply),
+    /// What the closure needs that is asked for.
+    Planned(Plan),
+}
+
+impl Finding {
+    /// The reply. Records of a closure that are to be repaired are taken from the cache, where it has them,
+    /// and kept in it; whatever it has, the reply is the same.
+    pub fn serve(self, alloc: Global, cache: &mut Cache) -> Reply
+        ensures { IsServedFrom self result }
+    {
+        let plan = match self {
+            Finding::Told(reply) => return reply,
+            Finding::Planned(plan) => plan,
+        };
+        match serve_plan(alloc, &plan, cache) {
+            Ok(reply) => reply,
+            Err(why) => Reply::Refused(why),
+        }
+    }
+}
