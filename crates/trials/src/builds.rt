@@ -7,6 +7,7 @@ ghost use Rattle.workers.specs.declared.runner.RunFault.TheVariants.{Device};
 use crate::answer::Answer;
 use crate::calls::with_newlines;
 use crate::devices::{Source, calls_of};
+use crate::turns::is_set_in_time;
 use leading::RunningJob;
 use model::Refusal;
 use nar::{Tree, encode};
@@ -16,12 +17,8 @@ use std::alloc::{AllocError, Global};
 use std::hash::RandomState;
 use std::sync::Wait;
 use std::sync::atomic::{AtomicBool, AtomicU32, Ordering};
-use std::thread;
 use std::thread::Threads;
 use workers::{RunFault, Runner};
-
-/// How often a run that is held looks whether it may go on, before it gives up.
-const TURNS: u32 = 100_000_000;
 
 /// How many runs have begun, and whether the second of them has ended.
 #[derive(Drop)]
@@ -53,24 +50,13 @@ fn output(alloc: Global) -> Result<Vec<u8>, RunFault>
     }
 }
 
-/// Whether a gate opens before one gives up.
-fn is_opened(gate: &Gate) -> bool {
-    for _ in 0..TURNS {
-        if gate.is_open.load(Ordering::SeqCst) {
-            return true;
-        }
-        thread::yield_now();
-    }
-    false
-}
-
 /// Whether a run may end with an output: the first of all once the second has, if that comes in time.
 fn is_let_through(gate: &Gate) -> bool {
     if gate.begun.fetch_add(1, Ordering::SeqCst) > 0 {
         gate.is_open.store(true, Ordering::SeqCst);
         return true;
     }
-    is_opened(gate)
+    is_set_in_time(&gate.is_open)
 }
 
 impl Runner for Held<'_> {

@@ -4,7 +4,9 @@
 //! - `CALL ARGUMENT` runs a call.
 
 use crate::answer::Answer;
-use crate::{builds, faults, fronts, prepared, reads, repairs, sessions, stores, sweeps};
+use crate::{
+    builds, crowd, faults, fronts, held, prepared, reads, repairs, sessions, stores, sweeps,
+};
 use model::Refusal;
 use session::Mode;
 use std::alloc::Global;
@@ -48,8 +50,9 @@ fn of_line<R: Threads + Wait + Sync>(
         "gate_two_workers" => builds::gate_two_workers(rt, alloc, hashing, argument, out),
         "built_once" => builds::built_once(rt, alloc, hashing, argument, out),
         "passes" => fronts::passes(rt, alloc, hashing, out),
-        "held" => reads::held(rt, alloc, hashing, argument, out),
-        "crowd" => reads::crowd(rt, alloc, hashing, argument, out),
+        "held" => held::held(rt, alloc, hashing, argument, out),
+        "prepared_while_held" => held::prepared_while_held(rt, alloc, hashing, argument, out),
+        "crowd" => crowd::crowd(rt, alloc, hashing, argument, out),
         "reads" => reads::reads(rt, alloc, hashing, argument, out),
         "sweeps" => sweeps::sweeps(rt, alloc, hashing, argument, out),
         "prepared" => prepared::prepare_each(alloc, hashing, argument, out),

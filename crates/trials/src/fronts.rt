@@ -1,42 +1,48 @@
-//! Threads that share a front, and a front that is closed at once.
+//! A front that is called through its one pass, threads that share one, and one that is closed at once.
 
 ghost use Rattle.std.specs.Prelude.{◌≡◌};
 ghost use Rattle.book.specs.Keeping.{IsNew};
 
 use crate::answer::Answer;
-use crate::reads::closed;
 use crate::stores::{adding, fetching, new_core};
-use crate::turns::{Turn, each_at_once};
+use crate::turns::{Member, Task, all_at_once, closed};
 use book::{Blank, Front, Naming, Pass, Row};
 use model::Refusal;
-use schedule::{Core, Event};
+use schedule::{Core, Event, Reply};
+use session::Job;
 use std::alloc::Global;
 use std::hash::RandomState;
-use std::marker::{Brand, Model};
+use std::marker::Brand;
 use std::sync::Wait;
 use std::thread::Threads;
 
-/// One thread: its pass, what it calls, and how its calls ended.
+/// A front and its one pass, which calls it.
 #[derive(Drop)]
-struct Caller<'a, J: Naming, R> {
-    rt: &'a R,
-    alloc: Global,
-    front: &'a Front<J>,
-    pass: Pass<J>,
-    ended: Result<(), Refusal>,
+pub(crate) struct Called<'a, J: Naming, R> {
+    pub(crate) rt: &'a R,
+    pub(crate) front: Front<J>,
+    pub(crate) pass: Pass<J>,
 }
 
-/// Contracts see it as its pass.
-impl<'a, J: Naming, R> Model for Caller<'a, J, R> {
-    ghost use Rattle.std.specs.Coded.{codes};
-    ghost use Rattle.model.specs.TreeCode.{tree_code};
-    ghost use Rattle.passes.specs.Callers.{Known};
+/// No line of the service waits.
+impl<J: Naming, R: Wait> session::Answer for Called<'_, J, R> {
+    ghost answers = { λ old event reply new. Unit {0} };
 
-    ghost Value = { Known };
+    ghost waited = { λ old goals reply new. Unit {0} };
 
-    ghost coded = { Prim.hlevel (codes, tree_code) };
+    fn call(&mut self, alloc: Global, event: Event) -> Reply {
+        self.front.call(self.rt, alloc, &mut self.pass, event)
+    }
 
-    ghost view = { λ s. s.pass };
+    fn wait(&mut self, _alloc: Global, _goals: &[Job]) -> Reply {
+        Reply::Done
+    }
+}
+
+/// Makes so many calls.
+#[derive(Clone, Copy)]
+struct Repeated {
+    calls: u32,
 }
 
 /// The call of a number: those of even numbers add a source, the others fetch it.
@@ -66,77 +72,17 @@ fn call_once<J: Naming, R: Wait>(
     Ok(())
 }
 
-/// Makes a hundred calls, each second of them to fetch.
-fn call_hundred<J: Naming, R: Wait>(caller: &mut Caller<'_, J, R>) -> Result<(), Refusal> {
-    let rt = caller.rt;
-    let alloc = caller.alloc;
-    let front = caller.front;
-    for number in 0..100 {
-        call_once(rt, alloc, front, &mut caller.pass, number)?;
+/// Each second call fetches.
+impl Task for Repeated {
+    fn run<J: Naming, R: Wait>(member: &mut Member<'_, J, R, Repeated>) -> Result<(), Refusal> {
+        let rt = member.rt;
+        let alloc = member.alloc;
+        let front = member.front;
+        for number in 0..member.task.calls {
+            call_once(rt, alloc, front, &mut member.pass, number)?;
+        }
+        Ok(())
     }
-    Ok(())
-}
-
-/// It makes its calls.
-impl<J: Naming, R: Wait> Turn for Caller<'_, J, R> {
-    fn take(&mut self) {
-        self.ended = call_hundred(self);
-    }
-}
-
-/// Lets threads make their calls at once.
-fn at_once<'a, J: Naming + Send + Sync, R: Threads + Wait + Sync>(
-    rt: &R,
-    callers: Vec<Caller<'a, J, R>>,
-) -> Result<Vec<Caller<'a, J, R>>, Refusal> {
-    each_at_once(rt, callers)
-}
-
-/// A thread for each pass.
-fn callers_of<'a, J: Naming, R: Wait>(
-    rt: &'a R,
-    alloc: Global,
-    front: &'a Front<J>,
-    passes: Vec<Pass<J>>,
-) -> Result<Vec<Caller<'a, J, R>>, Refusal> {
-    let mut callers = Vec::new(alloc);
-    for pass in passes {
-        let ended = Ok(());
-        callers.push(Caller {
-            rt,
-            alloc,
-            front,
-            pass,
-            ended,
-        })?;
-    }
-    Ok(callers)
-}
-
-/// The passes of threads whose calls were all made.
-fn passes_of<J: Naming, R: Wait>(
-    alloc: Global,
-    callers: Vec<Caller<'_, J, R>>,
-) -> Result<Vec<Pass<J>>, Refusal> {
-    let mut passes = Vec::new(alloc);
-    for caller in callers {
-        let Caller { pass, ended, .. } = caller;
-        ended?;
-        passes.push(pass)?;
-    }
-    Ok(passes)
-}
-
-/// Lets a thread for each pass make a hundred calls, and gives the passes.
-fn call_by_all<J: Naming + Send + Sync, R: Threads + Wait + Sync>(
-    rt: &R,
-    alloc: Global,
-    front: &Front<J>,
-    passes: Vec<Pass<J>>,
-) -> Result<Vec<Pass<J>>, Refusal> {
-    let callers = callers_of(rt, alloc, front, passes)?;
-    let callers = at_once(rt, callers)?;
-    passes_of(alloc, callers)
 }
 
 /// How many rows there are, and how many of them are of the second pass.
@@ -159,7 +105,8 @@ fn rows_of_two<J: Naming + Send + Sync, R: Threads + Wait + Sync>(
     requires core { IsNew J.setup core }
 {
     let (front, passes) = Front::<J>::new(rt, alloc, blank, core, 2)?;
-    let passes = call_by_all(rt, alloc, &front, passes)?;
+    let tasks = vec![in alloc; Repeated { calls: 100 }; 2]?;
+    let (passes, _tasks) = all_at_once(rt, alloc, &front, passes, tasks)?;
     let history = closed(rt, front, passes, 2)?;
     Ok(counted(&history.rows))
 }

@@ -8,9 +8,11 @@
 mod answer;
 mod builds;
 mod calls;
+mod crowd;
 mod devices;
 mod faults;
 mod fronts;
+mod held;
 mod prepared;
 mod reads;
 mod repairs;

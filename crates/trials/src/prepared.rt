@@ -134,7 +134,7 @@ impl session::Answer for Followers {
 }
 
 /// A core for the users whom an input names.
-fn core_for(alloc: Global, hashing: RandomState, input: &str) -> Result<Core, Refusal>
+pub(crate) fn core_for(alloc: Global, hashing: RandomState, input: &str) -> Result<Core, Refusal>
     ensures { IfOk result (λ core. (world_of core ≡ nothing) × (stored_in core ≡ [])) }
 {
     let users = users_in(alloc, &with_newlines(alloc, input)?)?;

@@ -6,43 +6,21 @@ ghost use Rattle.book.specs.Keeping.{IsNew};
 use crate::answer::Answer;
 use crate::calls::with_newlines;
 use crate::faults::users_in;
+use crate::fronts::Called;
 use crate::stores::store_of;
-use book::{Blank, Front, Naming, Pass};
+use book::{Blank, Front, Naming};
 use model::Refusal;
-use schedule::{Core, Event, Reply};
-use session::{Job, Mode, Session};
+use schedule::Core;
+use session::{Mode, Session};
 use std::alloc::Global;
 use std::hash::RandomState;
 use std::marker::Brand;
 use std::sync::Wait;
 
-/// A front and its one pass.
-#[derive(Drop)]
-struct Swept<'a, J: Naming, R> {
-    rt: &'a R,
-    front: Front<J>,
-    pass: Pass<J>,
-}
-
-/// No line of the service waits.
-impl<J: Naming, R: Wait> session::Answer for Swept<'_, J, R> {
-    ghost answers = { λ old event reply new. Unit {0} };
-
-    ghost waited = { λ old goals reply new. Unit {0} };
-
-    fn call(&mut self, alloc: Global, event: Event) -> Reply {
-        self.front.call(self.rt, alloc, &mut self.pass, event)
-    }
-
-    fn wait(&mut self, _alloc: Global, _goals: &[Job]) -> Reply {
-        Reply::Done
-    }
-}
-
 /// Adds how many paths are stored, before a sweep and after it.
 fn sweep_once<J: Naming, R: Wait>(
     alloc: Global,
-    store: &mut Swept<'_, J, R>,
+    store: &mut Called<'_, J, R>,
     out: &mut Answer,
 ) -> Result<(), Refusal> {
     out.add_text("stored ");
@@ -57,7 +35,7 @@ fn sweep_once<J: Naming, R: Wait>(
 /// Adds what each line of an input gets, and what is stored then.
 fn tell_lines<J: Naming, R: Wait>(
     alloc: Global,
-    store: &mut Swept<'_, J, R>,
+    store: &mut Called<'_, J, R>,
     lines: &str,
     out: &mut Answer,
 ) -> Result<(), Refusal> {
@@ -86,7 +64,7 @@ fn answer_by_front<J: Naming, R: Wait>(
 {
     let (front, mut passes) = Front::<J>::new(rt, alloc, blank, core, 1)?;
     let pass = passes.pop().unwrap();
-    let mut store = Swept { rt, front, pass };
+    let mut store = Called { rt, front, pass };
     tell_lines(alloc, &mut store, lines.as_str(), out)
 }
 

@@ -1,5 +1,5 @@
 use Rattle.schedule.specs.Standing.{setup_of}
-use Rattle.trials.proofs.reads.crowd.Given as goal
+use Rattle.trials.proofs.crowd.crowd.Given as goal
 
 abbrev pub ghosts-crowded-J-Ledger : goal.ghosts-crowded-J-Ledger
 ghosts-crowded-J-Ledger g a = record { name = a.blank.calls.name; parts = a.blank.calls.parts }

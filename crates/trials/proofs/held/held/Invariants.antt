@@ -1,5 +1,5 @@
 use Rattle.schedule.specs.Standing.{setup_of}
-use Rattle.trials.proofs.reads.held.Given as goal
+use Rattle.trials.proofs.held.held.Given as goal
 
 abbrev pub ghosts-read_by_two-J-Ledger : goal.ghosts-read_by_two-J-Ledger
 ghosts-read_by_two-J-Ledger g a = record { name = a.blank.calls.name; parts = a.blank.calls.parts }
