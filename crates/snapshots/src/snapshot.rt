@@ -208,9 +208,4 @@ impl Snapshot {
     {
         self.seen.again()
     }
-
-    /// How many paths its core stores.
-    pub fn stored(&self) -> u64 {
-        self.core.stored()
-    }
 }
