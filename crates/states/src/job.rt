@@ -110,14 +110,14 @@ impl Hash for Job {
     ghost use Rattle.std.proofs.Common.{rules};
     ghost use Rattle.std.specs.Cmp.Rules.{hashing};
     ghost use Rattle.std.specs.Hash as fed;
-    ghost use Rattle.std.specs.Prelude.{◌++◌};
+    ghost use Rattle.std.specs.Prelude.{◌∷◌};
 
-    ghost hash_input = { λ j. fed.slice fed.u8 j.leader ++ fed.u16 j.number };
+    ghost hash_input = { λ j. j.leader ∷ fed.u16 j.number };
 
     ghost respects_eq = { Prim.search (hashing, rules) };
 
     fn hash<H: Hasher>(&self, state: &mut H) {
-        self.leader.bytes().hash(state);
+        state.write(self.leader.bytes());
         self.number.hash(state);
     }
 }

@@ -7,12 +7,13 @@ ghost use Rattle.storepath.specs.Parts.{is_hash_part};
 
 use crate::base32::from_base32;
 use model::Refusal;
+use std::hash::{Hash, Hasher};
 use std::marker::Model;
 use std::{fmt, str};
 
 /// The hash part of a store path: 32 digits of base 32. Hash parts stand in the order of their
 /// digits.
-#[derive(Clone, Copy, Debug, PartialEq, Eq, PartialOrd, Ord, Hash)]
+#[derive(Clone, Copy, Debug, PartialEq, Eq, PartialOrd, Ord)]
 pub struct HashPart {
     digits: [u8; 32],
 }
@@ -64,6 +65,21 @@ impl HashPart {
         ensures digits { list_all is_digit_32 self.now ≡ true }
     {
         &self.digits
+    }
+}
+
+/// Hash parts that are equal have one hash, that of the digits, which are written at once.
+impl Hash for HashPart {
+    ghost use Rattle.std.proofs.Common.{rules};
+    ghost use Rattle.std.specs.Cmp.Rules.{hashing};
+    ghost use Rattle.std.specs.Prelude.{[], ◌∷◌};
+
+    ghost hash_input = { λ digits. digits ∷ [] };
+
+    ghost respects_eq = { Prim.search (hashing, rules) };
+
+    fn hash<H: Hasher>(&self, state: &mut H) {
+        state.write(&self.digits);
     }
 }
 

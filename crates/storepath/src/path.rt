@@ -196,18 +196,18 @@ impl PartialOrd for StorePath {
     }
 }
 
-/// Paths that are equal have one hash, that of the text.
+/// Paths that are equal have one hash, that of the text, which is written at once.
 impl Hash for StorePath {
     ghost use Rattle.std.proofs.Common.{rules};
     ghost use Rattle.std.specs.Cmp.Rules.{hashing};
-    ghost use Rattle.std.specs.Hash as fed;
+    ghost use Rattle.std.specs.Prelude.{[], ◌∷◌};
 
-    ghost hash_input = { fed.slice fed.u8 };
+    ghost hash_input = { λ text. text ∷ [] };
 
     ghost respects_eq = { Prim.search (hashing, rules) };
 
     fn hash<H: Hasher>(&self, state: &mut H) {
-        self.bytes().hash(state);
+        state.write(self.bytes());
     }
 }
 
