@@ -201,7 +201,7 @@ def settled(tree, own, name, candidates):
     """The path of a tree that was built under a hash part, by hashing modulo self-references: the digest of
     the archive with the own hash part zeroed, and behind it each offset after a bar. That is how Nix makes
     the path of kind `source` of a tree with references. With it are the references, the offsets, and the
-    tree in which its own hash part is that of the path."""
+    tree in which its own hash part is that of the path. The candidates are a set."""
     parts = {path: path[11:43] for path in candidates}
     places = places_of(tree, {own, *parts.values()})
     offsets = [at for at, key in places if key == own]
@@ -209,7 +209,7 @@ def settled(tree, own, name, candidates):
     for at in offsets:
         blanked[at:at + 32] = bytes(32)
     digest = sha256(bytes(blanked) + b"".join(b"|%d" % at for at in offsets))
-    references = sorted(path for path in candidates if parts[path] in {key for _, key in places})
+    references = sorted(path for path in parts if parts[path] in {key for _, key in places})
     itself = ":self" if offsets else ""
     path = store_path("source" + "".join(f":{path}" for path in references) + itself, digest, name)
     images = {own: path[11:43], **{part: part for part in parts.values()}}

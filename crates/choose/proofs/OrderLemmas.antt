@@ -20,13 +20,9 @@ use Rattle.model.specs.Closures.{class_of_entry, entry_before}
 use Rattle.model.proofs.BoolLemmas.{either}
 use Rattle.laws.proofs.MemberLemmas.{Stands}
 use Rattle.laws.proofs.OrderLemmas.{bytes_apart, first_apart}
+use Rattle.laws.proofs.SetLemmas.{bytes_weak}
 use Rattle.choose.specs.Gathering.{IsApart}
 use Rattle.choose.proofs.SetLemmas.{first_by-Weak}
-
--- ---- bytes
-
-pub bytes_weak : IsStrictWeakOrder bytes_before
-bytes_weak = ranks_by nat_list_cmp_total (λ x. x)
 
 -- ---- numbers
 

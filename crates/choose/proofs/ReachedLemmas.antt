@@ -13,8 +13,8 @@ use Rattle.laws.proofs.MemberLemmas.{In, in_left, in_right, in_append, from_filt
 use Rattle.laws.proofs.ClosureLemmas.{some_same, IsOfClass, reached_chosen, chosen_for, sources_for}
 use Rattle.choose.specs.Visible.{Visible}
 use Rattle.choose.specs.Gathering.{AreApart, AreReached, IsGathered}
-use Rattle.closures.specs.Ordered.{Ascends}
-use Rattle.choose.proofs.SetLemmas.{no_more, same_members, set_ascends, apart_distinct}
+use Rattle.laws.proofs.SetLemmas.{Ascends, same_members, set_ascends}
+use Rattle.choose.proofs.SetLemmas.{no_more, apart_distinct}
 use Rattle.laws.proofs.OrderLemmas.{same_source}
 use Rattle.choose.proofs.OrderLemmas.{rank_before-Weak, same_class_path, source_before-Weak}
 

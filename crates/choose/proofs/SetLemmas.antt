@@ -6,11 +6,11 @@ use Rattle.std.specs.List.Sorted.{IsPermutation, IsSortedBy}
 use Rattle.std.proofs.lemmas.List.Sorted.{IsPermutation-sym, Contains-permutation, sum_by-IsPermutation, sorted_far}
 use Rattle.std.proofs.lemmas.List.Sums.{sum_by-cons}
 use Rattle.std.proofs.lemmas.Bool.{or_parts}
-use Rattle.model.specs.Orders.{first_by, placed, set_of}
+use Rattle.model.specs.Orders.{first_by, set_of}
 use Rattle.model.proofs.BoolLemmas.{either}
-use Rattle.laws.proofs.MemberLemmas.{In, in_of, contains_of, in_append, from_placed, from_set, in_set}
+use Rattle.laws.proofs.MemberLemmas.{In, in_of, contains_of, in_append, from_set, in_set}
+use Rattle.laws.proofs.SetLemmas.{Ascends, clash, irreflexive, goes_on, same_members, set_ascends}
 use Rattle.choose.specs.Gathering.{IsApart, AreApart}
-use Rattle.closures.specs.Ordered.{Ascends}
 
 -- ---- orders
 
@@ -30,9 +30,6 @@ make_false : (a b c : Bool) → a ≡ false → (b ≡ true) ⊎ (c ≡ false) �
 make_false a b c e (inl t) = rw (e, t) refl
 make_false a true c e (inr f) = rw e refl
 make_false a false c e (inr f) = rw (e, f) refl
-
-pub clash : (b : Bool) → b ≡ true → b ≡ false → ⊥
-clash b t f = let e = sym t ∙ f in cc
 
 -- an order by two keys in turn
 pub first_by-Weak : {X : Type 0} (one two : X → X → Bool) → IsStrictWeakOrder one → IsStrictWeakOrder two → IsStrictWeakOrder (first_by one two)
@@ -89,61 +86,6 @@ no_more (x ∷ xs) ys d h =
     let len : length ys ≡ suc (length (without x ys there)) = without_length x ys there in
     let rest : length xs ≤ length (without x ys there) = no_more xs (without x ys there) d.1 (λ z k. without_has x z ys there (h z (inr k)) (d.0 z k)) in
     omega (arith, len, rest)
-
--- ---- ascending lists
-
-pub irreflexive : {X : Type 0} (before : X → X → Bool) → IsStrictWeakOrder before → (x : X) → before x x ≡ false
-irreflexive before w x = elim (either (before x x)) [ inl t ↦ w.one_way x x t | inr f ↦ f ]
-
-pub goes_on : {X : Type 0} (before : X → X → Bool) → IsStrictWeakOrder before → (x y z : X) → before x y ≡ true → before y z ≡ true → before x z ≡ true
-goes_on before w x y z h k = elim (either (before x z)) [ inl t ↦ t | inr f ↦ absurd (clash (before x y) h (w.chain x z y f (w.one_way y z k))) ]
-
--- ascending lists with the same members are the same
-pub same_members : {X : Type 0} (before : X → X → Bool) → IsStrictWeakOrder before → (xs ys : List X) → Ascends before xs → Ascends before ys
-    → ((z : X) → In z xs → In z ys) → ((z : X) → In z ys → In z xs) → xs ≡ ys
-same_members before w [] [] a b h k = refl
-same_members before w [] (y ∷ ys) a b h k = absurd (k y (inl refl))
-same_members before w (x ∷ xs) [] a b h k = absurd (h x (inl refl))
-same_members {X} before w (x ∷ xs) (y ∷ ys) a b h k =
-    let heads : x ≡ y = elim (h x (inl refl)) [
-      | inl e ↦ sym e
-      | inr r ↦ elim (k y (inl refl)) [
-        | inl e ↦ e
-        | inr q ↦ absurd (clash (before x y) (a.0 y q) (w.one_way y x (b.0 x r)))
-      ]
-    ] in
-    let down : (z : X) → In z xs → In z ys = λ z i. elim (h z (inr i)) [
-      | inl e ↦ (let t : before x x ≡ true = subst (λ v. before x v ≡ true) (sym (heads ∙ e)) (a.0 z i) in
-          absurd (clash (before x x) t (irreflexive before w x)))
-      | inr r ↦ r
-    ] in
-    let up : (z : X) → In z ys → In z xs = λ z i. elim (k z (inr i)) [
-      | inl e ↦ (let t : before y y ≡ true = subst (λ v. before y v ≡ true) (sym (sym heads ∙ e)) (b.0 z i) in
-          absurd (clash (before y y) t (irreflexive before w y)))
-      | inr r ↦ r
-    ] in
-    ap (λ v. v ∷ xs) heads ∙ ap (λ vs. y ∷ vs) (same_members before w xs ys a.1 b.1 down up)
-
-placed_ascends : {X : Type 0} (before : X → X → Bool) → IsStrictWeakOrder before → (x : X) (ys : List X) → Ascends before ys
-    → Ascends before (placed before x ys)
-unfolding placed
-placed_ascends before w x [] a = (λ y h. absurd h, tt)
-placed_ascends before w x (y ∷ ys) a = elim (either (before x y)) [
-  | inl t ↦ rw t (λ z h. elim h [ inl e ↦ subst (λ v. before x v ≡ true) e t | inr r ↦ goes_on before w x y z t (a.0 z r) ], a)
-  | inr f ↦ elim (either (before y x)) [
-    | inl t ↦ rw (f, t) (
-      λ z h. elim (from_placed before x z ys h) [ inl e ↦ subst (λ v. before y v ≡ true) e t | inr r ↦ a.0 z r ],
-      placed_ascends before w x
-          ys a.1,
-    )
-    | inr g ↦ rw (f, g) a
-  ]
-]
-
-pub set_ascends : {X : Type 0} (before : X → X → Bool) → IsStrictWeakOrder before → (xs : List X) → Ascends before (set_of before xs)
-unfolding set_of
-set_ascends before w [] = tt
-set_ascends before w (x ∷ xs) = placed_ascends before w x (set_of before xs) (set_ascends before w xs)
 
 -- ---- sorting
 

@@ -6,7 +6,7 @@ use Rattle.model.specs.Worlds.{Source, Label, Record}
 use Rattle.model.specs.Classes.{Class}
 use Rattle.model.specs.Choices.{is_of, rank_before, source_before, reached, classes_below, sources_below, Plan}
 use Rattle.laws.proofs.MemberLemmas.{In}
-use Rattle.closures.specs.Ordered.{Ascends}
+use Rattle.laws.proofs.SetLemmas.{Ascends}
 use Rattle.choose.specs.Visible.{Visible, source_in}
 
 abbrev pub has_class : List ℕ → Plan → Bool

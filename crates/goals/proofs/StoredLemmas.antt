@@ -11,7 +11,7 @@ use Rattle.model.specs.Archives.{nar}
 use Rattle.model.specs.Worlds.{Source, Label, Record, Entry, OfRecord, path_of_entry, tree_at}
 use Rattle.model.specs.Closures.{entry_before, class_of_entry, path_of_class}
 use Rattle.model.proofs.BoolLemmas.{either, same_bytes, bytes_same, both_parts}
-use Rattle.closures.specs.Ordered.{Ascends}
+use Rattle.laws.proofs.SetLemmas.{Ascends}
 use Rattle.store.specs.Stored.{put_all, put_once, IsTaken}
 use Rattle.handling.specs.Stored.{source_of_entry, AreTaken}
 use Rattle.handling.specs.Sound.{IsClosure, IsStored}

@@ -7,7 +7,7 @@ use Rattle.model.specs.Worlds.{Source, Record, Desk, Entry, path_of_entry, Resol
 use Rattle.model.specs.KeptClosures.{is_planned}
 use Rattle.model.specs.Closures.{tree_of_entry, entry_before, IsWhole}
 use Rattle.records.specs.Recorded.{Recorded}
-use Rattle.closures.specs.Ordered.{Ascends}
+use Rattle.laws.proofs.SetLemmas.{Ascends}
 use Rattle.closures.specs.Trees.{source_at, record_at}
 use Rattle.realise.specs.Holdings.{Holdings, paths_of, IsClosed}
 

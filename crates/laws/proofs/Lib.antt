@@ -15,6 +15,7 @@ pub mod ForgetRequestLemmas
 pub mod FitLemmas
 pub mod AgreeLemmas
 pub mod StrikeLemmas
+pub mod HashLemmas
 pub mod InJobsLemmas
 pub mod InJobsOutcomes
 pub mod TimedLemmas
@@ -27,6 +28,8 @@ pub mod ModeLemmas
 pub mod MemberLemmas
 pub mod ServedLemmas
 pub mod OrderLemmas
+pub mod SetLemmas
+pub mod MapLemmas
 pub mod LabelLemmas
 pub mod ClosureLemmas
 pub mod WholeLemmas

@@ -1,6 +1,6 @@
 //! Laws over every list of events.
 
-ghost use Rattle.model.specs.Laws.{IsIsolated, IsTimelyIsolated, KnowledgeIsAdmitted, KnowledgeIsRecursive, NeverFails, QueriesChangeNothing, TrustFollows};
+ghost use Rattle.model.specs.Laws.{IsIsolated, IsTimelyIsolated, KnowledgeIsAdmitted, KnowledgeIsRecursive, NeverFails, QueriesChangeNothing, StrikingHashesNoMore, TrustFollows};
 ghost use Rattle.model.specs.KeptClosures.{KeptClosuresAreGood, PlannedGoalsKeep};
 
 /// Whatever users outside his trust closure do, a user's replies are those that he would get
@@ -15,6 +15,12 @@ pub fn isolation()
 /// under a leader who is none of them may wait.
 pub fn timed_isolation()
     ensures { IsTimelyIsolated }
+{}
+
+/// Without the events of users outside a user's trust closure no text is hashed that is not hashed
+/// with them.
+pub fn striking_hashes_no_more()
+    ensures { StrikingHashesNoMore }
 {}
 
 /// Whom users trust after an event follows from the event, and from whom they trusted before.

@@ -1,5 +1,9 @@
 -- The laws that the definitions keep.
-use Rattle.std.specs.Prelude.{◌≡◌, ℕ, zero, suc, ◌≤◌, Bool, true, false, List, [], ◌∷◌, ◌++◌, map, take, slice_get, Some, None, Ok}
+use Rattle.std.specs.Prelude.{◌≡◌, ℕ, zero, suc, ◌≤◌, Bool, true, false, List, [], ◌∷◌, ◌++◌, map, take, slice_get, All, Contains, Some, None, Ok}
+use Rattle.model.specs.Archives.{Tree}
+use Rattle.model.specs.Occurrences.{among}
+use Rattle.model.specs.Substitutions.{Images, image_of, keys_of, put_text, put, is_true_put}
+use Rattle.model.specs.Settling.{settled, settling_texts}
 use Rattle.model.specs.Derivations.{Derivation, is_derivation}
 use Rattle.model.specs.DerivationTexts.{derivation_of_text}
 use Rattle.model.specs.Classes.{Admission, Known, known_at, derivation_path, admission_of, has_all, admit}
@@ -9,6 +13,7 @@ use Rattle.model.specs.Events.{AddDerivation, is_query, Event}
 use Rattle.model.specs.Replies.{is_failure}
 use Rattle.model.specs.Outcomes.{trusts}
 use Rattle.model.specs.Steps.{reply_to, after, world_after, replies}
+use Rattle.model.specs.HashedTexts.{hashed}
 use Rattle.model.specs.Striking.{strike}
 use Rattle.model.specs.Timed.{near, kept_from, strike_timed, trusts_after, AgreesOn}
 
@@ -21,9 +26,36 @@ pub record IsLeast (link : List ℕ → List ℕ → Bool) (users : List (List �
 abbrev pub ReachIsLeast : Type 0
 ReachIsLeast = (link : List ℕ → List ℕ → Bool) (users : List (List ℕ)) (u : List ℕ) → IsLeast link users u (leads link users u)
 
+-- two lists are one set
+abbrev pub AreOneSet : List (List ℕ) → List (List ℕ) → Type 0
+AreOneSet some others = (x : List ℕ) → among some x ≡ among others x
+
+-- what a tree is settled to, and what is hashed for that, depends on which candidates there are, and not on their order or on how often one is listed
+abbrev pub SettlingIsBySet : Type 0
+SettlingIsBySet = (tree : Tree) (own : List ℕ) (some others : List (List ℕ)) (name : List ℕ) → AreOneSet some others
+    → (settled tree own some name ≡ settled tree own others name) × (settling_texts tree own some name ≡ settling_texts tree own others name)
+
+-- two lists of images are one map
+pub record AreOneMap (some others : Images) : Type 0 where
+  pub keys : AreOneSet (keys_of some) (keys_of others)
+  pub images : (key : List ℕ) → image_of some key ≡ image_of others key
+
+-- what they put is the same, and whether they put it truly
+pub record PutTheSame (some others : Images) : Type 0 where
+  pub text : (text : List ℕ) → put_text some text ≡ put_text others text
+  pub tree : (tree : Tree) → put some tree ≡ put others tree
+  pub is_true : (tree : Tree) → is_true_put some tree ≡ is_true_put others tree
+
+abbrev pub PuttingIsByMap : Type 0
+PuttingIsByMap = (some others : Images) → AreOneMap some others → PutTheSame some others
+
 -- a user's replies to all events are those to the events that can reach him
 abbrev pub IsIsolated : Type 0
 IsIsolated = (setup : Setup) (events : List Event) (u : List ℕ) → replies setup u events ≡ replies setup u (strike setup u events)
+
+-- where only the events are run that can reach a user, each text that is hashed is hashed where all are run, too
+abbrev pub StrikingHashesNoMore : Type 0
+StrikingHashesNoMore = (setup : Setup) (events : List Event) (u : List ℕ) → All (Contains (hashed setup nothing events)) (hashed setup nothing (strike setup u events))
 
 -- after the first of some events, those who are near then have the same desks as after those of the first that are kept, but that goals may wait
 pub record AgreesAfter (setup : Setup) (u : List ℕ) (first later : List Event) : Type 0 where

@@ -1,10 +1,11 @@
 -- What is printed for a user where only the events are run that can reach him, beside what is printed where all are.
 use Rattle.std.proofs.Common.{◌≡◌, ℕ, Bool, true, false, inl, inr, List, [], ◌∷◌, ◌++◌, map, Option, Some, None, refl, sym, ap, ◌∙◌, subst}
 use Rattle.std.proofs.Common.{append_assoc}
-use Rattle.std.specs.Prelude.{◌&&◌, ◌||◌, not, filter, Result, Ok, Err, IfOk}
+use Rattle.std.specs.Prelude.{◌&&◌, ◌||◌, not, filter, Contains, Result, Ok, Err, IfOk}
 use Rattle.std.specs.Global.{Vec}
 use Rattle.std.specs.List.{list_any}
 use Rattle.std.proofs.lemmas.List.{append-nil}
+use Rattle.std.proofs.lemmas.List.Elements.{All-contains}
 use Rattle.model.specs.declared.mode.Mode.TheVariants.{Service}
 use Rattle.model.specs.declared.refusal.Refusal.{Refusal}
 use Rattle.model.specs.Paths.{NoClash}
@@ -13,12 +14,14 @@ use Rattle.model.specs.Events.{is_query, Event, Reply, Refused}
 use Rattle.model.specs.Steps.{answers, replies_to, replies}
 use Rattle.model.specs.Replies.{is_memory, is_unrecorded}
 use Rattle.model.specs.HashedTexts.{hashed}
+use Rattle.model.specs.Striking.{strike}
 use Rattle.model.specs.Lines.{lines_of}
 use Rattle.model.specs.Reach.{is_among}
 use Rattle.model.specs.Talk as talk
 use Rattle.model.specs.Talk.{fresh, after_all, Talks, asked_in, users_in}
 use Rattle.model.proofs.BoolLemmas.{either}
 use Rattle.laws.proofs.TalkLemmas.{same_users, no_users}
+use Rattle.laws.proofs.HashLemmas.{hashes_no_more}
 use Rattle.trust.specs.declared.user.User.{User}
 use Rattle.events.specs.declared.event.Event.{Event as AskedEvent}
 use Rattle.events.specs.declared.reply.Reply.{Reply as GivenReply}
@@ -125,13 +128,23 @@ module _ (setup : Setup) (user : List ℕ) (rows : List talk.Row) where
       ∙ legal_replies timed history one.recorded.legal (subst (λ es. NoClash (hashed setup nothing es)) (sym events) clean)
       ∙ ap (λ es. replies setup user (struck timed setup user es)) events
 
+  -- the texts that are hashed where only those are run have one folded digest each, where those of all have
+  one_text_struck : (timed : Bool) → HaveOneText setup timed user rows → NoClash (hashed setup nothing (struck timed setup user (events_in rows)))
+  one_text_struck true one = one.1 refl
+  one_text_struck false one =
+      let events : List Event = events_in rows in
+      let all : List (List ℕ) = hashed setup nothing events in
+      let some : List (List ℕ) = hashed setup nothing (strike setup user events) in
+      let within = hashes_no_more setup events user in
+      λ x y h k. one.0 x y (All-contains (Contains all) some x within h) (All-contains (Contains all) some y within k)
+
   -- so his lines are the same
   same_text : (timed : Bool) (given : List (User × GivenReply)) → AreOfOneStore setup rows → Rerun setup user timed (events_in rows) given
       → HaveOneText setup timed user rows → HadMemoryFor rows → HadMemory given
       → lines_under user (numbers_of user 1 rows) (replies_to user (map answer_of given)) ≡ text_for user 1 rows
   same_text timed given one second clean memory memory' =
       ap (λ rs. lines_under user (numbers_of user 1 rows) rs)
-      (ap (replies_to user) (second.private clean.1 memory') ∙ sym (first_replies timed one clean.0 memory))
+      (ap (replies_to user) (second.private (one_text_struck timed clean) memory') ∙ sym (first_replies timed one clean.0 memory))
       ∙ sym (text-lines user 1 rows)
 
 -- ---- the users

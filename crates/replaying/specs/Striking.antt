@@ -67,10 +67,11 @@ pub record Answered (charge : ℕ) (user : List ℕ) (lines : List (List ℕ)) (
   pub listed : is_among user users ≡ true
   pub answered : AreOfOneStore (record { users = users; charge = charge }) rows
 
--- no two of the texts that are hashed where all of the events are run, or those that can reach the user, have one folded digest
+-- no two of the texts that are hashed where all of the events are run have one folded digest; and none of those that are hashed where only the
+-- events are run that can reach the user by trust that is timed: a goal may then stay in a job that it leaves where all are run
 abbrev pub HaveOneText : Setup → (timed : Bool) → (user : List ℕ) → List Row → Type 0
 HaveOneText setup timed user rows =
-    NoClash (hashed setup nothing (events_in rows)) × NoClash (hashed setup nothing (struck timed setup user (events_in rows)))
+    NoClash (hashed setup nothing (events_in rows)) × (timed ≡ true → NoClash (hashed setup nothing (strike_timed setup user (events_in rows))))
 
 -- a new store ran those of some events that can reach the user, and gave these replies, which are those of private desks
 pub record Rerun (setup : Setup) (user : List ℕ) (timed : Bool) (events : List Event) (given : List (User × GivenReply)) : Type 0 where
@@ -81,8 +82,8 @@ pub record Rerun (setup : Setup) (user : List ℕ) (timed : Bool) (events : List
       → map answer_of given ≡ answers setup nothing (struck timed setup user events)
 
 -- the text that the lines of a user get where only those of their events are run that can reach him: for each line of his the reply that he gets
--- then, under the number of the line; where no two of the texts that either run hashes have one folded digest, and memory was refused to none of
--- their events, it is what is printed for his lines where all events are run
+-- then, under the number of the line; where no two of the texts that are hashed have one folded digest (`HaveOneText`), and memory was refused to none of
+-- the events of either run, it is what is printed for his lines where all events are run
 pub record IsStruck (charge : ℕ) (user : List ℕ) (timed : Bool) (lines : List (List ℕ)) (text : List ℕ) : Type 0 where
   pub users : List (List ℕ)
   pub rows : List Row

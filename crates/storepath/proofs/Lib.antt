@@ -5,3 +5,4 @@ mod NameLemmas
 mod NumberLemmas
 pub mod PathLemmas
 pub mod PathTests
+mod SetLemmas

@@ -6,6 +6,7 @@ mod hash_part;
 mod kind;
 mod laws;
 mod name;
+mod order;
 mod path;
 
 pub use base32::{from_base32, to_base32};
@@ -13,4 +14,5 @@ pub use hash_part::HashPart;
 pub use kind::{Kind, make_path};
 pub use laws::{paths_differ, paths_pass};
 pub use name::{Name, is_name};
+pub use order::paths_in_order;
 pub use path::{StorePath, read_path};
