@@ -13,17 +13,18 @@ ghost use Rattle.schedule.specs.Asking.{job_asked_for};
 ghost use Rattle.schedule.specs.Sweeping.{is_held};
 ghost use Rattle.store.specs.Stored.{kept_at};
 ghost use Rattle.events.specs.declared.reply.Reply.TheVariants.{Refused};
-ghost use Rattle.passes.specs.Callers.{answered, told_stopped, knowing, Matches};
+ghost use Rattle.passes.specs.Callers.{answered, told_stopped, knowing, stops_of, Matches};
 ghost use Rattle.passes.specs.Histories.{row, gave_up, IsLegal};
 ghost use Rattle.book.specs.Keeping.{IsNew, Steps, TookEvent, Stops, KeepsCore, IsModelReply, StandsFor};
 
+use crate::counts::Counts;
 use crate::history::History;
 use crate::pass::Pass as Seer;
 use crate::shelf::Shelf;
 use crate::steps::step;
 use laws::{isolation, timed_isolation};
 use model::Refusal;
-use passes::{Beginning, Log, Naming, Pass, Row};
+use passes::{Beginning, Log, Naming, Pass, Row, StopCount};
 use schedule::{Core, Event, Ready, Reply, RunningJob, User};
 use std::alloc::{AllocError, Global};
 use std::marker::Model;
@@ -40,7 +41,8 @@ pub struct Book<J: Naming> {
     core: Core,
     history: Vec<Row>,
     calls: ledger::Book<J>,
-    spare: Share<J>,
+    stops: ledger::Book<StopCount<J>>,
+    spare: Counts<J>,
     log: Log<J>,
     shelf: Shelf<J>,
     stopped: bool,
@@ -52,6 +54,7 @@ impl<J: Naming> Drop for Book<J> {
             core: _,
             history: _,
             calls: _,
+            stops: _,
             spare: _,
             log: _,
             shelf: _,
@@ -62,6 +65,7 @@ impl<J: Naming> Drop for Book<J> {
 
 impl<J: Naming> Model for Book<J> {
     ghost use Rattle.std.specs.Prelude.{◌≡◌, true, false, length};
+    ghost use Rattle.passes.specs.Callers.{stops_of};
     ghost use Rattle.book.specs.Keeping.{Contents, Kept};
 
     ghost Value = { Contents };
@@ -74,9 +78,12 @@ impl<J: Naming> Model for Book<J> {
     ghost view = { λ b. record { core = b.core; rows = b.history.items; stopped = b.stopped } };
 
     ghost invariant = { λ b. Kept J.setup b.core b.stopped b.history.items
-        × (length b.history.items ≡ b.calls.total) × (b.spare.parts ≡ 0) × (b.spare.amount ≡ 0)
+        × (length b.history.items ≡ b.calls.total)
+        × (b.spare.calls.parts ≡ 0) × (b.spare.calls.amount ≡ 0)
         × (b.log.rows ≡ b.history.items) × (b.log.stopped ≡ b.stopped)
-        × (b.shelf.rows ≡ b.history.items) × (b.stopped ≡ false → b.shelf.whole ≡ true) };
+        × (b.shelf.rows ≡ b.history.items) × (b.stopped ≡ false → b.shelf.whole ≡ true)
+        × (b.stops.total ≡ stops_of b.stopped)
+        × (b.spare.stops.parts ≡ 0) × (b.spare.stops.amount ≡ 0) };
 }
 
 /// Makes room for a row, and copies the event that it is to have.
@@ -110,12 +117,14 @@ impl<J: Naming> Book<J> {
         alloc: Global,
         core: Core,
         calls: ledger::Book<J>,
-        spare: Share<J>,
+        stops: ledger::Book<StopCount<J>>,
+        spare: Counts<J>,
         log: Log<J>,
         shelf: Shelf<J>,
     ) -> Book<J>
         requires core { IsNew J.setup core }
-        requires calls { (calls.total ≡ 0) × (spare.parts ≡ 0) × (spare.amount ≡ 0) }
+        requires calls { (calls.total ≡ 0) × (spare.calls.parts ≡ 0) × (spare.calls.amount ≡ 0) }
+        requires stops { (stops.total ≡ 0) × (spare.stops.parts ≡ 0) × (spare.stops.amount ≡ 0) }
         requires log { (log.rows ≡ []) × (log.stopped ≡ false) }
         requires shelf { (shelf.rows ≡ []) × (shelf.whole ≡ true) }
         ensures { result ≡ record { core = core; rows = []; stopped = false } }
@@ -124,6 +133,7 @@ impl<J: Naming> Book<J> {
             core,
             history: Vec::new(alloc),
             calls,
+            stops,
             spare,
             log,
             shelf,
@@ -142,8 +152,10 @@ impl<J: Naming> Book<J> {
         rt: &R,
         alloc: Global,
         pass: &mut Pass<J>,
+        part: &mut Share<StopCount<J>>,
         event: Event,
     ) -> Reply
+        requires part { part.old.parts ≡ 1 }
         ensures row { gave_up result ≡ false
             → self.new.rows ≡ self.old.rows ++ row pass.old.number event result ∷ [] }
         ensures step { gave_up result ≡ false → Steps self.old.core event result self.new.core }
@@ -161,9 +173,14 @@ impl<J: Naming> Book<J> {
         ensures told { result ≡ Refused Stopped → pass.new ≡ told_stopped pass.old }
         ensures stops { Stops self.old self.new → result ≡ Refused Memory }
         ensures taken { Stops self.old self.new → TookEvent self.old.core event self.new.core }
+        ensures counted_stop { Stops self.old self.new → part.new.amount ≡ part.old.amount + 1 }
+        ensures no_stop { result ≢ Refused Memory → part.new.amount ≡ part.old.amount }
+        // The only pass knows whether the book is stopped: a call of its own stopped it.
+        ensures stops_alone { J.parts ≡ 1 → part.old.amount ≡ stops_of self.old.stopped }
+        ensures part { part.new.parts ≡ 1 }
         ensures legal { IsLegal J.setup self.new.rows }
     {
-        self.apply_ready(rt, alloc, pass, event, Ready::none(alloc))
+        self.apply_ready(rt, alloc, pass, part, event, Ready::none(alloc))
     }
 
     /// Answers one event of a pass as [`Book::apply`] does, with values that were made before. Whatever
@@ -173,9 +190,11 @@ impl<J: Naming> Book<J> {
         rt: &R,
         alloc: Global,
         pass: &mut Pass<J>,
+        part: &mut Share<StopCount<J>>,
         event: Event,
         ready: Ready,
     ) -> Reply
+        requires part { part.old.parts ≡ 1 }
         ensures row { gave_up result ≡ false
             → self.new.rows ≡ self.old.rows ++ row pass.old.number event result ∷ [] }
         ensures step { gave_up result ≡ false → Steps self.old.core event result self.new.core }
@@ -193,6 +212,11 @@ impl<J: Naming> Book<J> {
         ensures told { result ≡ Refused Stopped → pass.new ≡ told_stopped pass.old }
         ensures stops { Stops self.old self.new → result ≡ Refused Memory }
         ensures taken { Stops self.old self.new → TookEvent self.old.core event self.new.core }
+        ensures counted_stop { Stops self.old self.new → part.new.amount ≡ part.old.amount + 1 }
+        ensures no_stop { result ≢ Refused Memory → part.new.amount ≡ part.old.amount }
+        // The only pass knows whether the book is stopped: a call of its own stopped it.
+        ensures stops_alone { J.parts ≡ 1 → part.old.amount ≡ stops_of self.old.stopped }
+        ensures part { part.new.parts ≡ 1 }
         ensures legal { IsLegal J.setup self.new.rows }
     {
         isolation();
@@ -201,6 +225,7 @@ impl<J: Naming> Book<J> {
             core,
             history,
             calls,
+            stops,
             log,
             shelf,
             stopped,
@@ -208,6 +233,7 @@ impl<J: Naming> Book<J> {
         } = self;
         pass.compare(log);
         pass.audit(calls);
+        stops.audit(part);
         if *stopped {
             return refuse(Refusal::Stopped, event);
         }
@@ -222,6 +248,7 @@ impl<J: Naming> Book<J> {
         let Some((reply, row)) = answered else {
             *stopped = true;
             log.stop();
+            stops.add(part, 1);
             return Reply::Refused(Refusal::Memory);
         };
         pass.add_row(calls, log, &row);
@@ -239,9 +266,11 @@ impl<J: Naming> Book<J> {
     pub fn request(
         &mut self,
         pass: &mut Pass<J>,
+        part: &mut Share<StopCount<J>>,
         user: &User,
         number: u16,
     ) -> Result<RunningJob, Refusal>
+        requires part { part.old.parts ≡ 1 }
         ensures value { self.old.stopped ≡ false
             → IsAnswerTo (job_asked_for self.old.core user.now number) result }
         ensures stopped { self.old.stopped ≡ true → result ≡ Err Stopped }
@@ -251,6 +280,9 @@ impl<J: Naming> Book<J> {
         ensures alone { J.parts ≡ 1 → pass.old.sure ≡ self.old.rows }
         ensures told { result ≡ Err Stopped → pass.new ≡ told_stopped pass.old }
         ensures going { result ≢ Err Stopped → pass.new ≡ pass.old }
+        // The only pass knows whether the book is stopped: a call of its own stopped it.
+        ensures stops_alone { J.parts ≡ 1 → part.old.amount ≡ stops_of self.old.stopped }
+        ensures part { (part.new.parts ≡ 1) × (part.new.amount ≡ part.old.amount) }
         ensures stays { self.new ≡ self.old }
         ensures legal { IsLegal J.setup self.old.rows }
         ensures given { setup_of self.old.core ≡ J.setup }
@@ -262,12 +294,14 @@ impl<J: Naming> Book<J> {
         let Book {
             core,
             calls,
+            stops,
             log,
             stopped,
             ..
         } = self;
         pass.compare(log);
         pass.audit(calls);
+        stops.audit(part);
         if *stopped {
             return Err(Refusal::Stopped);
         }
@@ -356,6 +390,7 @@ impl<J: Naming> Book<J> {
         ensures legal { IsLegal J.setup result.rows.items }
         ensures count { length result.rows.items ≡ sum (map (λ p. p.caller.calls) passes.items) }
         ensures stopped { result.stopped ≡ self.stopped }
+        ensures stops { sum (map (λ p. p.stops) passes.items) ≡ stops_of result.stopped }
         ensures matches { All (λ p. Matches result.rows.items result.stopped p.caller) passes.items }
         ensures seen { All (λ p. IsPrefix p.seen result.rows.items) passes.items }
     {
@@ -365,6 +400,7 @@ impl<J: Naming> Book<J> {
             core: _core,
             history,
             mut calls,
+            mut stops,
             spare,
             mut log,
             shelf,
@@ -372,7 +408,8 @@ impl<J: Naming> Book<J> {
         } = self;
         let rows = shelf.seen();
         let mut all = merged(rt, spare, passes, &mut log, &rows);
-        calls.audit(&mut all);
+        calls.audit(&mut all.calls);
+        stops.audit(&mut all.stops);
         shelf.take(rt);
         History {
             rows: history,
@@ -385,22 +422,26 @@ impl<J: Naming> Book<J> {
 /// with what is recorded, and what it has seen with all rows.
 fn merged<J: Naming, R: Wait>(
     rt: &R,
-    mut all: Share<J>,
+    mut all: Counts<J>,
     mut passes: Vec<Seer<J>>,
     log: &mut Log<J>,
     rows: &Beginning,
-) -> Share<J>
-    requires all { (all.parts ≡ 0) × (all.amount ≡ 0) }
+) -> Counts<J>
+    requires all { (all.calls.parts ≡ 0) × (all.calls.amount ≡ 0) }
+    requires stops { (all.stops.parts ≡ 0) × (all.stops.amount ≡ 0) }
     requires rows { rows.now.seen.book ≡ J.book }
-    ensures parts { result.parts ≡ length passes.items }
-    ensures amount { result.amount ≡ sum (map (λ p. p.caller.calls) passes.items) }
+    ensures parts { result.calls.parts ≡ length passes.items }
+    ensures amount { result.calls.amount ≡ sum (map (λ p. p.caller.calls) passes.items) }
+    ensures stop_parts { result.stops.parts ≡ length passes.items }
+    ensures stops { result.stops.amount ≡ sum (map (λ p. p.stops) passes.items) }
     ensures matches { All (λ p. Matches log.old.rows log.old.stopped p.caller) passes.items }
     ensures seen { All (λ p. IsPrefix p.seen rows.now.seen.log) passes.items }
 {
     while let Some(pass) = passes.pop() {
-        let mut caller = pass.into_caller(rt, rows);
+        let (mut caller, stops) = pass.into_caller(rt, rows);
         caller.compare(log);
-        all.merge(caller.into_calls());
+        all.calls.merge(caller.into_calls());
+        all.stops.merge(stops);
     }
     all
 }

@@ -5,7 +5,7 @@ ghost use mathlib.Core.List.{IsPrefix};
 ghost use Rattle.left_right.specs.Sides.{view};
 ghost use Rattle.model.specs.declared.refusal.Refusal.TheVariants.{Memory, Stopped};
 ghost use Rattle.events.specs.declared.reply.Reply.TheVariants.{Refused};
-ghost use Rattle.passes.specs.Callers.{told_stopped, knowing, below, rows_of, new_pass, with_caller};
+ghost use Rattle.passes.specs.Callers.{told_stopped, knowing, stops_of, below, rows_of, new_pass, with_caller};
 ghost use Rattle.passes.specs.Tokens.{nothing_recorded};
 ghost use Rattle.passes.specs.Histories.{row, gave_up, IsLegal, IsAnswered};
 ghost use Rattle.snapshots.specs.Naming.{name_of};
@@ -14,16 +14,16 @@ ghost use Rattle.book.specs.Asking.{IsAsked, IsAskedAfter};
 ghost use Rattle.book.specs.Keeping.{IsNew};
 
 use crate::book::{Book, refuse};
+use crate::counts::Counts;
 use crate::history::History;
 use crate::pass::Pass;
 use crate::shelf::Shelf;
 use model::Refusal;
-use passes::{Beginning, Blank, Log, Naming, Pass as Caller};
+use passes::{Beginning, Blank, Log, Naming, Pass as Caller, StopCount};
 use schedule::{Core, Event, Ready, Reply, RunningJob, User};
 use snapshots::{Snapshot, SnapshotWriter, begin, reader_of};
 use std::alloc::Global;
 use std::num::NonZeroUsize;
-use std::sync::ledger::Share;
 use std::sync::{Mutex, MutexGuard, Wait};
 
 /// The most readers that there can be at once: one for each pass.
@@ -68,31 +68,34 @@ fn passes_of<J: Naming>(
     alloc: Global,
     core: &Core,
     n: u64,
-    all: &mut Share<J>,
+    all: &mut Counts<J>,
     log: &mut Log<J>,
     writer: &mut SnapshotWriter,
     none: &Beginning,
 ) -> Result<Vec<Pass<J>>, Refusal>
     requires some { 0 < n }
-    requires all { (all.old.parts ≡ n) × (all.old.amount ≡ 0) }
+    requires all { (all.old.calls.parts ≡ n) × (all.old.calls.amount ≡ 0) }
+    requires stops { (all.old.stops.parts ≡ n) × (all.old.stops.amount ≡ 0) }
     requires log { log.old ≡ nothing_recorded }
     requires none { (none.now.seen.log ≡ []) × (none.now.seen.book ≡ J.book) }
     requires knows { view writer.old.desk.place ≡ knower (name_of J.book J.setup) }
     ensures passes { IfOk result (λ passes. passes.items ≡ map new_pass (below n)) }
     ensures writer { (writer.new.desk.shown ≡ writer.old.desk.shown)
         × (writer.new.log ≡ writer.old.log) × (writer.new.behind ≡ writer.old.behind) }
-    ensures all { IfOk result (λ _. (all.new.parts ≡ 0) × (all.new.amount ≡ 0)) }
+    ensures all { IfOk result (λ _. (all.new.calls.parts ≡ 0) × (all.new.calls.amount ≡ 0)) }
+    ensures stops { IfOk result (λ _. (all.new.stops.parts ≡ 0) × (all.new.stops.amount ≡ 0)) }
     ensures log { (log.new.rows ≡ []) × (log.new.stopped ≡ false) }
     ensures memory { IfErr result (λ why. why ≡ Memory) }
 {
     let most = most_repaired(n);
     let mut passes = Vec::new(alloc);
     for number in 0..n {
-        let calls = all.split_off(1, 0);
+        let calls = all.calls.split_off(1, 0);
+        let stops = all.stops.split_off(1, 0);
         let reader = reader_of(writer)?;
         let caller = Caller::new(number, calls, log.next_claim());
         let repaired = core.cache_for(alloc, most)?;
-        passes.push(Pass::new(caller, none.again(), reader, repaired, alloc))?;
+        passes.push(Pass::new(caller, stops, none.again(), reader, repaired, alloc))?;
     }
     Ok(passes)
 }
@@ -144,6 +147,7 @@ impl<J: Naming> Front<J> {
     ) -> Result<(Front<J>, Vec<Pass<J>>), Refusal>
         requires core { IsNew J.setup core }
         requires blank { (blank.calls.name ≡ J.name) × (blank.calls.parts ≡ J.parts) }
+        requires stops { blank.stops.name ≡ J.stops }
         requires parts { blank.calls.parts ≡ n }
         requires log { blank.log.table.shared.table_id ≡ J.table }
         requires rows { blank.rows.seen.book ≡ J.book }
@@ -151,15 +155,25 @@ impl<J: Naming> Front<J> {
         ensures passes { IfOk result (λ made. made.1.items ≡ map new_pass (below n)) }
         ensures memory { IfErr result (λ why. why ≡ Memory) }
     {
-        let Blank { calls, log, rows } = blank;
-        let (calls, mut all) = calls.open::<J>();
+        let Blank {
+            calls,
+            stops,
+            log,
+            rows,
+        } = blank;
+        let (calls, all_calls) = calls.open::<J>();
+        let (stops, all_stops) = stops.open::<StopCount<J>>();
+        let mut all = Counts {
+            calls: all_calls,
+            stops: all_stops,
+        };
         let mut log = log.named::<J>();
         let (head, none) = rows.named::<J>();
         let mut writer = writer_of::<J, R>(rt, alloc, &core, &none)?;
         match passes_of(alloc, &core, n, &mut all, &mut log, &mut writer, &none) {
             Ok(passes) => {
                 let shelf = Shelf::new(head, none, writer);
-                let book = Book::new(alloc, core, calls, all, log, shelf);
+                let book = Book::new(alloc, core, calls, stops, all, log, shelf);
                 let front = Front {
                     book: Mutex::new(book),
                 };
@@ -180,7 +194,7 @@ impl<J: Naming> Front<J> {
     /// of the only pass are the old ones and that row. There is no row at 90 `Memory`, which leaves what
     /// the pass knows of its calls, and at 92 `Stopped`, after which the pass knows that the front is
     /// stopped: each later call of it is answered 92, or 90 where memory is refused before the lock is
-    /// taken. What the pass has seen is only lengthened.
+    /// taken. Only a call that is answered 90 stops the front. What the pass has seen is only lengthened.
     pub fn call<R: Wait>(&self, rt: &R, alloc: Global, pass: &mut Pass<J>, event: Event) -> Reply
         ensures answered { gave_up result ≡ false
             → IsAnswered J.setup pass.old event result pass.new }
@@ -192,6 +206,8 @@ impl<J: Naming> Front<J> {
         ensures remains { pass.old.caller.stopped ≡ true
             → (result ≡ Refused Stopped) ⊎ (result ≡ Refused Memory) }
         ensures seen { IsPrefix pass.old.seen pass.new.seen }
+        ensures no_stop { result ≢ Refused Memory → pass.new.stops ≡ pass.old.stops }
+        ensures stopped_alone { J.parts ≡ 1 → result ≡ Refused Stopped → pass.old.stops ≡ 1 }
     {
         match pass.prepare(&event) {
             Ok(ready) => self.commit(rt, alloc, pass, event, ready),
@@ -219,6 +235,8 @@ impl<J: Naming> Front<J> {
             → pass.new.caller ≡ told_stopped pass.old.caller }
         ensures remains { pass.old.caller.stopped ≡ true → result ≡ Refused Stopped }
         ensures seen { IsPrefix pass.old.seen pass.new.seen }
+        ensures no_stop { result ≢ Refused Memory → pass.new.stops ≡ pass.old.stops }
+        ensures stopped_alone { J.parts ≡ 1 → result ≡ Refused Stopped → pass.old.stops ≡ 1 }
     {
         pass.call(rt, alloc, &mut *self.book.lock(rt), event, ready)
     }
@@ -257,6 +275,7 @@ impl<J: Naming> Front<J> {
         ensures stopped { result ≡ Err Stopped
             → pass.new ≡ with_caller pass.old (told_stopped pass.old.caller) }
         ensures remains { pass.old.caller.stopped ≡ true → result ≡ Err Stopped }
+        ensures stopped_alone { J.parts ≡ 1 → result ≡ Err Stopped → pass.old.stops ≡ 1 }
     {
         pass.request(&mut *self.book.lock(rt), user, number)
     }
@@ -272,6 +291,7 @@ impl<J: Naming> Front<J> {
         ensures second_seen { IsPrefix second.old.seen second.new.seen }
         ensures met { IsPrefix second.old.caller.sure first.new.seen }
         ensures met_by { IsPrefix first.old.caller.sure second.new.seen }
+        ensures stops { (first.new.stops ≡ first.old.stops) × (second.new.stops ≡ second.old.stops) }
     {
         let mut book = self.book.lock(rt);
         first.show(&mut *book);
@@ -306,8 +326,8 @@ impl<J: Naming> Front<J> {
 
     /// The history. The passes are all that [`Front::new`] gave with the front, so it has a row for
     /// each of their calls that was answered otherwise than with 90 and 92, and no other. It begins
-    /// with the sure rows of each pass and with what it has seen, and says that the front was stopped if
-    /// one of them was told so. It waits for readers of what was published.
+    /// with the sure rows of each pass and with what it has seen, and says that the front was stopped
+    /// exactly if a call of one of them stopped it. It waits for readers of what was published.
     pub fn close<R: Wait>(self, rt: &R, passes: Vec<Pass<J>>) -> History
         requires { length passes.items ≡ J.parts }
         ensures legal { IsLegal J.setup result.rows.items }
@@ -317,6 +337,7 @@ impl<J: Naming> Front<J> {
         ensures each { All (λ p. rows_of p.caller.number result.rows.items ≡ p.caller.calls)
             passes.items }
         ensures stopped { All (λ p. p.caller.stopped ≡ true → result.stopped ≡ true) passes.items }
+        ensures stops { sum (map (λ p. p.stops) passes.items) ≡ stops_of result.stopped }
     {
         let Front { book } = self;
         book.into_inner().end(rt, passes)

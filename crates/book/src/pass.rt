@@ -19,16 +19,19 @@ use crate::shelf::insist;
 use core::mem::replace_with;
 use laws::{isolation, kept_closures_are_good, timed_isolation};
 use model::Refusal;
-use passes::{Beginning, Naming, Pass as Caller, has_given_up};
+use passes::{Beginning, Naming, Pass as Caller, StopCount, has_given_up};
 use schedule::{Cache, Event, Finding, Need, Query, Ready, Reply, RunningJob, User};
 use snapshots::{SnapshotReader, look, need};
 use std::alloc::Global;
 use std::marker::Model;
 use std::sync::Wait;
+use std::sync::ledger::Share;
 
 /// One caller of a front, with what it has seen of the history.
 pub struct Pass<J: Naming> {
     caller: Caller<J>,
+    /// Its part of the count of stops.
+    stops: Share<StopCount<J>>,
     /// How many rows it is sure of.
     sure: u64,
     seen: Beginning,
@@ -42,6 +45,7 @@ impl<J: Naming> Drop for Pass<J> {
     fn drop(self) {
         let Pass {
             caller: _,
+            stops: _,
             sure: _,
             seen: _,
             reader: _,
@@ -51,8 +55,8 @@ impl<J: Naming> Drop for Pass<J> {
     }
 }
 
-/// Contracts see a pass as what it knows of its calls, and the rows that it has seen, which begin with
-/// those that it is sure of.
+/// Contracts see a pass as what it knows of its calls, the rows that it has seen, which begin with
+/// those that it is sure of, and how many of its calls stopped the front.
 impl<J: Naming> Model for Pass<J> {
     ghost use Rattle.std.specs.Prelude.{◌≡◌, length};
     ghost use mathlib.Core.List.{IsPrefix};
@@ -67,11 +71,15 @@ impl<J: Naming> Model for Pass<J> {
 
     ghost coded = { Prim.hlevel (codes, tree_code) };
 
-    ghost view = { λ p. record { caller = p.caller; seen = p.seen.seen.log } };
+    ghost view = { λ p. record {
+      caller = p.caller;
+      seen = p.seen.seen.log;
+      stops = p.stops.amount;
+    } };
 
     ghost invariant = { λ p. IsPrefix p.caller.sure p.seen.seen.log × (p.seen.seen.book ≡ J.book)
         × (p.reader.place.me.0.client ≡ knower (name_of J.book J.setup))
-        × (p.sure ≡ length p.caller.sure) };
+        × (p.sure ≡ length p.caller.sure) × (p.stops.parts ≡ 1) };
 }
 
 /// Looks for the answer to a query after the rows that are published, with these rows.
@@ -113,18 +121,21 @@ impl<J: Naming> Pass<J> {
     /// A pass that has made no call, and seen nothing.
     pub(crate) fn new(
         caller: Caller<J>,
+        stops: Share<StopCount<J>>,
         seen: Beginning,
         reader: SnapshotReader,
         repaired: Cache,
         alloc: Global,
     ) -> Pass<J>
         requires caller { caller.sure ≡ [] }
+        requires stops { (stops.parts ≡ 1) × (stops.amount ≡ 0) }
         requires seen { (seen.seen.log ≡ []) × (seen.seen.book ≡ J.book) }
         requires reader { view reader.place ≡ knower (name_of J.book J.setup) }
-        ensures { result ≡ record { caller = caller; seen = [] } }
+        ensures { result ≡ record { caller = caller; seen = []; stops = 0 } }
     {
         Pass {
             caller,
+            stops,
             sure: 0,
             seen,
             reader,
@@ -243,15 +254,18 @@ impl<J: Naming> Pass<J> {
             → self.new.caller ≡ told_stopped self.old.caller }
         ensures remains { self.old.caller.stopped ≡ true → result ≡ Refused Stopped }
         ensures seen { IsPrefix self.old.seen self.new.seen }
+        ensures no_stop { result ≢ Refused Memory → self.new.stops ≡ self.old.stops }
+        ensures stopped_alone { J.parts ≡ 1 → result ≡ Refused Stopped → self.old.stops ≡ 1 }
     {
         let Pass {
             caller,
+            stops,
             sure,
             seen,
             ..
         } = self;
         insist(rt, seen.begins(&book.seen()));
-        let reply = book.apply_ready(rt, alloc, caller, event, ready);
+        let reply = book.apply_ready(rt, alloc, caller, stops, event, ready);
         *seen = book.seen();
         *sure = sure_after(&reply, *sure, seen.len());
         reply
@@ -272,9 +286,11 @@ impl<J: Naming> Pass<J> {
         ensures stopped { result ≡ Err Stopped
             → self.new ≡ with_caller self.old (told_stopped self.old.caller) }
         ensures remains { self.old.caller.stopped ≡ true → result ≡ Err Stopped }
+        ensures stopped_alone { J.parts ≡ 1 → result ≡ Err Stopped → self.old.stops ≡ 1 }
     {
         kept_closures_are_good();
-        book.request(&mut self.caller, user, number)
+        let Pass { caller, stops, .. } = self;
+        book.request(caller, stops, user, number)
     }
 
     /// It has seen all rows of the book then, among them those that it is sure of, and knows whether the
@@ -285,6 +301,7 @@ impl<J: Naming> Pass<J> {
         ensures remains { self.old.caller.stopped ≡ true → book.old.stopped ≡ true }
         ensures seen { IsPrefix self.old.seen self.new.seen }
         ensures all { IsPrefix book.old.rows self.new.seen }
+        ensures stops { self.new.stops ≡ self.old.stops }
         ensures same { book.new ≡ book.old }
     {
         let Pass { caller, seen, .. } = self;
@@ -295,14 +312,21 @@ impl<J: Naming> Pass<J> {
         }
     }
 
-    /// What it is without what it has seen, which are the first of all rows.
-    pub(crate) fn into_caller<R: Wait>(self, rt: &R, rows: &Beginning) -> Caller<J>
+    /// What it is without what it has seen, which are the first of all rows, and its part of the count of
+    /// stops.
+    pub(crate) fn into_caller<R: Wait>(
+        self,
+        rt: &R,
+        rows: &Beginning,
+    ) -> (Caller<J>, Share<StopCount<J>>)
         requires { rows.now.seen.book ≡ J.book }
-        ensures caller { result ≡ self.caller }
+        ensures caller { result.0 ≡ self.caller }
+        ensures stops { (result.1.parts ≡ 1) × (result.1.amount ≡ self.stops) }
         ensures seen { IsPrefix self.seen rows.now.seen.log }
     {
         let Pass {
             caller,
+            stops,
             sure: _,
             seen,
             reader: _reader,
@@ -310,6 +334,6 @@ impl<J: Naming> Pass<J> {
             alloc: _,
         } = self;
         insist(rt, seen.begins(rows));
-        caller
+        (caller, stops)
     }
 }

@@ -12,6 +12,6 @@ mod row;
 
 pub use beginning::{Beginning, Empty, Head, Lengths};
 pub use log::{Blank, Claim, Log, Opened};
-pub use naming::Naming;
+pub use naming::{Naming, StopCount};
 pub use pass::Pass;
 pub use row::{Row, has_given_up};

@@ -122,6 +122,7 @@ fn ask_core<J: Naming, H: Wait>(
     user: &User,
 ) -> Result<FirstRun, Refusal>
     requires blank { (blank.calls.name ≡ J.name) × (blank.calls.parts ≡ J.parts) × (blank.calls.parts ≡ 1) }
+    requires stops { blank.stops.name ≡ J.stops }
     requires log { blank.log.table.shared.table_id ≡ J.table }
     requires rows { blank.rows.seen.book ≡ J.book }
     requires core { (setup_of core ≡ J.setup) × (world_of core ≡ nothing) × (stored_in core ≡ []) }

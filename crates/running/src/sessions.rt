@@ -279,6 +279,7 @@ fn run_core<
     parts: Vec<Part<I, Q>>,
 ) -> Result<Vec<Output>, Refusal>
     requires blank { (blank.calls.name ≡ J.name) × (blank.calls.parts ≡ J.parts) × (blank.calls.parts ≡ count) }
+    requires stops { blank.stops.name ≡ J.stops }
     requires log { blank.log.table.shared.table_id ≡ J.table }
     requires rows { blank.rows.seen.book ≡ J.book }
     requires core { IsNew J.setup core }

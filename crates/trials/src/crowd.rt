@@ -72,6 +72,7 @@ fn crowded<J: Naming + Send + Sync, R: Threads + Wait + Sync>(
     argument: &String,
 ) -> Result<(History, Vec<Vec<Entry>>), Refusal>
     requires blank { (blank.calls.name ≡ J.name) × (blank.calls.parts ≡ J.parts) }
+    requires stops { blank.stops.name ≡ J.stops }
     requires parts { blank.calls.parts ≡ 10 }
     requires log { blank.log.table.shared.table_id ≡ J.table }
     requires rows { blank.rows.seen.book ≡ J.book }

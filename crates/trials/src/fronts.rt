@@ -99,6 +99,7 @@ fn rows_of_two<J: Naming + Send + Sync, R: Threads + Wait + Sync>(
     core: Core,
 ) -> Result<(usize, usize), Refusal>
     requires blank { (blank.calls.name ≡ J.name) × (blank.calls.parts ≡ J.parts) }
+    requires stops { blank.stops.name ≡ J.stops }
     requires parts { blank.calls.parts ≡ 2 }
     requires log { blank.log.table.shared.table_id ≡ J.table }
     requires rows { blank.rows.seen.book ≡ J.book }
@@ -147,6 +148,7 @@ fn closed_at_once<J: Naming, R: Wait>(
     core: Core,
 ) -> Result<(bool, usize), Refusal>
     requires blank { (blank.calls.name ≡ J.name) × (blank.calls.parts ≡ J.parts) }
+    requires stops { blank.stops.name ≡ J.stops }
     requires parts { blank.calls.parts ≡ 3 }
     requires log { blank.log.table.shared.table_id ≡ J.table }
     requires rows { blank.rows.seen.book ≡ J.book }

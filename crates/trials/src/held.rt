@@ -113,6 +113,7 @@ fn read_by_two<J: Naming + Send + Sync, R: Threads + Wait + Sync>(
     out: &mut Answer,
 ) -> Result<(), Refusal>
     requires blank { (blank.calls.name ≡ J.name) × (blank.calls.parts ≡ J.parts) }
+    requires stops { blank.stops.name ≡ J.stops }
     requires parts { blank.calls.parts ≡ 2 }
     requires log { blank.log.table.shared.table_id ≡ J.table }
     requires rows { blank.rows.seen.book ≡ J.book }
@@ -170,6 +171,7 @@ fn rows_of<J: Naming, R: Wait>(
     lines: &String,
 ) -> Result<Vec<Row>, Refusal>
     requires blank { (blank.calls.name ≡ J.name) × (blank.calls.parts ≡ J.parts) }
+    requires stops { blank.stops.name ≡ J.stops }
     requires parts { blank.calls.parts ≡ 1 }
     requires log { blank.log.table.shared.table_id ≡ J.table }
     requires rows { blank.rows.seen.book ≡ J.book }
@@ -341,6 +343,7 @@ fn prepare_last<J: Naming + Send + Sync, R: Threads + Wait + Sync>(
     out: &mut Answer,
 ) -> Result<(), Refusal>
     requires blank { (blank.calls.name ≡ J.name) × (blank.calls.parts ≡ J.parts) }
+    requires stops { blank.stops.name ≡ J.stops }
     requires parts { blank.calls.parts ≡ 2 }
     requires log { blank.log.table.shared.table_id ≡ J.table }
     requires rows { blank.rows.seen.book ≡ J.book }

@@ -205,6 +205,7 @@ fn answer_by_front<J: Naming, R: Wait>(
     out: &mut Answer,
 ) -> Result<(), Refusal>
     requires blank { (blank.calls.name ≡ J.name) × (blank.calls.parts ≡ J.parts) }
+    requires stops { blank.stops.name ≡ J.stops }
     requires parts { blank.calls.parts ≡ 1 }
     requires log { blank.log.table.shared.table_id ≡ J.table }
     requires rows { blank.rows.seen.book ≡ J.book }

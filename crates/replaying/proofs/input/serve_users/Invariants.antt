@@ -5,4 +5,4 @@ abbrev pub ghosts-serve_core-J-Ledger : goal.ghosts-serve_core-J-Ledger
 ghosts-serve_core-J-Ledger g a = record { name = a.blank.calls.name; parts = a.blank.calls.parts }
 
 abbrev pub ghosts-serve_core-J-Naming : goal.ghosts-serve_core-J-Naming
-ghosts-serve_core-J-Naming g a = record { setup = setup_of a.core; table = a.blank.log.table.shared.table_id; book = a.blank.rows.seen.book }
+ghosts-serve_core-J-Naming g a = record { stops = a.blank.stops.name; setup = setup_of a.core; table = a.blank.log.table.shared.table_id; book = a.blank.rows.seen.book }

@@ -8,13 +8,13 @@ use Rattle.schedule.specs.declared.state.Core.{Core}
 use Rattle.schedule.specs.Standing.{world_of, setup_of, stored_in, IsUnchanged}
 use Rattle.passes.specs.declared.row.Row.{Row}
 use Rattle.passes.specs.declared.log.Recorded.{Recorded}
-use Rattle.passes.specs.Callers.{Caller, answered, Matches}
+use Rattle.passes.specs.Callers.{Caller, answered, stops_of, Matches}
 use Rattle.passes.specs.Histories.{row, gave_up, IsLegal}
 use Rattle.book.specs.Shelves.{Shelved}
 use Rattle.book.specs.Keeping.{Contents, Kept, Steps, IsModelReply, TookEvent}
 use Rattle.book.proofs.KeepingLemmas.{goes_on, stops, stays, replied, is_legal, sure_of_all}
 use Rattle.book.proofs.book.Book.apply_ready.Given.{Over}
-use Rattle.book.proofs.book.Book.apply_ready.Goals.{After-audit}
+use Rattle.book.proofs.book.Book.apply_ready.Goals.{After-audit-2}
 use Rattle.book.proofs.book.Book.apply_ready.Goals as goal
 
 -- ---- replies
@@ -31,28 +31,32 @@ not_both reply memory stopped = cc
 is_unchanged : (old new : Core) → new ≡ old → IsUnchanged old new
 is_unchanged old new same = record { setup = ap setup_of same; world = ap world_of same; stored = ap stored_in same }
 
-core_then : (g : Over) (c : After-audit g) → c.self.inside.core ≡ c.args.self.now.core
+core_then : (g : Over) (c : After-audit-2 g) → c.self.inside.core ≡ c.args.self.now.core
 core_then g c = ap (λ (b : Contents). b.core) c.self.view_is
 
-rows_then : (g : Over) (c : After-audit g) → c.self.inside.history.items ≡ c.args.self.now.rows
+rows_then : (g : Over) (c : After-audit-2 g) → c.self.inside.history.items ≡ c.args.self.now.rows
 rows_then g c = ap (λ (b : Contents). b.rows) c.self.view_is
 
-stopped_then : (g : Over) (c : After-audit g) → c.self.inside.stopped ≡ c.args.self.now.stopped
+stopped_then : (g : Over) (c : After-audit-2 g) → c.self.inside.stopped ≡ c.args.self.now.stopped
 stopped_then g c = ap (λ (b : Contents). b.stopped) c.self.view_is
 
-matching : (g : Over) (c : After-audit g) → Matches c.args.self.now.rows c.args.self.now.stopped c.args.pass.now
+matching : (g : Over) (c : After-audit-2 g) → Matches c.args.self.now.rows c.args.self.now.stopped c.args.pass.now
 matching g c = subst (λ (b : Contents). Matches b.rows b.stopped c.args.pass.now)
     (λ i. record { core = c.args.self.now.core; rows = (c.self.invariant.4 ∙ rows_then g c) i; stopped = (c.self.invariant.5 ∙ stopped_then g c) i })
     c.compare.ensures.matches
 
 -- the only pass
-only_pass : (g : Over) (c : After-audit g) → g.J.Ledger.parts ≡ 1 → c.args.pass.now.sure ≡ c.args.self.now.rows
+only_pass : (g : Over) (c : After-audit-2 g) → g.J.Ledger.parts ≡ 1 → c.args.pass.now.sure ≡ c.args.self.now.rows
 only_pass g c one =
     let inside = c.self.inside in
     sure_of_all c.args.pass.now.sure c.compare.new.self.sure inside.log.rows inside.history.items _ c.compare.ensures.matches.sure
     c.self.invariant.4 c.compare.ensures.sure (c.audit.ensures.alone one).0 c.self.invariant.1 ∙ rows_then g c
 
-legal_then : (g : Over) (c : After-audit g) → IsLegal g.J.Naming.setup c.self.inside.history.items
+-- the only pass has stopped the book if it is stopped
+stop_counted : (g : Over) (c : After-audit-2 g) → g.J.Ledger.parts ≡ 1 → c.args.part.now.amount ≡ stops_of c.args.self.now.stopped
+stop_counted g c one = c.audit-2.ensures.whole (c.requires.part ∙ sym one) ∙ (c.self.invariant.8 ∙ ap stops_of (stopped_then g c))
+
+legal_then : (g : Over) (c : After-audit-2 g) → IsLegal g.J.Naming.setup c.self.inside.history.items
 legal_then g c =
     let inside = c.self.inside in
     is_legal g.J.Naming.setup inside.core inside.stopped inside.history.items c.self.invariant.0 c.isolation.ensures c.timed_isolation.ensures
@@ -61,7 +65,7 @@ legal_then g c =
 
 pub returns-then-stopped : goal.returns-then-stopped
 returns-then-stopped g c =
-    let then = (goal.at.returns-then-stopped g c).After-audit in
+    let then = (goal.at.returns-then-stopped g c).After-audit-2 in
     let was : c.args.self.now.stopped ≡ true = sym (stopped_then g then) ∙ c.if-stopped.true in
     let none : gave_up c.refuse.result ≡ false → ⊥ = has_none _ Stopped c.refuse.ensures refl in
     record {
@@ -80,26 +84,30 @@ returns-then-stopped g c =
       told = λ _. c.audit.ensures.same.0 ∙ c.compare.ensures.stopped (c.self.invariant.5 ∙ c.if-stopped.true);
       stops = λ stops. absurd (true≢false (sym was ∙ stops.0));
       taken = λ stops. absurd (true≢false (sym was ∙ stops.0));
+      counted_stop = λ stops. absurd (true≢false (sym was ∙ stops.0));
+      no_stop = λ _. c.audit-2.ensures.amount;
+      stops_alone = stop_counted g then;
+      part = c.audit-2.ensures.parts ∙ c.requires.part;
       legal = legal_then g then;
     }
 
 -- ---- where it went on
 
-not_stopped : (g : Over) (c : After-audit g) → c.self.inside.stopped ≡ false → c.args.self.now.stopped ≡ true → ⊥
+not_stopped : (g : Over) (c : After-audit-2 g) → c.self.inside.stopped ≡ false → c.args.self.now.stopped ≡ true → ⊥
 not_stopped g c going stopped = true≢false (sym stopped ∙ (sym (stopped_then g c) ∙ going))
 
 -- a mark that stays
 not_true : {stopped : Bool} → stopped ≡ false → stopped ≡ true → ⊥
 not_true going stopped = true≢false (sym stopped ∙ going)
 
-pass_then : (g : Over) (c : After-audit g) → c.self.inside.stopped ≡ false → c.audit.new.self ≡ c.args.pass.now
+pass_then : (g : Over) (c : After-audit-2 g) → c.self.inside.stopped ≡ false → c.audit.new.self ≡ c.args.pass.now
 pass_then g c going = c.audit.ensures.same.0 ∙ c.compare.ensures.going (c.self.invariant.5 ∙ going)
 
 -- ---- where no room is made for a row
 
 pub returns-in_default : goal.returns-in_default
 returns-in_default g c =
-    let then = (goal.at.returns-in_default g c).After-audit in
+    let then = (goal.at.returns-in_default g c).After-audit-2 in
     let none : gave_up c.refuse-in_default.result ≡ false → ⊥ = has_none _ Memory c.refuse-in_default.ensures refl in
     let goes : c.args.self.now.stopped ≡ true → ⊥ = not_stopped g then c.if-stopped.false in
     record {
@@ -118,6 +126,10 @@ returns-in_default g c =
       told = λ stopped. absurd (not_both _ c.refuse-in_default.ensures stopped);
       stops = λ _. c.refuse-in_default.ensures;
       taken = λ stops. absurd (not_true c.if-stopped.false stops.1);
+      counted_stop = λ stops. absurd (not_true c.if-stopped.false stops.1);
+      no_stop = λ _. c.audit-2.ensures.amount;
+      stops_alone = stop_counted g then;
+      part = c.audit-2.ensures.parts ∙ c.requires.part;
       legal = rw c.hold.ensures.rows (legal_then g then);
     }
 
@@ -134,11 +146,14 @@ invariant_of-self-in-Err g c =
       ap (λ (log : Recorded). log.stopped) c.compare.ensures.same ∙ c.self.invariant.5,
       ap (λ (shelf : Shelved). shelf.rows) c.in-Err.ensures.kept ∙ (c.self.invariant.6 ∙ sym c.hold.ensures.rows),
       λ going. ap (λ (shelf : Shelved). shelf.whole) c.in-Err.ensures.kept ∙ c.self.invariant.7 going,
+      c.audit-2.ensures.total ∙ c.self.invariant.8,
+      c.self.invariant.9,
+      c.self.invariant.10,
     )
 
 pub returns-in-Err : goal.returns-in-Err
 returns-in-Err g c =
-    let then = (goal.at.returns-in-Err g c).After-audit in
+    let then = (goal.at.returns-in-Err g c).After-audit-2 in
     let memory : Refused c.in-Err.why ≡ Refused Memory = ap (λ (why : Refusal). Refused why) c.in-Err.ensures.memory in
     let none : gave_up (Refused c.in-Err.why) ≡ false → ⊥ = has_none (Refused c.in-Err.why) Memory memory refl in
     let goes : c.args.self.now.stopped ≡ true → ⊥ = not_stopped g then c.if-stopped.false in
@@ -158,6 +173,10 @@ returns-in-Err g c =
       told = λ stopped. absurd (not_both _ memory stopped);
       stops = λ _. memory;
       taken = λ stops. absurd (not_true c.if-stopped.false stops.1);
+      counted_stop = λ stops. absurd (not_true c.if-stopped.false stops.1);
+      no_stop = λ _. c.audit-2.ensures.amount;
+      stops_alone = stop_counted g then;
+      part = c.audit-2.ensures.parts ∙ c.requires.part;
       legal = rw c.hold.ensures.rows (legal_then g then);
     }
 
@@ -175,11 +194,14 @@ invariant_of-self-in_default-answered g c =
       ap (λ (log : Recorded). log.stopped) c.stop.ensures,
       (rw c.in_default-answered.is at c.in-Ok-step.ensures.not_shown) ∙ (c.self.invariant.6 ∙ sym c.hold.ensures.rows),
       λ going. absurd (true≢false going),
+      omega (arith, c.add.ensures.total, c.audit-2.ensures.total, rw c.if-stopped.false at c.self.invariant.8),
+      c.self.invariant.9,
+      c.self.invariant.10,
     )
 
 pub returns-in_default-answered : goal.returns-in_default-answered
 returns-in_default-answered g c =
-    let then = (goal.at.returns-in_default-answered g c).After-audit in
+    let then = (goal.at.returns-in_default-answered g c).After-audit-2 in
     let taken : TookEvent c.self.inside.core c.args.event c.step.new.core = rw c.in_default-answered.is at c.in-Ok-step.ensures.lost in
     let goes : c.args.self.now.stopped ≡ true → ⊥ = not_stopped g then c.if-stopped.false in
     record {
@@ -198,6 +220,10 @@ returns-in_default-answered g c =
       told = λ stopped. absurd (not_both _ refl stopped);
       stops = λ _. refl;
       taken = λ _. subst (λ (core : Core). TookEvent core c.args.event c.step.new.core) (core_then g then) taken;
+      counted_stop = λ _. omega (arith, c.add.ensures.amount, c.audit-2.ensures.amount);
+      no_stop = λ other. absurd (other refl);
+      stops_alone = stop_counted g then;
+      part = c.add.ensures.parts ∙ (c.audit-2.ensures.parts ∙ c.requires.part);
       legal = rw c.hold.ensures.rows (legal_then g then);
     }
 
@@ -205,7 +231,7 @@ returns-in_default-answered g c =
 
 pub add_row-requires : goal.add_row-requires
 add_row-requires g c =
-    let then = (goal.at.add_row-requires g c).After-audit in
+    let then = (goal.at.add_row-requires g c).After-audit-2 in
     let last : c.in-Some.row ≡ row c.number-number.result c.args.event c.in-Some.reply = rw c.in-Some.is at c.in-Ok-step.ensures.row in
     let log : c.compare.new.log ≡ c.self.inside.log = c.compare.ensures.same in
     let pass : c.audit.new.self ≡ c.args.pass.now = pass_then g then c.if-stopped.false in
@@ -259,11 +285,14 @@ invariant_of-self-2 g c =
       ap (λ (l : Recorded). l.stopped) c.add_row.ensures.log ∙ (ap (λ (l : Recorded). l.stopped) c.compare.ensures.same ∙ c.self.invariant.5),
       ap (λ (shelf : Shelved). shelf.rows) (shown_now g c) ∙ (ap (λ (rows : List Row). rows ++ r ∷ []) c.self.invariant.6 ∙ sym (rows_now g c)),
       λ _. ap (λ (shelf : Shelved). shelf.whole) (shown_now g c),
+      c.audit-2.ensures.total ∙ c.self.invariant.8,
+      c.self.invariant.9,
+      c.self.invariant.10,
     )
 
 pub returns : goal.returns
 returns g c =
-    let then = (goal.at.returns g c).After-audit in
+    let then = (goal.at.returns g c).After-audit-2 in
     let old = c.self.inside in
     let some : gave_up c.in-Some.reply ≡ false = rw c.in-Some.is at c.in-Ok-step.ensures.some in
     let none : gave_up c.in-Some.reply ≡ true → ⊥ = not_true some in
@@ -290,5 +319,9 @@ returns g c =
       told = λ stopped. absurd (has_none _ Stopped stopped refl some);
       stops = λ stops. absurd (not_true c.if-stopped.false stops.1);
       taken = λ stops. absurd (not_true c.if-stopped.false stops.1);
+      counted_stop = λ stops. absurd (not_true c.if-stopped.false stops.1);
+      no_stop = λ _. c.audit-2.ensures.amount;
+      stops_alone = stop_counted g then;
+      part = c.audit-2.ensures.parts ∙ c.requires.part;
       legal = rw (rows_now g c) (is_legal g.J.Naming.setup c.step.new.core false _ (kept_now g c) c.isolation.ensures c.timed_isolation.ensures);
     }

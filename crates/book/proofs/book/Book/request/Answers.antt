@@ -6,18 +6,18 @@ use Rattle.passes.specs.Histories.{events_of}
 use Rattle.book.specs.Keeping.{Contents}
 use Rattle.book.proofs.KeepingLemmas.{is_legal, sure_of_all}
 use Rattle.book.proofs.book.Book.request.Given.{Over}
-use Rattle.book.proofs.book.Book.request.Goals.{After-audit}
+use Rattle.book.proofs.book.Book.request.Goals.{After-audit-2}
 use Rattle.book.proofs.book.Book.request.Goals as goal
 
 -- the only pass
-only_pass : (g : Over) (c : After-audit g) → g.J.Ledger.parts ≡ 1 → c.args.pass.now.sure ≡ c.args.self.now.rows
+only_pass : (g : Over) (c : After-audit-2 g) → g.J.Ledger.parts ≡ 1 → c.args.pass.now.sure ≡ c.args.self.now.rows
 only_pass g c one =
     let inside = c.self.inside in
     sure_of_all c.args.pass.now.sure c.compare.new.self.sure inside.log.rows inside.history.items _ c.compare.ensures.matches.sure
     c.self.invariant.4 c.compare.ensures.sure (c.audit.ensures.alone one).0 c.self.invariant.1 ∙ ap (λ (b : Contents). b.rows) c.self.view_is
 
 pub returns-clause-alone : goal.returns-clause-alone
-returns-clause-alone g c = only_pass g ((goal.at.returns-clause-alone g c).After-audit)
+returns-clause-alone g c = only_pass g ((goal.at.returns-clause-alone g c).After-audit-2)
 
 pub returns-clause-legal : goal.returns-clause-legal
 returns-clause-legal g c = rw (← c.self.view_is) (is_legal g.J.Naming.setup c.self.inside.core c.self.inside.stopped c.self.inside.history.items c.self.invariant.0 c.isolation.ensures c.timed_isolation.ensures)

@@ -14,6 +14,9 @@ invariant_of-self g c =
       c.self.invariant.5,
       c.self.invariant.6,
       c.self.invariant.7,
+      c.self.invariant.8,
+      c.self.invariant.9,
+      c.self.invariant.10,
     )
 
 pub invariant_of-self-2 : goal.invariant_of-self-2
@@ -27,4 +30,7 @@ invariant_of-self-2 g c =
       c.self.invariant.5,
       ap (λ (s : Shelved). s.rows) c.sweep-2.ensures ∙ c.self.invariant.6,
       λ going. ap (λ (s : Shelved). s.whole) c.sweep-2.ensures ∙ c.self.invariant.7 going,
+      c.self.invariant.8,
+      c.self.invariant.9,
+      c.self.invariant.10,
     )

@@ -1,7 +1,7 @@
 use Rattle.std.proofs.Common.{◌≡◌, List, [], ◌∷◌, ◌++◌, length, ap, sym, ◌∙◌, subst}
 use mathlib.Core.List.{IsPrefix}
 use Rattle.passes.specs.declared.row.Row.{Row}
-use Rattle.passes.specs.Callers.{Caller, answered}
+use Rattle.passes.specs.Callers.{Caller, answered, stops_of}
 use Rattle.passes.specs.Histories.{row, IsLegal}
 use Rattle.book.proofs.CallLemmas.{sure_seen, sure_counted, seen_grows}
 use Rattle.book.proofs.pass.Pass.call.Given.{Over}
@@ -25,6 +25,7 @@ invariant_of-self g c =
       c.self.invariant.2,
       sure_counted old.caller new reply c.args.book.now.rows rows told.counted told.memory told.told old.sure c.len.result c.sure_after.result c.self.invariant.3
           (c.len.ensures ∙ ap length c.seen-2.ensures.0) c.sure_after.ensures,
+      told.part,
     )
 
 pub returns-clause-answered : goal.returns-clause-answered
@@ -41,6 +42,13 @@ returns-clause-alone g c = rw (← c.self.view_is) (λ some only.
     ap (λ (p : Caller). p.sure) (c.apply_ready-reply.ensures.counted some)
     ∙ (c.apply_ready-reply.ensures.row some
     ∙ ap (λ (rows : List Row). rows ++ row c.self.inside.caller.number c.args.event c.apply_ready-reply.result ∷ []) (sym (c.apply_ready-reply.ensures.alone only))))
+
+pub returns-clause-no_stop : goal.returns-clause-no_stop
+returns-clause-no_stop g c = rw (← c.self.view_is) c.apply_ready-reply.ensures.no_stop
+
+pub returns-clause-stopped_alone : goal.returns-clause-stopped_alone
+returns-clause-stopped_alone g c = rw (← c.self.view_is) (λ only told.
+    c.apply_ready-reply.ensures.stops_alone only ∙ ap stops_of (c.apply_ready-reply.ensures.only_then told))
 
 pub returns-clause-seen : goal.returns-clause-seen
 returns-clause-seen g c = rw (← c.self.view_is)
