@@ -14,13 +14,12 @@ use Rattle.model.specs.Steps.{world_after}
 use Rattle.model.specs.HashedTexts.{hashed}
 use Rattle.leading.specs.Asking.{IsAnswerTo}
 use Rattle.passes.specs.declared.row.Row.{Row}
-use Rattle.passes.specs.Callers.{Caller, Matches}
 use Rattle.schedule.specs.declared.state.Core.{Core}
 use Rattle.schedule.specs.Standing.{setup_of}
 use Rattle.schedule.specs.Asking.{job_asked_for}
 use Rattle.passes.specs.Histories.{events_of, IsLegal}
 use Rattle.book.specs.Keeping.{Contents, StandsFor}
-use Rattle.book.specs.Asking.{IsAsked, IsAskedAfter}
+use Rattle.book.specs.Asking.{IsAskedAfter}
 
 -- ---- a goal that leads a job keeps what is told
 
@@ -78,14 +77,10 @@ module _ (setup : Setup) (book : Contents) (user : List ℕ) (number : ℕ) (tol
   is_going going = elim (either book.stopped) [ inl t ↦ absurd (going (stopped t)) | inr f ↦ f ]
 
   -- what it tells is so after all its rows
-  after_all : told ≢ Err Stopped → IsAskedAfter setup book.rows user number told
+  pub after_all : told ≢ Err Stopped → IsAskedAfter setup book.rows user number told
   after_all going = after_rows law setup book.core book.rows user number told legal given (reached (is_going going)) (value (is_going going))
 
-  -- so it is after rows that begin with the sure rows of a pass
-  pub is_asked : (pass : Caller) → Matches book.rows book.stopped pass → told ≢ Err Stopped → IsAsked setup pass user number told
-  is_asked pass matches going = record { rows = book.rows; longer = matches.sure; after = after_all going }
-
-  -- and after those of the only pass
+  -- and so after the sure rows of the only pass
   pub is_asked_alone : (sure : List Row) (parts : ℕ) → (parts ≡ 1 → sure ≡ book.rows) → told ≢ Err Stopped → parts ≡ 1
       → IsAskedAfter setup sure user number told
   is_asked_alone sure parts alone going only = subst (λ (rows : List Row). IsAskedAfter setup rows user number told) (sym (alone only)) (after_all going)

@@ -1,6 +1,5 @@
 -- What a pass is told of the job that a goal leads.
 use Rattle.std.specs.Prelude.{◌≡◌, ℕ, List, Result, Ok}
-use mathlib.Core.List.{IsPrefix}
 use Rattle.model.specs.declared.refusal.Refusal.{Refusal}
 use Rattle.model.specs.Paths.{NoClash}
 use Rattle.model.specs.Worlds.{Setup, nothing}
@@ -11,7 +10,6 @@ use Rattle.model.specs.Steps.{world_after}
 use Rattle.model.specs.HashedTexts.{hashed}
 use Rattle.leading.specs.Asking.{IsAnswerTo}
 use Rattle.passes.specs.declared.row.Row.{Row}
-use Rattle.passes.specs.Callers.{Caller}
 use Rattle.passes.specs.Histories.{events_of, IsLegal}
 
 -- what is told is so after these rows, which are a legal history: where no two texts that their events hash have one folded digest, it is
@@ -21,9 +19,3 @@ pub record IsAskedAfter (setup : Setup) (rows : List Row) (user : List ℕ) (num
   pub legal : IsLegal setup rows
   pub same : NoClash (hashed setup nothing (events_of rows)) → IsAnswerTo (job_led_by setup (world_after setup nothing (events_of rows)) user number) told
   pub kept : NoClash (hashed setup nothing (events_of rows)) → (job : Running) → told ≡ Ok job → IsWellKept setup (events_of rows) user number job.resolved
-
--- what is told is so after rows that begin with the sure rows of the pass
-pub record IsAsked (setup : Setup) (pass : Caller) (user : List ℕ) (number : ℕ) (told : Result Running Refusal) : Type 0 where
-  pub rows : List Row
-  pub longer : IsPrefix pass.sure rows
-  pub after : IsAskedAfter setup rows user number told

@@ -5,12 +5,12 @@ ghost use mathlib.Core.List.{IsPrefix};
 ghost use Rattle.left_right.specs.Sides.{view};
 ghost use Rattle.model.specs.declared.refusal.Refusal.TheVariants.{Memory, Stopped};
 ghost use Rattle.events.specs.declared.reply.Reply.TheVariants.{Refused};
-ghost use Rattle.passes.specs.Callers.{told_stopped, knowing, stops_of, below, rows_of, new_pass, with_caller};
+ghost use Rattle.passes.specs.Callers.{told_stopped, knowing, stops_of, below, rows_of, new_pass, with_caller, seeing};
 ghost use Rattle.passes.specs.Tokens.{nothing_recorded};
 ghost use Rattle.passes.specs.Histories.{row, gave_up, IsLegal, IsAnswered};
 ghost use Rattle.snapshots.specs.Naming.{name_of};
 ghost use Rattle.snapshots.specs.Tied.{knower};
-ghost use Rattle.book.specs.Asking.{IsAsked, IsAskedAfter};
+ghost use Rattle.book.specs.Asking.{IsAskedAfter};
 ghost use Rattle.book.specs.Keeping.{IsNew};
 
 use crate::book::{Book, refuse};
@@ -244,11 +244,11 @@ impl<J: Naming> Front<J> {
     /// The job that a user's goal of a number leads, and what it is built from, for a pass. It takes
     /// the lock, so it may wait. It makes no row, and shares all that is large.
     ///
-    /// What is told is so after rows that begin with the sure rows of the pass and are a legal
-    /// history; where it is the only pass, after exactly its sure rows. The closure that the job is
-    /// built from was found by an event among them that planned the goal: it serves no class by two
-    /// paths, has an entry for each label of its entries, and keeps no hash part of a path that
-    /// another one replaces.
+    /// What is told is so after rows that are a legal history, begin with all that the pass had seen, and
+    /// are what it has seen then; where it is the only pass, after exactly its sure rows. The closure that
+    /// the job is built from was found by an event among them that planned the goal: it serves no class by
+    /// two paths, has an entry for each label of its entries, and keeps no hash part of a path that another
+    /// one replaces. Nothing else changes of what the pass knows, but at `Stopped`.
     ///
     /// # Errors
     ///
@@ -268,16 +268,17 @@ impl<J: Naming> Front<J> {
         number: u16,
     ) -> Result<RunningJob, Refusal>
         ensures asked { result ≢ Err Stopped
-            → IsAsked J.setup pass.old.caller user.now number result }
+            → IsAskedAfter J.setup pass.new.seen user.now number result }
         ensures alone { result ≢ Err Stopped → J.parts ≡ 1
             → IsAskedAfter J.setup pass.old.caller.sure user.now number result }
-        ensures going { result ≢ Err Stopped → pass.new ≡ pass.old }
-        ensures stopped { result ≡ Err Stopped
-            → pass.new ≡ with_caller pass.old (told_stopped pass.old.caller) }
+        ensures going { result ≢ Err Stopped → pass.new ≡ seeing pass.old pass.new.seen }
+        ensures stopped { result ≡ Err Stopped → pass.new
+            ≡ seeing (with_caller pass.old (told_stopped pass.old.caller)) pass.new.seen }
         ensures remains { pass.old.caller.stopped ≡ true → result ≡ Err Stopped }
+        ensures seen { IsPrefix pass.old.seen pass.new.seen }
         ensures stopped_alone { J.parts ≡ 1 → result ≡ Err Stopped → pass.old.stops ≡ 1 }
     {
-        pass.request(&mut *self.book.lock(rt), user, number)
+        pass.request(rt, &mut *self.book.lock(rt), user, number)
     }
 
     /// Takes the lock and adds no row. Then each pass has seen all rows that the other is sure of, and both

@@ -12,7 +12,7 @@ ghost use Rattle.events.specs.Terms.{event_of};
 ghost use Rattle.snapshots.specs.Following.{FindsRead, IsNeedAfter, IsPreparedAfter};
 ghost use Rattle.snapshots.specs.Naming.{name_of, book_in, setup_in};
 ghost use Rattle.snapshots.specs.Tied.{knower};
-ghost use Rattle.book.specs.Asking.{IsAsked, IsAskedAfter};
+ghost use Rattle.book.specs.Asking.{IsAskedAfter};
 
 use crate::book::Book;
 use crate::shelf::insist;
@@ -271,26 +271,36 @@ impl<J: Naming> Pass<J> {
         reply
     }
 
-    /// Asks the book for the job that a user's goal of a number leads.
-    pub(crate) fn request(
+    /// Asks the book for the job that a user's goal of a number leads. Then it has seen all rows.
+    pub(crate) fn request<R: Wait>(
         &mut self,
+        rt: &R,
         book: &mut Book<J>,
         user: &User,
         number: u16,
     ) -> Result<RunningJob, Refusal>
         ensures asked { result ≢ Err Stopped
-            → IsAsked J.setup self.old.caller user.now number result }
+            → IsAskedAfter J.setup self.new.seen user.now number result }
         ensures alone { result ≢ Err Stopped → J.parts ≡ 1
             → IsAskedAfter J.setup self.old.caller.sure user.now number result }
-        ensures going { result ≢ Err Stopped → self.new ≡ self.old }
-        ensures stopped { result ≡ Err Stopped
-            → self.new ≡ with_caller self.old (told_stopped self.old.caller) }
+        ensures going { result ≢ Err Stopped → self.new ≡ seeing self.old self.new.seen }
+        ensures stopped { result ≡ Err Stopped → self.new
+            ≡ seeing (with_caller self.old (told_stopped self.old.caller)) self.new.seen }
         ensures remains { self.old.caller.stopped ≡ true → result ≡ Err Stopped }
+        ensures seen { IsPrefix self.old.seen self.new.seen }
         ensures stopped_alone { J.parts ≡ 1 → result ≡ Err Stopped → self.old.stops ≡ 1 }
     {
         kept_closures_are_good();
-        let Pass { caller, stops, .. } = self;
-        book.request(caller, stops, user, number)
+        let Pass {
+            caller,
+            stops,
+            seen,
+            ..
+        } = self;
+        insist(rt, seen.begins(&book.seen()));
+        let told = book.request(caller, stops, user, number);
+        *seen = book.seen();
+        told
     }
 
     /// It has seen all rows of the book then, among them those that it is sure of, and knows whether the
