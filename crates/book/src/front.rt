@@ -320,6 +320,12 @@ impl<J: Naming> Front<J> {
         self.book.lock(rt).sweep(rt, alloc)
     }
 
+    /// How many values the core had to make itself, under the lock: paths of sources, settled trees and
+    /// repaired records, as [`Core::computed`] counts them. It takes the lock, so it may wait.
+    pub fn computed<R: Wait>(&self, rt: &R) -> u64 {
+        self.book.lock(rt).core().computed()
+    }
+
     /// How many paths the core stores. It takes the lock, so it may wait.
     pub fn stored<R: Wait>(&self, rt: &R) -> u64 {
         self.book.lock(rt).core().stored()

@@ -21,7 +21,7 @@ use laws::{isolation, kept_closures_are_good, timed_isolation};
 use model::Refusal;
 use passes::{Beginning, Naming, Pass as Caller, StopCount, has_given_up};
 use schedule::{Cache, Event, Finding, Need, Query, Ready, Reply, RunningJob, User};
-use snapshots::{SnapshotReader, look, need};
+use snapshots::{SnapshotReader, computed, look, need};
 use std::alloc::Global;
 use std::marker::Model;
 use std::sync::Wait;
@@ -108,6 +108,14 @@ fn need_by(
     ensures memory { IfSome result.1 (λ t. IfErr t.0 (λ why. why ≡ Memory)) }
 {
     need(reader, event)
+}
+
+/// How many values the copy that is published had to make itself.
+fn computed_by(reader: SnapshotReader, _nothing: ()) -> (SnapshotReader, Option<u64>)
+    requires { (view reader.place).knows ≡ true }
+    ensures { view result.0.place ≡ view reader.place }
+{
+    computed(reader)
 }
 
 /// How many rows a pass is sure of after a reply: as many as before it, or where it has a row all.
@@ -234,6 +242,21 @@ impl<J: Naming> Pass<J> {
         } else {
             Err(Refusal::Memory)
         }
+    }
+
+    /// How many repaired records that its reads needed were at hand from reads before; at the greatest
+    /// number it stays there. No reply depends on it.
+    pub fn hits(&self) -> u64 {
+        self.repaired.hits()
+    }
+
+    /// How many values the copy that is published now had to make itself, as
+    /// [`Front::computed`](crate::Front::computed) tells it of the core. It takes no lock, and waits for
+    /// nobody. There is no answer where the front is closed.
+    pub fn computed_there(&mut self) -> Option<u64>
+        ensures { self.new ≡ self.old }
+    {
+        replace_with(&mut self.reader, (), computed_by)
     }
 
     /// Answers one event of the pass by the book. Then it has seen all rows.

@@ -68,6 +68,21 @@ pub fn need(
     }
 }
 
+/// How many values the copy that is published had to make itself. It waits for nobody. There is no answer
+/// where the writer is gone.
+pub fn computed(reader: SnapshotReader) -> (SnapshotReader, Option<u64>)
+    requires { (view reader.place).knows ≡ true }
+    ensures { view result.0.place ≡ view reader.place }
+{
+    match reader.enter_as::<Looks>() {
+        Ok(reading) => {
+            let made = reading.get().computed();
+            (reading.leave(), Some(made))
+        }
+        Err(reader) => (reader, None),
+    }
+}
+
 /// Publishes what is pending, and says whether it did. Else it stays pending.
 fn publish_pending<R: Wait>(rt: &R, writer: SnapshotWriter) -> (SnapshotWriter, bool)
     requires { (next : Shown)

@@ -9,6 +9,6 @@ mod ends;
 mod law;
 mod snapshot;
 
-pub use ends::{begin, look, need, publish, reader_of, sweep};
+pub use ends::{begin, computed, look, need, publish, reader_of, sweep};
 pub use law::{End, Law, Looks, Name, Shown, SnapshotReader, SnapshotWriter, Tells, View};
 pub use snapshot::{NewRow, Operation, Snapshot};

@@ -199,6 +199,11 @@ impl Snapshot {
         self.core.need(self.alloc, event)
     }
 
+    /// How many values its core had to make itself, as [`Core::computed`] counts them.
+    pub fn computed(&self) -> u64 {
+        self.core.computed()
+    }
+
     /// The rows of the history that were published with it.
     pub fn seen(&self) -> Beginning
         ensures log { result.seen.log ≡ self.now.seen }

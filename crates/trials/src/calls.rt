@@ -5,7 +5,7 @@
 
 use crate::answer::Answer;
 use crate::{
-    builds, crowd, faults, fronts, held, prepared, reads, repairs, sessions, stores, sweeps,
+    builds, crowd, faults, fronts, held, prepared, reads, repairs, sessions, stores, sweeps, values,
 };
 use model::Refusal;
 use session::Mode;
@@ -59,6 +59,9 @@ fn of_line<R: Threads + Wait + Sync>(
         "another" => prepared::another(alloc, hashing, argument, out),
         "followed" => prepared::followed(alloc, hashing, argument, out),
         "exchanged" => prepared::exchange_each(rt, alloc, hashing, argument, out),
+        "made_alone" => values::alone(alloc, hashing, argument, out),
+        "made_unprepared" => values::committed(rt, alloc, hashing, argument, out),
+        "made_prepared" => values::prepared(rt, alloc, hashing, argument, out),
         _ => Err(Refusal::BadLine),
     }
 }

@@ -21,6 +21,7 @@ mod stores;
 mod sweeps;
 mod traces;
 mod turns;
+mod values;
 
 use crate::answer::Answer;
 use crate::calls::answer_line;

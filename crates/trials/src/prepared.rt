@@ -84,7 +84,7 @@ impl<J: Naming, R: Wait> session::Answer for Exchanged<'_, J, R> {
 }
 
 /// Adds what each line of an input gets.
-fn tell_lines<A: session::Answer>(
+pub(crate) fn tell_lines<A: session::Answer>(
     alloc: Global,
     store: &mut A,
     lines: &str,
