@@ -23,8 +23,8 @@ loop-pass-preserved g c =
       c.compare.ensures.same ∙ i.2,
       λ rest. i.3 (rw c.in-Some.ensures.items (All-push (λ (p : Known). Matches c.args.log.now.rows c.args.log.now.stopped p.caller) left pass rest (rw (i.2, c.into_caller-caller.ensures.caller) at c.compare.ensures.matches))),
       λ rest. i.4 (rw c.in-Some.ensures.items (All-push (λ (p : Known). IsPrefix p.seen c.args.rows.now.seen.log) left pass rest c.into_caller-caller.ensures.seen)),
-      omega (arith, i.5, c.merge-2.ensures.parts, c.into_caller-caller.ensures.stops.0, c.in-Some.ensures.len),
-      omega (arith, i.6, c.merge-2.ensures.amount, c.into_caller-caller.ensures.stops.1, stops),
+      omega (arith, i.5, c.merge-in-Some.ensures.parts, c.into_caller-caller.ensures.stops.0, c.in-Some.ensures.len),
+      omega (arith, i.6, c.merge-in-Some.ensures.amount, c.into_caller-caller.ensures.stops.1, stops),
     )
 
 pub returns-clause-matches : goal.returns-clause-matches
