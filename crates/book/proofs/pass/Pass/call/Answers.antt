@@ -1,4 +1,4 @@
-use Rattle.std.proofs.Common.{◌≡◌, List, [], ◌∷◌, ◌++◌, length, ap, sym, ◌∙◌, subst}
+use Rattle.std.proofs.Common.{List, [], ◌∷◌, ◌++◌, length, ap, sym, ◌∙◌, subst}
 use mathlib.Core.List.{IsPrefix}
 use Rattle.passes.specs.declared.row.Row.{Row}
 use Rattle.passes.specs.Callers.{Caller, answered, stops_of}

@@ -2,24 +2,28 @@ use Rattle.std.proofs.Common.{List, length, ap, sym, ◌∙◌, subst}
 use mathlib.Core.List.{IsPrefix}
 use Rattle.passes.specs.declared.row.Row.{Row}
 use Rattle.passes.specs.Callers.{stops_of}
+use Rattle.book.specs.Keeping.{Contents}
 use Rattle.book.specs.Asking.{IsAskedAfter}
 use Rattle.book.proofs.CallLemmas.{sure_asked}
 use Rattle.book.proofs.AskingLemmas.{after_all, is_asked_alone}
 use Rattle.book.proofs.pass.Pass.request.Goals as goal
 
 pub returns-clause-asked : goal.returns-clause-asked
-returns-clause-asked g c = rw (← c.self.view_is) (λ going.
-    subst (λ (rows : List Row). IsAskedAfter g.J.Naming.setup rows c.args.user.now c.args.number c.request-told.result) (sym c.seen-2.ensures.0)
+returns-clause-asked g c going =
+    let rows = c.seen-2.ensures.0 ∙ ap (λ (b : Contents). b.rows) c.request-told.ensures.stays in
+    subst (λ (all : List Row). IsAskedAfter g.J.Naming.setup all c.args.user.now c.args.number c.request-told.result) (sym rows)
     (after_all g.J.Naming.setup c.args.book.now c.args.user.now c.args.number c.request-told.result c.kept_closures_are_good.ensures
-    c.request-told.ensures.legal c.request-told.ensures.given c.request-told.ensures.reached c.request-told.ensures.value c.request-told.ensures.stopped going))
+    c.request-told.ensures.legal c.request-told.ensures.given c.request-told.ensures.reached c.request-told.ensures.value c.request-told.ensures.stopped going)
 
 pub returns-clause-alone : goal.returns-clause-alone
 returns-clause-alone g c = rw (← c.self.view_is) (is_asked_alone g.J.Naming.setup c.args.book.now c.args.user.now c.args.number c.request-told.result c.kept_closures_are_good.ensures
     c.request-told.ensures.legal c.request-told.ensures.given c.request-told.ensures.reached c.request-told.ensures.value c.request-told.ensures.stopped c.self.inside.caller.sure _ c.request-told.ensures.alone)
 
 pub returns-clause-seen : goal.returns-clause-seen
-returns-clause-seen g c = rw (← c.self.view_is)
-    (subst (λ (rows : List Row). IsPrefix c.self.inside.seen.seen.log rows) (sym c.seen-2.ensures.0) (subst (λ (rows : List Row). IsPrefix c.self.inside.seen.seen.log rows) c.seen.ensures.0 (rw c.insist.ensures at c.begins.ensures)))
+returns-clause-seen g c =
+    let rows = c.seen-2.ensures.0 ∙ ap (λ (b : Contents). b.rows) c.request-told.ensures.stays in
+    rw (← c.self.view_is) (subst (λ (all : List Row). IsPrefix c.self.inside.seen.seen.log all) (sym rows)
+    (subst (λ (all : List Row). IsPrefix c.self.inside.seen.seen.log all) c.seen.ensures.0 (rw c.insist.ensures at c.begins.ensures)))
 
 pub returns-clause-stopped_alone : goal.returns-clause-stopped_alone
 returns-clause-stopped_alone g c = rw (← c.self.view_is) (λ only told.
@@ -28,8 +32,10 @@ returns-clause-stopped_alone g c = rw (← c.self.view_is) (λ only told.
 pub invariant_of-self : goal.invariant_of-self
 invariant_of-self g c =
     let old = c.self.inside in
+    let rows = c.seen-2.ensures.0 ∙ ap (λ (b : Contents). b.rows) c.request-told.ensures.stays in
     let sure = sure_asked old.caller c.request-told.new.pass c.request-told.result c.request-told.ensures.going c.request-told.ensures.told in (
-      subst (λ (rows : List Row). IsPrefix c.request-told.new.pass.sure rows) (sym c.seen-2.ensures.0) (subst (λ (rows : List Row). IsPrefix rows c.args.book.now.rows) (sym sure) c.request-told.ensures.matches.sure),
+      subst (λ (all : List Row). IsPrefix c.request-told.new.pass.sure all) (sym rows)
+          (subst (λ (begun : List Row). IsPrefix begun c.args.book.now.rows) (sym sure) c.request-told.ensures.matches.sure),
       c.seen-2.ensures.1,
       c.self.invariant.2,
       c.self.invariant.3 ∙ ap length (sym sure),
