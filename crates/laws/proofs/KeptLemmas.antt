@@ -1,7 +1,8 @@
 -- What goals keep was found when they were planned, and nothing else changes it.
-use Rattle.std.proofs.Common.{◌≡◌, ℕ, zero, suc, Bool, true, false, ◌⊎◌, inl, inr, refl, sym, ◌∙◌, ap, subst, List, [], ◌∷◌, ◌++◌, Option, Some, None, Result, Ok, Err}
-use Rattle.std.specs.Prelude.{All, ◌&&◌, if◌then◌else◌, is_some, bytes_eq, map, slice_get, slice_set}
-use Rattle.std.proofs.lemmas.Bool.{cond_both}
+use Rattle.std.proofs.Common.{◌≡◌, ℕ, zero, suc, Bool, true, false, ◌⊎◌, inl, inr, arith, refl, sym, ◌∙◌, ap, subst, List, [], ◌∷◌, ◌++◌, Option, Some, None, Result, Ok, Err}
+use Rattle.std.specs.Prelude.{All, ◌==◌, ◌&&◌, if◌then◌else◌, is_some, bytes_eq, map, slice_get, slice_set}
+use Rattle.std.proofs.lemmas.Bool.{cond_both, true≢false, eq-eqb}
+use Rattle.std.proofs.lemmas.Bool.Decides.{nat_tests}
 use Rattle.std.proofs.lemmas.List.{append-nil, append_assoc}
 use Rattle.std.proofs.lemmas.List.Elements.{All-nil, All-cons, All-append, All-set, All-head, All-tail}
 use Rattle.model.specs.declared.refusal.Refusal.{Refusal}
@@ -24,7 +25,7 @@ use Rattle.model.specs.EndRequests.{end_job}
 use Rattle.model.specs.ForgetRequests.{is_built_from, let_go}
 use Rattle.model.specs.Steps.{outcome, outcome_of, reply_to, after, world_after}
 use Rattle.model.specs.GivenClosures.{IsGoodFor, KeepsGoodClosure, GiveGoodClosures}
-use Rattle.model.specs.KeptClosures.{planning, IsWellKept, KeptClosuresAreGood, is_planned, PlannedGoalsKeep}
+use Rattle.model.specs.KeptClosures.{planning, IsPlanned, IsWellKept, KeptClosuresAreGood, OnlyPlansChangeKept, is_planned, PlannedGoalsKeep}
 use Rattle.model.proofs.BoolLemmas.{either, same_bytes, bytes_same}
 use Rattle.laws.proofs.OutcomeLemmas.{one_of, checked, needed}
 use Rattle.laws.proofs.SourceRequestLemmas.{add_source_cases, fetch_cases}
@@ -46,17 +47,18 @@ use Rattle.laws.proofs.KnowledgeLemmas.{world_after-push}
 abbrev Stands : Goal → Type 0
 Stands g = is_planned g.state ≡ true → is_some g.resolved ≡ true
 
--- what a goal of a number keeps, if anything, the goal of that number kept before
+-- what a goal of a number keeps the goal of that number kept before; and a goal that was not there keeps nothing
 abbrev HasKept : List Goal → ℕ → Goal → Type 0
-HasKept old n g = (g.resolved ≡ None) ⊎ ((h : Goal) × (goal_at n old ≡ Some h) × (g.resolved ≡ h.resolved))
+HasKept old n g = ((goal_at n old ≡ None) × (g.resolved ≡ None)) ⊎ ((h : Goal) × (goal_at n old ≡ Some h) × (g.resolved ≡ h.resolved))
 
 -- each of the goals does
 record Follows (old later : List Goal) : Type 0 where
   kept : (n : ℕ) (g : Goal) → goal_at n later ≡ Some g → HasKept old n g
+  none : (n : ℕ) → goal_at n later ≡ None → goal_at n old ≡ None
   stand : All Stands old → All Stands later
 
 follows_itself : (goals : List Goal) → Follows goals goals
-follows_itself goals = record { kept = λ n g there. inr (g, there, refl); stand = λ all. all }
+follows_itself goals = record { kept = λ n g there. inr (g, there, refl); none = λ n absent. absent; stand = λ all. all }
 
 follows_same : (old later : List Goal) → later ≡ old → Follows old later
 follows_same old later same = subst (Follows old) (sym same) (follows_itself old)
@@ -64,9 +66,10 @@ follows_same old later same = subst (Follows old) (sym same) (follows_itself old
 follows_further : (a b c : List Goal) → Follows a b → Follows b c → Follows a c
 follows_further a b c first next = record {
   kept = λ n g there. elim (next.kept n g there) [
-    | inl none ↦ inl none
-    | inr p ↦ elim (first.kept n p.0 p.1) [ inl none ↦ inl (p.2 ∙ none) | inr q ↦ inr (q.0, q.1, p.2 ∙ q.2) ]
+    | inl none ↦ inl (first.none n none.0, none.1)
+    | inr p ↦ elim (first.kept n p.0 p.1) [ inl none ↦ inl (none.0, p.2 ∙ none.1) | inr q ↦ inr (q.0, q.1, p.2 ∙ q.2) ]
   ];
+  none = λ n absent. first.none n (next.none n absent);
   stand = λ all. next.stand (first.stand all);
 }
 
@@ -82,10 +85,21 @@ put_kept zero x g (z ∷ goals) there same (suc j) y at = (y, at, refl)
 put_kept (suc i) x g (z ∷ goals) there same zero y at = let own : z ≡ y = some_same z y at in (z, refl, ap (λ (q : Goal). q.resolved) (sym own))
 put_kept (suc i) x g (z ∷ goals) there same (suc j) y at = put_kept i x g goals there same j y at
 
+put_none : (i : ℕ) (x : Goal) (goals : List Goal) (j : ℕ) → slice_get (slice_set goals i x) j ≡ None → slice_get goals j ≡ None
+put_none i x [] j absent = absent
+put_none zero x (z ∷ goals) zero absent = cc
+put_none zero x (z ∷ goals) (suc j) absent = absent
+put_none (suc i) x (z ∷ goals) zero absent = absent
+put_none (suc i) x (z ∷ goals) (suc j) absent = put_none i x goals j absent
+
 follows_put : (n : ℕ) (x g : Goal) (goals : List Goal) → goal_at n goals ≡ Some g → x.resolved ≡ g.resolved → Stands x → Follows goals (with_goal_at n x goals)
 follows_put zero x g goals there same stands = follows_itself goals
-follows_put (suc i) x g goals there same stands = record { kept = kept; stand = λ all. All-set Stands goals i x stands all }
+follows_put (suc i) x g goals there same stands = record { kept = kept; none = none; stand = λ all. All-set Stands goals i x stands all }
   where
+    none : (n : ℕ) → goal_at n (slice_set goals i x) ≡ None → goal_at n goals ≡ None
+    none zero absent = refl
+    none (suc j) absent = put_none i x goals j absent
+
     kept : (n : ℕ) (y : Goal) → goal_at n (slice_set goals i x) ≡ Some y → HasKept goals n y
     kept zero y at = absurd (cc)
     kept (suc j) y at = inr (put_kept i x g goals there same j y at)
@@ -96,21 +110,31 @@ follows_state n s g goals there idle = follows_put n (in_state s g) g goals ther
 
 -- a new goal
 pushed_kept : (derivation : List ℕ) (goals : List Goal) (i : ℕ) (y : Goal) → slice_get (goals ++ new_goal derivation ∷ []) i ≡ Some y
-    → (y.resolved ≡ None) ⊎ ((h : Goal) × (slice_get goals i ≡ Some h) × (y.resolved ≡ h.resolved))
-pushed_kept derivation [] zero y at = let own : new_goal derivation ≡ y = some_same (new_goal derivation) y at in inl (ap (λ (q : Goal). q.resolved) (sym own))
+    → ((slice_get goals i ≡ None) × (y.resolved ≡ None)) ⊎ ((h : Goal) × (slice_get goals i ≡ Some h) × (y.resolved ≡ h.resolved))
+pushed_kept derivation [] zero y at = let own : new_goal derivation ≡ y = some_same (new_goal derivation) y at in inl (refl, ap (λ (q : Goal). q.resolved) (sym own))
 pushed_kept derivation [] (suc i) y at = absurd (cc)
 pushed_kept derivation (z ∷ goals) zero y at = inr (z, refl, (let own : z ≡ y = some_same z y at in ap (λ (q : Goal). q.resolved) (sym own)))
 pushed_kept derivation (z ∷ goals) (suc i) y at = pushed_kept derivation goals i y at
 
+pushed_none : (derivation : List ℕ) (goals : List Goal) (i : ℕ) → slice_get (goals ++ new_goal derivation ∷ []) i ≡ None → slice_get goals i ≡ None
+pushed_none derivation [] i absent = refl
+pushed_none derivation (z ∷ goals) zero absent = absent
+pushed_none derivation (z ∷ goals) (suc i) absent = pushed_none derivation goals i absent
+
 follows_new : (derivation : List ℕ) (goals : List Goal) → Follows goals (goals ++ new_goal derivation ∷ [])
 follows_new derivation goals = record {
   kept = kept;
+  none = none;
   stand = λ all. All-append Stands goals (new_goal derivation ∷ []) all (All-cons Stands (new_goal derivation) [] (λ planned. absurd (cc)) (All-nil Stands));
 }
   where
     kept : (n : ℕ) (y : Goal) → goal_at n (goals ++ new_goal derivation ∷ []) ≡ Some y → HasKept goals n y
     kept zero y at = absurd (cc)
     kept (suc i) y at = pushed_kept derivation goals i y at
+
+    none : (n : ℕ) → goal_at n (goals ++ new_goal derivation ∷ []) ≡ None → goal_at n goals ≡ None
+    none zero absent = refl
+    none (suc i) absent = pushed_none derivation goals i absent
 
 -- ---- what is forgotten
 
@@ -136,9 +160,18 @@ all_let_go_stand class path (g ∷ goals) all =
     All-cons Stands (let_go class path g) (map (let_go class path) goals) (let_go_stands class path g (All-head Stands g goals all))
     (all_let_go_stand class path goals (All-tail Stands g goals all))
 
+all_let_go_none : (class path : List ℕ) (goals : List Goal) (i : ℕ) → slice_get (map (let_go class path) goals) i ≡ None → slice_get goals i ≡ None
+all_let_go_none class path [] i absent = absent
+all_let_go_none class path (g ∷ goals) zero absent = cc
+all_let_go_none class path (g ∷ goals) (suc i) absent = all_let_go_none class path goals i absent
+
 follows_let_go : (class path : List ℕ) (goals : List Goal) → Follows goals (map (let_go class path) goals)
-follows_let_go class path goals = record { kept = kept; stand = all_let_go_stand class path goals }
+follows_let_go class path goals = record { kept = kept; none = none; stand = all_let_go_stand class path goals }
   where
+    none : (n : ℕ) → goal_at n (map (let_go class path) goals) ≡ None → goal_at n goals ≡ None
+    none zero absent = refl
+    none (suc i) absent = all_let_go_none class path goals i absent
+
     kept : (n : ℕ) (y : Goal) → goal_at n (map (let_go class path) goals) ≡ Some y → HasKept goals n y
     kept zero y at = absurd (cc)
     kept (suc i) y at = inr (all_let_go_kept class path goals i y at)
@@ -233,6 +266,33 @@ module _ (s : Sight) (n : ℕ) where
       })
       resolved_so g a there known (Err NotRealised) is = inl tt
       resolved_so g a there known (Err why) is = failed_so g why there
+
+  -- where it is answered that the goal is planned, it is
+  planned_so : reply_of (requests.plan s n) ≡ GoalState Planned → PlansGoal s (Plan n) (requests.plan s n)
+  planned_so =
+      let P : Outcome → Type 0 = λ o. reply_of o ≡ GoalState Planned → PlansGoal s (Plan n) o in
+      needed P UnknownGoal (goal_at n s.desk.goals) (λ g. check WrongState (is_waiting (as_seen s.reach g.state)) (plan_goal s n g))
+      (λ g there. checked P WrongState (is_waiting (as_seen s.reach g.state)) (plan_goal s n g)
+      (λ waits. needed P UnknownDerivation (known_at (known_of s.desk) g.derivation) (λ a. plan_resolved s n g (resolve_for s a.derivation))
+      (λ a known. resolved_so g a there known (resolve_for s a.derivation) refl) (λ none told. cc)) (λ begun told. cc))
+      (λ none told. cc)
+    where
+      resolved_so : (g : Goal) (a : Admission) → goal_at n s.desk.goals ≡ Some g → known_at (known_of s.desk) g.derivation ≡ Some a
+          → (o : Result Resolved Refusal) → resolve_for s a.derivation ≡ o → reply_of (plan_resolved s n g o) ≡ GoalState Planned
+          → PlansGoal s (Plan n) (plan_resolved s n g o)
+      resolved_so g a there known (Ok r) is told = record {
+        number = n;
+        asked = refl;
+        goal = g;
+        admission = a;
+        resolved = r;
+        there = there;
+        known = known;
+        is = is;
+        outcome_is = refl;
+      }
+      resolved_so g a there known (Err NotRealised) is told = absurd (cc)
+      resolved_so g a there known (Err why) is told = absurd (cc)
 
 -- a planned goal keeps what it is started with
 kept_in : (s : State) (kept : Option Resolved) (r : Resolved) → planned_in s kept ≡ Some r → kept ≡ Some r
@@ -396,19 +456,81 @@ goals_after setup w e d reply o =
     ap (λ (p : Outcome). (desk_after setup e.actor p e.actor (reaches setup w e.actor e.actor) (w e.actor)).goals) o
     ∙ ap (λ (b : Bool). (if b then d else w e.actor).goals) (bytes_same e.actor)
 
+-- a list with one element more, cut at an element
+push_split : (xs : List Event) (x : Event) (ys : List Event) (y : Event) (zs : List Event) → xs ++ x ∷ [] ≡ ys ++ y ∷ zs
+    → ((xs ≡ ys) × (x ≡ y)) ⊎ ((ws : List Event) × (xs ≡ ys ++ y ∷ ws))
+push_split [] x [] y zs same = inl (refl, cc)
+push_split [] x (z ∷ []) y zs same = absurd (cc)
+push_split [] x (z ∷ w ∷ ys) y zs same = absurd (cc)
+push_split (x' ∷ xs) x [] y zs same = inr (xs, cc)
+push_split (x' ∷ xs) x (z ∷ ys) y zs same =
+    let head : x' ≡ z = cc in
+    elim (push_split xs x ys y zs (cc)) [
+      | inl p ↦ inl ((λ i. head i ∷ p.0 i), p.1)
+      | inr p ↦ inr (p.0, λ i. head i ∷ p.1 i)
+    ]
+
+-- an event that plans the goal of that number, as it is answered
+abbrev PlansAgain : Setup → List Event → Event → List ℕ → ℕ → Type 0
+PlansAgain setup done e u n = (e ≡ planning u n) × IsPlanned setup (world_after setup nothing done) u n
+
+abbrev says_planned : Reply → Bool
+says_planned (GoalState Planned) = true
+says_planned reply = false
+
+planned_said : (reply : Reply) → says_planned reply ≡ true → reply ≡ GoalState Planned
+planned_said (GoalState Planned) says = refl
+planned_said reply says = absurd (true≢false (sym says))
+
+abbrev asks_plan : Request → ℕ → Bool
+asks_plan (Plan m) n = m == n
+asks_plan r n = false
+
+plan_asked : (r : Request) (n : ℕ) → asks_plan r n ≡ true → r ≡ Plan n
+plan_asked (Plan m) n asks = let e : m ≡ n = grind (arith, nat_tests) in ap Plan e
+plan_asked r n asks = absurd (true≢false (sym asks))
+
+-- it does, or does not
+plans_or_not : (setup : Setup) (done : List Event) (e : Event) (u : List ℕ) (n : ℕ) → PlansAgain setup done e u n ⊎ (PlansAgain setup done e u n → ⊥)
+plans_or_not setup done e u n =
+    let w : World = world_after setup nothing done in
+    elim (either (bytes_eq u e.actor)) [
+      | inr other ↦ inr (λ plans. true≢false (sym (bytes_same u) ∙ ap (bytes_eq u) (sym (ap (λ (x : Event). x.actor) plans.0)) ∙ other))
+      | inl own ↦ elim (either (asks_plan e.request n)) [
+        | inr other ↦ inr (λ plans. true≢false (sym (eq-eqb n n refl) ∙ (sym (ap (λ (x : Event). asks_plan x.request n) plans.0) ∙ other)))
+        | inl asks ↦
+            let event : e ≡ planning u n = λ j. record { actor = sym (same_bytes u e.actor own) j; request = plan_asked e.request n asks j } in
+            elim (either (says_planned (reply_to setup w (planning u n)))) [
+              | inl says ↦ inl (event, planned_said (reply_to setup w (planning u n)) says)
+              | inr other ↦ inr (λ plans. true≢false (sym (ap says_planned plans.1) ∙ other))
+            ]
+      ]
+    ]
+
 -- all that the goals of a user keep is well kept
 abbrev WellKept : Setup → List Event → List ℕ → Type 0
 WellKept setup events u = (n : ℕ) (g : Goal) (r : Resolved) → goal_at n (world_after setup nothing events u).goals ≡ Some g → g.resolved ≡ Some r → IsWellKept setup events u n r
 
--- what was well kept is so after one event more
-kept_longer : (setup : Setup) (done : List Event) (e : Event) (u : List ℕ) (n : ℕ) (r : Resolved) → IsWellKept setup done u n r → IsWellKept setup (done ++ e ∷ []) u n r
-kept_longer setup done e u n r old = record {
+-- what was well kept is so after one event more that does not plan the goal
+kept_longer : (setup : Setup) (done : List Event) (e : Event) (u : List ℕ) (n : ℕ) (r : Resolved) → (PlansAgain setup done e u n → ⊥)
+    → IsWellKept setup done u n r → IsWellKept setup (done ++ e ∷ []) u n r
+kept_longer setup done e u n r other old = record {
   before = old.before;
   later = old.later ++ e ∷ [];
   cut = ap (λ events. events ++ e ∷ []) old.cut ∙ append_assoc old.before (planning u n ∷ old.later) (e ∷ []);
   world = old.world;
   reached = old.reached;
-  path = old.path;
+  told = old.told;
+  last = λ since rest same told. elim (push_split old.later e since (planning u n) rest same) [
+    | inl p ↦ other (
+      p.1,
+      subst (λ (events : List Event). IsPlanned setup (world_after setup nothing events) u n)
+          (ap (λ (events : List Event). old.before ++ planning u n ∷ events) (sym p.0) ∙ sym old.cut) told,
+    )
+    | inr p ↦ old.last since p.0 p.1 told
+  ];
+  goal = old.goal;
+  there = old.there;
   admission = old.admission;
   known = old.known;
   resolved = old.resolved;
@@ -445,7 +567,10 @@ kept_now setup done e n r plans number same good =
       cut = ap (λ last. done ++ last ∷ []) event;
       world = w;
       reached = refl;
-      path = plans.goal.derivation;
+      told = subst (λ (x : Event). reply_to setup w x ≡ GoalState Planned) event told;
+      last = λ since rest same. absurd (not_cut since rest same);
+      goal = plans.goal;
+      there = plans.there;
       admission = plans.admission;
       known = plans.known;
       resolved = plans.is;
@@ -454,6 +579,54 @@ kept_now setup done e n r plans number same good =
       whole = both.0;
       gone = both.1;
     }))
+  where
+    not_cut : (since rest : List Event) → [] ≡ since ++ planning e.actor plans.number ∷ rest → ⊥
+    not_cut [] rest same = cc
+    not_cut (x ∷ since) rest same = cc
+
+-- the goals of a user after an event of his that plans one
+goals_planned : (setup : Setup) (w : World) (e : Event) (u : List ℕ) (plans : PlansGoal (sight_of setup w e.actor) e.request (outcome_of setup w e)) → u ≡ e.actor
+    → (after setup w e u).goals ≡ with_goal_at plans.number (planned_goal plans.goal plans.resolved) (w u).goals
+goals_planned setup w e u plans own =
+    let new : Goal = planned_goal plans.goal plans.resolved in
+    subst (λ x. (after setup w e x).goals ≡ with_goal_at plans.number new (w x).goals) (sym own)
+    (goals_after setup w e (with_goal plans.number new (w e.actor)) (GoalState Planned) plans.outcome_is)
+
+-- what the goal keeps then is well kept
+kept_planned : (setup : Setup) (done : List Event) (e : Event) (u : List ℕ) (n : ℕ) (g : Goal) (r : Resolved)
+    → (plans : PlansGoal (sight_of setup (world_after setup nothing done) e.actor) e.request (outcome_of setup (world_after setup nothing done) e))
+    → u ≡ e.actor → n ≡ plans.number → planned_goal plans.goal plans.resolved ≡ g → g.resolved ≡ Some r → KeepsGoodClosure setup (world_after setup nothing done) e
+    → IsWellKept setup (done ++ e ∷ []) u n r
+kept_planned setup done e u n g r plans own number is kept good =
+    let same : r ≡ plans.resolved = some_same r plans.resolved (sym kept ∙ ap (λ (y : Goal). y.resolved) (sym is)) in
+    subst (λ x. IsWellKept setup (done ++ e ∷ []) x n r) (sym own) (kept_now setup done e n r plans number same good)
+
+outcome_planned : (setup : Setup) (s : Sight) (n : ℕ) → reply_of (outcome setup s (Plan n)) ≡ GoalState Planned → PlansGoal s (Plan n) (outcome setup s (Plan n))
+unfolding outcome
+outcome_planned setup s n = planned_so s n
+
+-- an event that is answered that the goal is planned plans it
+plans_it : (setup : Setup) (w : World) (u : List ℕ) (n : ℕ) → IsPlanned setup w u n → PlansGoal (sight_of setup w u) (Plan n) (outcome_of setup w (planning u n))
+plans_it setup w u n =
+    let s : Sight = sight_of setup w u in
+    cond_both (is_user setup u) (outcome setup s (Plan n)) (Err UnknownUser) (λ (o : Outcome). reply_of o ≡ GoalState Planned → PlansGoal s (Plan n) o)
+    (λ yes. outcome_planned setup s n) (λ no told. absurd (cc))
+
+kept_again : (setup : Setup) (done : List Event) (u : List ℕ) (n : ℕ) (g : Goal) (r : Resolved) → IsPlanned setup (world_after setup nothing done) u n
+    → goal_at n (after setup (world_after setup nothing done) (planning u n) u).goals ≡ Some g → g.resolved ≡ Some r
+    → KeepsGoodClosure setup (world_after setup nothing done) (planning u n) → IsWellKept setup (done ++ planning u n ∷ []) u n r
+kept_again setup done u n g r told now kept good =
+    let w : World = world_after setup nothing done in
+    let plans = plans_it setup w u n told in
+    let new : Goal = planned_goal plans.goal plans.resolved in
+    let number : n ≡ plans.number = same_number n plans.number plans.asked in
+    let at : goal_at n (after setup w (planning u n) u).goals ≡ Some new =
+    ap (goal_at n) (goals_planned setup w (planning u n) u plans refl)
+    ∙ (ap (λ m. goal_at m (with_goal_at plans.number new (w u).goals)) number ∙ put_there plans.number new plans.goal (w u).goals plans.there) in
+    kept_planned setup done (planning u n) u n g r plans refl number (some_same new g (sym at ∙ now)) kept good
+  where
+    same_number : (n m : ℕ) → Plan n ≡ Plan m → n ≡ m
+    same_number n m same = cc
 
 -- one event more
 kept_more : (setup : Setup) (done : List Event) (e : Event) (u : List ℕ) → KeepsGoodClosure setup (world_after setup nothing done) e
@@ -461,29 +634,58 @@ kept_more : (setup : Setup) (done : List Event) (e : Event) (u : List ℕ) → K
 kept_more setup done e u good well n g r there kept =
     let w : World = world_after setup nothing done in
     let now : goal_at n (after setup w e u).goals ≡ Some g = subst (λ (v : World). goal_at n (v u).goals ≡ Some g) (world_after-push setup nothing done e) there in
-    let before : (h : Goal) → goal_at n (w u).goals ≡ Some h → h.resolved ≡ Some r → IsWellKept setup (done ++ e ∷ []) u n r =
-    λ h at is. kept_longer setup done e u n r (well n h r at is) in
-    elim (after_follows setup w e u) [
-      | inl follows ↦ elim (follows.kept n g now) [
-        | inl none ↦ absurd (none_some r (sym none ∙ kept))
-        | inr p ↦ before p.0 p.1 (sym p.2 ∙ kept)
-      ]
-      | inr p ↦
-          let plans = p.1 in
-          let new : Goal = planned_goal plans.goal plans.resolved in
-          let goals : (after setup w e u).goals ≡ with_goal_at plans.number new (w u).goals =
-          subst (λ x. (after setup w e x).goals ≡ with_goal_at plans.number new (w x).goals) (sym p.0)
-          (goals_after setup w e (with_goal plans.number new (w e.actor)) (GoalState Planned) plans.outcome_is) in
-          elim (put_cases plans.number n new plans.goal g (w u).goals (subst (λ x. goal_at plans.number (w x).goals ≡ Some plans.goal) (sym p.0) plans.there) (ap (goal_at n) (sym goals) ∙ now)) [
-            | inl q ↦
-                let same : r ≡ plans.resolved = some_same r plans.resolved (sym kept ∙ ap (λ (y : Goal). y.resolved) (sym q.1)) in
-                subst (λ x. IsWellKept setup (done ++ e ∷ []) x n r) (sym p.0) (kept_now setup done e n r plans q.0 same good)
-            | inr other ↦ before g other kept
+    elim (plans_or_not setup done e u n) [
+      | inl again ↦
+          subst (λ (x : Event). IsWellKept setup (done ++ x ∷ []) u n r) (sym again.0)
+          (kept_again setup done u n g r again.1 (subst (λ (x : Event). goal_at n (after setup w x u).goals ≡ Some g) again.0 now) kept
+          (subst (KeepsGoodClosure setup w) again.0 good))
+      | inr other ↦
+          let before : (h : Goal) → goal_at n (w u).goals ≡ Some h → h.resolved ≡ Some r → IsWellKept setup (done ++ e ∷ []) u n r =
+          λ h at is. kept_longer setup done e u n r other (well n h r at is) in
+          elim (after_follows setup w e u) [
+            | inl follows ↦ elim (follows.kept n g now) [
+              | inl none ↦ absurd (none_some r (sym none.1 ∙ kept))
+              | inr p ↦ before p.0 p.1 (sym p.2 ∙ kept)
+            ]
+            | inr p ↦
+                let plans = p.1 in
+                elim (put_cases plans.number n (planned_goal plans.goal plans.resolved) plans.goal g (w u).goals (subst (λ x. goal_at plans.number (w x).goals ≡ Some plans.goal) (sym p.0) plans.there)
+                (ap (goal_at n) (sym (goals_planned setup w e u plans p.0)) ∙ now)) [
+                  | inl q ↦ kept_planned setup done e u n g r plans p.0 q.0 q.1 kept good
+                  | inr stays ↦ before g stays kept
+                ]
           ]
     ]
   where
     none_some : (r : Resolved) → None ≡ Some r → ⊥
     none_some r e = cc
+
+-- ---- nothing else changes what is kept
+
+-- an event that is answered that a goal is planned is its user's own and asks for it
+asks_itself : (setup : Setup) (w : World) (e : Event) (u : List ℕ) (n : ℕ) → u ≡ e.actor → (plans : PlansGoal (sight_of setup w e.actor) e.request (outcome_of setup w e))
+    → n ≡ plans.number → (e ≡ planning u n) × IsPlanned setup w u n
+asks_itself setup w e u n own plans number =
+    let event : e ≡ planning u n = λ j. record { actor = sym own j; request = (plans.asked ∙ ap Plan (sym number)) j } in
+    (event, subst (λ (x : Event). reply_to setup w x ≡ GoalState Planned) event (ap reply_of plans.outcome_is))
+
+pub only_plans : OnlyPlansChangeKept
+only_plans setup w e u n old new was now = elim (after_follows setup w e u) [
+  | inl follows ↦ elim (follows.kept n new now) [
+    | inl none ↦ absurd (none_some old (sym none.0 ∙ was))
+    | inr p ↦ inl (p.2 ∙ ap (λ (g : Goal). g.resolved) (some_same p.0 old (sym p.1 ∙ was)))
+  ]
+  | inr p ↦
+      let plans = p.1 in
+      elim (put_cases plans.number n (planned_goal plans.goal plans.resolved) plans.goal new (w u).goals (subst (λ x. goal_at plans.number (w x).goals ≡ Some plans.goal) (sym p.0) plans.there)
+      (ap (goal_at n) (sym (goals_planned setup w e u plans p.0)) ∙ now)) [
+        | inl q ↦ inr (asks_itself setup w e u n p.0 plans q.0)
+        | inr stays ↦ inl (ap (λ (g : Goal). g.resolved) (some_same new old (sym stays ∙ was)))
+      ]
+]
+  where
+    none_some : (g : Goal) → None ≡ Some g → ⊥
+    none_some g e = cc
 
 -- each event of a run whose closures are good keeps a good one
 good_at : (setup : Setup) (w : World) (done : List Event) (e : Event) (events : List Event) → GiveGoodClosures setup w (done ++ e ∷ events) → KeepsGoodClosure setup (world_after setup w done) e

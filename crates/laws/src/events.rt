@@ -1,7 +1,7 @@
 //! Laws over every list of events.
 
 ghost use Rattle.model.specs.Laws.{IsIsolated, IsTimelyIsolated, KnowledgeIsAdmitted, KnowledgeIsRecursive, NeverFails, QueriesChangeNothing, StrikingHashesNoMore, TrustFollows};
-ghost use Rattle.model.specs.KeptClosures.{KeptClosuresAreGood, PlannedGoalsKeep};
+ghost use Rattle.model.specs.KeptClosures.{KeptClosuresAreGood, OnlyPlansChangeKept, PlannedGoalsKeep};
 
 /// Whatever users outside his trust closure do, a user's replies are those that he would get
 /// without their events.
@@ -50,10 +50,15 @@ pub fn knowledge_is_recursive()
     ensures { KnowledgeIsRecursive }
 {}
 
-/// What the goals of a user keep after events was found when they were planned, and its closure is
+/// What the goals of a user keep after events was found when they were last planned, and its closure is
 /// good: it serves no class by two paths, has an entry for each label, and keeps no replaced hash part.
 pub fn kept_closures_are_good()
     ensures { KeptClosuresAreGood }
+{}
+
+/// What a goal keeps changes only at an event of its user that is answered that the goal is planned.
+pub fn only_plans_change_kept()
+    ensures { OnlyPlansChangeKept }
 {}
 
 /// A goal that is planned, or is built, keeps what it is built from.

@@ -12,8 +12,8 @@ mod talk;
 pub use closures::closures_are_whole;
 pub use events::{
     isolation, kept_closures_are_good, knowledge_is_admitted, knowledge_is_recursive, never_fails,
-    planned_goals_keep, queries_change_nothing, striking_hashes_no_more, timed_isolation,
-    trust_follows,
+    only_plans_change_kept, planned_goals_keep, queries_change_nothing, striking_hashes_no_more,
+    timed_isolation, trust_follows,
 };
 pub use reach::reach_is_least;
 pub use settling::{putting_is_by_map, settling_is_by_set};
