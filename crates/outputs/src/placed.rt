@@ -1,6 +1,6 @@
 //! A source with its path.
 
-ghost use Rattle.std.specs.Prelude.{◌≡◌, IfOk, IfErr, IfSome};
+ghost use Rattle.std.specs.Prelude.{◌≡◌, IfOk, IfErr, IfSome, IfNone};
 ghost use Rattle.model.specs.Archives.{IsTree};
 ghost use Rattle.model.specs.Paths.{source_path};
 ghost use Rattle.model.specs.declared.refusal.Refusal.TheVariants.{Memory};
@@ -64,6 +64,7 @@ impl Placed {
         ensures path { IfSome result (λ p. p.now ≡ source_path tree.now name.now) }
         ensures name { IfSome result (λ _. self.now.name ≡ name.now) }
         ensures tree { IfSome result (λ _. self.now.tree ≡ tree.now) }
+        ensures other { IfNone result (self.now.name ≡ name.now → self.now.tree ≡ tree.now → ⊥) }
     {
         if self.name.bytes() == name.bytes() && self.tree.same(tree) {
             Some(&self.path)

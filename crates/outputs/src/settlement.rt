@@ -1,6 +1,6 @@
 //! A tree that was settled, with what it was settled by.
 
-ghost use Rattle.std.specs.Prelude.{◌≡◌, IfOk, IfErr, IfSome};
+ghost use Rattle.std.specs.Prelude.{◌≡◌, IfOk, IfErr, IfSome, IfNone};
 ghost use Rattle.model.specs.Results.{unless_rewrite_refused};
 ghost use Rattle.model.specs.declared.refusal.Refusal.TheVariants.{Memory};
 ghost use Rattle.outputs.specs.Outputs.{input_settled, IsSameInput};
@@ -85,6 +85,8 @@ impl Settlement {
             o.now ≡ unless_rewrite_refused (input_settled input.now tree.now)) }
         ensures input { IfSome result (λ _. IsSameInput self.now.input input.now) }
         ensures tree { IfSome result (λ _. self.now.tree ≡ tree.now) }
+        ensures other { IfNone result
+            (IsSameInput self.now.input input.now → self.now.tree ≡ tree.now → ⊥) }
     {
         if self.input.same(input) && self.tree.same(tree) {
             Some(&self.outcome)

@@ -1,6 +1,6 @@
 //! Trees that were settled, each once.
 
-ghost use Rattle.std.specs.Prelude.{◌≡◌, All, IfOk, IfErr, IfSome};
+ghost use Rattle.std.specs.Prelude.{◌≡◌, [], All, IfOk, IfErr, IfSome, IfNone};
 ghost use Rattle.model.specs.Archives.{IsTree};
 ghost use Rattle.model.specs.Derivations.{name_of};
 ghost use Rattle.model.specs.Occurrences.{IsHashPart};
@@ -10,7 +10,7 @@ ghost use Rattle.model.specs.Settling.{hash_part_in, settled};
 ghost use Rattle.model.specs.Results.{unless_rewrite_refused};
 ghost use Rattle.model.specs.declared.refusal.Refusal.TheVariants.{Memory};
 ghost use Rattle.outputs.specs.Outputs.{input_settled};
-ghost use Rattle.outputs.specs.Kept.{HasOutput, HasSettled};
+ghost use Rattle.outputs.specs.Kept.{HasOutput, HasSettled, one_more};
 
 use crate::input::Input;
 use crate::output::Output;
@@ -31,6 +31,7 @@ fn found<'a>(
     ensures outcome { IfSome result (λ o.
         o.now ≡ unless_rewrite_refused (input_settled input.now tree.now)) }
     ensures has { IfSome result (λ _. HasSettled settled.now input.now tree.now) }
+    ensures none { IfNone result (HasSettled settled.now input.now tree.now → ⊥) }
 {
     for one in settled {
         if let Some(outcome) = one.outcome_for(input, tree) {
@@ -57,7 +58,9 @@ impl Drop for Settlements {
 
 impl Settlements {
     /// None. It takes no memory.
-    pub fn none(alloc: Global) -> Settlements {
+    pub fn none(alloc: Global) -> Settlements
+        ensures { (result.settled.items ≡ []) × (result.computed ≡ 0) }
+    {
         Settlements {
             settled: Vec::new(alloc),
             computed: 0,
@@ -65,7 +68,9 @@ impl Settlements {
     }
 
     /// A copy, of which none counts as settled since. It shares what is large. The one error is memory.
-    pub fn again(&self, alloc: Global) -> Result<Settlements, AllocError> {
+    pub fn again(&self, alloc: Global) -> Result<Settlements, AllocError>
+        ensures { IfOk result (λ copy. copy.computed ≡ 0) }
+    {
         let mut settled = Vec::with_capacity(alloc, self.settled.len())?;
         for one in &self.settled {
             settled.push(one.again(alloc)?)?;
@@ -77,7 +82,9 @@ impl Settlements {
     }
 
     /// How many trees had to be settled; at the greatest number it stays there.
-    pub fn computed(&self) -> u64 {
+    pub fn computed(&self) -> u64
+        ensures { result ≡ self.now.computed }
+    {
         self.computed
     }
 
@@ -93,6 +100,9 @@ impl Settlements {
         ensures tree { IsTree tree.now }
         ensures outcome { IfOk result (λ o. o ≡ unless_rewrite_refused (input_settled input tree.now)) }
         ensures kept { IfOk result (λ _. HasSettled self.new.settled.items input tree.now) }
+        ensures at_hand { HasSettled self.old.settled.items input tree.now → self.new ≡ self.old }
+        ensures computed { (HasSettled self.old.settled.items input tree.now → ⊥)
+            → IfOk result (λ _. self.new.computed ≡ one_more self.old.computed) }
         ensures memory { IfErr result (λ why. why ≡ Memory) }
     {
         let _len = tree.nar_len();

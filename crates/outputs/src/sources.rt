@@ -1,10 +1,10 @@
 //! The paths of sources, each made once.
 
-ghost use Rattle.std.specs.Prelude.{◌≡◌, IfOk, IfErr, IfSome};
+ghost use Rattle.std.specs.Prelude.{◌≡◌, [], IfOk, IfErr, IfSome, IfNone};
 ghost use Rattle.model.specs.Archives.{IsTree};
 ghost use Rattle.model.specs.Paths.{source_path};
 ghost use Rattle.model.specs.declared.refusal.Refusal.TheVariants.{Memory};
-ghost use Rattle.outputs.specs.Kept.{HasPlaced};
+ghost use Rattle.outputs.specs.Kept.{HasPlaced, one_more};
 
 use crate::placed::Placed;
 use model::Refusal;
@@ -16,6 +16,7 @@ use storepath::{Name, StorePath};
 fn found<'a>(placed: &'a [Placed], name: &Name, tree: &Tree) -> Option<&'a StorePath>
     ensures path { IfSome result (λ p. p.now ≡ source_path tree.now name.now) }
     ensures has { IfSome result (λ _. HasPlaced placed.now name.now tree.now) }
+    ensures none { IfNone result (HasPlaced placed.now name.now tree.now → ⊥) }
 {
     for one in placed {
         if let Some(path) = one.path_for(name, tree) {
@@ -43,7 +44,9 @@ impl Drop for Sources {
 
 impl Sources {
     /// None. It takes no memory.
-    pub fn none(alloc: Global) -> Sources {
+    pub fn none(alloc: Global) -> Sources
+        ensures { (result.placed.items ≡ []) × (result.computed ≡ 0) }
+    {
         Sources {
             placed: Vec::new(alloc),
             computed: 0,
@@ -52,7 +55,8 @@ impl Sources {
 
     /// A copy, of which none counts as made since. It shares what is large. The one error is memory.
     pub fn again(&self, alloc: Global) -> Result<Sources, AllocError>
-        ensures { IfOk result (λ copy. copy.placed.items ≡ self.now.placed.items) }
+        ensures placed { IfOk result (λ copy. copy.placed.items ≡ self.now.placed.items) }
+        ensures computed { IfOk result (λ copy. copy.computed ≡ 0) }
     {
         let mut placed = Vec::with_capacity(alloc, self.placed.len())?;
         for one in &self.placed {
@@ -65,7 +69,9 @@ impl Sources {
     }
 
     /// How many paths had to be made; at the greatest number it stays there.
-    pub fn computed(&self) -> u64 {
+    pub fn computed(&self) -> u64
+        ensures { result ≡ self.now.computed }
+    {
         self.computed
     }
 
@@ -75,6 +81,9 @@ impl Sources {
         ensures value { IfOk result (λ p. p ≡ source_path tree.now name.now) }
         ensures tree { IfOk result (λ _. IsTree tree.now) }
         ensures kept { IfOk result (λ _. HasPlaced self.new.placed.items name.now tree.now) }
+        ensures at_hand { HasPlaced self.old.placed.items name.now tree.now → self.new ≡ self.old }
+        ensures computed { (HasPlaced self.old.placed.items name.now tree.now → ⊥)
+            → IfOk result (λ _. self.new.computed ≡ one_more self.old.computed) }
         ensures memory { IfErr result (λ e. e ≡ Memory) }
     {
         let _len = tree.nar_len();
