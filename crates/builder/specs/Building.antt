@@ -1,12 +1,12 @@
 -- What a runner gives for a job.
-use Rattle.std.specs.Prelude.{◌≡◌, ◌⊎◌, ℕ, ◌+◌, ◌-◌, ◌^◌, min, false, List, Option, Result, Ok, Err}
+use Rattle.std.specs.Prelude.{◌≡◌, ◌⊎◌, ℕ, false, List, Option, Result, Err}
 use Rattle.std.specs.Global.{Global}
 use Rattle.std.specs.declared.process.command.Command.{Command}
 use Rattle.model.specs.Derivations.{Derivation, IsDerivation, derivation_text, HasNoDerivation}
 use Rattle.model.specs.Worlds.{is_user_name}
 use Rattle.model.specs.Goals.{Running}
-use Rattle.workers.specs.declared.runner.RunFault.{RunFault}
-use Rattle.workers.specs.declared.runner.RunFault.TheVariants.{Status, Device, Memory}
+use Rattle.builder.specs.declared.fault.Fault.{Fault}
+use Rattle.builder.specs.declared.fault.Fault.TheVariants.{NotStarted, Memory}
 use Rattle.builder.specs.Commands.{IsCommandFor, inputs_path}
 use Rattle.builder.specs.Steps.{Steps}
 use Rattle.builder.specs.Running.{RunsInFolder}
@@ -23,17 +23,10 @@ pub record Prepares (builders work : List ℕ) (job : Running) (command : Comman
   pub named : inputs ≡ inputs_path work job.job
   pub started : IsCommandFor derivation job.resolved.scratch builders inputs command
 
--- a count of failures: one more where something failed, as far as the number goes
-abbrev pub counted : {X : Type 0} → ℕ → Result X RunFault → ℕ
-counted failures (Err Device) = min (failures + 1) (2 ^ 64 - 1)
-counted failures (Err Memory) = failures
-counted failures (Err (Status status)) = failures
-counted failures (Ok output) = failures
-
 module _ {O File Output Process : Type 0} (steps : Steps O File Output Process) (remaining : Output → Option (List ℕ)) (contents : File → Option (List ℕ)) where
   -- the job is built; or nothing is done, for want of memory or since nothing can be started for it
-  abbrev pub Builds : List ℕ → List ℕ → O → Running → Result (List ℕ) RunFault → O → Type 0
+  abbrev pub Builds : List ℕ → List ℕ → O → Running → Result (List ℕ) Fault → O → Type 0
   Builds builders work o job given o' =
       ((command : Command Global) × (inputs : List ℕ) × Prepares builders work job command inputs
       × RunsInFolder steps remaining contents o inputs job.resolved.closure command given o')
-      ⊎ ((o' ≡ o) × ((given ≡ Err Memory) ⊎ ((given ≡ Err Device) × IsUnusable job)))
+      ⊎ ((o' ≡ o) × ((given ≡ Err Memory) ⊎ ((given ≡ Err NotStarted) × IsUnusable job)))

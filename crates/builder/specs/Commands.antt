@@ -1,11 +1,14 @@
 -- What a process is started with.
-use Rattle.std.specs.Prelude.{◌≡◌, ℕ, true, List, [], ◌∷◌, ◌++◌, codes, decimal, bytes_eq, Option, Some, None, if◌then◌else◌}
+use Rattle.std.specs.Prelude.{◌≡◌, ℕ, true, false, List, [], ◌∷◌, ◌++◌, codes, decimal, bytes_eq, Option, Some, None, if◌then◌else◌}
 use Rattle.std.specs.Global.{Global}
+use Rattle.std.specs.Fs.{asks_write, asks_create_new}
 use Rattle.std.specs.Path.{path_join}
-use Rattle.std.specs.Process.{command_program, command_args, command_var, clears_env}
+use Rattle.std.specs.Process.{command_program, command_args, command_arg0, command_dir, command_var, clears_env, makes_pipe}
+use Rattle.std.specs.declared.fs.options.OpenOptions.{OpenOptions}
 use Rattle.std.specs.declared.process.command.Command.{Command}
 use Rattle.model.specs.Derivations.{Derivation}
 use Rattle.model.specs.Worlds.{Job}
+use Rattle.builder.specs.declared.command.Streams.{Streams}
 
 -- what a variable is set to by the pairs of an environment, one after another, where it was set to `before`
 abbrev pub variable_after : List ℕ → Option (Option (List ℕ)) → List (List ℕ × List ℕ) → Option (Option (List ℕ))
@@ -25,13 +28,27 @@ Sets old environment new = (name : List ℕ) → command_var new name ≡ variab
 abbrev pub environment_of : Derivation → List ℕ → List ℕ → List (List ℕ × List ℕ)
 environment_of d scratch inputs = d.environment ++ (codes "out", scratch) ∷ (codes "INPUTS", inputs) ∷ []
 
--- the program is named by the builder, in the folder of builders unless it begins with `/`; the arguments are those of
--- the derivation, and the variables are those of the environment and no others
+-- the program is named by the builder, in the folder of builders unless it begins with `/`, and is told that name as its
+-- own; the arguments are those of the derivation, the variables those of the environment and no others; and the process runs in
+-- the current folder
 pub record IsCommandFor (d : Derivation) (scratch builders inputs : List ℕ) (command : Command Global) : Type 0 where
   pub program : command_program command ≡ path_join builders d.builder
   pub arguments : command_args command ≡ d.arguments
   pub clears : clears_env command ≡ true
   pub variables : (name : List ℕ) → command_var command name ≡ variable_after name None (environment_of d scratch inputs)
+  pub own_name : command_arg0 command ≡ Some (path_join builders d.builder)
+  pub folder : command_dir command ≡ None
+
+-- of the streams of a builder the output is a pipe, and no other
+pub record AreStreams (streams : Streams) : Type 0 where
+  pub stdin : makes_pipe streams.stdin ≡ false
+  pub stdout : makes_pipe streams.stdout ≡ true
+  pub stderr : makes_pipe streams.stderr ≡ false
+
+-- a file is opened to be written, and is made anew: where something has its name, a link among others, opening it fails
+pub record IsMadeAnew (how : OpenOptions) : Type 0 where
+  pub write : asks_write how ≡ true
+  pub anew : asks_create_new how ≡ true
 
 -- the name of the file of a job's inputs, in this folder
 abbrev pub inputs_path : List ℕ → Job → List ℕ

@@ -3,77 +3,90 @@
 use Rattle.std.specs.Prelude.{◌≡◌, ◌⊎◌, ℕ, Bool, if◌then◌else◌, List, take, Option, Some, Result, Ok, Err}
 use Rattle.std.specs.Global.{Global}
 use Rattle.std.specs.Io.KnownBytes.{Appends, IsAtEnd}
+use Rattle.std.specs.declared.fs.options.OpenOptions.{OpenOptions}
+use Rattle.std.specs.declared.io.Error.{Error}
 use Rattle.std.specs.declared.process.command.Command.{Command}
+use Rattle.std.specs.declared.process.status.ExitStatus.{ExitStatus}
 use Rattle.model.specs.Worlds.{Entry}
 use Rattle.model.specs.Inputs.{inputs_of, inputs_text}
-use Rattle.workers.specs.declared.runner.RunFault.{RunFault}
-use Rattle.workers.specs.declared.runner.RunFault.TheVariants.{Device}
-use Rattle.builder.specs.declared.outside.Failure.{Failure}
-use Rattle.builder.specs.Meaning.{Means, fault_of}
+use Rattle.builder.specs.declared.command.Streams.{Streams}
+use Rattle.builder.specs.declared.fault.Fault.{Fault}
+use Rattle.builder.specs.declared.fault.Fault.TheVariants.{InputsNotWritten, NotStarted}
+use Rattle.builder.specs.Commands.{AreStreams, IsMadeAnew}
+use Rattle.builder.specs.Meaning.{IsGone, Means}
 use Rattle.builder.specs.Steps.{Steps}
 
 -- what was read of an output, and what is left of it: the first 67,108,865 bytes, and nothing
-abbrev pub IsRead : Option (List ℕ) → Option (List ℕ) → Result (List ℕ) Failure → Type 0
+abbrev pub IsRead : Option (List ℕ) → Option (List ℕ) → Result (List ℕ) Error → Type 0
 IsRead (Some all) left (Ok output) = (output ≡ take 67108865 all) × IsAtEnd left
 IsRead _ _ _ = Unit {0}
 
 module _ {O File Output Process : Type 0} (steps : Steps O File Output Process) (remaining : Output → Option (List ℕ)) where
   -- where the output could not be read, the process is killed
-  abbrev pub KillsUnread : Result (List ℕ) Failure → O → Process → Process → O → Type 0
+  abbrev pub KillsUnread : Result (List ℕ) Error → O → Process → Process → O → Type 0
   KillsUnread (Ok output) o process process' o' = (process' ≡ process) × (o' ≡ o)
-  KillsUnread (Err failure) o process process' o' = steps.killed o process process' o'
+  KillsUnread (Err unread) o process process' o' = steps.killed o process process' o'
 
   -- the output of a process is read, and then the process is waited for
-  pub record Ends (o : O) (process : Process) (output : Output) (given : Result (List ℕ) RunFault) (o' : O) : Type 0 where
-    pub read : Result (List ℕ) Failure
+  pub record Ends (o : O) (process : Process) (output : Output) (given : Result (List ℕ) Fault) (o' : O) : Type 0 where
+    pub read : Result (List ℕ) Error
     pub output' : Output
     pub process' : Process
     pub between : O
-    pub ended : Result (Option ℕ) Failure
+    pub ended : Result ExitStatus Error
     pub is_read : IsRead (remaining output) (remaining output') read
     pub kills : KillsUnread read o process process' between
     pub waits : steps.waited between process' ended o'
     pub means : Means read ended given
 
-  abbrev pub RunsStarted : Result (Process × Output) Failure → O → Result (List ℕ) RunFault → O → Type 0
+  -- a process that could not be started is a fault, whatever the reason
+  abbrev pub RunsStarted : Result (Process × Output) Error → O → Result (List ℕ) Fault → O → Type 0
   RunsStarted (Ok started) o given o' = Ends o started.0 started.1 given o'
-  RunsStarted (Err failure) o given o' = (o' ≡ o) × (given ≡ Err (fault_of failure))
+  RunsStarted (Err unstarted) o given o' = (o' ≡ o) × (given ≡ Err NotStarted)
 
-  -- a process is started, and ends
-  pub record Runs (o : O) (command : Command Global) (given : Result (List ℕ) RunFault) (o' : O) : Type 0 where
-    pub answer : Result (Process × Output) Failure
+  -- a process is started with the streams of a builder, and ends
+  pub record Runs (o : O) (command : Command Global) (given : Result (List ℕ) Fault) (o' : O) : Type 0 where
+    pub streams : Streams
+    pub answer : Result (Process × Output) Error
     pub between : O
-    pub starts : steps.started o command answer between
+    pub are : AreStreams streams
+    pub starts : steps.started o command streams answer between
     pub runs : RunsStarted answer between given o'
 
   module _ (contents : File → Option (List ℕ)) where
-    -- a text was written to the end of a file
-    pub record IsWritten (file : File) (text : List ℕ) : Type 0 where
+    -- a file is closed with the inputs behind what was in it, and nothing behind them, and the process runs; or the inputs were
+    -- not written, and no process is started
+    pub record WritesAndRuns (o : O) (file : File) (closure : List Entry) (command : Command Global) (given : Result (List ℕ) Fault) (o' : O) : Type 0 where
       pub file' : File
-      pub appends : Appends (contents file) (contents file') text
-
-    -- the file of inputs is written, and the process runs; or a failure keeps the file from being written, and no process is started
-    abbrev pub WritesAndRuns : O → File → List Entry → Command Global → Result (List ℕ) RunFault → O → Type 0
-    WritesAndRuns o file closure command given o' =
-        (IsWritten file (inputs_text (inputs_of closure)) × Runs o command given o')
-        ⊎ ((failure : Failure) × (o' ≡ o) × (given ≡ Err (fault_of failure)))
-
-    -- what a file was made for is done, and the file is removed; a file that stays is a failure
-    pub record RunsAndRemoves (o : O) (path : List ℕ) (file : File) (closure : List Entry) (command : Command Global) (given : Result (List ℕ) RunFault) (o' : O) : Type 0 where
-      pub inner : Result (List ℕ) RunFault
       pub between : O
+      pub closes : steps.closed o file' between
+      pub runs : (Appends (contents file) (contents file') (inputs_text (inputs_of closure)) × Runs between command given o')
+          ⊎ ((o' ≡ between) × (given ≡ Err InputsNotWritten))
+
+    -- what a file was made for is done, and the file is removed; a file that stays is a fault
+    pub record RunsAndRemoves (o : O) (path : List ℕ) (file : File) (closure : List Entry) (command : Command Global) (given : Result (List ℕ) Fault) (o' : O) : Type 0 where
+      pub inner : Result (List ℕ) Fault
+      pub between : O
+      pub answer : Result (Unit {0}) Error
       pub gone : Bool
       pub runs : WritesAndRuns o file closure command inner between
-      pub removes : steps.removed between path gone o'
-      pub gives : given ≡ (if gone then inner else Err Device)
+      pub removes : steps.removed between path answer o'
+      pub tells : IsGone answer gone
+      pub gives : given ≡ (if gone then inner else Err InputsNotWritten)
 
-    abbrev pub RunsCreated : Result File Failure → O → List ℕ → List Entry → Command Global → Result (List ℕ) RunFault → O → Type 0
-    RunsCreated (Ok file) o path closure command given o' = RunsAndRemoves o path file closure command given o'
-    RunsCreated (Err failure) o path closure command given o' = (o' ≡ o) × (given ≡ Err (fault_of failure))
+    -- a file that could not be made is a fault, whatever the reason
+    abbrev pub RunsOpened : Result File Error → O → List ℕ → List Entry → Command Global → Result (List ℕ) Fault → O → Type 0
+    RunsOpened (Ok file) o path closure command given o' = RunsAndRemoves o path file closure command given o'
+    RunsOpened (Err unmade) o path closure command given o' = (o' ≡ o) × (given ≡ Err InputsNotWritten)
 
-    -- the file of inputs is made anew, and what it is made for is done
-    pub record RunsInFolder (o : O) (path : List ℕ) (closure : List Entry) (command : Command Global) (given : Result (List ℕ) RunFault) (o' : O) : Type 0 where
-      pub answer : Result File Failure
+    -- what has the name of the file of inputs is removed, the file is made anew, and what it is made for is done
+    pub record RunsInFolder (o : O) (path : List ℕ) (closure : List Entry) (command : Command Global) (given : Result (List ℕ) Fault) (o' : O) : Type 0 where
+      pub before : Result (Unit {0}) Error
+      pub cleared : O
+      pub how : OpenOptions
+      pub answer : Result File Error
       pub between : O
-      pub creates : steps.created o path answer between
-      pub runs : RunsCreated answer between path closure command given o'
+      pub clears : steps.removed o path before cleared
+      pub anew : IsMadeAnew how
+      pub opens : steps.opened cleared how path answer between
+      pub runs : RunsOpened answer between path closure command given o'

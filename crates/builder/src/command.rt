@@ -1,20 +1,44 @@
 //! What a process is started with.
 
-ghost use Rattle.std.specs.Prelude.{◌≡◌, ◌++◌, [], ℕ, true, List, None, IfOk, OnOk};
+ghost use Rattle.std.specs.Prelude.{◌≡◌, ◌++◌, [], ℕ, true, List, Some, None, IfOk, OnOk};
 ghost use Rattle.std.specs.List.{list_all};
 ghost use Rattle.std.specs.Str.{IsUtf8};
 ghost use Rattle.std.specs.Path.{path_bytes, path_buf_bytes};
-ghost use Rattle.std.specs.Process.{SameEnv, SameProgramAndArgs, clears_env, command_args, command_program, command_var};
+ghost use Rattle.std.specs.Process.{SameDir, SameEnv, SameProgramAndArgs, clears_env, command_arg0, command_args, command_dir, command_program, command_var};
 ghost use Rattle.model.specs.Derivations.{is_text, is_variable};
 ghost use Rattle.model.specs.Worlds.{is_user_name};
-ghost use Rattle.builder.specs.Commands.{IsCommandFor, Sets, SetsVariable, inputs_path};
+ghost use Rattle.builder.specs.Commands.{AreStreams, IsCommandFor, Sets, SetsVariable, inputs_path};
 
 use derivation::{Derivation, Text};
 use states::Job;
 use std::alloc::{AllocError, Global};
+use std::os::unix::process::CommandExt;
 use std::path::{Path, PathBuf};
-use std::process::Command;
+use std::process::{Command, Stdio};
 use storepath::StorePath;
+
+/// The streams of a process that is started.
+#[derive(Drop)]
+pub struct Streams {
+    /// Its standard input.
+    pub stdin: Stdio,
+    /// Its standard output.
+    pub stdout: Stdio,
+    /// Its standard error.
+    pub stderr: Stdio,
+}
+
+/// Those of a builder: an empty standard input, a pipe for its standard output, and a standard error that is
+/// dropped.
+pub(crate) fn builder_streams() -> Streams
+    ensures { AreStreams result }
+{
+    Streams {
+        stdin: Stdio::null(),
+        stdout: Stdio::piped(),
+        stderr: Stdio::null(),
+    }
+}
 
 /// Bytes of text, as one.
 fn text_of(bytes: &[u8]) -> &str
@@ -65,6 +89,7 @@ fn add_arguments(command: &mut Command, arguments: &[Text]) -> Result<(), AllocE
     ensures arguments { OnOk result (command_args command.new ≡ command_args command.old ++ arguments.now) }
     ensures program { OnOk result (command_program command.new ≡ command_program command.old) }
     ensures environment { OnOk result (SameEnv command.old command.new) }
+    ensures folder { OnOk result (SameDir command.old command.new) }
 {
     for argument in arguments {
         command.arg(text_of_string(argument))?;
@@ -77,6 +102,7 @@ fn set_variable(command: &mut Command, key: &str, value: &str) -> Result<(), All
     ensures set { OnOk result (SetsVariable command.old key.now value.now command.new) }
     ensures call { OnOk result (SameProgramAndArgs command.old command.new) }
     ensures clears { OnOk result (clears_env command.new ≡ clears_env command.old) }
+    ensures folder { OnOk result (SameDir command.old command.new) }
 {
     command.env(key, value)?;
     Ok(())
@@ -88,6 +114,7 @@ fn set_variables(command: &mut Command, environment: &[(Text, Text)]) -> Result<
     ensures sets { OnOk result (Sets command.old environment.now command.new) }
     ensures call { OnOk result (SameProgramAndArgs command.old command.new) }
     ensures clears { OnOk result (clears_env command.new ≡ clears_env command.old) }
+    ensures folder { OnOk result (SameDir command.old command.new) }
 {
     for variable in environment {
         set_variable(
@@ -99,16 +126,28 @@ fn set_variables(command: &mut Command, environment: &[(Text, Text)]) -> Result<
     Ok(())
 }
 
-/// A program with no arguments and no variables.
-fn alone(alloc: Global, program: PathBuf) -> Result<Command, AllocError>
-    ensures program { IfOk result (λ command. command_program command ≡ path_buf_bytes program) }
+/// A program with no arguments and no variables, in the current folder.
+fn alone(alloc: Global, program: Path<'_>) -> Result<Command, AllocError>
+    ensures program { IfOk result (λ command. command_program command ≡ path_bytes program.entry) }
     ensures arguments { IfOk result (λ command. command_args command ≡ []) }
     ensures clears { IfOk result (λ command. clears_env command ≡ true) }
     ensures variables { IfOk result (λ command. (name : List ℕ) → command_var command name ≡ None) }
+    ensures folder { IfOk result (λ command. command_dir command ≡ None) }
 {
     let mut command = Command::new(alloc, program)?;
     command.env_clear();
     Ok(command)
+}
+
+/// Tells a process the name of its program as its own, and leaves all else.
+fn set_own_name(command: &mut Command, program: Path<'_>) -> Result<(), AllocError>
+    ensures own { OnOk result (command_arg0 command.new ≡ Some (path_bytes program.entry)) }
+    ensures call { OnOk result (SameProgramAndArgs command.old command.new) }
+    ensures environment { OnOk result (SameEnv command.old command.new) }
+    ensures folder { OnOk result (SameDir command.old command.new) }
+{
+    command.arg0(program)?;
+    Ok(())
 }
 
 /// What the process is started with that builds a derivation under this path. The one error is memory.
@@ -123,10 +162,11 @@ pub(crate) fn command_for(
 {
     let parts = derivation.parts();
     let program = builders.join(alloc, text_of_string(&parts.builder))?;
-    let mut command = alone(alloc, program)?;
+    let mut command = alone(alloc, program.as_path())?;
     add_arguments(&mut command, &parts.arguments)?;
     set_variables(&mut command, &parts.environment)?;
     set_variable(&mut command, "out", text_of_path(scratch))?;
     set_variable(&mut command, "INPUTS", inputs)?;
+    set_own_name(&mut command, program.as_path())?;
     Ok(command)
 }

@@ -6,6 +6,7 @@
 #![tactic(auto)]
 
 mod command;
+mod fault;
 mod inputs;
 mod meaning;
 mod output;
@@ -13,6 +14,8 @@ mod outside;
 mod processes;
 mod system;
 
-pub use outside::{Failure, Outside};
+pub use command::Streams;
+pub use fault::Fault;
+pub use outside::Outside;
 pub use processes::ProcessRunner;
 pub use system::System;

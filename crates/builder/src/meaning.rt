@@ -1,46 +1,55 @@
 //! What a process that has ended means.
 
-ghost use Rattle.std.specs.Prelude.{◌≡◌};
-ghost use Rattle.workers.specs.Outputs.{bytes_of};
-ghost use Rattle.builder.specs.Meaning.{Means, MeansStatus, fault_of, output_of};
+ghost use Rattle.std.specs.Prelude.{◌≡◌, pos, option_map};
+ghost use Rattle.std.specs.Process.{exit_code};
+ghost use Rattle.builder.specs.Meaning.{IsGone, Means, MeansStatus, output_of};
 
-use crate::outside::Failure;
+use crate::fault::Fault;
+use std::io;
+use std::io::ErrorKind;
 use std::num::NonZeroU8;
-use workers::RunFault;
+use std::process::ExitStatus;
 
-/// What a failure outside is for a job.
-pub(crate) fn fault_of(failure: Failure) -> RunFault
-    ensures { result ≡ fault_of failure }
+/// Whether nothing has a name of which removing it gave this.
+pub(crate) fn is_gone(removed: io::Result<()>) -> bool
+    ensures { IsGone removed result }
 {
-    match failure {
-        Failure::Device => RunFault::Device,
-        Failure::Memory => RunFault::Memory,
+    match removed {
+        Ok(()) => true,
+        Err(error) => error.kind() == ErrorKind::NotFound,
     }
 }
 
-/// What an exit status means, where there is one, of a process that wrote this.
-fn meaning_of_status(output: Vec<u8>, status: Option<u8>) -> Result<Vec<u8>, RunFault>
-    ensures { MeansStatus output.items status (bytes_of result) }
+/// The number that a process ended with, if it did so itself.
+fn code_of(status: ExitStatus) -> Option<u8>
+    ensures { option_map (λ code. pos code) result ≡ exit_code status }
 {
-    let Some(status) = status else {
-        return Err(RunFault::Device);
+    Some(status.code()? as u8)
+}
+
+/// What it means of a process that wrote this to have ended so.
+fn meaning_of_status(output: Vec<u8>, status: ExitStatus) -> Result<Vec<u8>, Fault>
+    ensures { MeansStatus output.items status (exit_code status) (output_of result) }
+{
+    let Some(code) = code_of(status) else {
+        return Err(Fault::Killed(status));
     };
-    match NonZeroU8::new(status) {
-        Some(status) => Err(RunFault::Status(status)),
+    match NonZeroU8::new(code) {
+        Some(code) => Err(Fault::Status(code)),
         None => Ok(output),
     }
 }
 
 /// What it means that reading the output of a process gave this, and waiting for it that.
 pub(crate) fn meaning(
-    read: Result<Vec<u8>, Failure>,
-    ended: Result<Option<u8>, Failure>,
-) -> Result<Vec<u8>, RunFault>
-    ensures { Means (output_of read) ended (bytes_of result) }
+    read: io::Result<Vec<u8>>,
+    ended: io::Result<ExitStatus>,
+) -> Result<Vec<u8>, Fault>
+    ensures { Means (output_of read) ended (output_of result) }
 {
     match (read, ended) {
         (Ok(output), Ok(status)) => meaning_of_status(output, status),
-        (Err(failure), _) => Err(fault_of(failure)),
-        (_, Err(failure)) => Err(fault_of(failure)),
+        (Err(_), _) => Err(Fault::OutputNotRead),
+        (Ok(_), Err(_)) => Err(Fault::EndNotLearnt),
     }
 }

@@ -3,7 +3,6 @@
 ghost use Rattle.builder.specs.Meaning.{output_of};
 ghost use Rattle.builder.specs.Running.{IsRead};
 
-use crate::outside::Failure;
 use std::alloc::Global;
 use std::io;
 use std::io::Read;
@@ -13,7 +12,7 @@ const MOST_OUTPUT: u64 = 67_108_865;
 
 /// Reads to the end of what a process writes, and gives the first 67,108,865 bytes of it. What comes after
 /// them is dropped.
-pub(crate) fn read_output<R: Read>(alloc: Global, reader: &mut R) -> Result<Vec<u8>, Failure>
+pub(crate) fn read_output<R: Read>(alloc: Global, reader: &mut R) -> io::Result<Vec<u8>>
     ensures { IsRead (R.remaining reader.old) (R.remaining reader.new) (output_of result) }
 {
     let mut output = Vec::new(alloc);

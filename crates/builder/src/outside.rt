@@ -2,59 +2,15 @@
 
 ghost use Rattle.builder.specs.Steps.{Steps};
 
-use model::Refusal;
-use std::alloc::AllocError;
-use std::io::{Error, ErrorKind, Read, Write};
-use std::process::Command;
-
-/// Why something outside failed.
-#[derive(Clone, Copy, Debug, PartialEq, Eq)]
-pub enum Failure {
-    /// A file, a pipe or a process failed.
-    Device,
-    /// Memory was refused.
-    Memory,
-}
-
-/// Strings of archives and archives are refused for want of memory alone.
-impl From<Refusal> for Failure {
-    ghost use Rattle.std.specs.Prelude.{◌≡◌};
-    ghost use Rattle.builder.specs.declared.outside.Failure.TheVariants.{Memory};
-
-    ghost from_gives = { λ _ failure. failure ≡ Memory };
-
-    fn from(_why: Refusal) -> Failure {
-        Failure::Memory
-    }
-}
-
-impl From<AllocError> for Failure {
-    ghost use Rattle.std.specs.Prelude.{◌≡◌};
-    ghost use Rattle.builder.specs.declared.outside.Failure.TheVariants.{Memory};
-
-    ghost from_gives = { λ _ failure. failure ≡ Memory };
-
-    fn from(_error: AllocError) -> Failure {
-        Failure::Memory
-    }
-}
-
-/// What an error of a file, a pipe or a process is for a runner.
-impl From<Error> for Failure {
-    ghost use Rattle.builder.specs.Meaning.{IsFailureOf};
-
-    ghost from_gives = { IsFailureOf };
-
-    fn from(error: Error) -> Failure {
-        match error.kind() {
-            ErrorKind::OutOfMemory => Failure::Memory,
-            _ => Failure::Device,
-        }
-    }
-}
+use crate::command::Streams;
+use std::fs::OpenOptions;
+use std::io;
+use std::io::{Read, Write};
+use std::process::{Command, ExitStatus};
 
 /// Files and processes, as a runner uses them. Each call is a step, of which contracts see a relation: what
-/// was outside before, what the call was given, what it answered, and what is outside after.
+/// was outside before, what the call was given, what it answered, and what is outside after. An error is of a
+/// file, a pipe or a process, whatever its reason, want of memory among them.
 pub trait Outside {
     /// A file that is written.
     type File: Write + Drop;
@@ -66,24 +22,31 @@ pub trait Outside {
     /// What the calls do, step by step.
     ghost steps: { Steps Self Self.File Self.Output Self.Process };
 
-    /// Makes an empty file of this name, whatever is there, and opens it to be written.
-    fn create(&mut self, path: &str) -> Result<Self::File, Failure>
-        ensures { steps.created self.old path.now result self.new };
-
-    /// Removes the file of this name. Whether it is gone.
-    fn remove(&mut self, path: &str) -> bool
+    /// Removes what has this name: of a link the link, and not what it names.
+    fn remove(&mut self, path: &str) -> io::Result<()>
         ensures { steps.removed self.old path.now result self.new };
 
-    /// Starts a process with empty standard input and a pipe for its standard output, whose standard error is
-    /// dropped.
-    fn start(&mut self, command: Command) -> Result<(Self::Process, Self::Output), Failure>
-        ensures { steps.started self.old command result self.new };
+    /// Opens a file as the options ask.
+    fn open(&mut self, how: &OpenOptions, path: &str) -> io::Result<Self::File>
+        ensures { steps.opened self.old how.now path.now result self.new };
+
+    /// Closes a file.
+    fn close(&mut self, file: Self::File)
+        ensures { steps.closed self.old file self.new };
+
+    /// Starts a process with these streams. The output is the other end of its standard output.
+    fn start(
+        &mut self,
+        command: &Command,
+        streams: &Streams,
+    ) -> io::Result<(Self::Process, Self::Output)>
+        ensures { steps.started self.old command.now streams.now result self.new };
 
     /// Kills a process, if it can be.
     fn kill(&mut self, process: &mut Self::Process)
         ensures { steps.killed self.old process.old process.new self.new };
 
-    /// Waits until a process has ended. Gives its exit status, 0 to 255, if it has one.
-    fn wait(&mut self, process: Self::Process) -> Result<Option<u8>, Failure>
+    /// Waits until a process has ended. Gives how it ended.
+    fn wait(&mut self, process: Self::Process) -> io::Result<ExitStatus>
         ensures { steps.waited self.old process result self.new };
 }

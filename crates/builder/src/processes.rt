@@ -3,13 +3,15 @@
 ghost use Rattle.std.specs.Prelude.{◌≡◌, ◌⊎◌, IfOk, IfErr, MatchResult};
 ghost use Rattle.std.specs.Path.{path_bytes, path_buf_bytes};
 ghost use Rattle.workers.specs.Outputs.{bytes_of};
+ghost use Rattle.builder.specs.Meaning.{counted, output_of};
 ghost use Rattle.builder.specs.Running.{Ends, Runs, RunsInFolder, WritesAndRuns};
-ghost use Rattle.builder.specs.Building.{Builds, IsUnusable, Prepares, counted};
-ghost use Rattle.workers.specs.declared.runner.RunFault.TheVariants.{Device, Memory};
+ghost use Rattle.builder.specs.Building.{Builds, IsUnusable, Prepares};
+ghost use Rattle.builder.specs.declared.fault.Fault.TheVariants.{Memory, NotStarted};
 
-use crate::command::{command_for, inputs_path};
-use crate::inputs::write_inputs;
-use crate::meaning::{fault_of, meaning};
+use crate::command::{builder_streams, command_for, inputs_path};
+use crate::fault::{Fault, fault_in, told};
+use crate::inputs::{made_anew, write_inputs};
+use crate::meaning::{is_gone, meaning};
 use crate::output::read_output;
 use crate::outside::Outside;
 use aterm::parse;
@@ -28,8 +30,8 @@ fn end<O: Outside>(
     outside: &mut O,
     mut process: O::Process,
     mut output: O::Output,
-) -> Result<Vec<u8>, RunFault>
-    ensures { Ends O.steps O.Output.remaining outside.old process output (bytes_of result) outside.new }
+) -> Result<Vec<u8>, Fault>
+    ensures { Ends O.steps O.Output.remaining outside.old process output (output_of result) outside.new }
 {
     let read = read_output(alloc, &mut output);
     drop(output);
@@ -44,13 +46,13 @@ fn end<O: Outside>(
 fn run_process<O: Outside>(
     alloc: Global,
     outside: &mut O,
-    command: Command,
-) -> Result<Vec<u8>, RunFault>
-    ensures { Runs O.steps O.Output.remaining outside.old command (bytes_of result) outside.new }
+    command: &Command,
+) -> Result<Vec<u8>, Fault>
+    ensures { Runs O.steps O.Output.remaining outside.old command.now (output_of result) outside.new }
 {
-    match outside.start(command) {
+    match outside.start(command, &builder_streams()) {
         Ok((process, output)) => end(alloc, outside, process, output),
-        Err(failure) => Err(fault_of(failure)),
+        Err(_) => Err(Fault::NotStarted),
     }
 }
 
@@ -60,39 +62,40 @@ fn run_with_inputs<O: Outside>(
     outside: &mut O,
     mut file: O::File,
     closure: &[Entry],
-    command: Command,
-) -> Result<Vec<u8>, RunFault>
-    ensures { WritesAndRuns O.steps O.Output.remaining O.File.contents outside.old file closure.now command
-        (bytes_of result) outside.new }
+    command: &Command,
+) -> Result<Vec<u8>, Fault>
+    ensures { WritesAndRuns O.steps O.Output.remaining O.File.contents outside.old file closure.now command.now
+        (output_of result) outside.new }
 {
     let written = write_inputs(alloc, &mut file, closure);
-    drop(file);
+    outside.close(file);
     match written {
         Ok(()) => run_process(alloc, outside, command),
-        Err(failure) => Err(fault_of(failure)),
+        Err(_) => Err(Fault::InputsNotWritten),
     }
 }
 
-/// Runs a process with a file of inputs that is made for it, and is removed whatever came of it.
+/// Runs a process with a file of inputs that is made anew for it, and is removed whatever came of it. What has
+/// the name before is removed, and where it stays, no file is made.
 fn run_in_folder<O: Outside>(
     alloc: Global,
     outside: &mut O,
     inputs: &str,
     closure: &[Entry],
-    command: Command,
-) -> Result<Vec<u8>, RunFault>
+    command: &Command,
+) -> Result<Vec<u8>, Fault>
     ensures { RunsInFolder O.steps O.Output.remaining O.File.contents outside.old inputs.now closure.now
-        command (bytes_of result) outside.new }
+        command.now (output_of result) outside.new }
 {
-    let file = match outside.create(inputs) {
-        Ok(file) => file,
-        Err(failure) => return Err(fault_of(failure)),
+    let _before = outside.remove(inputs);
+    let Ok(file) = outside.open(&made_anew(), inputs) else {
+        return Err(Fault::InputsNotWritten);
     };
     let given = run_with_inputs(alloc, outside, file, closure, command);
-    if outside.remove(inputs) {
+    if is_gone(outside.remove(inputs)) {
         given
     } else {
-        Err(RunFault::Device)
+        Err(Fault::InputsNotWritten)
     }
 }
 
@@ -102,21 +105,21 @@ fn prepare(
     builders: Path<'_>,
     work: Path<'_>,
     job: &RunningJob,
-) -> Result<(Command, PathBuf), RunFault>
+) -> Result<(Command, PathBuf), Fault>
     ensures ok { IfOk result (λ p. Prepares (path_bytes builders.entry) (path_bytes work.entry) job.now p.0 (path_buf_bytes p.1)) }
-    ensures err { IfErr result (λ why. (why ≡ Memory) ⊎ ((why ≡ Device) × IsUnusable job.now)) }
+    ensures err { IfErr result (λ why. (why ≡ Memory) ⊎ ((why ≡ NotStarted) × IsUnusable job.now)) }
 {
     let resolved = job.resolved();
     let derivation = match parse(alloc, resolved.text()) {
         Ok(derivation) => derivation,
-        Err(Refusal::Memory) => return Err(RunFault::Memory),
-        Err(_) => return Err(RunFault::Device),
+        Err(Refusal::Memory) => return Err(Fault::Memory),
+        Err(_) => return Err(Fault::NotStarted),
     };
     if !job.job().leader().is_well_formed() {
-        return Err(RunFault::Device);
+        return Err(Fault::NotStarted);
     }
     let Ok(inputs) = inputs_path(alloc, work, job.job()) else {
-        return Err(RunFault::Memory);
+        return Err(Fault::Memory);
     };
     match command_for(
         alloc,
@@ -126,7 +129,7 @@ fn prepare(
         inputs.as_str(),
     ) {
         Ok(command) => Ok((command, inputs)),
-        Err(_) => Err(RunFault::Memory),
+        Err(_) => Err(Fault::Memory),
     }
 }
 
@@ -137,6 +140,7 @@ pub struct ProcessRunner<O> {
     builders: PathBuf,
     work: PathBuf,
     failures: u64,
+    fault: Option<Fault>,
 }
 
 impl<O: Outside> ProcessRunner<O> {
@@ -147,13 +151,22 @@ impl<O: Outside> ProcessRunner<O> {
         ensures builders { result.builders ≡ builders }
         ensures work { result.work ≡ work }
         ensures failures { result.failures ≡ 0 }
+        ensures fault { result.fault ≡ None }
     {
         ProcessRunner {
             outside,
             builders,
             work,
             failures: 0,
+            fault: None,
         }
+    }
+
+    /// Why the last job that was built gave no output, if it gave none.
+    pub fn fault(&self) -> Option<Fault>
+        ensures { result ≡ self.now.fault }
+    {
+        self.fault
     }
 }
 
@@ -164,9 +177,9 @@ fn build<O: Outside>(
     builders: Path<'_>,
     work: Path<'_>,
     job: &RunningJob,
-) -> Result<Vec<u8>, RunFault>
+) -> Result<Vec<u8>, Fault>
     ensures { Builds O.steps O.Output.remaining O.File.contents (path_bytes builders.entry) (path_bytes work.entry)
-        outside.old job.now (bytes_of result) outside.new }
+        outside.old job.now (output_of result) outside.new }
 {
     let (command, inputs) = match prepare(alloc, builders, work, job) {
         Ok(prepared) => prepared,
@@ -177,11 +190,11 @@ fn build<O: Outside>(
         outside,
         inputs.as_str(),
         job.resolved().closure(),
-        command,
+        &command,
     )
 }
 
-/// A count of failures behind this: one more where something failed, as far as the number goes.
+/// A count of failures behind this: one more where a device failed, as far as the number goes.
 fn counted(failures: u64, given: &Result<Vec<u8>, RunFault>) -> u64
     ensures { result ≡ counted failures (bytes_of given.now) }
 {
@@ -199,13 +212,15 @@ impl<O: Outside> Runner for ProcessRunner<O> {
     ghost failed = { λ runner. runner.failures };
 
     fn run(&mut self, alloc: Global, job: &RunningJob) -> Result<Vec<u8>, RunFault> {
-        let given = build(
+        let built = build(
             alloc,
             &mut self.outside,
             self.builders.as_path(),
             self.work.as_path(),
             job,
         );
+        self.fault = fault_in(&built);
+        let given = told(built);
         self.failures = counted(self.failures, &given);
         given
     }

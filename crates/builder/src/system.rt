@@ -2,13 +2,17 @@
 
 ghost use Rattle.builder.specs.Steps.{nothing_said};
 
-use crate::outside::{Failure, Outside};
-use std::fs;
-use std::fs::Files;
-use std::io::ErrorKind;
-use std::process::{Child, Command, OpenProcess, Processes, Stdio};
+use crate::command::Streams;
+use crate::outside::Outside;
+use std::fs::{Files, OpenOptions};
+use std::io::{Error, ErrorKind};
+use std::process::{Child, Command, ExitStatus, OpenProcess, Processes};
+use std::{fs, io};
 
-/// The files and processes of the machine, through the runtime.
+/// How often a call is made in all that signals interrupt.
+const MOST_TRIES: u32 = 1_000;
+
+/// The files and processes of the machine, through the runtime. A call that a signal interrupts is made again.
 #[derive(Drop)]
 pub struct System<'a, R> {
     rt: &'a R,
@@ -18,6 +22,28 @@ impl<'a, R: Files + Processes> System<'a, R> {
     /// Those of this runtime.
     pub fn new(rt: &'a R) -> System<'a, R> {
         System { rt }
+    }
+
+    /// Starts a process, or fails, at the first signal too.
+    fn start_once(
+        &self,
+        command: &Command,
+        streams: &Streams,
+    ) -> io::Result<(Child<R::Started>, <R::Started as OpenProcess>::Stdout)> {
+        let Streams {
+            stdin,
+            stdout,
+            stderr,
+        } = streams;
+        let mut child = self.rt.spawn(command, stdin, stdout, stderr)?;
+        match child.stdout.take() {
+            Some(output) => Ok((child, output)),
+            None => {
+                let _ = child.kill();
+                let _ = child.wait();
+                Err(Error::from(ErrorKind::BrokenPipe))
+            }
+        }
     }
 }
 
@@ -30,38 +56,43 @@ impl<'a, R: Files + Processes> Outside for System<'a, R> {
 
     ghost steps = { nothing_said };
 
-    fn create(&mut self, path: &str) -> Result<Self::File, Failure> {
-        Ok(fs::create(self.rt, path)?)
-    }
-
-    fn remove(&mut self, path: &str) -> bool {
-        match fs::remove_file(self.rt, path) {
-            Ok(()) => true,
-            Err(error) => error.kind() == ErrorKind::NotFound,
-        }
-    }
-
-    fn start(&mut self, mut command: Command) -> Result<(Self::Process, Self::Output), Failure> {
-        command.stdin(Stdio::null());
-        command.stdout(Stdio::piped());
-        command.stderr(Stdio::null());
-        let mut child = command.spawn(self.rt)?;
-        match child.stdout.take() {
-            Some(output) => Ok((child, output)),
-            None => {
-                let _ = child.kill();
-                let _ = child.wait();
-                Err(Failure::Device)
+    fn remove(&mut self, path: &str) -> io::Result<()> {
+        for _ in 1..MOST_TRIES {
+            match fs::remove_file(self.rt, path) {
+                Err(error) if error.kind() == ErrorKind::Interrupted => {}
+                removed => return removed,
             }
         }
+        fs::remove_file(self.rt, path)
+    }
+
+    fn open(&mut self, how: &OpenOptions, path: &str) -> io::Result<Self::File> {
+        how.open(self.rt, path)
+    }
+
+    fn close(&mut self, file: Self::File) {
+        drop(file);
+    }
+
+    fn start(
+        &mut self,
+        command: &Command,
+        streams: &Streams,
+    ) -> io::Result<(Self::Process, Self::Output)> {
+        for _ in 1..MOST_TRIES {
+            match self.start_once(command, streams) {
+                Err(error) if error.kind() == ErrorKind::Interrupted => {}
+                started => return started,
+            }
+        }
+        self.start_once(command, streams)
     }
 
     fn kill(&mut self, process: &mut Self::Process) {
         let _ = process.kill();
     }
 
-    fn wait(&mut self, mut process: Self::Process) -> Result<Option<u8>, Failure> {
-        let status = process.wait()?;
-        Ok(status.code().and_then(|code| u8::try_from(code).ok()))
+    fn wait(&mut self, mut process: Self::Process) -> io::Result<ExitStatus> {
+        process.wait()
     }
 }

@@ -17,5 +17,7 @@ returns c =
       program = search rules;
       arguments = search rules;
       clears = search rules;
-      variables = variables_are d c.args.scratch.now c.args.inputs.now first second third last (λ name. c.in_ok-add_arguments.ensures.environment.1 name ∙ c.in_ok-command.ensures.variables name) sets out c.in_ok-set_variable-2.ensures.set;
+      variables = λ name. c.in_ok-set_own_name.ensures.environment.1 name ∙ variables_are d c.args.scratch.now c.args.inputs.now first second third last (λ name. c.in_ok-add_arguments.ensures.environment.1 name ∙ c.in_ok-command.ensures.variables name) sets out c.in_ok-set_variable-2.ensures.set name;
+      own_name = search rules;
+      folder = search rules;
     }

@@ -1,5 +1,5 @@
 use Rattle.std.proofs.Common.{◌≡◌, ℕ, List, drop}
-use Rattle.std.specs.Process.{SameProgramAndArgs, clears_env, command_var}
+use Rattle.std.specs.Process.{SameDir, SameProgramAndArgs, clears_env, command_var}
 use Rattle.builder.specs.Commands.{variable_after}
 use Rattle.builder.proofs.command.set_variables.Given as goal
 
@@ -9,4 +9,5 @@ invariant-loop-variable l = record {
   sets : (name : List ℕ) → variable_after name (command_var l.command name) (drop l.variable-index l.environment) ≡ variable_after name (command_var l.initial.command name) l.environment;
   call : SameProgramAndArgs l.initial.command l.command;
   clears : clears_env l.command ≡ clears_env l.initial.command;
+  folder : SameDir l.initial.command l.command;
 }
