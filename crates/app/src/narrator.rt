@@ -4,7 +4,10 @@ ghost use Rattle.std.specs.Prelude.{◌≡◌, Err};
 ghost use Rattle.workers.specs.Outputs.{bytes_of, HasFailed};
 ghost use Rattle.workers.specs.declared.runner.RunFault.TheVariants.{Device};
 
+use builder::{Explains, Fault};
+use events::Reply;
 use leading::RunningJob;
+use states::State;
 use std::alloc::Global;
 use std::fmt::{Display, Formatter};
 use std::io::Eprint;
@@ -12,37 +15,24 @@ use std::time::{Clock, Instant};
 use std::{fmt, str};
 use workers::{RunFault, Runner};
 
-/// How a builder ended.
-#[derive(Clone, Copy)]
-enum End {
-    /// With an output.
-    Ok,
-    /// With this exit status.
-    Status(u8),
-    /// With none, or what it runs on failed.
-    Device,
-    /// Memory was refused.
-    Memory,
+/// How a builder ended, and how far its goal is then.
+#[derive(Drop)]
+struct Ended<'a> {
+    fault: Option<Fault>,
+    reply: &'a Reply,
 }
 
-impl Display for End {
+impl Display for Ended<'_> {
     fn fmt<W: fmt::Write>(&self, f: &mut Formatter<W>) -> fmt::Result {
-        match self {
-            End::Ok => f.write_str("ok"),
-            End::Status(status) => write!(f, "status {status}"),
-            End::Device => f.write_str("device"),
-            End::Memory => f.write_str("memory"),
+        if let Some(fault) = self.fault {
+            write!(f, "{fault}, ")?;
         }
-    }
-}
-
-/// How a builder ended that gave this.
-fn end_of(given: &Result<Vec<u8>, RunFault>) -> End {
-    match given {
-        Ok(_) => End::Ok,
-        Err(RunFault::Status(status)) => End::Status(status.get()),
-        Err(RunFault::Device) => End::Device,
-        Err(RunFault::Memory) => End::Memory,
+        match self.reply {
+            Reply::GoalState(State::Done(path)) => write!(f, "done {}", text_of(path.bytes())),
+            Reply::GoalState(State::Failed(why)) => write!(f, "failed {}", why.number()),
+            Reply::Refused(why) => write!(f, "refused {}", why.number()),
+            _ => f.write_str("its goal waits"),
+        }
     }
 }
 
@@ -62,46 +52,80 @@ fn seconds_since(clock: &impl Clock, begun: Option<Instant>) -> u64 {
     }
 }
 
-/// A runner that says on standard error as each builder starts, and as it ends, if it is to say anything.
-/// What cannot be said is let go.
+/// A builder that runs: what it is called in what is said of it, and when it began.
+#[derive(Drop)]
+struct Running {
+    name: String,
+    begun: Option<Instant>,
+}
+
+impl Running {
+    /// The builder of a job: it is called by the user, the number of his goal and the name of its derivation. There is
+    /// none where there is no memory for that.
+    fn new(alloc: Global, clock: &impl Clock, job: &RunningJob) -> Option<Running> {
+        let user = text_of(job.job().leader().bytes());
+        let number = job.job().number();
+        let derivation = text_of(job.resolved().scratch().name());
+        let name = format!(in alloc; "{user} {number} {derivation}").ok()?;
+        let begun = Instant::now(clock).ok();
+        Some(Running { name, begun })
+    }
+}
+
+/// A runner that says on standard error as each builder starts, and how it and its goal ended, if it is to say
+/// anything. What cannot be said is let go.
 #[derive(Drop)]
 pub(crate) struct Narrator<'a, H, Q: Drop> {
     host: &'a H,
     is_verbose: bool,
     runner: Q,
+    running: Option<Running>,
 }
 
-impl<'a, H: Clock + Eprint, Q: Runner + Drop> Narrator<'a, H, Q> {
+impl<'a, H: Clock + Eprint, Q: Runner + Explains + Drop> Narrator<'a, H, Q> {
     /// One that builds by this runner.
     pub(crate) fn new(host: &'a H, is_verbose: bool, runner: Q) -> Narrator<'a, H, Q> {
         Narrator {
             host,
             is_verbose,
             runner,
+            running: None,
         }
     }
 
-    /// Builds a job, and says so: the user, the number of his goal, the name of its derivation, how it ended,
-    /// and after how many seconds.
+    /// Says that the builder of a job starts.
+    fn say_start(&self) {
+        if let Some(Running { name, .. }) = &self.running {
+            let _ = eprintln!(self.host; "intstore: {name} starts");
+        }
+    }
+
+    /// Says how it ended, and after how many seconds.
+    fn say_end<D: Display + Drop>(&self, ended: D) {
+        if let Some(Running { name, begun }) = &self.running {
+            let seconds = seconds_since(self.host, *begun);
+            let _ = eprintln!(self.host; "intstore: {name} ends, {ended}, {seconds} s");
+        }
+    }
+
+    /// Builds a job, and says so. How it ended is said when its job has; but where memory was refused to the
+    /// runner, nothing ends the job.
     fn run_aloud(&mut self, alloc: Global, job: &RunningJob) -> Result<Vec<u8>, RunFault>
         ensures gives { Q.gives self.old.runner job.now (bytes_of result) self.new.runner }
         ensures device { bytes_of result ≡ Err Device → HasFailed (Q.failed self.old.runner) (Q.failed self.new.runner) }
     {
-        let user = text_of(job.job().leader().bytes());
-        let number = job.job().number();
-        let name = text_of(job.resolved().scratch().name());
-        let begun = Instant::now(self.host).ok();
-        let _ = eprintln!(self.host; "intstore: {user} {number} {name} starts");
+        self.running = Running::new(alloc, self.host, job);
+        self.say_start();
         let given = self.runner.run(alloc, job);
-        let end = end_of(&given);
-        let seconds = seconds_since(self.host, begun);
-        let _ = eprintln!(self.host; "intstore: {user} {number} {name} ends, {end}, {seconds} s");
+        if let Err(RunFault::Memory) = &given {
+            self.say_end(Fault::Memory);
+        }
         given
     }
 }
 
 /// It builds as its runner does.
-impl<H: Clock + Eprint, Q: Runner + Drop> Runner for Narrator<'_, H, Q> {
+impl<H: Clock + Eprint, Q: Runner + Explains + Drop> Runner for Narrator<'_, H, Q> {
     ghost gives = { λ old job given new. Q.gives old.runner job given new.runner };
 
     ghost failed = { λ narrator. Q.failed narrator.runner };
@@ -112,6 +136,12 @@ impl<H: Clock + Eprint, Q: Runner + Drop> Runner for Narrator<'_, H, Q> {
         } else {
             self.runner.run(alloc, job)
         }
+    }
+
+    fn tell(&self, reply: &Reply) {
+        self.runner.tell(reply);
+        let fault = self.runner.fault();
+        self.say_end(Ended { fault, reply });
     }
 
     fn failures(&self) -> u64 {

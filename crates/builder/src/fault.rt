@@ -4,7 +4,10 @@ ghost use Rattle.std.specs.Prelude.{◌≡◌};
 ghost use Rattle.workers.specs.Outputs.{bytes_of};
 ghost use Rattle.builder.specs.Meaning.{fault_in, output_of, run_fault_of, told};
 
+use std::fmt;
+use std::fmt::{Display, Formatter};
 use std::num::NonZeroU8;
+use std::os::unix::process::ExitStatusExt;
 use std::process::ExitStatus;
 use workers::RunFault;
 
@@ -42,6 +45,30 @@ impl Fault {
             | Fault::EndNotLearnt => RunFault::Device,
         }
     }
+}
+
+/// In a few words, with the number of the status or of the signal.
+impl Display for Fault {
+    fn fmt<W: fmt::Write>(&self, f: &mut Formatter<W>) -> fmt::Result {
+        match self {
+            Fault::Status(status) => write!(f, "status {status}"),
+            Fault::Killed(ended) => match ended.signal() {
+                Some(signal) => write!(f, "killed by signal {signal}"),
+                None => write!(f, "{ended}"),
+            },
+            Fault::NotStarted => f.write_str("not started"),
+            Fault::InputsNotWritten => f.write_str("inputs not written"),
+            Fault::OutputNotRead => f.write_str("output not read"),
+            Fault::EndNotLearnt => f.write_str("end not learnt"),
+            Fault::Memory => f.write_str("out of memory"),
+        }
+    }
+}
+
+/// What says why a job that it built gave no output.
+pub trait Explains {
+    /// Why the job that was built last gave no output, if it gave none.
+    fn fault(&self) -> Option<Fault>;
 }
 
 /// Why a build gave no output, if it gave none.

@@ -15,7 +15,7 @@ mod processes;
 mod system;
 
 pub use command::Streams;
-pub use fault::Fault;
+pub use fault::{Explains, Fault};
 pub use outside::Outside;
 pub use processes::ProcessRunner;
 pub use system::System;

@@ -9,7 +9,7 @@ ghost use Rattle.builder.specs.Building.{Builds, IsUnusable, Prepares};
 ghost use Rattle.builder.specs.declared.fault.Fault.TheVariants.{Memory, NotStarted};
 
 use crate::command::{builder_streams, command_for, inputs_path};
-use crate::fault::{Fault, fault_in, told};
+use crate::fault::{Explains, Fault, fault_in, told};
 use crate::inputs::{made_anew, write_inputs};
 use crate::meaning::{is_gone, meaning};
 use crate::output::read_output;
@@ -161,13 +161,6 @@ impl<O: Outside> ProcessRunner<O> {
             fault: None,
         }
     }
-
-    /// Why the last job that was built gave no output, if it gave none.
-    pub fn fault(&self) -> Option<Fault>
-        ensures { result ≡ self.now.fault }
-    {
-        self.fault
-    }
 }
 
 /// Builds a job.
@@ -201,6 +194,14 @@ fn counted(failures: u64, given: &Result<Vec<u8>, RunFault>) -> u64
     match given {
         Err(RunFault::Device) => failures.saturating_add(1),
         _ => failures,
+    }
+}
+
+impl<O> Explains for ProcessRunner<O> {
+    fn fault(&self) -> Option<Fault>
+        ensures { result ≡ self.now.fault }
+    {
+        self.fault
     }
 }
 

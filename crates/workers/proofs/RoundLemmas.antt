@@ -88,13 +88,6 @@ and_assoc : (a b c : Bool) → ((a && b) && c) ≡ (a && (b && c))
 and_assoc true b c = refl
 and_assoc false b c = refl
 
-and_swap : (a b c : Bool) → ((a && b) && c) ≡ ((a && c) && b)
-and_swap true true true = refl
-and_swap true true false = refl
-and_swap true false true = refl
-and_swap true false false = refl
-and_swap false b c = refl
-
 or_assoc : (a b c : Bool) → ((a || b) || c) ≡ (a || (b || c))
 or_assoc true b c = refl
 or_assoc false b c = refl
@@ -115,12 +108,25 @@ met_push : (is : Option Refusal → Bool) (ss : List Shift) (s : Shift) → one_
 met_push is [] s = or_false (is s.met)
 met_push is (x ∷ ss) s = ap (λ b. is x.met || b) (met_push is ss s) ∙ sym (or_assoc (is x.met) (one_met is ss) (is s.met))
 
+-- the first of two that are true
+first_true : (a b : Bool) → (a && b) ≡ true → a ≡ true
+first_true true b h = refl
+first_true false b h = h
+
+whole_push : (stopped ready started stop : Bool) → ((stopped && ready) && (started && stop)) ≡ ((stopped && stop) && (ready && started))
+whole_push false ready started stop = refl
+whole_push true false started true = refl
+whole_push true false started false = refl
+whole_push true true true stop = sym (and_true stop)
+whole_push true true false true = refl
+whole_push true true false false = refl
+
 -- what one worker more has met
-tally_push : (all_put took_stop : Bool) (ss : List Shift) (s : Shift) (old new : Tally) → old ≡ tally_of all_put ss → took_stop ≡ has_stop s.took
-    → new.whole ≡ (old.whole && took_stop) → new.memory ≡ (old.memory || is_memory s.met) → new.stopped ≡ (old.stopped || is_stopped s.met) → new ≡ tally_of all_put (ss ++ s ∷ [])
-tally_push all_put took_stop ss s old new was took whole memory stopped =
-    let w : new.whole ≡ (all_stopped (ss ++ s ∷ []) && all_put) =
-    whole ∙ (λ i. (was i).whole && took i) ∙ and_swap (all_stopped ss) all_put (has_stop s.took) ∙ ap (λ b. b && all_put) (sym (stopped_push ss s)) in
+tally_push : (ready started took_stop : Bool) (ss : List Shift) (s : Shift) (old new : Tally) → old ≡ tally_of ready ss → took_stop ≡ has_stop s.took
+    → new.whole ≡ (old.whole && (started && took_stop)) → new.memory ≡ (old.memory || is_memory s.met) → new.stopped ≡ (old.stopped || is_stopped s.met) → new ≡ tally_of (ready && started) (ss ++ s ∷ [])
+tally_push ready started took_stop ss s old new was took whole memory stopped =
+    let w : new.whole ≡ (all_stopped (ss ++ s ∷ []) && (ready && started)) =
+    whole ∙ (λ i. (was i).whole && (started && took i)) ∙ whole_push (all_stopped ss) ready started (has_stop s.took) ∙ ap (λ b. b && (ready && started)) (sym (stopped_push ss s)) in
     let m : new.memory ≡ one_met is_memory (ss ++ s ∷ []) = memory ∙ ap (λ (t : Tally). t.memory || is_memory s.met) was ∙ sym (met_push is_memory ss s) in
     let p : new.stopped ≡ one_met is_stopped (ss ++ s ∷ []) = stopped ∙ ap (λ (t : Tally). t.stopped || is_stopped s.met) was ∙ sym (met_push is_stopped ss s) in
     λ i. record { whole = w i; memory = m i; stopped = p i }
@@ -148,7 +154,7 @@ module _ {S Q : Type 0} (called : S → Event → Reply → S → Type 0) (asked
   serves_none tickets count left old k k' all_put tally none new put counts = record {
     after = [];
     shifts = [];
-    all_put = all_put;
+    ready = all_put;
     between = k';
     done = sym (append-nil old);
     works = subst (λ (ws : List (Worker S Q)). AllWork called asked gives ws [] []) (sym none) tt;
@@ -157,17 +163,17 @@ module _ {S Q : Type 0} (called : S → Event → Reply → S → Type 0) (asked
     counts = counts;
   }
 
-  pub serves_more : (tickets : List Ticket) (count : ℕ) (left rest old mid new : List (Worker S Q)) (w v : Worker S Q) (k k1 k2 k3 : Hand) (hand hand' : Pass Ticket Hand) (met : Option Refusal) (took_stop : Bool) (inner_tally tally : Tally)
+  pub serves_more : (tickets : List Ticket) (count : ℕ) (left rest old mid new : List (Worker S Q)) (w v : Worker S Q) (k k1 k2 k3 : Hand) (hand hand' : Pass Ticket Hand) (met : Option Refusal) (started took_stop : Bool) (inner_tally tally : Tally)
       → left ≡ rest ++ w ∷ [] → k ≡ keeper [] k.out [] → k1 ≡ keeper k.put (k.out + 1) k.back → Serves called asked gives tickets count rest old mid k1 k2 inner_tally
       → view hand ≡ taker k.out [] → Returned called asked gives w hand v hand' met took_stop → k3 ≡ keeper k2.put (view hand').number ((view hand').taken ∷ k2.back) → new ≡ mid ++ v ∷ []
-      → tally.whole ≡ (inner_tally.whole && took_stop) → tally.memory ≡ (inner_tally.memory || is_memory met) → tally.stopped ≡ (inner_tally.stopped || is_stopped met)
+      → tally.whole ≡ (inner_tally.whole && (started && took_stop)) → tally.memory ≡ (inner_tally.memory || is_memory met) → tally.stopped ≡ (inner_tally.stopped || is_stopped met)
       → Serves called asked gives tickets count left old new k k3 tally
-  serves_more tickets count left rest old mid new w v k k1 k2 k3 hand hand' met took_stop inner_tally tally popped fresh out inner is_hand returned back pushed whole memory stopped =
+  serves_more tickets count left rest old mid new w v k k1 k2 k3 hand hand' met started took_stop inner_tally tally popped fresh out inner is_hand returned back pushed whole memory stopped =
       let shift : Shift = record { took = (view hand').taken; calls = returned.calls; met = met } in
       let number : (view hand').number ≡ k.out = ap (λ (h : Hand). h.number) returned.took ∙ ap (λ (h : Hand). h.number) is_hand in record {
         after = inner.after ++ v ∷ [];
         shifts = inner.shifts ++ shift ∷ [];
-        all_put = inner.all_put;
+        ready = inner.ready && started;
         between = keeper inner.between.put k.out k.back;
         done = pushed ∙ ap (λ (l : List (Worker S Q)). l ++ v ∷ []) inner.done ∙ append_assoc old inner.after (v ∷ []);
         works = subst (λ (ws : List (Worker S Q)). AllWork called asked gives ws (inner.shifts ++ shift ∷ []) (inner.after ++ v ∷ [])) (sym popped)
@@ -178,11 +184,11 @@ module _ {S Q : Type 0} (called : S → Event → Reply → S → Type 0) (asked
           begins = inner.put.begins;
           are = inner.put.are;
           put = ap (λ (h : Hand). keeper h.put k.out k.back) inner.put.put;
-          whole = inner.put.whole;
-          each = inner.put.each;
+          whole = λ both. inner.put.whole (first_true inner.ready started both);
+          each = λ both. inner.put.each (first_true inner.ready started both);
         };
         keeps = back
             ∙ ap (λ (h : Hand). keeper h.put (view hand').number (shift.took ∷ h.back)) inner.keeps
             ∙ (λ i. keeper inner.between.put (number i) (sym (ap backwards (tickets_of_push inner.shifts shift) ∙ backwards_push (tickets_of inner.shifts) shift.took) i));
-        counts = tally_push inner.all_put took_stop inner.shifts shift inner_tally tally inner.counts returned.stop whole memory stopped;
+        counts = tally_push inner.ready started took_stop inner.shifts shift inner_tally tally inner.counts returned.stop whole memory stopped;
       }

@@ -169,7 +169,7 @@ module _ {S Q : Type 0} (called : S → Event → Reply → S → Type 0) (asked
     of_hands = tt;
     begins = (tickets, refl);
     all = λ _ some. let n = ap length none in absurd (omega (arith, n, some));
-    all_put = true;
+    ready = true;
     is = refl;
     none_met = λ _. tt;
   }
@@ -194,11 +194,11 @@ module _ {S Q : Type 0} (called : S → Event → Reply → S → Type 0) (asked
         of_hands = let all_back = ap length is_back in let hands : k'.out + length k'.back ≡ length back = omega (arith, is_out, all_back) in subst (λ (n : ℕ). AreOf n told.log) hands told.of_hands;
         begins = (goals_in items ++ s.put.begins.0, sym (append_assoc (goals_in (tickets_in told.log)) (goals_in items) s.put.begins.0) ∙ ap (λ l. l ++ s.put.begins.0) apart ∙ s.put.begins.1);
         all = λ other some.
-            let sure = both_true (all_stopped s.shifts) s.all_put (sym (ap (λ (t : Tally). t.whole) s.counts) ∙ whole_if tally.whole tally.memory tally.stopped other) in
+            let sure = both_true (all_stopped s.shifts) s.ready (sym (ap (λ (t : Tally). t.whole) s.counts) ∙ whole_if tally.whole tally.memory tally.stopped other) in
             let none : goals_in items ≡ [] = stops_left (tickets_in told.log) items s.put.some s.put.stops is_put some_goals s.put.are
             (back_has back told.log (some_back before s.shifts after works some) (have_back (tickets_of s.shifts) (all_have s.shifts sure.0)) came) in
             sym (append-nil (goals_in (tickets_in told.log))) ∙ ap (λ l. goals_in (tickets_in told.log) ++ l) (sym none) ∙ apart ∙ s.put.whole sure.1;
-        all_put = s.all_put;
+        ready = s.ready;
         is = ap answer_by s.counts;
         none_met = λ ok.
             let q = quiet tally.whole tally.memory tally.stopped ok in

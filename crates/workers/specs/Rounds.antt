@@ -92,14 +92,14 @@ NoneMet [] = Unit {0}
 NoneMet (s ∷ ss) = (s.met ≡ None) × NoneMet ss
 
 abbrev pub tally_of : Bool → List Shift → Tally
-tally_of all_put shifts = record { whole = all_stopped shifts && all_put; memory = one_met is_memory shifts; stopped = one_met is_stopped shifts }
+tally_of ready shifts = record { whole = all_stopped shifts && ready; memory = one_met is_memory shifts; stopped = one_met is_stopped shifts }
 
 abbrev pub answer_by : Tally → Result (Unit {0}) Refusal
 answer_by tally = if not tally.whole || tally.memory then Err Memory else if tally.stopped then Err Stopped else Ok tt
 
--- 90 where not all was put, a worker took no Stop, or one met 90; else 92 where one met it; else Ok
+-- 90 where not all threads were started and all was put, a worker took no Stop, or one met 90; else 92 where one met it; else Ok
 abbrev pub answer_of : Bool → List Shift → Result (Unit {0}) Refusal
-answer_of all_put shifts = answer_by (tally_of all_put shifts)
+answer_of ready shifts = answer_by (tally_of ready shifts)
 
 -- ---- a round
 
@@ -128,13 +128,13 @@ module _ {S Q : Type 0} (called : S → Event → Reply → S → Type 0) (asked
   pub record Serves (tickets : List Ticket) (count : ℕ) (left old new : List (Worker S Q)) (keeper_old keeper_new : Hand) (tally : Tally) : Type 0 where
     pub after : List (Worker S Q)
     pub shifts : List Shift
-    pub all_put : Bool
+    pub ready : Bool
     pub between : Hand
     pub done : new ≡ old ++ after
     pub works : AllWork left shifts after
-    pub put : IsPut tickets count all_put keeper_old between
+    pub put : IsPut tickets count ready keeper_old between
     pub keeps : keeper_new ≡ keeper between.put keeper_old.out (backwards (tickets_of shifts))
-    pub counts : tally ≡ tally_of all_put shifts
+    pub counts : tally ≡ tally_of ready shifts
 
   -- Each worker had a shift. What they took, each what is its own in one log of all, is a beginning of the tickets, Stops
   -- aside; all of them, if there is a worker and the answer is not 90. Hands are numbered from the last worker on.
@@ -146,6 +146,6 @@ module _ {S Q : Type 0} (called : S → Event → Reply → S → Type 0) (asked
     pub of_hands : AreOf (length (backwards (tickets_of shifts))) log
     pub begins : IsPrefix (goals_in (tickets_in log)) tickets
     pub all : answer ≢ Err Memory → 0 < length before → goals_in (tickets_in log) ≡ tickets
-    pub all_put : Bool
-    pub is : answer ≡ answer_of all_put shifts
+    pub ready : Bool
+    pub is : answer ≡ answer_of ready shifts
     pub none_met : answer ≡ Ok tt → NoneMet shifts

@@ -6,7 +6,7 @@
 
 ghost use Rattle.std.specs.Prelude.{◌≡◌, ◌+◌, ◌++◌, ◌∷◌, [], true, List, IfOk, MatchResult, MatchOption};
 ghost use Rattle.crossbeam_channel.specs.Claims.{view, IsSeatAt};
-ghost use Rattle.crossbeam_channel.specs.Ends.{sends_on, receives_on};
+ghost use Rattle.crossbeam_channel.specs.Ends.{sends_on, receives_on, ruled_capacity};
 ghost use Rattle.workers.specs.Queue.{keeper as keeping, taker as taking, Puts, Takes, Told};
 ghost use Rattle.workers.specs.declared.ticket.Ticket.{Ticket};
 
@@ -124,6 +124,7 @@ pub(crate) type Taker = Pass<Ticket, Hand>;
 /// A queue of 64 places in which no ticket was put, and its keeper. The one error is memory.
 pub(crate) fn ticket_queue(alloc: Global) -> Result<(Sender, Receiver, Keeper), AllocError>
     ensures ends { IfOk result (λ r. receives_on r.1 ≡ sends_on r.0) }
+    ensures places { IfOk result (λ r. ruled_capacity (sends_on r.0) ≡ 64) }
     ensures keeper { IfOk result (λ r. IsSeatAt (sends_on r.0) r.2 × (view r.2 ≡ keeping [] 0 [])) }
 {
     bounded_with::<Ticket, Hand, InOrder, Global>(alloc, PLACES)

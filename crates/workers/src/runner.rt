@@ -6,6 +6,7 @@ ghost use Rattle.workers.specs.declared.runner.RunFault.{RunFault};
 ghost use Rattle.workers.specs.declared.runner.RunFault.TheVariants.{Device};
 ghost use Rattle.workers.specs.Outputs.{bytes_of, HasFailed};
 
+use events::Reply;
 use leading::RunningJob;
 use std::alloc::Global;
 use std::num::NonZeroU8;
@@ -39,6 +40,9 @@ pub trait Runner {
     fn run(&mut self, alloc: Global, job: &RunningJob) -> Result<Vec<u8>, RunFault>
         ensures gives { gives self.old job.now (bytes_of result) self.new }
         ensures device { bytes_of result ≡ Err Device → HasFailed (failed self.old) (failed self.new) };
+
+    /// Is told what the end of the job that it ran last was answered, which is how far the goal is that leads it.
+    fn tell(&self, _reply: &Reply) {}
 
     /// How often what it runs on failed. At its greatest number the count stays there.
     fn failures(&self) -> u64

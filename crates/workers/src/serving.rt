@@ -85,13 +85,9 @@ pub(crate) fn serve<
         taker,
     );
     let tally = serve(rt, alloc, scope, shared, keeper, left, orders, done);
-    let Back {
-        worker,
-        taker,
-        met,
-        took_stop,
-    } = finish(rt, started);
+    let (back, tally) = finish(rt, started, tally);
+    let Back { worker, taker, .. } = back;
     take_back(shared.sender, keeper, taker);
     done.push_reserved(worker);
-    tally.with(took_stop, met)
+    tally
 }

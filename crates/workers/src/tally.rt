@@ -8,7 +8,7 @@ use model::Refusal;
 /// What the workers of a round have met so far.
 #[derive(Clone, Copy)]
 pub(crate) struct Tally {
-    /// Whether each ticket and each Stop was put, and each worker took its Stop.
+    /// Whether each thread was started, each ticket and each Stop was put, and each worker took its Stop.
     pub(crate) whole: bool,
     /// Whether one met 90.
     pub(crate) memory: bool,
@@ -48,14 +48,14 @@ impl Tally {
         }
     }
 
-    /// With what one worker more has met.
-    pub(crate) fn with(self, took_stop: bool, met: Option<Refusal>) -> Tally
-        ensures whole { result.whole ≡ (self.whole && took_stop) }
+    /// With what one worker more has met, whose thread was started or not.
+    pub(crate) fn with(self, started: bool, took_stop: bool, met: Option<Refusal>) -> Tally
+        ensures whole { result.whole ≡ (self.whole && (started && took_stop)) }
         ensures memory { result.memory ≡ (self.memory || is_memory met) }
         ensures stopped { result.stopped ≡ (self.stopped || is_stopped met) }
     {
         Tally {
-            whole: self.whole & took_stop,
+            whole: self.whole & (started & took_stop),
             memory: self.memory | is_memory(met),
             stopped: self.stopped | is_stopped(met),
         }

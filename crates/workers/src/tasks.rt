@@ -12,10 +12,11 @@ use model::Refusal;
 use std::alloc::Global;
 use trust::User;
 
-/// Ends a job of which a runner gave this. Gives 90 or 92, where that was met.
-fn end<S: Store>(
+/// Ends a job of which a runner gave this, and tells the runner how. Gives 90 or 92, where that was met.
+fn end<S: Store, Q: Runner>(
     alloc: Global,
     store: &mut S,
+    runner: &Q,
     user: &User,
     number: u16,
     given: Result<Vec<u8>, RunFault>,
@@ -30,6 +31,7 @@ fn end<S: Store>(
         return Some(Refusal::Memory);
     };
     let reply = store.call(alloc, Event { actor, request });
+    runner.tell(&reply);
     met_by(&reply)
 }
 
@@ -49,7 +51,7 @@ fn build<S: Store, Q: Runner>(
         Err(why) => return met_in(why),
     };
     let given = runner.run(alloc, &job);
-    end(alloc, store, user, number, given)
+    end(alloc, store, runner, user, number, given)
 }
 
 /// Starts a planned goal, and has its job built where it leads one. Gives 90 or 92, where that was met.

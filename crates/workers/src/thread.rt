@@ -1,14 +1,15 @@
 //! What one thread of a round does.
 
-ghost use Rattle.std.specs.Prelude.{◌≡◌, [], true, IfOk, IfErr, MatchResult};
+ghost use Rattle.std.specs.Prelude.{◌≡◌, ◌&&◌, ◌||◌, [], true, is_ok, IfOk, IfErr, MatchResult};
 ghost use Rattle.crossbeam_channel.specs.Claims.{view, IsSeatAt};
 ghost use Rattle.crossbeam_channel.specs.Ends.{receives_on};
 ghost use Rattle.workers.specs.Queue.{taker as taking};
-ghost use Rattle.workers.specs.Rounds.{Returned};
+ghost use Rattle.workers.specs.Rounds.{Returned, is_memory, is_stopped};
 
 use crate::queue::{Receiver, Taker};
 use crate::runner::Runner;
 use crate::store::Store;
+use crate::tally::Tally;
 use crate::worker::{Worked, Worker, work};
 use model::Refusal;
 use std::alloc::Global;
@@ -128,18 +129,30 @@ pub(crate) fn start<
     }
 }
 
-/// What a thread gave back, or what it would have given.
+/// What a thread gave back, or what it would have given, and what has been met with that. Where no thread could
+/// be started, the round is not whole.
 pub(crate) fn finish<S: Store, Q: Runner, R: Threads>(
     rt: &R,
     started: Result<PromisedHandle<Back<S, Q>, Handed<S, Q>>, Back<S, Q>>,
-) -> Back<S, Q>
-    ensures { MatchResult started
+    tally: Tally,
+) -> (Back<S, Q>, Tally)
+    ensures back { MatchResult started
         (λ h. Returned S.called S.asked Q.gives h.promise.worker.value h.promise.taker.value
-        result.worker result.taker result.met result.took_stop)
-        (λ b. result ≡ b) }
+        result.0.worker result.0.taker result.0.met result.0.took_stop)
+        (λ b. result.0 ≡ b) }
+    ensures whole { result.1.whole ≡ (tally.whole && (is_ok started && result.0.took_stop)) }
+    ensures memory { result.1.memory ≡ (tally.memory || is_memory result.0.met) }
+    ensures stopped { result.1.stopped ≡ (tally.stopped || is_stopped result.0.met) }
 {
     match started {
-        Ok(handle) => handle.join(rt),
-        Err(back) => back,
+        Ok(handle) => {
+            let back = handle.join(rt);
+            let tally = tally.with(true, back.took_stop, back.met);
+            (back, tally)
+        }
+        Err(back) => {
+            let tally = tally.with(false, back.took_stop, back.met);
+            (back, tally)
+        }
     }
 }

@@ -2,6 +2,7 @@
 whatever the reason, and an interrupted call is made again. The same is built well when it is asked for again."""
 import errno
 import pathlib
+import re
 import shutil
 import subprocess
 
@@ -16,6 +17,10 @@ ERRORS = errno.EINTR, errno.EAGAIN, errno.ENOMEM, errno.ENOSPC, errno.EMFILE
 GOALS = {
     "open": (1, 2, 3), "write": (1, 2, 3), "pipe": (1, 2, 3), "posix_spawn": (1, 2, 3), "read": (1, 2, 3),
     "waitpid": (1, 2, 3), "open_null": (1, 1, 2), "unlink": (None, 1, None)}
+# What is said of a goal of which the call fails.
+SAID = {
+    "open": "inputs not written", "write": "inputs not written", "unlink": "inputs not written", "pipe": "not started",
+    "posix_spawn": "not started", "open_null": "not started", "read": "output not read", "waitpid": "end not learnt"}
 BUILDER = 'test "$(stat -c %a "$INPUTS")" = 600 && exec builders/nb text "$1"'
 
 
@@ -56,8 +61,13 @@ def check_failing(cases, preloaded, call, at, error):
     failing = None if error == errno.EINTR else GOALS[call][at - 1]
     lines, replies = goals(failing)
     with cases.folder(lines=lines) as folder:
+        numbers = [(n + first, f"n{n}") for first in (0, 3) for n in (1, 2, 3)]
+        said = "".join(f"intstore: alice {number} {name} starts\nintstore: alice {number} {name} ends, "
+                       f"{SAID[call] + ', failed 61' if number == failing else 'done [^ ]*'}, [0-9]+ s\n"
+                       for number, name in numbers if number <= 3 or number - 3 == failing)
         words = [f"LD_PRELOAD={preloaded}", f"FAILING_CALL={call}", f"FAILING_AT={at}", f"FAILING_WITH={error}"]
-        usual = ["--workers", 1, "--builders", "builders", "--work", "work", "lines"]
+        usual = ["--workers", 1, "--builders", "builders", "--work", "work", "--verbose", "lines"]
         came = run(folder, ["env", *words, cases.program, "run", *usual])
         kept = ["work/inputs-alice-1"] if call == "unlink" and failing else []
-        cases.check(f"{call}_{at}_{errno.errorcode[error]}", folder, came, output=replies, kept=kept)
+        cases.check(f"{call}_{at}_{errno.errorcode[error]}", folder, came, output=replies, errors=re.compile(said),
+                    kept=kept)
