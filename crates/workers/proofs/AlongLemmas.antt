@@ -58,8 +58,8 @@ module _ {S Q : Type 0} (called : S → Event → Reply → S → Type 0) (asked
     goes_along false more why known f calls s q met s' q' h = leaves_along why known calls s q met s' q' h
 
     ends_along : (e : Option Request) (calls : List Call) (s : S) (met : Option Refusal) (s' : S) → Ends called user e calls s met s' → R calls s met s'
-    ends_along None calls s met s' h = subst (λ (x : List Call × S × Option Refusal). R x.0 s x.2 x.1) (λ i. (sym h.0 i, sym h.1 i, sym h.2 i)) (stay (Some why.Memory) s refl)
-    ends_along (Some request) [] s met s' h = subst (λ (x : S × Option Refusal). R [] s x.1 x.0) (λ i. (sym h.0 i, sym h.1 i)) (stay (Some why.Memory) s refl)
+    ends_along e [] s met s' h = subst (λ (x : S × Option Refusal). R [] s x.1 x.0) (λ i. (sym h.1 i, sym h.2 i)) (stay (Some why.Memory) s refl)
+    ends_along None (c ∷ calls) s met s' h = absurd h
     ends_along (Some request) (c ∷ calls) s met s' h =
         one c.0 c.1 s s' s' calls met h.1 (subst (λ (x : List Call × Option Refusal). R x.0 s' x.1 s') (λ i. (sym h.2 i, sym h.3 i)) (stay (met_by c.1) s' (by_known c.1)))
 

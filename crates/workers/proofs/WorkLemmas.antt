@@ -1,9 +1,8 @@
 -- What is done for one ticket more.
 use Rattle.std.proofs.Common.{◌≡◌, ℕ, List, [], ◌∷◌, ◌++◌, true≢false, refl, sym, ap, ◌∙◌, subst, append_assoc}
-use Rattle.std.specs.Prelude.{Bool, true, false, Option, Some, None, Result}
+use Rattle.std.specs.Prelude.{Bool, true, false, Option, Some, Result}
 use Rattle.std.proofs.lemmas.List.{append-nil}
 use Rattle.model.specs.declared.refusal.Refusal.{Refusal}
-use Rattle.model.specs.declared.refusal.Refusal.TheVariants.{Memory}
 use Rattle.model.specs.Goals.{Running}
 use Rattle.events.specs.declared.event.Request.{Request}
 use Rattle.events.specs.declared.event.Request.TheVariants.{Plan, Start}
@@ -17,11 +16,6 @@ use Rattle.workers.specs.declared.worker.Worker.{Worker}
 use Rattle.workers.specs.Queue.{taker, Takes}
 use Rattle.workers.specs.Tickets.{has_stop, StopsLast}
 use Rattle.workers.specs.Working.{Call, asking, is_planned, leads_own, met_by, Ends, Asks, GoesOn, Starts, WorksOn, Deals, Works}
-
--- where memory was refused, no call ends a job
-pub ends_none : {S : Type 0} (called : S → Event → Reply → S → Type 0) (user : List ℕ) (request : Option Request) (s : S) → Ends called user request [] s (Some Memory) s
-ends_none called user None s = (refl, refl, refl)
-ends_none called user (Some request) s = (refl, refl)
 
 -- one call ends it
 pub ends_one : {S : Type 0} (called : S → Event → Reply → S → Type 0) (user : List ℕ) (e : Option Request) (actor : List ℕ) (request : Request) (reply : Reply) (s s' : S) (met : Option Refusal)
@@ -40,12 +34,17 @@ module _ {S Q : Type 0} (called : S → Event → Reply → S → Type 0) (asked
   goes_no_more true more why s q met is m = absurd (true≢false is)
   goes_no_more false more why s q met is m = (refl, refl, refl, m)
 
-  -- a goal that leads a job after its Start
-  pub starts_more : (actor : List ℕ) (reply : Reply) (calls : List Call) (s t : S) (q : Q) (met : Option Refusal) (s' : S) (q' : Q)
-      → actor ≡ user → called s (asking actor (Start number)) reply t → leads_own user number reply ≡ true → Asks called asked gives user number calls t q met s' q'
+  -- a goal that leads a job after its Start, which its user has built
+  pub starts_more : (actor leader : List ℕ) (reply : Reply) (calls : List Call) (s t : S) (q : Q) (met : Option Refusal) (s' : S) (q' : Q)
+      → actor ≡ user → called s (asking actor (Start number)) reply t → leads_own user number reply ≡ true → leader ≡ user → Asks called asked gives leader number calls t q met s' q'
       → Starts called asked gives user number ((asking actor (Start number), reply) ∷ calls) s q met s' q'
-  starts_more actor reply calls s t q met s' q' own call is more =
-      (ap (λ (u : List ℕ). asking u (Start number)) own, t, call, goes_more (leads_own user number reply) (Asks called asked gives user number) (met_by reply) calls t q met s' q' is more)
+  starts_more actor leader reply calls s t q met s' q' own call is leads more = (
+    ap (λ (u : List ℕ). asking u (Start number)) own,
+    t,
+    call,
+    goes_more (leads_own user number reply) (Asks called asked gives user number) (met_by reply) calls t q met s' q' is
+        (subst (λ (u : List ℕ). Asks called asked gives u number calls t q met s' q') leads more),
+  )
 
   pub starts_last : (actor : List ℕ) (reply : Reply) (s t : S) (q : Q) (met : Option Refusal)
       → actor ≡ user → called s (asking actor (Start number)) reply t → leads_own user number reply ≡ false → met ≡ met_by reply

@@ -56,10 +56,16 @@ ending number (Err fault.Memory) = None
 
 -- ---- what is done for a ticket: these calls are made, in their order, and 90 or 92 is met or nothing
 
+-- memory may be refused for what ends a job only where nothing does, or an output: a status and a device fault take none
+abbrev pub TakesMemory : Option Request → Type 0
+TakesMemory None = Unit {0}
+TakesMemory (Some (Finish number bytes)) = Unit {0}
+TakesMemory (Some request) = ⊥
+
 -- a user asks what ends the job, if anything does; or memory was refused, and no call is made
 abbrev pub Ends : {S : Type 0} → (S → Event → Reply → S → Type 0) → List ℕ → Option Request → List Call → S → Option Refusal → S → Type 0
-Ends called user None calls s met s' = (calls ≡ []) × (s' ≡ s) × (met ≡ Some Memory)
-Ends called user (Some request) [] s met s' = (s' ≡ s) × (met ≡ Some Memory)
+Ends called user request [] s met s' = TakesMemory request × (s' ≡ s) × (met ≡ Some Memory)
+Ends called user None (call ∷ calls) s met s' = ⊥
 Ends called user (Some request) (call ∷ calls) s met s' =
     (call.0 ≡ asking user request) × called s call.0 call.1 s' × (calls ≡ []) × (met ≡ met_by call.1)
 

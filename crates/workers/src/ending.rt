@@ -1,9 +1,9 @@
 //! What replies mean to a worker, and how a job ends.
 
-ghost use Rattle.std.specs.Prelude.{◌≡◌, Some, IfOk, IfErr};
+ghost use Rattle.std.specs.Prelude.{◌≡◌, Some, IfOk, IfErr, OnErr};
 ghost use Rattle.model.specs.declared.refusal.Refusal.TheVariants.{Memory};
 ghost use Rattle.workers.specs.Outputs.{bytes_of};
-ghost use Rattle.workers.specs.Working.{ending, met_in, met_by, is_planned, leads_own};
+ghost use Rattle.workers.specs.Working.{TakesMemory, ending, met_in, met_by, is_planned, leads_own};
 
 use crate::runner::RunFault;
 use events::{Output, Reply, Request};
@@ -15,10 +15,11 @@ use trust::User;
 ///
 /// # Errors
 ///
-/// - `Memory` only where memory was refused, to the runner or here.
+/// - `Memory` only where memory was refused, to the runner or, for an output, here.
 pub(crate) fn ending(number: u16, given: Result<Vec<u8>, RunFault>) -> Result<Request, Refusal>
     ensures request { IfOk result (λ request. ending number (bytes_of given) ≡ Some request) }
     ensures memory { IfErr result (λ why. why ≡ Memory) }
+    ensures takes { OnErr result (TakesMemory (ending number (bytes_of given))) }
 {
     match given {
         Ok(bytes) => Ok(Request::Finish(number, Output::new(bytes)?)),

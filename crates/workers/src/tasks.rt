@@ -12,24 +12,23 @@ use model::Refusal;
 use std::alloc::Global;
 use trust::User;
 
-/// Ends a job of which a runner gave this, and tells the runner how. Gives 90 or 92, where that was met.
+/// Ends the job that a user leads, of which a runner gave this, and tells the runner how. Gives 90 or 92, where
+/// that was met.
 fn end<S: Store, Q: Runner>(
     alloc: Global,
     store: &mut S,
     runner: &Q,
-    user: &User,
+    leader: User,
     number: u16,
     given: Result<Vec<u8>, RunFault>,
 ) -> Option<Refusal>
     ensures { (calls : List Call)
-        × Ends S.called user.now (ending_of number (bytes_of given)) calls store.old result store.new }
+        × Ends S.called leader (ending_of number (bytes_of given)) calls store.old result store.new }
 {
     let Ok(request) = ending(number, given) else {
         return Some(Refusal::Memory);
     };
-    let Ok(actor) = user.clone() else {
-        return Some(Refusal::Memory);
-    };
+    let actor = leader;
     let reply = store.call(alloc, Event { actor, request });
     runner.tell(&reply);
     met_by(&reply)
@@ -40,21 +39,22 @@ fn build<S: Store, Q: Runner>(
     alloc: Global,
     store: &mut S,
     runner: &mut Q,
-    user: &User,
+    leader: User,
     number: u16,
 ) -> Option<Refusal>
-    ensures { (calls : List Call) × Asks S.called S.asked Q.gives user.now number calls store.old
+    ensures { (calls : List Call) × Asks S.called S.asked Q.gives leader number calls store.old
         runner.old result store.new runner.new }
 {
-    let job = match store.running_job(user, number) {
+    let job = match store.running_job(&leader, number) {
         Ok(job) => job,
         Err(why) => return met_in(why),
     };
     let given = runner.run(alloc, &job);
-    end(alloc, store, runner, user, number, given)
+    end(alloc, store, runner, leader, number, given)
 }
 
-/// Starts a planned goal, and has its job built where it leads one. Gives 90 or 92, where that was met.
+/// Starts a planned goal, and has its job built where it leads one. Gives 90 or 92, where that was met. What is
+/// needed to end the job is there before it starts.
 fn start<S: Store, Q: Runner>(
     alloc: Global,
     store: &mut S,
@@ -68,10 +68,13 @@ fn start<S: Store, Q: Runner>(
     let Ok(actor) = user.clone() else {
         return Some(Refusal::Memory);
     };
+    let Ok(leader) = user.clone() else {
+        return Some(Refusal::Memory);
+    };
     let request = Request::Start(number);
     let reply = store.call(alloc, Event { actor, request });
     if leads_own(user, number, &reply) {
-        build(alloc, store, runner, user, number)
+        build(alloc, store, runner, leader, number)
     } else {
         met_by(&reply)
     }

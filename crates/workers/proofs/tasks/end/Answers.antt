@@ -1,4 +1,4 @@
-use Rattle.std.proofs.Common.{rules, [], ◌∷◌}
+use Rattle.std.proofs.Common.{rules, refl, [], ◌∷◌}
 use Rattle.workers.specs.Outputs.{bytes_of}
 use Rattle.workers.specs.Working.{asking, ending as ending_of}
 use Rattle.workers.proofs.WorkLemmas.{ends_one}
@@ -6,7 +6,7 @@ use Rattle.workers.proofs.tasks.end.Goals as goal
 
 pub returns : goal.returns
 returns g c = (
-  (asking c.in-Ok-clone.actor c.in-Ok.request, c.call-reply.result) ∷ [],
-  ends_one g.S.Store.called c.args.user.now (ending_of c.args.number (bytes_of c.args.given)) c.in-Ok-clone.actor c.in-Ok.request c.call-reply.result c.args.store.now c.call-reply.new.self c.met_by.result
-      (search rules) (search rules) c.call-reply.ensures c.met_by.ensures,
+  (asking c.args.leader c.in-Ok.request, c.call-reply.result) ∷ [],
+  ends_one g.S.Store.called c.args.leader (ending_of c.args.number (bytes_of c.args.given)) c.args.leader c.in-Ok.request c.call-reply.result c.args.store.now c.call-reply.new.self c.met_by.result
+      (search rules) refl c.call-reply.ensures c.met_by.ensures,
 )
