@@ -12,7 +12,7 @@ pub(crate) const ANSWERED: u8 = 0;
 /// The exit status of a fault in the command line, of a user whom nothing names, and where help or the
 /// version is asked for.
 pub(crate) const COMMAND_LINE_FAULT: u8 = 2;
-/// The exit status where the file cannot be read, or standard output not written.
+/// The exit status where the file or random bytes cannot be read, or standard output not written.
 pub(crate) const CANNOT_READ_OR_WRITE: u8 = 3;
 /// The exit status where memory was refused.
 pub(crate) const OUT_OF_MEMORY: u8 = 4;
@@ -31,6 +31,15 @@ pub(crate) enum Fault<'a> {
     /// No answered line of users names the user.
     #[error("intstore: unknown user")]
     UnknownUser,
+    /// A word of the command line, or a file's name among them, is no UTF-8.
+    #[error("intstore: a word of the command line is no UTF-8")]
+    WordNotUtf8,
+    /// The machine gave no random bytes.
+    #[error("intstore: cannot read random bytes")]
+    NoRandomBytes,
+    /// A folder of a run is missing, or is no folder.
+    #[error("intstore: cannot use the folder {0}")]
+    NoFolder(&'a str),
     /// Memory was refused where no event could be answered for it.
     #[error("intstore: out of memory")]
     OutOfMemory,

@@ -1,9 +1,54 @@
 //! The files that the program reads, and what it prints to.
 
+use crate::fault::Fault;
+use command_line::Run;
 use session::Counted;
+use std::alloc::AllocError;
 use std::fs::File;
 use std::io::{BufWriter, ErrorKind, Printer};
+use std::os::fd::{AsRawFd, RawFd};
 use std::{fs, io};
+
+/// The descriptors of the standard streams are those below this one.
+const STANDARD_STREAMS: RawFd = 3;
+
+/// Opens `/dev/null` in the place of each standard stream that was closed when the program started, as long
+/// as what is given is held: so no other file gets the descriptor of one, and with it what is written there.
+/// What is read there is empty, and what is written there is refused, as where it is closed.
+pub(crate) fn hold_closed_streams(rt: &HostRuntime) -> Result<Vec<File>, AllocError> {
+    let mut held = Vec::new(rt.alloc());
+    for _ in 0..STANDARD_STREAMS {
+        let Ok(file) = fs::open(rt, "/dev/null") else {
+            return Ok(held);
+        };
+        if file.as_raw_fd() >= STANDARD_STREAMS {
+            return Ok(held);
+        }
+        held.push(file)?;
+    }
+    Ok(held)
+}
+
+/// Whether there is a folder of that name, as far as there is memory to tell.
+fn is_folder(rt: &HostRuntime, name: &str) -> bool {
+    match fs::metadata(rt, name) {
+        Ok(found) => found.is_dir(),
+        Err(error) => error.kind() == ErrorKind::OutOfMemory,
+    }
+}
+
+/// Says on standard error which folders of a run cannot be used, in a line for each. What cannot be said is
+/// let go.
+pub(crate) fn tell_missing_folders(rt: &HostRuntime, run: &Run) {
+    let builders = run.builders.as_str();
+    let work = run.work.as_str();
+    if !is_folder(rt, builders) {
+        let _ = rt.eprintln(Fault::NoFolder(builders));
+    }
+    if work != builders && !is_folder(rt, work) {
+        let _ = rt.eprintln(Fault::NoFolder(work));
+    }
+}
 
 /// A file that is to be read, or nothing where it cannot be opened.
 pub(crate) fn open(rt: &HostRuntime, name: &str) -> io::Result<Option<Counted<File>>> {

@@ -7,7 +7,7 @@ mod files;
 mod narrator;
 mod runs;
 
-use crate::fault::{COMMAND_LINE_FAULT, Fault, OUT_OF_MEMORY, report};
+use crate::fault::{CANNOT_READ_OR_WRITE, COMMAND_LINE_FAULT, Fault, OUT_OF_MEMORY, report};
 use command_line::{Action, Options, options};
 use model::Refusal;
 use std::hash::RandomState;
@@ -40,7 +40,14 @@ enum Asked {
 /// What the words of the command line ask for. A fault in them is said on standard error; what cannot be
 /// said is let go.
 fn read_words(rt: &HostRuntime) -> io::Result<Asked> {
-    let words: Vec<String> = std::env::args(rt)?.collect(rt.alloc())?;
+    let words: Vec<String> = match std::env::args(rt) {
+        Ok(words) => words.collect(rt.alloc())?,
+        Err(error) if error.kind() == ErrorKind::InvalidData => {
+            let _ = rt.eprintln(Fault::WordNotUtf8);
+            return Ok(Asked::Nothing(COMMAND_LINE_FAULT));
+        }
+        Err(error) => return Err(error),
+    };
     match options(rt.alloc(), words.as_slice()) {
         Ok(options) => Ok(Asked::For(options)),
         Err(error) if error.kind() == clap::error::ErrorKind::OutOfMemory => {
@@ -53,31 +60,45 @@ fn read_words(rt: &HostRuntime) -> io::Result<Asked> {
     }
 }
 
-/// The exit status of a run that ended so. Want of memory is said on standard error.
-fn exit_status(rt: &HostRuntime, ended: io::Result<u8>) -> io::Result<u8> {
+/// The exit status of a run that ended so. What it lacked is said on standard error: memory, or else the
+/// random bytes that it begins with, since each other failure was told where it was met.
+fn exit_status(rt: &HostRuntime, ended: io::Result<u8>) -> u8 {
     match ended {
+        Ok(status) => status,
         Err(error) if error.kind() == ErrorKind::OutOfMemory => {
             let _ = rt.eprintln(Fault::OutOfMemory);
-            Ok(OUT_OF_MEMORY)
+            OUT_OF_MEMORY
         }
-        ended => ended,
+        Err(_) => {
+            let _ = rt.eprintln(Fault::NoRandomBytes);
+            CANNOT_READ_OR_WRITE
+        }
     }
 }
 
 // The runners of `run` are made here, where it is known what the runtime is: a function over any runtime
 // could not hand them to threads.
-fn main(rt: HostRuntime) -> io::Result<ExitCode> {
+fn main(rt: HostRuntime) -> ExitCode {
+    let held = match files::hold_closed_streams(&rt) {
+        Ok(held) => held,
+        Err(error) => return ExitCode::from(exit_status(&rt, Err(io::Error::from(error)))),
+    };
     let ended = match read_words(&rt) {
         Ok(Asked::For(options)) => match &options.action {
             Action::Replay { file, .. } => run_file(&rt, &rt, &options, file.as_str()),
             Action::Strike { file, .. } => run_file(&rt, &rt, &options, file.as_str()),
-            Action::Run(run) => match runs::runners_for(&rt, &rt, run) {
-                Ok(runners) => runs::run_files(&rt, &rt, &options, run, runners),
-                Err(error) => Err(io::Error::from(error)),
-            },
+            Action::Run(run) => {
+                files::tell_missing_folders(&rt, run);
+                match runs::runners_for(&rt, &rt, run) {
+                    Ok(runners) => runs::run_files(&rt, &rt, &options, run, runners),
+                    Err(error) => Err(io::Error::from(error)),
+                }
+            }
         },
         Ok(Asked::Nothing(status)) => Ok(status),
         Err(error) => Err(error),
     };
-    Ok(ExitCode::from(exit_status(&rt, ended)?))
+    let status = exit_status(&rt, ended);
+    drop(held);
+    ExitCode::from(status)
 }

@@ -74,21 +74,23 @@ workers_rule = record (new_rule (codes "workers")) {
   required = true;
 }
 
--- `--builders DIR`: the current folder where the option is left out
+-- `--builders DIR`: not empty, and the current folder where the option is left out
 abbrev pub builders_rule : Rule
 builders_rule = record (new_rule (codes "builders")) {
   long = Some (codes "builders");
   action = Some Set;
   value_names = 1;
+  parser = Some parser.NonEmptyString;
   defaults = codes "." ∷ [];
 }
 
--- `--work DIR`: the current folder where the option is left out
+-- `--work DIR`: not empty, and the current folder where the option is left out
 abbrev pub work_rule : Rule
 work_rule = record (new_rule (codes "work")) {
   long = Some (codes "work");
   action = Some Set;
   value_names = 1;
+  parser = Some parser.NonEmptyString;
   defaults = codes "." ∷ [];
 }
 

@@ -10,6 +10,7 @@ ghost use Rattle.command_line.specs.Steps.{AreCommands, IsArgument, IsCommand};
 
 use crate::matched::options_in;
 use crate::settings::{MOST_FILES, Options};
+use clap::builder::ValueParser;
 use clap::error::ErrorKind;
 use clap::{Arg, ArgAction, Command, Error, value_parser};
 use std::alloc::{AllocError, Global};
@@ -103,6 +104,7 @@ fn builders_argument<'a>(alloc: Global) -> Arg<'a>
         .long("builders")
         .value_name("DIR")
         .action(ArgAction::Set)
+        .value_parser(ValueParser::NonEmptyString)
         .default_value(".")
         .help("The folder with the builders")
 }
@@ -115,6 +117,7 @@ fn work_argument<'a>(alloc: Global) -> Arg<'a>
         .long("work")
         .value_name("DIR")
         .action(ArgAction::Set)
+        .value_parser(ValueParser::NonEmptyString)
         .default_value(".")
         .help("The folder for the files that builders are given")
 }
