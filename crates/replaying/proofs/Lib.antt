@@ -3,6 +3,7 @@ pub mod ReadRowLemmas
 pub mod ReplayLemmas
 pub mod InputLemmas
 pub mod WholeLemmas
+pub mod HeadLemmas
 pub mod StrikingLemmas
 pub mod RecordingLemmas
 pub mod PrintLemmas

@@ -9,7 +9,6 @@ use Rattle.model.specs.Events.{is_query, Event, Reply}
 use Rattle.model.specs.Replies.{is_unrecorded}
 use Rattle.model.specs.Talk as talk
 use Rattle.model.specs.Talk.{Silent, Names, Refuses, Asks, Waits, asked_in}
-use Rattle.events.specs.Terms.{reply_of}
 use Rattle.session.specs.Serving.{Chain}
 use Rattle.passes.specs.declared.row.Row.{Row}
 use Rattle.passes.specs.Histories.{event_in, gave_up, IsLegal}

@@ -1,51 +1,22 @@
 -- What was answered where the reader failed, and how an end is told once it was flushed.
-use Rattle.std.proofs.Common.{◌≡◌, ℕ, inl, inr, List, [], ◌++◌, Option, Some, None, refl, sym, ap, ◌∙◌, subst}
+use Rattle.std.proofs.Common.{◌≡◌, ℕ, inl, inr, List, [], ◌++◌, Option, Some, refl, sym, ap, ◌∙◌, subst}
 use Rattle.std.specs.Prelude.{◌⊎◌, Result, Ok, Err, IfErr, OnOk}
 use Rattle.std.specs.Io.KnownBytes.{Appends, Consumes}
 use Rattle.model.specs.declared.mode.Mode.TheVariants.{Service}
 use Rattle.model.specs.declared.refusal.Refusal.{Refusal}
 use Rattle.model.specs.declared.refusal.Refusal.TheVariants.{BadUsers, InputFault, OutputFault, Memory}
 use Rattle.model.specs.Lines.{lines_of}
-use Rattle.model.specs.Talk.{Row, text_from}
-use Rattle.session.specs.Serving.{AnsweredSoFar, IsFault, TellsEnd}
-use Rattle.session.specs.Ahead.{NoUsersSoFar, LooksAhead}
+use Rattle.model.specs.Talk.{text_from}
+use Rattle.session.specs.Serving.{IsFault, TellsEnd}
+use Rattle.session.specs.Ahead.{LooksAhead}
 use Rattle.session.proofs.RowLemmas.{appends-flushed}
 use Rattle.replaying.specs.WholeLines.{ReplayedSoFar, ServedSoFar}
 use Rattle.replaying.proofs.ReplayLemmas.{one_store}
-use Rattle.replaying.proofs.InputLemmas.{by_store, by_nobody, by_whole_lines, consumed}
+use Rattle.replaying.proofs.InputLemmas.{by_store, consumed}
 
 -- ---- whole lines
 
 module _ (charge : ℕ) (all : List ℕ) (blank written : Option (List ℕ)) where
-  module _ {A : Type 0} (L : A → Row → A → Type 0) (old new : A) where
-    -- where no users were found
-    pub so_far_by_nobody : (input : List ℕ) (start end : Option (List ℕ)) → LooksAhead Service all None → start ≡ Some all → Consumes start end input
-        → AnsweredSoFar Service L old new blank written input → ReplayedSoFar charge blank written all end
-    so_far_by_nobody input start end found is read h =
-        let c = consumed all input start end is read in
-        record {
-          input = input;
-          read = subst (λ s. Consumes s end input) is read;
-          rows = h.rows;
-          lines = h.lines;
-          text = h.text;
-          answered =
-              by_nobody charge all h.lines.done (lines_of (h.lines.partial ++ c.0)) h.rows found (sym (ap lines_of c.2 ∙ h.lines.cut c.0)) h.lines.talks;
-        }
-
-    -- where the reader failed before any were found
-    pub so_far_before_users : (bytes left : List ℕ) (end : Option (List ℕ)) → NoUsersSoFar Service bytes → end ≡ Some left → all ≡ bytes ++ left
-        → AnsweredSoFar Service L old new blank written bytes → ReplayedSoFar charge blank written all end
-    so_far_before_users bytes left end found is cut h = record {
-      input = bytes;
-      read = subst (λ s. Consumes (Some all) s bytes) (sym is) cut;
-      rows = h.rows;
-      lines = h.lines;
-      text = h.text;
-      answered =
-          by_whole_lines charge bytes h.lines.done h.rows found (λ more. (lines_of (h.lines.partial ++ more), sym (h.lines.cut more))) h.lines.talks;
-    }
-
   -- by a store for the users that were found
   pub so_far_by_store : (users : List (List ℕ)) (start end : Option (List ℕ)) → LooksAhead Service all (Some users) → start ≡ Some all
       → ServedSoFar (record { users = users; charge = charge }) start end blank written → ReplayedSoFar charge blank written all end

@@ -1,5 +1,5 @@
 -- What the lines of a file mean for the store of the program.
-use Rattle.std.specs.Prelude.{◌≡◌, ◌⊎◌, true, false, not, ℕ, List, [], ◌∷◌, ◌++◌, map, filter, All, Option, option_map, MatchOption, take}
+use Rattle.std.specs.Prelude.{◌≡◌, ◌⊎◌, true, false, not, ℕ, List, [], ◌∷◌, ◌++◌, map, filter, All, Option, MatchOption, take}
 use Rattle.std.specs.List.{list_any}
 use mathlib.Core.List.{IsPrefix}
 use Rattle.std.specs.Io.KnownBytes.{Appends, Consumes, IsAtEnd}
@@ -13,8 +13,6 @@ use Rattle.model.specs.Talk as talk
 use Rattle.model.specs.Talk.{fresh, after_all, Talks, text_from, asked_in, users_in}
 use Rattle.events.specs.Terms.{reply_of}
 use Rattle.session.specs.Serving.{Link, Finished, EndedEarly, HasRefused}
-use Rattle.session.specs.declared.ahead.Ahead.{Ahead}
-use Rattle.session.specs.Ahead.{NoUsersSoFar, LooksAhead}
 use Rattle.passes.specs.declared.row.Row.{Row}
 use Rattle.passes.specs.Histories.{event_in, IsLegal}
 use Rattle.model.specs.Replies.{is_unrecorded}
@@ -102,9 +100,3 @@ pub record ServedInPart (setup : Setup) (start end blank written : Option (List 
   pub last : Only
   pub new : first ≡ unasked
   pub done : EndedEarly Service (LinksOnly setup) first last blank written input (IsAtEnd end) why
-
--- this was found by reading ahead in an input, of which that is left behind the bytes that were read
-pub record IsReadAhead (all left : List ℕ) (ahead : Ahead) : Type 0 where
-  pub cut : all ≡ ahead.bytes.items ++ left
-  pub none : ahead.has_failed ≡ true → NoUsersSoFar Service ahead.bytes.items
-  pub users : ahead.has_failed ≡ false → LooksAhead Service all (option_map (λ u. u.items) ahead.users)

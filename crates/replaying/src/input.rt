@@ -6,18 +6,16 @@ ghost use Rattle.model.specs.Limits.{most_charge};
 ghost use Rattle.model.specs.Worlds.{are_users, nothing};
 ghost use Rattle.schedule.specs.Standing.{setup_for, setup_of, world_of, stored_in};
 ghost use Rattle.model.specs.declared.refusal.Refusal.TheVariants.{InputFault, OutputFault};
-ghost use Rattle.std.specs.Io.KnownBytes.{prepend_known};
-ghost use Rattle.session.specs.Serving.{IsNoFault, IsOwn, MayBeFault};
-ghost use Rattle.replaying.specs.WholeLines.{ReplayedSoFar, ServedSoFar};
-ghost use Rattle.replaying.specs.Replaying.{Served, ServedInPart, IsReadAhead, Replayed, ReplayedInPart};
+ghost use Rattle.session.specs.Serving.{HasFailed, IsNoFault, IsOwn, MayBeFault};
+ghost use Rattle.replaying.specs.WholeLines.{ReplayedSoFar};
+ghost use Rattle.replaying.specs.ServingOn.{ServesOn, ServesOnInPart, ServesOnSoFar};
+ghost use Rattle.replaying.specs.Replaying.{Replayed, ReplayedInPart};
 
 use crate::one_pass::OnePass;
 use book::{Blank, Front, Naming};
 use model::Refusal;
 use schedule::{Core, Limits, User};
-use session::{
-    Ahead, Faults, Mode, NoUsers, flush_after, read_ahead, serve_behind, serve_whole_lines,
-};
+use session::{Begun, Faults, Head, Mode, flush_after, serve_head, serve_on};
 use std::alloc::Global;
 use std::hash::RandomState;
 use std::io::{Read, Write};
@@ -25,16 +23,16 @@ use std::marker::Brand;
 use std::mem;
 use std::sync::Wait;
 
-/// Answers the lines of some bytes and of the reader behind them by a new core, behind a lock that one
-/// pass takes. The store is not taken apart at the end: the program ends with it, and its memory is given
-/// back at once.
+/// Answers the lines behind the first ones, of what was read behind those and of the reader, by a new core,
+/// behind a lock that one pass takes. The store is not taken apart at the end: the program ends with it, and
+/// its memory is given back at once.
 fn serve_core<J: Naming, H: Wait, R: Read + Faults, W: Write + Faults>(
     rt: &H,
     alloc: Global,
     blank: Blank,
     core: Core,
     sweeps: bool,
-    bytes: &[u8],
+    begun: &mut Begun,
     reader: &mut R,
     writer: &mut W,
 ) -> Result<(), Refusal>
@@ -43,14 +41,15 @@ fn serve_core<J: Naming, H: Wait, R: Read + Faults, W: Write + Faults>(
     requires log { blank.log.table.shared.table_id ≡ J.table }
     requires rows { blank.rows.seen.book ≡ J.book }
     requires core { (setup_of core ≡ J.setup) × (world_of core ≡ nothing) × (stored_in core ≡ []) }
-    ensures ok { OnOk result (Served J.setup
-        (prepend_known bytes.now (R.remaining reader.old)) (R.remaining reader.new) (W.contents writer.old) (W.contents writer.new)) }
-    ensures err { IfErr result (ServedInPart J.setup
-        (prepend_known bytes.now (R.remaining reader.old)) (R.remaining reader.new) (W.contents writer.old) (W.contents writer.new)) }
-    ensures failed { IfErr result (λ why. why ≡ InputFault → ServedSoFar J.setup
-        (prepend_known bytes.now (R.remaining reader.old)) (R.remaining reader.new) (W.contents writer.old) (W.contents writer.new)) }
+    ensures ok { OnOk result (ServesOn J.setup begun.old.session begun.old.rest.items
+        (R.remaining reader.old) (R.remaining reader.new) (W.contents writer.old) (W.contents writer.new)) }
+    ensures err { IfErr result (ServesOnInPart J.setup begun.old.session begun.old.rest.items
+        (R.remaining reader.old) (R.remaining reader.new) (W.contents writer.old) (W.contents writer.new)) }
+    ensures failed { IfErr result (λ why. why ≡ InputFault → ServesOnSoFar J.setup begun.old.session begun.old.rest.items
+        (R.remaining reader.old) (R.remaining reader.new) (W.contents writer.old) (W.contents writer.new)) }
+    ensures whole { OnOk result (¬ HasFailed begun.old.reader_failures (R.failed reader.new)) }
     ensures errors { IfErr result (λ why. (why ≡ InputFault) ⊎ IsOwn why) }
-    ensures output_fault { IfErr result (MayBeFault OutputFault (W.failed writer.old) (W.failed writer.new)) }
+    ensures output_fault { IfErr result (MayBeFault OutputFault begun.old.writer_failures (W.failed writer.new)) }
 {
     let (front, mut passes) = Front::<J>::new(rt, alloc, blank, core, 1)?;
     let pass = passes.pop().unwrap();
@@ -61,13 +60,13 @@ fn serve_core<J: Naming, H: Wait, R: Read + Faults, W: Write + Faults>(
         sweeps,
         has_lacked: false,
     };
-    let ended = serve_behind(alloc, Mode::Service, bytes, reader, writer, &mut store);
+    let ended = serve_on(alloc, begun, reader, writer, &mut store);
     mem::forget(store);
     ended
 }
 
-/// Answers the lines of some bytes and of the reader behind them by a new store for these users, whose
-/// charge is limited.
+/// Answers the lines behind the first ones, of what was read behind those and of the reader, by a new store
+/// for the users whom the first ones name, whose charge is limited.
 fn serve_users<H: Wait, R: Read + Faults, W: Write + Faults>(
     rt: &H,
     alloc: Global,
@@ -75,60 +74,24 @@ fn serve_users<H: Wait, R: Read + Faults, W: Write + Faults>(
     users: Vec<User>,
     limits: Limits,
     sweeps: bool,
-    bytes: &[u8],
+    begun: &mut Begun,
     reader: &mut R,
     writer: &mut W,
 ) -> Result<(), Refusal>
     requires { limits.charge ≤ most_charge }
-    ensures ok { OnOk result (Served (setup_for users limits)
-        (prepend_known bytes.now (R.remaining reader.old)) (R.remaining reader.new) (W.contents writer.old) (W.contents writer.new)) }
-    ensures err { IfErr result (λ why. are_users users.items ≡ true → ServedInPart (setup_for users limits)
-        (prepend_known bytes.now (R.remaining reader.old)) (R.remaining reader.new) (W.contents writer.old) (W.contents writer.new) why) }
-    ensures failed { IfErr result (λ why. why ≡ InputFault → ServedSoFar (setup_for users limits)
-        (prepend_known bytes.now (R.remaining reader.old)) (R.remaining reader.new) (W.contents writer.old) (W.contents writer.new)) }
+    ensures ok { OnOk result (ServesOn (setup_for users limits) begun.old.session begun.old.rest.items
+        (R.remaining reader.old) (R.remaining reader.new) (W.contents writer.old) (W.contents writer.new)) }
+    ensures err { IfErr result (λ why. are_users users.items ≡ true → ServesOnInPart (setup_for users limits)
+        begun.old.session begun.old.rest.items (R.remaining reader.old) (R.remaining reader.new) (W.contents writer.old) (W.contents writer.new) why) }
+    ensures failed { IfErr result (λ why. why ≡ InputFault → ServesOnSoFar (setup_for users limits)
+        begun.old.session begun.old.rest.items (R.remaining reader.old) (R.remaining reader.new) (W.contents writer.old) (W.contents writer.new)) }
+    ensures whole { OnOk result (¬ HasFailed begun.old.reader_failures (R.failed reader.new)) }
     ensures errors { IfErr result (λ why. (why ≡ InputFault) ⊎ IsOwn why) }
-    ensures output_fault { IfErr result (MayBeFault OutputFault (W.failed writer.old) (W.failed writer.new)) }
+    ensures output_fault { IfErr result (MayBeFault OutputFault begun.old.writer_failures (W.failed writer.new)) }
 {
     let core = Core::new(alloc, hashing, users, limits)?;
     let blank = Blank::new(alloc, 1)?;
-    serve_core::<Brand, _, _, _>(rt, alloc, blank, core, sweeps, bytes, reader, writer)
-}
-
-/// Answers the lines of an input whose first lines are read ahead. Where the reader failed before it
-/// had given the users, no more is read, and the lines that were read whole are answered.
-fn answer_lines<H: Wait, R: Read + Faults, W: Write + Faults>(
-    rt: &H,
-    alloc: Global,
-    hashing: RandomState,
-    limits: Limits,
-    sweeps: bool,
-    ahead: Ahead,
-    reader: &mut R,
-    writer: &mut W,
-) -> Result<(), Refusal>
-    requires { limits.charge ≤ most_charge }
-    ensures ok { OnOk result ((all left : List ℕ) → R.remaining reader.old ≡ Some left → IsReadAhead all left ahead
-        → Replayed limits.charge (W.contents writer.old) (W.contents writer.new) (lines_of all)) }
-    ensures err { IfErr result (λ why. (all left : List ℕ) → R.remaining reader.old ≡ Some left → IsReadAhead all left ahead
-        → ReplayedInPart limits.charge (W.contents writer.old) (W.contents writer.new) (lines_of all) why) }
-    ensures failed { IfErr result (λ why. why ≡ InputFault
-        → (all left : List ℕ) → R.remaining reader.old ≡ Some left → IsReadAhead all left ahead
-        → ReplayedSoFar limits.charge (W.contents writer.old) (W.contents writer.new) all (R.remaining reader.new)) }
-    ensures errors { IfErr result (λ why. (why ≡ InputFault) ⊎ IsOwn why) }
-    ensures output_fault { IfErr result (MayBeFault OutputFault (W.failed writer.old) (W.failed writer.new)) }
-{
-    if ahead.has_failed {
-        let bytes = ahead.bytes.as_slice();
-        serve_whole_lines(alloc, Mode::Service, bytes, writer, &mut NoUsers)?;
-        return Err(Refusal::InputFault);
-    }
-    let Ahead { bytes, users, .. } = ahead;
-    let Some(users) = users else {
-        return serve_behind(alloc, Mode::Service, &bytes, reader, writer, &mut NoUsers);
-    };
-    serve_users(
-        rt, alloc, hashing, users, limits, sweeps, &bytes, reader, writer,
-    )
+    serve_core::<Brand, _, _, _>(rt, alloc, blank, core, sweeps, begun, reader, writer)
 }
 
 /// Answers the lines that a reader gives, in a store for the users whom they name first and under these
@@ -149,11 +112,18 @@ fn answer_input<H: Wait, R: Read + Faults, W: Write + Faults>(
         → ReplayedInPart limits.charge (W.contents writer.old) (W.contents writer.new) (lines_of all) why) }
     ensures failed { IfErr result (λ why. why ≡ InputFault → (all : List ℕ) → R.remaining reader.old ≡ Some all
         → ReplayedSoFar limits.charge (W.contents writer.old) (W.contents writer.new) all (R.remaining reader.new)) }
+    ensures whole { OnOk result (¬ HasFailed (R.failed reader.old) (R.failed reader.new)) }
     ensures errors { IfErr result (λ why. (why ≡ InputFault) ⊎ IsOwn why) }
     ensures output_fault { IfErr result (MayBeFault OutputFault (W.failed writer.old) (W.failed writer.new)) }
 {
-    let ahead = read_ahead(alloc, Mode::Service, reader)?;
-    answer_lines(rt, alloc, hashing, limits, sweeps, ahead, reader, writer)
+    let head = serve_head(alloc, Mode::Service, reader, writer)?;
+    let Head { mut begun, users } = head;
+    let Some(users) = users else {
+        return Ok(());
+    };
+    serve_users(
+        rt, alloc, hashing, users, limits, sweeps, &mut begun, reader, writer,
+    )
 }
 
 /// Answers the lines that a reader gives, in a store for the users whom they name first and under
@@ -193,6 +163,8 @@ pub fn replay<H: Wait, R: Read + Faults, W: Write + Faults>(
     ensures failed { IfErr result (λ why. why ≡ InputFault → (all : List ℕ) → R.remaining reader.old ≡ Some all
         → ReplayedSoFar limits.charge (W.contents writer.old) (W.contents writer.new) all (R.remaining reader.new)) }
     ensures errors { IfErr result (λ why. (why ≡ InputFault) ⊎ IsOwn why) }
+    // It ends well only where the reader's count shows no failure.
+    ensures whole { OnOk result (¬ HasFailed (R.failed reader.old) (R.failed reader.new)) }
     ensures input_fault { IfErr result
         (MayBeFault InputFault (R.failed reader.old) (R.failed reader.new)) }
     ensures output_fault { IfErr result

@@ -5,3 +5,5 @@ pub mod WholeLinesLemmas
 pub mod ProgressLemmas
 pub mod FeedLemmas
 pub mod AheadLemmas
+pub mod EarlyLemmas
+pub mod HeadLemmas

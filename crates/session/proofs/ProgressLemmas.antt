@@ -14,7 +14,7 @@ use Rattle.model.specs.Forms.{longest_line}
 use Rattle.model.specs.Lines.{lines_of}
 use Rattle.model.specs.Events.{Reply, Refused}
 use Rattle.model.specs.Talk.{Row, Silent, Names, Refuses, Asks, Waits, Seen, fresh, GetsNext, after, after_all, Talks, text_from, row_text, answer_text, reply_text}
-use Rattle.session.specs.Serving.{Progress, EndedEarly, Finished, NotShown, HasNoNewline, HoldsMore, Gives, StopsAt, IsFault, IsOwn, MayBeFault}
+use Rattle.session.specs.Serving.{Progress, EndedEarly, Finished, NotShown, HasNoNewline, HoldsMore, Gives, StopsAt, IsFault, IsOwn, MayBeFault, GoesOn, EndsIn, EndsBehind}
 use Rattle.session.proofs.LineLemmas.{nothing-held, lines-newline, lines-last}
 use Rattle.session.proofs.RowLemmas.{chain-more, length-after_all, text-more, appends-none, appends-more, appends-flushed, take-seam}
 use Rattle.session.proofs.WholeLinesLemmas.{no_lines, line-grown, ended-cut, held-gets, ended-talks, line-ended, seen-more, refused-same}
@@ -392,3 +392,32 @@ pub counted-err : (r e : Result (Unit {0}) Refusal) (old new : ℕ) (Q : Refusal
 counted-err (Ok u) e old new Q is q f = tt
 counted-err (Err why) e old new Q (inl same) q f = rw same at q
 counted-err (Err why) e old new Q (inr other) q f = subst Q (sym other.1.0) (f (rw other.0 at q))
+
+-- ---- one piece after another
+
+module _ {A : Type 0} (L : A → Row → A → Type 0) where
+  -- nothing more was read
+  pub goes-nowhere : (now next : A) (written written' : Option (List ℕ)) (seen seen' : Seen) (held held' bytes : List ℕ)
+      → GoesOn L now next written written' seen seen' held held' bytes → GoesOn L now next written written' seen seen' held held' (bytes ++ [])
+  goes-nowhere now next written written' seen seen' held held' bytes goes =
+      subst (GoesOn L now next written written' seen seen' held held') (sym (append-nil bytes)) goes
+
+  -- from there on it goes over a piece
+  pub goes-further : (now mid next : A) (written between written' : Option (List ℕ)) (seen half seen' : Seen) (held part held' bytes input piece : List ℕ)
+      → GoesOn L now mid written between seen half held part (bytes ++ input) → GoesOn L mid next between written' half seen' part held' piece
+      → GoesOn L now next written written' seen seen' held held' (bytes ++ (input ++ piece))
+  goes-further now mid next written between written' seen half seen' held part held' bytes input piece one two mode first blank front p =
+      subst (λ t. Progress mode L first next blank written' t seen' held')
+      (append_assoc front (bytes ++ input) piece ∙ ap (λ t. front ++ t) (append_assoc bytes input piece))
+      (two mode first blank (front ++ (bytes ++ input)) (one mode first blank front p))
+
+  -- or ends in it
+  pub ends-further : (now mid next : A) (written between written' : Option (List ℕ)) (seen half : Seen) (held part bytes input piece : List ℕ) (at_end : Type 0)
+      (why : Refusal)
+      → GoesOn L now mid written between seen half held part (bytes ++ input) → EndsIn L mid next between written' half part piece why
+      → EndsBehind L now next written written' seen held (bytes ++ (input ++ piece)) at_end why
+  ends-further now mid next written between written' seen half held part bytes input piece at_end why one two mode first blank front p =
+      early-weakened L first next blank written' (front ++ (bytes ++ (input ++ piece))) ⊥ at_end why (λ b. absurd b)
+      (subst (λ t. EndedEarly mode L first next blank written' t ⊥ why)
+      (append_assoc front (bytes ++ input) piece ∙ ap (λ t. front ++ t) (append_assoc bytes input piece))
+      (two mode first blank (front ++ (bytes ++ input)) (one mode first blank front p)))

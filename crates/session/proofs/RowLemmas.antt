@@ -1,8 +1,8 @@
 -- One more row.
-use Rattle.std.proofs.Common.{◌≡◌, ℕ, suc, ◌+◌, ◌<◌, List, [], ◌∷◌, ◌++◌, length, take, Option, None, Some, refl, sym, ap, ◌∙◌, subst, arith, append_assoc, length-append}
-use Rattle.std.proofs.Common.{drop, Result, Ok, Err, false}
-use Rattle.std.specs.Result.{OnOk, OnErr, IfErr, IsErrAnd}
-use Rattle.std.proofs.lemmas.List.{append-nil, take_at, take-append-drop}
+use Rattle.std.proofs.Common.{◌≡◌, ℕ, suc, ◌+◌, List, [], ◌∷◌, ◌++◌, length, take, Option, None, Some, refl, sym, ap, ◌∙◌, subst, arith, append_assoc, length-append}
+use Rattle.std.proofs.Common.{Result, Ok, Err, false}
+use Rattle.std.specs.Result.{OnOk, IfErr, IsErrAnd}
+use Rattle.std.proofs.lemmas.List.{append-nil}
 use Rattle.std.specs.Io.KnownBytes.{Appends, Consumes, Keeps, prepend_known}
 use Rattle.model.specs.Lines.{Told}
 use Rattle.model.specs.Talk.{Row, Silent, Names, Refuses, Asks, Waits, Seen, GetsNext, after, after_all, Talks, text_from, row_text}

@@ -1,2 +1,3 @@
 pub mod Serving
 pub mod Ahead
+pub mod Heads

@@ -1,5 +1,5 @@
 -- What a session did with its lines: the answers and waits that it had, and what it wrote.
-use Rattle.std.specs.Prelude.{◌≡◌, ◌⊎◌, ◌<◌, ◌≤◌, ◌-◌, ◌^◌, ◌==◌, ⊤, true, false, ℕ, ◌+◌, List, [], ◌∷◌, ◌++◌, length, take, Option, Some, None}
+use Rattle.std.specs.Prelude.{◌≡◌, ◌⊎◌, ◌≤◌, ◌==◌, ⊤, true, false, ℕ, ◌+◌, List, [], ◌∷◌, ◌++◌, length, take, Option, Some, None}
 use mathlib.Core.List.{IsPrefix}
 use Rattle.std.specs.Io.KnownBytes.{Appends, Consumes, IsAtEnd}
 use Rattle.model.specs.declared.mode.Mode.{Mode}
@@ -120,6 +120,28 @@ abbrev pub EndsAtLast : {A : Type 0} → (A → Row → A → Type 0)
     → (now next : A) (written written' : Option (List ℕ)) (seen : Seen) (held : List ℕ) → Refusal → Type 0
 EndsAtLast {A} link now next written written' seen held why = (mode : Mode) (first : A) (blank : Option (List ℕ)) (input : List ℕ)
     → Progress mode link first now blank written input seen held → EndedEarly mode link first next blank written' input ⊤ why
+
+-- ---- from any way on, to the end of the input
+
+-- a session that is on its way has finished all where these bytes are what is left of it
+abbrev pub FinishesBehind : {A : Type 0} → (A → Row → A → Type 0)
+    → (now next : A) (written written' : Option (List ℕ)) (seen : Seen) (held bytes : List ℕ) → Type 0
+FinishesBehind {A} link now next written written' seen held bytes = (mode : Mode) (first : A) (blank : Option (List ℕ)) (input : List ℕ)
+    → Progress mode link first now blank written input seen held → Finished mode link first next blank written' (lines_of (input ++ bytes))
+
+-- it ends early in them
+abbrev pub EndsBehind : {A : Type 0} → (A → Row → A → Type 0)
+    → (now next : A) (written written' : Option (List ℕ)) (seen : Seen) (held bytes : List ℕ) → (at_end : Type 0) → Refusal → Type 0
+EndsBehind {A} link now next written written' seen held bytes at_end why = (mode : Mode) (first : A) (blank : Option (List ℕ)) (input : List ℕ)
+    → Progress mode link first now blank written input seen held → EndedEarly mode link first next blank written' (input ++ bytes) at_end why
+
+-- it has answered the whole lines up to their end
+abbrev pub StopsBehind : {A : Type 0} → (A → Row → A → Type 0)
+    → (now next : A) (written written' : Option (List ℕ)) (seen : Seen) (held bytes : List ℕ) → Type 0
+StopsBehind {A} link now next written written' seen held bytes = (mode : Mode) (first : A) (blank : Option (List ℕ)) (input : List ℕ)
+    → Progress mode link first now blank written input seen held → AnsweredSoFar mode link first next blank written' (input ++ bytes)
+
+-- ---- one line
 
 -- what a line of that row gives: what is kept of it, and what is printed for it
 abbrev pub GivesRow : Row → (seen next : Seen) → List ℕ → Type 0

@@ -5,6 +5,8 @@
 //! | [`Session::line`] | answers one line: gives what is printed for it |
 //! | [`serve`] | answers the lines of a reader, and writes and flushes what is printed |
 //! | [`serve_behind`] | the same for a reader of which some was read ahead, but for the flush |
+//! | [`serve_head`] | answers the first lines of a reader, up to the one that names the users |
+//! | [`serve_on`] | answers the lines behind those |
 //! | [`serve_whole_lines`] | the same for bytes of which more was to come |
 //! | [`write_whole`] | writes all of a text |
 //! | [`flush_after`] | shows what was written, and says how it ended |
@@ -18,6 +20,7 @@
 
 mod ahead;
 mod counted;
+mod head;
 mod serving;
 mod session;
 mod streams;
@@ -25,10 +28,11 @@ mod streams;
 pub use ahead::{Ahead, read_ahead};
 pub use answering::{Answer, NoUsers};
 pub use counted::Counted;
+pub use head::{Head, serve_head};
 pub use lines::answer_text;
 pub use model::Mode;
 pub use nar::{Faults, write_whole};
-pub use serving::{serve, serve_behind, serve_whole_lines};
+pub use serving::{Begun, serve, serve_behind, serve_on, serve_whole_lines};
 pub use session::Session;
 pub use states::Job;
 pub use streams::flush_after;

@@ -6,6 +6,7 @@ ghost use Rattle.model.specs.declared.refusal.Refusal.TheVariants.{InputFault, M
 ghost use Rattle.model.specs.Lines.{lines_of};
 ghost use Rattle.model.specs.Talk.{fresh};
 ghost use Rattle.session.specs.Serving.{Link, GoesOn, EndsIn, Finishes, EndsAtLast, AnsweredSoFar, EndedEarly};
+ghost use Rattle.session.specs.Serving.{EndsBehind, FinishesBehind, HasFailed, StopsBehind};
 ghost use Rattle.session.specs.Serving.{Finished, HoldsMore, IsFault, IsNoFault, IsOwn, MayBeFault, NotShown};
 
 use crate::session::Session;
@@ -19,6 +20,19 @@ use std::io::{Read, Write};
 
 /// So many bytes are read at a time.
 pub(crate) const CHUNK: usize = 65_536;
+
+/// A session that has answered the first lines of an input, and holds no line.
+#[derive(Drop)]
+pub struct Begun {
+    /// The session.
+    pub session: Session,
+    /// What was read behind those lines.
+    pub rest: Vec<u8>,
+    /// How often the reader had failed before, by its count.
+    pub reader_failures: u64,
+    /// How often the writer had.
+    pub writer_failures: u64,
+}
 
 /// Holds more of the line begun, no more than shows whether it is too long.
 pub(crate) fn hold(held: &mut Vec<u8>, bytes: &[u8]) -> Result<(), AllocError>
@@ -119,40 +133,40 @@ fn finish<W: Write + Faults, A: Answer>(
     Ok(())
 }
 
-/// Answers the lines of some bytes and of the reader behind them by a session that has had no line, as
-/// [`serve_behind`] does.
+/// Answers the lines of some bytes and of the reader behind them by a session on its way, as [`serve_on`]
+/// does.
 fn serve_by<R: Read + Faults, W: Write + Faults, A: Answer>(
     alloc: Global,
     session: &mut Session,
     held: &mut Vec<u8>,
     bytes: &[u8],
     reader: &mut R,
+    reader_before: u64,
     writer: &mut W,
+    writer_before: u64,
     answer: &mut A,
 ) -> Result<(), Refusal>
-    requires { (session.old ≡ fresh session.old.mode) × (held.old.items ≡ []) }
     ensures ok { OnOk result ((input : List ℕ)
         × Consumes (R.remaining reader.old) (R.remaining reader.new) input
         × IsAtEnd (R.remaining reader.new)
-        × Finished session.old.mode (Link A.answers A.waited) answer.old answer.new
-        (W.contents writer.old) (W.contents writer.new) (lines_of (bytes.now ++ input))) }
+        × FinishesBehind (Link A.answers A.waited) answer.old answer.new
+        (W.contents writer.old) (W.contents writer.new) session.old held.old.items (bytes.now ++ input)) }
     ensures err { IfErr result (λ why. (input : List ℕ)
         × Consumes (R.remaining reader.old) (R.remaining reader.new) input
-        × EndedEarly session.old.mode (Link A.answers A.waited) answer.old answer.new
-        (W.contents writer.old) (W.contents writer.new)
+        × EndsBehind (Link A.answers A.waited) answer.old answer.new
+        (W.contents writer.old) (W.contents writer.new) session.old held.old.items
         (bytes.now ++ input) (IsAtEnd (R.remaining reader.new)) why) }
     ensures failed { IfErr result (λ why. why ≡ InputFault → (input : List ℕ)
         × Consumes (R.remaining reader.old) (R.remaining reader.new) input
-        × AnsweredSoFar session.old.mode (Link A.answers A.waited) answer.old answer.new
-        (W.contents writer.old) (W.contents writer.new) (bytes.now ++ input)) }
+        × StopsBehind (Link A.answers A.waited) answer.old answer.new
+        (W.contents writer.old) (W.contents writer.new) session.old held.old.items (bytes.now ++ input)) }
+    ensures whole { OnOk result (¬ HasFailed reader_before (R.failed reader.new)) }
     ensures errors { IfErr result (λ why. (why ≡ InputFault) ⊎ IsOwn why) }
     ensures input_fault { IfErr result
-        (MayBeFault InputFault (R.failed reader.old) (R.failed reader.new)) }
+        (MayBeFault InputFault reader_before (R.failed reader.new)) }
     ensures output_fault { IfErr result
-        (MayBeFault OutputFault (W.failed writer.old) (W.failed writer.new)) }
+        (MayBeFault OutputFault writer_before (W.failed writer.new)) }
 {
-    let reader_before = reader.failures();
-    let writer_before = writer.failures();
     feed(alloc, session, held, bytes, writer, writer_before, answer)?;
     let mut chunk = [0u8; CHUNK];
     for _ in 0..u64::MAX {
@@ -167,6 +181,64 @@ fn serve_by<R: Read + Faults, W: Write + Faults, A: Answer>(
         feed(alloc, session, held, piece, writer, writer_before, answer)?;
     }
     Err(Refusal::Memory)
+}
+
+/// Answers the lines of an input to its end, of which the first are answered, and writes what is printed for
+/// them. The reader gives what stands behind what was read. The writer is left to be flushed.
+///
+/// A line of more than 268,435,456 bytes is skipped without being kept. A reader or writer that fails
+/// and does not count it is tried again.
+///
+/// # Errors
+///
+/// They are those of [`serve_behind`], by how often reader and writer had failed before the first lines.
+pub fn serve_on<R: Read + Faults, W: Write + Faults, A: Answer>(
+    alloc: Global,
+    begun: &mut Begun,
+    reader: &mut R,
+    writer: &mut W,
+    answer: &mut A,
+) -> Result<(), Refusal>
+    // To the input's end, each of its lines is answered, and all of their text is written.
+    ensures ok { OnOk result ((input : List ℕ)
+        × Consumes (R.remaining reader.old) (R.remaining reader.new) input
+        × IsAtEnd (R.remaining reader.new)
+        × FinishesBehind (Link A.answers A.waited) answer.old answer.new
+        (W.contents writer.old) (W.contents writer.new) begun.old.session [] (begun.old.rest.items ++ input)) }
+    // Else the first lines are, whatever comes after what was read, and a beginning of their text.
+    ensures err { IfErr result (λ why. (input : List ℕ)
+        × Consumes (R.remaining reader.old) (R.remaining reader.new) input
+        × EndsBehind (Link A.answers A.waited) answer.old answer.new
+        (W.contents writer.old) (W.contents writer.new) begun.old.session []
+        (begun.old.rest.items ++ input) (IsAtEnd (R.remaining reader.new)) why) }
+    // Where the reader failed, these are the lines that were read whole, and all of their text.
+    ensures failed { IfErr result (λ why. why ≡ InputFault → (input : List ℕ)
+        × Consumes (R.remaining reader.old) (R.remaining reader.new) input
+        × StopsBehind (Link A.answers A.waited) answer.old answer.new
+        (W.contents writer.old) (W.contents writer.new) begun.old.session [] (begun.old.rest.items ++ input)) }
+    // It ends so only where the reader's count shows no failure.
+    ensures whole { OnOk result (¬ HasFailed begun.old.reader_failures (R.failed reader.new)) }
+    ensures errors { IfErr result (λ why. (why ≡ InputFault) ⊎ IsOwn why) }
+    ensures input_fault { IfErr result
+        (MayBeFault InputFault begun.old.reader_failures (R.failed reader.new)) }
+    ensures output_fault { IfErr result
+        (MayBeFault OutputFault begun.old.writer_failures (W.failed writer.new)) }
+    ensures memory { IfErr result (IsNoFault begun.old.writer_failures (W.failed writer.new)) }
+{
+    let before = begun.writer_failures;
+    let mut held = Vec::new(alloc);
+    let ended = serve_by(
+        alloc,
+        &mut begun.session,
+        &mut held,
+        &begun.rest,
+        reader,
+        begun.reader_failures,
+        writer,
+        before,
+        answer,
+    );
+    as_counted(writer, before, ended)
 }
 
 /// Answers the lines of an input to its end, and writes what is printed for them. Some of its bytes were
@@ -209,6 +281,8 @@ pub fn serve_behind<R: Read + Faults, W: Write + Faults, A: Answer>(
         × Consumes (R.remaining reader.old) (R.remaining reader.new) input
         × AnsweredSoFar mode (Link A.answers A.waited) answer.old answer.new
         (W.contents writer.old) (W.contents writer.new) (bytes.now ++ input)) }
+    // It ends so only where the reader's count shows no failure.
+    ensures whole { OnOk result (¬ HasFailed (R.failed reader.old) (R.failed reader.new)) }
     ensures errors { IfErr result (λ why. (why ≡ InputFault) ⊎ IsOwn why) }
     ensures input_fault { IfErr result
         (MayBeFault InputFault (R.failed reader.old) (R.failed reader.new)) }
@@ -216,6 +290,7 @@ pub fn serve_behind<R: Read + Faults, W: Write + Faults, A: Answer>(
         (MayBeFault OutputFault (W.failed writer.old) (W.failed writer.new)) }
     ensures memory { IfErr result (IsNoFault (W.failed writer.old) (W.failed writer.new)) }
 {
+    let reader_before = reader.failures();
     let before = writer.failures();
     let mut session = Session::new(alloc, mode);
     let mut held = Vec::new(alloc);
@@ -225,7 +300,9 @@ pub fn serve_behind<R: Read + Faults, W: Write + Faults, A: Answer>(
         &mut held,
         bytes,
         reader,
+        reader_before,
         writer,
+        before,
         answer,
     );
     as_counted(writer, before, ended)
@@ -265,6 +342,8 @@ pub fn serve<R: Read + Faults, W: Write + Faults, A: Answer>(
         × Consumes (R.remaining reader.old) (R.remaining reader.new) input
         × AnsweredSoFar mode (Link A.answers A.waited) answer.old answer.new
         (W.contents writer.old) (W.contents writer.new) input) }
+    // It ends so only where the reader's count shows no failure.
+    ensures whole { OnOk result (¬ HasFailed (R.failed reader.old) (R.failed reader.new)) }
     ensures errors { IfErr result (λ why. (why ≡ InputFault) ⊎ IsOwn why) }
     ensures input_fault { IfErr result
         (MayBeFault InputFault (R.failed reader.old) (R.failed reader.new)) }

@@ -1,6 +1,6 @@
 //! Reading from a reader, and flushing a writer, that count their failures.
 
-ghost use Rattle.std.specs.Prelude.{◌≡◌, ◌<◌, ◌⊎◌, [], Err, IsOk, OnOk, OnErr, IfOk, IfErr, length};
+ghost use Rattle.std.specs.Prelude.{◌≡◌, ◌<◌, ◌⊎◌, [], Some, Err, IsOk, OnOk, OnErr, IfOk, IfErr, length};
 ghost use Rattle.std.specs.Io.KnownBytes.{Appends, Consumes};
 ghost use Rattle.model.specs.declared.refusal.Refusal.TheVariants.{InputFault, OutputFault};
 ghost use Rattle.session.specs.Serving.{HasFailed, IsFault, IsNoFault, IsWant, MayBeFault, HasRead, TellsEnd};
@@ -97,8 +97,8 @@ pub fn flush_after<R: Faults, W: Write + Faults>(
     }
 }
 
-/// Reads some bytes, of which there are none at the input's end. `None` is a read that failed and
-/// was not counted: it may be tried again.
+/// Reads some bytes, of which there are none at the input's end: that is told only where the count shows no
+/// failure. `None` is a read that failed and was not counted: it may be tried again.
 pub(crate) fn read_some<R: Read + Faults>(
     reader: &mut R,
     before: u64,
@@ -109,14 +109,13 @@ pub(crate) fn read_some<R: Read + Faults>(
         (HasRead (R.remaining reader.old) (R.remaining reader.new) chunk.new) }
     ensures err { OnErr result (Consumes (R.remaining reader.old) (R.remaining reader.new) []) }
     ensures fault { IfErr result (IsFault InputFault before (R.failed reader.new)) }
+    ensures whole { IfOk result (λ n. n ≡ Some 0 → ¬ HasFailed before (R.failed reader.new)) }
 {
-    match reader.read(chunk) {
-        Ok(n) => Ok(Some(n)),
-        Err(_) => {
-            if has_failed(before, reader.failures()) {
-                return Err(Refusal::InputFault);
-            }
-            Ok(None)
-        }
+    let read = reader.read(chunk);
+    let has_failed = has_failed(before, reader.failures());
+    match read {
+        Ok(n) if n > 0 || !has_failed => Ok(Some(n)),
+        _ if has_failed => Err(Refusal::InputFault),
+        _ => Ok(None),
     }
 }

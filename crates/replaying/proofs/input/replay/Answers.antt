@@ -20,3 +20,6 @@ returns-clause-err g c = after_err _ _ _ _ c.flush_after.result c.answer_input-e
 pub returns-clause-failed : goal.returns-clause-failed
 returns-clause-failed g c = after_failed _ _ _ _ c.flush_after.result c.answer_input-ended.result _ _ c.flush_after.ensures.err c.answer_input-ended.ensures.failed
     (λ h all known. so_far_flushed _ _ _ _ _ _ (h all known) c.flush_after.ensures.kept)
+
+pub returns-clause-whole : goal.returns-clause-whole
+returns-clause-whole g c = after_ok c.flush_after.result c.answer_input-ended.result _ _ c.flush_after.ensures.ok c.answer_input-ended.ensures.whole (λ whole. whole)

@@ -1,37 +1,24 @@
-use Rattle.std.proofs.Common.{inl, inr, refl, sym, subst, [], ◌++◌, append_assoc}
+use Rattle.std.proofs.Common.{inl, inr, refl, sym, ap, subst, [], ◌++◌, Some}
 use Rattle.std.proofs.lemmas.List.{append-nil}
 use Rattle.model.specs.declared.refusal.Refusal.TheVariants.{Memory}
-use Rattle.session.specs.Serving.{Link, Progress, EndedEarly}
+use Rattle.session.specs.Serving.{Link, EndedEarly}
 use Rattle.session.proofs.RowLemmas.{err-is, consumes-none, consumes-more, consumes-end}
-use Rattle.session.proofs.ProgressLemmas.{progress-none, early-here, early-weakened, by_memory, by_input}
+use Rattle.session.proofs.ProgressLemmas.{early-here, early-weakened, by_memory, by_input, goes-nowhere, goes-further, ends-further}
 use Rattle.session.proofs.ProgressLemmas.{own_memory, memory_not_input, memory_not_output, input_not_output, own_not_input, own_read}
 use Rattle.session.proofs.serving.serve_by.Goals as goal
 
 pub returns-in_err-feed-clause-err : goal.returns-in_err-feed-clause-err
 returns-in_err-feed-clause-err g c =
-    let blank = g.W.Write.contents c.args.writer.now in
-    let L = Link g.A.Answer.answers g.A.Answer.waited in
-    let begun : Progress c.args.session.now.mode L c.args.answer.now c.args.answer.now blank blank [] c.args.session.now c.args.held.now.items =
-    rw (c.requires.1, c.requires.0) (progress-none L c.args.answer.now blank) in
     err-is _ _ _ c.from_residual.ensures.1 (
       [],
       consumes-none _,
-      early-weakened _ _ _ _ _ _ _ _ _ (λ b. absurd b)
-          (subst (λ t. EndedEarly c.args.session.now.mode L c.args.answer.now c.feed.new.answer blank (g.W.Write.contents c.feed.new.writer) t ⊥ c.in_err-feed.field-0.0)
-          (sym (append-nil c.args.bytes.now)) (c.in_err-feed.ensures.err c.args.session.now.mode c.args.answer.now blank [] begun)),
+      λ mode first blank input p. early-weakened _ _ _ _ _ _ _ _ _ (λ b. absurd b)
+          (subst (λ t. EndedEarly mode (Link g.A.Answer.answers g.A.Answer.waited) first c.feed.new.answer blank (g.W.Write.contents c.feed.new.writer) (input ++ t) ⊥ c.in_err-feed.field-0.0)
+          (sym (append-nil c.args.bytes.now)) (c.in_err-feed.ensures.err mode first blank input p)),
     )
 
 pub loop-init : goal.loop-init
-loop-init g c =
-    let blank = g.W.Write.contents c.args.writer.now in
-    let L = Link g.A.Answer.answers g.A.Answer.waited in
-    let begun : Progress c.args.session.now.mode L c.args.answer.now c.args.answer.now blank blank [] c.args.session.now c.args.held.now.items =
-    rw (c.requires.1, c.requires.0) (progress-none L c.args.answer.now blank) in (
-      [],
-      consumes-none _,
-      subst (λ t. Progress c.args.session.now.mode L c.args.answer.now c.feed.new.answer blank (g.W.Write.contents c.feed.new.writer) t c.feed.new.session c.feed.new.held.items)
-          (sym (append-nil c.args.bytes.now)) (c.in_ok-feed.ensures.ok c.args.session.now.mode c.args.answer.now blank [] begun),
-    )
+loop-init g c = ([], consumes-none _, goes-nowhere (Link g.A.Answer.answers g.A.Answer.waited) _ _ _ _ _ _ _ _ c.args.bytes.now c.in_ok-feed.ensures.ok)
 
 pub returns-in_err-n-clause-err : goal.returns-in_err-n-clause-err
 returns-in_err-n-clause-err g c =
@@ -40,17 +27,18 @@ returns-in_err-n-clause-err g c =
     err-is _ _ _ c.from_residual-in_err-n.ensures.1 (
       i.0,
       consumes-end _ _ _ i.0 [] 0 refl i.1 c.in_err-n.ensures.err,
-      early-weakened _ _ _ _ _ _ _ _ _ (λ b. absurd b)
-          (subst (λ t. EndedEarly c.args.session.now.mode L c.args.answer.now c.loop.answer (g.W.Write.contents c.args.writer.now) (g.W.Write.contents c.loop.writer) t ⊥ c.in_err-n.field-0.0)
-          (append-nil (c.args.bytes.now ++ i.0))
-          (early-here L c.args.answer.now (g.W.Write.contents c.args.writer.now) _ _ (c.args.bytes.now ++ i.0) _ _ [] c.in_err-n.field-0.0
-          (by_input _ c.in_err-n.ensures.fault.0) i.2)),
+      λ mode first blank input p. early-weakened _ _ _ _ _ _ _ _ _ (λ b. absurd b)
+          (subst (λ t. EndedEarly mode L first c.loop.answer blank (g.W.Write.contents c.loop.writer) t ⊥ c.in_err-n.field-0.0)
+          (append-nil (input ++ (c.args.bytes.now ++ i.0)))
+          (early-here L first blank _ _ (input ++ (c.args.bytes.now ++ i.0)) _ _ [] c.in_err-n.field-0.0
+          (by_input _ c.in_err-n.ensures.fault.0) (i.2 mode first blank input p))),
     )
 
 pub returns-in_err-n-clause-failed : goal.returns-in_err-n-clause-failed
 returns-in_err-n-clause-failed g c =
     let i = c.loop.invariant in
-    err-is _ _ _ c.from_residual-in_err-n.ensures.1 (λ e. (i.0, consumes-end _ _ _ i.0 [] 0 refl i.1 c.in_err-n.ensures.err, i.2.so_far))
+    err-is _ _ _ c.from_residual-in_err-n.ensures.1 (λ e.
+    (i.0, consumes-end _ _ _ i.0 [] 0 refl i.1 c.in_err-n.ensures.err, λ mode first blank input p. (i.2 mode first blank input p).so_far))
 
 pub returns-in_err-finish-clause-err : goal.returns-in_err-finish-clause-err
 returns-in_err-finish-clause-err g c =
@@ -59,8 +47,8 @@ returns-in_err-finish-clause-err g c =
     err-is _ _ _ c.from_residual-in_err-finish.ensures.1 (
       i.0,
       consumes-end _ _ _ i.0 _ c.in-Some.n c.if-n-eq0.true i.1 s.1,
-      early-weakened _ _ _ _ _ _ _ _ _ (λ t. s.2 c.if-n-eq0.true)
-          (c.in_err-finish.ensures.err c.args.session.now.mode c.args.answer.now (g.W.Write.contents c.args.writer.now) (c.args.bytes.now ++ i.0) i.2),
+      λ mode first blank input p. early-weakened _ _ _ _ _ _ _ _ _ (λ t. s.2 c.if-n-eq0.true)
+          (c.in_err-finish.ensures.err mode first blank (input ++ (c.args.bytes.now ++ i.0)) (i.2 mode first blank input p)),
     )
 
 pub returns-then-n-eq0-clause-ok : goal.returns-then-n-eq0-clause-ok
@@ -70,7 +58,7 @@ returns-then-n-eq0-clause-ok g c =
       i.0,
       consumes-end _ _ _ i.0 _ c.in-Some.n c.if-n-eq0.true i.1 s.1,
       s.2 c.if-n-eq0.true,
-      c.in_ok-finish.ensures.ok c.args.session.now.mode c.args.answer.now (g.W.Write.contents c.args.writer.now) (c.args.bytes.now ++ i.0) i.2,
+      λ mode first blank input p. c.in_ok-finish.ensures.ok mode first blank (input ++ (c.args.bytes.now ++ i.0)) (i.2 mode first blank input p),
     )
 
 pub returns-in_err-feed-2-clause-err : goal.returns-in_err-feed-2-clause-err
@@ -78,14 +66,10 @@ returns-in_err-feed-2-clause-err g c =
     let i = c.loop.invariant in
     let s = rw c.in-Some.is at c.in_ok-n.ensures.ok in
     let piece = c.split_at.result.0.now in
-    let L = Link g.A.Answer.answers g.A.Answer.waited in
     err-is _ _ _ c.from_residual-in_err-feed-2.ensures.1 (
       i.0 ++ piece,
       consumes-more _ _ _ i.0 piece i.1 (rw c.split_at.ensures.front s.1),
-      early-weakened _ _ _ _ _ _ _ _ _ (λ b. absurd b)
-          (subst (λ t. EndedEarly c.args.session.now.mode L c.args.answer.now c.feed-in-loop.new.answer (g.W.Write.contents c.args.writer.now) (g.W.Write.contents c.feed-in-loop.new.writer) t ⊥ c.in_err-feed-2.field-0.0)
-          (append_assoc c.args.bytes.now i.0 piece)
-          (c.in_err-feed-2.ensures.err c.args.session.now.mode c.args.answer.now (g.W.Write.contents c.args.writer.now) (c.args.bytes.now ++ i.0) i.2)),
+      ends-further (Link g.A.Answer.answers g.A.Answer.waited) _ _ _ _ _ _ _ _ _ _ c.args.bytes.now i.0 piece _ _ i.2 c.in_err-feed-2.ensures.err,
     )
 
 pub loop-preserved-in_default : goal.loop-preserved-in_default
@@ -98,13 +82,10 @@ pub loop-preserved : goal.loop-preserved
 loop-preserved g c =
     let i = c.loop.invariant in
     let s = rw c.in-Some.is at c.in_ok-n.ensures.ok in
-    let piece = c.split_at.result.0.now in
-    let L = Link g.A.Answer.answers g.A.Answer.waited in (
+    let piece = c.split_at.result.0.now in (
       i.0 ++ piece,
       consumes-more _ _ _ i.0 piece i.1 (rw c.split_at.ensures.front s.1),
-      subst (λ t. Progress c.args.session.now.mode L c.args.answer.now c.feed-in-loop.new.answer (g.W.Write.contents c.args.writer.now) (g.W.Write.contents c.feed-in-loop.new.writer) t c.feed-in-loop.new.session c.feed-in-loop.new.held.items)
-          (append_assoc c.args.bytes.now i.0 piece)
-          (c.in_ok-feed-2.ensures.ok c.args.session.now.mode c.args.answer.now (g.W.Write.contents c.args.writer.now) (c.args.bytes.now ++ i.0) i.2),
+      goes-further (Link g.A.Answer.answers g.A.Answer.waited) _ _ _ _ _ _ _ _ _ _ _ _ c.args.bytes.now i.0 piece i.2 c.in_ok-feed-2.ensures.ok,
     )
 
 pub returns-clause-err : goal.returns-clause-err
@@ -113,10 +94,10 @@ returns-clause-err g c =
     let L = Link g.A.Answer.answers g.A.Answer.waited in (
       i.0,
       i.1,
-      early-weakened _ _ _ _ _ _ _ _ _ (λ b. absurd b)
-          (subst (λ t. EndedEarly c.args.session.now.mode L c.args.answer.now c.loop.answer (g.W.Write.contents c.args.writer.now) (g.W.Write.contents c.loop.writer) t ⊥ Memory)
-          (append-nil (c.args.bytes.now ++ i.0))
-          (early-here L c.args.answer.now (g.W.Write.contents c.args.writer.now) _ _ (c.args.bytes.now ++ i.0) _ _ [] _ (by_memory _ refl) i.2)),
+      λ mode first blank input p. early-weakened _ _ _ _ _ _ _ _ _ (λ b. absurd b)
+          (subst (λ t. EndedEarly mode L first c.loop.answer blank (g.W.Write.contents c.loop.writer) t ⊥ Memory)
+          (append-nil (input ++ (c.args.bytes.now ++ i.0)))
+          (early-here L first blank _ _ (input ++ (c.args.bytes.now ++ i.0)) _ _ [] _ (by_memory _ refl) (i.2 mode first blank input p))),
     )
 
 -- ---- which errors there are, and the faults that they come of
@@ -132,13 +113,13 @@ returns-in_err-feed-clause-input_fault g c = err-is _ _ _ c.from_residual.ensure
 
 pub returns-in_err-feed-clause-output_fault : goal.returns-in_err-feed-clause-output_fault
 returns-in_err-feed-clause-output_fault g c =
-    err-is _ _ _ c.from_residual.ensures.1 (λ e. rw (← c.failures-writer_before.ensures) (c.in_err-feed.ensures.fault e))
+    err-is _ _ _ c.from_residual.ensures.1 c.in_err-feed.ensures.fault
 
 pub returns-in_err-n-clause-errors : goal.returns-in_err-n-clause-errors
 returns-in_err-n-clause-errors g c = err-is _ _ _ c.from_residual-in_err-n.ensures.1 (inl c.in_err-n.ensures.fault.0)
 
 pub returns-in_err-n-clause-input_fault : goal.returns-in_err-n-clause-input_fault
-returns-in_err-n-clause-input_fault g c = err-is _ _ _ c.from_residual-in_err-n.ensures.1 (λ e. rw (← c.failures-reader_before.ensures) c.in_err-n.ensures.fault.1)
+returns-in_err-n-clause-input_fault g c = err-is _ _ _ c.from_residual-in_err-n.ensures.1 (λ e. c.in_err-n.ensures.fault.1)
 
 pub returns-in_err-n-clause-output_fault : goal.returns-in_err-n-clause-output_fault
 returns-in_err-n-clause-output_fault g c = err-is _ _ _ c.from_residual-in_err-n.ensures.1 (input_not_output _ _ _ c.in_err-n.ensures.fault.0)
@@ -154,7 +135,7 @@ returns-in_err-finish-clause-input_fault g c = err-is _ _ _ c.from_residual-in_e
 
 pub returns-in_err-finish-clause-output_fault : goal.returns-in_err-finish-clause-output_fault
 returns-in_err-finish-clause-output_fault g c =
-    err-is _ _ _ c.from_residual-in_err-finish.ensures.1 (λ e. rw (← c.failures-writer_before.ensures) (c.in_err-finish.ensures.fault e))
+    err-is _ _ _ c.from_residual-in_err-finish.ensures.1 c.in_err-finish.ensures.fault
 
 pub returns-in_err-feed-2-clause-failed : goal.returns-in_err-feed-2-clause-failed
 returns-in_err-feed-2-clause-failed g c = err-is _ _ _ c.from_residual-in_err-feed-2.ensures.1 (λ e. absurd (own_read _ c.in_err-feed-2.ensures.errors e))
@@ -167,7 +148,7 @@ returns-in_err-feed-2-clause-input_fault g c = err-is _ _ _ c.from_residual-in_e
 
 pub returns-in_err-feed-2-clause-output_fault : goal.returns-in_err-feed-2-clause-output_fault
 returns-in_err-feed-2-clause-output_fault g c =
-    err-is _ _ _ c.from_residual-in_err-feed-2.ensures.1 (λ e. rw (← c.failures-writer_before.ensures) (c.in_err-feed-2.ensures.fault e))
+    err-is _ _ _ c.from_residual-in_err-feed-2.ensures.1 c.in_err-feed-2.ensures.fault
 
 pub returns-clause-failed : goal.returns-clause-failed
 returns-clause-failed g c = λ e. absurd (own_read _ (own_memory _ refl) e)
@@ -180,3 +161,8 @@ returns-clause-input_fault g c = memory_not_input _ _ _ refl
 
 pub returns-clause-output_fault : goal.returns-clause-output_fault
 returns-clause-output_fault g c = memory_not_output _ _ _ refl
+
+-- ---- all is answered only where the reader did not fail
+
+pub returns-then-n-eq0-clause-whole : goal.returns-then-n-eq0-clause-whole
+returns-then-n-eq0-clause-whole g c = (rw c.in-Some.is at c.in_ok-n.ensures.whole) (ap Some c.if-n-eq0.true)
