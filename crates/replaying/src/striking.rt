@@ -12,28 +12,31 @@ ghost use Rattle.events.specs.Terms.{event_of, answer_of};
 ghost use Rattle.schedule.specs.Ever.{run_of};
 ghost use Rattle.schedule.specs.Standing.{setup_for};
 ghost use Rattle.session.specs.Ahead.{LooksAhead};
-ghost use Rattle.session.specs.Serving.{IsNoFault, IsUnwritten, MayBeFault};
+ghost use Rattle.session.specs.Serving.{HasFailed, IsNoFault, IsUnwritten, MayBeFault};
 ghost use Rattle.replaying.specs.Striking.{Rerun, Struck, StruckEarly, lines_under, struck};
 
 use crate::first_run::{FirstRun, first_run};
 use lines::answer_text;
 use model::Refusal;
+use nar::has_failed;
 use schedule::{Event, Limits, Reply, User, run};
-use session::{Ahead, Faults, Mode, NoUsers, flush_after, read_ahead, serve, write_whole};
+use session::{Faults, Head, Mode, flush_after, serve_head, write_whole};
 use std::alloc::Global;
 use std::hash::RandomState;
 use std::io::{ErrorKind, Read, Write};
 use std::sync::Wait;
 
-/// All bytes that a reader gives.
+/// All bytes that a reader gives, where its count shows no failure.
 fn read_whole<R: Read + Faults>(alloc: Global, reader: &mut R) -> Result<Vec<u8>, Refusal>
-    ensures { IfOk result (λ input. (all : List ℕ) → R.remaining reader.old ≡ Some all → input.items ≡ all) }
+    ensures bytes { IfOk result (λ input. (all : List ℕ) → R.remaining reader.old ≡ Some all → input.items ≡ all) }
+    ensures whole { OnOk result (¬ HasFailed (R.failed reader.old) (R.failed reader.new)) }
 {
+    let before = reader.failures();
     let mut input = Vec::new(alloc);
     match reader.read_to_end(&mut input) {
-        Ok(_) => Ok(input),
+        Ok(_) if !has_failed(before, reader.failures()) => Ok(input),
         Err(error) if error.kind() == ErrorKind::OutOfMemory => Err(Refusal::Memory),
-        Err(_) => Err(Refusal::InputFault),
+        _ => Err(Refusal::InputFault),
     }
 }
 
@@ -43,14 +46,13 @@ fn users_in(alloc: Global, input: &[u8]) -> Result<Vec<User>, Refusal>
     ensures { IfOk result (λ users. LooksAhead Service input.now (Some users.items)) }
 {
     let mut rest = input;
-    let Ahead { users, .. } = read_ahead(alloc, Mode::Service, &mut rest)?;
-    if let Some(users) = users {
-        return Ok(users);
-    }
-    let mut whole = input;
     let mut text = Vec::new(alloc);
-    serve(alloc, Mode::Service, &mut whole, &mut text, &mut NoUsers)?;
-    Err(Refusal::UnknownUser)
+    let head = serve_head(alloc, Mode::Service, &mut rest, &mut text)?;
+    let Head { users, .. } = head;
+    match users {
+        Some(users) => Ok(users),
+        None => Err(Refusal::UnknownUser),
+    }
 }
 
 /// The user of a name, who is one of these.
@@ -207,6 +209,7 @@ fn strike_reader<H: Wait, R: Read + Faults, W: Write + Faults>(
         → Struck limits.charge name.now timed (W.contents writer.old) (W.contents writer.new) (lines_of all)) }
     ensures err { IfErr result (λ why. (all : List ℕ) → R.remaining reader.old ≡ Some all
         → StruckEarly limits.charge name.now timed (W.contents writer.old) (W.contents writer.new) (lines_of all) why) }
+    ensures whole { OnOk result (¬ HasFailed (R.failed reader.old) (R.failed reader.new)) }
 {
     let input = read_whole(alloc, reader)?;
     strike_input(
@@ -254,6 +257,8 @@ pub fn strike<H: Wait, R: Read + Faults, W: Write + Faults>(
     // Else nothing is written, or a beginning of it where writing failed, or memory while writing.
     ensures err { IfErr result (λ why. (all : List ℕ) → R.remaining reader.old ≡ Some all
         → StruckEarly limits.charge name.now timed (W.contents writer.old) (W.contents writer.new) (lines_of all) why) }
+    // It ends well only where the reader's count shows no failure.
+    ensures whole { OnOk result (¬ HasFailed (R.failed reader.old) (R.failed reader.new)) }
     ensures input_fault { IfErr result
         (MayBeFault InputFault (R.failed reader.old) (R.failed reader.new)) }
     ensures output_fault { IfErr result

@@ -11,11 +11,14 @@ returns-in_err-input-clause-err g c = nothing_known _ _ _ _ _ _
 pub returns-clause-ok : goal.returns-clause-ok
 returns-clause-ok g c = on_ok c.strike_input.result (λ h all known.
     subst (λ (t : List ℕ). Struck c.args.limits.charge c.args.name.now c.args.timed (g.W.Write.contents c.args.writer.now)
-    (g.W.Write.contents c.strike_input.new.writer) (lines_of t)) (c.in_ok-input.ensures all known) h)
+    (g.W.Write.contents c.strike_input.new.writer) (lines_of t)) (c.in_ok-input.ensures.bytes all known) h)
     (rw c.as_slice.ensures.value at c.strike_input.ensures.ok)
 
 pub returns-clause-err : goal.returns-clause-err
 returns-clause-err g c = if_err c.strike_input.result (λ why h all known.
     subst (λ (t : List ℕ). StruckEarly c.args.limits.charge c.args.name.now c.args.timed (g.W.Write.contents c.args.writer.now)
-    (g.W.Write.contents c.strike_input.new.writer) (lines_of t) why) (c.in_ok-input.ensures all known) h)
+    (g.W.Write.contents c.strike_input.new.writer) (lines_of t) why) (c.in_ok-input.ensures.bytes all known) h)
     (rw c.as_slice.ensures.value at c.strike_input.ensures.err)
+
+pub returns-clause-whole : goal.returns-clause-whole
+returns-clause-whole g c = on_ok c.strike_input.result (λ h. c.in_ok-input.ensures.whole) c.strike_input.ensures.ok
