@@ -20,7 +20,7 @@ use lines::answer_text;
 use model::Refusal;
 use nar::has_failed;
 use schedule::{Event, Limits, Reply, User, run};
-use session::{Faults, Head, Mode, flush_after, serve_head, write_whole};
+use session::{Ahead, Faults, Head, Mode, flush_after, read_ahead, serve_head, write_whole};
 use std::alloc::Global;
 use std::hash::RandomState;
 use std::io::{ErrorKind, Read, Write};
@@ -40,6 +40,18 @@ fn read_whole<R: Read + Faults>(alloc: Global, reader: &mut R) -> Result<Vec<u8>
     }
 }
 
+/// The users of an input of which no line with a newline names any: those of its last line, if that lacks it.
+fn users_at_end(alloc: Global, input: &[u8]) -> Result<Vec<User>, Refusal>
+    ensures { IfOk result (λ users. LooksAhead Service input.now (Some users.items)) }
+{
+    let mut rest = input;
+    let Ahead { users, .. } = read_ahead(alloc, Mode::Service, &mut rest)?;
+    if let Some(users) = users {
+        return Ok(users);
+    }
+    Err(Refusal::UnknownUser)
+}
+
 /// The users whom an input names. Where it names none, the user is unknown, unless a line of users is
 /// refused.
 fn users_in(alloc: Global, input: &[u8]) -> Result<Vec<User>, Refusal>
@@ -51,7 +63,7 @@ fn users_in(alloc: Global, input: &[u8]) -> Result<Vec<User>, Refusal>
     let Head { users, .. } = head;
     match users {
         Some(users) => Ok(users),
-        None => Err(Refusal::UnknownUser),
+        None => users_at_end(alloc, input),
     }
 }
 
