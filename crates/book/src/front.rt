@@ -282,8 +282,10 @@ impl<J: Naming> Front<J> {
     }
 
     /// Takes the lock and adds no row. Then each pass has seen all rows that the other is sure of, and both
-    /// know whether the front is stopped. Nothing else of what they know of their calls changes.
-    pub fn meet<R: Wait>(&self, rt: &R, first: &mut Pass<J>, second: &mut Pass<J>)
+    /// know whether the front is stopped, which is told. Nothing else of what they know of their calls
+    /// changes.
+    pub fn meet<R: Wait>(&self, rt: &R, first: &mut Pass<J>, second: &mut Pass<J>) -> bool
+        ensures told { result ≡ first.new.caller.stopped }
         ensures first { first.new.caller ≡ knowing first.new.caller.stopped first.old.caller }
         ensures second { second.new.caller ≡ knowing first.new.caller.stopped second.old.caller }
         ensures first_remains { first.old.caller.stopped ≡ true → first.new.caller.stopped ≡ true }
@@ -297,6 +299,7 @@ impl<J: Naming> Front<J> {
         let mut book = self.book.lock(rt);
         first.show(&mut *book);
         second.show(&mut *book);
+        book.is_stopped()
     }
 
     /// Takes the lock until it is let go, and changes nothing.
