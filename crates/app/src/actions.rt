@@ -1,16 +1,22 @@
 //! What the options ask for, done with the lines of readers.
 
-ghost use Rattle.std.specs.Prelude.{◌≡◌, ℕ, List, Some, OnOk, IfOk, IfErr};
+ghost use Rattle.std.specs.Prelude.{◌≡◌, ◌<◌, ◌⊎◌, [], false, ℕ, List, Some, OnOk, IfOk, IfErr};
 ghost use Rattle.model.specs.Lines.{lines_of};
+ghost use Rattle.model.specs.Worlds.{are_users};
+ghost use Rattle.model.specs.declared.refusal.Refusal.TheVariants.{BadUsers, Quota, InputFault, OutputFault};
+ghost use Rattle.session.specs.Serving.{IsNoFault, IsOwn, MayBeFault};
 ghost use Rattle.replaying.specs.Replaying.{Replayed, ReplayedInPart};
-ghost use Rattle.replaying.specs.Striking.{Struck};
-ghost use Rattle.running.specs.Runs.{AreOutputs};
+ghost use Rattle.replaying.specs.WholeLines.{ReplayedSoFar};
+ghost use Rattle.replaying.specs.Striking.{Struck, StruckEarly};
+ghost use Rattle.running.specs.Sessions.{CannotBegin};
+ghost use Rattle.running.specs.Desks.{passes_needed};
+ghost use Rattle.running.specs.Runs.{AreResults};
 ghost use Rattle.app.specs.Actions.{IsReplay, WhereStrikes};
 
 use command_line::{Action, Options};
 use model::Refusal;
 use replaying::{replay, strike};
-use running::{Output, Part, run};
+use running::{Part, Results, run};
 use schedule::{Limits, User};
 use session::Faults;
 use std::alloc::Global;
@@ -48,9 +54,21 @@ pub(crate) fn run_lines<H: Wait, R: Read + Faults, W: Write + Faults>(
         → Replayed options.now.charge (W.contents writer.old) (W.contents writer.new) (lines_of all)) }
     ensures in_part { IsReplay options.now.action → IfErr result (λ why. (all : List ℕ) → R.remaining reader.old ≡ Some all
         → ReplayedInPart options.now.charge (W.contents writer.old) (W.contents writer.new) (lines_of all) why) }
+    ensures failed { IsReplay options.now.action → IfErr result (λ why. why ≡ InputFault
+        → (all : List ℕ) → R.remaining reader.old ≡ Some all
+        → ReplayedSoFar options.now.charge (W.contents writer.old) (W.contents writer.new) all (R.remaining reader.new)) }
+    ensures errors { IsReplay options.now.action → IfErr result (λ why. (why ≡ InputFault) ⊎ IsOwn why) }
     // Those that can reach the user are run by `strike`, for his name, timed or not, and under that charge.
     ensures struck { WhereStrikes options.now.action (λ user timed. OnOk result ((all : List ℕ) → R.remaining reader.old ≡ Some all
         → Struck options.now.charge user timed (W.contents writer.old) (W.contents writer.new) (lines_of all))) }
+    ensures struck_in_part { WhereStrikes options.now.action (λ user timed. IfErr result (λ why.
+        (all : List ℕ) → R.remaining reader.old ≡ Some all
+        → StruckEarly options.now.charge user timed (W.contents writer.old) (W.contents writer.new) (lines_of all) why)) }
+    ensures input_fault { IfErr result
+        (MayBeFault InputFault (R.failed reader.old) (R.failed reader.new)) }
+    ensures output_fault { IfErr result
+        (MayBeFault OutputFault (W.failed writer.old) (W.failed writer.new)) }
+    ensures memory { IfErr result (IsNoFault (W.failed writer.old) (W.failed writer.new)) }
 {
     let limits = limits_of(options);
     match &options.action {
@@ -87,9 +105,13 @@ pub(crate) fn run_parts<
     users: Vec<User>,
     options: &Options,
     parts: Vec<Part<I, Q>>,
-) -> Result<Vec<Output>, Refusal>
-    ensures outputs { IfOk result (λ outputs.
-        AreOutputs (record { users = users.items; charge = options.now.charge }) I.remaining parts.items outputs.items) }
+) -> Result<Results, Refusal>
+    ensures results { IfOk result
+        (AreResults (record { users = users.items; charge = options.now.charge }) I.remaining parts.items) }
+    ensures users { are_users users.items ≡ false → IfOk result (λ _. parts.items ≡ []) }
+    ensures why { IfErr result CannotBegin }
+    ensures bad_users { IfErr result (λ why. why ≡ BadUsers → are_users users.items ≡ false) }
+    ensures quota { IfErr result (λ why. why ≡ Quota → 64 < passes_needed parts.items) }
 {
     run(host, alloc, hashing, users, limits_of(options), parts)
 }

@@ -7,7 +7,7 @@ use crate::narrator::Narrator;
 use builder::{ProcessRunner, System};
 use command_line::{Options, Run};
 use model::Refusal;
-use running::{Opening, Output, Part, look_ahead};
+use running::{Opening, Output, Part, Results, look_ahead};
 use schedule::User;
 use session::Counted;
 use std::alloc::AllocError;
@@ -15,6 +15,7 @@ use std::fs::{File, Files};
 use std::hash::RandomState;
 use std::io;
 use std::io::{Eprint, Write};
+use std::mem;
 use std::path::PathBuf;
 use std::process::Processes;
 use std::sync::Wait;
@@ -193,7 +194,12 @@ pub(crate) fn run_files<H: Threads + Wait + Sync, Q: Runner + Send + Drop>(
     let hashing = RandomState::new(rt)?;
     let users = users.unwrap_or(Vec::new(rt.alloc()));
     match run_parts(host, rt.alloc(), hashing, users, options, parts) {
-        Ok(outputs) => report_all(rt, run.files.as_slice(), outputs.as_slice()),
+        Ok(results) => {
+            let Results { outputs, history } = results;
+            // The program ends with them, and their memory is given back at once.
+            mem::forget(history);
+            report_all(rt, run.files.as_slice(), outputs.as_slice())
+        }
         Err(why) => Ok(report(rt, &Err(why), "")),
     }
 }

@@ -1,100 +1,243 @@
--- Desks of sessions, and what they give.
-use Rattle.std.proofs.Common.{Result, Ok, Err, ◌≡◌, ℕ, zero, suc, ◌<◌, refl, sym, ap, subst, arith, List, [], ◌∷◌, ◌++◌, length, Option}
-use Rattle.std.specs.Prelude.{map, slice_index_or, IfOk}
+-- Desks of sessions, their passes, and what they give.
+use Rattle.std.proofs.Common.{Result, Ok, Err, ◌≡◌, ℕ, zero, suc, ◌+◌, ◌-◌, ◌<◌, true, refl, sym, ◌∙◌, ap, subst, arith, List, [], ◌∷◌, ◌++◌, length, drop, Bool, Option}
+use Rattle.std.specs.Prelude.{map, slice_index_or, get_or, take, min, All, IfOk}
+use Rattle.std.proofs.lemmas.List.{length-map, length-append, map-append, append_assoc, append-nil, take_more}
+use Rattle.std.proofs.lemmas.List.Elements.{All-head, All-tail, All-drop}
+use lib.Seq.{drop-append_seam}
 use Rattle.std.specs.Global.{Vec}
 use Rattle.std.specs.Io.KnownBytes.{prepend_known}
+use mathlib.Core.List.{IsPrefix}
 use Rattle.model.specs.declared.refusal.Refusal.{Refusal}
 use Rattle.model.specs.Worlds.{Setup}
 use Rattle.events.specs.declared.event.Event.{Event}
 use Rattle.events.specs.declared.reply.Reply.{Reply}
-use Rattle.passes.specs.Callers.{Known, new_pass, below}
+use Rattle.passes.specs.Callers.{Known, new_pass, below, rows_of}
+use Rattle.book.specs.declared.history.History.{History}
 use Rattle.running.specs.declared.sessions.Desk.{Desk}
+use Rattle.running.specs.declared.sessions.Left.{Left}
 use Rattle.running.specs.declared.sessions.Output.{Output}
 use Rattle.running.specs.declared.sessions.Part.{Part}
-use Rattle.model.specs.Laws.{IsIsolated, IsTimelyIsolated}
 use Rattle.running.specs.Calling.{IsTold}
-use Rattle.running.specs.Meeting.{HasMet}
+use Rattle.running.specs.Meeting.{HasMet, is_stopped}
 use Rattle.running.specs.Sessions.{Outputs}
-use Rattle.running.specs.Desks.{IsUnused, AreUnused, IsDeskOf, AreDesksOf, OutputOf, AllOutputs}
-use Rattle.running.specs.Runs.{AreOutputs}
+use Rattle.running.specs.Desks.{AreFirst, IsDeskOf, AreDesksOf, passes_for, passes_needed, session_passes, passes_left, all_passes, OutputOf, AllOutputs}
+use Rattle.running.specs.Runs.{IsGivenBack, AreOutputs, AreServed, IsClosed, AreResults, are_accounted}
+use Rattle.running.specs.declared.runs.Results.{Results}
+use Rattle.passes.specs.declared.row.Row.{Row}
+use Rattle.passes.specs.Histories.{IsLegal}
+use Rattle.passes.proofs.HistoryLemmas.{legal_none}
 use Rattle.running.proofs.RunLemmas.{output_ran}
 
 -- ---- passes
 
-unused_append : (ps qs : List Known) → AreUnused ps → AreUnused qs → AreUnused (ps ++ qs)
-unused_append [] qs first next = next
-unused_append (p ∷ ps) qs first next = (first.0, unused_append ps qs first.1 next)
+below_length : (n : ℕ) → length (below n) ≡ n
+below_length zero = refl
+below_length (suc n) =
+    let b : length (below n) ≡ n = below_length n in
+    let e : length (below n) + 1 ≡ suc n = omega (arith, b) in
+    length-append (below n) (n ∷ []) ∙ e
 
-pub unused_first : (ps qs : List Known) → AreUnused (ps ++ qs) → AreUnused ps
-unused_first [] qs all = tt
-unused_first (p ∷ ps) qs all = (all.0, unused_first ps qs all.1)
+-- those that a new front gives are the first
+pub new_first : (passes : List Known) (n : ℕ) → passes ≡ map new_pass (below n) → (length passes ≡ n) × AreFirst passes
+new_first passes n same =
+    let long : length passes ≡ n = ap length same ∙ length-map (below n) new_pass ∙ below_length n in
+    (long, same ∙ ap (λ k. map new_pass (below k)) (sym long))
 
-pub unused_last : (ps : List Known) (p : Known) → AreUnused (ps ++ p ∷ []) → IsUnused p
-unused_last [] p all = all.0
-unused_last (q ∷ qs) p all = unused_last qs p all.1
+-- lists with a last item
+last_same : (xs ys : List Known) (a b : Known) → length xs ≡ length ys → xs ++ a ∷ [] ≡ ys ++ b ∷ [] → (xs ≡ ys) × (a ≡ b)
+last_same [] [] a b long same = (refl, ap (λ (l : List Known). get_or l 0 a) same)
+last_same (x ∷ xs) (y ∷ ys) a b long same =
+    let rest = last_same xs ys a b (omega (arith, long)) (ap (drop 1) same) in
+    let head : x ≡ y = ap (λ (l : List Known). get_or l 0 x) same in
+    (ap (λ (l : List Known). x ∷ l) rest.0 ∙ ap (λ (k : Known). k ∷ ys) head, rest.1)
+last_same [] (y ∷ ys) a b long same = absurd (omega (arith, long))
+last_same (x ∷ xs) [] a b long same = absurd (omega (arith, long))
 
-new_append : (xs : List ℕ) (n : ℕ) → map new_pass (xs ++ n ∷ []) ≡ map new_pass xs ++ new_pass n ∷ []
-new_append [] n = refl
-new_append (x ∷ xs) n = ap (λ rest. new_pass x ∷ rest) (new_append xs n)
+-- the last of the first passes, and those before it
+pub first_last : (passes rest : List Known) (p : Known) → passes ≡ rest ++ p ∷ [] → AreFirst passes
+    → (length passes ≡ length rest + 1) × (p ≡ new_pass (length rest)) × AreFirst rest
+first_last passes rest p split first =
+    let n : ℕ = length rest in
+    let long : length passes ≡ n + 1 = ap length split ∙ length-append rest (p ∷ []) in
+    let all : rest ++ p ∷ [] ≡ map new_pass (below n) ++ new_pass n ∷ [] =
+    sym split ∙ first ∙ ap (λ k. map new_pass (below k)) (let e : length passes ≡ suc n = omega (arith, long) in e)
+    ∙ map-append new_pass (below n) (n ∷ []) in
+    let both = last_same rest (map new_pass (below n)) p (new_pass n) (sym (length-map (below n) new_pass ∙ below_length n)) all in
+    (long, both.1, both.0)
 
--- those that a new front gives have made no call
-pub new_unused : (n : ℕ) → AreUnused (map new_pass (below n))
-new_unused zero = tt
-new_unused (suc n) = subst AreUnused (sym (new_append (below n) n)) (unused_append (map new_pass (below n)) (new_pass n ∷ []) (new_unused n) (refl, tt))
+-- there is none
+pub first_none : (passes : List Known) → passes ≡ [] → AreFirst passes
+first_none passes none = rw none refl
+
+-- ---- how many are needed
+
+module _ {I Q : Type 0} where
+  needed_push : (parts : List (Part I Q)) (part : Part I Q) → passes_needed (parts ++ part ∷ []) ≡ passes_needed parts + passes_for part
+  needed_push [] part = omega arith
+  needed_push (p ∷ ps) part = let rest = needed_push ps part in omega (arith, rest)
+
+  -- one file more is counted, up to a greatest number
+  pub count_more : (most : ℕ) (parts : List (Part I Q)) (i : ℕ) (part : Part I Q) (len count next total : ℕ) → i < length parts → part ≡ get_or parts i part
+      → len ≡ length part.runners.items → count ≡ min (passes_needed (take i parts)) most → next ≡ min (count + len) most → total ≡ min (next + 1) most
+      → total ≡ min (passes_needed (take (i + 1) parts)) most
+  count_more most parts i part len count next total inside here long counted more one =
+      let n : ℕ = passes_needed (take i parts) in
+      let all : passes_needed (take (i + 1) parts) ≡ n + passes_for part =
+      ap passes_needed (take_more parts i part inside ∙ ap (λ (p : Part I Q). take i parts ++ p ∷ []) (sym here)) ∙ needed_push (take i parts) part in
+      omega (arith, all, long, counted, more, one)
+
+  none_needed : (parts : List (Part I Q)) → passes_needed parts ≡ 0 → parts ≡ []
+  none_needed [] none = refl
+  none_needed (p ∷ ps) none = absurd (omega (arith, none))
+
+  -- where none is counted there is no file
+  pub none_counted : (most : ℕ) (parts : List (Part I Q)) → 0 < most → 0 ≡ min (passes_needed parts) most → parts ≡ []
+  none_counted most parts some none = none_needed parts (omega (arith, some, none))
 
 -- ---- desks
 
--- no file gives no output
-pub no_outputs : {I Q : Type 0} (setup : Setup) (remaining : I → Option (List ℕ)) (parts : List (Part I Q)) (outputs : List Output)
-    → parts ≡ [] → outputs ≡ [] → AreOutputs setup remaining parts outputs
-no_outputs setup remaining parts outputs none empty = rw (none, empty) tt
-
 module _ {I Q : Type 0} where
-  pub desks_push : (parts : List (Part I Q)) (part : Part I Q) (desks : List (Desk Known Q I)) (desk : Desk Known Q I)
-      → AreDesksOf parts desks → IsDeskOf part desk → AreDesksOf (parts ++ part ∷ []) (desks ++ desk ∷ [])
-  desks_push [] part [] desk all one = (one, tt)
-  desks_push (p ∷ ps) part (d ∷ ds) desk all one = (all.0, desks_push ps part ds desk all.1 one)
-  desks_push [] part (d ∷ ds) desk all one = absurd all
-  desks_push (p ∷ ps) part [] desk all one = absurd all
+  -- so many passes are left behind some files
+  abbrev pub left_behind : ℕ → List (Part I Q) → ℕ
+  left_behind count [] = count
+  left_behind count (part ∷ parts) = left_behind (count - passes_for part) parts
 
-  -- what the desks of files give is what the files give
-  pub outputs_of : (setup : Setup) → IsIsolated → IsTimelyIsolated → (remaining : I → Option (List ℕ))
-      (parts : List (Part I Q)) (desks : List (Desk Known Q I)) (outputs : List Output)
-      → AreDesksOf parts desks → AllOutputs (IsTold setup) HasMet remaining desks outputs → AreOutputs setup remaining parts outputs
-  outputs_of setup isolated timed remaining [] [] [] desks all = tt
-  outputs_of setup isolated timed remaining (p ∷ ps) (d ∷ ds) (o ∷ os) desks all = (
-    output_ran setup isolated timed d.store.caller.number (prepend_known p.bytes.items (remaining p.reader)) o.ended o.text.items
-        (subst (λ (store : Known). Outputs (IsTold setup) HasMet store (prepend_known p.bytes.items (remaining p.reader)) o) desks.0.2
-        (subst (λ (reader : I). Outputs (IsTold setup) HasMet d.store (prepend_known p.bytes.items (remaining reader)) o) desks.0.1
-        (subst (λ bytes. Outputs (IsTold setup) HasMet d.store (prepend_known bytes.items (remaining d.reader)) o) desks.0.0 all.0))),
-    outputs_of setup isolated timed remaining ps ds os desks.1 all.1,
-  )
-  outputs_of setup isolated timed remaining [] [] (o ∷ os) desks all = absurd all
-  outputs_of setup isolated timed remaining [] (d ∷ ds) os desks all = absurd desks
-  outputs_of setup isolated timed remaining (p ∷ ps) [] os desks all = absurd desks
-  outputs_of setup isolated timed remaining (p ∷ ps) (d ∷ ds) [] desks all = absurd all
+  pub left_push : (count : ℕ) (parts : List (Part I Q)) (part : Part I Q) → left_behind count (parts ++ part ∷ []) ≡ left_behind count parts - passes_for part
+  left_push count [] part = refl
+  left_push count (p ∷ ps) part = left_push (count - passes_for p) ps part
 
-  -- where there are any
-  pub if_outputs : (setup : Setup) → IsIsolated → IsTimelyIsolated → (remaining : I → Option (List ℕ))
-      (parts : List (Part I Q)) (desks : List (Desk Known Q I)) (result : Result (Vec Output) Refusal)
-      → AreDesksOf parts desks → IfOk result (λ outputs. AllOutputs (IsTold setup) HasMet remaining desks outputs.items)
-      → IfOk result (λ outputs. AreOutputs setup remaining parts outputs.items)
-  if_outputs setup isolated timed remaining parts desks (Ok outputs) are all = outputs_of setup isolated timed remaining parts desks outputs.items are all
-  if_outputs setup isolated timed remaining parts desks (Err why) are all = tt
+  pub desks_push : (count : ℕ) (parts : List (Part I Q)) (part : Part I Q) (desks : List (Desk Known Q I)) (desk : Desk Known Q I)
+      → AreDesksOf (session_passes count parts) parts desks → IsDeskOf (left_behind count parts - passes_for part) part desk
+      → AreDesksOf (session_passes count (parts ++ part ∷ [])) (parts ++ part ∷ []) (desks ++ desk ∷ [])
+  desks_push count [] part [] desk all one = (one, tt)
+  desks_push count (p ∷ ps) part (d ∷ ds) desk all one = (all.0, desks_push (count - passes_for p) ps part ds desk all.1 one)
+  desks_push count [] part (d ∷ ds) desk all one = absurd all
+  desks_push count (p ∷ ps) part [] desk all one = absurd all
+
+  -- the numbers of their passes
+  pub desk_numbers : (numbers : List ℕ) (parts : List (Part I Q)) (desks : List (Desk Known Q I)) → AreDesksOf numbers parts desks
+      → map (λ (d : Desk Known Q I). d.store.caller.number) desks ≡ numbers
+  desk_numbers [] [] [] all = refl
+  desk_numbers (n ∷ ns) (p ∷ ps) (d ∷ ds) all =
+      ap (λ k. k ∷ map (λ (d : Desk Known Q I). d.store.caller.number) ds) (ap (λ (k : Known). k.caller.number) all.0.2)
+      ∙ ap (λ ks. n ∷ ks) (desk_numbers ns ps ds all.1)
+  desk_numbers [] [] (d ∷ ds) all = absurd all
+  desk_numbers [] (p ∷ ps) ds all = absurd all
+  desk_numbers (n ∷ ns) [] ds all = absurd all
+  desk_numbers (n ∷ ns) (p ∷ ps) [] all = absurd all
+
+  -- ---- what they give
+
+  -- what the desks of files leave stands in the history of the front to which all passes were given back
+  pub outputs_of : (setup : Setup) (remaining : I → Option (List ℕ)) (history : History) (numbers : List ℕ)
+      (parts : List (Part I Q)) (desks : List (Desk Known Q I)) (lefts : List (Left Known Q))
+      → AreDesksOf numbers parts desks → AllOutputs (IsTold setup) HasMet is_stopped remaining desks lefts
+      → All (IsGivenBack history) (all_passes lefts)
+      → AreOutputs setup remaining history numbers parts (map (λ (l : Left Known Q). l.output) lefts)
+  outputs_of setup remaining history [] [] [] [] are all back = tt
+  outputs_of setup remaining history (n ∷ ns) (p ∷ ps) (d ∷ ds) (l ∷ ls) are all back =
+      let workers : List Known = map (λ w. w.store) l.workers.items in
+      let rest : All (IsGivenBack history) (workers ++ all_passes ls) = All-tail (IsGivenBack history) l.store (workers ++ all_passes ls) back in (
+        output_ran setup history n l.store (All-head (IsGivenBack history) l.store (workers ++ all_passes ls) back)
+            (prepend_known p.bytes.items (remaining p.reader)) l.output.ended l.output.text.items
+            (subst (λ (store : Known). Outputs (IsTold setup) HasMet is_stopped store l.store (prepend_known p.bytes.items (remaining p.reader)) l.output) are.0.2
+            (subst (λ (reader : I). Outputs (IsTold setup) HasMet is_stopped d.store l.store (prepend_known p.bytes.items (remaining reader)) l.output) are.0.1
+            (subst (λ bytes. Outputs (IsTold setup) HasMet is_stopped d.store l.store (prepend_known bytes.items (remaining d.reader)) l.output) are.0.0 all.0))),
+        outputs_of setup remaining history ns ps ds ls are.1 all.1
+            (subst (All (IsGivenBack history)) (drop-append_seam workers (all_passes ls))
+            (All-drop (IsGivenBack history) (length workers) (workers ++ all_passes ls) rest)),
+      )
+  outputs_of setup remaining history [] [] [] (l ∷ ls) are all back = absurd all
+  outputs_of setup remaining history [] [] (d ∷ ds) ls are all back = absurd are
+  outputs_of setup remaining history [] (p ∷ ps) ds ls are all back = absurd are
+  outputs_of setup remaining history (n ∷ ns) [] ds ls are all back = absurd are
+  outputs_of setup remaining history (n ∷ ns) (p ∷ ps) [] ls are all back = absurd are
+  outputs_of setup remaining history (n ∷ ns) (p ∷ ps) (d ∷ ds) [] are all back = absurd all
+
+-- what a front says at its end, of each pass
+pub given_back : (history : History) (passes : List Known)
+    → All (λ (p : Known). IsPrefix p.caller.sure history.rows.items) passes → All (λ (p : Known). IsPrefix p.seen history.rows.items) passes
+    → All (λ (p : Known). rows_of p.caller.number history.rows.items ≡ p.caller.calls) passes
+    → All (λ (p : Known). p.caller.stopped ≡ true → history.stopped ≡ true) passes → All (IsGivenBack history) passes
+given_back history passes sure seen each stopped = λ k d inside. record {
+  sure = sure k d inside;
+  seen = seen k d inside;
+  each = each k d inside;
+  stopped = stopped k d inside;
+}
+
+-- the passes of one session more
+pub all_push : {Q : Type 0} (lefts : List (Left Known Q)) (left : Left Known Q) → all_passes (lefts ++ left ∷ []) ≡ all_passes lefts ++ passes_left left
+all_push [] left = append-nil (passes_left left)
+all_push (l ∷ ls) left =
+    ap (λ (ps : List Known). passes_left l ++ ps) (all_push ls left) ∙ sym (append_assoc (passes_left l) (all_passes ls) (passes_left left))
 
 -- ---- outputs that threads gave
 
-module _ {S Q I : Type 0} (called : S → Event → Reply → S → Type 0) (met : S → S → Type 0) (remaining : I → Option (List ℕ)) where
-  -- where each place has the output of its desk, all have
-  pub each_output : (desks : List (Desk S Q I)) (outputs : List Output) → length outputs ≡ length desks
-      → ((i : ℕ) (d : Output) → i < length desks
-      → (desk : Desk S Q I) × ((e : Desk S Q I) → slice_index_or desks i e ≡ desk) × OutputOf called met remaining desk (slice_index_or outputs i d))
-      → AllOutputs called met remaining desks outputs
+module _ {S Q I : Type 0} (called : S → Event → Reply → S → Type 0) (met : S → S → Type 0) (stopped : S → Bool) (remaining : I → Option (List ℕ)) where
+  -- where each place has what its desk leaves, all have
+  pub each_output : (desks : List (Desk S Q I)) (lefts : List (Left S Q)) → length lefts ≡ length desks
+      → ((i : ℕ) (d : Left S Q) → i < length desks
+      → (desk : Desk S Q I) × ((e : Desk S Q I) → slice_index_or desks i e ≡ desk) × OutputOf called met stopped remaining desk (slice_index_or lefts i d))
+      → AllOutputs called met stopped remaining desks lefts
   each_output [] [] same each = tt
-  each_output (d ∷ ds) (o ∷ os) same each =
-      let first = each 0 o (omega arith) in (
-        subst (λ (desk : Desk S Q I). OutputOf called met remaining desk o) (sym (first.1 d)) first.2,
-        each_output ds os (omega (arith, same)) (λ i e inside. each (suc i) e (omega (arith, inside))),
+  each_output (d ∷ ds) (l ∷ ls) same each =
+      let first = each 0 l (omega arith) in (
+        subst (λ (desk : Desk S Q I). OutputOf called met stopped remaining desk l) (sym (first.1 d)) first.2,
+        each_output ds ls (omega (arith, same)) (λ i e inside. each (suc i) e (omega (arith, inside))),
       )
-  each_output [] (o ∷ os) same each = absurd (omega (arith, same))
+  each_output [] (l ∷ ls) same each = absurd (omega (arith, same))
   each_output (d ∷ ds) [] same each = absurd (omega (arith, same))
+
+-- ---- all files
+
+-- what sessions left by these desks
+pub all_served : {I Q : Type 0} (setup : Setup) (remaining : I → Option (List ℕ)) (numbers : List ℕ) (parts : List (Part I Q))
+    (desks : List (Desk Known Q I)) (lefts : List (Left Known Q)) (sessions : List ℕ) (passes : List Known) (outputs : List Output)
+    → AreDesksOf numbers parts desks → AllOutputs (IsTold setup) HasMet is_stopped remaining desks lefts
+    → sessions ≡ map (λ (d : Desk Known Q I). d.store.caller.number) desks → passes ≡ all_passes lefts
+    → outputs ≡ map (λ (l : Left Known Q). l.output) lefts → AreServed setup remaining numbers parts sessions passes outputs
+all_served setup remaining numbers parts desks lefts sessions passes outputs are all named back gave = record {
+  named = named ∙ desk_numbers numbers parts desks are;
+  outputs_are = λ history given.
+      subst (λ (os : List Output). AreOutputs setup remaining history numbers parts os) (sym gave)
+      (outputs_of setup remaining history numbers parts desks lefts are all (subst (All (IsGivenBack history)) back given));
+}
+
+-- and what came of them where the front was closed
+pub results_of : {I Q : Type 0} (setup : Setup) (remaining : I → Option (List ℕ)) (parts : List (Part I Q)) (count : ℕ)
+    (sessions : List ℕ) (passes : List Known) (outputs : Vec Output) (results : Results)
+    → count ≡ passes_needed parts
+    → AreServed setup remaining (session_passes count parts) parts sessions passes outputs.items
+    → IsClosed setup sessions passes results.history → results.outputs ≡ outputs → AreResults setup remaining parts results
+results_of setup remaining parts count sessions passes outputs results needed served closed same = record {
+  legal = closed.legal;
+  outputs =
+      subst (λ (n : ℕ). AreOutputs setup remaining results.history (session_passes n parts) parts results.outputs.items) needed
+      (subst (λ (os : Vec Output). AreOutputs setup remaining results.history (session_passes count parts) parts os.items) (sym same)
+      (served.outputs_are results.history closed.back));
+  others =
+      subst (λ (n : ℕ). are_accounted (session_passes n parts) results.history.rows.items ≡ true) needed
+      (subst (λ (ns : List ℕ). are_accounted ns results.history.rows.items ≡ true) served.named closed.others);
+}
+
+pub if_results : {I Q : Type 0} (setup : Setup) (remaining : I → Option (List ℕ)) (parts : List (Part I Q)) (count : ℕ)
+    (sessions : List ℕ) (passes : List Known) (outputs : Vec Output)
+    → count ≡ passes_needed parts
+    → AreServed setup remaining (session_passes count parts) parts sessions passes outputs.items
+    → (r : Result Results Refusal) → IfOk r (λ results. IsClosed setup sessions passes results.history × (results.outputs ≡ outputs))
+    → IfOk r (AreResults setup remaining parts)
+if_results setup remaining parts count sessions passes outputs needed served (Ok results) closed =
+    results_of setup remaining parts count sessions passes outputs results needed served closed.0 closed.1
+if_results setup remaining parts count sessions passes outputs needed served (Err why) closed = tt
+
+-- no file gives no output
+pub no_results : {I Q : Type 0} (setup : Setup) (remaining : I → Option (List ℕ)) (parts : List (Part I Q)) (results : Results)
+    → parts ≡ [] → results.outputs.items ≡ [] → results.history.rows.items ≡ [] → AreResults setup remaining parts results
+no_results {I} {Q} setup remaining parts results none outputs rows = record {
+  legal = subst (IsLegal setup) (sym rows) (legal_none setup);
+  outputs =
+      subst (λ (os : List Output). AreOutputs setup remaining results.history (session_passes (passes_needed parts) parts) parts os) (sym outputs)
+      (subst (λ (ps : List (Part I Q)). AreOutputs setup remaining results.history (session_passes (passes_needed ps) ps) ps []) (sym none) tt);
+  others = subst (λ (rs : List Row). are_accounted (session_passes (passes_needed parts) parts) rs ≡ true) (sym rows) refl;
+}

@@ -1,5 +1,5 @@
-mod StandLemmas
-mod MergeLemmas
+mod ToldLemmas
+mod ChainLemmas
 mod Sending
 mod WaitLemmas
 mod ServedLemmas

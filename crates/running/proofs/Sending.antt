@@ -1,4 +1,4 @@
--- The stores of workers and of sessions go to other threads.
+-- The store that sessions and workers share goes to other threads.
 use denote.RattleType.{RattleType}
 use denote.Ref.{NamedLft}
 use denote.Struct.Field.{shr_ref_field}
@@ -7,8 +7,6 @@ use denote.Param.SendFields.{declared_send, as_row_send}
 use Rattle.std.specs.declared.sync.ledger.Ledger as Ledger
 use Rattle.passes.specs.declared.naming.Naming as Naming
 use Rattle.book.specs.contracts.front.Front as Front
-use Rattle.running.specs.contracts.shared.SessionStore as SessionStore
-use Rattle.running.specs.contracts.shared.SessionStore.TheInside as SessionInside
 use Rattle.running.specs.contracts.shared.SharedStore as SharedStore
 use Rattle.running.specs.contracts.shared.SharedStore.TheInside as SharedInside
 use Rattle.book.proofs.Crossing.{front_sync, pass_send}
@@ -24,14 +22,3 @@ module _ (a : NamedLft) (J R : RattleType) (n : Naming.Ghosts J.Denot) (l : Ledg
 
   pub store_send : IsSync R → IsSend (SharedStore.the_row a J R n l)
   store_send y = let inside : IsSend (SharedInside.the_row a J R n l) = inside_send y in search (view_send, inside) depth 5
-
-  session_inside_send : IsSync R → IsSend (SessionInside.the_row a J R n l)
-  session_inside_send y =
-      let front : IsSync (Front.the_row J n l) = front_sync J n l in
-      declared_send (SessionInside.the_type a J R n l) (
-        search (shr_send, y) depth 5,
-        (as_row_send (shr_ref_field a (Front.the_row J n l) tt) (shr_send a.mir a.lft (Front.the_row J n l) front), (pass_send J n l, tt)),
-      )
-
-  pub session_store_send : IsSync R → IsSend (SessionStore.the_row a J R n l)
-  session_store_send y = let inside : IsSend (SessionInside.the_row a J R n l) = session_inside_send y in search (view_send, inside) depth 5

@@ -1,6 +1,6 @@
 -- What a session over a text in memory gives.
 use Rattle.std.proofs.Common.{◌≡◌, refl, sym, subst, List, [], ◌++◌, ℕ, Option, Some, Result, Ok, Err}
-use Rattle.std.specs.Prelude.{OnOk, IfErr, MatchResult}
+use Rattle.std.specs.Prelude.{Bool, OnOk, IfErr, MatchResult}
 use Rattle.std.specs.Io.KnownBytes.{Consumes, IsAtEnd, prepend_known}
 use Rattle.std.proofs.lemmas.Bool.{false≢true}
 use Rattle.model.specs.declared.mode.Mode.TheVariants.{Run}
@@ -14,11 +14,11 @@ use Rattle.session.proofs.RowLemmas.{appends-none, consumes-none, consumes-behin
 use Rattle.running.specs.declared.sessions.Output.{Output}
 use Rattle.running.specs.Sessions.{Answers, Waits, Served, ServedInPart, Outputs, kept_fault}
 
-module _ {S : Type 0} (called : S → Event → Reply → S → Type 0) (met : S → S → Type 0) where
+module _ {S : Type 0} (called : S → Event → Reply → S → Type 0) (met : S → S → Type 0) (stopped : S → Bool) where
   -- no line of users is refused by want of memory
   kept_early : (first last : S) (text input : List ℕ) (at_end : Type 0) (why : Refusal)
-      → EndedEarly Run (Link (Answers called) (Waits called met)) first last (Some []) (Some text) input at_end why
-      → EndedEarly Run (Link (Answers called) (Waits called met)) first last (Some []) (Some text) input at_end (kept_fault why)
+      → EndedEarly Run (Link (Answers called) (Waits called met stopped)) first last (Some []) (Some text) input at_end why
+      → EndedEarly Run (Link (Answers called) (Waits called met stopped)) first last (Some []) (Some text) input at_end (kept_fault why)
   kept_early first last text input at_end OutputFault e = record {
     rows = e.rows;
     done = e.done;
@@ -34,28 +34,28 @@ module _ {S : Type 0} (called : S → Event → Reply → S → Type 0) (met : S
 
   served : (first last : S) (start end : Option (List ℕ)) (text : List ℕ) (ended kept : Result (Unit {0}) Refusal)
       → OnOk ended ((input : List ℕ) × Consumes start end input × IsAtEnd end
-      × Finished Run (Link (Answers called) (Waits called met)) first last (Some []) (Some text) (lines_of input))
+      × Finished Run (Link (Answers called) (Waits called met stopped)) first last (Some []) (Some text) (lines_of input))
       → IfErr ended (λ why. (input : List ℕ) × Consumes start end input
-      × EndedEarly Run (Link (Answers called) (Waits called met)) first last (Some []) (Some text) input (IsAtEnd end) why)
+      × EndedEarly Run (Link (Answers called) (Waits called met stopped)) first last (Some []) (Some text) input (IsAtEnd end) why)
       → MatchResult ended (λ _. kept ≡ Ok tt) (λ why. kept ≡ Err (kept_fault why))
-      → MatchResult kept (λ _. Served called met first start text) (ServedInPart called met first start text)
+      → MatchResult kept (λ _. Served called met stopped first last start text) (ServedInPart called met stopped first last start text)
   served first last start end text (Ok _) kept ok err is =
-      subst (λ (k : Result (Unit {0}) Refusal). MatchResult k (λ _. Served called met first start text) (ServedInPart called met first start text)) (sym is)
-      (record { input = ok.0; end = end; read = ok.1; ended = ok.2; last = last; done = ok.3 })
+      subst (λ (k : Result (Unit {0}) Refusal). MatchResult k (λ _. Served called met stopped first last start text) (ServedInPart called met stopped first last start text)) (sym is)
+      (record { input = ok.0; end = end; read = ok.1; ended = ok.2; done = ok.3 })
   served first last start end text (Err why) kept ok err is =
-      subst (λ (k : Result (Unit {0}) Refusal). MatchResult k (λ _. Served called met first start text) (ServedInPart called met first start text)) (sym is)
-      (record { input = err.0; end = end; read = err.1; last = last; done = kept_early first last text err.0 (IsAtEnd end) why err.2 })
+      subst (λ (k : Result (Unit {0}) Refusal). MatchResult k (λ _. Served called met stopped first last start text) (ServedInPart called met stopped first last start text)) (sym is)
+      (record { input = err.0; end = end; read = err.1; done = kept_early first last text err.0 (IsAtEnd end) why err.2 })
 
   -- what was read, and what was written to
   pub served_lines : (first last : S) (bytes : List ℕ) (start end : Option (List ℕ)) (text : List ℕ) (blank written : Option (List ℕ))
       (ended kept : Result (Unit {0}) Refusal)
       → blank ≡ Some [] → written ≡ Some text
       → OnOk ended ((input : List ℕ) × Consumes start end input × IsAtEnd end
-      × Finished Run (Link (Answers called) (Waits called met)) first last blank written (lines_of (bytes ++ input)))
+      × Finished Run (Link (Answers called) (Waits called met stopped)) first last blank written (lines_of (bytes ++ input)))
       → IfErr ended (λ why. (input : List ℕ) × Consumes start end input
-      × EndedEarly Run (Link (Answers called) (Waits called met)) first last blank written (bytes ++ input) (IsAtEnd end) why)
+      × EndedEarly Run (Link (Answers called) (Waits called met stopped)) first last blank written (bytes ++ input) (IsAtEnd end) why)
       → MatchResult ended (λ _. kept ≡ Ok tt) (λ why. kept ≡ Err (kept_fault why))
-      → MatchResult kept (λ _. Served called met first (prepend_known bytes start) text) (ServedInPart called met first (prepend_known bytes start) text)
+      → MatchResult kept (λ _. Served called met stopped first last (prepend_known bytes start) text) (ServedInPart called met stopped first last (prepend_known bytes start) text)
   served_lines first last bytes start end text blank written (Ok u) kept none all ok err is =
       served first last (prepend_known bytes start) end text (Ok u) kept
       (bytes ++ ok.0, consumes-behind bytes start end ok.0 ok.1, ok.2, (rw (← none, ← all) ok.3)) tt is
@@ -65,12 +65,11 @@ module _ {S : Type 0} (called : S → Event → Reply → S → Type 0) (met : S
 
   -- no line of it was answered
   pub none_served : (first : S) (start : Option (List ℕ)) (output : Output) → output.text.items ≡ []
-      → output.ended ≡ Err Memory → Outputs called met first start output
+      → output.ended ≡ Err Memory → Outputs called met stopped first first start output
   none_served first start output empty ended = rw (ended, empty) (record {
     input = [];
     end = start;
     read = consumes-none start;
-    last = first;
     done = record {
       rows = [];
       done = [];

@@ -1,5 +1,5 @@
 -- Calls of a store in a wait, one after another.
-use Rattle.std.proofs.Common.{◌≡◌, ℕ, zero, suc, ◌<◌, refl, sym, ◌∙◌, ap, subst, arith, List, [], ◌∷◌, ◌++◌, length}
+use Rattle.std.proofs.Common.{◌≡◌, ◌⊎◌, inl, inr, ℕ, zero, suc, ◌<◌, refl, sym, ◌∙◌, ap, subst, arith, List, [], ◌∷◌, ◌++◌, length}
 use Rattle.std.specs.Prelude.{map, take, drop, get_or, All}
 use Rattle.std.proofs.lemmas.List.{append_assoc}
 use Rattle.std.proofs.lemmas.List.Elements.{All-weaker}
@@ -82,7 +82,7 @@ module _ {S : Type 0} (called : S → Event → Reply → S → Type 0) (met : S
   calls_behind a b [] c one chain = more a b c one chain
   calls_behind a b (x ∷ xs) c one chain = (chain.0, chain.1, more a b chain.0 one chain.2, chain.3, chain.4)
 
-  calls_append : (a : S) (first : List Call) (b : S) (next : List Call) (c : S) → Calls called met a first b → Calls called met b next c
+  pub calls_append : (a : S) (first : List Call) (b : S) (next : List Call) (c : S) → Calls called met a first b → Calls called met b next c
       → Calls called met a (first ++ next) c
   calls_append a [] b next c one two = calls_behind a b next c one two
   calls_append a (x ∷ xs) b next c one two = (one.0, one.1, one.2, one.3, calls_append one.1 xs b next c one.4 two)
@@ -125,3 +125,24 @@ module _ {S : Type 0} (called : S → Event → Reply → S → Type 0) (met kno
 pub are_goals : (goals : List Job) → AreGoals (map ticket_for goals)
 are_goals [] = tt
 are_goals (goal ∷ goals) = (tt, are_goals goals)
+
+-- ---- rounds, and the rounds of others
+
+module _ {S : Type 0} (called : S → Event → Reply → S → Type 0) (met knows : S → S → Type 0)
+    (more : (s t u : S) → met s t → met t u → met s u)
+    (on : (s t other : S) → met s t → knows s other → knows t other)
+    (after : (s t other : S) (event : Event) (reply : Reply) → called s event reply t → knows s other → knows t other) where
+  -- a store that was asked is asked again
+  pub asked_again : (goals : List Job) (a b c : S) → Asked called met goals a b → Asked called met goals b c → Asked called met goals a c
+  asked_again goals a b c first next = further called met more goals a b c first next
+
+  -- the workers are those who were there, or the store knows what they were answered
+  pub knows_again : {C Q : Type 0} (workers_of : C → List (Worker S Q)) (goals : List Job) (first crew later : C) (a b : S)
+      → (crew ≡ first) ⊎ All (λ w. knows a w.store) (workers_of crew) → Asked called met goals a b
+      → (later ≡ crew) ⊎ All (λ w. knows b w.store) (workers_of later)
+      → (later ≡ first) ⊎ All (λ w. knows b w.store) (workers_of later)
+  knows_again workers_of goals first crew later a b before asked (inr now) = inr now
+  knows_again workers_of goals first crew later a b (inl same) asked (inl still) = inl (still ∙ same)
+  knows_again workers_of goals first crew later a b (inr known) asked (inl still) =
+      inr (subst (λ c. All (λ w. knows b w.store) (workers_of c)) (sym still)
+      (knows_still called met knows on after goals a b (workers_of crew) asked known))

@@ -1,5 +1,5 @@
 -- What calls through a pass leave in the history of a front.
-use Rattle.std.specs.Prelude.{◌≡◌, ◌≢◌, ◌⊎◌, ℕ, ◌==◌, true, false, if◌then◌else◌, List, [], ◌∷◌, ◌++◌, filter, Result, Err}
+use Rattle.std.specs.Prelude.{◌≡◌, ◌≢◌, ◌⊎◌, ℕ, ◌==◌, Bool, true, false, not, ◌&&◌, if◌then◌else◌, List, [], ◌∷◌, ◌++◌, filter, Result, Err, MatchBool}
 use mathlib.Core.List.{IsPrefix}
 use Rattle.model.specs.declared.refusal.Refusal.{Refusal}
 use Rattle.model.specs.declared.refusal.Refusal.TheVariants.{Memory, Stopped}
@@ -8,76 +8,89 @@ use Rattle.model.specs.Goals.{Running}
 use Rattle.model.specs.Events.{is_query}
 use Rattle.events.specs.Terms.{request_of}
 use Rattle.events.specs.declared.event.Event.{Event}
+use Rattle.events.specs.declared.event.Request.{Request}
+use Rattle.events.specs.declared.event.Request.TheVariants.{Plan, Start, Finish, Fail}
 use Rattle.events.specs.declared.reply.Reply.{Reply}
 use Rattle.events.specs.declared.reply.Reply.TheVariants.{Refused}
 use Rattle.passes.specs.declared.row.Row.{Row}
-use Rattle.passes.specs.Callers.{Caller, Known, told_stopped, with_caller, rows_of}
-use Rattle.workers.specs.declared.ticket.Ticket.{Ticket}
-use Rattle.workers.specs.declared.runner.RunFault.{RunFault}
-use Rattle.workers.specs.declared.worker.Worker.{Worker}
+use Rattle.passes.specs.Callers.{Known, told_stopped, seeing, with_caller, rows_of}
 use Rattle.workers.specs.Working.{Call}
-use Rattle.workers.specs.Rounds.{Shift, IsRound}
-use Rattle.passes.specs.Histories.{row, gave_up, IsLegal, IsAnswered, IsReadAfter}
-use Rattle.book.specs.Asking.{IsAsked}
+use Rattle.passes.specs.Histories.{row, gave_up, IsAnswered, IsReadAfter}
+use Rattle.book.specs.Asking.{IsAskedAfter}
 
 -- ---- one call
 
--- an event was handed to a front through a pass: at any reply but 90 and 92 its row is the last of the sure rows
-pub record IsCalled (setup : Setup) (old : Known) (event : Event) (reply : Reply) (new : Known) : Type 0 where
-  pub answered : gave_up reply ≡ false → IsAnswered setup old event reply new
+-- whether an event is only read
+abbrev pub is_read : Event → Bool
+is_read event = is_query (request_of event.request)
+
+-- whether a call has a row: it was answered otherwise than with 90 and 92, and is not only read
+abbrev pub has_row : Call → Bool
+has_row c = not (gave_up c.1) && not (is_read c.0)
+
+-- a pass has seen what it is sure of, and its calls are counted
+pub record IsCounted (p : Known) : Type 0 where
+  pub seen : IsPrefix p.caller.sure p.seen
+  pub rows : rows_of p.caller.number p.caller.sure ≡ p.caller.calls
+
+-- an event was handed to a front through a pass. What is only read is answered after rows that begin with all that the pass had seen, and
+-- are what it has seen then, and else the pass is as it was; any other event has its row, which is the last of the sure rows, at any reply
+-- but 90 and 92: at 90 the pass is as it was, and at 92 it knows that the front is stopped
+pub record IsTold (setup : Setup) (old : Known) (event : Event) (reply : Reply) (new : Known) : Type 0 where
+  pub answered : has_row (event, reply) ≡ true → IsAnswered setup old event reply new
+  pub read : is_read event ≡ true → gave_up reply ≡ false → IsReadAfter setup old.caller.number new.seen event reply
+  pub only_read : is_read event ≡ true → (new ≡ seeing old new.seen) × (reply ≢ Refused Stopped)
   pub memory : reply ≡ Refused Memory → new.caller ≡ old.caller
   pub stopped : reply ≡ Refused Stopped → new.caller ≡ told_stopped old.caller
-  pub remains : old.caller.stopped ≡ true → (reply ≡ Refused Stopped) ⊎ (reply ≡ Refused Memory)
-  -- what the pass was sure of it had seen
-  pub seen : IsPrefix old.caller.sure old.seen
-  -- the calls of the pass are counted: before this one, and with it
-  pub counted_before : rows_of old.caller.number old.caller.sure ≡ old.caller.calls
-  pub counted : rows_of new.caller.number new.caller.sure ≡ new.caller.calls
-
--- an event was handed to a front through the pass of a session: a query was read after rows that begin with all that the pass had seen, and
--- are what it has seen then; and any other event has its row, at any reply but 90 and 92
-pub record IsTold (setup : Setup) (old : Known) (event : Event) (reply : Reply) (new : Known) : Type 0 where
-  pub answered : gave_up reply ≡ false → is_query (request_of event.request) ≡ false → IsAnswered setup old event reply new
-  pub read : gave_up reply ≡ false → is_query (request_of event.request) ≡ true → IsReadAfter setup old.caller.number new.seen event reply
+  pub remains : is_read event ≡ false → old.caller.stopped ≡ true → (reply ≡ Refused Stopped) ⊎ (reply ≡ Refused Memory)
   pub seen : IsPrefix old.seen new.seen
-  pub number : new.caller.number ≡ old.caller.number
+  pub before : IsCounted old
+  pub after : IsCounted new
 
--- a front was asked through a pass for the job that a user's goal leads
+-- a front was asked through a pass for the job that a user's goal leads: what is told is so after the rows that the pass has seen then
 pub record IsAskedBy (setup : Setup) (old : Known) (user : List ℕ) (number : ℕ) (told : Result Running Refusal) (new : Known) : Type 0 where
-  pub asked : told ≢ Err Stopped → IsAsked setup old.caller user number told
-  pub going : told ≢ Err Stopped → new ≡ old
-  pub stopped : told ≡ Err Stopped → new ≡ with_caller old (told_stopped old.caller)
+  pub asked : told ≢ Err Stopped → IsAskedAfter setup new.seen user number told
+  pub seen : IsPrefix old.seen new.seen
+  pub going : told ≢ Err Stopped → new ≡ seeing old new.seen
+  pub stopped : told ≡ Err Stopped → new ≡ seeing (with_caller old (told_stopped old.caller)) new.seen
   pub remains : old.caller.stopped ≡ true → told ≡ Err Stopped
 
--- ---- many calls
+-- ---- all calls of a pass, in a history
 
 -- the rows of the pass of a number
 abbrev pub own_rows : ℕ → List Row → List Row
 own_rows number rows = filter (λ r. r.pass == number) rows
 
--- the rows of calls through it: one for each that was answered otherwise than with 90 and 92
+-- the rows of calls through it
 abbrev pub rows_for : ℕ → List Call → List Row
 rows_for number [] = []
-rows_for number (c ∷ cs) = if gave_up c.1 then rows_for number cs else row number c.0 c.1 ∷ rows_for number cs
+rows_for number (c ∷ cs) = if has_row c then row number c.0 c.1 ∷ rows_for number cs else rows_for number cs
 
--- the calls stand in the history in their order, with these events and replies: the sure rows begin with those that were sure before,
--- those of the pass are the ones that it had before and then those of the calls, and no other; and what was legal is so afterwards
-pub record StandIn (setup : Setup) (old : Caller) (calls : List Call) (new : Caller) : Type 0 where
-  pub number : new.number ≡ old.number
-  pub longer : IsPrefix old.sure new.sure
-  pub own : own_rows old.number new.sure ≡ own_rows old.number old.sure ++ rows_for old.number calls
-  pub legal : IsLegal setup old.sure → IsLegal setup new.sure
+-- a call was answered behind all that was known: what is only read after these rows, and any other event by the last of them
+abbrev pub IsAnsweredBy : Setup → ℕ → List Row → Call → List Row → Type 0
+IsAnsweredBy setup number known c rows = MatchBool (is_read c.0)
+    (IsPrefix known rows × IsReadAfter setup number rows c.0 c.1)
+    ((before : List Row) × IsPrefix known before × (rows ≡ before ++ row number c.0 c.1 ∷ []))
 
--- ---- a round of workers that share a front
+-- calls were answered one after another by beginnings of a history, each of which begins with the one before
+abbrev pub AnsweredInOrder : Setup → List Row → ℕ → List Row → List Call → Type 0
+AnsweredInOrder setup history number known [] = Unit {0}
+AnsweredInOrder setup history number known (c ∷ cs) = MatchBool (gave_up c.1)
+    (AnsweredInOrder setup history number known cs)
+    ((rows : List Row) × IsPrefix rows history × IsAnsweredBy setup number known c rows × AnsweredInOrder setup history number rows cs)
 
-module _ {Q : Type 0} (setup : Setup) (gives : Q → Running → Result (List ℕ) RunFault → Q → Type 0) where
-  -- the calls of each worker stand in the history
-  abbrev pub AllStand : List (Worker Known Q) → List Shift → List (Worker Known Q) → Type 0
-  AllStand [] [] [] = Unit {0}
-  AllStand (w ∷ ws) (s ∷ ss) (v ∷ vs) = StandIn setup w.store.caller s.calls v.store.caller × AllStand ws ss vs
-  AllStand ws ss vs = ⊥
+-- the calls of a pass stand in a history: its rows are those of its calls, in their order, and no other; and each call was answered by a
+-- beginning of the history that has all that the pass was answered before
+pub record Stand (setup : Setup) (history : List Row) (number : ℕ) (calls : List Call) : Type 0 where
+  pub own : own_rows number history ≡ rows_for number calls
+  pub order : AnsweredInOrder setup history number [] calls
 
-  -- a round, of which all that the workers called stands in the history
-  pub record IsSharedRound (tickets : List Ticket) (before after : List (Worker Known Q)) (answer : Result (Unit {0}) Refusal) : Type 0 where
-    pub round : IsRound (IsCalled setup) (IsAskedBy setup) gives tickets before after answer
-    pub stand : AllStand before round.shifts after
+-- ---- what workers ask
+
+-- whether a worker may ask it: it plans or starts a goal, or ends the job that a goal leads
+abbrev pub is_work : Request → Bool
+is_work (Plan number) = true
+is_work (Start number) = true
+is_work (Finish number bytes) = true
+is_work (Fail number status) = true
+is_work request = false

@@ -1,3 +1,4 @@
+pub mod Openings
 pub mod Calling
 pub mod Meeting
 pub mod Sessions

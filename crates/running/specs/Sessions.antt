@@ -1,5 +1,5 @@
 -- What the sessions of files do with their lines, in a store that they share.
-use Rattle.std.specs.Prelude.{◌≡◌, ◌⊎◌, ℕ, List, [], ◌∷◌, ◌++◌, Option, Some, MatchResult}
+use Rattle.std.specs.Prelude.{◌≡◌, ◌⊎◌, Bool, true, ℕ, List, [], ◌∷◌, ◌++◌, Option, Some, MatchResult}
 use Rattle.std.specs.Io.KnownBytes.{Consumes, IsAtEnd}
 use Rattle.model.specs.declared.mode.Mode.TheVariants.{Run}
 use Rattle.model.specs.declared.refusal.Refusal.{Refusal}
@@ -59,28 +59,28 @@ module _ {S : Type 0} (called : S → Event → Reply → S → Type 0) (met : S
   Calls old [] new = met old new
   Calls old (c ∷ cs) new = (ready : S) × (between : S) × met old ready × called ready c.0 c.1 between × Calls between cs new
 
-  -- in a wait for goals a session asks how far they are and meets others, and nothing else
+module _ {S : Type 0} (called : S → Event → Reply → S → Type 0) (met : S → S → Type 0) (stopped : S → Bool) where
+  -- in a wait for goals a session asks how far they are and meets others, and nothing else; it is told 92 only where its store was told
   abbrev pub Waits : S → List Job → model.Reply → S → Type 0
-  Waits old goals reply new = (calls : List Call) × AsksStatus goals calls × Calls old calls new
+  Waits old goals reply new =
+      (calls : List Call) × AsksStatus goals calls × Calls called met old calls new × (reply ≡ model.Refused Stopped → stopped new ≡ true)
 
   -- all lines of an input were answered, the events of them by calls of a store, and this is the text of all replies
-  pub record Served (first : S) (start : Option (List ℕ)) (text : List ℕ) : Type 0 where
+  pub record Served (first last : S) (start : Option (List ℕ)) (text : List ℕ) : Type 0 where
     pub input : List ℕ
     pub end : Option (List ℕ)
     pub read : Consumes start end input
     pub ended : IsAtEnd end
-    pub last : S
     pub done : Finished Run (Link (Answers called) Waits) first last (Some []) (Some text) (lines_of input)
 
   -- the first lines of it were, and this is a beginning of the text
-  pub record ServedInPart (first : S) (start : Option (List ℕ)) (text : List ℕ) (why : Refusal) : Type 0 where
+  pub record ServedInPart (first last : S) (start : Option (List ℕ)) (text : List ℕ) (why : Refusal) : Type 0 where
     pub input : List ℕ
     pub end : Option (List ℕ)
     pub read : Consumes start end input
-    pub last : S
     pub done : EndedEarly Run (Link (Answers called) Waits) first last (Some []) (Some text) input (IsAtEnd end) why
 
-  -- the session of an input has this output
-  abbrev pub Outputs : S → Option (List ℕ) → Output → Type 0
-  Outputs first start output =
-      MatchResult output.ended (λ _. Served first start output.text.items) (ServedInPart first start output.text.items)
+  -- the session of an input has this output, and its store is the last one then
+  abbrev pub Outputs : S → S → Option (List ℕ) → Output → Type 0
+  Outputs first last start output =
+      MatchResult output.ended (λ _. Served first last start output.text.items) (ServedInPart first last start output.text.items)

@@ -1,10 +1,11 @@
 //! The workers of a session, which build in a thread beside it.
 
-ghost use Rattle.std.specs.Prelude.{◌≡◌, ◌⊎◌, map, Err, IfOk, IfErr};
+ghost use Rattle.std.specs.Prelude.{◌≡◌, ◌⊎◌, map, Err, IfOk, IfErr, MatchResult};
 ghost use Rattle.model.specs.declared.refusal.Refusal.TheVariants.{Memory};
 ghost use Rattle.workers.specs.Rounds.{IsRound};
 ghost use Rattle.running.specs.Sessions.{GivesUp, ticket_for};
 
+use crate::rounds::Rounds;
 use crossbeam_channel::{Receiver, Sender, bounded};
 use model::Refusal;
 use session::Job;
@@ -31,9 +32,10 @@ struct Outcome<S: Drop, Q: Drop> {
 /// The workers of a session, who are with it between its rounds, and the channels by which they leave for
 /// a round and come back.
 #[derive(Drop)]
-pub(crate) struct Crew<S: Drop, Q: Drop> {
+pub(crate) struct Crew<'a, S: Drop, Q: Drop> {
     /// Who builds.
     pub(crate) workers: Vec<Worker<S, Q>>,
+    rounds: &'a Rounds,
     orders: Sender<Order<S, Q>>,
     outcomes: Receiver<Outcome<S, Q>>,
 }
@@ -45,22 +47,28 @@ pub(crate) struct Workshop<S: Drop, Q: Drop> {
     outcomes: Sender<Outcome<S, Q>>,
 }
 
-impl<S: Drop, Q: Drop> Crew<S, Q> {
+impl<'a, S: Drop, Q: Drop> Crew<'a, S, Q> {
     /// A crew of these workers, and where it builds.
     ///
     /// # Errors
     ///
-    /// Only where memory was refused. The workers are let go then.
+    /// The workers, only where memory was refused.
     pub(crate) fn new(
         alloc: Global,
+        rounds: &'a Rounds,
         workers: Vec<Worker<S, Q>>,
-    ) -> Result<(Crew<S, Q>, Workshop<S, Q>), AllocError>
-        ensures { IfOk result (λ made. made.0.workers ≡ workers) }
+    ) -> Result<(Crew<'a, S, Q>, Workshop<S, Q>), Vec<Worker<S, Q>>>
+        ensures { MatchResult result (λ made. made.0.workers ≡ workers) (λ left. left ≡ workers) }
     {
-        let (send_order, receive_order) = bounded(alloc, 1)?;
-        let (send_outcome, receive_outcome) = bounded(alloc, 1)?;
+        let Ok((send_order, receive_order)) = bounded(alloc, 1) else {
+            return Err(workers);
+        };
+        let Ok((send_outcome, receive_outcome)) = bounded(alloc, 1) else {
+            return Err(workers);
+        };
         let crew = Crew {
             workers,
+            rounds,
             orders: send_order,
             outcomes: receive_outcome,
         };
@@ -86,6 +94,26 @@ impl<S: Drop, Q: Drop> Crew<S, Q> {
     ) -> Result<(), Refusal>
         ensures { IfErr result GivesUp }
     {
+        let round = self.rounds.begin(rt);
+        let answer = self.build_round(rt, alloc, goals);
+        self.rounds.end(rt, round);
+        answer
+    }
+
+    /// Waits for the rounds that others have going.
+    pub(crate) fn wait_for_others<R: Wait>(&self, rt: &R) {
+        self.rounds.wait_for_all(rt);
+    }
+
+    /// Sends the workers away with goals, and has them back.
+    fn build_round<R: Wait>(
+        &mut self,
+        rt: &R,
+        alloc: Global,
+        goals: Vec<Job>,
+    ) -> Result<(), Refusal>
+        ensures { IfErr result GivesUp }
+    {
         let workers = mem::replace(&mut self.workers, Vec::new(alloc));
         if let Err(error) = self.orders.send(rt, Order { goals, workers }) {
             self.workers = error.into_inner().workers;
@@ -100,6 +128,19 @@ impl<S: Drop, Q: Drop> Crew<S, Q> {
             Err(Refusal::Stopped) => Err(Refusal::Stopped),
             Err(_) => Err(Refusal::Memory),
         }
+    }
+
+    /// Those who build, if they are there. Nothing can be built any more.
+    pub(crate) fn into_workers(self) -> Vec<Worker<S, Q>>
+        ensures { result ≡ self.entry.workers }
+    {
+        let Crew {
+            workers,
+            rounds: _,
+            orders: _orders,
+            outcomes: _outcomes,
+        } = self;
+        workers
     }
 }
 

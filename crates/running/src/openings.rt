@@ -6,6 +6,7 @@ ghost use Rattle.model.specs.declared.mode.Mode.TheVariants.{Run};
 ghost use Rattle.model.specs.declared.refusal.Refusal.TheVariants.{Memory, BadUsers, InputFault};
 ghost use Rattle.session.specs.Ahead.{LooksAhead};
 ghost use Rattle.session.specs.Serving.{MayBeFault};
+ghost use Rattle.running.specs.Openings.{IsReadTo};
 
 use model::{Mode, Refusal};
 use session::{Ahead, Faults, NoUsers, Session, read_ahead};
@@ -51,6 +52,10 @@ pub fn look_ahead<R: Read + Faults>(alloc: Global, reader: &mut R) -> Result<Ope
     // Whatever comes after what was read, these are the users that a session of it names.
     ensures users { IfOk result (λ opening. (all left : List ℕ) → R.remaining reader.new ≡ Some left
         → LooksAhead Run (opening.bytes.items ++ left) (Some opening.users.items)) }
+    // Where these are not begun with, all that the file begins with was read.
+    ensures bad_users { IfErr result (λ why. why ≡ BadUsers → (bytes : List ℕ)
+        × Consumes (R.remaining reader.old) (R.remaining reader.new) bytes
+        × ((left : List ℕ) → R.remaining reader.new ≡ Some left → IsReadTo (bytes ++ left))) }
     ensures why { IfErr result (λ why. (why ≡ InputFault) ⊎ (why ≡ BadUsers) ⊎ (why ≡ Memory)) }
     ensures fault { IfErr result (MayBeFault InputFault (R.failed reader.old) (R.failed reader.new)) }
 {

@@ -1,37 +1,69 @@
-//! Rounds of workers that share a front.
+//! The rounds that the sessions of a store have going.
 
-ghost use Rattle.std.specs.Prelude.{◌≡◌, ◌⊎◌, [], Ok, Err};
-ghost use Rattle.model.specs.declared.refusal.Refusal.TheVariants.{Memory};
-ghost use Rattle.workers.specs.Tickets.{AreGoals};
-ghost use Rattle.running.specs.Calling.{IsSharedRound};
+use std::alloc::{AllocError, Global};
+use std::sync::{Condvar, Mutex, Wait};
 
-use crate::shared::SharedStore;
-use book::Naming;
-use model::Refusal;
-use std::alloc::Global;
-use std::sync::Wait;
-use std::thread::Threads;
-use workers::{Runner, Ticket, Worker};
+/// Which rounds are going, by numbers that grow.
+#[derive(Drop)]
+struct Going {
+    next: u64,
+    rounds: Vec<u64>,
+}
 
-/// Workers that share a front, each with a pass of its own.
-pub type SharedWorker<'a, J, R, Q> = Worker<SharedStore<'a, J, R>, Q>;
+/// The rounds in which sessions have goals built. A session may wait until those that are going now have
+/// ended. A round ends by itself, so nobody waits in a ring.
+pub(crate) struct Rounds {
+    going: Mutex<Going>,
+    ended: Condvar,
+}
 
-/// Hands tickets to workers that share a front, as [`workers::round`] does. What each of them calls
-/// stands in the history of the front, in its order, under the number of its pass.
-///
-/// # Errors
-///
-/// They are those of [`workers::round`].
-pub fn round<'a, J: Naming + Send + Sync, R: Threads + Wait + Sync, Q: Runner + Send + Drop>(
-    rt: &R,
-    alloc: Global,
-    tickets: Vec<Ticket>,
-    workers: Vec<SharedWorker<'a, J, R, Q>>,
-) -> (Result<(), Refusal>, Vec<SharedWorker<'a, J, R, Q>>)
-    requires { AreGoals tickets.items }
-    ensures round { IsSharedRound J.setup Q.gives tickets.items workers.entry.items result.1.items result.0
-        ⊎ ((result.1 ≡ workers.entry) × (result.0 ≡ Err Memory)) }
-    ensures idle { workers.entry.items ≡ [] → result ≡ (Ok tt, workers.entry) }
-{
-    workers::round(rt, alloc, tickets, workers)
+impl Drop for Rounds {
+    fn drop(self) {
+        let Rounds { going: _, ended: _ } = self;
+    }
+}
+
+impl Rounds {
+    /// None of them is going. So many sessions have one at a time.
+    ///
+    /// # Errors
+    ///
+    /// - `AllocError` only where memory was refused.
+    pub(crate) fn new(alloc: Global, sessions: usize) -> Result<Rounds, AllocError> {
+        let rounds = Vec::with_capacity(alloc, sessions)?;
+        Ok(Rounds {
+            going: Mutex::new(Going { next: 0, rounds }),
+            ended: Condvar::new(),
+        })
+    }
+
+    /// A round begins. Its number is given back when it ends.
+    pub(crate) fn begin<R: Wait>(&self, rt: &R) -> u64 {
+        let mut guard = self.going.lock(rt);
+        let going = &mut *guard;
+        let number = going.next;
+        going.next = number.saturating_add(1);
+        // There is room for one of each session. Nobody would wait for a round that found none.
+        let _known = going.rounds.push(number);
+        number
+    }
+
+    /// The round of this number has ended.
+    pub(crate) fn end<R: Wait>(&self, rt: &R, number: u64) {
+        let mut guard = self.going.lock(rt);
+        let going = &mut *guard;
+        going.rounds.retain(|other| *other != number);
+        self.ended.notify_all();
+    }
+
+    /// Waits until each round that is going now has ended.
+    pub(crate) fn wait_for_all<R: Wait>(&self, rt: &R) {
+        let guard = self.going.lock(rt);
+        let next = guard.next;
+        let _guard = self
+            .ended
+            .wait_while(rt, guard, move |going: &mut Going| -> bool {
+                going.rounds.iter().any(|number| *number < next)
+            });
+    }
 }

@@ -1,10 +1,8 @@
-//! A store that workers share: a front, called through a pass.
+//! A store that sessions and workers share: a front, called through a pass.
 
 ghost use Rattle.std.specs.Prelude.{◌≡◌, false};
-ghost use Rattle.model.specs.Events.{is_query};
-ghost use Rattle.events.specs.Terms.{request_of};
 ghost use Rattle.schedule.specs.Queries.{event_for};
-ghost use Rattle.running.specs.Calling.{IsTold};
+ghost use Rattle.running.specs.Calling.{is_read, IsTold};
 
 use crate::meeting::Meet;
 use book::{Front, Naming, Pass};
@@ -16,15 +14,16 @@ use std::marker::Model;
 use std::sync::Wait;
 use workers::Store;
 
-/// A front that threads share, and a pass of one's own to call it through.
+/// A front that threads share, and a pass of one's own to call it through. What is only read is answered
+/// from what is published, and waits for nobody.
 #[derive(Drop)]
-pub struct SharedStore<'a, J: Naming, R: Wait> {
+pub(crate) struct SharedStore<'a, J: Naming, R: Wait> {
     /// What waits for the lock.
-    pub rt: &'a R,
+    pub(crate) rt: &'a R,
     /// What is shared.
-    pub front: &'a Front<J>,
+    pub(crate) front: &'a Front<J>,
     /// What it is called through.
-    pub pass: Pass<J>,
+    pub(crate) pass: Pass<J>,
 }
 
 /// Contracts see it as its pass.
@@ -40,58 +39,16 @@ impl<'a, J: Naming, R: Wait> Model for SharedStore<'a, J, R> {
     ghost view = { λ s. s.pass };
 }
 
-/// Each call that is answered has a row of the pass in the history, and what is told of a job is so
-/// after rows of it.
-impl<J: Naming, R: Wait> Store for SharedStore<'_, J, R> {
-    ghost use Rattle.running.specs.Calling.{IsCalled, IsAskedBy};
-
-    ghost called = { λ old event reply new. IsCalled J.setup old event reply new };
-
-    ghost asked = { λ old user number told new. IsAskedBy J.setup old user number told new };
-
-    fn call(&mut self, alloc: Global, event: Event) -> Reply {
-        self.pass.sure_rows_are_seen();
-        self.pass.rows_are_counted();
-        let reply = self.front.call(self.rt, alloc, &mut self.pass, event);
-        self.pass.rows_are_counted();
-        reply
-    }
-
-    fn running_job(&mut self, user: &User, number: u16) -> Result<RunningJob, Refusal> {
-        self.front.request(self.rt, &mut self.pass, user, number)
-    }
-}
-
-/// A front that threads share, and the pass of a session. What is only read is answered from what is
-/// published, and waits for nobody.
-#[derive(Drop)]
-pub(crate) struct SessionStore<'a, J: Naming, R: Wait> {
-    /// What waits for the lock.
-    pub(crate) rt: &'a R,
-    /// What is shared.
-    pub(crate) front: &'a Front<J>,
-    /// What it is called through.
-    pub(crate) pass: Pass<J>,
-}
-
-/// Contracts see it as its pass.
-impl<'a, J: Naming, R: Wait> Model for SessionStore<'a, J, R> {
-    ghost use Rattle.std.specs.Coded.{codes};
-    ghost use Rattle.model.specs.TreeCode.{tree_code};
-    ghost use Rattle.passes.specs.Callers.{Known};
-
-    ghost Value = { Known };
-
-    ghost coded = { Prim.hlevel (codes, tree_code) };
-
-    ghost view = { λ s. s.pass };
-}
-
 /// Answers a query from what is published.
 fn read<J: Naming>(pass: &mut Pass<J>, query: Query) -> Reply
     ensures { IsTold J.setup pass.old (event_for query) result pass.new }
 {
-    pass.read(query)
+    pass.sure_rows_are_seen();
+    pass.rows_are_counted();
+    let reply = pass.read(query);
+    pass.sure_rows_are_seen();
+    pass.rows_are_counted();
+    reply
 }
 
 /// Hands an event that is no query to a front.
@@ -102,15 +59,20 @@ fn call<J: Naming, R: Wait>(
     pass: &mut Pass<J>,
     event: Event,
 ) -> Reply
-    requires { is_query (request_of event.request) ≡ false }
+    requires { is_read event ≡ false }
     ensures { IsTold J.setup pass.old event result pass.new }
 {
-    front.call(rt, alloc, pass, event)
+    pass.sure_rows_are_seen();
+    pass.rows_are_counted();
+    let reply = front.call(rt, alloc, pass, event);
+    pass.sure_rows_are_seen();
+    pass.rows_are_counted();
+    reply
 }
 
 /// What is only read is so after rows that the pass has seen then, and each other event that is answered
 /// has a row of the pass in the history.
-impl<J: Naming, R: Wait> Store for SessionStore<'_, J, R> {
+impl<J: Naming, R: Wait> Store for SharedStore<'_, J, R> {
     ghost use Rattle.running.specs.Calling.{IsTold, IsAskedBy};
 
     ghost called = { λ old event reply new. IsTold J.setup old event reply new };
@@ -129,16 +91,19 @@ impl<J: Naming, R: Wait> Store for SessionStore<'_, J, R> {
     }
 }
 
-/// After it the pass has seen all rows that the other one's is sure of.
-impl<J: Naming, R: Wait> Meet for SessionStore<'_, J, R> {
-    ghost use Rattle.running.specs.Meeting.{HasMet, HasSeen, met_none, met_more, seen_met, seen_told};
+/// After it the pass has seen all rows that the other one's is sure of, and knows whether the front is
+/// stopped.
+impl<J: Naming, R: Wait> Meet for SharedStore<'_, J, R> {
+    ghost use Rattle.running.specs.Meeting.{HasMet, HasSeen, is_stopped, met_none, met_more, stopped_met, stopped_told, stopped_called, seen_met, seen_told};
 
     ghost met = { HasMet };
 
     ghost knows = { HasSeen };
 
-    fn meet(&mut self, other: &mut Self) {
-        self.front.meet(self.rt, &mut self.pass, &mut other.pass);
+    ghost stopped = { is_stopped };
+
+    fn meet(&mut self, other: &mut Self) -> bool {
+        self.front.meet(self.rt, &mut self.pass, &mut other.pass)
     }
 
     ghost met_none = { met_none };
@@ -148,4 +113,10 @@ impl<J: Naming, R: Wait> Meet for SessionStore<'_, J, R> {
     ghost knows_met = { seen_met };
 
     ghost knows_called = { seen_told J.setup };
+
+    ghost stopped_met = { stopped_met };
+
+    ghost stopped_told = { stopped_told J.setup };
+
+    ghost stopped_called = { stopped_called J.setup };
 }

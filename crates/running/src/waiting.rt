@@ -1,9 +1,11 @@
 //! Sessions whose goals are built by workers in a thread beside them.
 
-ghost use Rattle.std.specs.Prelude.{◌≡◌, ◌⊎◌, ◌∷◌, [], List, All, IfOk, IfErr, OnOk, OnErr};
+ghost use Rattle.std.specs.Prelude.{◌≡◌, ◌⊎◌, ◌∷◌, [], true, List, All, Err, IfErr};
+ghost use Rattle.model.specs.declared.refusal.Refusal.TheVariants.{Stopped};
 ghost use Rattle.model.specs.Worlds.{Job as Goal};
 ghost use Rattle.workers.specs.Working.{Call};
-ghost use Rattle.running.specs.Sessions.{IsStatusOf, AsksStatus, Calls, GivesUp};
+ghost use Rattle.events.specs.declared.reply.Reply.TheVariants.{Refused};
+ghost use Rattle.running.specs.Sessions.{AsksStatus, Calls, GivesUp};
 
 use crate::crews::Crew;
 use crate::meeting::{Meet, meet_each};
@@ -23,7 +25,7 @@ pub(crate) struct Station<'a, S: Drop, Q: Drop, R> {
     /// What answers.
     pub(crate) store: S,
     /// Who builds.
-    pub(crate) crew: Crew<S, Q>,
+    pub(crate) crew: Crew<'a, S, Q>,
 }
 
 /// Contracts see it as its store.
@@ -35,7 +37,8 @@ impl<'a, S: Drop, Q: Drop, R> Model for Station<'a, S, Q, R> {
 
 /// Why a status cannot be told, if it cannot.
 fn want_in(reply: &Reply) -> Result<(), Refusal>
-    ensures { IfErr result GivesUp }
+    ensures why { IfErr result GivesUp }
+    ensures told { IfErr result (λ why. reply.now ≡ Refused why) }
 {
     match reply {
         Reply::Refused(why @ (Refusal::Memory | Refusal::Stopped)) => Err(*why),
@@ -43,16 +46,32 @@ fn want_in(reply: &Reply) -> Result<(), Refusal>
     }
 }
 
-/// Whether a reply says that a goal waits.
-fn is_waiting(reply: &Reply) -> bool {
-    matches!(reply, Reply::GoalState(State::Waiting))
+/// How far a goal is, to whoever waits for it.
+#[derive(Clone, Copy)]
+enum Progress {
+    /// It waits for its inputs, or for a worker.
+    Waiting,
+    /// It is built in a job.
+    Building,
+    /// Nothing more comes of it.
+    Over,
 }
 
-/// Asks a store whether a goal waits.
-fn waits<S: Meet>(alloc: Global, store: &mut S, goal: &Job) -> Result<bool, Refusal>
+/// How far a reply says that a goal is.
+fn progress_in(reply: &Reply) -> Progress {
+    match reply {
+        Reply::GoalState(State::Waiting) => Progress::Waiting,
+        Reply::GoalState(State::Building(_)) => Progress::Building,
+        _ => Progress::Over,
+    }
+}
+
+/// Asks a store how far a goal is.
+fn ask<S: Meet>(alloc: Global, store: &mut S, goal: &Job) -> Result<Progress, Refusal>
     ensures calls { (calls : List Call) × AsksStatus (goal.now ∷ []) calls
         × Calls S.called S.met store.old calls store.new }
     ensures why { IfErr result GivesUp }
+    ensures stopped { result ≡ Err Stopped → S.stopped store.new ≡ true }
 {
     let event = Event {
         actor: goal.leader().clone()?,
@@ -60,67 +79,113 @@ fn waits<S: Meet>(alloc: Global, store: &mut S, goal: &Job) -> Result<bool, Refu
     };
     let reply = store.call(alloc, event);
     want_in(&reply)?;
-    Ok(is_waiting(&reply))
+    Ok(progress_in(&reply))
 }
 
-/// Those of some goals that wait, as a store says.
-fn waiting<S: Meet>(alloc: Global, store: &mut S, goals: &[Job]) -> Result<Vec<Job>, Refusal>
+/// What is left of some goals.
+#[derive(Drop)]
+struct Left {
+    /// Those that wait.
+    waiting: Vec<Job>,
+    /// How many are built in a job.
+    building: usize,
+}
+
+/// What is left of some goals, as a store says.
+fn look<S: Meet>(alloc: Global, store: &mut S, goals: &[Job]) -> Result<Left, Refusal>
     ensures calls { (calls : List Call) × AsksStatus goals.now calls
         × Calls S.called S.met store.old calls store.new }
     ensures why { IfErr result GivesUp }
+    ensures stopped { result ≡ Err Stopped → S.stopped store.new ≡ true }
 {
-    let mut found = Vec::new(alloc);
+    let mut waiting = Vec::new(alloc);
+    let mut building = 0usize;
     for goal in goals {
-        if waits(alloc, store, goal)? {
-            found.push(goal.clone()?)?;
+        match ask(alloc, store, goal)? {
+            Progress::Waiting => waiting.push(goal.clone()?)?,
+            Progress::Building => building = building.saturating_add(1),
+            Progress::Over => (),
         }
     }
-    Ok(found)
+    Ok(Left { waiting, building })
 }
 
 /// Has goals built in one round, after which the store meets those of the workers. Where there are no
-/// workers any more, or no memory, that is 90.
+/// workers any more, or no memory, that is 90; and 92 only where the store finds that it is stopped.
 fn build<S: Meet + Drop, Q: Drop, R: Wait>(
     rt: &R,
     alloc: Global,
     store: &mut S,
-    crew: &mut Crew<S, Q>,
+    crew: &mut Crew<'_, S, Q>,
     goals: Vec<Job>,
 ) -> Result<(), Refusal>
     ensures met { S.met store.old store.new }
     ensures knows { All (λ w. S.knows store.new w.store) crew.new.workers.items }
     ensures why { IfErr result GivesUp }
+    ensures stopped { result ≡ Err Stopped → S.stopped store.new ≡ true }
 {
     let answer = crew.build(rt, alloc, goals);
-    meet_each(store, &mut crew.workers);
-    answer
+    let is_stopped = meet_each(store, &mut crew.workers);
+    match answer {
+        Err(Refusal::Stopped) if !is_stopped => Err(Refusal::Memory),
+        answer => answer,
+    }
 }
 
 /// Has those of some goals that wait built, in rounds, as long as each leaves fewer of them waiting than it
-/// found. If there was one, the store knows all that the workers were answered.
+/// found. Gives how many are built in a job then. If there was a round, the store knows all that the
+/// workers were answered.
+fn build_waiting<S: Meet + Drop, Q: Drop, R: Wait>(
+    rt: &R,
+    alloc: Global,
+    store: &mut S,
+    crew: &mut Crew<'_, S, Q>,
+    goals: &[Job],
+) -> Result<usize, Refusal>
+    ensures calls { (calls : List Call) × AsksStatus goals.now calls
+        × Calls S.called S.met store.old calls store.new }
+    ensures knows { (crew.new ≡ crew.old) ⊎ All (λ w. S.knows store.new w.store) crew.new.workers.items }
+    ensures why { IfErr result GivesUp }
+    ensures stopped { result ≡ Err Stopped → S.stopped store.new ≡ true }
+{
+    let mut left = look(alloc, store, goals)?;
+    for _ in rt.forever() {
+        let found = left.waiting.len();
+        if found == 0 {
+            return Ok(left.building);
+        }
+        build(rt, alloc, store, crew, left.waiting)?;
+        left = look(alloc, store, goals)?;
+        if left.waiting.len() >= found {
+            return Ok(left.building);
+        }
+    }
+    Ok(0)
+}
+
+/// Has those of some goals that wait built. Where some are built then in jobs that others lead, it waits
+/// for the rounds that these have going, and begins anew, as long as fewer are built afterwards.
 fn build_all<S: Meet + Drop, Q: Drop, R: Wait>(
     rt: &R,
     alloc: Global,
     store: &mut S,
-    crew: &mut Crew<S, Q>,
+    crew: &mut Crew<'_, S, Q>,
     goals: &[Job],
 ) -> Result<(), Refusal>
     ensures calls { (calls : List Call) × AsksStatus goals.now calls
         × Calls S.called S.met store.old calls store.new }
     ensures knows { (crew.new ≡ crew.old) ⊎ All (λ w. S.knows store.new w.store) crew.new.workers.items }
     ensures why { IfErr result GivesUp }
+    ensures stopped { result ≡ Err Stopped → S.stopped store.new ≡ true }
 {
-    let mut left = waiting(alloc, store, goals)?;
+    let mut before = usize::MAX;
     for _ in rt.forever() {
-        let found = left.len();
-        if found == 0 {
+        let building = build_waiting(rt, alloc, store, crew, goals)?;
+        if building == 0 || building >= before {
             return Ok(());
         }
-        build(rt, alloc, store, crew, left)?;
-        left = waiting(alloc, store, goals)?;
-        if left.len() >= found {
-            return Ok(());
-        }
+        before = building;
+        crew.wait_for_others(rt);
     }
     Ok(())
 }
@@ -132,7 +197,7 @@ impl<S: Meet + Drop, Q: Drop, R: Wait> Answer for Station<'_, S, Q, R> {
 
     ghost answers = { Answers S.called };
 
-    ghost waited = { Waits S.called S.met };
+    ghost waited = { Waits S.called S.met S.stopped };
 
     fn call(&mut self, alloc: Global, event: Event) -> Reply {
         self.store.call(alloc, event)

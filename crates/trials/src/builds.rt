@@ -147,8 +147,8 @@ pub(crate) fn gate_two_workers<R: Threads + Wait + Sync>(
         runners,
     };
     let parts = vec![in alloc; part]?;
-    let outputs = running::run(rt, alloc, hashing, users, Limits::default(), parts)?;
-    add_outputs(outputs, out);
+    let results = running::run(rt, alloc, hashing, users, Limits::default(), parts)?;
+    add_outputs(results.outputs, out);
     Ok(())
 }
 
@@ -172,10 +172,10 @@ pub(crate) fn built_once<R: Threads + Wait + Sync>(
         runners,
     };
     let parts = vec![in alloc; part]?;
-    let outputs = running::run(rt, alloc, hashing, users, Limits::default(), parts)?;
+    let results = running::run(rt, alloc, hashing, users, Limits::default(), parts)?;
     out.add_text("runs: ");
     out.add(&runs.load(Ordering::SeqCst));
     out.add_text(", ");
-    add_outputs(outputs, out);
+    add_outputs(results.outputs, out);
     Ok(())
 }

@@ -2,7 +2,6 @@
 import contextlib
 import os
 import pathlib
-import re
 import signal
 import subprocess
 import tempfile
@@ -140,8 +139,3 @@ class Cases:
     def end(self):
         print(f"{self.passed} passed, {self.failed} failed")
         return self.failed != 0
-
-
-def either(*texts):
-    """The form of a text that is one of these."""
-    return re.compile("|".join(texts))

@@ -1,7 +1,9 @@
-use Rattle.running.proofs.MergeLemmas.{told_called}
+use Rattle.running.proofs.ToldLemmas.{told_called}
 use Rattle.running.proofs.shared.call.Goals as goal
 
 pub returns : goal.returns
 returns g c =
-    told_called g.J.Naming.setup c.args.pass.now c.call.new.pass c.args.event c.call.result c.requires c.call.ensures.answered c.call.ensures.memory c.call.ensures.stopped
-    c.call.ensures.seen
+    told_called g.J.Naming.setup c.args.pass.now c.call-reply.new.pass c.args.event c.call-reply.result c.requires c.call-reply.ensures.answered
+    c.call-reply.ensures.memory c.call-reply.ensures.stopped c.call-reply.ensures.remains c.call-reply.ensures.seen
+    (record { seen = c.sure_rows_are_seen.ensures; rows = c.rows_are_counted.ensures })
+    (record { seen = c.sure_rows_are_seen-2.ensures; rows = c.rows_are_counted-2.ensures })

@@ -1,36 +1,33 @@
-use Rattle.std.proofs.Common.{inr}
-use Rattle.running.proofs.WaitLemmas.{further_met, further_round, knows_still}
+use Rattle.running.proofs.WaitLemmas.{asked_again, knows_again}
 use Rattle.running.proofs.waiting.build_all.Goals as goal
 
-pub returns-in_err-build-clause-calls : goal.returns-in_err-build-clause-calls
-returns-in_err-build-clause-calls g c =
-    further_met g.S.Store.called g.S.Meet.met g.met.S.Meet.met_more c.args.goals.now c.args.store.now c.loop.store c.build.new.store c.loop.invariant.0
-    c.build.ensures.met
+pub returns-in_err-building-clause-calls : goal.returns-in_err-building-clause-calls
+returns-in_err-building-clause-calls g c =
+    asked_again g.S.Store.called g.S.Meet.met g.S.Meet.knows g.met.S.Meet.met_more g.met.S.Meet.knows_met g.met.S.Meet.knows_called c.args.goals.now
+    c.args.store.now c.loop.store c.build_waiting.new.store c.loop.invariant.0 c.build_waiting.ensures.calls
 
-pub returns-in_err-left-2-clause-calls : goal.returns-in_err-left-2-clause-calls
-returns-in_err-left-2-clause-calls g c =
-    further_round g.S.Store.called g.S.Meet.met g.met.S.Meet.met_more c.args.goals.now c.args.store.now c.loop.store c.build.new.store
-    c.waiting-in-loop.new.store c.loop.invariant.0 c.build.ensures.met c.waiting-in-loop.ensures.calls
+pub returns-in_err-building-clause-knows : goal.returns-in_err-building-clause-knows
+returns-in_err-building-clause-knows g c =
+    knows_again g.S.Store.called g.S.Meet.met g.S.Meet.knows g.met.S.Meet.met_more g.met.S.Meet.knows_met g.met.S.Meet.knows_called
+    (λ crew. crew.workers.items) c.args.goals.now c.args.crew.now c.loop.crew c.build_waiting.new.crew c.loop.store
+    c.build_waiting.new.store c.loop.invariant.1 c.build_waiting.ensures.calls c.build_waiting.ensures.knows
 
-pub returns-in_err-left-2-clause-knows : goal.returns-in_err-left-2-clause-knows
-returns-in_err-left-2-clause-knows g c =
-    inr (knows_still g.S.Store.called g.S.Meet.met g.S.Meet.knows g.met.S.Meet.knows_met g.met.S.Meet.knows_called c.args.goals.now c.build.new.store
-    c.waiting-in-loop.new.store c.build.new.crew.workers.items c.waiting-in-loop.ensures.calls c.build.ensures.knows)
+pub returns-then-building-eq0-clause-calls : goal.returns-then-building-eq0-clause-calls
+returns-then-building-eq0-clause-calls g c =
+    asked_again g.S.Store.called g.S.Meet.met g.S.Meet.knows g.met.S.Meet.met_more g.met.S.Meet.knows_met g.met.S.Meet.knows_called c.args.goals.now
+    c.args.store.now c.loop.store c.build_waiting.new.store c.loop.invariant.0 c.build_waiting.ensures.calls
 
-pub returns-then-len-found-clause-calls : goal.returns-then-len-found-clause-calls
-returns-then-len-found-clause-calls g c =
-    further_round g.S.Store.called g.S.Meet.met g.met.S.Meet.met_more c.args.goals.now c.args.store.now c.loop.store c.build.new.store
-    c.waiting-in-loop.new.store c.loop.invariant.0 c.build.ensures.met c.waiting-in-loop.ensures.calls
-
-pub returns-then-len-found-clause-knows : goal.returns-then-len-found-clause-knows
-returns-then-len-found-clause-knows g c =
-    inr (knows_still g.S.Store.called g.S.Meet.met g.S.Meet.knows g.met.S.Meet.knows_met g.met.S.Meet.knows_called c.args.goals.now c.build.new.store
-    c.waiting-in-loop.new.store c.build.new.crew.workers.items c.waiting-in-loop.ensures.calls c.build.ensures.knows)
+pub returns-then-building-eq0-clause-knows : goal.returns-then-building-eq0-clause-knows
+returns-then-building-eq0-clause-knows g c =
+    knows_again g.S.Store.called g.S.Meet.met g.S.Meet.knows g.met.S.Meet.met_more g.met.S.Meet.knows_met g.met.S.Meet.knows_called
+    (λ crew. crew.workers.items) c.args.goals.now c.args.crew.now c.loop.crew c.build_waiting.new.crew c.loop.store
+    c.build_waiting.new.store c.loop.invariant.1 c.build_waiting.ensures.calls c.build_waiting.ensures.knows
 
 pub loop-preserved : goal.loop-preserved
 loop-preserved g c = (
-  further_round g.S.Store.called g.S.Meet.met g.met.S.Meet.met_more c.args.goals.now c.args.store.now c.loop.store c.build.new.store
-      c.waiting-in-loop.new.store c.loop.invariant.0 c.build.ensures.met c.waiting-in-loop.ensures.calls,
-  inr (knows_still g.S.Store.called g.S.Meet.met g.S.Meet.knows g.met.S.Meet.knows_met g.met.S.Meet.knows_called c.args.goals.now c.build.new.store
-      c.waiting-in-loop.new.store c.build.new.crew.workers.items c.waiting-in-loop.ensures.calls c.build.ensures.knows),
+  asked_again g.S.Store.called g.S.Meet.met g.S.Meet.knows g.met.S.Meet.met_more g.met.S.Meet.knows_met g.met.S.Meet.knows_called c.args.goals.now
+      c.args.store.now c.loop.store c.build_waiting.new.store c.loop.invariant.0 c.build_waiting.ensures.calls,
+  knows_again g.S.Store.called g.S.Meet.met g.S.Meet.knows g.met.S.Meet.met_more g.met.S.Meet.knows_met g.met.S.Meet.knows_called
+      (λ crew. crew.workers.items) c.args.goals.now c.args.crew.now c.loop.crew c.build_waiting.new.crew c.loop.store
+      c.build_waiting.new.store c.loop.invariant.1 c.build_waiting.ensures.calls c.build_waiting.ensures.knows,
 )

@@ -1,0 +1,13 @@
+use Rattle.std.proofs.Common.{◌∙◌, length}
+use Rattle.running.proofs.DeskLemmas.{new_first, if_results}
+use Rattle.running.proofs.runs.run_core.Goals as goal
+
+pub serve_front-requires-after_bounds : goal.serve_front-requires-after_bounds
+serve_front-requires-after_bounds g c κs within = (new_first c.in_ok-front.passes.items c.args.count c.in_ok-front.ensures.passes).1
+
+pub returns-clause-results : goal.returns-clause-results
+returns-clause-results g c =
+    if_results g.J.Naming.setup g.I.Read.remaining c.args.parts.items (length c.in_ok-front.passes.items) c.in_ok-ended.ended.sessions.items
+    c.in_ok-ended.ended.passes.items c.in_ok-ended.ended.outputs
+    ((new_first c.in_ok-front.passes.items c.args.count c.in_ok-front.ensures.passes).0 ∙ c.requires.needed) c.in_ok-ended.ensures.served
+    c.close_front.result c.close_front.ensures.closed

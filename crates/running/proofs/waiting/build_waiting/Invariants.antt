@@ -1,0 +1,9 @@
+use Rattle.std.specs.Prelude.{◌≡◌, ◌⊎◌, All}
+use Rattle.running.proofs.WaitLemmas.{Asked}
+use Rattle.running.proofs.waiting.build_waiting.Given as goal
+
+-- the store was asked how far the goals are, and after a round it knows what the workers did
+abbrev pub invariant-loop : goal.invariant-loop
+invariant-loop g l =
+    Asked g.S.Store.called g.S.Meet.met l.goals l.fn.store l.store
+    × ((l.crew ≡ l.fn.crew) ⊎ All (λ w. g.S.Meet.knows l.store w.store) l.crew.workers.items)

@@ -1,0 +1,179 @@
+//! The passes of a front, given to the sessions of files and to their workers, and given back.
+
+ghost use Rattle.std.specs.Prelude.{◌≡◌, ◌+◌, ◌++◌, length, map, IfOk, IfErr};
+ghost use Rattle.model.specs.declared.refusal.Refusal.TheVariants.{Memory, Quota};
+ghost use Rattle.passes.specs.Callers.{new_pass};
+ghost use Rattle.running.specs.Sessions.{CannotBegin};
+ghost use Rattle.running.specs.Desks.{AreFirst, IsDeskOf, AreDesksOf, session_passes, passes_for as needed_for, passes_left, all_passes};
+
+use crate::sessions::{Desk, Left, Output, Part};
+use crate::shared::SharedStore;
+use book::{Front, Naming, Pass};
+use model::Refusal;
+use std::alloc::{AllocError, Global};
+use std::sync::Wait;
+use workers::{Runner, Worker};
+
+/// A worker of a session that shares a front with others.
+type SharedWorker<'a, J, R, Q> = Worker<SharedStore<'a, J, R>, Q>;
+
+/// The desk of such a session.
+pub(crate) type SharedDesk<'a, J, R, Q, I> = Desk<SharedStore<'a, J, R>, Q, I>;
+
+/// What such a session leaves.
+pub(crate) type SharedLeft<'a, J, R, Q> = Left<SharedStore<'a, J, R>, Q>;
+
+/// The last of some passes.
+fn next_pass<J: Naming>(passes: &mut Vec<Pass<J>>) -> Result<Pass<J>, Refusal>
+    requires { AreFirst passes.old.items }
+    ensures pass { IfOk result (λ pass. pass ≡ new_pass (length passes.new.items)) }
+    ensures count { IfOk result (λ _. length passes.old.items ≡ length passes.new.items + 1) }
+    ensures left { AreFirst passes.new.items }
+    ensures none { IfErr result (λ why. why ≡ Quota) }
+{
+    match passes.pop() {
+        Some(pass) => Ok(pass),
+        None => Err(Refusal::Quota),
+    }
+}
+
+/// Workers with these runners, each with a pass of its own.
+fn workers_with<'a, J: Naming, R: Wait, Q: Runner + Drop>(
+    rt: &'a R,
+    alloc: Global,
+    front: &'a Front<J>,
+    passes: &mut Vec<Pass<J>>,
+    runners: Vec<Q>,
+) -> Result<Vec<SharedWorker<'a, J, R, Q>>, Refusal>
+    requires { AreFirst passes.old.items }
+    ensures count { IfOk result (λ _. length passes.old.items
+        ≡ length passes.new.items + length runners.items) }
+    ensures left { AreFirst passes.new.items }
+    ensures why { IfErr result CannotBegin }
+{
+    let mut workers = Vec::new(alloc);
+    for runner in runners {
+        let pass = next_pass(passes)?;
+        let store = SharedStore { rt, front, pass };
+        workers.push(Worker { store, runner })?;
+    }
+    Ok(workers)
+}
+
+/// The desk of a file: the last passes are those of its workers, and the one before them is that of its
+/// session.
+fn desk_for<'a, J: Naming, R: Wait, Q: Runner + Drop, I: Drop>(
+    rt: &'a R,
+    alloc: Global,
+    front: &'a Front<J>,
+    passes: &mut Vec<Pass<J>>,
+    part: Part<I, Q>,
+) -> Result<SharedDesk<'a, J, R, Q, I>, Refusal>
+    requires { AreFirst passes.old.items }
+    ensures desk { IfOk result (IsDeskOf (length passes.new.items) part) }
+    ensures count { IfOk result (λ _. length passes.old.items
+        ≡ length passes.new.items + needed_for part) }
+    ensures left { AreFirst passes.new.items }
+    ensures why { IfErr result CannotBegin }
+{
+    let Part {
+        bytes,
+        reader,
+        runners,
+    } = part;
+    let workers = workers_with(rt, alloc, front, passes, runners)?;
+    let own = next_pass(passes)?;
+    Ok(Desk {
+        store: SharedStore {
+            rt,
+            front,
+            pass: own,
+        },
+        workers,
+        bytes,
+        reader,
+    })
+}
+
+/// The desks of files.
+pub(crate) fn desks_for<'a, J: Naming, R: Wait, Q: Runner + Drop, I: Drop>(
+    rt: &'a R,
+    alloc: Global,
+    front: &'a Front<J>,
+    passes: Vec<Pass<J>>,
+    parts: Vec<Part<I, Q>>,
+) -> Result<Vec<SharedDesk<'a, J, R, Q, I>>, Refusal>
+    requires { AreFirst passes.items }
+    ensures desks { IfOk result (λ desks. AreDesksOf
+        (session_passes (length passes.items) parts.items) parts.items desks.items) }
+    ensures why { IfErr result CannotBegin }
+{
+    let mut passes = passes;
+    let mut desks = Vec::new(alloc);
+    for part in parts {
+        desks.push(desk_for(rt, alloc, front, &mut passes, part)?)?;
+    }
+    Ok(desks)
+}
+
+/// Takes the passes of workers back.
+fn take_back<J: Naming, R: Wait, Q: Drop>(
+    workers: Vec<SharedWorker<'_, J, R, Q>>,
+    passes: &mut Vec<Pass<J>>,
+) -> Result<(), AllocError>
+    ensures { IfOk result (λ _. passes.new.items
+        ≡ passes.old.items ++ map (λ w. w.store) workers.entry.items) }
+{
+    for worker in workers {
+        passes.push(worker.store.pass)?;
+    }
+    Ok(())
+}
+
+/// Takes back the passes of a session and of its workers, and gives its output.
+fn end_session<J: Naming, R: Wait, Q: Drop>(
+    left: SharedLeft<'_, J, R, Q>,
+    passes: &mut Vec<Pass<J>>,
+) -> Result<Output, AllocError>
+    ensures output { IfOk result (λ output. output ≡ left.entry.output) }
+    ensures passes { IfOk result (λ _. passes.new.items ≡ passes.old.items ++ passes_left left.entry) }
+{
+    let Left {
+        output,
+        store,
+        workers,
+    } = left;
+    passes.push(store.pass)?;
+    take_back(workers, passes)?;
+    Ok(output)
+}
+
+/// Takes back the passes of sessions and of their workers, and gives the outputs.
+pub(crate) fn end_sessions<J: Naming, R: Wait, Q: Drop>(
+    lefts: Vec<SharedLeft<'_, J, R, Q>>,
+    passes: &mut Vec<Pass<J>>,
+    outputs: &mut Vec<Output>,
+) -> Result<(), AllocError>
+    ensures passes { IfOk result (λ _. passes.new.items ≡ passes.old.items ++ all_passes lefts.entry.items) }
+    ensures outputs { IfOk result (λ _. outputs.new.items
+        ≡ outputs.old.items ++ map (λ left. left.output) lefts.entry.items) }
+{
+    for left in lefts {
+        outputs.push(end_session(left, passes)?)?;
+    }
+    Ok(())
+}
+
+/// The numbers of the passes of sessions.
+pub(crate) fn numbers_of<J: Naming, R: Wait, Q: Drop, I: Drop>(
+    alloc: Global,
+    desks: &[SharedDesk<'_, J, R, Q, I>],
+) -> Result<Vec<u64>, AllocError>
+    ensures { IfOk result (λ numbers. numbers.items ≡ map (λ desk. desk.store.caller.number) desks.now) }
+{
+    let mut numbers = Vec::new(alloc);
+    for desk in desks {
+        numbers.push(desk.store.pass.number())?;
+    }
+    Ok(numbers)
+}

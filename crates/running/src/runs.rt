@@ -1,0 +1,264 @@
+//! Files whose lines are run as sessions of one store, each in a thread of its own, with workers that build.
+
+ghost use Rattle.std.specs.Prelude.{◌≡◌, ◌<◌, ◌≤◌, ◌-◌, ◌^◌, min, [], false, length, IfOk, IfErr};
+ghost use Rattle.model.specs.Limits.{most_charge};
+ghost use Rattle.model.specs.Worlds.{are_users};
+ghost use Rattle.model.specs.declared.refusal.Refusal.TheVariants.{Memory, BadUsers, Quota};
+ghost use Rattle.schedule.specs.Standing.{setup_for};
+ghost use Rattle.book.specs.Keeping.{IsNew};
+ghost use Rattle.running.specs.Calling.{IsTold, is_work};
+ghost use Rattle.running.specs.Meeting.{HasMet, is_stopped};
+ghost use Rattle.running.specs.Sessions.{CannotBegin};
+ghost use Rattle.running.specs.Desks.{AreFirst, AllOutputs, passes_needed, session_passes};
+ghost use Rattle.running.specs.Runs.{AreServed, IsClosed, AreResults, are_accounted};
+
+use crate::pass_lists::{SharedDesk, SharedLeft, desks_for, end_sessions, numbers_of};
+use crate::rounds::Rounds;
+use crate::sessions::{Output, Part, all_at_once};
+use book::{Blank, Front, History, Naming, Pass, Row};
+use events::Request;
+use model::Refusal;
+use schedule::{Core, Limits, User};
+use session::Faults;
+use std::alloc::{AllocError, Global};
+use std::hash::RandomState;
+use std::io::Read;
+use std::marker::Brand;
+use std::sync::Wait;
+use std::thread::Threads;
+use workers::Runner;
+
+/// What the lines of files gave, and what they did.
+#[derive(Drop)]
+pub struct Results {
+    /// What each file gave, in their order.
+    pub outputs: Vec<Output>,
+    /// The history of the store that they shared.
+    pub history: History,
+}
+
+/// How many passes the sessions of files need: one for each, and one for each of their workers.
+fn count_passes<I: Drop, Q: Drop>(parts: &[Part<I, Q>]) -> u64
+    ensures { result ≡ min (passes_needed parts.now) (2 ^ 64 - 1) }
+{
+    let mut count = 0u64;
+    for part in parts {
+        count = count
+            .saturating_add(part.runners.len() as u64)
+            .saturating_add(1);
+    }
+    count
+}
+
+/// Whether a worker may ask it.
+fn is_work(request: &Request) -> bool
+    ensures { result ≡ is_work request.now }
+{
+    matches!(
+        request,
+        Request::Plan(_) | Request::Start(_) | Request::Finish(..) | Request::Fail(..)
+    )
+}
+
+/// Whether each row is of the pass of a session, or what a worker may ask.
+fn are_accounted(sessions: &[u64], rows: &[Row]) -> bool
+    ensures { result ≡ are_accounted sessions.now rows.now }
+{
+    for row in rows {
+        if !sessions.contains(&row.pass) && !is_work(&row.event.request) {
+            return false;
+        }
+    }
+    true
+}
+
+/// Serves sessions that share a store.
+fn serve_all<
+    'a,
+    J: Naming + Send + Sync,
+    R: Threads + Wait + Sync,
+    Q: Runner + Send + Drop,
+    I: Read + Faults + Send + Drop,
+>(
+    rt: &R,
+    alloc: Global,
+    rounds: &Rounds,
+    desks: Vec<SharedDesk<'a, J, R, Q, I>>,
+) -> Result<Vec<SharedLeft<'a, J, R, Q>>, Refusal>
+    ensures outputs { IfOk result (λ lefts. AllOutputs (IsTold J.setup) HasMet is_stopped I.remaining desks.entry.items lefts.items) }
+    ensures memory { IfErr result (λ why. why ≡ Memory) }
+{
+    all_at_once(rt, alloc, rounds, desks)
+}
+
+/// Room for what sessions leave, taken before they begin: for so many passes, and for the outputs of so many
+/// files, with the rounds that these may have going.
+fn room_for<J: Naming>(
+    alloc: Global,
+    passes: usize,
+    files: usize,
+) -> Result<(Vec<Pass<J>>, Vec<Output>, Rounds), AllocError>
+    ensures passes { IfOk result (λ room. room.0.items ≡ []) }
+    ensures outputs { IfOk result (λ room. room.1.items ≡ []) }
+{
+    let passes_room = Vec::with_capacity(alloc, passes)?;
+    let outputs = Vec::with_capacity(alloc, files)?;
+    let rounds = Rounds::new(alloc, files)?;
+    Ok((passes_room, outputs, rounds))
+}
+
+/// What the sessions of files leave.
+#[derive(Drop)]
+struct Ended<J: Naming> {
+    /// What each file gave, in their order.
+    outputs: Vec<Output>,
+    /// The passes of the sessions and of their workers.
+    passes: Vec<Pass<J>>,
+    /// The numbers of the passes of the sessions.
+    sessions: Vec<u64>,
+}
+
+/// Runs the lines of files as sessions that share a front, with these passes.
+fn serve_front<
+    J: Naming + Send + Sync,
+    R: Threads + Wait + Sync,
+    Q: Runner + Send + Drop,
+    I: Read + Faults + Send + Drop,
+>(
+    rt: &R,
+    alloc: Global,
+    front: &Front<J>,
+    passes: Vec<Pass<J>>,
+    parts: Vec<Part<I, Q>>,
+) -> Result<Ended<J>, Refusal>
+    requires { AreFirst passes.items }
+    ensures served { IfOk result (λ ended.
+        AreServed J.setup I.remaining (session_passes (length passes.items) parts.items) parts.items
+        ended.sessions.items ended.passes.items ended.outputs.items) }
+    ensures memory { IfErr result (λ why. why ≡ Memory) }
+{
+    let (mut back, mut outputs, rounds) = room_for::<J>(alloc, passes.len(), parts.len())?;
+    let Ok(desks) = desks_for(rt, alloc, front, passes, parts) else {
+        return Err(Refusal::Memory);
+    };
+    let sessions = numbers_of(alloc, &desks)?;
+    let lefts = serve_all(rt, alloc, &rounds, desks)?;
+    end_sessions(lefts, &mut back, &mut outputs)?;
+    Ok(Ended {
+        outputs,
+        passes: back,
+        sessions,
+    })
+}
+
+/// Closes a front of so many passes, once its sessions have ended.
+///
+/// # Errors
+///
+/// - `Memory` where a pass has not come back, and where a row is of no session and is nothing that a worker
+///   may ask: neither comes.
+fn close_front<J: Naming, R: Wait>(
+    rt: &R,
+    front: Front<J>,
+    count: u64,
+    ended: Ended<J>,
+) -> Result<Results, Refusal>
+    requires { J.parts ≡ count }
+    ensures closed { IfOk result (λ results. IsClosed J.setup ended.sessions.items
+        ended.passes.items results.history × (results.outputs ≡ ended.outputs)) }
+    ensures memory { IfErr result (λ why. why ≡ Memory) }
+{
+    let Ended {
+        outputs,
+        passes,
+        sessions,
+    } = ended;
+    if passes.len() as u64 != count {
+        return Err(Refusal::Memory);
+    }
+    let history = front.close(rt, passes);
+    if !are_accounted(&sessions, &history.rows) {
+        return Err(Refusal::Memory);
+    }
+    Ok(Results { outputs, history })
+}
+
+/// Runs the lines of files by a new core, behind a lock that their passes take, and closes it.
+fn run_core<
+    J: Naming + Send + Sync,
+    R: Threads + Wait + Sync,
+    Q: Runner + Send + Drop,
+    I: Read + Faults + Send + Drop,
+>(
+    rt: &R,
+    alloc: Global,
+    blank: Blank,
+    core: Core,
+    count: u64,
+    parts: Vec<Part<I, Q>>,
+) -> Result<Results, Refusal>
+    requires blank { (blank.calls.name ≡ J.name) × (blank.calls.parts ≡ J.parts) × (blank.calls.parts ≡ count) }
+    requires stops { blank.stops.name ≡ J.stops }
+    requires log { blank.log.table.shared.table_id ≡ J.table }
+    requires rows { blank.rows.seen.book ≡ J.book }
+    requires core { IsNew J.setup core }
+    requires some { (0 < count) × (count ≤ 64) }
+    requires needed { count ≡ passes_needed parts.items }
+    ensures results { IfOk result (AreResults J.setup I.remaining parts.items) }
+    ensures memory { IfErr result (λ why. why ≡ Memory) }
+{
+    let (front, passes) = Front::<J>::new(rt, alloc, blank, core, count)?;
+    let ended = serve_front(rt, alloc, &front, passes, parts)?;
+    close_front(rt, front, count, ended)
+}
+
+/// Runs the lines of files as sessions of one new store, whose users these are, under these limits. Each
+/// session has a thread of its own, where one can be made, and workers that build what it waits for. Gives
+/// what is printed for each file, in their order, and the history of the store.
+///
+/// The history is legal. It has what the lines of a file called as the rows of one pass, in their order,
+/// with the replies that are printed for them, and no other row of that pass. What a line only reads, and
+/// how far goals are, which a wait asks, is answered by a beginning of the history that has all that the
+/// file was answered before, and has no row; and neither has what was answered 90 or 92. All other rows are
+/// those of workers, who plan and start goals and end jobs. No line is answered 92 unless the store was
+/// stopped.
+///
+/// # Errors
+///
+/// They come before any line is run, or no output is given.
+///
+/// - `BadUsers` where the list of users is ill-formed.
+/// - `Quota` where there are more than 64 files and workers in all.
+/// - `Memory` where memory was refused.
+pub fn run<R: Threads + Wait + Sync, Q: Runner + Send + Drop, I: Read + Faults + Send + Drop>(
+    rt: &R,
+    alloc: Global,
+    hashing: RandomState,
+    users: Vec<User>,
+    limits: Limits,
+    parts: Vec<Part<I, Q>>,
+) -> Result<Results, Refusal>
+    requires { limits.charge ≤ most_charge }
+    ensures results { IfOk result (AreResults (setup_for users limits) I.remaining parts.items) }
+    ensures users { are_users users.items ≡ false → IfOk result (λ _. parts.items ≡ []) }
+    ensures why { IfErr result CannotBegin }
+    ensures bad_users { IfErr result (λ why. why ≡ BadUsers → are_users users.items ≡ false) }
+    ensures quota { IfErr result (λ why. why ≡ Quota → 64 < passes_needed parts.items) }
+{
+    let count = count_passes(&parts);
+    if count > 64 {
+        return Err(Refusal::Quota);
+    }
+    let core = Core::new(alloc, hashing, users, limits)?;
+    if count == 0 {
+        return Ok(Results {
+            outputs: Vec::new(alloc),
+            history: History {
+                rows: Vec::new(alloc),
+                stopped: false,
+            },
+        });
+    }
+    let blank = Blank::new(alloc, count)?;
+    run_core::<Brand, _, _, _>(rt, alloc, blank, core, count, parts)
+}
