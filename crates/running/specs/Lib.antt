@@ -1,4 +1,3 @@
-pub mod Openings
 pub mod Calling
 pub mod Meeting
 pub mod Sessions

@@ -5,10 +5,10 @@ ghost use Rattle.std.specs.Io.KnownBytes.{Consumes};
 ghost use Rattle.model.specs.declared.mode.Mode.TheVariants.{Run};
 ghost use Rattle.model.specs.declared.refusal.Refusal.TheVariants.{Memory, BadUsers, InputFault};
 ghost use Rattle.session.specs.Ahead.{LooksAhead};
-ghost use Rattle.session.specs.Serving.{MayBeFault};
-ghost use Rattle.running.specs.Openings.{IsReadTo};
+ghost use Rattle.session.specs.Serving.{HasFailed, MayBeFault};
 
 use model::{Mode, Refusal};
+use nar::has_failed;
 use session::{Ahead, Faults, NoUsers, Session, read_ahead};
 use std::alloc::Global;
 use std::io::Read;
@@ -37,6 +37,20 @@ fn begins_with_users(alloc: Global, bytes: &[u8]) -> Result<bool, Refusal>
     Ok(false)
 }
 
+/// Why a file is not run that was read and does not begin with users: it could not be read, where the
+/// reader's count shows a failure since it was `before`.
+fn no_users<R: Faults>(reader: &R, before: u64) -> Refusal
+    ensures fault { result ≡ InputFault → HasFailed before (R.failed reader.now) }
+    ensures users { result ≡ BadUsers → ¬ HasFailed before (R.failed reader.now) }
+    ensures either { (result ≡ InputFault) ⊎ (result ≡ BadUsers) }
+{
+    if has_failed(before, reader.failures()) {
+        Refusal::InputFault
+    } else {
+        Refusal::BadUsers
+    }
+}
+
 /// Reads a file up to its first line of users, and looks whether its lines may be run: the first of them
 /// that gets a reply names users.
 ///
@@ -52,27 +66,22 @@ pub fn look_ahead<R: Read + Faults>(alloc: Global, reader: &mut R) -> Result<Ope
     // Whatever comes after what was read, these are the users that a session of it names.
     ensures users { IfOk result (λ opening. (all left : List ℕ) → R.remaining reader.new ≡ Some left
         → LooksAhead Run (opening.bytes.items ++ left) (Some opening.users.items)) }
-    // Where these are not begun with, all that the file begins with was read.
-    ensures bad_users { IfErr result (λ why. why ≡ BadUsers → (bytes : List ℕ)
-        × Consumes (R.remaining reader.old) (R.remaining reader.new) bytes
-        × ((left : List ℕ) → R.remaining reader.new ≡ Some left → IsReadTo (bytes ++ left))) }
+    // A file that could not be read is not told as one that names no users.
+    ensures bad_users { IfErr result (λ why. why ≡ BadUsers → ¬ HasFailed (R.failed reader.old) (R.failed reader.new)) }
     ensures why { IfErr result (λ why. (why ≡ InputFault) ⊎ (why ≡ BadUsers) ⊎ (why ≡ Memory)) }
     ensures fault { IfErr result (MayBeFault InputFault (R.failed reader.old) (R.failed reader.new)) }
 {
-    let Ahead {
-        bytes,
-        users,
-        has_failed,
-        ..
-    } = read_ahead(alloc, Mode::Run, reader)?;
-    if has_failed {
+    let before = reader.failures();
+    let ahead = read_ahead(alloc, Mode::Run, reader)?;
+    if ahead.has_failed {
         return Err(Refusal::InputFault);
     }
+    let Ahead { bytes, users, .. } = ahead;
     let Some(users) = users else {
-        return Err(Refusal::BadUsers);
+        return Err(no_users(reader, before));
     };
     if !begins_with_users(alloc, bytes.as_slice())? {
-        return Err(Refusal::BadUsers);
+        return Err(no_users(reader, before));
     }
     Ok(Opening { bytes, users })
 }
