@@ -1,9 +1,5 @@
 //! Files whose lines are run as sessions of one store that builds.
 
-ghost use Rattle.std.specs.Prelude.{All, IfOk};
-ghost use Rattle.std.specs.String.{string_bytes};
-ghost use Rattle.app.specs.Runners.{WorksIn};
-
 use crate::actions::run_parts;
 use crate::fault::report;
 use crate::files;
@@ -70,16 +66,12 @@ fn open_all<'a>(
     Ok(Ok(files))
 }
 
-/// What builds: a runner for each worker of each file, which looks for builders in the one folder that was
-/// asked for and keeps its files in the other.
+/// What builds: a runner for each worker of each file.
 pub(crate) fn runners_for<'a, H: Files + Processes + Clock + Eprint>(
     rt: &HostRuntime,
     host: &'a H,
     run: &Run,
-) -> Result<Vec<HostRunner<'a, H>>, AllocError>
-    ensures folders { IfOk result (λ runners.
-        All (WorksIn (string_bytes run.now.builders) (string_bytes run.now.work)) runners.items) }
-{
+) -> Result<Vec<HostRunner<'a, H>>, AllocError> {
     let mut runners = Vec::new(rt.alloc());
     for worker in 0..run.workers.saturating_mul(run.files.len()) {
         let _worker = worker;
