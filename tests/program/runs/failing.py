@@ -13,10 +13,11 @@ HERE = pathlib.Path(__file__).resolve().parent
 ERRORS = errno.EINTR, errno.EAGAIN, errno.ENOMEM, errno.ENOSPC, errno.EMFILE
 # Which of three goals, built one after another, has the call that fails: the first, the second or the third one of
 # its kind. A file of inputs is removed before it is made, where that may fail since nothing is there, and after the
-# builder has ended; a process is started with /dev/null twice, for its input and its errors.
+# builder has ended; /dev/null is opened once as the program begins, which goes on where it cannot be, and a process is
+# started with it twice, for its input and its errors.
 GOALS = {
     "open": (1, 2, 3), "write": (1, 2, 3), "pipe": (1, 2, 3), "posix_spawn": (1, 2, 3), "read": (1, 2, 3),
-    "waitpid": (1, 2, 3), "open_null": (1, 1, 2), "unlink": (None, 1, None)}
+    "waitpid": (1, 2, 3), "open_null": (None, 1, 1), "unlink": (None, 1, None)}
 # What is said of a goal of which the call fails.
 SAID = {
     "open": "inputs not written", "write": "inputs not written", "unlink": "inputs not written", "pipe": "not started",
