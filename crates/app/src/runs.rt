@@ -13,14 +13,13 @@ use session::Counted;
 use std::alloc::AllocError;
 use std::fs::{File, Files};
 use std::hash::RandomState;
-use std::io;
 use std::io::{Eprint, Write};
-use std::mem;
 use std::path::PathBuf;
 use std::process::Processes;
 use std::sync::Wait;
 use std::thread::Threads;
 use std::time::Clock;
+use std::{io, mem};
 use workers::Runner;
 
 /// What builds: a process for each job, of which something may be said.

@@ -30,7 +30,7 @@ returns-then-len-found-clause-knows g c =
 pub loop-preserved : goal.loop-preserved
 loop-preserved g c = (
   further_round g.S.Store.called g.S.Meet.met g.met.S.Meet.met_more c.args.goals.now c.args.store.now c.loop.store c.build.new.store
-    c.look-in-loop.new.store c.loop.invariant.0 c.build.ensures.met c.look-in-loop.ensures.calls,
+      c.look-in-loop.new.store c.loop.invariant.0 c.build.ensures.met c.look-in-loop.ensures.calls,
   inr (knows_still g.S.Store.called g.S.Meet.met g.S.Meet.knows g.met.S.Meet.knows_met g.met.S.Meet.knows_called c.args.goals.now c.build.new.store
-    c.look-in-loop.new.store c.build.new.crew.workers.items c.look-in-loop.ensures.calls c.build.ensures.knows),
+      c.look-in-loop.new.store c.build.new.crew.workers.items c.look-in-loop.ensures.calls c.build.ensures.knows),
 )
