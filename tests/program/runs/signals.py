@@ -1,37 +1,47 @@
 """Signals and limits: a run that is ended whole, and what the caller leaves ignored or limited."""
+import contextlib
 import os
+import pathlib
 import signal
 import subprocess
 import time
 
 from asking import FAILED, content_path, done, numbered, one, shell, told
-from outside import left_in, run
+from outside import left_in, processes_in, run
 
-SLOW = ": >begun; sleep 60"
+SLOW = "sleep 60"
 USUAL = ["--workers", "1", "--builders", "builders", "--work", "work"]
 
 
-def has_come(path, limit=10):
-    """Whether a file comes within so many seconds."""
+def name_of(process):
+    """The name of the program that a process runs; empty where the process has ended."""
+    with contextlib.suppress(OSError):
+        return pathlib.Path(f"/proc/{process}/comm").read_text().strip()
+    return ""
+
+
+def runs_in(session, name, limit=10):
+    """Whether a process of a session runs the program of that name within so many seconds."""
     end = time.monotonic() + limit
-    while not path.exists() and time.monotonic() < end:
+    while not (found := any(name_of(process) == name for process in processes_in(session))) and time.monotonic() < end:
         time.sleep(0.01)
-    return path.exists()
+    return found
 
 
 def faults_of_an_end(cases, folder, number):
-    """What is wrong with a run whose group is ended by a signal while its builder runs."""
+    """What is wrong with a run whose group is ended by a signal while its builder runs. The signal is sent once
+    `sleep` runs: between the fork and that, a child of the shell dash has the shell's own handler of SIGINT and loses
+    the signal, and both stay."""
     command = [cases.program, "run", *USUAL, "slow"]
     child = subprocess.Popen(command, cwd=folder, stdin=subprocess.DEVNULL, stdout=subprocess.DEVNULL,
                              start_new_session=True)
-    if not has_come(folder / "begun"):
+    if not runs_in(child.pid, "sleep"):
         yield "its builder does not start"
     os.killpg(child.pid, number)
     if child.wait(10) != -number:
         yield f"it ended with {child.returncode}"
     if left := left_in(child.pid):
         yield f"{len(left)} of its processes were left"
-    (folder / "begun").unlink(missing_ok=True)
 
 
 def ended_whole(cases):
