@@ -1,6 +1,6 @@
 //! What the options ask for, done with the lines of readers.
 
-ghost use Rattle.std.specs.Prelude.{◌≡◌, ◌<◌, ◌⊎◌, [], false, ℕ, List, Some, OnOk, IfOk, IfErr};
+ghost use Rattle.std.specs.Prelude.{◌≡◌, ◌<◌, ◌⊎◌, [], true, false, ℕ, List, Some, Err, OnOk, IfOk, IfErr};
 ghost use Rattle.model.specs.Lines.{lines_of};
 ghost use Rattle.model.specs.Worlds.{are_users};
 ghost use Rattle.model.specs.declared.refusal.Refusal.TheVariants.{BadUsers, Quota, InputFault, OutputFault};
@@ -107,11 +107,12 @@ pub(crate) fn run_parts<
     parts: Vec<Part<I, Q>>,
 ) -> Result<Results, Refusal>
     ensures results { IfOk result
-        (AreResults (record { users = users.items; charge = options.now.charge }) I.remaining parts.items) }
-    ensures users { are_users users.items ≡ false → IfOk result (λ _. parts.items ≡ []) }
+        (AreResults (record { users = users.items; charge = options.now.charge }) Q.gives I.remaining parts.items) }
+    ensures users { IfOk result (λ _. are_users users.items ≡ true) }
     ensures why { IfErr result CannotBegin }
     ensures bad_users { IfErr result (λ why. why ≡ BadUsers → are_users users.items ≡ false) }
     ensures quota { IfErr result (λ why. why ≡ Quota → 64 < passes_needed parts.items) }
+    ensures full { 64 < passes_needed parts.items → result ≡ Err Quota }
 {
     run(host, alloc, hashing, users, limits_of(options), parts)
 }

@@ -1,32 +1,39 @@
 -- Desks of sessions, their passes, and what they give.
-use Rattle.std.proofs.Common.{Result, Ok, Err, ◌≡◌, ℕ, zero, suc, ◌+◌, ◌-◌, ◌<◌, true, refl, sym, ◌∙◌, ap, subst, arith, List, [], ◌∷◌, ◌++◌, length, drop, Bool, Option}
-use Rattle.std.specs.Prelude.{map, slice_index_or, get_or, take, min, All, IfOk}
+use Rattle.std.proofs.Common.{Result, Ok, Err, ◌≡◌, ℕ, zero, suc, ◌+◌, ◌-◌, ◌<◌, true, false, refl, sym, ◌∙◌, ap, subst, arith, List, [], ◌∷◌, ◌++◌, length, drop, Bool, Option}
+use Rattle.std.specs.Prelude.{map, sum, sum_by, slice_index_or, get_or, take, min, All, IfOk}
 use Rattle.std.proofs.lemmas.List.{length-map, length-append, map-append, append_assoc, append-nil, take_more}
-use Rattle.std.proofs.lemmas.List.Elements.{All-head, All-tail, All-drop}
-use lib.Seq.{drop-append_seam}
+use Rattle.std.proofs.lemmas.List.Elements.{All-head, All-tail, All-drop, All-take}
+use lib.Seq.{drop-append_seam, take-append_seam}
+use mathlib.Core.List.{map-map}
+use Rattle.std.proofs.lemmas.List.Sums.{sum-map, sum_by-cons, sum_by-append}
 use Rattle.std.specs.Global.{Vec}
 use Rattle.std.specs.Io.KnownBytes.{prepend_known}
 use mathlib.Core.List.{IsPrefix}
 use Rattle.model.specs.declared.refusal.Refusal.{Refusal}
 use Rattle.model.specs.Worlds.{Setup}
+use Rattle.model.specs.Goals.{Running}
 use Rattle.events.specs.declared.event.Event.{Event}
 use Rattle.events.specs.declared.reply.Reply.{Reply}
-use Rattle.passes.specs.Callers.{Known, new_pass, below, rows_of}
+use Rattle.passes.specs.Callers.{Known, new_pass, below, rows_of, stops_of}
 use Rattle.book.specs.declared.history.History.{History}
 use Rattle.running.specs.declared.sessions.Desk.{Desk}
 use Rattle.running.specs.declared.sessions.Left.{Left}
 use Rattle.running.specs.declared.sessions.Output.{Output}
 use Rattle.running.specs.declared.sessions.Part.{Part}
 use Rattle.running.specs.Calling.{IsTold}
-use Rattle.running.specs.Meeting.{HasMet, is_stopped}
+use Rattle.running.specs.Meeting.{HasMet, IsNew, is_stopped, stops_by}
 use Rattle.running.specs.Sessions.{Outputs}
-use Rattle.running.specs.Desks.{AreFirst, IsDeskOf, AreDesksOf, passes_for, passes_needed, session_passes, passes_left, all_passes, OutputOf, AllOutputs}
-use Rattle.running.specs.Runs.{IsGivenBack, AreOutputs, AreServed, IsClosed, AreResults, are_accounted}
+use Rattle.running.specs.Teams.{AllNew, stops_in}
+use Rattle.running.specs.Desks.{AreFirst, IsDeskOf, AreDesksOf, passes_for, passes_needed, session_passes, passes_left, all_passes, numbers_in, all_numbers, stops_left, IsCrew, AreCrews, OutputOf, AllOutputs}
+use Rattle.running.specs.Runs.{IsGivenBack, AreOutputs, WorkersStand, AreServed, IsClosed, AreResults, are_accounted}
 use Rattle.running.specs.declared.runs.Results.{Results}
 use Rattle.passes.specs.declared.row.Row.{Row}
 use Rattle.passes.specs.Histories.{IsLegal}
 use Rattle.passes.proofs.HistoryLemmas.{legal_none}
-use Rattle.running.proofs.RunLemmas.{output_ran}
+use Rattle.workers.specs.declared.runner.RunFault.{RunFault}
+use Rattle.workers.specs.declared.worker.Worker.{Worker}
+use mathlib.Core.Logic.{∥∥₁_elim, ∥∥₁_map}
+use Rattle.running.proofs.RunLemmas.{output_ran, workers_stand, stand_append}
 
 -- ---- passes
 
@@ -65,6 +72,14 @@ first_last passes rest p split first =
     let both = last_same rest (map new_pass (below n)) p (new_pass n) (sym (length-map (below n) new_pass ∙ below_length n)) all in
     (long, both.1, both.0)
 
+-- a pass that has made no call, by its number
+pub is_new : (p : Known) (n : ℕ) → p ≡ new_pass n → IsNew p
+is_new p n same = same ∙ ap new_pass (sym (ap (λ (k : Known). k.caller.number) same))
+
+pub new_push : {Q : Type 0} (ws : List (Worker Known Q)) (w : Worker Known Q) → AllNew IsNew ws → IsNew w.store → AllNew IsNew (ws ++ w ∷ [])
+new_push [] w all one = (one, tt)
+new_push (v ∷ vs) w all one = (all.0, new_push vs w all.1 one)
+
 -- there is none
 pub first_none : (passes : List Known) → passes ≡ [] → AreFirst passes
 first_none passes none = rw none refl
@@ -93,6 +108,24 @@ module _ {I Q : Type 0} where
   -- where none is counted there is no file
   pub none_counted : (most : ℕ) (parts : List (Part I Q)) → 0 < most → 0 ≡ min (passes_needed parts) most → parts ≡ []
   none_counted most parts some none = none_needed parts (omega (arith, some, none))
+
+-- ---- what was given back
+
+module _ {Q : Type 0} (history : History) where
+  -- the passes of the workers of a session were
+  pub own_back : (l : Left Known Q) (ls : List (Left Known Q)) → All (IsGivenBack history) (all_passes (l ∷ ls))
+      → All (IsGivenBack history) (map (λ w. w.store) l.team.workers)
+  own_back l ls back =
+      let own : List Known = map (λ w. w.store) l.team.workers in
+      subst (All (IsGivenBack history)) (take-append_seam own (all_passes ls))
+      (All-take (IsGivenBack history) (length own) (own ++ all_passes ls) (All-tail (IsGivenBack history) l.store (own ++ all_passes ls) back))
+
+  -- and those of the sessions behind it
+  pub rest_back : (l : Left Known Q) (ls : List (Left Known Q)) → All (IsGivenBack history) (all_passes (l ∷ ls)) → All (IsGivenBack history) (all_passes ls)
+  rest_back l ls back =
+      let own : List Known = map (λ w. w.store) l.team.workers in
+      subst (All (IsGivenBack history)) (drop-append_seam own (all_passes ls))
+      (All-drop (IsGivenBack history) (length own) (own ++ all_passes ls) (All-tail (IsGivenBack history) l.store (own ++ all_passes ls) back))
 
 -- ---- desks
 
@@ -129,30 +162,57 @@ module _ {I Q : Type 0} where
   -- ---- what they give
 
   -- what the desks of files leave stands in the history of the front to which all passes were given back
-  pub outputs_of : (setup : Setup) (remaining : I → Option (List ℕ)) (history : History) (numbers : List ℕ)
-      (parts : List (Part I Q)) (desks : List (Desk Known Q I)) (lefts : List (Left Known Q))
-      → AreDesksOf numbers parts desks → AllOutputs (IsTold setup) HasMet is_stopped remaining desks lefts
+  pub outputs_of : (setup : Setup) (gives : Q → Running → Result (List ℕ) RunFault → Q → Type 0) (remaining : I → Option (List ℕ))
+      (history : History) (numbers : List ℕ) (parts : List (Part I Q)) (desks : List (Desk Known Q I)) (lefts : List (Left Known Q))
+      → AreDesksOf numbers parts desks → AllOutputs (IsTold setup) HasMet is_stopped remaining desks lefts → AreCrews setup gives lefts
       → All (IsGivenBack history) (all_passes lefts)
-      → AreOutputs setup remaining history numbers parts (map (λ (l : Left Known Q). l.output) lefts)
-  outputs_of setup remaining history [] [] [] [] are all back = tt
-  outputs_of setup remaining history (n ∷ ns) (p ∷ ps) (d ∷ ds) (l ∷ ls) are all back =
-      let workers : List Known = map (λ w. w.store) l.workers.items in
-      let rest : All (IsGivenBack history) (workers ++ all_passes ls) = All-tail (IsGivenBack history) l.store (workers ++ all_passes ls) back in (
-        output_ran setup history n l.store (All-head (IsGivenBack history) l.store (workers ++ all_passes ls) back)
+      → AreOutputs setup remaining history numbers (map stops_left lefts) parts (map (λ (l : Left Known Q). l.output) lefts)
+  outputs_of setup gives remaining history [] [] [] [] are all crews back = tt
+  outputs_of setup gives remaining history (n ∷ ns) (p ∷ ps) (d ∷ ds) (l ∷ ls) are all crews back =
+      let last : Known × Bool = (l.store, l.team.has_met_memory) in (
+        output_ran setup history n l.store l.team.has_met_memory (stops_in stops_by l.team.workers) crews.0.1
+            (All-head (IsGivenBack history) l.store (map (λ w. w.store) l.team.workers ++ all_passes ls) back)
             (prepend_known p.bytes.items (remaining p.reader)) l.output.ended l.output.text.items
-            (subst (λ (store : Known). Outputs (IsTold setup) HasMet is_stopped store l.store (prepend_known p.bytes.items (remaining p.reader)) l.output) are.0.2
-            (subst (λ (reader : I). Outputs (IsTold setup) HasMet is_stopped d.store l.store (prepend_known p.bytes.items (remaining reader)) l.output) are.0.1
-            (subst (λ bytes. Outputs (IsTold setup) HasMet is_stopped d.store l.store (prepend_known bytes.items (remaining d.reader)) l.output) are.0.0 all.0))),
-        outputs_of setup remaining history ns ps ds ls are.1 all.1
-            (subst (All (IsGivenBack history)) (drop-append_seam workers (all_passes ls))
-            (All-drop (IsGivenBack history) (length workers) (workers ++ all_passes ls) rest)),
+            (subst (λ (first : Known × Bool). Outputs (IsTold setup) HasMet is_stopped first last (prepend_known p.bytes.items (remaining p.reader)) l.output)
+            (λ i. (are.0.2 i, are.0.3 i))
+            (subst (λ (reader : I). Outputs (IsTold setup) HasMet is_stopped (d.store, d.team.has_met_memory) last
+            (prepend_known p.bytes.items (remaining reader)) l.output) are.0.1
+            (subst (λ bytes. Outputs (IsTold setup) HasMet is_stopped (d.store, d.team.has_met_memory) last
+            (prepend_known bytes.items (remaining d.reader)) l.output) are.0.0 all.0))),
+        outputs_of setup gives remaining history ns ps ds ls are.1 all.1 crews.1 (rest_back history l ls back),
       )
-  outputs_of setup remaining history [] [] [] (l ∷ ls) are all back = absurd all
-  outputs_of setup remaining history [] [] (d ∷ ds) ls are all back = absurd are
-  outputs_of setup remaining history [] (p ∷ ps) ds ls are all back = absurd are
-  outputs_of setup remaining history (n ∷ ns) [] ds ls are all back = absurd are
-  outputs_of setup remaining history (n ∷ ns) (p ∷ ps) [] ls are all back = absurd are
-  outputs_of setup remaining history (n ∷ ns) (p ∷ ps) (d ∷ ds) [] are all back = absurd all
+  outputs_of setup gives remaining history [] [] [] (l ∷ ls) are all crews back = absurd all
+  outputs_of setup gives remaining history [] [] (d ∷ ds) ls are all crews back = absurd are
+  outputs_of setup gives remaining history [] (p ∷ ps) ds ls are all crews back = absurd are
+  outputs_of setup gives remaining history (n ∷ ns) [] ds ls are all crews back = absurd are
+  outputs_of setup gives remaining history (n ∷ ns) (p ∷ ps) [] ls are all crews back = absurd are
+  outputs_of setup gives remaining history (n ∷ ns) (p ∷ ps) (d ∷ ds) [] are all crews back = absurd all
+
+-- ---- workers
+
+module _ {Q : Type 0} where
+  -- so many calls stopped the front in all
+  pub stops_all : (lefts : List (Left Known Q)) → sum_by stops_left lefts ≡ sum_by stops_by (all_passes lefts)
+  stops_all [] = refl
+  stops_all (l ∷ ls) =
+      let own : List Known = map (λ w. w.store) l.team.workers in
+      let rest : sum_by stops_left ls ≡ sum_by stops_by (all_passes ls) = stops_all ls in
+      let named : sum_by stops_by own ≡ stops_in stops_by l.team.workers =
+      sym (sum-map stops_by own) ∙ ap sum (map-map stops_by (λ w. w.store) l.team.workers) ∙ sum-map (λ w. stops_by w.store) l.team.workers in
+      let first = sum_by-cons stops_left l ls in
+      let both = sum_by-append stops_by own (all_passes ls) in
+      let all = sum_by-cons stops_by l.store (own ++ all_passes ls) in
+      omega (arith, rest, named, first, both, all)
+
+  -- the workers of all sessions stand in the history
+  pub crews_stand : (setup : Setup) (gives : Q → Running → Result (List ℕ) RunFault → Q → Type 0) (history : History) (lefts : List (Left Known Q))
+      → AreCrews setup gives lefts → All (IsGivenBack history) (all_passes lefts) → ∥ WorkersStand setup gives history (all_numbers lefts) ∥₁
+  crews_stand setup gives history [] crews back = ∣ tt ∣₁
+  crews_stand setup gives history (l ∷ ls) crews back =
+      ∥∥₁_elim crews.0.0 squash₁ (λ worked.
+      ∥∥₁_map (crews_stand setup gives history ls crews.1 (rest_back history l ls back)) (λ rest.
+      stand_append setup gives history (numbers_in l.team.workers) (all_numbers ls)
+      (workers_stand setup gives history l.team.workers (own_back history l ls back) worked) rest))
 
 -- what a front says at its end, of each pass
 pub given_back : (history : History) (passes : List Known)
@@ -166,7 +226,20 @@ given_back history passes sure seen each stopped = λ k d inside. record {
   stopped = stopped k d inside;
 }
 
--- the passes of one session more
+-- one session more
+
+pub numbers_push : {Q : Type 0} (lefts : List (Left Known Q)) (left : Left Known Q)
+    → all_numbers (lefts ++ left ∷ []) ≡ all_numbers lefts ++ numbers_in left.team.workers
+numbers_push [] left = append-nil (numbers_in left.team.workers)
+numbers_push (l ∷ ls) left =
+    let own : List ℕ = numbers_in l.team.workers in
+    ap (λ (ns : List ℕ). own ++ ns) (numbers_push ls left) ∙ sym (append_assoc own (all_numbers ls) (numbers_in left.team.workers))
+
+pub crews_push : {Q : Type 0} (setup : Setup) (gives : Q → Running → Result (List ℕ) RunFault → Q → Type 0) (lefts : List (Left Known Q)) (left : Left Known Q)
+    → AreCrews setup gives lefts → IsCrew setup gives left.team → AreCrews setup gives (lefts ++ left ∷ [])
+crews_push setup gives [] left all one = (one, tt)
+crews_push setup gives (l ∷ ls) left all one = (all.0, crews_push setup gives ls left all.1 one)
+
 pub all_push : {Q : Type 0} (lefts : List (Left Known Q)) (left : Left Known Q) → all_passes (lefts ++ left ∷ []) ≡ all_passes lefts ++ passes_left left
 all_push [] left = append-nil (passes_left left)
 all_push (l ∷ ls) left =
@@ -191,53 +264,65 @@ module _ {S Q I : Type 0} (called : S → Event → Reply → S → Type 0) (met
 
 -- ---- all files
 
--- what sessions left by these desks
-pub all_served : {I Q : Type 0} (setup : Setup) (remaining : I → Option (List ℕ)) (numbers : List ℕ) (parts : List (Part I Q))
-    (desks : List (Desk Known Q I)) (lefts : List (Left Known Q)) (sessions : List ℕ) (passes : List Known) (outputs : List Output)
-    → AreDesksOf numbers parts desks → AllOutputs (IsTold setup) HasMet is_stopped remaining desks lefts
-    → sessions ≡ map (λ (d : Desk Known Q I). d.store.caller.number) desks → passes ≡ all_passes lefts
-    → outputs ≡ map (λ (l : Left Known Q). l.output) lefts → AreServed setup remaining numbers parts sessions passes outputs
-all_served setup remaining numbers parts desks lefts sessions passes outputs are all named back gave = record {
-  named = named ∙ desk_numbers numbers parts desks are;
-  outputs_are = λ history given.
-      subst (λ (os : List Output). AreOutputs setup remaining history numbers parts os) (sym gave)
-      (outputs_of setup remaining history numbers parts desks lefts are all (subst (All (IsGivenBack history)) back given));
-}
+module _ {I Q : Type 0} (setup : Setup) (gives : Q → Running → Result (List ℕ) RunFault → Q → Type 0) (remaining : I → Option (List ℕ)) where
+  -- what sessions left by these desks
+  pub all_served : (numbers : List ℕ) (parts : List (Part I Q)) (desks : List (Desk Known Q I)) (lefts : List (Left Known Q))
+      (sessions workers : List ℕ) (passes : List Known) (outputs : List Output)
+      → AreDesksOf numbers parts desks → AllOutputs (IsTold setup) HasMet is_stopped remaining desks lefts → AreCrews setup gives lefts
+      → sessions ≡ map (λ (d : Desk Known Q I). d.store.caller.number) desks → workers ≡ all_numbers lefts → passes ≡ all_passes lefts
+      → outputs ≡ map (λ (l : Left Known Q). l.output) lefts → AreServed setup gives remaining numbers parts sessions workers passes outputs
+  all_served numbers parts desks lefts sessions workers passes outputs are all crews named numbered back gave = record {
+    named = named ∙ desk_numbers numbers parts desks are;
+    stops = map stops_left lefts;
+    all = sum-map stops_left lefts ∙ stops_all lefts ∙ ap (sum_by stops_by) (sym back);
+    outputs_are = λ history given.
+        subst (λ (os : List Output). AreOutputs setup remaining history numbers (map stops_left lefts) parts os) (sym gave)
+        (outputs_of setup gives remaining history numbers parts desks lefts are all crews (subst (All (IsGivenBack history)) back given));
+    workers_are = λ history given.
+        subst (λ (ns : List ℕ). ∥ WorkersStand setup gives history ns ∥₁) (sym numbered)
+        (crews_stand setup gives history lefts crews (subst (All (IsGivenBack history)) back given));
+  }
 
--- and what came of them where the front was closed
-pub results_of : {I Q : Type 0} (setup : Setup) (remaining : I → Option (List ℕ)) (parts : List (Part I Q)) (count : ℕ)
-    (sessions : List ℕ) (passes : List Known) (outputs : Vec Output) (results : Results)
-    → count ≡ passes_needed parts
-    → AreServed setup remaining (session_passes count parts) parts sessions passes outputs.items
-    → IsClosed setup sessions passes results.history → results.outputs ≡ outputs → AreResults setup remaining parts results
-results_of setup remaining parts count sessions passes outputs results needed served closed same = record {
-  legal = closed.legal;
-  outputs =
-      subst (λ (n : ℕ). AreOutputs setup remaining results.history (session_passes n parts) parts results.outputs.items) needed
-      (subst (λ (os : Vec Output). AreOutputs setup remaining results.history (session_passes count parts) parts os.items) (sym same)
-      (served.outputs_are results.history closed.back));
-  others =
-      subst (λ (n : ℕ). are_accounted (session_passes n parts) results.history.rows.items ≡ true) needed
-      (subst (λ (ns : List ℕ). are_accounted ns results.history.rows.items ≡ true) served.named closed.others);
-}
+  -- and what came of them where the front was closed
+  pub results_of : (parts : List (Part I Q)) (count : ℕ) (sessions workers : List ℕ) (passes : List Known) (outputs : Vec Output) (results : Results)
+      → count ≡ passes_needed parts
+      → AreServed setup gives remaining (session_passes count parts) parts sessions workers passes outputs.items
+      → IsClosed setup sessions workers passes results.history → results.outputs ≡ outputs → AreResults setup gives remaining parts results
+  results_of parts count sessions workers passes outputs results needed served closed same = record {
+    legal = closed.legal;
+    stops = served.stops;
+    outputs =
+        subst (λ (n : ℕ). AreOutputs setup remaining results.history (session_passes n parts) served.stops parts results.outputs.items) needed
+        (subst (λ (os : Vec Output). AreOutputs setup remaining results.history (session_passes count parts) served.stops parts os.items) (sym same)
+        (served.outputs_are results.history closed.back));
+    stopped = served.all ∙ closed.stopped;
+    workers = workers;
+    workers_are = served.workers_are results.history closed.back;
+    others =
+        subst (λ (n : ℕ). are_accounted (session_passes n parts) workers results.history.rows.items ≡ true) needed
+        (subst (λ (ns : List ℕ). are_accounted ns workers results.history.rows.items ≡ true) served.named closed.others);
+  }
 
-pub if_results : {I Q : Type 0} (setup : Setup) (remaining : I → Option (List ℕ)) (parts : List (Part I Q)) (count : ℕ)
-    (sessions : List ℕ) (passes : List Known) (outputs : Vec Output)
-    → count ≡ passes_needed parts
-    → AreServed setup remaining (session_passes count parts) parts sessions passes outputs.items
-    → (r : Result Results Refusal) → IfOk r (λ results. IsClosed setup sessions passes results.history × (results.outputs ≡ outputs))
-    → IfOk r (AreResults setup remaining parts)
-if_results setup remaining parts count sessions passes outputs needed served (Ok results) closed =
-    results_of setup remaining parts count sessions passes outputs results needed served closed.0 closed.1
-if_results setup remaining parts count sessions passes outputs needed served (Err why) closed = tt
+  pub if_results : (parts : List (Part I Q)) (count : ℕ) (sessions workers : List ℕ) (passes : List Known) (outputs : Vec Output)
+      → count ≡ passes_needed parts
+      → AreServed setup gives remaining (session_passes count parts) parts sessions workers passes outputs.items
+      → (r : Result Results Refusal) → IfOk r (λ results. IsClosed setup sessions workers passes results.history × (results.outputs ≡ outputs))
+      → IfOk r (AreResults setup gives remaining parts)
+  if_results parts count sessions workers passes outputs needed served (Ok results) closed =
+      results_of parts count sessions workers passes outputs results needed served closed.0 closed.1
+  if_results parts count sessions workers passes outputs needed served (Err why) closed = tt
 
--- no file gives no output
-pub no_results : {I Q : Type 0} (setup : Setup) (remaining : I → Option (List ℕ)) (parts : List (Part I Q)) (results : Results)
-    → parts ≡ [] → results.outputs.items ≡ [] → results.history.rows.items ≡ [] → AreResults setup remaining parts results
-no_results {I} {Q} setup remaining parts results none outputs rows = record {
-  legal = subst (IsLegal setup) (sym rows) (legal_none setup);
-  outputs =
-      subst (λ (os : List Output). AreOutputs setup remaining results.history (session_passes (passes_needed parts) parts) parts os) (sym outputs)
-      (subst (λ (ps : List (Part I Q)). AreOutputs setup remaining results.history (session_passes (passes_needed ps) ps) ps []) (sym none) tt);
-  others = subst (λ (rs : List Row). are_accounted (session_passes (passes_needed parts) parts) rs ≡ true) (sym rows) refl;
-}
+  -- no file gives no output
+  pub no_results : (parts : List (Part I Q)) (results : Results) → parts ≡ [] → results.outputs.items ≡ [] → results.history.rows.items ≡ []
+      → results.history.stopped ≡ false → AreResults setup gives remaining parts results
+  no_results parts results none outputs rows going = record {
+    legal = subst (IsLegal setup) (sym rows) (legal_none setup);
+    stops = [];
+    outputs =
+        subst (λ (os : List Output). AreOutputs setup remaining results.history (session_passes (passes_needed parts) parts) [] parts os) (sym outputs)
+        (subst (λ (ps : List (Part I Q)). AreOutputs setup remaining results.history (session_passes (passes_needed ps) ps) [] ps []) (sym none) tt);
+    stopped = ap stops_of (sym going);
+    workers = [];
+    workers_are = ∣ tt ∣₁;
+    others = subst (λ (rs : List Row). are_accounted (session_passes (passes_needed parts) parts) [] rs ≡ true) (sym rows) refl;
+  }

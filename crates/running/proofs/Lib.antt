@@ -2,6 +2,9 @@ mod ToldLemmas
 mod ChainLemmas
 mod Sending
 mod WaitLemmas
+mod MeetLemmas
+mod TeamLemmas
+mod OpeningLemmas
 mod ServedLemmas
 mod RunLemmas
 mod DeskLemmas

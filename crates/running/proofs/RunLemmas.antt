@@ -1,31 +1,39 @@
--- What a session called and read through its pass stands in the history of the front.
-use Rattle.std.proofs.Common.{◌≡◌, ◌⊎◌, inl, inr, refl, sym, ◌∙◌, ap, subst, Bool, true, false, List, [], ◌∷◌, ◌++◌, ℕ, Option, Result, Ok, Err}
-use Rattle.std.specs.Prelude.{◌||◌, MatchResult}
+-- What a session called and read through its pass, and its workers through theirs, stands in the history of the front.
+use Rattle.std.proofs.Common.{◌≡◌, ◌⊎◌, inl, inr, refl, sym, ◌∙◌, ap, subst, arith, Bool, true, false, true≢false, List, [], ◌∷◌, ◌++◌, ℕ, ◌+◌, ◌<◌, Option, Result, Ok, Err}
+use Rattle.std.specs.Prelude.{◌||◌, ◌≢◌, map, sum, All, MatchResult}
+use Rattle.std.proofs.lemmas.List.Elements.{All-head, All-tail}
 use mathlib.Core.List.{IsPrefix}
 use Rattle.model.specs.declared.refusal.Refusal.{Refusal}
 use Rattle.model.specs.declared.refusal.Refusal.TheVariants as why
-use Rattle.model.specs.Worlds.{Setup}
+use Rattle.model.specs.Worlds.{Setup, Job}
 use Rattle.model.specs.Events as model
-use Rattle.model.specs.Replies.{is_refusal, is_stopped_refusal}
+use Rattle.model.specs.Goals.{Running}
+use Rattle.model.specs.Replies.{is_refusal, is_memory_refusal, is_stopped_refusal}
 use Rattle.model.specs.Talk as talk
 use Rattle.model.proofs.BoolLemmas.{either}
 use Rattle.events.specs.declared.event.Event.{Event}
+use Rattle.events.specs.declared.event.Request.TheVariants.{Status}
 use Rattle.events.specs.declared.reply.Reply.{Reply}
 use Rattle.events.specs.declared.reply.Reply.TheVariants.{Refused}
 use Rattle.events.specs.Terms.{reply_of}
 use Rattle.passes.specs.declared.row.Row.{Row}
 use Rattle.passes.specs.Callers.{Known, new_pass, rows_of}
 use Rattle.book.specs.declared.history.History.{History}
-use Rattle.workers.specs.Working.{Call}
+use Rattle.workers.specs.declared.runner.RunFault.{RunFault}
+use Rattle.workers.specs.declared.worker.Worker.{Worker}
+use Rattle.workers.specs.Working.{Call, asking}
 use Rattle.session.specs.Serving.{Link, Chain}
-use Rattle.running.specs.Calling.{IsTold, Stand, own_rows, rows_for}
-use Rattle.running.specs.Meeting.{HasMet, is_stopped, met_none, met_more, stopped_told}
-use Rattle.running.specs.Sessions.{Answers, Waits, Calls, Served, ServedInPart}
-use Rattle.running.specs.Runs.{Makes, is_told_stopped, tell_stopped, LinesStand, Ran, RanInPart, IsGivenBack}
+use Rattle.running.specs.Calling.{IsTold, IsAskedBy, Stand, is_read, own_rows, rows_for}
+use Rattle.running.specs.Meeting.{HasMet, IsNew, is_stopped, met_none, met_more, met_asking, stopped_told, stops_by}
+use Rattle.running.specs.Sessions.{Answers, Waits, IsStatusOf, AsksStatus, Calls, Served, ServedInPart}
+use Rattle.running.specs.Teams.{HasWorked, AllWorked, stops_in}
+use Rattle.running.specs.Desks.{numbers_in}
+use Rattle.running.specs.Runs.{Makes, is_told, tell, LinesStand, Ran, RanInPart, WorkerStands, WorkersStand, IsGivenBack}
 use Rattle.running.proofs.WaitLemmas.{calls_append}
+use Rattle.running.proofs.TeamLemmas.{rounds_chain}
 use Rattle.running.proofs.ChainLemmas.{own_longer, chain_adds, chain_counts, chain_seen, chain_stopped, chain_order}
 
--- ---- 92
+-- ---- 90 and 92
 
 told_92 : (told : Reply) → is_refusal is_stopped_refusal (reply_of told) ≡ true → told ≡ Refused why.Stopped
 told_92 (Refused w) is = refused w is
@@ -48,9 +56,18 @@ either_of : (a b : Bool) → (a || b) ≡ true → (a ≡ true) ⊎ (b ≡ true)
 either_of true b is = inl refl
 either_of false b is = inr is
 
+-- none of two
+none_of : (a b : Bool) → (a || b) ≡ false → (a ≡ false) × (b ≡ false)
+none_of true b is = absurd (true≢false is)
+none_of false b is = (refl, is)
+
 module _ (setup : Setup) where
+  -- a session: its pass, and whether a round of its workers was answered 90
+  abbrev Seat : Type 0
+  Seat = Known × Bool
+
   -- a row is a call, or the calls of a wait, or none
-  abbrev RowLink : Known → talk.Row → Known → Type 0
+  abbrev RowLink : Seat → talk.Row → Seat → Type 0
   RowLink = Link (Answers (IsTold setup)) (Waits (IsTold setup) HasMet is_stopped)
 
   abbrev CallChain : Known → List Call → Known → Type 0
@@ -59,11 +76,11 @@ module _ (setup : Setup) where
   -- ---- the calls of rows
 
   -- no call more
-  behind : (calls : List Call) (old mid new : Known) → mid ≡ old → CallChain mid calls new → CallChain old calls new
-  behind calls old mid new same chain = subst (λ (k : Known). CallChain k calls new) same chain
+  behind : (calls : List Call) (old mid new : Seat) → mid ≡ old → CallChain mid.0 calls new.0 → CallChain old.0 calls new.0
+  behind calls old mid new same chain = subst (λ (k : Seat). CallChain k.0 calls new.0) same chain
 
-  rows_calls : (rows : List talk.Row) (old new : Known) → Chain RowLink old rows new → (calls : List Call) × Makes rows calls × CallChain old calls new
-  rows_calls [] old new same = ([], refl, subst (λ (k : Known). HasMet old k) (sym same) (met_none old))
+  rows_calls : (rows : List talk.Row) (old new : Seat) → Chain RowLink old rows new → (calls : List Call) × Makes rows calls × CallChain old.0 calls new.0
+  rows_calls [] old new same = ([], refl, subst (λ (k : Seat). HasMet old.0 k.0) (sym same) (met_none old.0))
   rows_calls (talk.Silent ∷ rows) old new chain =
       let rest = rows_calls rows chain.0 new chain.2 in (rest.0, rest.1, behind rest.0 old chain.0 new chain.1 rest.2)
   rows_calls (talk.Names users ∷ rows) old new chain =
@@ -75,43 +92,88 @@ module _ (setup : Setup) where
       let rest = rows_calls rows chain.0 new chain.2 in (
         (call.0, call.1) ∷ rest.0,
         (call.0, call.1, rest.0, refl, call.2, call.3, rest.1),
-        (old, chain.0, met_none old, call.4, rest.2),
+        (old.0, chain.0.0, met_none old.0, call.4, rest.2),
       )
   rows_calls (talk.Waits goals reply ∷ rows) old new chain =
       let wait = chain.1 in
       let rest = rows_calls rows chain.0 new chain.2 in (
         wait.0 ++ rest.0,
         (wait.0, rest.0, refl, wait.1, rest.1),
-        calls_append (IsTold setup) HasMet met_more old wait.0 chain.0 rest.0 new wait.2 rest.2,
+        calls_append (IsTold setup) HasMet met_more old.0 wait.0 chain.0.0 rest.0 new.0 wait.2 rest.2,
       )
 
   -- ---- where the front was stopped
 
-  stays : (rows : List talk.Row) (old new : Known) → Chain RowLink old rows new → is_stopped old ≡ true → is_stopped new ≡ true
-  stays rows old new chain is = let all = rows_calls rows old new chain in chain_stopped setup old all.0 new all.2 is
+  stays : (rows : List talk.Row) (old new : Seat) → Chain RowLink old rows new → is_stopped old.0 ≡ true → is_stopped new.0 ≡ true
+  stays rows old new chain is = let all = rows_calls rows old new chain in chain_stopped setup old.0 all.0 new.0 all.2 is
 
   -- a line that was told 92 leaves a pass that knows it
-  row_stopped : (row : talk.Row) (old new : Known) → RowLink old row new → is_told_stopped row ≡ true → is_stopped new ≡ true
+  row_stopped : (row : talk.Row) (old new : Seat) → RowLink old row new → is_told is_stopped_refusal row ≡ true → is_stopped new.0 ≡ true
   row_stopped talk.Silent old new link is = absurd (cc)
   row_stopped (talk.Names users) old new link is = absurd (cc)
   row_stopped (talk.Refuses w) old new link is = absurd (cc)
   row_stopped (talk.Asks event reply) old new link is =
       let told : link.1 ≡ Refused why.Stopped = told_92 link.1 (ap (is_refusal is_stopped_refusal) link.3 ∙ is) in
-      stopped_told setup old new link.0 (subst (λ (r : Reply). IsTold setup old link.0 r new) told link.4)
+      stopped_told setup old.0 new.0 link.0 (subst (λ (r : Reply). IsTold setup old.0 link.0 r new.0) told link.4)
   row_stopped (talk.Waits goals reply) old new link is = link.3 (reply_92 reply is)
 
-  rows_stopped : (rows : List talk.Row) (old new : Known) → Chain RowLink old rows new → tell_stopped rows ≡ true → is_stopped new ≡ true
+  rows_stopped : (rows : List talk.Row) (old new : Seat) → Chain RowLink old rows new → tell is_stopped_refusal rows ≡ true → is_stopped new.0 ≡ true
   rows_stopped [] old new chain is = absurd (cc)
-  rows_stopped (row ∷ rows) old new chain is = elim (either_of (is_told_stopped row) (tell_stopped rows) is) [
+  rows_stopped (row ∷ rows) old new chain is = elim (either_of (is_told is_stopped_refusal row) (tell is_stopped_refusal rows) is) [
     | inl here ↦ stays rows chain.0 new chain.2 (row_stopped row old chain.0 chain.1 here)
     | inr later ↦ rows_stopped rows chain.0 new chain.2 later
   ]
+
+  -- ---- what stopped it
+
+  -- nothing more was stopped, and no round more was answered 90
+  abbrev IsQuiet : Seat → Seat → Type 0
+  IsQuiet old new = (stops_by new.0 ≡ stops_by old.0) × (new.1 ≡ true → old.1 ≡ true)
+
+  quiet_as : (old new : Seat) → new ≡ old → IsQuiet old new
+  quiet_as old new same = (ap (λ (k : Seat). stops_by k.0) same, λ is. sym (ap (λ (k : Seat). k.1) same) ∙ is)
+
+  quiet_more : (a b c : Seat) → IsQuiet a b → IsQuiet b c → IsQuiet a c
+  quiet_more a b c first next = (next.0 ∙ first.0, λ is. first.1 (next.1 is))
+
+  -- a status is read
+  status_read : (goals : List Job) (event : Event) → IsStatusOf goals event → is_read event ≡ true
+  status_read goals event is = ap is_read is.4
+
+  statuses_stop : (goals : List Job) (calls : List Call) (old new : Known) → AsksStatus goals calls → CallChain old calls new → stops_by new ≡ stops_by old
+  statuses_stop goals [] old new asks chain = chain.stops
+  statuses_stop goals (c ∷ cs) old new asks chain =
+      statuses_stop goals cs chain.1 new asks.1 chain.4
+      ∙ ap stops_by (chain.3.only_read (status_read goals c.0 asks.0)).0 ∙ chain.2.stops
+
+  -- a line that was told something else than 90 stopped nothing
+  row_quiet : (row : talk.Row) (old new : Seat) → RowLink old row new → is_told is_memory_refusal row ≡ false → IsQuiet old new
+  row_quiet talk.Silent old new link without = quiet_as old new link
+  row_quiet (talk.Names users) old new link without = quiet_as old new link
+  row_quiet (talk.Refuses w) old new link without = quiet_as old new link
+  row_quiet (talk.Asks event reply) old new link without = (
+    link.4.no_stop (λ is. true≢false (sym (ap (λ r. is_refusal is_memory_refusal (reply_of r)) is) ∙ ap (is_refusal is_memory_refusal) link.3 ∙ without)),
+    λ is. sym link.5 ∙ is,
+  )
+  row_quiet (talk.Waits goals reply) old new link without = (
+    statuses_stop goals link.0 old.0 new.0 link.1 link.2,
+    λ is. elim (link.4 is) [
+      | inl was ↦ was
+      | inr memory ↦ absurd (true≢false (sym (ap (is_refusal is_memory_refusal) memory) ∙ without))
+    ],
+  )
+
+  rows_quiet : (rows : List talk.Row) (old new : Seat) → Chain RowLink old rows new → tell is_memory_refusal rows ≡ false → IsQuiet old new
+  rows_quiet [] old new chain without = quiet_as old new chain
+  rows_quiet (row ∷ rows) old new chain without =
+      let both = none_of (is_told is_memory_refusal row) (tell is_memory_refusal rows) without in
+      quiet_more old chain.0 new (row_quiet row old chain.0 chain.1 both.0) (rows_quiet rows chain.0 new chain.2 both.1)
 
   -- ---- in the history
 
   module _ (history : History) (number : ℕ) (last : Known) (back : IsGivenBack history last) where
     -- calls from a pass that had made none
-    calls_stand : (calls : List Call) → CallChain (new_pass number) calls last → Stand setup history.rows.items number calls
+    pub calls_stand : (calls : List Call) → CallChain (new_pass number) calls last → Stand setup history.rows.items number calls
     calls_stand calls chain =
         let rows : List Row = history.rows.items in
         let adds = chain_adds setup (new_pass number) calls last chain in
@@ -123,17 +185,41 @@ module _ (setup : Setup) where
           order = chain_order setup rows number [] (new_pass number) calls last refl ([], refl) back.seen chain;
         }
 
-    lines_stand : (rows : List talk.Row) → Chain RowLink (new_pass number) rows last → LinesStand setup history number rows
+  module _ (history : History) (number : ℕ) (last : Known) (told : Bool) (others : ℕ) (clean : told ≡ false → others ≡ 0) (back : IsGivenBack history last) where
+    -- the session before its first line
+    abbrev first : Seat
+    first = (new_pass number, false)
+
+    -- so many calls stopped the front
+    abbrev all_stops : ℕ
+    all_stops = stops_by last + others
+
+    rows_memory : (rows : List talk.Row) → Chain RowLink first rows (last, told) → 0 < all_stops → tell is_memory_refusal rows ≡ true
+    rows_memory rows chain some = elim (either (tell is_memory_refusal rows)) [
+      | inl has ↦ has
+      | inr without ↦
+          let quiet = rows_quiet rows first (last, told) chain without in
+          let none : others ≡ 0 = elim (either told) [
+            | inl is ↦ absurd (true≢false (sym (quiet.1 is)))
+            | inr other ↦ clean other
+          ] in
+          let own : stops_by last ≡ 0 = quiet.0 in
+          absurd (omega (arith, some, none, own))
+    ]
+
+    lines_stand : (rows : List talk.Row) → Chain RowLink first rows (last, told) → LinesStand setup history number all_stops rows
     lines_stand rows chain =
-        let all = rows_calls rows (new_pass number) last chain in
+        let all = rows_calls rows first (last, told) chain in
         record {
           calls = all.0;
           makes = all.1;
-          stand = calls_stand all.0 all.2;
-          stopped = λ is. back.stopped (rows_stopped rows (new_pass number) last chain is);
+          stand = calls_stand history number last back all.0 all.2;
+          stopped = λ is. back.stopped (rows_stopped rows first (last, told) chain is);
+          memory = rows_memory rows chain;
         }
 
-    ran : (start : Option (List ℕ)) (text : List ℕ) → Served (IsTold setup) HasMet is_stopped (new_pass number) last start text → Ran setup history number start text
+    ran : (start : Option (List ℕ)) (text : List ℕ) → Served (IsTold setup) HasMet is_stopped first (last, told) start text
+        → Ran setup history number all_stops start text
     ran start text served = record {
       input = served.input;
       end = served.end;
@@ -146,8 +232,8 @@ module _ (setup : Setup) where
       stand = lines_stand served.done.rows served.done.chain;
     }
 
-    ran_in_part : (start : Option (List ℕ)) (text : List ℕ) (w : Refusal) → ServedInPart (IsTold setup) HasMet is_stopped (new_pass number) last start text w
-        → RanInPart setup history number start text w
+    ran_in_part : (start : Option (List ℕ)) (text : List ℕ) (w : Refusal)
+        → ServedInPart (IsTold setup) HasMet is_stopped first (last, told) start text w → RanInPart setup history number all_stops start text w
     ran_in_part start text w served = record {
       input = served.input;
       end = served.end;
@@ -160,12 +246,48 @@ module _ (setup : Setup) where
       text = served.done.text;
       users = served.done.users;
       told = served.done.told;
+      by = served.by;
       stand = lines_stand served.done.rows served.done.chain;
     }
 
     pub output_ran : (start : Option (List ℕ)) (ended : Result (Unit {0}) Refusal) (text : List ℕ)
-        → MatchResult ended (λ _. Served (IsTold setup) HasMet is_stopped (new_pass number) last start text)
-        (ServedInPart (IsTold setup) HasMet is_stopped (new_pass number) last start text)
-        → MatchResult ended (λ _. Ran setup history number start text) (RanInPart setup history number start text)
+        → MatchResult ended (λ _. Served (IsTold setup) HasMet is_stopped first (last, told) start text)
+        (ServedInPart (IsTold setup) HasMet is_stopped first (last, told) start text)
+        → MatchResult ended (λ _. Ran setup history number all_stops start text) (RanInPart setup history number all_stops start text)
     output_ran start (Ok _) text served = ran start text served
     output_ran start (Err w) text served = ran_in_part start text w served
+
+  -- ---- workers
+
+  module _ {Q : Type 0} (gives : Q → Running → Result (List ℕ) RunFault → Q → Type 0) (history : History) where
+    abbrev DidWork : Worker Known Q → Type 0
+    DidWork = HasWorked (IsTold setup) (IsAskedBy setup) gives HasMet IsNew
+
+    worker_stands : (w : Worker Known Q) → IsGivenBack history w.store → DidWork w → WorkerStands setup gives history w.store.caller.number
+    worker_stands w back worked =
+        let n : ℕ = w.store.caller.number in
+        let chain : CallChain worked.first.store worked.calls w.store =
+        rounds_chain (IsTold setup) (IsAskedBy setup) gives HasMet met_none met_more (met_asking setup) worked.first worked.rounds worked.calls w worked.works in
+        let new : worked.first.store ≡ new_pass n =
+        worked.new ∙ ap new_pass (sym (chain_adds setup worked.first.store worked.calls w.store chain).number) in
+        record {
+          first = worked.first;
+          new = new;
+          last = w;
+          rounds = worked.rounds;
+          calls = worked.calls;
+          works = worked.works;
+          stand = calls_stand history n w.store back worked.calls (subst (λ (k : Known). CallChain k worked.calls w.store) new chain);
+        }
+
+    pub workers_stand : (ws : List (Worker Known Q)) → All (IsGivenBack history) (map (λ w. w.store) ws)
+        → AllWorked (IsTold setup) (IsAskedBy setup) gives HasMet IsNew ws → WorkersStand setup gives history (numbers_in ws)
+    workers_stand [] back worked = tt
+    workers_stand (w ∷ ws) back worked = (
+      worker_stands w (All-head (IsGivenBack history) w.store (map (λ v. v.store) ws) back) worked.0,
+      workers_stand ws (All-tail (IsGivenBack history) w.store (map (λ v. v.store) ws) back) worked.1,
+    )
+
+    pub stand_append : (ms ns : List ℕ) → WorkersStand setup gives history ms → WorkersStand setup gives history ns → WorkersStand setup gives history (ms ++ ns)
+    stand_append [] ns one two = two
+    stand_append (m ∷ ms) ns one two = (one.0, stand_append ms ns one.1 two)

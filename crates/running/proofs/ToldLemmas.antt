@@ -44,6 +44,7 @@ told_read setup old new q reply read longer same going before after = record {
   memory = λ none. ap (λ (k : Known). k.caller) same;
   stopped = λ is. absurd (going is);
   remains = λ other was. absurd (false≢true (sym other ∙ is_asked q));
+  no_stop = λ _. ap (λ (k : Known). k.stops) same;
   seen = longer;
   before = before;
   after = after;
@@ -53,15 +54,16 @@ told_read setup old new q reply read longer same going before after = record {
 pub told_called : (setup : Setup) (old new : Known) (e : Event) (reply : Reply) → is_read e ≡ false
     → (gave_up reply ≡ false → IsAnswered setup old e reply new) → (reply ≡ Refused Memory → new.caller ≡ old.caller)
     → (reply ≡ Refused Stopped → new.caller ≡ told_stopped old.caller)
-    → (old.caller.stopped ≡ true → (reply ≡ Refused Stopped) ⊎ (reply ≡ Refused Memory)) → IsPrefix old.seen new.seen
-    → IsCounted old → IsCounted new → IsTold setup old e reply new
-told_called setup old new e reply other answered memory stopped remains longer before after = record {
+    → (old.caller.stopped ≡ true → (reply ≡ Refused Stopped) ⊎ (reply ≡ Refused Memory))
+    → (reply ≢ Refused Memory → new.stops ≡ old.stops) → IsPrefix old.seen new.seen → IsCounted old → IsCounted new → IsTold setup old e reply new
+told_called setup old new e reply other answered memory stopped remains no_stop longer before after = record {
   answered = λ some. answered (neither (gave_up reply) (is_read e) some).0;
   read = λ asks some. absurd (false≢true (sym other ∙ asks));
   only_read = λ asks. absurd (false≢true (sym other ∙ asks));
   memory = memory;
   stopped = stopped;
   remains = λ _ was. remains was;
+  no_stop = no_stop;
   seen = longer;
   before = before;
   after = after;

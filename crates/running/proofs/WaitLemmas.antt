@@ -78,7 +78,7 @@ module _ {S : Type 0} (called : S → Event → Reply → S → Type 0) (met : S
 
 module _ {S : Type 0} (called : S → Event → Reply → S → Type 0) (met : S → S → Type 0)
     (more : (s t u : S) → met s t → met t u → met s u) where
-  calls_behind : (a b : S) (calls : List Call) (c : S) → met a b → Calls called met b calls c → Calls called met a calls c
+  pub calls_behind : (a b : S) (calls : List Call) (c : S) → met a b → Calls called met b calls c → Calls called met a calls c
   calls_behind a b [] c one chain = more a b c one chain
   calls_behind a b (x ∷ xs) c one chain = (chain.0, chain.1, more a b chain.0 one chain.2, chain.3, chain.4)
 

@@ -8,8 +8,6 @@ use Rattle.model.specs.Goals.{Running}
 use Rattle.model.specs.Events.{is_query}
 use Rattle.events.specs.Terms.{request_of}
 use Rattle.events.specs.declared.event.Event.{Event}
-use Rattle.events.specs.declared.event.Request.{Request}
-use Rattle.events.specs.declared.event.Request.TheVariants.{Plan, Start, Finish, Fail}
 use Rattle.events.specs.declared.reply.Reply.{Reply}
 use Rattle.events.specs.declared.reply.Reply.TheVariants.{Refused}
 use Rattle.passes.specs.declared.row.Row.{Row}
@@ -35,7 +33,7 @@ pub record IsCounted (p : Known) : Type 0 where
 
 -- an event was handed to a front through a pass. What is only read is answered after rows that begin with all that the pass had seen, and
 -- are what it has seen then, and else the pass is as it was; any other event has its row, which is the last of the sure rows, at any reply
--- but 90 and 92: at 90 the pass is as it was, and at 92 it knows that the front is stopped
+-- but 90 and 92: at 90 the pass is as it was, but that it may have stopped the front, and at 92 it knows that the front is stopped
 pub record IsTold (setup : Setup) (old : Known) (event : Event) (reply : Reply) (new : Known) : Type 0 where
   pub answered : has_row (event, reply) ≡ true → IsAnswered setup old event reply new
   pub read : is_read event ≡ true → gave_up reply ≡ false → IsReadAfter setup old.caller.number new.seen event reply
@@ -43,6 +41,7 @@ pub record IsTold (setup : Setup) (old : Known) (event : Event) (reply : Reply) 
   pub memory : reply ≡ Refused Memory → new.caller ≡ old.caller
   pub stopped : reply ≡ Refused Stopped → new.caller ≡ told_stopped old.caller
   pub remains : is_read event ≡ false → old.caller.stopped ≡ true → (reply ≡ Refused Stopped) ⊎ (reply ≡ Refused Memory)
+  pub no_stop : reply ≢ Refused Memory → new.stops ≡ old.stops
   pub seen : IsPrefix old.seen new.seen
   pub before : IsCounted old
   pub after : IsCounted new
@@ -84,13 +83,3 @@ AnsweredInOrder setup history number known (c ∷ cs) = MatchBool (gave_up c.1)
 pub record Stand (setup : Setup) (history : List Row) (number : ℕ) (calls : List Call) : Type 0 where
   pub own : own_rows number history ≡ rows_for number calls
   pub order : AnsweredInOrder setup history number [] calls
-
--- ---- what workers ask
-
--- whether a worker may ask it: it plans or starts a goal, or ends the job that a goal leads
-abbrev pub is_work : Request → Bool
-is_work (Plan number) = true
-is_work (Start number) = true
-is_work (Finish number bytes) = true
-is_work (Fail number status) = true
-is_work request = false

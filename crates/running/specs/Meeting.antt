@@ -1,25 +1,31 @@
 -- Passes of one front that meet.
-use Rattle.std.specs.Prelude.{◌≡◌, ◌⊎◌, ◌||◌, Bool, true}
-use Rattle.std.proofs.Common.{inl, inr, refl, ◌∙◌, ap}
+use Rattle.std.specs.Prelude.{◌≡◌, ◌≢◌, ◌⊎◌, ◌||◌, Bool, true, false, ℕ, List, Result, Ok, Err}
+use Rattle.std.proofs.Common.{inl, inr, refl, sym, ◌∙◌, ap, true≢false}
 use mathlib.Core.List.{IsPrefix}
 use Rattle.model.specs.declared.refusal.Refusal.{Refusal}
 use Rattle.model.specs.declared.refusal.Refusal.TheVariants.{Memory, Stopped}
 use Rattle.model.specs.Worlds.{Setup}
+use Rattle.model.specs.Goals.{Running}
 use Rattle.model.specs.Replies.{is_memory_refusal, is_stopped_refusal}
 use Rattle.model.proofs.BoolLemmas.{either}
 use Rattle.events.specs.declared.event.Event.{Event}
 use Rattle.events.specs.declared.reply.Reply.{Reply}
 use Rattle.events.specs.declared.reply.Reply.TheVariants.{Refused}
-use Rattle.passes.specs.Callers.{Caller, Known, knowing}
+use Rattle.passes.specs.Callers.{Caller, Known, knowing, told_stopped, new_pass}
 use Rattle.passes.specs.Histories.{gave_up}
 use Rattle.passes.proofs.Prefixes.{prefix_self, prefix_trans}
-use Rattle.running.specs.Calling.{is_read, IsTold}
+use Rattle.running.specs.Calling.{is_read, IsTold, IsAskedBy}
 
 -- a pass met others, or none: of its own calls it knows what it knew, but that the front may be stopped, and it has seen what it had seen
 pub record HasMet (old new : Known) : Type 0 where
   pub caller : new.caller ≡ knowing new.caller.stopped old.caller
   pub remains : old.caller.stopped ≡ true → new.caller.stopped ≡ true
   pub seen : IsPrefix old.seen new.seen
+  pub stops : new.stops ≡ old.stops
+
+-- a pass that has made no call, and seen nothing
+abbrev pub IsNew : Known → Type 0
+IsNew p = p ≡ new_pass p.caller.number
 
 -- a pass has seen all rows that another one is sure of
 abbrev pub HasSeen : Known → Known → Type 0
@@ -28,14 +34,49 @@ HasSeen pass other = IsPrefix other.caller.sure pass.seen
 -- ---- what follows
 
 pub met_none : (p : Known) → HasMet p p
-met_none p = record { caller = refl; remains = λ is. is; seen = prefix_self p.seen }
+met_none p = record { caller = refl; remains = λ is. is; seen = prefix_self p.seen; stops = refl }
 
 pub met_more : (p q r : Known) → HasMet p q → HasMet q r → HasMet p r
 met_more p q r first next = record {
   caller = next.caller ∙ ap (λ (c : Caller). knowing r.caller.stopped c) first.caller;
   remains = λ is. next.remains (first.remains is);
   seen = prefix_trans p.seen q.seen r.seen first.seen next.seen;
+  stops = next.stops ∙ first.stops;
 }
+
+-- who asks for a job adds no row, as who meets others
+pub met_asking : (setup : Setup) (p q : Known) (user : List ℕ) (number : ℕ) (told : Result Running Refusal) → IsAskedBy setup p user number told q → HasMet p q
+met_asking setup p q user number told asked = elim (either (is_told_stopped told)) [
+  | inl stops ↦
+      let same = asked.stopped (stopped_if told stops) in
+      let caller : q.caller ≡ told_stopped p.caller = ap (λ (k : Known). k.caller) same in
+      let knows : q.caller.stopped ≡ true = ap (λ (c : Caller). c.stopped) caller in
+      record {
+        caller = caller ∙ ap (λ b. knowing b p.caller) (sym knows);
+        remains = λ _. knows;
+        seen = asked.seen;
+        stops = ap (λ (k : Known). k.stops) same;
+      }
+  | inr goes ↦
+      let same = asked.going (λ is. true≢false (sym (ap is_told_stopped is) ∙ goes)) in
+      let caller : q.caller ≡ p.caller = ap (λ (k : Known). k.caller) same in
+      record {
+        caller = caller ∙ ap (λ b. knowing b p.caller) (sym (ap (λ (c : Caller). c.stopped) caller));
+        remains = λ is. ap (λ (c : Caller). c.stopped) caller ∙ is;
+        seen = asked.seen;
+        stops = ap (λ (k : Known). k.stops) same;
+      }
+]
+  where
+    -- whether it was told 92
+    is_told_stopped : Result Running Refusal → Bool
+    is_told_stopped (Ok job) = false
+    is_told_stopped (Err why) = is_stopped_refusal why
+
+    stopped_if : (told : Result Running Refusal) → is_told_stopped told ≡ true → told ≡ Err Stopped
+    stopped_if (Ok job) is = absurd (cc)
+    stopped_if (Err Stopped) is = refl
+    stopped_if (Err why) is = absurd (cc)
 
 -- of what it has seen nothing is lost
 
@@ -78,3 +119,18 @@ stopped_called setup p q event reply told is = elim (either (gave_up reply)) [
     | inr called ↦ ap (λ (c : Caller). c.stopped) (told.answered (rw (some, called) refl)).sure ∙ is
   ]
 ]
+
+-- ---- which calls stopped the front
+
+-- how many calls of a pass did
+abbrev pub stops_by : Known → ℕ
+stops_by p = p.stops
+
+pub stops_met : (p q : Known) → HasMet p q → stops_by q ≡ stops_by p
+stops_met p q met = met.stops
+
+pub stops_called : (setup : Setup) (p q : Known) (event : Event) (reply : Reply) → IsTold setup p event reply q → reply ≢ Refused Memory → stops_by q ≡ stops_by p
+stops_called setup p q event reply told other = told.no_stop other
+
+pub stops_new : (p : Known) → IsNew p → stops_by p ≡ 0
+stops_new p new = ap (λ (k : Known). k.stops) new

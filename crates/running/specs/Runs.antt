@@ -1,5 +1,5 @@
 -- What the lines of files mean for the store that their sessions share.
-use Rattle.std.specs.Prelude.{◌≡◌, ◌==◌, ◌||◌, Bool, true, false, ℕ, List, [], ◌∷◌, ◌++◌, Option, Some, take, All, MatchResult}
+use Rattle.std.specs.Prelude.{◌≡◌, ◌<◌, ◌==◌, ◌||◌, Bool, true, false, ℕ, List, [], ◌∷◌, ◌++◌, sum, sum_by, Option, Some, Result, take, All, MatchResult}
 use Rattle.std.specs.List.{list_any, list_all}
 use mathlib.Core.List.{IsPrefix}
 use Rattle.std.specs.Io.KnownBytes.{Appends, Consumes, IsAtEnd, prepend_known}
@@ -8,22 +8,28 @@ use Rattle.model.specs.declared.refusal.Refusal.{Refusal}
 use Rattle.model.specs.declared.refusal.Refusal.TheVariants.{BadUsers}
 use Rattle.model.specs.Worlds.{Setup}
 use Rattle.model.specs.Lines.{lines_of}
-use Rattle.model.specs.Replies.{is_refusal, is_stopped_refusal}
+use Rattle.model.specs.Goals.{Running}
+use Rattle.model.specs.Replies.{is_refusal, is_memory_refusal, is_stopped_refusal}
 use Rattle.model.specs.Talk as talk
 use Rattle.model.specs.Talk.{fresh, after_all, Talks, text_from}
 use Rattle.events.specs.declared.event.Event.{Event}
 use Rattle.events.specs.declared.reply.Reply.{Reply}
 use Rattle.events.specs.Terms.{event_of, reply_of}
 use Rattle.passes.specs.declared.row.Row.{Row}
-use Rattle.passes.specs.Callers.{Known, rows_of}
+use Rattle.passes.specs.Callers.{Known, new_pass, rows_of, stops_of}
 use Rattle.passes.specs.Histories.{IsLegal}
 use Rattle.book.specs.declared.history.History.{History}
+use Rattle.workers.specs.declared.runner.RunFault.{RunFault}
+use Rattle.workers.specs.declared.ticket.Ticket.{Ticket}
+use Rattle.workers.specs.declared.worker.Worker.{Worker}
 use Rattle.workers.specs.Working.{Call}
 use Rattle.session.specs.Serving.{HasRefused}
 use Rattle.running.specs.declared.sessions.Output.{Output}
 use Rattle.running.specs.declared.sessions.Part.{Part}
-use Rattle.running.specs.Calling.{Stand, is_work}
-use Rattle.running.specs.Sessions.{AsksStatus}
+use Rattle.running.specs.Calling.{Stand, IsTold, IsAskedBy}
+use Rattle.running.specs.Meeting.{HasMet, stops_by}
+use Rattle.running.specs.Teams.{WorksInRounds}
+use Rattle.running.specs.Sessions.{AsksStatus, EndsBy}
 use Rattle.running.specs.Desks.{passes_needed, session_passes}
 use Rattle.running.specs.declared.runs.Results.{Results}
 
@@ -38,26 +44,28 @@ Makes (talk.Waits goals reply ∷ rows) calls =
     (asked : List Call) × (rest : List Call) × (calls ≡ asked ++ rest) × AsksStatus goals asked × Makes rows rest
 Makes (row ∷ rows) calls = Makes rows calls
 
--- whether a line was told 92, that the store is stopped
-abbrev pub is_told_stopped : talk.Row → Bool
-is_told_stopped (talk.Asks event reply) = is_refusal is_stopped_refusal reply
-is_told_stopped (talk.Waits goals reply) = is_refusal is_stopped_refusal reply
-is_told_stopped row = false
+-- whether a line was told one of some refusals
+abbrev pub is_told : (Refusal → Bool) → talk.Row → Bool
+is_told which (talk.Asks event reply) = is_refusal which reply
+is_told which (talk.Waits goals reply) = is_refusal which reply
+is_told which row = false
 
 -- whether one of them was
-abbrev pub tell_stopped : List talk.Row → Bool
-tell_stopped [] = false
-tell_stopped (row ∷ rows) = is_told_stopped row || tell_stopped rows
+abbrev pub tell : (Refusal → Bool) → List talk.Row → Bool
+tell which [] = false
+tell which (row ∷ rows) = is_told which row || tell which rows
 
--- the calls of these lines stand in the history of a store under the pass of a number, and where a line was told 92 the store was stopped
-pub record LinesStand (setup : Setup) (history : History) (number : ℕ) (rows : List talk.Row) : Type 0 where
+-- the calls of these lines stand in the history of a store under the pass of a number. Where a line was told 92 the store was stopped; and
+-- where calls of these lines or of those who built for them stopped it, so many as are said, a line was told 90
+pub record LinesStand (setup : Setup) (history : History) (number stops : ℕ) (rows : List talk.Row) : Type 0 where
   pub calls : List Call
   pub makes : Makes rows calls
   pub stand : Stand setup history.rows.items number calls
-  pub stopped : tell_stopped rows ≡ true → history.stopped ≡ true
+  pub stopped : tell is_stopped_refusal rows ≡ true → history.stopped ≡ true
+  pub memory : 0 < stops → tell is_memory_refusal rows ≡ true
 
 -- all lines of an input were answered so, and this is all of their text
-pub record Ran (setup : Setup) (history : History) (number : ℕ) (start : Option (List ℕ)) (printed : List ℕ) : Type 0 where
+pub record Ran (setup : Setup) (history : History) (number stops : ℕ) (start : Option (List ℕ)) (printed : List ℕ) : Type 0 where
   pub input : List ℕ
   pub end : Option (List ℕ)
   pub read : Consumes start end input
@@ -66,11 +74,11 @@ pub record Ran (setup : Setup) (history : History) (number : ℕ) (start : Optio
   pub talks : Talks (fresh Run) (lines_of input) rows
   pub going : (after_all (fresh Run) rows).refused ≡ false
   pub text : Appends (Some []) (Some printed) (text_from 1 rows)
-  pub stand : LinesStand setup history number rows
+  pub stand : LinesStand setup history number stops rows
 
 -- the first lines of it were, whatever comes after what was read, and this is a beginning of their text;
--- it ends with 14 just where a line of users was refused and this is all of it
-pub record RanInPart (setup : Setup) (history : History) (number : ℕ) (start : Option (List ℕ)) (printed : List ℕ) (why : Refusal) : Type 0 where
+-- it ends with 14 just where a line of users was refused and this is all of it, and else with 71 or 90
+pub record RanInPart (setup : Setup) (history : History) (number stops : ℕ) (start : Option (List ℕ)) (printed : List ℕ) (why : Refusal) : Type 0 where
   pub input : List ℕ
   pub end : Option (List ℕ)
   pub read : Consumes start end input
@@ -82,28 +90,51 @@ pub record RanInPart (setup : Setup) (history : History) (number : ℕ) (start :
   pub text : Appends (Some []) (Some printed) (take count (text_from 1 rows))
   pub users : why ≡ BadUsers → HasRefused Run rows count
   pub told : HasRefused Run rows count → why ≡ BadUsers
-  pub stand : LinesStand setup history number rows
+  pub by : EndsBy why
+  pub stand : LinesStand setup history number stops rows
 
 module _ {I Q : Type 0} (setup : Setup) (remaining : I → Option (List ℕ)) (history : History) where
   -- the output of a file: what was read of it, and then what its reader gave, was run, or the first lines of it were
-  abbrev pub IsOutputOf : ℕ → Part I Q → Output → Type 0
-  IsOutputOf number part output =
+  abbrev pub IsOutputOf : ℕ → ℕ → Part I Q → Output → Type 0
+  IsOutputOf number stops part output =
       let start = prepend_known part.bytes.items (remaining part.reader) in
-      MatchResult output.ended (λ _. Ran setup history number start output.text.items) (RanInPart setup history number start output.text.items)
+      MatchResult output.ended (λ _. Ran setup history number stops start output.text.items)
+      (RanInPart setup history number stops start output.text.items)
 
-  -- each file has its output, in their order, under the passes of these numbers
-  abbrev pub AreOutputs : List ℕ → List (Part I Q) → List Output → Type 0
-  AreOutputs [] [] [] = Unit {0}
-  AreOutputs (number ∷ numbers) (part ∷ parts) (output ∷ outputs) = IsOutputOf number part output × AreOutputs numbers parts outputs
-  AreOutputs numbers parts outputs = ⊥
+  -- each file has its output, in their order, under the passes of these numbers; and so many calls of each stopped the store
+  abbrev pub AreOutputs : List ℕ → List ℕ → List (Part I Q) → List Output → Type 0
+  AreOutputs [] [] [] [] = Unit {0}
+  AreOutputs (number ∷ numbers) (own ∷ stops) (part ∷ parts) (output ∷ outputs) =
+      IsOutputOf number own part output × AreOutputs numbers stops parts outputs
+  AreOutputs numbers stops parts outputs = ⊥
 
--- a row is of one of these passes, or a worker may ask its event
-abbrev pub is_accounted : List ℕ → Row → Bool
-is_accounted numbers row = list_any (λ n. n == row.pass) numbers || is_work row.event.request
+-- ---- workers
+
+module _ {Q : Type 0} (setup : Setup) (gives : Q → Running → Result (List ℕ) RunFault → Q → Type 0) (history : History) where
+  -- a worker with the pass of a number did nothing but work on tickets, in rounds, and its calls stand in the history: it plans a goal, starts
+  -- it, asks what the job that it leads is built from, has that built once by its runner, and ends the job with what this gave
+  pub record WorkerStands (number : ℕ) : Type 0 where
+    pub first : Worker Known Q
+    pub new : first.store ≡ new_pass number
+    pub last : Worker Known Q
+    pub rounds : List (List Ticket)
+    pub calls : List Call
+    pub works : WorksInRounds (IsTold setup) (IsAskedBy setup) gives HasMet first rounds calls last
+    pub stand : Stand setup history.rows.items number calls
+
+  abbrev pub WorkersStand : List ℕ → Type 0
+  WorkersStand [] = Unit {0}
+  WorkersStand (number ∷ numbers) = WorkerStands number × WorkersStand numbers
+
+-- a row is of the pass of a session or of a worker
+abbrev pub is_accounted : List ℕ → List ℕ → Row → Bool
+is_accounted sessions workers row = list_any (λ n. n == row.pass) sessions || list_any (λ n. n == row.pass) workers
 
 -- each of them is
-abbrev pub are_accounted : List ℕ → List Row → Bool
-are_accounted numbers rows = list_all (is_accounted numbers) rows
+abbrev pub are_accounted : List ℕ → List ℕ → List Row → Bool
+are_accounted sessions workers rows = list_all (is_accounted sessions workers) rows
+
+-- ---- all files
 
 -- what a front says in its history, when it is closed, of a pass that was given back
 pub record IsGivenBack (history : History) (pass : Known) : Type 0 where
@@ -112,22 +143,31 @@ pub record IsGivenBack (history : History) (pass : Known) : Type 0 where
   pub each : rows_of pass.caller.number history.rows.items ≡ pass.caller.calls
   pub stopped : pass.caller.stopped ≡ true → history.stopped ≡ true
 
--- the sessions of files, of the passes of these numbers, were served: whatever the history is when all passes were given back, each file has
--- its output in it
-pub record AreServed {I Q : Type 0} (setup : Setup) (remaining : I → Option (List ℕ)) (numbers : List ℕ) (parts : List (Part I Q))
-    (sessions : List ℕ) (passes : List Known) (outputs : List Output) : Type 0 where
-  pub named : sessions ≡ numbers
-  pub outputs_are : (history : History) → All (IsGivenBack history) passes → AreOutputs setup remaining history numbers parts outputs
+module _ {I Q : Type 0} (setup : Setup) (gives : Q → Running → Result (List ℕ) RunFault → Q → Type 0) (remaining : I → Option (List ℕ)) where
+  -- the sessions of files, of the passes of these numbers, were served: whatever the history is when all passes were given back, each file has
+  -- its output in it, and each worker stands in it
+  pub record AreServed (numbers : List ℕ) (parts : List (Part I Q)) (sessions workers : List ℕ) (passes : List Known) (outputs : List Output) : Type 0 where
+    pub named : sessions ≡ numbers
+    pub stops : List ℕ
+    pub all : sum stops ≡ sum_by stops_by passes
+    pub outputs_are : (history : History) → All (IsGivenBack history) passes → AreOutputs setup remaining history numbers stops parts outputs
+    pub workers_are : (history : History) → All (IsGivenBack history) passes → ∥ WorkersStand setup gives history workers ∥₁
 
--- a front was closed with these passes, of which these are the sessions'
-pub record IsClosed (setup : Setup) (sessions : List ℕ) (passes : List Known) (history : History) : Type 0 where
+  -- what the lines of files gave is so of the history of one store. It is legal; the lines of each file stand in it under the pass of its
+  -- session, and no other row is of that pass; each row of another pass is of a worker who stands in it; and it says that the store was stopped
+  -- just where a call did that, after which a line of that file was told 90
+  pub record AreResults (parts : List (Part I Q)) (results : Results) : Type 0 where
+    pub legal : IsLegal setup results.history.rows.items
+    pub stops : List ℕ
+    pub outputs : AreOutputs setup remaining results.history (session_passes (passes_needed parts) parts) stops parts results.outputs.items
+    pub stopped : sum stops ≡ stops_of results.history.stopped
+    pub workers : List ℕ
+    pub workers_are : ∥ WorkersStand setup gives results.history workers ∥₁
+    pub others : are_accounted (session_passes (passes_needed parts) parts) workers results.history.rows.items ≡ true
+
+-- a front was closed with these passes, of which these are the sessions' and those the workers'
+pub record IsClosed (setup : Setup) (sessions workers : List ℕ) (passes : List Known) (history : History) : Type 0 where
   pub legal : IsLegal setup history.rows.items
   pub back : All (IsGivenBack history) passes
-  pub others : are_accounted sessions history.rows.items ≡ true
-
--- what the lines of files gave is so of the history of one store: it is legal; the lines of each file stand in it under the pass of its
--- session, and no other row is of that pass; and each row of another pass is what a worker may ask
-pub record AreResults {I Q : Type 0} (setup : Setup) (remaining : I → Option (List ℕ)) (parts : List (Part I Q)) (results : Results) : Type 0 where
-  pub legal : IsLegal setup results.history.rows.items
-  pub outputs : AreOutputs setup remaining results.history (session_passes (passes_needed parts) parts) parts results.outputs.items
-  pub others : are_accounted (session_passes (passes_needed parts) parts) results.history.rows.items ≡ true
+  pub stopped : sum_by stops_by passes ≡ stops_of history.stopped
+  pub others : are_accounted sessions workers history.rows.items ≡ true

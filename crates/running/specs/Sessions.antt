@@ -1,9 +1,9 @@
 -- What the sessions of files do with their lines, in a store that they share.
-use Rattle.std.specs.Prelude.{◌≡◌, ◌⊎◌, Bool, true, ℕ, List, [], ◌∷◌, ◌++◌, Option, Some, MatchResult}
+use Rattle.std.specs.Prelude.{◌≡◌, ◌⊎◌, Bool, true, ℕ, List, [], ◌∷◌, ◌++◌, Option, Some, Result, Err, MatchResult}
 use Rattle.std.specs.Io.KnownBytes.{Consumes, IsAtEnd}
 use Rattle.model.specs.declared.mode.Mode.TheVariants.{Run}
 use Rattle.model.specs.declared.refusal.Refusal.{Refusal}
-use Rattle.model.specs.declared.refusal.Refusal.TheVariants.{Memory, Stopped, Quota, BadUsers, OutputFault}
+use Rattle.model.specs.declared.refusal.Refusal.TheVariants.{Memory, Stopped, Quota, BadUsers, InputFault, OutputFault}
 use Rattle.model.specs.Worlds.{Job}
 use Rattle.model.specs.Events as model
 use Rattle.model.specs.Lines.{lines_of}
@@ -16,6 +16,7 @@ use Rattle.workers.specs.declared.ticket.Ticket.TheVariants.{Goal}
 use Rattle.workers.specs.Working.{Call, asking}
 use Rattle.session.specs.Serving.{Link, Finished, EndedEarly}
 use Rattle.running.specs.declared.sessions.Output.{Output}
+use Rattle.running.specs.Teams.{TeamView}
 
 -- ---- one store
 
@@ -32,6 +33,10 @@ abbrev pub kept_fault : Refusal → Refusal
 kept_fault OutputFault = Memory
 kept_fault why = why
 
+-- why a session whose text is kept in memory ends before all lines are answered
+abbrev pub EndsBy : Refusal → Type 0
+EndsBy why = (why ≡ InputFault) ⊎ (why ≡ BadUsers) ⊎ (why ≡ Memory)
+
 -- a ticket for a goal, which is named as the job that it would lead
 abbrev pub ticket_for : Job → Ticket
 ticket_for goal = Goal goal.leader goal.number
@@ -47,11 +52,17 @@ abbrev pub AsksStatus : List Job → List Call → Type 0
 AsksStatus goals [] = Unit {0}
 AsksStatus goals (c ∷ cs) = IsStatusOf goals c.0 × AsksStatus goals cs
 
+-- a round of a team that was answered 90 is told as that, once
+abbrev pub HasTold : {S Q T : Type 0} → TeamView S Q → TeamView S Q → Result T Refusal → Type 0
+HasTold old new answer = new.has_met_memory ≡ true → (old.has_met_memory ≡ true) ⊎ (answer ≡ Err Memory)
+
+-- ---- a session: its store, and whether a round of its workers was answered 90
+
 module _ {S : Type 0} (called : S → Event → Reply → S → Type 0) where
-  -- a store was handed an event and gave a reply, in the terms of the model
-  abbrev pub Answers : S → model.Event → model.Reply → S → Type 0
+  -- the store was handed an event and gave a reply, in the terms of the model
+  abbrev pub Answers : S × Bool → model.Event → model.Reply → S × Bool → Type 0
   Answers old event reply new =
-      (asked : Event) × (told : Reply) × (event_of asked ≡ event) × (reply_of told ≡ reply) × called old asked told new
+      (asked : Event) × (told : Reply) × (event_of asked ≡ event) × (reply_of told ≡ reply) × called old.0 asked told new.0 × (new.1 ≡ old.1)
 
 module _ {S : Type 0} (called : S → Event → Reply → S → Type 0) (met : S → S → Type 0) where
   -- calls of a store, one after another; before each of them, and after the last, it met others, or none
@@ -60,13 +71,15 @@ module _ {S : Type 0} (called : S → Event → Reply → S → Type 0) (met : S
   Calls old (c ∷ cs) new = (ready : S) × (between : S) × met old ready × called ready c.0 c.1 between × Calls between cs new
 
 module _ {S : Type 0} (called : S → Event → Reply → S → Type 0) (met : S → S → Type 0) (stopped : S → Bool) where
-  -- in a wait for goals a session asks how far they are and meets others, and nothing else; it is told 92 only where its store was told
-  abbrev pub Waits : S → List Job → model.Reply → S → Type 0
+  -- in a wait for goals a session asks how far they are and meets others, and nothing else; it is told 92 only where its store was told,
+  -- and 90 where a round was answered so
+  abbrev pub Waits : S × Bool → List Job → model.Reply → S × Bool → Type 0
   Waits old goals reply new =
-      (calls : List Call) × AsksStatus goals calls × Calls called met old calls new × (reply ≡ model.Refused Stopped → stopped new ≡ true)
+      (calls : List Call) × AsksStatus goals calls × Calls called met old.0 calls new.0 × (reply ≡ model.Refused Stopped → stopped new.0 ≡ true)
+      × (new.1 ≡ true → (old.1 ≡ true) ⊎ (reply ≡ model.Refused Memory))
 
   -- all lines of an input were answered, the events of them by calls of a store, and this is the text of all replies
-  pub record Served (first last : S) (start : Option (List ℕ)) (text : List ℕ) : Type 0 where
+  pub record Served (first last : S × Bool) (start : Option (List ℕ)) (text : List ℕ) : Type 0 where
     pub input : List ℕ
     pub end : Option (List ℕ)
     pub read : Consumes start end input
@@ -74,13 +87,14 @@ module _ {S : Type 0} (called : S → Event → Reply → S → Type 0) (met : S
     pub done : Finished Run (Link (Answers called) Waits) first last (Some []) (Some text) (lines_of input)
 
   -- the first lines of it were, and this is a beginning of the text
-  pub record ServedInPart (first last : S) (start : Option (List ℕ)) (text : List ℕ) (why : Refusal) : Type 0 where
+  pub record ServedInPart (first last : S × Bool) (start : Option (List ℕ)) (text : List ℕ) (why : Refusal) : Type 0 where
     pub input : List ℕ
     pub end : Option (List ℕ)
     pub read : Consumes start end input
     pub done : EndedEarly Run (Link (Answers called) Waits) first last (Some []) (Some text) input (IsAtEnd end) why
+    pub by : EndsBy why
 
-  -- the session of an input has this output, and its store is the last one then
-  abbrev pub Outputs : S → S → Option (List ℕ) → Output → Type 0
+  -- the session of an input has this output, and is as the last one then
+  abbrev pub Outputs : S × Bool → S × Bool → Option (List ℕ) → Output → Type 0
   Outputs first last start output =
       MatchResult output.ended (λ _. Served first last start output.text.items) (ServedInPart first last start output.text.items)

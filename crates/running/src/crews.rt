@@ -3,9 +3,11 @@
 ghost use Rattle.std.specs.Prelude.{◌≡◌, ◌⊎◌, map, Err, IfOk, IfErr, MatchResult};
 ghost use Rattle.model.specs.declared.refusal.Refusal.TheVariants.{Memory};
 ghost use Rattle.workers.specs.Rounds.{IsRound};
-ghost use Rattle.running.specs.Sessions.{GivesUp, ticket_for};
+ghost use Rattle.running.specs.Sessions.{GivesUp, HasTold, ticket_for};
 
+use crate::meeting::Meet;
 use crate::rounds::Rounds;
+use crate::teams::{Team, build_once};
 use crossbeam_channel::{Receiver, Sender, bounded};
 use model::Refusal;
 use session::Job;
@@ -13,28 +15,28 @@ use std::alloc::{AllocError, Global};
 use std::mem;
 use std::sync::Wait;
 use std::thread::{Scope, Threads};
-use workers::{Runner, Store, Ticket, Worker, round};
+use workers::{Runner, Ticket};
 
 /// Goals that are to be built in one round, and who builds them.
 #[derive(Drop)]
-struct Order<S: Drop, Q: Drop> {
+struct Order<S: Meet + Drop, Q: Runner + Drop> {
     goals: Vec<Job>,
-    workers: Vec<Worker<S, Q>>,
+    team: Team<S, Q>,
 }
 
 /// What a round came to, and who built in it.
 #[derive(Drop)]
-struct Outcome<S: Drop, Q: Drop> {
+struct Outcome<S: Meet + Drop, Q: Runner + Drop> {
     answer: Result<(), Refusal>,
-    workers: Vec<Worker<S, Q>>,
+    team: Team<S, Q>,
 }
 
 /// The workers of a session, who are with it between its rounds, and the channels by which they leave for
 /// a round and come back.
 #[derive(Drop)]
-pub(crate) struct Crew<'a, S: Drop, Q: Drop> {
+pub(crate) struct Crew<'a, S: Meet + Drop, Q: Runner + Drop> {
     /// Who builds.
-    pub(crate) workers: Vec<Worker<S, Q>>,
+    pub(crate) team: Team<S, Q>,
     rounds: &'a Rounds,
     orders: Sender<Order<S, Q>>,
     outcomes: Receiver<Outcome<S, Q>>,
@@ -42,12 +44,12 @@ pub(crate) struct Crew<'a, S: Drop, Q: Drop> {
 
 /// Where a crew builds: the other ends of its channels.
 #[derive(Drop)]
-pub(crate) struct Workshop<S: Drop, Q: Drop> {
+pub(crate) struct Workshop<S: Meet + Drop, Q: Runner + Drop> {
     orders: Receiver<Order<S, Q>>,
     outcomes: Sender<Outcome<S, Q>>,
 }
 
-impl<'a, S: Drop, Q: Drop> Crew<'a, S, Q> {
+impl<'a, S: Meet + Drop, Q: Runner + Drop> Crew<'a, S, Q> {
     /// A crew of these workers, and where it builds.
     ///
     /// # Errors
@@ -56,18 +58,18 @@ impl<'a, S: Drop, Q: Drop> Crew<'a, S, Q> {
     pub(crate) fn new(
         alloc: Global,
         rounds: &'a Rounds,
-        workers: Vec<Worker<S, Q>>,
-    ) -> Result<(Crew<'a, S, Q>, Workshop<S, Q>), Vec<Worker<S, Q>>>
-        ensures { MatchResult result (λ made. made.0.workers ≡ workers) (λ left. left ≡ workers) }
+        team: Team<S, Q>,
+    ) -> Result<(Crew<'a, S, Q>, Workshop<S, Q>), Team<S, Q>>
+        ensures { MatchResult result (λ made. made.0.team ≡ team) (λ left. left ≡ team) }
     {
         let Ok((send_order, receive_order)) = bounded(alloc, 1) else {
-            return Err(workers);
+            return Err(team);
         };
         let Ok((send_outcome, receive_outcome)) = bounded(alloc, 1) else {
-            return Err(workers);
+            return Err(team);
         };
         let crew = Crew {
-            workers,
+            team,
             rounds,
             orders: send_order,
             outcomes: receive_outcome,
@@ -80,7 +82,8 @@ impl<'a, S: Drop, Q: Drop> Crew<'a, S, Q> {
     }
 
     /// Has goals built in one round, after which the workers are back. Where nobody is there to build, they
-    /// do not leave, or do not come back.
+    /// do not leave, or do not come back. A round that met a want of memory is told as that, whichever it
+    /// was, so that none is passed over.
     ///
     /// # Errors
     ///
@@ -92,7 +95,8 @@ impl<'a, S: Drop, Q: Drop> Crew<'a, S, Q> {
         alloc: Global,
         goals: Vec<Job>,
     ) -> Result<(), Refusal>
-        ensures { IfErr result GivesUp }
+        ensures why { IfErr result GivesUp }
+        ensures told { HasTold self.old.team self.new.team result }
     {
         let round = self.rounds.begin(rt);
         let answer = self.build_round(rt, alloc, goals);
@@ -112,18 +116,21 @@ impl<'a, S: Drop, Q: Drop> Crew<'a, S, Q> {
         alloc: Global,
         goals: Vec<Job>,
     ) -> Result<(), Refusal>
-        ensures { IfErr result GivesUp }
+        ensures why { IfErr result GivesUp }
+        ensures told { HasTold self.old.team self.new.team result }
     {
-        let workers = mem::replace(&mut self.workers, Vec::new(alloc));
-        if let Err(error) = self.orders.send(rt, Order { goals, workers }) {
-            self.workers = error.into_inner().workers;
+        let has_told = self.team.has_met_memory();
+        let team = mem::replace(&mut self.team, Team::nobody(alloc));
+        if let Err(error) = self.orders.send(rt, Order { goals, team }) {
+            self.team = error.into_inner().team;
             return Err(Refusal::Memory);
         }
         let Ok(outcome) = self.outcomes.recv(rt) else {
             return Err(Refusal::Memory);
         };
-        self.workers = outcome.workers;
+        self.team = outcome.team;
         match outcome.answer {
+            _ if self.team.has_met_memory() && !has_told => Err(Refusal::Memory),
             Ok(()) => Ok(()),
             Err(Refusal::Stopped) => Err(Refusal::Stopped),
             Err(_) => Err(Refusal::Memory),
@@ -131,16 +138,16 @@ impl<'a, S: Drop, Q: Drop> Crew<'a, S, Q> {
     }
 
     /// Those who build, if they are there. Nothing can be built any more.
-    pub(crate) fn into_workers(self) -> Vec<Worker<S, Q>>
-        ensures { result ≡ self.entry.workers }
+    pub(crate) fn into_team(self) -> Team<S, Q>
+        ensures { result ≡ self.entry.team }
     {
         let Crew {
-            workers,
+            team,
             rounds: _,
             orders: _orders,
             outcomes: _outcomes,
         } = self;
-        workers
+        team
     }
 }
 
@@ -155,26 +162,26 @@ fn tickets_for(alloc: Global, goals: &[Job]) -> Result<Vec<Ticket>, AllocError>
     Ok(tickets)
 }
 
-/// Has goals built in one round of the workers, who come back.
-fn build_once<S: Store + Send + Drop, Q: Runner + Send + Drop, R: Threads + Wait + Sync>(
+/// Has what an order names built in one round of its workers, who come back.
+fn build_order<S: Meet + Send + Drop, Q: Runner + Send + Drop, R: Threads + Wait + Sync>(
     rt: &R,
     alloc: Global,
     order: Order<S, Q>,
 ) -> Outcome<S, Q>
-    ensures { IsRound S.called S.asked Q.gives (map ticket_for order.goals.items) order.workers.items
-        result.workers.items result.answer
-        ⊎ ((result.workers ≡ order.workers) × (result.answer ≡ Err Memory)) }
+    ensures { IsRound S.called S.asked Q.gives (map ticket_for order.goals.items)
+        order.team.workers result.team.workers result.answer
+        ⊎ ((result.team.workers ≡ order.team.workers) × (result.answer ≡ Err Memory)) }
 {
-    let Order { goals, workers } = order;
-    let (answer, workers) = match tickets_for(alloc, &goals) {
-        Ok(tickets) => round(rt, alloc, tickets, workers),
-        Err(_) => (Err(Refusal::Memory), workers),
+    let Order { goals, team } = order;
+    let (answer, team) = match tickets_for(alloc, &goals) {
+        Ok(tickets) => build_once(rt, alloc, tickets, team),
+        Err(_) => (Err(Refusal::Memory), team),
     };
-    Outcome { answer, workers }
+    Outcome { answer, team }
 }
 
 /// Builds what it is handed, until there is nobody who hands anything on.
-fn build<S: Store + Send + Drop, Q: Runner + Send + Drop, R: Threads + Wait + Sync>(
+fn build<S: Meet + Send + Drop, Q: Runner + Send + Drop, R: Threads + Wait + Sync>(
     rt: &R,
     alloc: Global,
     workshop: Workshop<S, Q>,
@@ -184,7 +191,7 @@ fn build<S: Store + Send + Drop, Q: Runner + Send + Drop, R: Threads + Wait + Sy
         let Ok(order) = orders.recv(rt) else {
             return;
         };
-        if outcomes.send(rt, build_once(rt, alloc, order)).is_err() {
+        if outcomes.send(rt, build_order(rt, alloc, order)).is_err() {
             return;
         }
     }
@@ -195,7 +202,7 @@ fn build<S: Store + Send + Drop, Q: Runner + Send + Drop, R: Threads + Wait + Sy
 pub(crate) fn start_building<
     's,
     E,
-    S: Store + Send + Drop + 's,
+    S: Meet + Send + Drop + 's,
     Q: Runner + Send + Drop + 's,
     R: Threads + Wait + Sync,
 >(rt: &'s R, alloc: Global, scope: &Scope<'s, E>, workshop: Workshop<S, Q>) {

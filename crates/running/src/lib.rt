@@ -14,6 +14,7 @@ mod rounds;
 mod runs;
 mod sessions;
 mod shared;
+mod teams;
 mod waiting;
 
 pub use openings::{Opening, look_ahead};

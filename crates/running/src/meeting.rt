@@ -1,10 +1,13 @@
 //! Stores that learn from one another.
 
-ghost use Rattle.std.specs.Prelude.{◌≡◌, Bool, true, All};
-ghost use Rattle.model.specs.declared.refusal.Refusal.TheVariants.{Stopped};
+ghost use Rattle.std.specs.Prelude.{◌≡◌, ◌≢◌, ℕ, List, Bool, Result, true, All};
+ghost use Rattle.model.specs.declared.refusal.Refusal.{Refusal};
+ghost use Rattle.model.specs.declared.refusal.Refusal.TheVariants.{Memory, Stopped};
+ghost use Rattle.model.specs.Goals.{Running};
 ghost use Rattle.events.specs.declared.event.Event.{Event};
 ghost use Rattle.events.specs.declared.reply.Reply.{Reply};
 ghost use Rattle.events.specs.declared.reply.Reply.TheVariants.{Refused};
+ghost use Rattle.running.specs.Teams.{AllMet};
 
 use workers::{Store, Worker};
 
@@ -18,6 +21,12 @@ pub(crate) trait Meet: Store {
 
     /// Whether it was told that what it calls is stopped.
     ghost stopped: { Self → Bool };
+
+    /// It has made no call.
+    ghost is_new: { Self → Type 0 };
+
+    /// How many of its calls stopped what it calls.
+    ghost stops: { Self → ℕ };
 
     /// Meets another store, and tells whether what they call is stopped. It may wait.
     fn meet(&mut self, other: &mut Self) -> bool
@@ -49,12 +58,27 @@ pub(crate) trait Meet: Store {
     /// It stays stopped after a call.
     ghost stopped_called: { (s t : Self) (event : Event) (reply : Reply)
         → Self.called s event reply t → stopped s ≡ true → stopped t ≡ true };
+
+    /// Who asks for a job may meet others, and nothing else comes of it.
+    ghost met_asking: { (s t : Self) (user : List ℕ) (number : ℕ) (told : Result Running Refusal)
+        → Self.asked s user number told t → met s t };
+
+    /// No call has stopped anything where none was made.
+    ghost stops_new: { (s : Self) → is_new s → stops s ≡ 0 };
+
+    /// Who meets others stops nothing.
+    ghost stops_met: { (s t : Self) → met s t → stops t ≡ stops s };
+
+    /// Only a call that is answered 90 may stop what it calls.
+    ghost stops_called: { (s t : Self) (event : Event) (reply : Reply)
+        → Self.called s event reply t → reply ≢ Refused Memory → stops t ≡ stops s };
 }
 
 /// Has a store meet those of workers, one after another. Tells whether what they call is stopped, as the
 /// last of them found it.
 pub(crate) fn meet_each<S: Meet, Q>(store: &mut S, workers: &mut [Worker<S, Q>]) -> bool
     ensures met { S.met store.old store.new }
+    ensures workers { AllMet S.met workers.old workers.new }
     ensures knows { All (λ w. S.knows store.new w.store) workers.new }
     ensures stopped { result ≡ true → S.stopped store.new ≡ true }
 {

@@ -1,12 +1,14 @@
 //! Reading a file ahead, up to its users.
 
-ghost use Rattle.std.specs.Prelude.{◌≡◌, ◌⊎◌, ◌++◌, [], ℕ, List, Some, true, false, IfOk, IfErr};
+ghost use Rattle.std.specs.Prelude.{◌≡◌, ◌⊎◌, ◌++◌, [], ℕ, List, Some, true, false, Ok, IfOk, IfErr};
 ghost use Rattle.std.specs.Io.KnownBytes.{Consumes};
 ghost use Rattle.model.specs.declared.mode.Mode.TheVariants.{Run};
 ghost use Rattle.model.specs.declared.refusal.Refusal.TheVariants.{Memory, BadUsers, InputFault};
 ghost use Rattle.session.specs.Ahead.{LooksAhead};
+ghost use Rattle.running.specs.Openings.{BeginsWithUsers};
 ghost use Rattle.session.specs.Serving.{HasFailed, MayBeFault};
 
+use lines::cut;
 use model::{Mode, Refusal};
 use nar::has_failed;
 use session::{Ahead, Faults, NoUsers, Session, read_ahead};
@@ -25,16 +27,20 @@ pub struct Opening {
 
 /// Whether the first line that gets a reply names users. Lines behind it are left alone.
 fn begins_with_users(alloc: Global, bytes: &[u8]) -> Result<bool, Refusal>
-    ensures { IfErr result (λ why. why ≡ Memory) }
+    ensures first { result ≡ Ok true → BeginsWithUsers bytes.now }
+    ensures memory { IfErr result (λ why. why ≡ Memory) }
 {
     let mut session = Session::new(alloc, Mode::Run);
-    for line in bytes.split(|byte| *byte == b'\n') {
+    let mut rest = bytes;
+    while let Some((line, behind)) = cut(b'\n', rest) {
         let text = session.line(alloc, line, &mut NoUsers)?;
         if !text.is_empty() {
             return Ok(session.has_users());
         }
+        rest = behind;
     }
-    Ok(false)
+    let _text = session.line(alloc, rest, &mut NoUsers)?;
+    Ok(session.has_users())
 }
 
 /// Why a file is not run that was read and does not begin with users: it could not be read, where the
@@ -66,6 +72,8 @@ pub fn look_ahead<R: Read + Faults>(alloc: Global, reader: &mut R) -> Result<Ope
     // Whatever comes after what was read, these are the users that a session of it names.
     ensures users { IfOk result (λ opening. (all left : List ℕ) → R.remaining reader.new ≡ Some left
         → LooksAhead Run (opening.bytes.items ++ left) (Some opening.users.items)) }
+    // Nothing before its users gets a reply.
+    ensures first { IfOk result (λ opening. BeginsWithUsers opening.bytes.items) }
     // A file that could not be read is not told as one that names no users.
     ensures bad_users { IfErr result (λ why. why ≡ BadUsers → ¬ HasFailed (R.failed reader.old) (R.failed reader.new)) }
     ensures why { IfErr result (λ why. (why ≡ InputFault) ⊎ (why ≡ BadUsers) ⊎ (why ≡ Memory)) }

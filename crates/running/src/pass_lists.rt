@@ -1,13 +1,16 @@
 //! The passes of a front, given to the sessions of files and to their workers, and given back.
 
-ghost use Rattle.std.specs.Prelude.{◌≡◌, ◌+◌, ◌++◌, length, map, IfOk, IfErr};
+ghost use Rattle.std.specs.Prelude.{◌≡◌, ◌+◌, ◌++◌, ◌∷◌, [], length, map, IfOk, IfErr};
 ghost use Rattle.model.specs.declared.refusal.Refusal.TheVariants.{Memory, Quota};
 ghost use Rattle.passes.specs.Callers.{new_pass};
 ghost use Rattle.running.specs.Sessions.{CannotBegin};
-ghost use Rattle.running.specs.Desks.{AreFirst, IsDeskOf, AreDesksOf, session_passes, passes_for as needed_for, passes_left, all_passes};
+ghost use Rattle.running.specs.Meeting.{IsNew};
+ghost use Rattle.running.specs.Teams.{AllNew};
+ghost use Rattle.running.specs.Desks.{AreFirst, IsDeskOf, AreDesksOf, IsCrew, AreCrews, session_passes, passes_for as needed_for, passes_left, all_passes, numbers_in, all_numbers};
 
 use crate::sessions::{Desk, Left, Output, Part};
 use crate::shared::SharedStore;
+use crate::teams::Team;
 use book::{Front, Naming, Pass};
 use model::Refusal;
 use std::alloc::{AllocError, Global};
@@ -49,6 +52,7 @@ fn workers_with<'a, J: Naming, R: Wait, Q: Runner + Drop>(
     ensures count { IfOk result (λ _. length passes.old.items
         ≡ length passes.new.items + length runners.items) }
     ensures left { AreFirst passes.new.items }
+    ensures new { IfOk result (λ workers. AllNew IsNew workers.items) }
     ensures why { IfErr result CannotBegin }
 {
     let mut workers = Vec::new(alloc);
@@ -89,7 +93,7 @@ fn desk_for<'a, J: Naming, R: Wait, Q: Runner + Drop, I: Drop>(
             front,
             pass: own,
         },
-        workers,
+        team: Team::new(workers),
         bytes,
         reader,
     })
@@ -116,56 +120,79 @@ pub(crate) fn desks_for<'a, J: Naming, R: Wait, Q: Runner + Drop, I: Drop>(
     Ok(desks)
 }
 
+/// What sessions give back as they end.
+#[derive(Drop)]
+pub(crate) struct Back<J: Naming> {
+    /// What each file gave, in their order.
+    pub(crate) outputs: Vec<Output>,
+    /// The passes of the sessions and of their workers.
+    pub(crate) passes: Vec<Pass<J>>,
+    /// The numbers of the passes of the workers.
+    pub(crate) workers: Vec<u64>,
+}
+
 /// Takes the passes of workers back.
 fn take_back<J: Naming, R: Wait, Q: Drop>(
     workers: Vec<SharedWorker<'_, J, R, Q>>,
-    passes: &mut Vec<Pass<J>>,
+    back: &mut Back<J>,
 ) -> Result<(), AllocError>
-    ensures { IfOk result (λ _. passes.new.items
-        ≡ passes.old.items ++ map (λ w. w.store) workers.entry.items) }
+    ensures passes { IfOk result (λ _. back.new.passes.items
+        ≡ back.old.passes.items ++ map (λ w. w.store) workers.entry.items) }
+    ensures numbers { IfOk result (λ _. back.new.workers.items
+        ≡ back.old.workers.items ++ numbers_in workers.entry.items) }
+    ensures outputs { back.new.outputs ≡ back.old.outputs }
 {
     for worker in workers {
-        passes.push(worker.store.pass)?;
+        let pass = worker.store.pass;
+        back.workers.push(pass.number())?;
+        back.passes.push(pass)?;
     }
     Ok(())
 }
 
-/// Takes back the passes of a session and of its workers, and gives its output.
-fn end_session<J: Naming, R: Wait, Q: Drop>(
+/// Takes back the passes of a session and of its workers, and its output.
+fn end_session<J: Naming, R: Wait, Q: Runner + Drop>(
     left: SharedLeft<'_, J, R, Q>,
-    passes: &mut Vec<Pass<J>>,
-) -> Result<Output, AllocError>
-    ensures output { IfOk result (λ output. output ≡ left.entry.output) }
-    ensures passes { IfOk result (λ _. passes.new.items ≡ passes.old.items ++ passes_left left.entry) }
+    back: &mut Back<J>,
+) -> Result<(), AllocError>
+    ensures outputs { IfOk result (λ _. back.new.outputs.items
+        ≡ back.old.outputs.items ++ left.entry.output ∷ []) }
+    ensures passes { IfOk result (λ _. back.new.passes.items
+        ≡ back.old.passes.items ++ passes_left left.entry) }
+    ensures numbers { IfOk result (λ _. back.new.workers.items
+        ≡ back.old.workers.items ++ numbers_in left.entry.team.workers) }
+    ensures crew { IfOk result (λ _. IsCrew J.setup Q.gives left.entry.team) }
 {
     let Left {
         output,
         store,
-        workers,
+        team,
     } = left;
-    passes.push(store.pass)?;
-    take_back(workers, passes)?;
-    Ok(output)
+    back.passes.push(store.pass)?;
+    take_back(team.into_workers(), back)?;
+    back.outputs.push(output)?;
+    Ok(())
 }
 
-/// Takes back the passes of sessions and of their workers, and gives the outputs.
-pub(crate) fn end_sessions<J: Naming, R: Wait, Q: Drop>(
+/// Takes back the passes of sessions and of their workers, and their outputs.
+pub(crate) fn end_sessions<J: Naming, R: Wait, Q: Runner + Drop>(
     lefts: Vec<SharedLeft<'_, J, R, Q>>,
-    passes: &mut Vec<Pass<J>>,
-    outputs: &mut Vec<Output>,
+    back: &mut Back<J>,
 ) -> Result<(), AllocError>
-    ensures passes { IfOk result (λ _. passes.new.items ≡ passes.old.items ++ all_passes lefts.entry.items) }
-    ensures outputs { IfOk result (λ _. outputs.new.items
-        ≡ outputs.old.items ++ map (λ left. left.output) lefts.entry.items) }
+    ensures outputs { IfOk result (λ _. back.new.outputs.items
+        ≡ back.old.outputs.items ++ map (λ left. left.output) lefts.entry.items) }
+    ensures passes { IfOk result (λ _. back.new.passes.items ≡ back.old.passes.items ++ all_passes lefts.entry.items) }
+    ensures numbers { IfOk result (λ _. back.new.workers.items ≡ back.old.workers.items ++ all_numbers lefts.entry.items) }
+    ensures crews { IfOk result (λ _. AreCrews J.setup Q.gives lefts.entry.items) }
 {
     for left in lefts {
-        outputs.push(end_session(left, passes)?)?;
+        end_session(left, back)?;
     }
     Ok(())
 }
 
 /// The numbers of the passes of sessions.
-pub(crate) fn numbers_of<J: Naming, R: Wait, Q: Drop, I: Drop>(
+pub(crate) fn numbers_of<J: Naming, R: Wait, Q: Runner + Drop, I: Drop>(
     alloc: Global,
     desks: &[SharedDesk<'_, J, R, Q, I>],
 ) -> Result<Vec<u64>, AllocError>

@@ -1,22 +1,21 @@
 //! Files whose lines are run as sessions of one store, each in a thread of its own, with workers that build.
 
-ghost use Rattle.std.specs.Prelude.{◌≡◌, ◌<◌, ◌≤◌, ◌-◌, ◌^◌, min, [], false, length, IfOk, IfErr};
+ghost use Rattle.std.specs.Prelude.{◌≡◌, ◌<◌, ◌≤◌, ◌-◌, ◌^◌, min, [], true, false, length, Err, IfOk, IfErr};
 ghost use Rattle.model.specs.Limits.{most_charge};
 ghost use Rattle.model.specs.Worlds.{are_users};
 ghost use Rattle.model.specs.declared.refusal.Refusal.TheVariants.{Memory, BadUsers, Quota};
 ghost use Rattle.schedule.specs.Standing.{setup_for};
 ghost use Rattle.book.specs.Keeping.{IsNew};
-ghost use Rattle.running.specs.Calling.{IsTold, is_work};
+ghost use Rattle.running.specs.Calling.{IsTold};
 ghost use Rattle.running.specs.Meeting.{HasMet, is_stopped};
 ghost use Rattle.running.specs.Sessions.{CannotBegin};
 ghost use Rattle.running.specs.Desks.{AreFirst, AllOutputs, passes_needed, session_passes};
 ghost use Rattle.running.specs.Runs.{AreServed, IsClosed, AreResults, are_accounted};
 
-use crate::pass_lists::{SharedDesk, SharedLeft, desks_for, end_sessions, numbers_of};
+use crate::pass_lists::{Back, SharedDesk, SharedLeft, desks_for, end_sessions, numbers_of};
 use crate::rounds::Rounds;
 use crate::sessions::{Output, Part, all_at_once};
 use book::{Blank, Front, History, Naming, Pass, Row};
-use events::Request;
 use model::Refusal;
 use schedule::{Core, Limits, User};
 use session::Faults;
@@ -50,22 +49,12 @@ fn count_passes<I: Drop, Q: Drop>(parts: &[Part<I, Q>]) -> u64
     count
 }
 
-/// Whether a worker may ask it.
-fn is_work(request: &Request) -> bool
-    ensures { result ≡ is_work request.now }
-{
-    matches!(
-        request,
-        Request::Plan(_) | Request::Start(_) | Request::Finish(..) | Request::Fail(..)
-    )
-}
-
-/// Whether each row is of the pass of a session, or what a worker may ask.
-fn are_accounted(sessions: &[u64], rows: &[Row]) -> bool
-    ensures { result ≡ are_accounted sessions.now rows.now }
+/// Whether each row is of the pass of a session or of a worker.
+fn are_accounted(sessions: &[u64], workers: &[u64], rows: &[Row]) -> bool
+    ensures { result ≡ are_accounted sessions.now workers.now rows.now }
 {
     for row in rows {
-        if !sessions.contains(&row.pass) && !is_work(&row.event.request) {
+        if !sessions.contains(&row.pass) && !workers.contains(&row.pass) {
             return false;
         }
     }
@@ -91,29 +80,25 @@ fn serve_all<
     all_at_once(rt, alloc, rounds, desks)
 }
 
-/// Room for what sessions leave, taken before they begin: for so many passes, and for the outputs of so many
-/// files, with the rounds that these may have going.
-fn room_for<J: Naming>(
-    alloc: Global,
-    passes: usize,
-    files: usize,
-) -> Result<(Vec<Pass<J>>, Vec<Output>, Rounds), AllocError>
-    ensures passes { IfOk result (λ room. room.0.items ≡ []) }
-    ensures outputs { IfOk result (λ room. room.1.items ≡ []) }
+/// Room for what sessions give back, taken before they begin: for so many passes, and for the outputs of so
+/// many files.
+fn room_for<J: Naming>(alloc: Global, passes: usize, files: usize) -> Result<Back<J>, AllocError>
+    ensures passes { IfOk result (λ back. back.passes.items ≡ []) }
+    ensures outputs { IfOk result (λ back. back.outputs.items ≡ []) }
+    ensures workers { IfOk result (λ back. back.workers.items ≡ []) }
 {
-    let passes_room = Vec::with_capacity(alloc, passes)?;
-    let outputs = Vec::with_capacity(alloc, files)?;
-    let rounds = Rounds::new(alloc, files)?;
-    Ok((passes_room, outputs, rounds))
+    Ok(Back {
+        outputs: Vec::with_capacity(alloc, files)?,
+        passes: Vec::with_capacity(alloc, passes)?,
+        workers: Vec::with_capacity(alloc, passes)?,
+    })
 }
 
 /// What the sessions of files leave.
 #[derive(Drop)]
 struct Ended<J: Naming> {
-    /// What each file gave, in their order.
-    outputs: Vec<Output>,
-    /// The passes of the sessions and of their workers.
-    passes: Vec<Pass<J>>,
+    /// What they gave back.
+    back: Back<J>,
     /// The numbers of the passes of the sessions.
     sessions: Vec<u64>,
 }
@@ -133,30 +118,27 @@ fn serve_front<
 ) -> Result<Ended<J>, Refusal>
     requires { AreFirst passes.items }
     ensures served { IfOk result (λ ended.
-        AreServed J.setup I.remaining (session_passes (length passes.items) parts.items) parts.items
-        ended.sessions.items ended.passes.items ended.outputs.items) }
+        AreServed J.setup Q.gives I.remaining (session_passes (length passes.items) parts.items) parts.items
+        ended.sessions.items ended.back.workers.items ended.back.passes.items ended.back.outputs.items) }
     ensures memory { IfErr result (λ why. why ≡ Memory) }
 {
-    let (mut back, mut outputs, rounds) = room_for::<J>(alloc, passes.len(), parts.len())?;
+    let mut back = room_for::<J>(alloc, passes.len(), parts.len())?;
+    let rounds = Rounds::new(alloc, parts.len())?;
     let Ok(desks) = desks_for(rt, alloc, front, passes, parts) else {
         return Err(Refusal::Memory);
     };
     let sessions = numbers_of(alloc, &desks)?;
     let lefts = serve_all(rt, alloc, &rounds, desks)?;
-    end_sessions(lefts, &mut back, &mut outputs)?;
-    Ok(Ended {
-        outputs,
-        passes: back,
-        sessions,
-    })
+    end_sessions(lefts, &mut back)?;
+    Ok(Ended { back, sessions })
 }
 
 /// Closes a front of so many passes, once its sessions have ended.
 ///
 /// # Errors
 ///
-/// - `Memory` where a pass has not come back, and where a row is of no session and is nothing that a worker
-///   may ask: neither comes.
+/// - `Memory` where a pass has not come back, and where a row is of no session and of no worker: neither
+///   comes.
 fn close_front<J: Naming, R: Wait>(
     rt: &R,
     front: Front<J>,
@@ -164,20 +146,21 @@ fn close_front<J: Naming, R: Wait>(
     ended: Ended<J>,
 ) -> Result<Results, Refusal>
     requires { J.parts ≡ count }
-    ensures closed { IfOk result (λ results. IsClosed J.setup ended.sessions.items
-        ended.passes.items results.history × (results.outputs ≡ ended.outputs)) }
+    ensures closed { IfOk result (λ results. IsClosed J.setup ended.sessions.items ended.back.workers.items
+        ended.back.passes.items results.history × (results.outputs ≡ ended.back.outputs)) }
     ensures memory { IfErr result (λ why. why ≡ Memory) }
 {
-    let Ended {
+    let Ended { back, sessions } = ended;
+    let Back {
         outputs,
         passes,
-        sessions,
-    } = ended;
+        workers,
+    } = back;
     if passes.len() as u64 != count {
         return Err(Refusal::Memory);
     }
     let history = front.close(rt, passes);
-    if !are_accounted(&sessions, &history.rows) {
+    if !are_accounted(&sessions, &workers, &history.rows) {
         return Err(Refusal::Memory);
     }
     Ok(Results { outputs, history })
@@ -204,7 +187,7 @@ fn run_core<
     requires core { IsNew J.setup core }
     requires some { (0 < count) × (count ≤ 64) }
     requires needed { count ≡ passes_needed parts.items }
-    ensures results { IfOk result (AreResults J.setup I.remaining parts.items) }
+    ensures results { IfOk result (AreResults J.setup Q.gives I.remaining parts.items) }
     ensures memory { IfErr result (λ why. why ≡ Memory) }
 {
     let (front, passes) = Front::<J>::new(rt, alloc, blank, core, count)?;
@@ -219,9 +202,11 @@ fn run_core<
 /// The history is legal. It has what the lines of a file called as the rows of one pass, in their order,
 /// with the replies that are printed for them, and no other row of that pass. What a line only reads, and
 /// how far goals are, which a wait asks, is answered by a beginning of the history that has all that the
-/// file was answered before, and has no row; and neither has what was answered 90 or 92. All other rows are
-/// those of workers, who plan and start goals and end jobs. No line is answered 92 unless the store was
-/// stopped.
+/// file was answered before, and has no row; and neither has what was answered 90 or 92. Each other row is
+/// of the pass of a worker: for each goal that it takes it plans it, starts it, asks what the job that the
+/// goal leads is built from, has its runner build that once, and ends the job with what the runner gave.
+/// No line is answered 92 unless the store was stopped; and it is stopped only where a line of a file was
+/// answered 90, whose own call, or whose worker's, did that.
 ///
 /// # Errors
 ///
@@ -239,11 +224,12 @@ pub fn run<R: Threads + Wait + Sync, Q: Runner + Send + Drop, I: Read + Faults +
     parts: Vec<Part<I, Q>>,
 ) -> Result<Results, Refusal>
     requires { limits.charge ≤ most_charge }
-    ensures results { IfOk result (AreResults (setup_for users limits) I.remaining parts.items) }
-    ensures users { are_users users.items ≡ false → IfOk result (λ _. parts.items ≡ []) }
+    ensures results { IfOk result (AreResults (setup_for users limits) Q.gives I.remaining parts.items) }
+    ensures users { IfOk result (λ _. are_users users.items ≡ true) }
     ensures why { IfErr result CannotBegin }
     ensures bad_users { IfErr result (λ why. why ≡ BadUsers → are_users users.items ≡ false) }
     ensures quota { IfErr result (λ why. why ≡ Quota → 64 < passes_needed parts.items) }
+    ensures full { 64 < passes_needed parts.items → result ≡ Err Quota }
 {
     let count = count_passes(&parts);
     if count > 64 {

@@ -9,6 +9,7 @@ ghost use Rattle.running.specs.Desks.{OutputOf, AllOutputs};
 use crate::crews::{Crew, start_building};
 use crate::meeting::Meet;
 use crate::rounds::Rounds;
+use crate::teams::Team;
 use crate::waiting::Station;
 use model::{Mode, Refusal};
 use session::{Counted, Faults, serve_behind};
@@ -17,7 +18,7 @@ use std::io::Read;
 use std::sync::Wait;
 use std::thread;
 use std::thread::Threads;
-use workers::{Runner, Worker};
+use workers::Runner;
 
 /// A file whose lines are run, and what builds for it.
 #[derive(Drop)]
@@ -41,11 +42,11 @@ pub struct Output {
 
 /// A session that is to be served: the store that answers it, and the workers that build for it.
 #[derive(Drop)]
-pub(crate) struct Desk<S: Drop, Q: Drop, I: Drop> {
+pub(crate) struct Desk<S: Meet + Drop, Q: Runner + Drop, I: Drop> {
     /// What answers.
     pub(crate) store: S,
     /// Who builds.
-    pub(crate) workers: Vec<Worker<S, Q>>,
+    pub(crate) team: Team<S, Q>,
     /// What was read of the file.
     pub(crate) bytes: Vec<u8>,
     /// What gives the rest of it.
@@ -55,13 +56,13 @@ pub(crate) struct Desk<S: Drop, Q: Drop, I: Drop> {
 /// What a session leaves when it was served: its output, the store that answered it, and the workers
 /// that are with it.
 #[derive(Drop)]
-pub(crate) struct Left<S: Drop, Q: Drop> {
+pub(crate) struct Left<S: Meet + Drop, Q: Runner + Drop> {
     /// What its lines gave.
     pub(crate) output: Output,
     /// What answered.
     pub(crate) store: S,
     /// Who built.
-    pub(crate) workers: Vec<Worker<S, Q>>,
+    pub(crate) team: Team<S, Q>,
 }
 
 /// How a session ended whose text is kept in memory: what could not be written found none.
@@ -75,7 +76,7 @@ fn kept_end(ended: Result<(), Refusal>) -> Result<(), Refusal>
 }
 
 /// Serves the lines of a file.
-fn serve_lines<S: Meet + Drop, Q: Drop, I: Read + Faults + Drop, R: Wait>(
+fn serve_lines<S: Meet + Drop, Q: Runner + Drop, I: Read + Faults + Drop, R: Wait>(
     alloc: Global,
     bytes: Vec<u8>,
     reader: I,
@@ -114,17 +115,17 @@ fn serve_beside<
 {
     let Desk {
         store,
-        workers,
+        team,
         bytes,
         reader,
     } = desk;
-    let (crew, workshop) = match Crew::new(alloc, rounds, workers) {
+    let (crew, workshop) = match Crew::new(alloc, rounds, team) {
         Ok(made) => made,
-        Err(workers) => {
+        Err(team) => {
             return Left {
                 output: nothing_served(alloc),
                 store,
-                workers,
+                team,
             };
         }
     };
@@ -132,7 +133,8 @@ fn serve_beside<
         thread::scope_env(),
         rt,
         move |scope| -> Left<S, Q>
-            ensures { Outputs S.called S.met S.stopped store result.store
+            ensures { Outputs S.called S.met S.stopped (store, crew.entry.team.has_met_memory)
+                (result.store, result.team.has_met_memory)
                 (prepend_known bytes.items (I.remaining reader)) result.output }
         {
             start_building(rt, alloc, scope, workshop);
@@ -142,7 +144,7 @@ fn serve_beside<
             Left {
                 output,
                 store,
-                workers: crew.into_workers(),
+                team: crew.into_team(),
             }
         },
     )

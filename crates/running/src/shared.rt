@@ -94,13 +94,17 @@ impl<J: Naming, R: Wait> Store for SharedStore<'_, J, R> {
 /// After it the pass has seen all rows that the other one's is sure of, and knows whether the front is
 /// stopped.
 impl<J: Naming, R: Wait> Meet for SharedStore<'_, J, R> {
-    ghost use Rattle.running.specs.Meeting.{HasMet, HasSeen, is_stopped, met_none, met_more, stopped_met, stopped_told, stopped_called, seen_met, seen_told};
+    ghost use Rattle.running.specs.Meeting.{HasMet, HasSeen, IsNew, is_stopped, stops_by, met_none, met_more, met_asking, stopped_met, stopped_told, stopped_called, stops_new, stops_met, stops_called, seen_met, seen_told};
 
     ghost met = { HasMet };
 
     ghost knows = { HasSeen };
 
     ghost stopped = { is_stopped };
+
+    ghost is_new = { IsNew };
+
+    ghost stops = { stops_by };
 
     fn meet(&mut self, other: &mut Self) -> bool {
         self.front.meet(self.rt, &mut self.pass, &mut other.pass)
@@ -119,4 +123,12 @@ impl<J: Naming, R: Wait> Meet for SharedStore<'_, J, R> {
     ghost stopped_told = { stopped_told J.setup };
 
     ghost stopped_called = { stopped_called J.setup };
+
+    ghost met_asking = { met_asking J.setup };
+
+    ghost stops_new = { stops_new };
+
+    ghost stops_met = { stops_met };
+
+    ghost stops_called = { stops_called J.setup };
 }

@@ -1,14 +1,14 @@
 //! Sessions whose goals are built by workers in a thread beside them.
 
 ghost use Rattle.std.specs.Prelude.{◌≡◌, ◌⊎◌, ◌∷◌, [], true, List, All, Err, IfErr};
-ghost use Rattle.model.specs.declared.refusal.Refusal.TheVariants.{Stopped};
+ghost use Rattle.model.specs.declared.refusal.Refusal.TheVariants.{Memory, Stopped};
 ghost use Rattle.model.specs.Worlds.{Job as Goal};
 ghost use Rattle.workers.specs.Working.{Call};
 ghost use Rattle.events.specs.declared.reply.Reply.TheVariants.{Refused};
-ghost use Rattle.running.specs.Sessions.{AsksStatus, Calls, GivesUp};
+ghost use Rattle.running.specs.Sessions.{AsksStatus, Calls, GivesUp, HasTold};
 
 use crate::crews::Crew;
-use crate::meeting::{Meet, meet_each};
+use crate::meeting::Meet;
 use events::{Event, Reply, Request};
 use model::Refusal;
 use session::{Answer, Job};
@@ -16,10 +16,11 @@ use states::State;
 use std::alloc::Global;
 use std::marker::Model;
 use std::sync::Wait;
+use workers::Runner;
 
 /// A store that answers the events of a session, and the workers that build its goals.
 #[derive(Drop)]
-pub(crate) struct Station<'a, S: Drop, Q: Drop, R> {
+pub(crate) struct Station<'a, S: Meet + Drop, Q: Runner + Drop, R> {
     /// What waits.
     pub(crate) rt: &'a R,
     /// What answers.
@@ -28,11 +29,13 @@ pub(crate) struct Station<'a, S: Drop, Q: Drop, R> {
     pub(crate) crew: Crew<'a, S, Q>,
 }
 
-/// Contracts see it as its store.
-impl<'a, S: Drop, Q: Drop, R> Model for Station<'a, S, Q, R> {
-    ghost Value = { S };
+/// Contracts see it as its store, and whether a round of its workers was answered 90.
+impl<'a, S: Meet + Drop, Q: Runner + Drop, R> Model for Station<'a, S, Q, R> {
+    ghost use Rattle.std.specs.Prelude.{Bool};
 
-    ghost view = { λ s. s.store };
+    ghost Value = { S × Bool };
+
+    ghost view = { λ s. (s.store, s.crew.team.has_met_memory) };
 }
 
 /// Why a status cannot be told, if it cannot.
@@ -112,7 +115,7 @@ fn look<S: Meet>(alloc: Global, store: &mut S, goals: &[Job]) -> Result<Left, Re
 
 /// Has goals built in one round, after which the store meets those of the workers. Where there are no
 /// workers any more, or no memory, that is 90; and 92 only where the store finds that it is stopped.
-fn build<S: Meet + Drop, Q: Drop, R: Wait>(
+fn build<S: Meet + Drop, Q: Runner + Drop, R: Wait>(
     rt: &R,
     alloc: Global,
     store: &mut S,
@@ -120,12 +123,13 @@ fn build<S: Meet + Drop, Q: Drop, R: Wait>(
     goals: Vec<Job>,
 ) -> Result<(), Refusal>
     ensures met { S.met store.old store.new }
-    ensures knows { All (λ w. S.knows store.new w.store) crew.new.workers.items }
+    ensures knows { All (λ w. S.knows store.new w.store) crew.new.team.workers }
     ensures why { IfErr result GivesUp }
     ensures stopped { result ≡ Err Stopped → S.stopped store.new ≡ true }
+    ensures told { HasTold crew.old.team crew.new.team result }
 {
     let answer = crew.build(rt, alloc, goals);
-    let is_stopped = meet_each(store, &mut crew.workers);
+    let is_stopped = crew.team.meet(store);
     match answer {
         Err(Refusal::Stopped) if !is_stopped => Err(Refusal::Memory),
         answer => answer,
@@ -135,7 +139,7 @@ fn build<S: Meet + Drop, Q: Drop, R: Wait>(
 /// Has those of some goals that wait built, in rounds, as long as each leaves fewer of them waiting than it
 /// found. Gives how many are built in a job then. If there was a round, the store knows all that the
 /// workers were answered.
-fn build_waiting<S: Meet + Drop, Q: Drop, R: Wait>(
+fn build_waiting<S: Meet + Drop, Q: Runner + Drop, R: Wait>(
     rt: &R,
     alloc: Global,
     store: &mut S,
@@ -144,9 +148,10 @@ fn build_waiting<S: Meet + Drop, Q: Drop, R: Wait>(
 ) -> Result<usize, Refusal>
     ensures calls { (calls : List Call) × AsksStatus goals.now calls
         × Calls S.called S.met store.old calls store.new }
-    ensures knows { (crew.new ≡ crew.old) ⊎ All (λ w. S.knows store.new w.store) crew.new.workers.items }
+    ensures knows { (crew.new ≡ crew.old) ⊎ All (λ w. S.knows store.new w.store) crew.new.team.workers }
     ensures why { IfErr result GivesUp }
     ensures stopped { result ≡ Err Stopped → S.stopped store.new ≡ true }
+    ensures told { HasTold crew.old.team crew.new.team result }
 {
     let mut left = look(alloc, store, goals)?;
     for _ in rt.forever() {
@@ -165,7 +170,7 @@ fn build_waiting<S: Meet + Drop, Q: Drop, R: Wait>(
 
 /// Has those of some goals that wait built. Where some are built then in jobs that others lead, it waits
 /// for the rounds that these have going, and begins anew, as long as fewer are built afterwards.
-fn build_all<S: Meet + Drop, Q: Drop, R: Wait>(
+fn build_all<S: Meet + Drop, Q: Runner + Drop, R: Wait>(
     rt: &R,
     alloc: Global,
     store: &mut S,
@@ -174,9 +179,10 @@ fn build_all<S: Meet + Drop, Q: Drop, R: Wait>(
 ) -> Result<(), Refusal>
     ensures calls { (calls : List Call) × AsksStatus goals.now calls
         × Calls S.called S.met store.old calls store.new }
-    ensures knows { (crew.new ≡ crew.old) ⊎ All (λ w. S.knows store.new w.store) crew.new.workers.items }
+    ensures knows { (crew.new ≡ crew.old) ⊎ All (λ w. S.knows store.new w.store) crew.new.team.workers }
     ensures why { IfErr result GivesUp }
     ensures stopped { result ≡ Err Stopped → S.stopped store.new ≡ true }
+    ensures told { HasTold crew.old.team crew.new.team result }
 {
     let mut before = usize::MAX;
     for _ in rt.forever() {
@@ -192,7 +198,7 @@ fn build_all<S: Meet + Drop, Q: Drop, R: Wait>(
 
 /// Each event is handed to the store. In a wait it is asked how far goals are and meets those of workers,
 /// and nothing else.
-impl<S: Meet + Drop, Q: Drop, R: Wait> Answer for Station<'_, S, Q, R> {
+impl<S: Meet + Drop, Q: Runner + Drop, R: Wait> Answer for Station<'_, S, Q, R> {
     ghost use Rattle.running.specs.Sessions.{Answers, Waits};
 
     ghost answers = { Answers S.called };

@@ -1,6 +1,9 @@
 use Rattle.std.specs.Prelude.{◌≡◌, ◌++◌, map}
+use Rattle.running.specs.Desks.{numbers_in}
 use Rattle.running.proofs.pass_lists.take_back.Given as goal
 
 -- those of the workers so far are back
 abbrev pub invariant-loop-worker : goal.invariant-loop-worker
-invariant-loop-worker g l = l.passes.items ≡ l.fn.passes.items ++ map (λ w. w.store) l.yielded
+invariant-loop-worker g l =
+    (l.back.passes.items ≡ l.fn.back.passes.items ++ map (λ w. w.store) l.yielded)
+    × (l.back.workers.items ≡ l.fn.back.workers.items ++ numbers_in l.yielded) × (l.back.outputs ≡ l.fn.back.outputs)

@@ -1,7 +1,10 @@
 use Rattle.std.specs.Prelude.{◌≡◌, ◌+◌, length}
+use Rattle.running.specs.Meeting.{IsNew}
+use Rattle.running.specs.Teams.{AllNew}
 use Rattle.running.specs.Desks.{AreFirst}
 use Rattle.running.proofs.pass_lists.workers_with.Given as goal
 
 -- each runner so far has taken a pass
 abbrev pub invariant-loop-runner : goal.invariant-loop-runner
-invariant-loop-runner g l = AreFirst l.passes.items × (length l.fn.passes.items ≡ length l.passes.items + length l.yielded)
+invariant-loop-runner g l =
+    AreFirst l.passes.items × (length l.fn.passes.items ≡ length l.passes.items + length l.yielded) × AllNew IsNew l.workers.items

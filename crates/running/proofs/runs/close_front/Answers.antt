@@ -1,4 +1,6 @@
 use Rattle.std.proofs.Common.{refl, sym, ◌∙◌}
+use Rattle.std.proofs.lemmas.List.Sums.{sum-map}
+use Rattle.running.specs.Meeting.{stops_by}
 use Rattle.running.proofs.DeskLemmas.{given_back}
 use Rattle.running.proofs.runs.close_front.Goals as goal
 
@@ -6,9 +8,10 @@ pub returns-clause-closed : goal.returns-clause-closed
 returns-clause-closed g c = (
   record {
     legal = c.close-history.ensures.legal;
-    back = given_back c.close-history.result c.args.ended.passes.items c.close-history.ensures.sure c.close-history.ensures.seen
+    back = given_back c.close-history.result c.args.ended.back.passes.items c.close-history.ensures.sure c.close-history.ensures.seen
         c.close-history.ensures.each c.close-history.ensures.stopped;
-    others = rw (c.deref.ensures.value, c.deref-2.ensures.value) at (sym c.are_accounted.ensures ∙ c.if-not-are_accounted.false);
+    stopped = sym (sum-map stops_by c.args.ended.back.passes.items) ∙ c.close-history.ensures.stops;
+    others = rw (c.deref.ensures.value, c.deref-2.ensures.value, c.deref-3.ensures.value) at (sym c.are_accounted.ensures ∙ c.if-not-are_accounted.false);
   },
   refl,
 )

@@ -1,6 +1,14 @@
+use Rattle.std.proofs.Common.{sym, subst, Bool}
+use Rattle.std.specs.Io.KnownBytes.{prepend_known}
+use Rattle.running.specs.Sessions.{Outputs}
+use Rattle.running.specs.Teams.{TeamView}
 use Rattle.running.proofs.ServedLemmas.{none_served}
 use Rattle.running.proofs.sessions.serve_beside.Goals as goal
 
 pub returns-in-Err : goal.returns-in-Err
 returns-in-Err g c =
-    none_served g.S.Store.called g.S.Meet.met g.S.Meet.stopped c.args.desk.store _ c.nothing_served.result c.nothing_served.ensures.0 c.nothing_served.ensures.1
+    let first : _ × Bool = (c.args.desk.store, c.args.desk.team.has_met_memory) in
+    let start = prepend_known c.args.desk.bytes.items (g.I.Read.remaining c.args.desk.reader) in
+    subst (λ t. Outputs g.S.Store.called g.S.Meet.met g.S.Meet.stopped first (c.args.desk.store, t.has_met_memory) start c.nothing_served.result)
+    (sym c.in-Err.ensures)
+    (none_served g.S.Store.called g.S.Meet.met g.S.Meet.stopped first start c.nothing_served.result c.nothing_served.ensures.0 c.nothing_served.ensures.1)

@@ -1,9 +1,10 @@
-use Rattle.std.specs.Prelude.{◌≡◌, ◌⊎◌, All}
+use Rattle.std.specs.Prelude.{◌≡◌, ◌⊎◌, true, All}
 use Rattle.running.proofs.WaitLemmas.{Asked}
 use Rattle.running.proofs.waiting.build_all.Given as goal
 
--- the store was asked how far the goals are, and after a round it knows what the workers did
+-- the store was asked how far the goals are, and after a round it knows what the workers did, of which none was answered 90
 abbrev pub invariant-loop : goal.invariant-loop
 invariant-loop g l =
     Asked g.S.Store.called g.S.Meet.met l.goals l.fn.store l.store
-    × ((l.crew ≡ l.fn.crew) ⊎ All (λ w. g.S.Meet.knows l.store w.store) l.crew.workers.items)
+    × ((l.crew ≡ l.fn.crew) ⊎ All (λ w. g.S.Meet.knows l.store w.store) l.crew.team.workers)
+    × (l.crew.team.has_met_memory ≡ true → l.fn.crew.team.has_met_memory ≡ true)

@@ -1,0 +1,27 @@
+use Rattle.std.proofs.Common.{rules, ◌≡◌, true, length, sym, ◌∙◌}
+use Rattle.running.proofs.OpeningLemmas.{empty_text, next_silent, next_names, last_names}
+use Rattle.running.proofs.openings.begins_with_users.Goals as goal
+
+pub returns-then-not-is_empty-clause-first : goal.returns-then-not-is_empty-clause-first
+returns-then-not-is_empty-clause-first c = λ is.
+    let gave = c.in_ok-text.ensures.ok in
+    let told : c.has_users.result ≡ true = cc in
+    c.loop-line.invariant.1
+    (next_names c.loop-line.session c.line.new.self c.loop-line.rest.now c.in-Some.line.now c.in-Some.behind.now gave.0 c.in-Some.ensures.parts gave.1 gave.2
+    c.loop-line.invariant.0 (sym c.has_users.ensures ∙ told))
+
+pub loop-line-preserved : goal.loop-line-preserved
+loop-line-preserved c =
+    let gave = c.in_ok-text.ensures.ok in
+    let none : length c.in_ok-text.text.items ≡ 0 = search rules in
+    let empty = empty_text c.in_ok-text.text.items none in
+    let next = next_silent c.loop-line.session c.line.new.self c.loop-line.rest.now c.in-Some.line.now c.in-Some.behind.now _ gave.0 c.in_ok-text.text.items
+    c.in-Some.ensures.parts gave.1 gave.2 gave.3 empty c.loop-line.invariant.0 in (next.0, λ first. c.loop-line.invariant.1 (next.1 first))
+
+pub returns-clause-first : goal.returns-clause-first
+returns-clause-first c = λ is.
+    let gave = c.in_ok-_text.ensures.ok in
+    let told : c.has_users-2.result ≡ true = cc in
+    c.loop-line.invariant.1
+    (last_names c.loop-line.session c.line-2.new.self c.loop-line.rest.now gave.0 c.in_default.ensures.parts gave.1 gave.2 c.loop-line.invariant.0
+    (sym c.has_users-2.ensures ∙ told))
