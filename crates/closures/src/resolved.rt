@@ -1,6 +1,7 @@
 //! What derivations are built from.
 
 ghost use Rattle.std.specs.Prelude.{◌≡◌, IfOk, IfErr, MatchResult};
+ghost use Rattle.std.specs.Arc.{arc_slice_items};
 ghost use Rattle.model.specs.Endings.{label_of_entry, labels_from};
 ghost use Rattle.model.specs.declared.refusal.Refusal.TheVariants.{Memory};
 ghost use Rattle.records.specs.Recorded.{AreInPathOrder};
@@ -83,6 +84,36 @@ impl Resolved {
         ensures { result.now ≡ self.now.scratch }
     {
         &self.scratch
+    }
+
+    /// The same, which shares its text with another one that has an equal text. It takes no memory.
+    pub fn sharing(self, other: &Resolved) -> Resolved
+        ensures { result ≡ self }
+    {
+        if self.text() != other.text() {
+            return self;
+        }
+        match other.text.clone() {
+            Ok(text) => self.with_text(text),
+            Err(_) => self,
+        }
+    }
+
+    // The same with an equal text in place of its own.
+    fn with_text(self, text: ArcSlice<u8>) -> Resolved
+        requires { arc_slice_items text ≡ self.text }
+        ensures { result ≡ self }
+    {
+        let Resolved {
+            closure,
+            text: _,
+            scratch,
+        } = self;
+        Resolved {
+            closure,
+            text,
+            scratch,
+        }
     }
 
     /// What an output that is built from it may refer to: the paths of its closure, in their order, for

@@ -1,15 +1,15 @@
 -- What was built already, found goal by goal and user by user, is what the model's user finds in his view.
-use Rattle.std.proofs.Common.{◌≡◌, ℕ, zero, suc, ◌+◌, ◌<◌, ◌≤◌, Bool, true, false, inl, inr, List, [], ◌∷◌, ◌++◌, length, drop, get_or, refl, sym, ◌∙◌, ap, subst, arith, Option, Some, None}
-use Rattle.std.specs.Prelude.{All, Any, Contains, map, filter, flat_map, option_map, slice_get, slice_index_or, bytes_eq, is_some, if◌then◌else◌, ◌&&◌}
+use Rattle.std.proofs.Common.{◌≡◌, ℕ, zero, suc, ◌+◌, ◌<◌, Bool, true, false, inl, inr, List, [], ◌∷◌, ◌++◌, length, drop, refl, sym, ◌∙◌, ap, subst, arith, Option, Some, None}
+use Rattle.std.specs.Prelude.{Any, Contains, map, filter, flat_map, option_map, slice_get, slice_index_or, bytes_eq, is_some, if◌then◌else◌, ◌&&◌}
 use Rattle.std.specs.List.{list_any, list_all, range_with_len}
 use Rattle.std.proofs.Math.Seq.{drop-cons}
 use Rattle.std.proofs.lemmas.List.{map-append}
 use Rattle.std.proofs.lemmas.List.Elements.{filter-append}
 use Rattle.std.proofs.lemmas.List.Folds.{flat_map-map, Any-from_list_any}
 use Rattle.std.proofs.lemmas.Grind.{flat_map-append}
-use Rattle.model.specs.Archives.{Tree, bytes_before}
+use Rattle.model.specs.Archives.{bytes_before}
 use Rattle.model.specs.Classes.{Class, Admission, known_at}
-use Rattle.model.specs.Worlds.{Source, Setup, Label, same_label, same_class, Record, Entry, OfSource, OfRecord, path_of_entry, Resolved, Job, State, Waiting, Planned, Building, Done, Failed, Goal, Desk, World, known_of, tree_at, are_users}
+use Rattle.model.specs.Worlds.{Source, Setup, Label, same_label, same_class, Record, Entry, OfSource, OfRecord, path_of_entry, Resolved, State, Waiting, Planned, Building, Done, Failed, Goal, Desk, World, known_of, tree_at, are_users}
 use Rattle.model.specs.Orders.{lesser, least_from, least}
 use Rattle.model.specs.Closures.{class_of_entry, path_of_class}
 use Rattle.model.specs.Goals.{goal_at, same_resolved}
@@ -17,7 +17,7 @@ use Rattle.model.specs.Endings.{label_of_entry, labels_from}
 use Rattle.model.specs.FinishedBuilds.{is_record_at, built_at, built_in, built_on, is_labelled_by, finished_build, for_class}
 use Rattle.model.specs.Outcomes.{view_of}
 use Rattle.model.proofs.BoolLemmas.{either, same_bytes, both_parts}
-use Rattle.laws.proofs.MemberLemmas.{In, in_of, contains_of, any_of, in_right, in_map, from_map, from_filter, from_flat_map}
+use Rattle.laws.proofs.MemberLemmas.{In, in_of, any_of, in_right, in_map, from_map, from_filter, from_flat_map}
 use Rattle.laws.proofs.ClosureLemmas.{least_in}
 use Rattle.laws.proofs.LabelLemmas.{from_labels_in_order}
 use Rattle.records.specs.Recorded.{Recorded}
@@ -26,21 +26,21 @@ use Rattle.closures.specs.Trees.{record_at}
 use Rattle.choose.specs.Visible.{IsStored, IsDeskStored, AreStored}
 use Rattle.choose.proofs.ChoosingLemmas.{least_from_append, all_in}
 use Rattle.trust.specs.Trusting.{IsReach}
-use Rattle.trust.specs.Naming.{place_of, name_at, IsWithin}
+use Rattle.trust.specs.Naming.{place_of, IsWithin}
 use Rattle.trust.proofs.PlaceLemmas.{name_found}
 use Rattle.jobs.specs.Joining.{same_as}
 use Rattle.jobs.specs.Numbers.{numbers, has_scratch, is_done_under}
-use Rattle.jobs.specs.States.{is_done}
+use Rattle.jobs.specs.States.{is_done, path_in}
 use Rattle.handling.specs.Sound.{Beside, desk_of, records_at}
 use Rattle.handling.specs.Parts.{beside_at}
-use Rattle.handling.specs.Viewing.{places_of, bare, desk_at}
+use Rattle.handling.specs.Viewing.{places_of, desk_at}
 use Rattle.handling.specs.Supported.{goals_of}
 use Rattle.handling.proofs.DeskLemmas.{known_of-desk_of}
 use Rattle.handling.proofs.TrustLemmas.{distinct_users}
 use Rattle.handling.proofs.ViewLemmas.{view_is, places_in, places_out, places_below}
 use Rattle.views.specs.Taking.{IsLabelledBy}
 use Rattle.views.proofs.ClosureLemmas.{world, his_desk}
-use Rattle.goals.specs.Reusing.{path_before, is_found_at, path_in, done_path, found_at, found_by, found_if, found_among, found_on, found_in, class_if, class_for, used_again, IsHeldWith, IsFinishedBuild, IsUsedAgain}
+use Rattle.goals.specs.Reusing.{path_before, is_found_at, done_path, found_at, found_by, found_if, found_on, found_in, class_if, class_for, used_again, IsHeldWith, IsFinishedBuild, IsUsedAgain}
 
 -- ---- one after another
 

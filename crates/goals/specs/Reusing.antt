@@ -1,9 +1,9 @@
 -- What was built already, as it is found among the goals and on the desks of a run.
-use Rattle.std.specs.Prelude.{◌≡◌, ℕ, true, Bool, ◌&&◌, if◌then◌else◌, List, [], ◌∷◌, length, filter, flat_map, option_map, bytes_eq, Option, Some, None}
+use Rattle.std.specs.Prelude.{◌≡◌, ℕ, true, Bool, ◌&&◌, if◌then◌else◌, List, [], length, filter, flat_map, option_map, bytes_eq, Option, Some, None}
 use Rattle.std.specs.List.{list_any, list_all}
 use Rattle.model.specs.Archives.{bytes_before}
 use Rattle.model.specs.Classes.{Class, Admission, Known, known_at}
-use Rattle.model.specs.Worlds.{Source, Setup, World, Label, same_label, Record, Resolved, State, Waiting, Planned, Building, Done, Failed, Goal, known_of, are_users, tree_at}
+use Rattle.model.specs.Worlds.{Source, Setup, World, Label, same_label, Record, Resolved, Goal, known_of, are_users, tree_at}
 use Rattle.model.specs.Goals.{goal_at}
 use Rattle.model.specs.FinishedBuilds.{finished_build, for_class}
 use Rattle.model.specs.Outcomes.{view_of}
@@ -12,6 +12,7 @@ use Rattle.trust.specs.Naming.{place_of, IsWithin}
 use Rattle.records.specs.Recorded.{Recorded}
 use Rattle.closures.specs.Trees.{record_at}
 use Rattle.realise.specs.Holdings.{Holdings, records_of}
+use Rattle.jobs.specs.States.{path_in}
 use Rattle.jobs.specs.Joining.{same_as}
 use Rattle.jobs.specs.Numbers.{numbers, is_done_under}
 use Rattle.handling.specs.Parts.{parts, world_in}
@@ -27,14 +28,6 @@ path_before q r = bytes_before q.path r.path
 -- whether a record is at a path, and each of its labels is among these
 abbrev pub is_found_at : List Label → List ℕ → Recorded → Bool
 is_found_at labels path r = bytes_eq r.path path && list_all (λ l. list_any (same_label l) labels) r.labels
-
--- the path by which a goal is done
-abbrev pub path_in : State → Option (List ℕ)
-path_in Waiting = None
-path_in Planned = None
-path_in (Building job) = None
-path_in (Done path) = Some path
-path_in (Failed why) = None
 
 -- the path by which a goal is done, if it is built from that
 abbrev pub done_path : Resolved → Goal → Option (List ℕ)

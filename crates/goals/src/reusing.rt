@@ -114,7 +114,8 @@ fn least_for_goal<'a>(
 }
 
 /// The best so far, or the least of what was built for the goals of the user at a place, whose desk
-/// this is. It looks only at goals that are done and were built under the same path.
+/// this is. It looks only at goals that are done and were built under the same path, of several that came
+/// to the same at the first.
 fn least_for_user<'a>(
     best: Option<&'a Record>,
     jobs: &Jobs,
@@ -128,7 +129,7 @@ fn least_for_user<'a>(
         (found_on resolved.now labels.now desk.now (goals_at place jobs.now)) }
 {
     let mut least = best;
-    for number in jobs.done_under(place, resolved.scratch()) {
+    for number in jobs.finished_under(place, resolved.scratch()) {
         if let Some(goal) = jobs.get(place, *number) {
             least = least_for_goal(least, goal, desk, resolved, labels);
         }

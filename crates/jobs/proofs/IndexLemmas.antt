@@ -3,7 +3,7 @@ use Rattle.std.proofs.Common.{◌≡◌, ℕ, Bool, true, false, inl, inr, List,
 use Rattle.std.specs.Prelude.{cond, ◌==◌, bytes_eq, MatchResult}
 use Rattle.std.specs.Cmp.{IsEquivalence}
 use Rattle.std.specs.Map.{lookup}
-use Rattle.std.specs.Global.{Vec}
+use Rattle.jobs.specs.declared.ascending.Ascending.{Ascending}
 use Rattle.model.proofs.BoolLemmas.{either}
 use Rattle.std.proofs.lemmas.Bool.Decides.{Decides-eqb}
 use Rattle.model.specs.declared.refusal.Refusal.{Refusal}
@@ -11,7 +11,8 @@ use Rattle.model.specs.declared.refusal.Refusal.TheVariants.{Memory}
 use Rattle.model.specs.Worlds.{Resolved, Job}
 use Rattle.model.specs.Goals.{same_job}
 use Rattle.model.proofs.BoolLemmas.{both_parts, same_bytes, bytes_same}
-use Rattle.jobs.specs.Numbers.{numbers_at, room_at, with_number, without_number, moved, has_scratch, ChangesAt, HasSameNumbers, KeepsRoom, HasRoom, MovesPath}
+use Rattle.jobs.specs.Rising.{with_number, without_number}
+use Rattle.jobs.specs.Numbers.{numbers_at, room_at, moved, has_scratch, ChangesAt, HasSameNumbers, KeepsRoom, HasRoom, MovesPath}
 use Rattle.jobs.proofs.NumberLemmas.{put_back, moved_in, moved_out}
 
 -- two keys that are the same find the same
@@ -20,7 +21,7 @@ lookup_same laws a b same [] = refl
 lookup_same laws a b same (e ∷ es) = rw (laws.congr a b e.0 same, lookup_same laws a b same es) refl
 
 -- where nothing is at a key, nothing is taken out
-pub nothing_removed : {K : Type 0} {eq : K → K → Bool} → IsEquivalence eq → (key : K) (n : ℕ) (es : List (K × Vec ℕ)) → None ≡ lookup (eq key) es
+pub nothing_removed : {K : Type 0} {eq : K → K → Bool} → IsEquivalence eq → (key : K) (n : ℕ) (es : List (K × Ascending)) → None ≡ lookup (eq key) es
     → ChangesAt eq key (without_number n) es es
 unfolding without_number
 nothing_removed {eq = eq} laws key n es none k = elim (either (eq key k)) [
@@ -29,9 +30,9 @@ nothing_removed {eq = eq} laws key n es none k = elim (either (eq key k)) [
 ]
 
 -- the first number at a key
-pub first_inserted : {K : Type 0} {eq : K → K → Bool} → IsEquivalence eq → (key : K) (n : ℕ) (list : Vec ℕ) (old mid new : List (K × Vec ℕ))
+pub first_inserted : {K : Type 0} {eq : K → K → Bool} → IsEquivalence eq → (key : K) (n : ℕ) (list : Ascending) (old mid new : List (K × Ascending))
     → mid ≡ old → None ≡ lookup (eq key) old
-    → list.items ≡ n ∷ [] → ((k : K) → lookup (eq k) new ≡ cond (eq key k) (Some list) (lookup (eq k) mid)) → ChangesAt eq key (with_number n) old new
+    → list.numbers.items ≡ n ∷ [] → ((k : K) → lookup (eq k) new ≡ cond (eq key k) (Some list) (lookup (eq k) mid)) → ChangesAt eq key (with_number n) old new
 unfolding with_number
 first_inserted {eq = eq} laws key n list old mid new same none items updates k = elim (either (eq key k)) [
   | inl t ↦
@@ -52,7 +53,7 @@ job_same a b t =
     λ i. record { leader = leaders i; number = numbers i }
 
 -- a number that was put in anew, and taken out again
-pub undone : (key copy : Job) (n : ℕ) (old mid next new : List (Job × Vec ℕ)) → copy ≡ key → next ≡ mid
+pub undone : (key copy : Job) (n : ℕ) (old mid next new : List (Job × Ascending)) → copy ≡ key → next ≡ mid
     → without_number n (numbers_at (same_job key) old) ≡ numbers_at (same_job key) old
     → ChangesAt same_job copy (with_number n) old mid → ChangesAt same_job key (without_number n) next new → HasSameNumbers same_job old new
 undone key copy n old mid next new copied same fresh enters leaves k = elim (either (same_job key k)) [
@@ -71,21 +72,22 @@ undone key copy n old mid next new copied same fresh enters leaves k = elim (eit
 -- ---- goals that are planned
 
 -- one that was built from nothing
-listed_at : (path : List ℕ) (r : Resolved) (n : ℕ) (old new : List (List ℕ × Vec ℕ)) → path ≡ r.scratch → ChangesAt bytes_eq path (with_number n) old new
+listed_at : (path : List ℕ) (r : Resolved) (n : ℕ) (old new : List (List ℕ × Ascending)) → path ≡ r.scratch → ChangesAt bytes_eq path (with_number n) old new
     → MovesPath None (Some r) n old new
 listed_at path r n old new is changes p = elim (either (bytes_eq r.scratch p)) [
   | inl t ↦ rw t (rw (is, t) at (changes p))
   | inr f ↦ rw f (rw (is, f) at (changes p))
 ]
 
-pub is_listed : (path : List ℕ) (r : Resolved) (n : ℕ) (old new : List (List ℕ × Vec ℕ)) (o : Result (Unit {0}) Refusal) → path ≡ r.scratch
+pub is_listed : (path : List ℕ) (r : Resolved) (n : ℕ) (old new : List (List ℕ × Ascending)) (o : Result (Unit {0}) Refusal) → path ≡ r.scratch
     → MatchResult o (λ _. ChangesAt bytes_eq path (with_number n) old new) (λ e. (e ≡ Memory) × HasSameNumbers bytes_eq old new)
     → MatchResult o (λ _. MovesPath None (Some r) n old new) (λ e. (e ≡ Memory) × HasSameNumbers bytes_eq old new)
 is_listed path r n old new (Ok done) is changes = listed_at path r n old new is changes
 is_listed path r n old new (Err why) is changes = changes
 
 -- one that was built under the same path
-pub stays_listed : (h r : Resolved) (n : ℕ) (lists : List (List ℕ × Vec ℕ)) → bytes_eq h.scratch r.scratch ≡ true → MovesPath (Some h) (Some r) n lists lists
+pub stays_listed : (h r : Resolved) (n : ℕ) (lists : List (List ℕ × Ascending)) → bytes_eq h.scratch r.scratch ≡ true
+    → MovesPath (Some h) (Some r) n lists lists
 stays_listed h r n lists same p =
     let paths : r.scratch ≡ h.scratch = sym (same_bytes h.scratch r.scratch same) in
     elim (either (bytes_eq h.scratch p)) [
@@ -94,7 +96,7 @@ stays_listed h r n lists same p =
     ]
 
 -- one that was built under another path
-pub relisted : (h r : Resolved) (n : ℕ) (old mid next new : List (List ℕ × Vec ℕ)) → bytes_eq h.scratch r.scratch ≡ false → next ≡ mid
+pub relisted : (h r : Resolved) (n : ℕ) (old mid next new : List (List ℕ × Ascending)) → bytes_eq h.scratch r.scratch ≡ false → next ≡ mid
     → ChangesAt bytes_eq r.scratch (with_number n) old mid → ChangesAt bytes_eq h.scratch (without_number n) next new → MovesPath (Some h) (Some r) n old new
 relisted h r n old mid next new other same enters leaves p = elim (either (bytes_eq h.scratch p)) [
   | inl t ↦
@@ -121,7 +123,8 @@ relisted h r n old mid next new other same enters leaves p = elim (either (bytes
 -- ---- room for goals that are done
 
 -- a goal that is planned under a path has room there
-pub room_planned : (from : Option Resolved) (r : Resolved) (n count : ℕ) (built new_built done new_done : List (List ℕ × Vec ℕ)) (o : Result (Unit {0}) Refusal)
+pub room_planned : (from : Option Resolved) (r : Resolved) (n count : ℕ) (built new_built done new_done : List (List ℕ × Ascending))
+    (o : Result (Unit {0}) Refusal)
     → count ≡ length (numbers_at (bytes_eq r.scratch) built) + 1 → count ≤ room_at (bytes_eq r.scratch) new_done
     → KeepsRoom bytes_eq done new_done → HasRoom built done
     → MatchResult o (λ _. MovesPath from (Some r) n built new_built) (λ e. (e ≡ Memory) × HasSameNumbers bytes_eq built new_built) → HasRoom new_built new_done

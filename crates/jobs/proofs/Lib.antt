@@ -6,3 +6,5 @@ pub mod PlannerLemmas
 pub mod JoinLemmas
 pub mod UserLemmas
 pub mod ForgettingLemmas
+pub mod FirstLemmas
+pub mod FinishedLemmas

@@ -4,10 +4,11 @@ use Rattle.std.specs.Prelude.{slice_get, slice_set, slice_index_or, is_some, nat
 use Rattle.std.proofs.lemmas.Bool.Decides.{nat_tests}
 use Rattle.std.proofs.lemmas.Option.{get_or_from_slice_get}
 use Rattle.model.proofs.BoolLemmas.{either}
-use Rattle.model.specs.Worlds.{Job, Goal}
+use Rattle.model.specs.Worlds.{Resolved, Job, Goal}
 use Rattle.model.specs.Goals.{goal_at, with_goal_at, members, is_in}
 use Rattle.jobs.specs.Owned.{Owned, with_goals}
-use Rattle.jobs.specs.Numbers.{numbers, with_number, without_number, entered, left, moved, is_of}
+use Rattle.jobs.specs.Rising.{with_number, without_number}
+use Rattle.jobs.specs.Numbers.{numbers, entered, left, moved, has_scratch, is_of, is_built_under, first_built}
 
 pub same_number : (k : ℕ) → (k == k) ≡ true
 same_number k = grind (arith, nat_tests)
@@ -165,9 +166,48 @@ set_moved t n gs g y false false at before now = set_kept t n gs g y at (now ∙
 pub pushed : (t : ℕ → Goal → Bool) (gs : List Goal) (y : Goal) → ((n : ℕ) → t n y ≡ false) → numbers t 1 gs ≡ numbers t 1 (gs ++ y ∷ [])
 pushed t gs y fail = sym (numbers_push t 1 gs y fail)
 
+-- ---- the first that is built under a path
+
+abbrev pub resolved_of : Option Goal → Option Resolved
+resolved_of None = None
+resolved_of (Some g) = g.resolved
+
+first_of : (f : ℕ → Option Goal) → Option ℕ → Option Resolved
+first_of f None = None
+first_of f (Some n) = resolved_of (f n)
+
+first_from : (path : List ℕ) (f : ℕ → Option Goal) (k : ℕ) (gs : List Goal) → ((i : ℕ) (g : Goal) → slice_get gs i ≡ Some g → f (k + i) ≡ Some g)
+    → first_of f (slice_get (numbers (is_built_under path) k gs) 0) ≡ first_built path gs
+unfolding numbers first_of first_built
+first_from path f k [] at = refl
+first_from path f k (g ∷ gs) at =
+    let none : k + zero ≡ k = omega arith in
+    let here : f k ≡ Some g = ap f (sym none) ∙ at zero g refl in
+    let next : (i : ℕ) → suc k + i ≡ k + suc i = λ i. (omega arith) in
+    elim (either (has_scratch path g.resolved)) [
+      | inl t ↦ rw (t, here) refl
+      | inr n ↦ rw n (first_from path f (suc k) gs (λ i x there. ap f (next i) ∙ at (suc i) x there))
+    ]
+
+numbered_from : (gs : List Goal) (i : ℕ) (g : Goal) → slice_get gs i ≡ Some g → goal_at (1 + i) gs ≡ Some g
+numbered_from gs i g at = let one : 1 + i ≡ suc i = omega arith in rw one at
+
+-- no goal has a number
+pub none_built : (path : List ℕ) (gs : List Goal) → slice_get (numbers (is_built_under path) 1 gs) 0 ≡ None → None ≡ first_built path gs
+unfolding first_of
+none_built path gs none =
+    ap (first_of (λ n. goal_at n gs)) (sym none) ∙ first_from path (λ n. goal_at n gs) 1 gs (numbered_from gs)
+
+-- the goal of the first number
+pub one_built : (path : List ℕ) (gs : List Goal) (n : ℕ) → slice_get (numbers (is_built_under path) 1 gs) 0 ≡ Some n
+    → resolved_of (goal_at n gs) ≡ first_built path gs
+unfolding first_of
+one_built path gs n is =
+    ap (first_of (λ m. goal_at m gs)) (sym is) ∙ first_from path (λ m. goal_at m gs) 1 gs (numbered_from gs)
+
 -- ---- how many they are
 
-with_one : (m : ℕ) (ns : List ℕ) → length (with_number m ns) ≡ suc (length ns)
+pub with_one : (m : ℕ) (ns : List ℕ) → length (with_number m ns) ≡ suc (length ns)
 unfolding with_number
 with_one m [] = refl
 with_one m (n ∷ ns) = elim (either (nat_lt m n)) [
@@ -192,52 +232,21 @@ pub moved_out : (was : Bool) (n : ℕ) (ns : List ℕ) → length (moved was fal
 moved_out true n ns = without_one n ns
 moved_out false n ns = omega arith
 
--- of two tests the second is passed wherever the first is: no fewer pass it, and more where a goal passes the second alone
-module _ (t u : ℕ → Goal → Bool) (implies : (n : ℕ) (g : Goal) → t n g ≡ true → u n g ≡ true) where
-  no_fewer : (k : ℕ) (gs : List Goal) → length (numbers t k gs) ≤ length (numbers u k gs)
-  unfolding numbers
-  no_fewer k [] = omega arith
-  no_fewer k (g ∷ gs) =
-      let rest : length (numbers t (suc k) gs) ≤ length (numbers u (suc k) gs) = no_fewer (suc k) gs in
-      elim (either (t k g)) [
-        | inl pass ↦ rw (pass, implies k g pass) (omega (arith, rest))
-        | inr f ↦ elim (either (u k g)) [
-          | inl more ↦ rw (f, more) (omega (arith, rest))
-          | inr none ↦ rw (f, none) rest
-        ]
-      ]
-
-  more_from : (k m i : ℕ) (gs : List Goal) (g : Goal) → slice_get gs i ≡ Some g → t m g ≡ false → u m g ≡ true → m ≡ k + i
-      → length (numbers t k gs) < length (numbers u k gs)
-  unfolding numbers
-  more_from k m i [] g at fail pass e = cc
-  more_from k m zero (x ∷ gs) g at fail pass e =
-      let is : m ≡ k = omega arith in
-      let same : x ≡ g = cc in
-      let first : t k g ≡ false = rw is at fail in
-      let second : u k g ≡ true = rw is at pass in
-      let rest : length (numbers t (suc k) gs) ≤ length (numbers u (suc k) gs) = no_fewer (suc k) gs in
-      rw (same, first, second) (omega (arith, rest))
-  more_from k m (suc i) (x ∷ gs) g at fail pass e =
-      let rest : length (numbers t (suc k) gs) < length (numbers u (suc k) gs) = more_from (suc k) m i gs g at fail pass (omega arith) in
-      elim (either (t k x)) [
-        | inl both ↦ rw (both, implies k x both) (omega (arith, rest))
-        | inr f ↦ elim (either (u k x)) [
-          | inl more ↦ rw (f, more) (omega (arith, rest))
-          | inr none ↦ rw (f, none) rest
-        ]
-      ]
-
-  pub more : (n : ℕ) (gs : List Goal) (g : Goal) → goal_at n gs ≡ Some g → t n g ≡ false → u n g ≡ true
-      → length (numbers t 1 gs) < length (numbers u 1 gs)
-  more zero gs g at fail pass = cc
-  more (suc i) gs g at fail pass = more_from 1 (suc i) i gs g at fail pass (omega arith)
-
 -- ---- the goal that is read and written
 
 pub got : (n : ℕ) (gs : List Goal) (x g : Goal) → x ≡ slice_index_or gs (n - 1) x → goal_at n gs ≡ Some g → x ≡ g
 got zero gs x g e at = cc
 got (suc n) gs x g e at = let read : x ≡ slice_index_or gs n x = rw sub-one at e in read ∙ get_or_from_slice_get gs n g x at
+
+-- a goal that is there has its place
+pub in_range : (n : ℕ) (gs : List Goal) → is_some (goal_at n gs) ≡ true → n - 1 < length gs
+in_range zero gs h = cc
+in_range (suc i) gs h = rw sub-one (below i gs h)
+  where
+    below : (i : ℕ) (gs : List Goal) → is_some (slice_get gs i) ≡ true → i < length gs
+    below i [] h = cc
+    below zero (g ∷ gs) h = omega arith
+    below (suc i) (g ∷ gs) h = let rest : i < length gs = below i gs h in omega (arith, rest)
 
 pub some_at : (o : Option Goal) → is_some o ≡ true → (g : Goal) × (o ≡ Some g)
 some_at None h = cc

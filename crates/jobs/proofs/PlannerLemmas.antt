@@ -1,5 +1,5 @@
 -- The words of places have all who plan goals, when goals are added, planned or change their states.
-use Rattle.std.proofs.Common.{◌≡◌, ℕ, zero, suc, ◌*◌, ◌%◌, ◌^◌, ◌≤◌, ◌<◌, Bool, true, false, inl, inr, List, [], ◌∷◌, ◌++◌, map, length, refl, sym, ◌∙◌, ap, subst, get_or, bit_and, bit_or, min, arith, Option, Some, None}
+use Rattle.std.proofs.Common.{◌≡◌, ℕ, zero, suc, ◌*◌, ◌%◌, ◌^◌, ◌<◌, Bool, true, false, inl, inr, List, [], ◌∷◌, ◌++◌, map, length, refl, sym, ◌∙◌, ap, subst, get_or, bit_and, bit_or, min, arith, Option, Some, None}
 use Rattle.std.specs.Prelude.{◌&&◌, ◌||◌, ◌==◌, bytes_eq, slice_set, slice_index_or, cond, is_some, Result, Ok, Err, OnOk, OnErr}
 use Rattle.std.specs.Map.{lookup}
 use Rattle.std.specs.Int.{bit_at}
@@ -14,9 +14,10 @@ use Rattle.model.specs.ForgetRequests.{is_built_from, let_go}
 use Rattle.trust.specs.Trusting.{holds}
 use Rattle.trust.proofs.RowLemmas.{eq_cases, holds_set}
 use Rattle.jobs.specs.Owned.{Owned, OwnedByAll, with_goals, goals_at, with_goals_at, all_of, goal_of, ChangesOwn}
-use Rattle.jobs.specs.Numbers.{numbers, without_number, has_scratch, is_built_under, is_done_under}
+use Rattle.jobs.specs.Rising.{without_number}
+use Rattle.jobs.specs.Numbers.{numbers, has_scratch, is_built_under, is_done_under}
 use Rattle.jobs.specs.States.{is_done, planned_with, IsIdle}
-use Rattle.jobs.specs.Planners.{word_at, AddsPlace, HasPlanners, HasPlannersOfAll}
+use Rattle.jobs.specs.Planners.{word_at, AddsPlace, HasPlannersOfAll}
 use Rattle.jobs.proofs.NumberLemmas.{set_left, set_kept, written, pushed, some_at}
 use Rattle.jobs.proofs.UserLemmas.{goals_read, goals_written}
 

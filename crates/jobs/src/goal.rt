@@ -3,7 +3,7 @@
 ghost use Rattle.std.specs.Prelude.{◌≡◌, None, Some, option_copied};
 ghost use Rattle.model.specs.Goals.{in_state, new_goal, job_in};
 ghost use Rattle.states.specs.States.{state_of};
-ghost use Rattle.jobs.specs.States.{is_done, planned_with};
+ghost use Rattle.jobs.specs.States.{path_in, is_alike, planned_with};
 ghost use Rattle.jobs.specs.Joining.{same_as};
 
 use crate::same::same_resolved;
@@ -11,13 +11,6 @@ use closures::Resolved;
 use states::{Job, State};
 use std::marker::Model;
 use storepath::StorePath;
-
-/// Whether something was built.
-pub(crate) fn is_done(state: &State) -> bool
-    ensures { result ≡ is_done (state_of state.now) }
-{
-    matches!(state, State::Done(_))
-}
 
 /// One request to build.
 pub struct Goal {
@@ -103,11 +96,29 @@ impl Goal {
         }
     }
 
-    /// Whether something was built for it.
-    pub(crate) fn is_done(&self) -> bool
-        ensures { result ≡ is_done self.now.state }
+    /// The path by which it is done.
+    pub(crate) fn done_path(&self) -> Option<&StorePath>
+        ensures { option_copied result ≡ path_in self.now.state }
     {
-        is_done(&self.state)
+        match &self.state {
+            State::Done(path) => Some(path),
+            _ => None,
+        }
+    }
+
+    /// Whether both are done and came to the same: they are of one derivation, done by one path, and
+    /// built from the same.
+    pub(crate) fn is_alike(&self, other: &Goal) -> bool
+        ensures { result ≡ is_alike self.now other.now }
+    {
+        match (self.done_path(), other.done_path(), other.resolved()) {
+            (Some(path), Some(other_path), Some(resolved)) => {
+                self.derivation == other.derivation
+                    && path == other_path
+                    && self.is_built_from(resolved)
+            }
+            _ => false,
+        }
     }
 
     /// It gets another state. What it is built from is left.

@@ -7,11 +7,12 @@ ghost use Rattle.model.specs.Worlds.{Building};
 ghost use Rattle.model.specs.Goals.{goal_at, in_state, new_goal, members, led_by, is_building};
 ghost use Rattle.jobs.specs.Joining.{job_with, least_with, lesser_of};
 ghost use Rattle.jobs.specs.Owned.{with_goals, ChangesOwn};
-ghost use Rattle.jobs.specs.Numbers.{numbers, leads_at, is_done_under};
+ghost use Rattle.jobs.specs.Numbers.{numbers, leads_at, finished, first_built};
 ghost use Rattle.states.specs.States.{state_of};
 ghost use Rattle.jobs.specs.States.{planned_with, IsIdle};
 
-use crate::goal::{Goal, is_done};
+use crate::finished::goal_of;
+use crate::goal::Goal;
 use crate::indexes::Indexes;
 use closures::Resolved;
 use model::Refusal;
@@ -120,10 +121,25 @@ impl Goals {
     pub(crate) fn get(&self, number: u16) -> Option<&Goal>
         ensures { option_copied result ≡ goal_at number self.now.goals }
     {
-        if number == 0 {
-            return None;
+        goal_of(self.goals.as_slice(), number)
+    }
+
+    /// What the first of those goals is built from that are built under a path. It is found at once.
+    fn first_built(&self, path: &StorePath) -> Option<&Resolved>
+        ensures { option_copied result ≡ first_built path.now self.now.goals }
+    {
+        let number = self.indexes.built_under(path).first()?;
+        self.get(*number)?.resolved()
+    }
+
+    /// The same, which shares its text with what is built under its path already, if that is equal.
+    fn shared(&self, resolved: Resolved) -> Resolved
+        ensures { result ≡ resolved }
+    {
+        match self.first_built(resolved.scratch()) {
+            Some(first) => resolved.sharing(first),
+            None => resolved,
         }
-        self.goals.get(number as usize - 1)
     }
 
     /// A goal is planned, and from now on built from that. Where it was built in a job, it leaves
@@ -140,11 +156,18 @@ impl Goals {
         ensures kept { OnErr result (self.new ≡ self.old) }
         ensures memory { IfErr result (λ e. e ≡ Memory) }
     {
-        let goal = &mut self.goals[number as usize - 1];
-        self.indexes.plan(alloc, number, goal, &resolved)?;
-        self.indexes.leave(number, goal);
-        self.indexes.set_done(number, goal, false);
-        goal.keep(resolved);
+        let resolved = self.shared(resolved);
+        let index = number as usize - 1;
+        self.indexes.undo(self.goals.as_slice(), number);
+        if let Err(why) = self
+            .indexes
+            .plan(alloc, number, &self.goals[index], &resolved)
+        {
+            self.indexes.finish(self.goals.as_slice(), number);
+            return Err(why);
+        }
+        self.indexes.leave(number, &self.goals[index]);
+        self.goals[index].keep(resolved);
         Ok(())
     }
 
@@ -155,10 +178,11 @@ impl Goals {
         requires state { is_building (state_of state) ≡ false }
         ensures { ChangesOwn number (in_state (state_of state)) self.old self.new }
     {
-        let goal = &mut self.goals[number as usize - 1];
-        self.indexes.leave(number, goal);
-        self.indexes.set_done(number, goal, is_done(&state));
-        goal.set_state(state);
+        let index = number as usize - 1;
+        self.indexes.leave(number, &self.goals[index]);
+        self.indexes.undo(self.goals.as_slice(), number);
+        self.goals[index].set_state(state);
+        self.indexes.finish(self.goals.as_slice(), number);
     }
 
     /// A goal that is built in no job enters one. The one error is memory, and changes nothing.
@@ -169,10 +193,11 @@ impl Goals {
         ensures kept { OnErr result (self.new ≡ self.old) }
         ensures memory { IfErr result (λ e. e ≡ Memory) }
     {
-        let goal = &mut self.goals[number as usize - 1];
-        self.indexes.enter(alloc, &self.owner, number, goal, &job)?;
-        self.indexes.set_done(number, goal, false);
-        goal.set_state(State::Building(job));
+        let index = number as usize - 1;
+        self.indexes
+            .enter(alloc, &self.owner, number, &self.goals[index], &job)?;
+        self.indexes.undo(self.goals.as_slice(), number);
+        self.goals[index].set_state(State::Building(job));
         Ok(())
     }
 
@@ -183,12 +208,12 @@ impl Goals {
         self.indexes.of_job(job)
     }
 
-    /// The numbers of the goals that are done and were built under a path, ascending. They are found
-    /// at once.
-    pub(crate) fn done_under(&self, path: &StorePath) -> &[u16]
-        ensures { result.now ≡ numbers (is_done_under path.now) 1 self.now.goals }
+    /// The numbers of the goals that are done and were built under a path, of several that came to the
+    /// same that of the first, ascending. They are found at once.
+    pub(crate) fn finished_under(&self, path: &StorePath) -> &[u16]
+        ensures { result.now ≡ finished path.now self.now.goals }
     {
-        self.indexes.done_under(path)
+        self.indexes.finished_under(path)
     }
 
     /// The numbers of the goals that lead their own job, which is built under a path, ascending.

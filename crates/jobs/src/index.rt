@@ -2,26 +2,18 @@
 
 ghost use Rattle.std.specs.Prelude.{◌≡◌, ◌<◌, ◌≤◌, ◌∷◌, [], length, MatchResult, OnOk, IfErr};
 ghost use Rattle.model.specs.declared.refusal.Refusal.TheVariants.{Memory};
-ghost use Rattle.jobs.specs.Numbers.{with_number, without_number, numbers_at, room_at, ChangesAt, HasSameNumbers, KeepsRoom};
+ghost use Rattle.jobs.specs.Rising.{with_number, without_number};
+ghost use Rattle.jobs.specs.Numbers.{numbers_at, room_at, ChangesAt, Exchanges, HasSameNumbers, KeepsRoom};
 
-use crate::ascending;
+use crate::ascending::Ascending;
 use indexmap::IndexMap;
 use model::Refusal;
 use std::alloc::Global;
 use std::hash::{Hash, RandomState};
 
-/// A list of one number.
-fn list_of(alloc: Global, number: u16) -> Result<Vec<u16>, Refusal>
-    ensures { MatchResult result (λ list. list.items ≡ number ∷ []) (λ e. e ≡ Memory) }
-{
-    let mut list = Vec::new(alloc);
-    list.push(number)?;
-    Ok(list)
-}
-
 /// The numbers at a key. They are found at once.
 pub(crate) fn numbers_at<'a, K: Eq + Hash>(
-    index: &'a IndexMap<K, Vec<u16>, RandomState>,
+    index: &'a IndexMap<K, Ascending, RandomState>,
     key: &K,
 ) -> &'a [u16]
     ensures { result.now ≡ numbers_at (K.eq key.now) index.now.entries }
@@ -35,7 +27,7 @@ pub(crate) fn numbers_at<'a, K: Eq + Hash>(
 /// Puts a number in its place at a key. The one error is memory, and changes no list.
 pub(crate) fn insert_at<K: Eq + Hash + Drop>(
     alloc: Global,
-    index: &mut IndexMap<K, Vec<u16>, RandomState>,
+    index: &mut IndexMap<K, Ascending, RandomState>,
     key: K,
     number: u16,
 ) -> Result<(), Refusal>
@@ -44,10 +36,10 @@ pub(crate) fn insert_at<K: Eq + Hash + Drop>(
         (λ e. (e ≡ Memory) × HasSameNumbers K.eq index.old.entries index.new.entries) }
 {
     if let Some(list) = index.get_mut(&key) {
-        ascending::insert(list, number)?;
+        list.insert(number)?;
         return Ok(());
     }
-    let list = list_of(alloc, number)?;
+    let list = Ascending::of_one(alloc, number)?;
     let _none = index.insert(key, list)?;
     Ok(())
 }
@@ -55,7 +47,7 @@ pub(crate) fn insert_at<K: Eq + Hash + Drop>(
 /// Makes room at a key for so many numbers in all. The one error is memory. No list changes.
 pub(crate) fn reserve_at<K: Eq + Hash + Drop>(
     alloc: Global,
-    index: &mut IndexMap<K, Vec<u16>, RandomState>,
+    index: &mut IndexMap<K, Ascending, RandomState>,
     key: K,
     count: usize,
 ) -> Result<(), Refusal>
@@ -65,15 +57,15 @@ pub(crate) fn reserve_at<K: Eq + Hash + Drop>(
     ensures memory { IfErr result (λ e. e ≡ Memory) }
 {
     if let Some(list) = index.get_mut(&key) {
-        return ascending::reserve(list, count);
+        return list.reserve(count);
     }
-    let _none = index.insert(key, Vec::with_capacity(alloc, count)?)?;
+    let _none = index.insert(key, Ascending::with_capacity(alloc, count)?)?;
     Ok(())
 }
 
 /// Puts a number for which there is room in its place at a key. It takes no memory.
 pub(crate) fn insert_reserved_at<K: Eq + Hash>(
-    index: &mut IndexMap<K, Vec<u16>, RandomState>,
+    index: &mut IndexMap<K, Ascending, RandomState>,
     key: &K,
     number: u16,
 )
@@ -84,13 +76,13 @@ pub(crate) fn insert_reserved_at<K: Eq + Hash>(
     ensures kept { KeepsRoom K.eq index.old.entries index.new.entries }
 {
     if let Some(list) = index.get_mut(key) {
-        ascending::insert_reserved(list, number);
+        list.insert_reserved(number);
     }
 }
 
 /// Takes a number out at a key. It takes no memory, and the room of the list stays.
 pub(crate) fn remove_at<K: Eq + Hash>(
-    index: &mut IndexMap<K, Vec<u16>, RandomState>,
+    index: &mut IndexMap<K, Ascending, RandomState>,
     key: &K,
     number: u16,
 )
@@ -99,6 +91,22 @@ pub(crate) fn remove_at<K: Eq + Hash>(
     ensures kept { KeepsRoom K.eq index.old.entries index.new.entries }
 {
     if let Some(list) = index.get_mut(key) {
-        ascending::remove(list, number);
+        list.remove(number);
     }
+}
+
+/// Puts a number in its place at a key, once another one is taken out there. It takes no memory.
+pub(crate) fn exchange_at<K: Eq + Hash>(
+    index: &mut IndexMap<K, Ascending, RandomState>,
+    key: &K,
+    out: u16,
+    number: u16,
+)
+    requires { length (without_number out (numbers_at (K.eq key.now) index.old.entries))
+        < room_at (K.eq key.now) index.old.entries }
+    ensures numbers { Exchanges K.eq key.now out number index.old.entries index.new.entries }
+    ensures kept { KeepsRoom K.eq index.old.entries index.new.entries }
+{
+    remove_at(index, key, out);
+    insert_reserved_at(index, key, number);
 }

@@ -1,13 +1,16 @@
 //! The indexes by which a user's goals are found.
 
-ghost use Rattle.std.specs.Prelude.{◌≡◌, true, [], Some, MatchResult};
+ghost use Rattle.std.specs.Prelude.{◌≡◌, true, [], Some, is_some, MatchResult};
 ghost use Rattle.std.specs.Str.{bytes_eq};
-ghost use Rattle.model.specs.Goals.{same_job, is_building};
+ghost use Rattle.model.specs.Goals.{goal_at, same_job, is_building};
 ghost use Rattle.model.specs.declared.refusal.Refusal.TheVariants.{Memory};
-ghost use Rattle.jobs.specs.Numbers.{numbers_at, with_number, own_job, ChangesAt, HasSameNumbers, KeepsRoom, HasRoom, HasRoomFor, EntersJob, EntersPath, LeavesJob, LeavesPath, MovesPath, SetsDone, IsUnlisted};
+ghost use Rattle.jobs.specs.Rising.{with_number};
+ghost use Rattle.jobs.specs.Numbers.{numbers_at, own_job, is_built_under, undone, ChangesAt, HasSameNumbers, HasRoom, EntersJob, EntersPath, LeavesJob, LeavesPath, MovesPath, Finds, FindsFinished, IsUnlisted};
 
+use crate::ascending::Ascending;
+use crate::finished::{finished_under, first_alike};
 use crate::goal::Goal;
-use crate::index::{insert_at, insert_reserved_at, numbers_at, remove_at, reserve_at};
+use crate::index::{exchange_at, insert_at, insert_reserved_at, numbers_at, remove_at, reserve_at};
 use closures::Resolved;
 use indexmap::IndexMap;
 use model::Refusal;
@@ -18,16 +21,16 @@ use storepath::StorePath;
 use trust::User;
 
 /// The numbers of a user's goals: by the jobs in which they are built, and by the paths under which
-/// they are built those that lead their own job, those that were planned, and those that are done.
-/// A list may be empty.
+/// they are built those that lead their own job, those that were planned, and those that are done, of
+/// several that came to the same the first. A list may be empty.
 ///
 /// A goal becomes done where no memory may be taken. So the lists of those that are done have room
 /// for all that were planned.
 pub(crate) struct Indexes {
-    of_jobs: IndexMap<Job, Vec<u16>, RandomState>,
-    leading: IndexMap<StorePath, Vec<u16>, RandomState>,
-    built: IndexMap<StorePath, Vec<u16>, RandomState>,
-    done: IndexMap<StorePath, Vec<u16>, RandomState>,
+    of_jobs: IndexMap<Job, Ascending, RandomState>,
+    leading: IndexMap<StorePath, Ascending, RandomState>,
+    built: IndexMap<StorePath, Ascending, RandomState>,
+    done: IndexMap<StorePath, Ascending, RandomState>,
 }
 
 impl Drop for Indexes {
@@ -71,8 +74,16 @@ impl Indexes {
         numbers_at(&self.leading, path)
     }
 
-    /// The numbers of those that are done and were built under a path.
-    pub(crate) fn done_under(&self, path: &StorePath) -> &[u16]
+    /// The numbers of those that were planned and are built under a path.
+    pub(crate) fn built_under(&self, path: &StorePath) -> &[u16]
+        ensures { result.now ≡ numbers_at (bytes_eq path.now) self.now.built.entries }
+    {
+        numbers_at(&self.built, path)
+    }
+
+    /// The numbers of those that are done and were built under a path, of several that came to the same
+    /// that of the first.
+    pub(crate) fn finished_under(&self, path: &StorePath) -> &[u16]
         ensures { result.now ≡ numbers_at (bytes_eq path.now) self.now.done.entries }
     {
         numbers_at(&self.done, path)
@@ -222,23 +233,49 @@ impl Indexes {
         self.relist(alloc, number, goal, resolved)
     }
 
-    /// Has a goal be done from now on, or not. It takes no memory.
-    pub(crate) fn set_done(&mut self, number: u16, goal: &Goal, is_done: bool)
-        requires { is_done ≡ true → HasRoomFor goal.now self.old.done.entries }
+    /// Has a goal be found among those that are done, if it is done, and none before it came to the same.
+    /// It takes no memory.
+    pub(crate) fn finish(&mut self, goals: &[Goal], number: u16)
+        requires there { is_some (goal_at number goals.now) ≡ true }
+        requires built { Finds bytes_eq is_built_under goals.now self.old.built.entries }
+        requires done { FindsFinished (undone number goals.now) self.old.done.entries }
+        requires room { HasRoom self.old.built.entries self.old.done.entries }
         ensures jobs { self.new.of_jobs ≡ self.old.of_jobs }
         ensures leading { self.new.leading ≡ self.old.leading }
         ensures built { self.new.built ≡ self.old.built }
-        ensures done { SetsDone goal.now is_done number
-            self.old.done.entries self.new.done.entries }
-        ensures room { KeepsRoom bytes_eq self.old.done.entries self.new.done.entries }
+        ensures done { FindsFinished goals.now self.new.done.entries }
+        ensures room { HasRoom self.new.built.entries self.new.done.entries }
     {
-        let Some(resolved) = goal.resolved() else {
+        let Some(path) = finished_under(goals, number) else {
             return;
         };
-        match (goal.is_done(), is_done) {
-            (false, true) => insert_reserved_at(&mut self.done, resolved.scratch(), number),
-            (true, false) => remove_at(&mut self.done, resolved.scratch(), number),
-            _ => {}
+        match first_alike(goals, number, numbers_at(&self.done, path)) {
+            Some(first) if first < number => {}
+            Some(later) => exchange_at(&mut self.done, path, later, number),
+            None => insert_reserved_at(&mut self.done, path, number),
+        }
+    }
+
+    /// Has a goal be found no more among those that are done: the next one that came to the same is found
+    /// in its place. It takes no memory.
+    pub(crate) fn undo(&mut self, goals: &[Goal], number: u16)
+        requires there { is_some (goal_at number goals.now) ≡ true }
+        requires built { Finds bytes_eq is_built_under goals.now self.old.built.entries }
+        requires done { FindsFinished goals.now self.old.done.entries }
+        requires room { HasRoom self.old.built.entries self.old.done.entries }
+        ensures jobs { self.new.of_jobs ≡ self.old.of_jobs }
+        ensures leading { self.new.leading ≡ self.old.leading }
+        ensures built { self.new.built ≡ self.old.built }
+        ensures done { FindsFinished (undone number goals.now) self.new.done.entries }
+        ensures room { HasRoom self.new.built.entries self.new.done.entries }
+    {
+        let Some(path) = finished_under(goals, number) else {
+            return;
+        };
+        match first_alike(goals, number, numbers_at(&self.built, path)) {
+            Some(first) if first < number => {}
+            Some(next) => exchange_at(&mut self.done, path, number, next),
+            None => remove_at(&mut self.done, path, number),
         }
     }
 }

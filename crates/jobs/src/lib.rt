@@ -2,6 +2,7 @@
 #![tactic(auto)]
 
 mod ascending;
+mod finished;
 mod forgetting;
 mod goal;
 mod goals;

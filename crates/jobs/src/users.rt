@@ -13,7 +13,7 @@ ghost use Rattle.jobs.specs.Owned.{goals_at, with_goals_at, goal_of, ChangesGoal
 ghost use Rattle.states.specs.States.{state_of};
 ghost use Rattle.jobs.specs.States.{planned_with, IsIdle};
 ghost use Rattle.jobs.specs.Joining.{running_at, least_with};
-ghost use Rattle.jobs.specs.Numbers.{numbers, is_done_under};
+ghost use Rattle.jobs.specs.Numbers.{finished};
 ghost use Rattle.jobs.specs.Planners.{HasPlanners};
 
 use crate::goal::Goal;
@@ -193,13 +193,13 @@ impl Jobs {
         self.all[place].members(job)
     }
 
-    /// The numbers of the goals of a user that are done and were built under a path, ascending. They
-    /// are found at once.
-    pub fn done_under(&self, place: usize, path: &StorePath) -> &[u16]
+    /// The numbers of the goals of a user that are done and were built under a path, of several that came
+    /// to the same that of the first, ascending. They are found at once.
+    pub fn finished_under(&self, place: usize, path: &StorePath) -> &[u16]
         requires { place < length self.now.goals }
-        ensures { result.now ≡ numbers (is_done_under path.now) 1 (goals_at place self.now) }
+        ensures { result.now ≡ finished path.now (goals_at place self.now) }
     {
-        self.all[place].done_under(path)
+        self.all[place].finished_under(path)
     }
 
     /// The places of users, as the bits of a word, among whom are all who have a goal that was planned

@@ -1,4 +1,4 @@
-use Rattle.std.proofs.Common.{◌≡◌, ◌≤◌, ◌∙◌, refl, sym, ap, drop, length, List, ℕ, [], Option, Some, None, rules, arith}
+use Rattle.std.proofs.Common.{◌≡◌, ◌≤◌, ◌∙◌, sym, ap, drop, length, List, ℕ, Option, Some, None, rules, arith}
 use Rattle.std.specs.Prelude.{option_copied, slice_index_or}
 use Rattle.std.proofs.Math.ListN.{drop_of_length-le}
 use Rattle.model.specs.Worlds.{Goal}
@@ -6,9 +6,10 @@ use Rattle.model.specs.Goals.{goal_at}
 use Rattle.model.specs.Orders.{least_from}
 use Rattle.records.specs.Recorded.{Recorded}
 use Rattle.jobs.specs.Owned.{goals_at}
-use Rattle.jobs.specs.Numbers.{numbers, is_done_under}
+use Rattle.jobs.specs.Numbers.{finished}
 use Rattle.goals.specs.Reusing.{path_before, found_if, found_among}
 use Rattle.goals.proofs.ReuseLemmas.{number_next, nothing_left, nothing_found}
+use Rattle.goals.proofs.EnoughLemmas.{first_enough}
 use Rattle.goals.proofs.reusing.least_for_user.Goals as goal
 use Rattle.goals.proofs.reusing.least_for_user.Goals.{in-Some, in_default}
 
@@ -16,7 +17,7 @@ pub loop-number-preserved : goal.loop-number-preserved
 loop-number-preserved c =
     let goals : List Goal = goals_at c.args.place c.args.jobs.now in
     let found : Option Goal → List Recorded = found_if c.args.resolved.now c.args.labels.now c.args.desk.now in
-    let ns : List ℕ = c.done_under-number-items.result.now in
+    let ns : List ℕ = c.finished_under-number-items.result.now in
     let n : ℕ = slice_index_or ns c.loop-number.number-index 0 in
     elim c.match-get.branch [
       | in-Some w ↦
@@ -37,12 +38,13 @@ loop-number-preserved c =
 pub returns : goal.returns
 returns c =
     let goals : List Goal = goals_at c.args.place c.args.jobs.now in
-    let ns : List ℕ = c.done_under-number-items.result.now in
+    let ns : List ℕ = c.finished_under-number-items.result.now in
     let past : length ns ≤ c.loop-number.number-index = (let test = c.loop-number-test.false in omega (arith, test)) in
-    let all : ns ≡ numbers (is_done_under c.args.resolved.now.scratch) 1 goals =
-    c.done_under-number-items.ensures ∙ ap (λ path. numbers (is_done_under path) 1 goals) c.scratch.ensures in
+    let all : ns ≡ finished c.args.resolved.now.scratch goals =
+    c.finished_under-number-items.ensures ∙ ap (λ path. finished path goals) c.scratch.ensures in
     nothing_left (option_copied c.loop-number.least)
     (found_among c.args.resolved.now c.args.labels.now c.args.desk.now goals (drop c.loop-number.number-index ns))
     (ap (found_among c.args.resolved.now c.args.labels.now c.args.desk.now goals) (drop_of_length-le ns past))
     ∙ c.loop-number.invariant
     ∙ ap (λ ms. least_from path_before (option_copied c.args.best) (found_among c.args.resolved.now c.args.labels.now c.args.desk.now goals ms)) all
+    ∙ first_enough c.args.resolved.now c.args.labels.now c.args.desk.now goals (option_copied c.args.best)

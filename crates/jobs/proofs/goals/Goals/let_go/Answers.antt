@@ -1,4 +1,4 @@
-use Rattle.std.proofs.Common.{◌≡◌, ◌<◌, ◌+◌, ◌≤◌, ℕ, suc, add-one, length, map, true, refl, sym, ◌∙◌, ap, subst, arith, Some, List}
+use Rattle.std.proofs.Common.{◌≡◌, ◌<◌, ◌+◌, ℕ, suc, add-one, length, sym, ◌∙◌, ap, subst, arith, Some, List}
 use Rattle.std.specs.Prelude.{is_some, slice_get}
 use Rattle.model.specs.Worlds.{Goal}
 use Rattle.model.specs.Goals.{goal_at, with_goal_at}

@@ -1,4 +1,4 @@
-use Rattle.std.proofs.Common.{refl, ap}
+use Rattle.std.proofs.Common.{ap}
 use Rattle.std.specs.Prelude.{bit_or, ◌*◌, ◌%◌, ◌^◌}
 use Rattle.jobs.proofs.PlannerLemmas.{word_added}
 use Rattle.jobs.proofs.planners.Planners.insert.Goals as goal

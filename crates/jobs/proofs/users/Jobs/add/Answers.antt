@@ -1,7 +1,7 @@
-use Rattle.std.proofs.Common.{◌≡◌, ◌<◌, [], ◌∷◌, ◌++◌, length, length-set, List}
+use Rattle.std.proofs.Common.{◌<◌, [], ◌∷◌, ◌++◌, length, length-set, List}
 use Rattle.model.specs.Goals.{new_goal}
 use Rattle.jobs.proofs.UserLemmas.{goals_written, on_ok}
-use Rattle.jobs.specs.Owned.{Owned, OwnedByAll}
+use Rattle.jobs.specs.Owned.{Owned}
 use Rattle.jobs.proofs.PlannerLemmas.{by_result, same_written, added_written}
 use Rattle.jobs.proofs.users.Jobs.add.Goals as goal
 

@@ -1,9 +1,9 @@
-use Rattle.std.proofs.Common.{◌≡◌, ◌<◌, ap, sym, ◌∙◌, length, length-set, List}
+use Rattle.std.proofs.Common.{◌<◌, ap, sym, ◌∙◌, length, length-set, List}
 use Rattle.jobs.specs.Owned.{goal_of}
 use Rattle.model.specs.Worlds.{Building}
 use Rattle.model.specs.Goals.{goal_at, with_goal_at, in_state}
 use Rattle.jobs.proofs.UserLemmas.{goals_read, goals_written, on_ok}
-use Rattle.jobs.specs.Owned.{Owned, OwnedByAll}
+use Rattle.jobs.specs.Owned.{Owned}
 use Rattle.jobs.proofs.PlannerLemmas.{by_result, same_written, state_written, idle_there}
 use Rattle.jobs.proofs.users.Jobs.enter.Goals as goal
 

@@ -1,10 +1,10 @@
-use Rattle.std.proofs.Common.{◌≡◌, ◌<◌, ap, sym, subst, ◌∙◌, length, length-set, List}
+use Rattle.std.proofs.Common.{◌<◌, ap, sym, subst, ◌∙◌, length, length-set, List}
 use Rattle.jobs.specs.Owned.{all_of}
 use Rattle.jobs.specs.Planners.{AddsPlace}
 use Rattle.model.specs.Goals.{goal_at, with_goal_at}
 use Rattle.jobs.specs.States.{planned_with}
 use Rattle.jobs.proofs.UserLemmas.{goals_read, goals_written, on_ok}
-use Rattle.jobs.specs.Owned.{Owned, OwnedByAll}
+use Rattle.jobs.specs.Owned.{Owned}
 use Rattle.jobs.proofs.PlannerLemmas.{by_result, same_written, planned_written, planners_wider, added_widens}
 use Rattle.jobs.proofs.users.Jobs.keep.Goals as goal
 

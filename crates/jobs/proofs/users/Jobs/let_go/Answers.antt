@@ -1,4 +1,4 @@
-use Rattle.std.proofs.Common.{◌≡◌, ◌<◌, length, length-set, map, List}
+use Rattle.std.proofs.Common.{length-set, map, List}
 use Rattle.model.specs.ForgetRequests.{let_go}
 use Rattle.jobs.specs.Owned.{Owned}
 use Rattle.jobs.proofs.UserLemmas.{goals_written}

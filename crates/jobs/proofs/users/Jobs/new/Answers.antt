@@ -1,4 +1,4 @@
-use Rattle.std.proofs.Common.{◌≡◌, ◌∙◌, ap, arith, List, [], length}
+use Rattle.std.proofs.Common.{◌≡◌, ◌∙◌, ap, arith, []}
 use Rattle.std.proofs.lemmas.List.{take_all, length-map}
 use Rattle.jobs.specs.Owned.{Owned, all_of}
 use Rattle.jobs.proofs.UserLemmas.{no_goals, all_without}
