@@ -1,2 +1,2 @@
-pub mod ZipLemmas
+pub mod SameLemmas
 pub mod StepLemmas

@@ -1,28 +1,13 @@
--- The records below a derivation, one step after another.
-use Rattle.std.specs.Prelude.{◌≡◌, ℕ, zero, suc, Bool, false, ◌&&◌, ◌||◌, not, List, map, zip, bytes_eq, Option, Some, None}
+-- The records below a derivation, one step after another, told by their classes and paths.
+use Rattle.std.specs.Prelude.{◌≡◌, ℕ, zero, suc, Bool, false, ◌&&◌, ◌||◌, not, List, length, drop, ◌≤◌, filter, bytes_eq, Option, Some, None}
 use Rattle.std.specs.List.{list_any}
 use Rattle.model.specs.Classes.{Class}
-use Rattle.model.specs.Worlds.{Label, Record}
-use Rattle.model.specs.References.{is_below}
-use Rattle.records.specs.Recorded.{Recorded, without_tree}
+use Rattle.model.specs.Worlds.{Label}
+use Rattle.records.specs.Recorded.{Recorded}
+use Rattle.realise.specs.Holdings.{is_recorded_at}
 use Rattle.candidates.specs.declared.below.Reached.{Reached}
 
--- whether a record is reached in this step, and in none before
-abbrev pub is_fresh : List Record → (List ℕ → Bool) → ℕ → Record → Bool
-is_fresh records inputs zero r = is_below records inputs zero r
-is_fresh records inputs (suc k) r = is_below records inputs (suc k) r && not (is_below records inputs k r)
-
--- the records that are reached in so many steps are marked, and those among them that were not reached before
-abbrev pub AreReached : List Recorded → (List ℕ → Bool) → ℕ → Reached → Type 0
-AreReached records inputs k reached =
-    (whole : List Record) → map without_tree whole ≡ records
-    → (reached.marked.items ≡ map (is_below whole inputs k) whole) × (reached.fresh.items ≡ map (is_fresh whole inputs k) whole)
-
--- whether a set has a class
-abbrev pub has_class : List (List ℕ) → List ℕ → Bool
-has_class keys class = list_any (bytes_eq class) keys
-
--- ---- one step
+-- ---- labels
 
 -- whether a label is of this path and this class
 abbrev pub is_for : List ℕ → Option Class → Bool
@@ -32,6 +17,16 @@ is_for class (Some c) = bytes_eq c.path class
 abbrev pub is_label_for : List ℕ → List ℕ → Label → Bool
 is_label_for path class l = bytes_eq l.path path && is_for class l.class
 
+-- whether a label of these records is of this path and this class
+abbrev pub is_named_in : List Recorded → List ℕ → List ℕ → Bool
+is_named_in records class path = list_any (λ r. list_any (is_label_for path class) r.labels) records
+
+-- ---- sets
+
+-- whether a set has a class
+abbrev pub has_class : List (List ℕ) → List ℕ → Bool
+has_class keys class = list_any (bytes_eq class) keys
+
 -- whether a pair of a path and a class is among these
 abbrev pub is_named : List (List ℕ × List ℕ) → List ℕ → List ℕ → Bool
 is_named pairs path class = list_any (λ pair. bytes_eq path pair.0 && bytes_eq class pair.1) pairs
@@ -40,32 +35,48 @@ is_named pairs path class = list_any (λ pair. bytes_eq path pair.0 && bytes_eq 
 abbrev pub is_record_named : List (List ℕ × List ℕ) → Recorded → Bool
 is_record_named pairs r = is_named pairs r.path r.class.path
 
--- whether a marked record has a label of this path and this class
-abbrev pub is_among_labels : List (Recorded × Bool) → List ℕ → List ℕ → Bool
-is_among_labels pairs path class = list_any (λ m. m.1 && list_any (is_label_for path class) m.0.labels) pairs
+-- whether it is known that records of a class at a path are reached: it is that of an input, or they were named
+abbrev pub is_known : List (List ℕ) → List (List ℕ × List ℕ) → List ℕ → List ℕ → Bool
+is_known inputs seen class path = has_class inputs class || is_named seen path class
 
-abbrev pub is_named_by : List Recorded → List Bool → List ℕ → List ℕ → Bool
-is_named_by records fresh path class = is_among_labels (zip records fresh) path class
+-- whether a label is the first of this path and this class
+abbrev pub is_news : List (List ℕ) → List (List ℕ × List ℕ) → List ℕ → List ℕ → Label → Bool
+is_news inputs seen class path l = is_label_for path class l && not (is_known inputs seen class path)
 
--- whether a record is named by one that was reached in the last step
-abbrev pub is_next : List Recorded → Reached → Recorded → Bool
-is_next records reached r = is_named_by records reached.fresh.items r.path r.class.path
+-- ---- records
 
--- each record with its mark
-abbrev pub pairs_of : List Recorded → Reached → List (Recorded × Bool)
-pairs_of records reached = zip records reached.marked.items
+-- the records whose class and path pass a test
+abbrev pub chosen : (List ℕ → List ℕ → Bool) → List Recorded → List Recorded
+chosen test records = filter (λ r. test r.class.path r.path) records
 
--- the marks of a record after a step in which those that pass a test are reached
-abbrev pub marked_by : (Recorded → Bool) → Recorded × Bool → Bool
-marked_by test m = m.1 || test m.0
+-- the same records, where those of one class at one path come in the same order
+abbrev pub AreSame : List Recorded → List Recorded → Type 0
+AreSame xs ys = (class path : List ℕ) → filter (is_recorded_at class path) xs ≡ filter (is_recorded_at class path) ys
 
-abbrev pub fresh_by : (Recorded → Bool) → Recorded × Bool → Bool
-fresh_by test m = not m.1 && test m.0
+-- ---- steps
 
--- the marks after a step in which the records that pass a test are reached
-pub record IsStep (test : Recorded → Bool) (pairs : List (Recorded × Bool)) (next : Reached) : Type 0 where
-  pub marked : next.marked.items ≡ map (marked_by test) pairs
-  pub fresh : next.fresh.items ≡ map (fresh_by test) pairs
+-- whether records of a class at a path are reached in so many steps
+unfoldable pub below_at : List Recorded → (List ℕ → Bool) → ℕ → List ℕ → List ℕ → Bool
+below_at records inputs zero class path = inputs class
+below_at records inputs (suc k) class path =
+    below_at records inputs k class path || list_any (λ a. below_at records inputs k a.class.path a.path && list_any (is_label_for path class) a.labels) records
 
-abbrev pub IsNext : List Recorded → Reached → Reached → Type 0
-IsNext records reached next = IsStep (is_next records reached) (pairs_of records reached) next
+-- whether they are reached in this step, and in none before
+abbrev pub fresh_at : List Recorded → (List ℕ → Bool) → ℕ → List ℕ → List ℕ → Bool
+fresh_at records inputs zero class path = below_at records inputs zero class path
+fresh_at records inputs (suc k) class path = below_at records inputs (suc k) class path && not (below_at records inputs k class path)
+
+-- what is reached in so many steps, what of it in the last, and what was named before
+pub record IsReached (records : List Recorded) (inputs : List (List ℕ)) (k : ℕ) (reached : Reached) : Type 0 where
+  pub within : reached.from ≤ length reached.records.items
+  pub all : AreSame reached.records.items (chosen (below_at records (has_class inputs) k) records)
+  pub fresh : AreSame (drop reached.from reached.records.items) (chosen (fresh_at records (has_class inputs) k) records)
+  pub known : (class path : List ℕ) → is_known inputs reached.seen.keys class path ≡ below_at records (has_class inputs) k class path
+
+-- a step more
+abbrev pub IsStep : List Recorded → List (List ℕ) → Reached → Reached → Type 0
+IsStep records inputs old new = (k : ℕ) → IsReached records inputs k old → IsReached records inputs (suc k) new
+
+-- these are all that are reached
+abbrev pub AreReached : List Recorded → (List ℕ → Bool) → List Recorded → Type 0
+AreReached records inputs found = AreSame found (chosen (below_at records inputs (length records)) records)

@@ -1,226 +1,324 @@
 //! The records below a derivation.
 
-ghost use Rattle.std.specs.Prelude.{◌≡◌, ◌||◌, ◌&&◌, not, ℕ, List, [], ◌∷◌, ◌++◌, MatchResult, OnOk, IfErr, zip};
+ghost use Rattle.std.specs.Prelude.{◌≡◌, ◌≤◌, ◌||◌, ℕ, List, [], ◌++◌, MatchResult, filter, drop, length, bytes_eq};
 ghost use Rattle.std.specs.List.{list_any};
 ghost use Rattle.model.specs.References.{is_input_class};
 ghost use Rattle.model.specs.declared.refusal.Refusal.TheVariants.{Memory};
 ghost use Rattle.candidates.specs.Below.{AreBelow};
-ghost use Rattle.candidates.specs.Reaching.{AreReached, IsNext, IsStep, is_record_named, is_label_for, is_named, is_named_by, has_class};
+ghost use Rattle.candidates.specs.Reaching.{AreReached, AreSame, IsReached, IsStep, chosen, has_class, is_label_for, is_named, is_named_in, is_news, is_record_named};
 
 use classes::{Known, input_classes, set_of};
 use derivation::Derivation;
 use indexmap::IndexSet;
 use model::Refusal;
+use realise::Desk;
 use records::{Label, Record};
 use std::alloc::Global;
 use storepath::StorePath;
 
-/// For each record, whether it was reached so far, and whether it was reached in the last step.
+/// The records that were reached so far, those of the last step behind the `from` others, and the
+/// paths and classes that labels of the others named, but for the classes of inputs.
 struct Reached {
-    marked: Vec<bool>,
-    fresh: Vec<bool>,
+    records: Vec<Record>,
+    from: usize,
+    seen: IndexSet<(StorePath, StorePath)>,
 }
 
 impl Drop for Reached {
     fn drop(self) {
         let Reached {
-            marked: _,
-            fresh: _,
+            records: _,
+            from: _,
+            seen: _,
         } = self;
     }
 }
 
 impl Reached {
-    // No records. It takes no memory.
-    fn new(alloc: Global) -> Reached
-        ensures marked { result.marked.items ≡ [] }
-        ensures fresh { result.fresh.items ≡ [] }
+    // The records of the last step.
+    fn fresh(&self) -> &[Record]
+        requires { self.now.from ≤ length self.now.records.items }
+        ensures { result.now ≡ drop self.now.from self.now.records.items }
     {
-        Reached {
-            marked: Vec::new(alloc),
-            fresh: Vec::new(alloc),
-        }
+        &self.records[self.from..]
     }
 
-    // One record more.
-    fn push(&mut self, is_marked: bool, is_fresh: bool) -> Result<(), Refusal>
-        ensures marked { OnOk result
-            (self.new.marked.items ≡ self.old.marked.items ++ is_marked ∷ []) }
-        ensures fresh { OnOk result
-            (self.new.fresh.items ≡ self.old.fresh.items ++ is_fresh ∷ []) }
-        ensures memory { IfErr result (λ e. e ≡ Memory) }
+    // All records.
+    fn into_records(self) -> Vec<Record>
+        ensures { result.items ≡ self.records.items }
     {
-        self.marked.push(is_marked)?;
-        self.fresh.push(is_fresh)?;
-        Ok(())
-    }
-
-    // The marks of what was reached so far.
-    fn into_marked(self) -> Vec<bool>
-        ensures { result.items ≡ self.marked.items }
-    {
-        let Reached { marked, fresh: _ } = self;
-        marked
+        let Reached {
+            records,
+            from: _,
+            seen: _,
+        } = self;
+        records
     }
 }
 
-// Whether a record was reached in the last step.
-fn has_fresh(reached: &Reached) -> bool
-    ensures { result ≡ list_any (λ b. b) reached.now.fresh.items }
-{
-    reached.fresh.contains(&true)
-}
-
-// The records of these classes.
-fn records_of(
-    alloc: Global,
-    classes: &IndexSet<StorePath>,
-    records: &[Record],
-) -> Result<Reached, Refusal>
+// Adds the records of a group.
+fn push_group(records: &mut Vec<Record>, group: &[Record]) -> Result<(), Refusal>
     ensures { MatchResult result
-        (λ reached. AreReached records.now (has_class classes.now.keys) 0 reached)
+        (λ _. records.new.items ≡ records.old.items ++ group.now)
         (λ e. e ≡ Memory) }
 {
-    let mut marked = Vec::new(alloc);
-    let mut fresh = Vec::new(alloc);
-    for record in records {
-        let is_input = classes.contains(record.class().path());
-        marked.push(is_input)?;
-        fresh.push(is_input)?;
-    }
-    Ok(Reached { marked, fresh })
-}
-
-// The records for the inputs of a derivation.
-fn records_of_inputs(
-    alloc: Global,
-    known: &Known,
-    derivation: &Derivation,
-    records: &[Record],
-) -> Result<Reached, Refusal>
-    ensures { MatchResult result
-        (λ reached. AreReached records.now (is_input_class known.now derivation.now) 0 reached)
-        (λ e. e ≡ Memory) }
-{
-    let classes = set_of(alloc, &input_classes(alloc, known, derivation)?)?;
-    records_of(alloc, &classes, records)
-}
-
-// Adds the path and the class of each label that has a class.
-fn add_labels(named: &mut IndexSet<(StorePath, StorePath)>, labels: &[Label]) -> Result<(), Refusal>
-    ensures { MatchResult result
-        (λ _. (path class : List ℕ) → is_named named.new.keys path class
-        ≡ (is_named named.old.keys path class || list_any (is_label_for path class) labels.now))
-        (λ e. e ≡ Memory) }
-{
-    for label in labels {
-        if let Some(class) = label.class() {
-            let pair = (label.path().clone()?, class.path().clone()?);
-            let _is_new = named.insert(pair)?;
-        }
+    for record in group {
+        records.push(record.clone()?)?;
     }
     Ok(())
-}
-
-// The paths and the classes of the labels of fresh records.
-fn named_by(
-    alloc: Global,
-    records: &[Record],
-    fresh: &[bool],
-) -> Result<IndexSet<(StorePath, StorePath)>, Refusal>
-    ensures { MatchResult result
-        (λ named. (path class : List ℕ) → is_named named.keys path class
-        ≡ is_named_by records.now fresh.now path class)
-        (λ e. e ≡ Memory) }
-{
-    let mut named = IndexSet::new(alloc);
-    for (record, is_fresh) in records.iter().zip(fresh) {
-        if *is_fresh {
-            add_labels(&mut named, record.labels())?;
-        }
-    }
-    Ok(named)
 }
 
 // Whether a record is named.
 fn is_named(named: &IndexSet<(StorePath, StorePath)>, one: &Record) -> Result<bool, Refusal>
     ensures { MatchResult result
-        (λ b. b ≡ is_named named.now.keys one.now.path one.now.class.path)
+        (λ b. b ≡ is_record_named named.now.keys one.now)
         (λ e. e ≡ Memory) }
 {
     let pair = (one.path().clone()?, one.class().path().clone()?);
     Ok(named.contains(&pair))
 }
 
-// Whether a record is marked after one step more, and whether it is reached in that step.
-fn next_marks(
+// Adds the records of a group that are named.
+fn push_named(
+    records: &mut Vec<Record>,
     named: &IndexSet<(StorePath, StorePath)>,
-    one: &Record,
-    was_marked: bool,
-) -> Result<(bool, bool), Refusal>
-    ensures { let is_next = is_named named.now.keys one.now.path one.now.class.path in
-        MatchResult result
-        (λ marks. (marks.0 ≡ (was_marked || is_next)) × (marks.1 ≡ (not was_marked && is_next)))
+    group: &[Record],
+) -> Result<(), Refusal>
+    ensures { MatchResult result
+        (λ _. records.new.items ≡ records.old.items
+        ++ filter (is_record_named named.now.keys) group.now)
         (λ e. e ≡ Memory) }
 {
-    if was_marked {
-        return Ok((true, false));
+    for record in group {
+        if is_named(named, record)? {
+            records.push(record.clone()?)?;
+        }
     }
-    let is_fresh = is_named(named, one)?;
-    Ok((is_fresh, is_fresh))
+    Ok(())
 }
 
-// The marks of each record after one step more, in which those that are named are reached.
-fn step_to(
+// The records of these classes. No others are looked at.
+fn records_of(
+    alloc: Global,
+    desk: &Desk,
+    classes: &IndexSet<StorePath>,
+) -> Result<Vec<Record>, Refusal>
+    ensures { MatchResult result
+        (λ found. AreSame found.items
+        (chosen (λ class path. has_class classes.now.keys class) desk.now.records))
+        (λ e. e ≡ Memory) }
+{
+    let mut found = Vec::new(alloc);
+    for class in classes.as_slice() {
+        push_group(&mut found, desk.records_of(class))?;
+    }
+    Ok(found)
+}
+
+// The classes of paths that are named.
+fn classes_of(
     alloc: Global,
     named: &IndexSet<(StorePath, StorePath)>,
-    records: &[Record],
-    marked: &[bool],
-) -> Result<Reached, Refusal>
+) -> Result<IndexSet<StorePath>, Refusal>
     ensures { MatchResult result
-        (λ next. IsStep (is_record_named named.now.keys) (zip records.now marked.now) next)
+        (λ classes. (class : List ℕ) → has_class classes.keys class
+        ≡ list_any (λ pair. bytes_eq class pair.1) named.now.keys)
         (λ e. e ≡ Memory) }
 {
-    let mut next = Reached::new(alloc);
-    for (record, was_marked) in records.iter().zip(marked) {
-        let (is_marked, is_fresh) = next_marks(named, record, *was_marked)?;
-        next.push(is_marked, is_fresh)?;
+    let mut classes = IndexSet::new(alloc);
+    for pair in named.as_slice() {
+        let _is_new = classes.insert(pair.1.clone()?)?;
     }
-    Ok(next)
+    Ok(classes)
 }
 
-// What is reached in one step more.
-fn one_step(alloc: Global, records: &[Record], reached: &Reached) -> Result<Reached, Refusal>
+// The records that are named. Only those of their classes are looked at.
+fn records_named(
+    alloc: Global,
+    desk: &Desk,
+    named: &IndexSet<(StorePath, StorePath)>,
+) -> Result<Vec<Record>, Refusal>
     ensures { MatchResult result
-        (λ next. IsNext records.now reached.now next)
+        (λ found. AreSame found.items
+        (chosen (λ class path. is_named named.now.keys path class) desk.now.records))
         (λ e. e ≡ Memory) }
 {
-    let named = named_by(alloc, records, &reached.fresh)?;
-    step_to(alloc, &named, records, &reached.marked)
+    let classes = classes_of(alloc, named)?;
+    let mut found = Vec::new(alloc);
+    for class in classes.as_slice() {
+        push_named(&mut found, named, desk.records_of(class))?;
+    }
+    Ok(found)
 }
 
-/// For each record of a desk, whether it is one for an input of the derivation, or is referred to
-/// from there, directly or through others.
+// Adds the path and the class of a label that has a class, unless it is one of these, or they were
+// seen.
+fn add_label(
+    named: &mut IndexSet<(StorePath, StorePath)>,
+    inputs: &IndexSet<StorePath>,
+    seen: &IndexSet<(StorePath, StorePath)>,
+    label: &Label,
+) -> Result<(), Refusal>
+    ensures { MatchResult result
+        (λ _. (path class : List ℕ) → is_named named.new.keys path class
+        ≡ (is_named named.old.keys path class
+        || is_news inputs.now.keys seen.now.keys class path label.now))
+        (λ e. e ≡ Memory) }
+{
+    let Some(class) = label.class() else {
+        return Ok(());
+    };
+    if inputs.contains(class.path()) {
+        return Ok(());
+    }
+    let pair = (label.path().clone()?, class.path().clone()?);
+    if !seen.contains(&pair) {
+        let _is_new = named.insert(pair)?;
+    }
+    Ok(())
+}
+
+// Adds those of labels.
+fn add_labels(
+    named: &mut IndexSet<(StorePath, StorePath)>,
+    inputs: &IndexSet<StorePath>,
+    seen: &IndexSet<(StorePath, StorePath)>,
+    labels: &[Label],
+) -> Result<(), Refusal>
+    ensures { MatchResult result
+        (λ _. (path class : List ℕ) → is_named named.new.keys path class
+        ≡ (is_named named.old.keys path class
+        || list_any (is_news inputs.now.keys seen.now.keys class path) labels.now))
+        (λ e. e ≡ Memory) }
+{
+    for label in labels {
+        add_label(named, inputs, seen, label)?;
+    }
+    Ok(())
+}
+
+// The paths and classes that labels of these records name, and that were not seen before.
+fn named_by(
+    alloc: Global,
+    inputs: &IndexSet<StorePath>,
+    seen: &IndexSet<(StorePath, StorePath)>,
+    fresh: &[Record],
+) -> Result<IndexSet<(StorePath, StorePath)>, Refusal>
+    ensures { MatchResult result
+        (λ named. (path class : List ℕ) → is_named named.keys path class
+        ≡ list_any (λ r. list_any (is_news inputs.now.keys seen.now.keys class path) r.labels)
+        fresh.now)
+        (λ e. e ≡ Memory) }
+{
+    let mut named = IndexSet::new(alloc);
+    for record in fresh {
+        add_labels(&mut named, inputs, seen, record.labels())?;
+    }
+    Ok(named)
+}
+
+// Adds pairs to others.
+fn add_pairs(
+    seen: &mut IndexSet<(StorePath, StorePath)>,
+    named: &IndexSet<(StorePath, StorePath)>,
+) -> Result<(), Refusal>
+    ensures { MatchResult result
+        (λ _. (path class : List ℕ) → is_named seen.new.keys path class
+        ≡ (is_named seen.old.keys path class || is_named named.now.keys path class))
+        (λ e. e ≡ Memory) }
+{
+    for pair in named.as_slice() {
+        let copy = (pair.0.clone()?, pair.1.clone()?);
+        let _is_new = seen.insert(copy)?;
+    }
+    Ok(())
+}
+
+// The classes of the inputs of a derivation.
+fn inputs_of(
+    alloc: Global,
+    known: &Known,
+    derivation: &Derivation,
+) -> Result<IndexSet<StorePath>, Refusal>
+    ensures { MatchResult result
+        (λ inputs. (class : List ℕ) → has_class inputs.keys class
+        ≡ is_input_class known.now derivation.now class)
+        (λ e. e ≡ Memory) }
+{
+    set_of(alloc, &input_classes(alloc, known, derivation)?)
+}
+
+// The records of the inputs' classes, with no step.
+fn no_step(alloc: Global, desk: &Desk, inputs: &IndexSet<StorePath>) -> Result<Reached, Refusal>
+    ensures { MatchResult result
+        (λ reached. IsReached desk.now.records inputs.now.keys 0 reached)
+        (λ e. e ≡ Memory) }
+{
+    let records = records_of(alloc, desk, inputs)?;
+    Ok(Reached {
+        records,
+        from: 0,
+        seen: IndexSet::new(alloc),
+    })
+}
+
+// One step more: what the labels of the last step's records name.
+fn one_step(
+    alloc: Global,
+    desk: &Desk,
+    inputs: &IndexSet<StorePath>,
+    reached: &mut Reached,
+) -> Result<(), Refusal>
+    requires { reached.old.from ≤ length reached.old.records.items }
+    ensures { MatchResult result
+        (λ _. IsStep desk.now.records inputs.now.keys reached.old reached.new)
+        (λ e. e ≡ Memory) }
+{
+    let named = named_by(alloc, inputs, &reached.seen, reached.fresh())?;
+    let next = records_named(alloc, desk, &named)?;
+    add_pairs(&mut reached.seen, &named)?;
+    reached.from = reached.records.len();
+    push_group(&mut reached.records, &next)
+}
+
+// What is reached from the records of the inputs' classes, until a step reaches nothing.
+fn all_steps(
+    alloc: Global,
+    desk: &Desk,
+    inputs: &IndexSet<StorePath>,
+) -> Result<Vec<Record>, Refusal>
+    ensures { MatchResult result
+        (λ found. AreReached desk.now.records (has_class inputs.now.keys) found.items)
+        (λ e. e ≡ Memory) }
+{
+    let mut reached = no_step(alloc, desk, inputs)?;
+    for _step in 0..desk.records().len() {
+        if reached.fresh().is_empty() {
+            return Ok(reached.into_records());
+        }
+        one_step(alloc, desk, inputs, &mut reached)?;
+    }
+    Ok(reached.into_records())
+}
+
+/// The records of a desk that are those for an input of the derivation, or are referred to from there,
+/// directly or through others. Those of one class at one path come in their order.
+///
+/// Only records of the inputs' classes, and of those that the labels of records below name, are
+/// looked at: with no inputs none is.
 ///
 /// # Errors
 ///
 /// - `Memory` only where memory was refused.
 pub fn records_below(
     alloc: Global,
-    known: &Known,
+    desk: &Desk,
     derivation: &Derivation,
-    records: &[Record],
-) -> Result<Vec<bool>, Refusal>
+) -> Result<Vec<Record>, Refusal>
     ensures { MatchResult result
-        (λ marks. AreBelow known.now derivation.now records.now marks.items)
+        (λ found. AreBelow desk.now.known derivation.now desk.now.records found.items)
         (λ e. e ≡ Memory) }
 {
-    let mut reached = records_of_inputs(alloc, known, derivation, records)?;
-    for _step in 0..records.len() {
-        if !has_fresh(&reached) {
-            return Ok(reached.into_marked());
-        }
-        reached = one_step(alloc, records, &reached)?;
-    }
-    Ok(reached.into_marked())
+    let inputs = inputs_of(alloc, desk.known(), derivation)?;
+    all_steps(alloc, desk, &inputs)
 }

@@ -1,15 +1,15 @@
 //! What an output may refer to.
 
-ghost use Rattle.std.specs.Prelude.{◌≡◌, ◌++◌, IfOk, MatchResult, map, filter, zip};
+ghost use Rattle.std.specs.Prelude.{◌≡◌, ◌++◌, IfOk, MatchResult, map};
 ghost use Rattle.model.specs.declared.refusal.Refusal.TheVariants.{Memory};
 ghost use Rattle.candidates.specs.Below.{AreCandidates};
-ghost use Rattle.records.specs.Ordered.{source_label, marked_labels};
+ghost use Rattle.records.specs.Ordered.{source_label, record_label};
 ghost use Rattle.records.specs.Recorded.{AreInPathOrder};
 
 use crate::below::records_below;
-use classes::Known;
 use derivation::Derivation;
 use model::Refusal;
+use realise::Desk;
 use records::{Label, Record, labels_in_order};
 use std::alloc::Global;
 use storepath::StorePath;
@@ -27,17 +27,15 @@ fn source_labels(alloc: Global, sources: &[StorePath]) -> Result<Vec<Label>, Ref
     Ok(labels)
 }
 
-// Adds a label for each record that is marked.
-fn push_marked(labels: &mut Vec<Label>, records: &[Record], marks: &[bool]) -> Result<(), Refusal>
+// Adds a label for each record.
+fn push_labels(labels: &mut Vec<Label>, records: &[Record]) -> Result<(), Refusal>
     ensures { MatchResult result
-        (λ _. labels.new.items ≡ labels.old.items ++ marked_labels records.now marks.now)
+        (λ _. labels.new.items ≡ labels.old.items ++ map record_label records.now)
         (λ e. e ≡ Memory) }
 {
-    for (record, is_marked) in records.iter().zip(marks) {
-        if *is_marked {
-            let class = record.class().clone()?;
-            labels.push(Label::new(record.path().clone()?, Some(class)))?;
-        }
+    for record in records {
+        let class = record.class().clone()?;
+        labels.push(Label::new(record.path().clone()?, Some(class)))?;
     }
     Ok(())
 }
@@ -50,17 +48,16 @@ fn push_marked(labels: &mut Vec<Label>, records: &[Record], marks: &[bool]) -> R
 /// - `Memory` only where memory was refused.
 pub fn candidates(
     alloc: Global,
-    known: &Known,
+    desk: &Desk,
     derivation: &Derivation,
-    records: &[Record],
 ) -> Result<Vec<Label>, Refusal>
     ensures candidates { MatchResult result
-        (λ labels. AreCandidates known.now derivation.now records.now labels.items)
+        (λ labels. AreCandidates desk.now.known derivation.now desk.now.records labels.items)
         (λ e. e ≡ Memory) }
     ensures in_order { IfOk result (λ labels. AreInPathOrder labels.items) }
 {
-    let marks = records_below(alloc, known, derivation, records)?;
-    let mut labels = source_labels(alloc, known.sources())?;
-    push_marked(&mut labels, records, &marks)?;
+    let records = records_below(alloc, desk, derivation)?;
+    let mut labels = source_labels(alloc, desk.known().sources())?;
+    push_labels(&mut labels, &records)?;
     labels_in_order(alloc, labels)
 }

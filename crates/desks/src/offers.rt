@@ -94,7 +94,7 @@ fn output_for(
     ensures output { IfOk result (λ o. IsOutput desk.now admitted.now tree.now o.0 o.1) }
     ensures refused { IfErr result (IsNoOutput desk.now admitted.now tree.now) }
 {
-    let labels = candidates(alloc, desk.known(), admitted.derivation(), desk.records())?;
+    let labels = candidates(alloc, desk, admitted.derivation())?;
     let output = output_of(alloc, settlements, admitted, &labels, tree)?;
     recorded(alloc, admitted, &labels, &output)
 }
@@ -149,7 +149,7 @@ pub fn input_for_offer(
     let Some(admitted) = desk.derivation(path) else {
         return Ok(None);
     };
-    let labels = candidates(alloc, desk.known(), admitted.derivation(), desk.records())?;
+    let labels = candidates(alloc, desk, admitted.derivation())?;
     let own = admitted.class().path();
     let input = Input::new(alloc, own, &labels, admitted.derivation())?;
     Ok(Some(input))

@@ -1,10 +1,12 @@
 -- Records in the groups of their classes.
-use Rattle.std.proofs.Common.{◌≡◌, ℕ, Bool, true, inl, inr, List, [], ◌∷◌, ◌++◌, append-nil, refl, sym, ap, ◌∙◌}
+use Rattle.std.proofs.Common.{◌≡◌, ℕ, Bool, true, false, inl, inr, List, [], ◌∷◌, ◌++◌, map, append-nil, refl, sym, ap, ◌∙◌}
 use Rattle.std.specs.Prelude.{filter, bytes_eq, ◌&&◌, if◌then◌else◌}
 use Rattle.std.specs.List.{list_any}
 use Rattle.std.specs.Cmp.Lexicographic.{pointwise}
 use Rattle.std.specs.Global.{Vec}
 use Rattle.std.proofs.lemmas.List.Elements.{filter-append}
+use Rattle.std.proofs.lemmas.Bool.{or_parts}
+use Rattle.model.specs.Classes.{is_one_of}
 use Rattle.model.specs.Worlds.{same_label}
 use Rattle.model.proofs.BoolLemmas.{either, both_parts}
 use Rattle.records.specs.Recorded.{Recorded, same_recorded}
@@ -46,3 +48,13 @@ pub indexed_more : (old new : List (List ℕ × Vec Recorded)) (records : List R
     → IsIndexed new (records ++ r ∷ [])
 indexed_more old new records r is put class =
     put class ∙ ap (λ (group : List Recorded). if is_record_of class r then group ++ r ∷ [] else group) (is class) ∙ filter_last class records r
+
+-- ---- where no record is at the path
+
+pub none_at_path : (r : Recorded) (records : List Recorded) → is_one_of (map (λ q. q.path) records) r.path ≡ false
+    → list_any (λ q. same_recorded q r) records ≡ false
+none_at_path r [] none = refl
+none_at_path r (q ∷ records) none =
+    let both = or_parts (bytes_eq q.path r.path) (is_one_of (map (λ q. q.path) records) r.path) none in
+    let rest = none_at_path r records both.1 in
+    elim (either (bytes_eq q.class.path r.class.path)) [ inl t ↦ rw (t, both.0) rest | inr n ↦ rw n rest ]

@@ -1,5 +1,6 @@
 pub mod AdditionLemmas
 pub mod PinLemmas
+pub mod CountedLemmas
 pub mod DeskLemmas
 pub mod ChargingLemmas
 pub mod SeveralLemmas

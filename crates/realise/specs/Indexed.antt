@@ -4,6 +4,7 @@ use Rattle.std.specs.Map.{lookup}
 use Rattle.std.specs.Global.{Vec}
 use Rattle.model.specs.Worlds.{Pin}
 use Rattle.records.specs.Recorded.{Recorded}
+use Rattle.realise.specs.Counted.{Used, IsCounted}
 use Rattle.realise.specs.Holdings.{is_record_of, remaining}
 
 -- the pins of a map's entries
@@ -24,6 +25,11 @@ group_at class groups = items_of (lookup (bytes_eq class) groups)
 -- each class has its records there, the oldest first
 abbrev pub IsIndexed : List (List ℕ × Vec Recorded) → List Recorded → Type 0
 IsIndexed groups records = (class : List ℕ) → group_at class groups ≡ filter (is_record_of class) records
+
+-- and what the records are counted for is so
+pub record AreTabled (groups : List (List ℕ × Vec Recorded)) (uses : Used) (records : List Recorded) : Type 0 where
+  pub indexed : IsIndexed groups records
+  pub counted : IsCounted uses records
 
 -- one record more is in the group of its class, and no other group has changed
 abbrev pub IsGrouped : List (List ℕ × Vec Recorded) → Recorded → List (List ℕ × Vec Recorded) → Type 0

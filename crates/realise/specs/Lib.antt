@@ -1,4 +1,5 @@
 pub mod Additions
+pub mod Counted
 pub mod Held
 pub mod Holdings
 pub mod Indexed

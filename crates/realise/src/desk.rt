@@ -215,11 +215,12 @@ impl Desk {
         self.holding.paths()
     }
 
-    /// Whether a record is on the desk. Only those of its class are looked at.
+    /// Whether a record is on the desk. Only those of its class are looked at, and none where none is at
+    /// its path.
     fn has_record(&self, added: &Record) -> bool
         ensures { result ≡ list_any (λ r. same_recorded r added.now) self.now.records }
     {
-        added.is_among(self.records_of(added.class().path()))
+        self.records.has_path(added.path()) && added.is_among(self.records_of(added.class().path()))
     }
 
     /// Whether an entry is on the desk.

@@ -1,15 +1,15 @@
 //! Forgetting what was built.
 
-ghost use Rattle.std.specs.Prelude.{◌≡◌, ◌++◌, ◌&&◌, true, false, not, map, bytes_eq};
+ghost use Rattle.std.specs.Prelude.{◌≡◌, ◌++◌, true, false, map, bytes_eq};
 ghost use Rattle.std.specs.List.{list_any};
 ghost use Rattle.model.specs.Classes.{is_one_of};
-ghost use Rattle.model.specs.ForgetRequests.{is_class_at};
 ghost use Rattle.realise.specs.Held.{paths_held};
-ghost use Rattle.realise.specs.Holdings.{is_recorded_at, remaining, refers_to, is_needed, without_records};
+ghost use Rattle.realise.specs.Holdings.{is_recorded_at, remaining, is_needed, without_records};
 
+use crate::by_class::Records;
 use crate::desk::Desk;
 use admitted::Known;
-use records::{Label, Record};
+use records::Record;
 use storepath::StorePath;
 
 /// Whether a record is of a class, at a path.
@@ -26,36 +26,6 @@ pub(crate) fn remove_records(records: &mut Vec<Record>, class: &StorePath, path:
     records.retain(|one| !is_recorded_at(class, path, one));
 }
 
-/// Whether a label is that of a class at a path.
-fn is_label_of(class: &StorePath, path: &StorePath, label: &Label) -> bool
-    ensures { result ≡ is_class_at class.now path.now label.now.path label.now.class }
-{
-    match label.class() {
-        Some(own) => own.path() == class && label.path() == path,
-        None => false,
-    }
-}
-
-/// Whether a record has a label of a class at a path.
-fn refers_to(class: &StorePath, path: &StorePath, one: &Record) -> bool
-    ensures { result ≡ refers_to class.now path.now one.now }
-{
-    for label in one.labels() {
-        if is_label_of(class, path, label) {
-            return true;
-        }
-    }
-    false
-}
-
-/// Whether a record is none of a class at a path, and has a label of it.
-fn needs(class: &StorePath, path: &StorePath, one: &Record) -> bool
-    ensures { result ≡ (not (is_recorded_at class.now path.now one.now)
-        && refers_to class.now path.now one.now) }
-{
-    !is_recorded_at(class, path, one) && refers_to(class, path, one)
-}
-
 /// Whether one of the records is of a class, at a path.
 fn has_record(class: &StorePath, path: &StorePath, records: &[Record]) -> bool
     ensures { result ≡ list_any (is_recorded_at class.now path.now) records.now }
@@ -68,37 +38,11 @@ fn has_record(class: &StorePath, path: &StorePath, records: &[Record]) -> bool
     false
 }
 
-/// Whether one of the records is none of a class at a path, and has a label of it.
-fn need(class: &StorePath, path: &StorePath, records: &[Record]) -> bool
-    ensures { result ≡ list_any
-        (λ r. not (is_recorded_at class.now path.now r) && refers_to class.now path.now r)
-        records.now }
-{
-    for record in records {
-        if needs(class, path, record) {
-            return true;
-        }
-    }
-    false
-}
-
-/// Whether one of the records has a path.
-fn has_path(records: &[Record], path: &StorePath) -> bool
-    ensures { result ≡ is_one_of (map (λ r. r.path) records.now) path.now }
-{
-    for record in records {
-        if *record.path() == *path {
-            return true;
-        }
-    }
-    false
-}
-
-/// Whether a source or a record is at a path.
-fn is_there(known: &Known, records: &[Record], path: &StorePath) -> bool
+/// Whether a source or a record is at a path. No record is looked at.
+fn is_there(known: &Known, records: &Records, path: &StorePath) -> bool
     ensures { result ≡ is_one_of (known.now.sources ++ map (λ r. r.path) records.now) path.now }
 {
-    known.has_source(path) || has_path(records, path)
+    known.has_source(path) || records.has_path(path)
 }
 
 impl Desk {
@@ -109,11 +53,12 @@ impl Desk {
         has_record(class, path, self.records_of(class))
     }
 
-    /// Whether a record has a label of a class at a path, and is not itself of that class at that path.
+    /// Whether a record has a label of a class at a path, and is not itself of that class at that path. That
+    /// is counted, and no record is looked at.
     pub fn needs(&self, class: &StorePath, path: &StorePath) -> bool
         ensures { result ≡ is_needed class.now path.now self.now }
     {
-        need(class, path, self.records())
+        self.records.need(class, path)
     }
 
     /// Takes the records of a class at a path away, which no label of another record names. Where no
@@ -125,7 +70,7 @@ impl Desk {
         ensures held { list_any (bytes_eq path.now) (paths_held self.old.archives) ≡ true }
     {
         self.records.remove(class, path);
-        if !is_there(&self.known, self.records.as_slice(), path) {
+        if !is_there(&self.known, &self.records, path) {
             self.holding.remove(path);
         }
     }

@@ -1,7 +1,7 @@
 //! Records by their classes.
 
 ghost use Rattle.std.specs.Prelude.{◌≡◌, ◌++◌, ◌∷◌, [], MatchResult};
-ghost use Rattle.realise.specs.Indexed.{IsGrouped, IsUngrouped, IsCleared, HasSameGroups};
+ghost use Rattle.realise.specs.Indexed.{group_at, IsGrouped, IsUngrouped, IsCleared, HasSameGroups};
 ghost use Rattle.model.specs.declared.refusal.Refusal.TheVariants.{Memory};
 
 use crate::forgetting::remove_records;
@@ -31,6 +31,19 @@ fn group_of(alloc: Global, one: Record) -> Result<Vec<Record>, Refusal>
     let mut group = Vec::new(alloc);
     group.push(one)?;
     Ok(group)
+}
+
+/// The group of a class: none of its records, where it has none.
+pub(crate) fn group_of_class<'a>(
+    groups: &'a IndexMap<StorePath, Vec<Record>, RandomState>,
+    class: &StorePath,
+) -> &'a [Record]
+    ensures { result.now ≡ group_at class.now groups.now.entries }
+{
+    match groups.get(class) {
+        Some(group) => group.as_slice(),
+        None => &[],
+    }
 }
 
 /// Puts a record into the group of its class, the newest last. The one error is memory, and changes

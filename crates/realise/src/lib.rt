@@ -3,13 +3,16 @@
 
 mod additions;
 mod by_class;
+mod counts;
 mod desk;
 mod forgetting;
 mod groups;
 mod holding;
 mod limits;
+mod names;
 mod parts;
 mod pins;
+mod uses;
 
 pub use additions::{Addition, add_to_each};
 pub use desk::Desk;

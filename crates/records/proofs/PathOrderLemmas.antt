@@ -22,16 +22,16 @@ use Rattle.records.specs.Recorded.{AreInPathOrder}
 
 -- ---- paths
 
-bytes_weak : IsStrictWeakOrder bytes_before
+pub bytes_weak : IsStrictWeakOrder bytes_before
 bytes_weak = ranks_by nat_list_cmp_total (λ x. x)
 
 clash : (b : Bool) → b ≡ true → b ≡ false → ⊥
 clash b t f = let e = sym t ∙ f in cc
 
-irreflexive : (p : List ℕ) → bytes_before p p ≡ false
+pub irreflexive : (p : List ℕ) → bytes_before p p ≡ false
 irreflexive p = elim (either (bytes_before p p)) [ inl t ↦ bytes_weak.one_way p p t | inr f ↦ f ]
 
-goes_on : (p q r : List ℕ) → bytes_before p q ≡ true → bytes_before q r ≡ true → bytes_before p r ≡ true
+pub goes_on : (p q r : List ℕ) → bytes_before p q ≡ true → bytes_before q r ≡ true → bytes_before p r ≡ true
 goes_on p q r h k = elim (either (bytes_before p r)) [
   | inl t ↦ t
   | inr f ↦ absurd (clash (bytes_before p q) h (bytes_weak.chain p r q f (bytes_weak.one_way q r k)))
@@ -45,7 +45,7 @@ no_order Greater Equal e p q = cc
 no_order Greater Greater e p q = cc
 
 -- one of two other paths goes before the other
-other_way : (p q : List ℕ) → bytes_before p q ≡ false → bytes_eq p q ≡ false → bytes_before q p ≡ true
+pub other_way : (p q : List ℕ) → bytes_before p q ≡ false → bytes_eq p q ≡ false → bytes_before q p ≡ true
 other_way p q h n = elim (either (bytes_before q p)) [
   | inl t ↦ t
   | inr f ↦

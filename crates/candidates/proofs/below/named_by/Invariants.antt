@@ -1,9 +1,10 @@
-use Rattle.std.proofs.Common.{◌≡◌, ◌||◌, ℕ, List}
-use Rattle.candidates.specs.Reaching.{is_named, is_among_labels, is_named_by}
-use Rattle.candidates.proofs.ZipLemmas.{pairs_left}
+use Rattle.std.proofs.Common.{◌≡◌, ◌||◌, ℕ, List, drop}
+use Rattle.std.specs.List.{list_any}
+use Rattle.candidates.specs.Reaching.{is_named, is_news}
 use Rattle.candidates.proofs.below.named_by.Given as goal
 
 abbrev pub invariant-loop-record : goal.invariant-loop-record
 invariant-loop-record l =
-    (path class : List ℕ) → (is_named l.named.keys path class || is_among_labels (pairs_left l.record-iterator) path class)
-    ≡ is_named_by l.records l.fresh path class
+    (path class : List ℕ)
+    → (is_named l.named.keys path class || list_any (λ r. list_any (is_news l.inputs.keys l.seen.keys class path) r.labels) (drop l.record-index l.fresh))
+    ≡ list_any (λ r. list_any (is_news l.inputs.keys l.seen.keys class path) r.labels) l.fresh

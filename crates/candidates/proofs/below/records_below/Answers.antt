@@ -1,29 +1,12 @@
-use Rattle.std.proofs.Common.{rules, ◌≡◌, ◌+◌, ℕ, suc, false, Bool, map, length, ap, sym, subst, ◌∙◌, arith}
-use Rattle.std.specs.List.{list_any}
-use Rattle.model.specs.Worlds.{Record}
-use Rattle.model.specs.References.{is_input_class, is_below}
-use Rattle.candidates.specs.Reaching.{AreReached, is_fresh}
-use Rattle.candidates.proofs.StepLemmas.{next_reached, stays, as_long}
+use Rattle.std.proofs.Common.{ap, ◌∙◌}
+use Rattle.std.proofs.lemmas.Result.{MatchResult-weaker}
+use Rattle.model.specs.Classes.{Known}
+use Rattle.model.specs.References.{is_input_class}
+use Rattle.candidates.proofs.StepLemmas.{below_are}
 use Rattle.candidates.proofs.below.records_below.Goals as goal
 
-pub loop-step-preserved : goal.loop-step-preserved
-loop-step-preserved c =
-    let inputs = is_input_class c.args.known.now c.args.derivation.now in
-    let Reaches : ℕ → Type 0 = λ k. AreReached c.args.records.now inputs k c.in_ok-reached-2.reached in
-    let one : suc c.loop-step._step ≡ c.loop-step._step + 1 = omega arith in
-    subst Reaches one (next_reached c.args.records.now inputs c.loop-step._step c.loop-step.reached c.in_ok-reached-2.reached c.loop-step.invariant c.in_ok-reached-2.ensures)
-
-pub returns-then-not-has_fresh : goal.returns-then-not-has_fresh
-returns-then-not-has_fresh c whole e =
-    let inputs = is_input_class c.args.known.now c.args.derivation.now in
-    let long = as_long whole c.args.records.now e in
-    let none : list_any (λ b. b) c.loop-step.reached.fresh.items ≡ false = search rules in
-    let none_of : list_any (λ b. b) (map (is_fresh whole inputs c.loop-step._step) whole) ≡ false = ap (list_any (λ b. b)) (sym (c.loop-step.invariant whole e).1) ∙ none in
-    c.into_marked.ensures ∙ (c.loop-step.invariant whole e).0
-    ∙ ap (λ (p : Record → Bool). map p whole) (sym (stays whole inputs c.loop-step._step none_of (length whole) (omega arith)))
-
 pub returns : goal.returns
-returns c whole e =
-    let inputs = is_input_class c.args.known.now c.args.derivation.now in
-    let all : c.loop-step._step ≡ length whole = omega (arith, as_long whole c.args.records.now e) in
-    c.into_marked-2.ensures ∙ (c.loop-step.invariant whole e).0 ∙ ap (λ k. map (is_below whole inputs k) whole) all
+returns c =
+    MatchResult-weaker c.all_steps.result c.all_steps.ensures
+    (λ found are. below_are c.args.desk.now.known c.args.derivation.now c.args.desk.now.records found.items c.in_ok-inputs.inputs.keys
+    (λ class. c.in_ok-inputs.ensures class ∙ ap (λ (k : Known). is_input_class k c.args.derivation.now class) c.known.ensures) are) (λ e memory. memory)

@@ -1,10 +1,8 @@
-use Rattle.std.proofs.Common.{◌≡◌, map, take}
-use Rattle.std.specs.Prelude.{bytes_eq}
-use Rattle.std.specs.List.{list_any}
+use Rattle.std.proofs.Common.{◌≡◌, take}
+use Rattle.std.specs.Prelude.{filter}
+use Rattle.realise.specs.Holdings.{is_record_of}
+use Rattle.candidates.proofs.StepLemmas.{joined}
 use Rattle.candidates.proofs.below.records_of.Given as goal
 
-abbrev pub invariant-loop-record : goal.invariant-loop-record
-invariant-loop-record l = record {
-  marked : l.marked.items ≡ map (λ r. list_any (bytes_eq r.class.path) l.classes.keys) (take l.record-index l.records);
-  fresh : l.fresh.items ≡ map (λ r. list_any (bytes_eq r.class.path) l.classes.keys) (take l.record-index l.records);
-}
+abbrev pub invariant-loop-class : goal.invariant-loop-class
+invariant-loop-class l = l.found.items ≡ joined (λ c. filter (is_record_of c) l.desk.records) (take l.class-index l.classes.keys)

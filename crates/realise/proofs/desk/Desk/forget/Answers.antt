@@ -24,7 +24,7 @@ invariant_of-self c =
     let class = c.args.class.now in
     let path = c.args.path.now in
     let gone : stays_held class path (holdings_of d) ≡ false =
-    ap (λ (rs : List Recorded). is_one_of (d.known.sources ++ map (λ r. r.path) rs) path) (sym (c.as_slice.ensures ∙ c.remove.ensures)) ∙ sym c.is_there.ensures ∙ c.if-not-is_there.true in
+    ap (λ (rs : List Recorded). is_one_of (d.known.sources ++ map (λ r. r.path) rs) path) (sym (c.remove.ensures)) ∙ sym c.is_there.ensures ∙ c.if-not-is_there.true in
     gone_consistent d c.self.invariant class path c.remove.new.self c.remove.ensures c.remove-then-not-is_there.new.self c.remove-then-not-is_there.ensures.removed
     c.remove-then-not-is_there.ensures.gone gone (free_too d c.args.self.now c.self.view_is class path c.requires.free)
 
@@ -34,7 +34,7 @@ invariant_of-self-else-not-is_there c =
     let class = c.args.class.now in
     let path = c.args.path.now in
     let stays : stays_held class path (holdings_of d) ≡ true =
-    ap (λ (rs : List Recorded). is_one_of (d.known.sources ++ map (λ r. r.path) rs) path) (sym (c.as_slice.ensures ∙ c.remove.ensures)) ∙ sym c.is_there.ensures ∙ c.if-not-is_there.false in
+    ap (λ (rs : List Recorded). is_one_of (d.known.sources ++ map (λ r. r.path) rs) path) (sym (c.remove.ensures)) ∙ sym c.is_there.ensures ∙ c.if-not-is_there.false in
     kept_consistent d c.self.invariant class path c.remove.new.self c.remove.ensures stays (free_too d c.args.self.now c.self.view_is class path c.requires.free)
     (is_there_too d c.args.self.now c.self.view_is class path c.requires.there)
 
@@ -44,7 +44,7 @@ returns-then-not-is_there-clause-value c =
     let class = c.args.class.now in
     let path = c.args.path.now in
     let gone : stays_held class path (holdings_of d) ≡ false =
-    ap (λ (rs : List Recorded). is_one_of (d.known.sources ++ map (λ r. r.path) rs) path) (sym (c.as_slice.ensures ∙ c.remove.ensures)) ∙ sym c.is_there.ensures ∙ c.if-not-is_there.true in
+    ap (λ (rs : List Recorded). is_one_of (d.known.sources ++ map (λ r. r.path) rs) path) (sym (c.remove.ensures)) ∙ sym c.is_there.ensures ∙ c.if-not-is_there.true in
     gone_view d c.self.invariant class path c.remove.new.self c.remove.ensures c.remove-then-not-is_there.new.self c.remove-then-not-is_there.ensures.removed
     c.remove-then-not-is_there.ensures.gone gone ∙ ap (without_records class path) c.self.view_is
 
@@ -61,7 +61,7 @@ returns-else-not-is_there-clause-value c =
     let class = c.args.class.now in
     let path = c.args.path.now in
     let stays : stays_held class path (holdings_of d) ≡ true =
-    ap (λ (rs : List Recorded). is_one_of (d.known.sources ++ map (λ r. r.path) rs) path) (sym (c.as_slice.ensures ∙ c.remove.ensures)) ∙ sym c.is_there.ensures ∙ c.if-not-is_there.false in
+    ap (λ (rs : List Recorded). is_one_of (d.known.sources ++ map (λ r. r.path) rs) path) (sym (c.remove.ensures)) ∙ sym c.is_there.ensures ∙ c.if-not-is_there.false in
     kept_view d c.self.invariant class path c.remove.new.self c.remove.ensures stays ∙ ap (without_records class path) c.self.view_is
 
 pub returns-else-not-is_there-clause-held : goal.returns-else-not-is_there-clause-held

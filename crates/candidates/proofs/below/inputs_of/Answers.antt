@@ -1,12 +1,11 @@
-use Rattle.std.proofs.Common.{◌≡◌, ◌||◌, [], ◌∷◌, refl, ◌∙◌, ap, subst}
-use Rattle.std.specs.Prelude.{bytes_eq, filter_map, Some, None, Option, List, ℕ, Bool, MatchResult}
+use Rattle.std.proofs.Common.{◌≡◌, ◌||◌, [], ◌∷◌, refl, ◌∙◌, ap}
+use Rattle.std.specs.Prelude.{bytes_eq, filter_map, Some, None, Option, List, ℕ}
 use Rattle.std.specs.List.{list_any}
-use Rattle.model.specs.declared.refusal.Refusal.TheVariants.{Memory}
 use Rattle.model.specs.Classes.{Admission, Known, known_at, is_one_of}
-use Rattle.model.specs.References.{is_class_of, is_input_class}
+use Rattle.model.specs.References.{is_class_of}
 use Rattle.model.specs.Resolutions.{class_at}
-use Rattle.candidates.specs.Reaching.{AreReached}
-use Rattle.candidates.proofs.below.records_of_inputs.Goals as goal
+use Rattle.std.proofs.lemmas.Result.{MatchResult-weaker}
+use Rattle.candidates.proofs.below.inputs_of.Goals as goal
 
 -- one input more
 among_more : (known : Known) (path : List ℕ) (inputs : List (List ℕ)) (class : List ℕ) (found : Option Admission) → known_at known path ≡ found
@@ -26,8 +25,5 @@ returns c =
     let known = c.args.known.now in
     let d = c.args.derivation.now in
     let classes = c.deref.ensures.value ∙ c.in_ok-input_classes.ensures in
-    let same : (class : List ℕ) → list_any (bytes_eq class) c.in_ok-classes.classes.keys ≡ is_input_class known d class =
-    λ class. c.in_ok-classes.ensures class ∙ ap (λ cs. is_one_of cs class) classes ∙ among_classes known d.inputs class in
-    let Reaches : (List ℕ → Bool) → Type 0 =
-    λ tests. MatchResult c.records_of.result (λ reached. AreReached c.args.records.now tests 0 reached) (λ e. e ≡ Memory) in
-    subst Reaches (λ i class. same class i) c.records_of.ensures
+    MatchResult-weaker c.set_of.result c.set_of.ensures
+    (λ set is class. is class ∙ ap (λ cs. is_one_of cs class) classes ∙ among_classes known d.inputs class) (λ e memory. memory)
