@@ -28,7 +28,7 @@ use Rattle.closures.specs.contracts.resolved.Resolved as Resolved
 use Rattle.moving.specs.contracts.repair.Repair as Repair
 use Rattle.moving.specs.contracts.moves.Move as Move
 use Rattle.moving.proofs.moves.Move.TheSendSync as moves
-use Rattle.moving.specs.contracts.cache.Kept as Kept
+use Rattle.moving.specs.contracts.kept.Kept as Kept
 use Rattle.moving.specs.contracts.cache.Cache as Cache
 use Rattle.jobs.specs.contracts.goal.Goal as Goal
 use Rattle.jobs.specs.contracts.goals.Goals as Goals
@@ -178,10 +178,10 @@ repair_sync : IsSync Repair.the_row
 repair_sync = search (sendable, crosses, path_sync, tree_sync, move_sync, realisation_sync, refusal_sync) depth 60 fits 5000
 
 kept_send : IsSend Kept.the_row
-kept_send = declared_send Kept.the_type (search (LruCache-send, sendable, crosses, path_send, path_sync, repair_send) depth 40, (search sendable, tt))
+kept_send = declared_send Kept.the_type (search (LruCache-send, sendable, crosses, path_send, path_sync, repair_send) depth 40, (search sendable, (search sendable, (search sendable, tt))))
 
 kept_sync : IsSync Kept.the_row
-kept_sync = declared_sync Kept.the_type (search (LruCache-sync, sendable, crosses, path_sync, repair_sync) depth 40, (search sendable, tt))
+kept_sync = declared_sync Kept.the_type (search (LruCache-sync, sendable, crosses, path_sync, repair_sync) depth 40, (search sendable, (search sendable, (search sendable, tt))))
 
 pub cache_send : IsSend Cache.the_row
 cache_send = search (sendable, crosses, repair_send, kept_send) depth 60 fits 5000

@@ -238,6 +238,7 @@ impl<J: Naming> Book<J> {
             return refuse(Refusal::Stopped, event);
         }
         let Ok(asked) = hold(history, &event) else {
+            core.empty_cache();
             return refuse(Refusal::Memory, event);
         };
         let number = pass.number();

@@ -33,6 +33,10 @@ const MOST_READERS: usize = 64;
 /// have entries.
 const MOST_REPAIRED: usize = 1_024;
 
+/// How many bytes they count at most: 40 MiB, so that it is 64 MiB with those of the core and of what is published
+/// of it, 8 MiB each.
+const MOST_REPAIRED_BYTES: u32 = 41_943_040;
+
 /// A core with the history of its calls, under a lock, and what is published of it. Threads share it by
 /// reference, and each calls it through a [`Pass`] of its own.
 pub struct Front<J: Naming> {
@@ -63,6 +67,13 @@ fn most_repaired(n: u64) -> NonZeroUsize
     NonZeroUsize::new(MOST_REPAIRED / n as usize).unwrap_or(NonZeroUsize::MIN)
 }
 
+/// How many bytes they count at most.
+fn most_repaired_bytes(n: u64) -> u32
+    requires { 0 < n }
+{
+    (u64::from(MOST_REPAIRED_BYTES) / n) as u32
+}
+
 /// So many passes, each with a part of the count and a reader.
 fn passes_of<J: Naming>(
     alloc: Global,
@@ -88,13 +99,14 @@ fn passes_of<J: Naming>(
     ensures memory { IfErr result (λ why. why ≡ Memory) }
 {
     let most = most_repaired(n);
+    let most_bytes = most_repaired_bytes(n);
     let mut passes = Vec::new(alloc);
     for number in 0..n {
         let calls = all.calls.split_off(1, 0);
         let stops = all.stops.split_off(1, 0);
         let reader = reader_of(writer)?;
         let caller = Caller::new(number, calls, log.next_claim());
-        let repaired = core.cache_for(alloc, most)?;
+        let repaired = core.cache_for(alloc, most, most_bytes)?;
         passes.push(Pass::new(caller, stops, none.again(), reader, repaired, alloc))?;
     }
     Ok(passes)

@@ -125,6 +125,13 @@ fn sure_after(reply: &Reply, before: u64, all: u64) -> u64
     if has_given_up(reply) { before } else { all }
 }
 
+/// Lets repaired records go where a reply tells that memory was refused, so that their memory is there for others.
+fn let_go_after(repaired: &mut Cache, reply: &Reply) {
+    if has_given_up(reply) {
+        repaired.empty();
+    }
+}
+
 impl<J: Naming> Pass<J> {
     /// A pass that has made no call, and seen nothing.
     pub(crate) fn new(
@@ -194,12 +201,8 @@ impl<J: Naming> Pass<J> {
         true
     }
 
-    /// Answers a query after rows that are published. They begin with all that the pass had seen, its own
-    /// answered calls among them, and are what it has seen then; with the query as one row more they are
-    /// a legal history. It takes no lock, and waits for nobody; and nobody waits for it while the records of
-    /// a closure are repaired. Those that it repaired last are kept, for as long as the pass lives. The
-    /// reply is 90 `Memory` where memory was refused, and never 92 `Stopped`.
-    pub fn read(&mut self, query: Query) -> Reply
+    /// Answers a query as [`Pass::read`] does, and leaves the records that it repaired.
+    fn read_once(&mut self, query: Query) -> Reply
         ensures read { gave_up result ≡ false
             → IsReadAfter J.setup self.old.caller.number self.new.seen (event_for query) result }
         ensures seen { IsPrefix self.old.seen self.new.seen }
@@ -218,16 +221,25 @@ impl<J: Naming> Pass<J> {
         }
     }
 
-    /// Makes values that an event needs, so that [`Front::commit`](crate::Front::commit) need not make them
-    /// under the lock. They are made after rows that are published, which begin with all that the pass had
-    /// seen, and are what it has seen then: the path of a source, what comes of a tree that is offered, and
-    /// what comes of the output of a job for the goal that leads it. It takes no lock, and waits for nobody;
-    /// and nobody waits for it while they are made.
-    ///
-    /// # Errors
-    ///
-    /// - `Memory` only where memory was refused.
-    pub fn prepare(&mut self, event: &Event) -> Result<Ready, Refusal>
+    /// Answers a query after rows that are published. They begin with all that the pass had seen, its own
+    /// answered calls among them, and are what it has seen then; with the query as one row more they are
+    /// a legal history. It takes no lock, and waits for nobody; and nobody waits for it while the records of
+    /// a closure are repaired. Those that it repaired last are kept, for as long as the pass lives and memory is
+    /// not refused to it. The reply is 90 `Memory` where memory was refused, and never 92 `Stopped`.
+    pub fn read(&mut self, query: Query) -> Reply
+        ensures read { gave_up result ≡ false
+            → IsReadAfter J.setup self.old.caller.number self.new.seen (event_for query) result }
+        ensures seen { IsPrefix self.old.seen self.new.seen }
+        ensures same { self.new ≡ seeing self.old self.new.seen }
+        ensures going { result ≢ Refused Stopped }
+    {
+        let reply = self.read_once(query);
+        let_go_after(&mut self.repaired, &reply);
+        reply
+    }
+
+    /// Makes values as [`Pass::prepare`] does, and leaves the records that it repaired.
+    fn prepare_once(&mut self, event: &Event) -> Result<Ready, Refusal>
         ensures prepared { IfOk result
             (IsPreparedAfter J.setup self.new.seen (event_of event.now)) }
         ensures seen { IsPrefix self.old.seen self.new.seen }
@@ -242,6 +254,30 @@ impl<J: Naming> Pass<J> {
         } else {
             Err(Refusal::Memory)
         }
+    }
+
+    /// Makes values that an event needs, so that [`Front::commit`](crate::Front::commit) need not make them
+    /// under the lock. They are made after rows that are published, which begin with all that the pass had
+    /// seen, and are what it has seen then: the path of a source, what comes of a tree that is offered, and
+    /// what comes of the output of a job for the goal that leads it. It takes no lock, and waits for nobody;
+    /// and nobody waits for it while they are made. Where memory is refused, the records that it repaired are let
+    /// go.
+    ///
+    /// # Errors
+    ///
+    /// - `Memory` only where memory was refused.
+    pub fn prepare(&mut self, event: &Event) -> Result<Ready, Refusal>
+        ensures prepared { IfOk result
+            (IsPreparedAfter J.setup self.new.seen (event_of event.now)) }
+        ensures seen { IsPrefix self.old.seen self.new.seen }
+        ensures same { self.new ≡ seeing self.old self.new.seen }
+        ensures memory { IfErr result (λ why. why ≡ Memory) }
+    {
+        let made = self.prepare_once(event);
+        if made.is_err() {
+            self.repaired.empty();
+        }
+        made
     }
 
     /// How many repaired records that its reads needed were at hand from reads before; at the greatest
@@ -259,7 +295,8 @@ impl<J: Naming> Pass<J> {
         replace_with(&mut self.reader, (), computed_by)
     }
 
-    /// Answers one event of the pass by the book. Then it has seen all rows.
+    /// Answers one event of the pass by the book. Then it has seen all rows. Where memory is refused, the records
+    /// that it repaired are let go.
     pub(crate) fn call<R: Wait>(
         &mut self,
         rt: &R,
@@ -285,12 +322,14 @@ impl<J: Naming> Pass<J> {
             stops,
             sure,
             seen,
+            repaired,
             ..
         } = self;
         insist(rt, seen.begins(&book.seen()));
         let reply = book.apply_ready(rt, alloc, caller, stops, event, ready);
         *seen = book.seen();
         *sure = sure_after(&reply, *sure, seen.len());
+        let_go_after(repaired, &reply);
         reply
     }
 

@@ -1,14 +1,16 @@
 //! Records whose labels move.
 
-ghost use Rattle.std.specs.Prelude.{◌≡◌, ◌≤◌, ◌⊎◌, IfOk, MatchResult, Ok, Err};
+ghost use Rattle.std.specs.Prelude.{◌≡◌, ◌≢◌, ◌≤◌, ◌⊎◌, List, IfOk, MatchResult, Ok, Err};
 ghost use Rattle.model.specs.Classes.{greatest_rank};
 ghost use Rattle.model.specs.Settling.{name_in};
 ghost use Rattle.model.specs.References.{paths_of_labels};
-ghost use Rattle.model.specs.Repairs.{moved, repaired};
+ghost use Rattle.model.specs.Repairs.{Move as MoveValue, moved, repaired};
 ghost use Rattle.model.specs.declared.refusal.Refusal.TheVariants.{Memory};
 ghost use Rattle.moving.specs.Moving.{IsRewritten, IsNotRewritten, IsResettled, IsNotResettled, settled_as};
 ghost use Rattle.records.specs.Recorded.{AreInPathOrder};
-ghost use Rattle.moving.specs.Served.{served_from};
+ghost use Rattle.moving.specs.Served.{served_from, MovesTo};
+ghost use Rattle.moving.specs.AtHand.{one_more};
+ghost use Rattle.moving.specs.Counting.{bound_of, IsAtHand, IsBounded, IsToRepair};
 ghost use Rattle.closures.specs.Sound.{IsSoundRecord};
 
 use crate::cache::Cache;
@@ -121,9 +123,16 @@ pub(crate) fn moved(
     moves: Vec<Move>,
     cache: &mut Cache,
 ) -> Result<Realisation, Refusal>
-    ensures { let answer = moved chosen.now moves.items in MatchResult result
+    ensures answer { let answer = moved chosen.now moves.items in MatchResult result
         (λ made. answer ≡ Ok made)
         (λ e. (e ≡ Memory) ⊎ (answer ≡ Err e)) }
+    ensures at_hand { IsToRepair chosen.now moves.items → IsAtHand cache.old chosen.now moves.items
+        → result ≢ Err Memory → cache.new.computed ≡ cache.old.computed }
+    ensures computed { IsToRepair chosen.now moves.items → (IsAtHand cache.old chosen.now moves.items → ⊥)
+        → result ≢ Err Memory → cache.new.computed ≡ one_more cache.old.computed }
+    ensures idle { (IsToRepair chosen.now moves.items → ⊥) → cache.new ≡ cache.old }
+    ensures bounded { IsBounded cache.new.kept }
+    ensures bound { bound_of cache.new.kept ≡ bound_of cache.old.kept }
 {
     if !is_any_replaced(&moves) {
         return Ok(chosen.clone()?);
@@ -142,6 +151,9 @@ pub(crate) fn moved(
 /// - `NotRealised` exactly where the class of a label is not served, or is not of a lower rank.
 /// - `RewriteRefused` exactly where the labels move and the record cannot be repaired, with the reason.
 /// - `Memory` only where memory was refused; it may stand in the place of each answer.
+///
+/// What came of the record before, with the same labels moved alike, is used where it is at hand, and nothing is
+/// made then. Else it is made once. What the cache keeps counts at most what it may.
 pub fn serve(
     alloc: Global,
     chosen: &Realisation,
@@ -154,6 +166,16 @@ pub fn serve(
         (λ e. (e ≡ Memory) ⊎ (answer ≡ Err e)) }
     ensures sound { IfOk result (λ _. IsSoundRecord chosen.now) }
     ensures low { chosen.now.class.rank ≤ greatest_rank }
+    ensures at_hand { (moves : List MoveValue) → MovesTo served.now.entries chosen.now moves
+        → IsToRepair chosen.now moves → IsAtHand cache.old chosen.now moves → result ≢ Err Memory
+        → cache.new.computed ≡ cache.old.computed }
+    ensures computed { (moves : List MoveValue) → MovesTo served.now.entries chosen.now moves
+        → IsToRepair chosen.now moves → (IsAtHand cache.old chosen.now moves → ⊥)
+        → result ≢ Err Memory → cache.new.computed ≡ one_more cache.old.computed }
+    ensures idle { (moves : List MoveValue) → MovesTo served.now.entries chosen.now moves
+        → (IsToRepair chosen.now moves → ⊥) → cache.new ≡ cache.old }
+    ensures bounded { IsBounded cache.new.kept }
+    ensures bound { bound_of cache.new.kept ≡ bound_of cache.old.kept }
 {
     let _len = chosen.tree().nar_len();
     let _part = chosen.path().hash_part();

@@ -1,6 +1,6 @@
 //! A record that was repaired, with what it was repaired by.
 
-ghost use Rattle.std.specs.Prelude.{◌≡◌, true, IfOk, IfErr, IfSome, option_copied};
+ghost use Rattle.std.specs.Prelude.{◌≡◌, true, min, IfOk, IfErr, IfSome, IfNone, option_copied};
 ghost use Rattle.model.specs.Repairs.{repaired};
 ghost use Rattle.model.specs.declared.refusal.Refusal.TheVariants.{Memory};
 ghost use Rattle.moving.specs.Repaired.{repaired_of};
@@ -20,14 +20,16 @@ use storepath::StorePath;
 
 /// Whether two classes are one, of one rank.
 fn same_class(one: &Class, other: &Class) -> bool
-    ensures { result ≡ true → one.now ≡ other.now }
+    ensures same { result ≡ true → one.now ≡ other.now }
+    ensures told { one.now ≡ other.now → result ≡ true }
 {
     one.rank() == other.rank() && one.path().bytes() == other.path().bytes()
 }
 
 /// Whether both have no class, or one.
 fn same_class_of(one: Option<&Class>, other: Option<&Class>) -> bool
-    ensures { result ≡ true → option_copied one.entry ≡ option_copied other.entry }
+    ensures same { result ≡ true → option_copied one.entry ≡ option_copied other.entry }
+    ensures told { option_copied one.entry ≡ option_copied other.entry → result ≡ true }
 {
     match (one, other) {
         (None, None) => true,
@@ -38,7 +40,8 @@ fn same_class_of(one: Option<&Class>, other: Option<&Class>) -> bool
 
 /// Whether two labels move alike.
 fn same_move(one: &Move, other: &Move) -> bool
-    ensures { result ≡ true → one.now ≡ other.now }
+    ensures same { result ≡ true → one.now ≡ other.now }
+    ensures told { one.now ≡ other.now → result ≡ true }
 {
     one.path().bytes() == other.path().bytes()
         && one.label().path().bytes() == other.label().path().bytes()
@@ -47,7 +50,8 @@ fn same_move(one: &Move, other: &Move) -> bool
 
 /// Whether labels move alike.
 fn same_moves(one: &[Move], other: &[Move]) -> bool
-    ensures { result ≡ true → one.now ≡ other.now }
+    ensures same { result ≡ true → one.now ≡ other.now }
+    ensures told { one.now ≡ other.now → result ≡ true }
 {
     if one.len() != other.len() {
         return false;
@@ -70,6 +74,9 @@ pub(crate) struct Repair {
     outcome: Result<Realisation, Refusal>,
     ghost is: { outcome ≡ repaired_of class path tree moves.items } by { Prim.hlevel (props, codes, tree_code, record_code) },
 }
+
+/// How many bytes a repaired record counts for itself, and for each of its labels: their paths, and its key.
+const BYTES_OF_LABEL: u64 = 1_024;
 
 /// A copy of what came of a record. It shares what is large.
 pub(crate) fn copy_of(
@@ -100,6 +107,9 @@ pub(crate) fn tried(
 }
 
 impl Repair {
+    ghost use Rattle.moving.specs.Keeping.{size_of};
+    ghost use Rattle.moving.specs.AtHand.{IsOf};
+
     /// What came of a record whose labels move so, with that record. The one error is memory.
     pub(crate) fn new(
         chosen: &Realisation,
@@ -121,12 +131,24 @@ impl Repair {
         })
     }
 
+    /// How many bytes it counts: the archive of its tree, of which that of what came of it has as many, and 1,024
+    /// bytes for itself and for each label. At the greatest number it stays there.
+    pub(crate) fn size(&self) -> u64
+        ensures { result ≡ min (size_of self.now) 18446744073709551615 }
+    {
+        let labels = (self.moves.len() as u64)
+            .saturating_add(1)
+            .saturating_mul(BYTES_OF_LABEL);
+        (self.tree.nar_len() as u64).saturating_add(labels)
+    }
+
     /// Whether it is that of this record, whose labels move so. Its own labels make no difference.
     fn is_of(&self, chosen: &Realisation, moves: &[Move]) -> bool
         ensures path { result ≡ true → self.now.path ≡ chosen.now.path }
         ensures moves { result ≡ true → self.now.moves.items ≡ moves.now }
         ensures class { result ≡ true → self.now.class ≡ chosen.now.class }
         ensures tree { result ≡ true → self.now.tree ≡ chosen.now.tree }
+        ensures told { IsOf chosen.now moves.now self.now → result ≡ true }
     {
         self.path.bytes() == chosen.path().bytes()
             && same_moves(&self.moves, moves)
@@ -140,7 +162,9 @@ impl Repair {
         chosen: &Realisation,
         moves: &[Move],
     ) -> Option<&Result<Realisation, Refusal>>
-        ensures { IfSome result (λ o. o.now ≡ repaired chosen.now moves.now) }
+        ensures outcome { IfSome result (λ o. o.now ≡ repaired chosen.now moves.now) }
+        ensures some { IfSome result (λ _. IsOf chosen.now moves.now self.now) }
+        ensures none { IfNone result (IsOf chosen.now moves.now self.now → ⊥) }
     {
         if self.is_of(chosen, moves) {
             Some(&self.outcome)

@@ -1,8 +1,8 @@
 -- The job that a goal leads, found by the parts of a core.
-use Rattle.std.proofs.Common.{◌≡◌, ℕ, Bool, true, false, ◌⊎◌, inl, inr, List, length, refl, sym, ◌∙◌, ap, Option, Some, None, Result, Ok, Err}
+use Rattle.std.proofs.Common.{◌≡◌, ℕ, Bool, true, false, List, length, sym, ◌∙◌, ap, Option, Some, None, Result, Err}
 use Rattle.std.specs.Prelude.{◌≢◌, if◌then◌else◌}
 use Rattle.model.specs.declared.refusal.Refusal.{Refusal}
-use Rattle.model.specs.declared.refusal.Refusal.TheVariants.{UnknownUser, UnknownGoal, WrongState, Stopped}
+use Rattle.model.specs.declared.refusal.Refusal.TheVariants.{UnknownUser, WrongState, Stopped}
 use Rattle.model.specs.Reach.{is_among}
 use Rattle.model.specs.Worlds.{Source, Setup, World, Resolved, Job, Goal, are_users}
 use Rattle.model.specs.Goals.{goal_at, is_in, Running}

@@ -1,12 +1,11 @@
 -- What is prepared on the desk of a place is prepared for its user, in the world that the core stands for.
-use Rattle.std.proofs.Common.{◌≡◌, ◌∙◌, ℕ, Bool, true, false, List, length, refl, sym, subst, ap, Some, None, Result, Ok, Err}
+use Rattle.std.proofs.Common.{◌≡◌, ℕ, Bool, true, List, length, refl, sym, subst, Some, Result, Ok, Err}
 use Rattle.std.specs.Prelude.{IfOk, Option}
 use Rattle.model.specs.declared.refusal.Refusal.{Refusal}
 use Rattle.model.specs.Archives.{Tree}
-use Rattle.model.specs.Classes.{Admission, known_at}
-use Rattle.model.specs.Events.{Event, Request, Offer, Finish}
-use Rattle.model.specs.References.{candidates}
-use Rattle.model.specs.Worlds.{Source, Desk, Goal, Job, Label, known_of, are_users}
+use Rattle.model.specs.Classes.{known_at}
+use Rattle.model.specs.Events.{Offer, Finish}
+use Rattle.model.specs.Worlds.{Source, Desk, Goal, Label, are_users}
 use Rattle.trust.specs.Naming.{place_of, name_at, IsWithin}
 use Rattle.trust.proofs.PlaceLemmas.{name_found}
 use Rattle.realise.specs.Holdings.{Holdings}

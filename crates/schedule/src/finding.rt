@@ -2,9 +2,11 @@
 
 ghost use Rattle.std.specs.Prelude.{◌≡◌};
 ghost use Rattle.schedule.specs.Findings.{IsServedFrom};
+ghost use Rattle.schedule.specs.declared.finding.Finding.TheVariants.{Planned};
 
 use choose::Plan;
 use events::Reply;
+use model::Refusal;
 use moving::Cache;
 use std::alloc::Global;
 use views::serve_plan;
@@ -19,9 +21,20 @@ pub enum Finding {
     Planned(Plan),
 }
 
+/// What is told of a plan that is served.
+fn serve_once(alloc: Global, plan: &Plan, cache: &mut Cache) -> Reply
+    ensures { IsServedFrom (Planned plan.now) result }
+{
+    match serve_plan(alloc, plan, cache) {
+        Ok(reply) => reply,
+        Err(why) => Reply::Refused(why),
+    }
+}
+
 impl Finding {
     /// The reply. Records of a closure that are to be repaired are taken from the cache, where it has them,
-    /// and kept in it; whatever it has, the reply is the same.
+    /// and kept in it; whatever it has, the reply is the same. Where memory is refused, the cache is emptied, and
+    /// the closure is served once more.
     pub fn serve(self, alloc: Global, cache: &mut Cache) -> Reply
         ensures { IsServedFrom self result }
     {
@@ -29,9 +42,11 @@ impl Finding {
             Finding::Told(reply) => return reply,
             Finding::Planned(plan) => plan,
         };
-        match serve_plan(alloc, &plan, cache) {
-            Ok(reply) => reply,
-            Err(why) => Reply::Refused(why),
+        let reply = serve_once(alloc, &plan, cache);
+        if !matches!(&reply, Reply::Refused(Refusal::Memory)) {
+            return reply;
         }
+        cache.empty();
+        serve_once(alloc, &plan, cache)
     }
 }

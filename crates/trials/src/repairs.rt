@@ -85,7 +85,7 @@ fn paths_served(
 /// A new cache of so many records.
 fn cache_of(alloc: Global, hashing: RandomState, most: usize) -> Result<Cache, Refusal> {
     match NonZeroUsize::new(most) {
-        Some(most) => Cache::new(alloc, hashing, most),
+        Some(most) => Cache::new(alloc, hashing, most, u32::MAX),
         None => Err(Refusal::BadLine),
     }
 }

@@ -1,4 +1,4 @@
-use Rattle.std.proofs.Common.{◌≡◌, ℕ, ◌<◌, ◌≤◌, List, get_or, sym, subst, ap, Result}
+use Rattle.std.proofs.Common.{◌≤◌, List, get_or, sym, subst, Result}
 use Rattle.std.proofs.lemmas.List.{set-get_or}
 use Rattle.trust.specs.Trusting.{trusts}
 use Rattle.realise.specs.Holdings.{Holdings}

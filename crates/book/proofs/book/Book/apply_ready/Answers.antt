@@ -105,6 +105,22 @@ pass_then g c going = c.audit.ensures.same.0 ∙ c.compare.ensures.going (c.self
 
 -- ---- where no room is made for a row
 
+pub invariant_of-self-in_default : goal.invariant_of-self-in_default
+invariant_of-self-in_default g c =
+    let old = c.self.inside in (
+      rw c.hold.ensures.rows (stays g.J.Naming.setup old.core c.empty_cache.new.self old.stopped old.history.items c.self.invariant.0 c.empty_cache.ensures),
+      ap (λ (rows : List Row). length rows) c.hold.ensures.rows ∙ (c.self.invariant.1 ∙ sym c.audit.ensures.same.1),
+      c.self.invariant.2,
+      c.self.invariant.3,
+      ap (λ (log : Recorded). log.rows) c.compare.ensures.same ∙ (c.self.invariant.4 ∙ sym c.hold.ensures.rows),
+      ap (λ (log : Recorded). log.stopped) c.compare.ensures.same ∙ c.self.invariant.5,
+      c.self.invariant.6 ∙ sym c.hold.ensures.rows,
+      c.self.invariant.7,
+      c.audit-2.ensures.total ∙ c.self.invariant.8,
+      c.self.invariant.9,
+      c.self.invariant.10,
+    )
+
 pub returns-in_default : goal.returns-in_default
 returns-in_default g c =
     let then = (goal.at.returns-in_default g c).After-audit-2 in
@@ -119,7 +135,7 @@ returns-in_default g c =
       alone = only_pass g then;
       no_row = λ _. c.hold.ensures.rows ∙ rows_then g then;
       memory = λ _. pass_then g then c.if-stopped.false;
-      unchanged = λ _ _. is_unchanged _ _ (core_then g then);
+      unchanged = λ _ _. subst (λ (core : Core). IsUnchanged core c.empty_cache.new.self) (core_then g then) c.empty_cache.ensures;
       stopped = λ stopped. absurd (goes stopped);
       stays = λ stopped. absurd (goes stopped);
       only_then = λ stopped. absurd (not_both _ c.refuse-in_default.ensures stopped);

@@ -1,7 +1,7 @@
-use Rattle.std.proofs.Common.{◌≡◌, ℕ, Bool, true, false, List, length, refl, sym, ◌∙◌, ap, subst, rules}
+use Rattle.std.proofs.Common.{◌≡◌, ℕ, Bool, false, List, length, refl, sym, ◌∙◌, ap, subst}
 use Rattle.std.specs.Prelude.{All}
 use Rattle.std.proofs.lemmas.List.Elements.{All-weaker}
-use Rattle.model.specs.Worlds.{Goal, are_users}
+use Rattle.model.specs.Worlds.{Goal}
 use Rattle.trust.specs.Trusting.{trusts}
 use Rattle.trust.specs.Naming.{trusted_at, IsWithin}
 use Rattle.trust.proofs.NameLemmas.{trusted_by_nobody, within_nobody}

@@ -2,7 +2,6 @@ use Rattle.std.proofs.Common.{sym, ◌∙◌, subst, Result}
 use Rattle.model.specs.declared.refusal.Refusal.{Refusal}
 use Rattle.events.specs.declared.reply.Reply.{Reply}
 use Rattle.handling.specs.Handling.{IsHandled}
-use Rattle.trust.specs.Trusting.{trusts}
 use Rattle.events.specs.Terms.{event_of}
 use Rattle.schedule.specs.Queries.{event_for}
 use Rattle.schedule.specs.Standing.{parts_of}

@@ -1,5 +1,4 @@
 use Rattle.std.proofs.Common.{◌≡◌, ◌∙◌, List, ℕ, None, Some, false, true, subst, sym}
-use Rattle.model.specs.Reach.{is_among}
 use Rattle.handling.proofs.WorldLemmas.{no_place}
 use Rattle.trust.specs.Naming.{place_of}
 use Rattle.schedule.specs.Standing.{setup_of}

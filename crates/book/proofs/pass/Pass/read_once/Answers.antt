@@ -7,7 +7,7 @@ use Rattle.schedule.specs.Queries.{event_for}
 use Rattle.snapshots.specs.Naming.{setup_in}
 use Rattle.snapshots.specs.Following.{FindsRead}
 use Rattle.snapshots.proofs.LegalLemmas.{legal_with}
-use Rattle.book.proofs.pass.Pass.read.Goals as goal
+use Rattle.book.proofs.pass.Pass.read_once.Goals as goal
 
 pub returns-then-see-clause-read : goal.returns-then-see-clause-read
 returns-then-see-clause-read g c some =
