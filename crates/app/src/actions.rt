@@ -6,16 +6,17 @@ ghost use Rattle.model.specs.Worlds.{are_users};
 ghost use Rattle.model.specs.declared.refusal.Refusal.TheVariants.{BadUsers, Quota, InputFault, OutputFault};
 ghost use Rattle.session.specs.Serving.{IsNoFault, IsOwn, MayBeFault};
 ghost use Rattle.replaying.specs.Replaying.{Replayed, ReplayedInPart};
+ghost use Rattle.replaying.specs.BadLines.{TellsBadLines};
 ghost use Rattle.replaying.specs.WholeLines.{ReplayedSoFar};
 ghost use Rattle.replaying.specs.Striking.{Struck, StruckEarly};
 ghost use Rattle.running.specs.Sessions.{CannotBegin};
 ghost use Rattle.running.specs.Desks.{passes_needed};
 ghost use Rattle.running.specs.Runs.{AreResults};
-ghost use Rattle.app.specs.Actions.{IsReplay, WhereStrikes};
+ghost use Rattle.app.specs.Actions.{IsReplay, WhereStrikes, nothing_told};
 
 use command_line::{Action, Options};
 use model::Refusal;
-use replaying::{replay, strike};
+use replaying::{BadLines, replay, strike};
 use running::{Part, Results, run};
 use schedule::{Limits, User};
 use session::Faults;
@@ -35,8 +36,20 @@ fn limits_of(options: &Options) -> Limits
     }
 }
 
+/// What a run of all lines tells of those that are refused with 25: nothing, since what each of them gets is
+/// printed.
+fn nothing_told(ended: Result<(), Refusal>) -> Result<Option<BadLines>, Refusal>
+    ensures { result ≡ nothing_told ended }
+{
+    match ended {
+        Ok(()) => Ok(None),
+        Err(why) => Err(why),
+    }
+}
+
 /// Runs the lines of a reader under the charge of the options: those events of them that can reach a user
-/// where the options ask for `strike`, and else all of them.
+/// where the options ask for `strike`, and else all of them. Gives the lines that `strike` found to be refused with
+/// 25, of which nothing is printed.
 ///
 /// # Errors
 ///
@@ -48,7 +61,7 @@ pub(crate) fn run_lines<H: Wait, R: Read + Faults, W: Write + Faults>(
     options: &Options,
     reader: &mut R,
     writer: &mut W,
-) -> Result<(), Refusal>
+) -> Result<Option<BadLines>, Refusal>
     // All lines are run by `replay`, under the charge that was asked for.
     ensures replayed { IsReplay options.now.action → OnOk result ((all : List ℕ) → R.remaining reader.old ≡ Some all
         → Replayed options.now.charge (W.contents writer.old) (W.contents writer.new) (lines_of all)) }
@@ -64,6 +77,9 @@ pub(crate) fn run_lines<H: Wait, R: Read + Faults, W: Write + Faults>(
     ensures struck_in_part { WhereStrikes options.now.action (λ user timed. IfErr result (λ why.
         (all : List ℕ) → R.remaining reader.old ≡ Some all
         → StruckEarly options.now.charge user timed (W.contents writer.old) (W.contents writer.new) (lines_of all) why)) }
+    ensures bad_lines { WhereStrikes options.now.action (λ user timed. IfOk result (λ bad.
+        (all : List ℕ) → R.remaining reader.old ≡ Some all
+        → TellsBadLines options.now.charge user (lines_of all) bad)) }
     ensures input_fault { IfErr result
         (MayBeFault InputFault (R.failed reader.old) (R.failed reader.new)) }
     ensures output_fault { IfErr result
@@ -82,10 +98,10 @@ pub(crate) fn run_lines<H: Wait, R: Read + Faults, W: Write + Faults>(
             reader,
             writer,
         ),
-        Action::Replay { sweep, .. } => {
-            replay(wait, alloc, hashing, limits, *sweep, reader, writer)
-        }
-        Action::Run(_) => replay(wait, alloc, hashing, limits, false, reader, writer),
+        Action::Replay { sweep, .. } => nothing_told(replay(
+            wait, alloc, hashing, limits, *sweep, reader, writer,
+        )),
+        Action::Run(_) => nothing_told(replay(wait, alloc, hashing, limits, false, reader, writer)),
     }
 }
 

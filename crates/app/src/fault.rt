@@ -1,9 +1,11 @@
 //! What the program says when it cannot go on, and its exit statuses.
 
 ghost use Rattle.std.specs.Prelude.{◌≡◌};
+ghost use Rattle.replaying.specs.BadLines.{end_of};
 ghost use Rattle.app.specs.Ends.{fault_of_end, status_of_end};
 
 use model::Refusal;
+use replaying::BadLines;
 use std::io::Eprint;
 use thiserror::Error;
 
@@ -19,7 +21,7 @@ pub(crate) const OUT_OF_MEMORY: u8 = 4;
 /// The exit status where the list of users is ill-formed.
 pub(crate) const BAD_USERS: u8 = 5;
 
-/// Why the program ended before its input did, as it says on standard error.
+/// Why the program ended before its input did, or what it could not show, as it says on standard error.
 #[derive(Debug, Drop, Error)]
 pub(crate) enum Fault<'a> {
     /// A file could not be opened or read to its end.
@@ -40,6 +42,9 @@ pub(crate) enum Fault<'a> {
     /// A folder of a run is missing, or is no folder.
     #[error("intstore: cannot use the folder {0}")]
     NoFolder(&'a str),
+    /// Lines of the file whose events are struck were refused with 25: so many, and the first of them.
+    #[error("intstore: lines refused 25: {0}, the first is line {1}")]
+    BadLines(usize, usize),
     /// Memory was refused where no event could be answered for it.
     #[error("intstore: out of memory")]
     OutOfMemory,
@@ -81,4 +86,22 @@ pub(crate) fn report(rt: &impl Eprint, ended: &Result<(), Refusal>, file: &str) 
         let _ = rt.eprintln(fault);
     }
     status_of(ended)
+}
+
+/// Says on standard error that lines were refused with 25, where some were of which nothing is printed, and gives
+/// how the run ended. What cannot be said is let go.
+pub(crate) fn tell_bad_lines(
+    rt: &impl Eprint,
+    told: Result<Option<BadLines>, Refusal>,
+) -> Result<(), Refusal>
+    ensures { result ≡ end_of told }
+{
+    match told {
+        Ok(Some(BadLines { count, first })) => {
+            let _ = rt.eprintln(Fault::BadLines(count, first));
+            Ok(())
+        }
+        Ok(None) => Ok(()),
+        Err(why) => Err(why),
+    }
 }

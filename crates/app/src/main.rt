@@ -7,7 +7,9 @@ mod files;
 mod narrator;
 mod runs;
 
-use crate::fault::{CANNOT_READ_OR_WRITE, COMMAND_LINE_FAULT, Fault, OUT_OF_MEMORY, report};
+use crate::fault::{
+    CANNOT_READ_OR_WRITE, COMMAND_LINE_FAULT, Fault, OUT_OF_MEMORY, report, tell_bad_lines,
+};
 use command_line::{Action, Options, options};
 use model::Refusal;
 use std::hash::RandomState;
@@ -24,7 +26,8 @@ fn run_file(rt: &HostRuntime, wait: &impl Wait, options: &Options, name: &str) -
     };
     let mut writer = files::output(rt)?;
     let hashing = RandomState::new(rt)?;
-    let ended = actions::run_lines(wait, rt.alloc(), hashing, options, &mut reader, &mut writer);
+    let told = actions::run_lines(wait, rt.alloc(), hashing, options, &mut reader, &mut writer);
+    let ended = tell_bad_lines(rt, told);
     Ok(report(rt, &ended, name))
 }
 

@@ -30,11 +30,13 @@ use Rattle.schedule.specs.Running.{HadMemory, IsRun}
 use Rattle.session.specs.Ahead.{LooksAhead}
 use Rattle.passes.specs.declared.row.Row.{Row}
 use Rattle.passes.specs.Histories.{event_in, answer_in, events_of, answers_of, IsLegal}
-use Rattle.replaying.specs.declared.first_run.FirstRun.{FirstRun}
+use Rattle.replaying.specs.declared.bad_lines.BadLines.{BadLines}
+use Rattle.replaying.specs.declared.numbers.FirstRun.{FirstRun}
 use Rattle.replaying.specs.OnlyPass.{lacks_memory, says_stopped}
 use Rattle.replaying.specs.Replaying.{pair_of, StopsByMemory, AreOfOneStore}
-use Rattle.replaying.specs.Striking.{events_in, struck, numbers_of, text_for, lines_under, HadMemoryFor, HaveOneText, Rerun, IsStruck}
+use Rattle.replaying.specs.Striking.{events_in, struck, numbers_of, text_for, lines_under, HadMemoryFor, HaveOneText, Answered, Rerun, IsStruck}
 use Rattle.replaying.specs.Recording.{IsFirstRun}
+use Rattle.replaying.specs.BadLines.{TellsBadLines}
 use Rattle.replaying.proofs.StrikingLemmas.{answer_to, text-lines}
 
 -- ---- the first run
@@ -182,25 +184,40 @@ run_again setup user timed events kept (Err why) is steps same = tt
 
 -- ---- both runs
 
+-- the lines of a first run are those of a store for the users who were found ahead
+run_answered : (charge : ℕ) (user input : List ℕ) (users : List (List ℕ)) (run : FirstRun) → LooksAhead Service input (Some users) → is_among user users ≡ true
+    → (first : IsFirstRun (record { users = users; charge = charge }) user (lines_of input) run) → Answered charge user (lines_of input) users first.rows
+run_answered charge user input users run found listed first = record {
+  talks = first.talks;
+  going = first.going;
+  named = named_ahead input users first.rows found first.talks;
+  listed = listed;
+  answered = first.answered;
+}
+
+-- and those that were refused with 25 are told
+pub run_tells : (charge : ℕ) (user input : List ℕ) (users : List (List ℕ)) (run : FirstRun) → LooksAhead Service input (Some users) → is_among user users ≡ true
+    → IsFirstRun (record { users = users; charge = charge }) user (lines_of input) run → TellsBadLines charge user (lines_of input) run.numbers.bad
+run_tells charge user input users run found listed first = record {
+  users = users;
+  rows = first.rows;
+  first = run_answered charge user input users run found listed first;
+  bad_are = first.numbers_are.bad;
+}
+
 pub both_runs : (charge : ℕ) (user : List ℕ) (timed : Bool) (input : List ℕ) (users : List (List ℕ)) (run : FirstRun) (given : List (User × GivenReply))
     → LooksAhead Service input (Some users) → is_among user users ≡ true
     → IsFirstRun (record { users = users; charge = charge }) user (lines_of input) run
     → Rerun (record { users = users; charge = charge }) user timed (map event_of run.events.items) given
-    → IsStruck charge user timed (lines_of input) (lines_under user run.numbers.items (replies_to user (map answer_of given)))
+    → IsStruck charge user timed (lines_of input) (lines_under user run.numbers.his.items (replies_to user (map answer_of given)))
 both_runs charge user timed input users run given found listed first second =
     let setup : Setup = record { users = users; charge = charge } in
     let again : Rerun setup user timed (events_in first.rows) given = subst (λ es. Rerun setup user timed es given) first.events_are second in
-    let text_is = ap (λ ns. lines_under user ns (replies_to user (map answer_of given))) first.numbers_are in
+    let text_is = ap (λ ns. lines_under user ns (replies_to user (map answer_of given))) first.numbers_are.his in
     record {
       users = users;
       rows = first.rows;
-      first = record {
-        talks = first.talks;
-        going = first.going;
-        named = named_ahead input users first.rows found first.talks;
-        listed = listed;
-        answered = first.answered;
-      };
+      first = run_answered charge user input users run found listed first;
       given = given;
       second = again;
       text_is = text_is;

@@ -9,3 +9,4 @@ pub mod RecordingLemmas
 pub mod PrintLemmas
 pub mod LawLemmas
 pub mod StruckLemmas
+pub mod BadLemmas

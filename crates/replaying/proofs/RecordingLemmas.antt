@@ -16,9 +16,14 @@ use Rattle.session.proofs.LineLemmas.{lines-newline, lines-last}
 use Rattle.session.proofs.FeedLemmas.{cut-line, cut-rest}
 use Rattle.replaying.specs.OnlyPass.{Only, unasked}
 use Rattle.replaying.specs.Replaying.{LinksOnly}
-use Rattle.replaying.specs.Striking.{events_in, is_of, numbers_of}
-use Rattle.replaying.specs.Recording.{Keeps, AsksOn, AllAsked, IsFirstRun}
-use Rattle.replaying.specs.declared.first_run.FirstRun.{FirstRun}
+use Rattle.lines.specs.declared.line.Reading.{Reading}
+use Rattle.lines.specs.declared.line.Reading.TheVariants as reading
+use Rattle.lines.specs.Reading.{IsRowOf}
+use Rattle.replaying.specs.Striking.{events_in, is_of, numbers_of, numbers_where}
+use Rattle.replaying.specs.BadLines.{is_bad_line, is_bad_reading, bad_numbers, AreBad}
+use Rattle.replaying.specs.Recording.{Keeps, AddsNumbers, AreNumbers, AsksOn, AllAsked, IsFirstRun}
+use Rattle.replaying.specs.declared.numbers.Numbers.{Numbers}
+use Rattle.replaying.specs.declared.numbers.FirstRun.{FirstRun}
 use Rattle.replaying.proofs.ReplayLemmas.{one_store}
 use Rattle.replaying.proofs.StrikingLemmas.{numbers-more, events-more}
 
@@ -88,47 +93,73 @@ his_at user old new items n row his same count e h =
     (subst (λ k. MatchOption (slice_get new k) (his ≡ false) (λ event. his ≡ bytes_eq event.actor user)) count
     (subst (λ es. MatchOption (slice_get es n) (his ≡ false) (λ event. his ≡ bytes_eq event.actor user)) same h))
 
+-- a line is refused with 25 where it comes to that
+pub bad_row : (goals : List Job) (r : Reading) (row : Row) (bad : Bool) → IsRowOf goals r row → bad ≡ is_bad_reading r → bad ≡ is_bad_line row
+bad_row goals reading.Silent row bad is e = rw is e
+bad_row goals (reading.Names users) row bad is e = rw is e
+bad_row goals (reading.Refuses why) row bad is e = rw is e
+bad_row goals (reading.Asks event) row bad is e = rw is.1 e
+bad_row goals reading.Waits row bad is e = rw is.2 e
+
 -- ---- all lines
 
 -- the first of all lines were asked, and the rest is left
 pub record SoFar (setup : Setup) (user : List ℕ) (all rest : List (List ℕ)) (seen : Seen) (old new : Only) (events : List ModelEvent)
-    (numbers : List ℕ) : Type 0 where
+    (numbers : Numbers) : Type 0 where
   pub done : List (List ℕ)
   pub asked : AllAsked setup user done old new events numbers
   pub seen_is : seen ≡ after_all (fresh Service) asked.rows
   pub cut : all ≡ done ++ rest
 
-pub none_asked : (setup : Setup) (user : List ℕ) (all : List (List ℕ)) (old : Only) → SoFar setup user all all (fresh Service) old old [] []
-none_asked setup user all old = record {
+-- where there are no lines, none is the user's and none was refused
+abbrev pub HasNone : Numbers → Type 0
+HasNone numbers = (numbers.his.items ≡ []) × AreBad numbers.bad []
+
+pub none_asked : (setup : Setup) (user : List ℕ) (all : List (List ℕ)) (old : Only) (numbers : Numbers) → HasNone numbers
+    → SoFar setup user all all (fresh Service) old old [] numbers
+none_asked setup user all old numbers none = record {
   done = [];
-  asked = record { rows = []; talks = tt; going = refl; links = refl; events_are = refl; numbers_are = refl };
+  asked = record { rows = []; talks = tt; going = refl; links = refl; events_are = refl; numbers_are = record { his = none.0; bad = none.1 } };
   seen_is = refl;
   cut = refl;
 }
 
 -- a new session has asked none
-pub begins : (setup : Setup) (user : List ℕ) (all : List (List ℕ)) (old : Only) (seen : Seen) (events : List Event) (numbers : List ℕ)
-    → seen ≡ fresh Service → events ≡ [] → numbers ≡ [] → SoFar setup user all all seen old old (map event_of events) numbers
+pub begins : (setup : Setup) (user : List ℕ) (all : List (List ℕ)) (old : Only) (seen : Seen) (events : List Event) (numbers : Numbers)
+    → seen ≡ fresh Service → events ≡ [] → HasNone numbers → SoFar setup user all all seen old old (map event_of events) numbers
 begins setup user all old seen events numbers new none no_number =
     subst (λ x. SoFar setup user all all x old old (map event_of events) numbers) (sym new)
     (subst (λ es. SoFar setup user all all (fresh Service) old old (map event_of es) numbers) (sym none)
-    (subst (λ ns. SoFar setup user all all (fresh Service) old old [] ns) (sym no_number) (none_asked setup user all old)))
+    (none_asked setup user all old numbers no_number))
 
 module _ (setup : Setup) (user : List ℕ) (old : Only) where
-  numbered : (rows : List Row) (row : Row) (seen' : Seen) (numbers numbers' : List ℕ) (his : Bool) → seen' ≡ after_all (fresh Service) (rows ++ row ∷ [])
-      → numbers ≡ numbers_of user 1 rows → his ≡ is_of user row → numbers' ≡ numbers ++ (if his then length seen'.told ∷ [] else [])
-      → numbers' ≡ numbers_of user 1 (rows ++ row ∷ [])
-  numbered rows row seen' numbers numbers' his seen_is numbers_are his_is more =
+  -- the number of one line more, where a test of its row says so
+  numbered : (test : Row → Bool) (rows : List Row) (row : Row) (seen' : Seen) (so : Bool) → seen' ≡ after_all (fresh Service) (rows ++ row ∷ [])
+      → so ≡ test row → numbers_where test 1 rows ++ (if so then length seen'.told ∷ [] else []) ≡ numbers_where test 1 (rows ++ row ∷ [])
+  numbered test rows row seen' so seen_is so_is =
       let after_row : length seen'.told ≡ 0 + length (rows ++ row ∷ []) =
       ap (λ (s : Seen). length s.told) seen_is ∙ length-after_all (fresh Service) (rows ++ row ∷ []) in
       let count : length seen'.told ≡ 1 + length rows = omega (arith, after_row, length-append rows (row ∷ [])) in
-      more
-      ∙ ap (λ (t : List ℕ). t ++ (if his then length seen'.told ∷ [] else [])) numbers_are
-      ∙ ap (λ (b : Bool). numbers_of user 1 rows ++ (if b then length seen'.told ∷ [] else [])) his_is
-      ∙ ap (λ (n : ℕ). numbers_of user 1 rows ++ (if is_of user row then n ∷ [] else [])) count
-      ∙ sym (numbers-more user 1 rows row)
+      ap (λ (b : Bool). numbers_where test 1 rows ++ (if b then length seen'.told ∷ [] else [])) so_is
+      ∙ ap (λ (n : ℕ). numbers_where test 1 rows ++ (if test row then n ∷ [] else [])) count
+      ∙ sym (numbers-more test 1 rows row)
 
-  one_more : (all rest : List (List ℕ)) (line : List ℕ) (seen seen' : Seen) (mid new : Only) (events events' : List ModelEvent) (numbers numbers' : List ℕ)
+  -- both numbers
+  are_numbered : (rows : List Row) (row : Row) (line : List ℕ) (seen seen' : Seen) (mid new : Only) (events events' : List ModelEvent) (numbers numbers' : Numbers)
+      → (h : AsksOn setup user line seen seen' mid events numbers new events' numbers') → h.asked.row ≡ row
+      → seen' ≡ after_all (fresh Service) (rows ++ row ∷ []) → AreNumbers user rows numbers → AreNumbers user (rows ++ row ∷ []) numbers'
+  are_numbered rows row line seen seen' mid new events events' numbers numbers' h same seen_is are =
+      let adds = h.numbers_are in
+      let his_is : h.came.is_his ≡ is_of user row = h.asked.his_is ∙ ap (is_of user) same in
+      let bad_is : h.came.is_bad ≡ is_bad_line row = h.asked.bad_is ∙ ap is_bad_line same in
+      record {
+        his = adds.his
+            ∙ ap (λ (t : List ℕ). t ++ (if h.came.is_his then length seen'.told ∷ [] else [])) are.his
+            ∙ numbered (is_of user) rows row seen' h.came.is_his seen_is his_is;
+        bad = subst (AreBad numbers'.bad) (numbered is_bad_line rows row seen' h.came.is_bad seen_is bad_is) (adds.bad (bad_numbers 1 rows) are.bad);
+      }
+
+  one_more : (all rest : List (List ℕ)) (line : List ℕ) (seen seen' : Seen) (mid new : Only) (events events' : List ModelEvent) (numbers numbers' : Numbers)
       → SoFar setup user all (line ∷ rest) seen old mid events numbers → AsksOn setup user line seen seen' mid events numbers new events' numbers'
       → SoFar setup user all rest seen' old new events' numbers'
   one_more all rest line seen seen' mid new events events' numbers numbers' s h =
@@ -145,7 +176,7 @@ module _ (setup : Setup) (user : List ℕ) (old : Only) where
           going = ap (λ (x : Seen). x.refused) (sym seen_is) ∙ l.going;
           links = chain-more (LinksOnly setup) old a.rows mid l.row new a.links l.link;
           events_are = l.events_are ∙ ap (λ (t : List ModelEvent). t ++ events_in (l.row ∷ [])) a.events_are ∙ sym (events-more a.rows l.row);
-          numbers_are = numbered a.rows l.row seen' numbers numbers' h.his seen_is a.numbers_are l.his_is h.numbers_are;
+          numbers_are = are_numbered a.rows l.row line seen seen' mid new events events' numbers numbers' h refl seen_is a.numbers_are;
         };
         seen_is = seen_is;
         cut = s.cut ∙ sym (append_assoc s.done (line ∷ []) rest);
@@ -153,7 +184,7 @@ module _ (setup : Setup) (user : List ℕ) (old : Only) where
 
   -- the next line was asked
   pub next_line : (all : List (List ℕ)) (rest line after : List ℕ) (seen seen' : Seen) (mid new : Only) (events events' : List ModelEvent)
-      (numbers numbers' : List ℕ) → cut_at 10 rest ≡ Some (line, after) → SoFar setup user all (lines_of rest) seen old mid events numbers
+      (numbers numbers' : Numbers) → cut_at 10 rest ≡ Some (line, after) → SoFar setup user all (lines_of rest) seen old mid events numbers
       → AsksOn setup user line seen seen' mid events numbers new events' numbers' → SoFar setup user all (lines_of after) seen' old new events' numbers'
   next_line all rest line after seen seen' mid new events events' numbers numbers' cut s h =
       let c = cut-line rest line after cut in
@@ -161,19 +192,19 @@ module _ (setup : Setup) (user : List ℕ) (old : Only) where
       let so_far = subst (λ t. SoFar setup user all t seen old mid events numbers) lines s in
       one_more all (lines_of after) line seen seen' mid new events events' numbers numbers' so_far h
 
-  all_done : (all : List (List ℕ)) (seen : Seen) (new : Only) (events : List ModelEvent) (numbers : List ℕ)
+  all_done : (all : List (List ℕ)) (seen : Seen) (new : Only) (events : List ModelEvent) (numbers : Numbers)
       → SoFar setup user all [] seen old new events numbers → AllAsked setup user all old new events numbers
   all_done all seen new events numbers s = subst (λ t. AllAsked setup user t old new events numbers) (sym (s.cut ∙ append-nil s.done)) s.asked
 
   -- nothing is left
-  pub all_lines : (all : List (List ℕ)) (rest : List ℕ) (seen : Seen) (new : Only) (events : List ModelEvent) (numbers : List ℕ) → rest ≡ []
+  pub all_lines : (all : List (List ℕ)) (rest : List ℕ) (seen : Seen) (new : Only) (events : List ModelEvent) (numbers : Numbers) → rest ≡ []
       → SoFar setup user all (lines_of rest) seen old new events numbers → AllAsked setup user all old new events numbers
   all_lines all rest seen new events numbers none s =
       all_done all seen new events numbers (subst (λ t. SoFar setup user all (lines_of t) seen old new events numbers) none s)
 
   -- the last line, which lacks its newline, was asked
   pub last_line : (all : List (List ℕ)) (rest : List ℕ) (seen seen' : Seen) (mid new : Only) (events events' : List ModelEvent)
-      (numbers numbers' : List ℕ) → cut_at 10 rest ≡ None → 0 < length rest → SoFar setup user all (lines_of rest) seen old mid events numbers
+      (numbers numbers' : Numbers) → cut_at 10 rest ≡ None → 0 < length rest → SoFar setup user all (lines_of rest) seen old mid events numbers
       → AsksOn setup user rest seen seen' mid events numbers new events' numbers' → AllAsked setup user all old new events' numbers'
   last_line all [] seen seen' mid new events events' numbers numbers' cut some s h = absurd (omega (arith, some))
   last_line all (b ∷ rest) seen seen' mid new events events' numbers numbers' cut some s h =
@@ -185,7 +216,7 @@ module _ (setup : Setup) (user : List ℕ) (old : Only) where
 
 -- lines that a pass which had made no call was asked are one store's
 pub first_of : (setup : Setup) (user : List ℕ) (lines : List (List ℕ)) (old new : Only) (run : FirstRun) → old ≡ unasked
-    → AllAsked setup user lines old new (map event_of run.events.items) run.numbers.items → IsFirstRun setup user lines run
+    → AllAsked setup user lines old new (map event_of run.events.items) run.numbers → IsFirstRun setup user lines run
 first_of setup user lines old new run none a = record {
   rows = a.rows;
   talks = a.talks;

@@ -6,23 +6,23 @@ use Rattle.model.specs.Events.{Event, Reply, Answer}
 use Rattle.model.specs.Steps.{replies_to}
 use Rattle.model.specs.Talk.{Row, Silent, Names, Refuses, Asks, Waits, answer_text, asked_of, asked_in}
 use Rattle.model.proofs.BoolLemmas.{same_bytes}
-use Rattle.replaying.specs.Striking.{events_in, is_of, numbers_of, text_for, lines_under}
+use Rattle.replaying.specs.Striking.{events_in, is_of, numbers_of, numbers_where, text_for, lines_under}
 
 -- ---- one more line
 
-number-step : (user : List ℕ) (n : ℕ) (b : Bool) (rest rest' last : List ℕ) → rest ≡ rest' ++ last
+number-step : (n : ℕ) (b : Bool) (rest rest' last : List ℕ) → rest ≡ rest' ++ last
     → (if b then n ∷ rest else rest) ≡ (if b then n ∷ rest' else rest') ++ last
-number-step user n true rest rest' last h = ap (λ t. n ∷ t) h
-number-step user n false rest rest' last h = h
+number-step n true rest rest' last h = ap (λ t. n ∷ t) h
+number-step n false rest rest' last h = h
 
-pub numbers-more : (user : List ℕ) (n : ℕ) (rows : List Row) (row : Row)
-    → numbers_of user n (rows ++ row ∷ []) ≡ numbers_of user n rows ++ (if is_of user row then (n + length rows) ∷ [] else [])
-numbers-more user n [] row = ap (λ (k : ℕ). if is_of user row then k ∷ [] else []) (omega arith)
-numbers-more user n (r ∷ rows) row =
-    let behind = numbers_of user (n + 1) rows in
-    let last = λ (k : ℕ). if is_of user row then k ∷ [] else [] in
-    number-step user n (is_of user r) (numbers_of user (n + 1) (rows ++ row ∷ [])) behind (last (n + length (r ∷ rows)))
-    (numbers-more user (n + 1) rows row ∙ ap (λ (k : ℕ). behind ++ last k) (omega arith))
+pub numbers-more : (test : Row → Bool) (n : ℕ) (rows : List Row) (row : Row)
+    → numbers_where test n (rows ++ row ∷ []) ≡ numbers_where test n rows ++ (if test row then (n + length rows) ∷ [] else [])
+numbers-more test n [] row = ap (λ (k : ℕ). if test row then k ∷ [] else []) (omega arith)
+numbers-more test n (r ∷ rows) row =
+    let behind = numbers_where test (n + 1) rows in
+    let last = λ (k : ℕ). if test row then k ∷ [] else [] in
+    number-step n (test r) (numbers_where test (n + 1) (rows ++ row ∷ [])) behind (last (n + length (r ∷ rows)))
+    (numbers-more test (n + 1) rows row ∙ ap (λ (k : ℕ). behind ++ last k) (omega arith))
 
 asked-more : (rows : List Row) (row : Row) → asked_in (rows ++ row ∷ []) ≡ asked_in rows ++ asked_in (row ∷ [])
 asked-more [] row = refl

@@ -1,6 +1,6 @@
 -- How the end of `strike` is told once all was flushed.
-use Rattle.std.proofs.Common.{◌≡◌, ℕ, Bool, inl, inr, List, [], length, take, Option, refl, sym, subst, arith}
-use Rattle.std.specs.Prelude.{Result, Ok, Err, IfErr, OnOk, OnErr}
+use Rattle.std.proofs.Common.{◌≡◌, ℕ, Bool, true≢false, inl, inr, List, [], length, take, Option, refl, sym, subst, arith}
+use Rattle.std.specs.Prelude.{Result, Ok, Err, IsOk, IfOk, IfErr, OnOk, OnErr}
 use Rattle.std.proofs.lemmas.List.{take_all}
 use Rattle.std.specs.Io.KnownBytes.{Appends}
 use Rattle.model.specs.declared.refusal.Refusal.{Refusal}
@@ -8,6 +8,8 @@ use Rattle.model.specs.declared.refusal.Refusal.TheVariants.{OutputFault}
 use Rattle.model.specs.Lines.{lines_of}
 use Rattle.session.specs.Serving.{IsUnwritten, TellsEnd}
 use Rattle.session.proofs.RowLemmas.{appends-none, appends-flushed, on_ok}
+use Rattle.replaying.specs.declared.bad_lines.BadLines.{BadLines}
+use Rattle.replaying.specs.BadLines.{end_of, ended_with}
 use Rattle.replaying.specs.Striking.{IsStruck, Struck, StruckEarly}
 use Rattle.replaying.proofs.WholeLemmas.{Told}
 
@@ -32,6 +34,12 @@ pub struck_part : {T : Type 0} (r : Result T Refusal) (charge : ℕ) (user : Lis
     → IfErr r (StruckEarly charge user timed blank written lines)
 struck_part (Ok t) charge user timed lines blank written text is h fault = tt
 struck_part (Err why) charge user timed lines blank written text is h fault = inr (record { text = text; is = is; count = h.0; part = h.1; fault = fault })
+
+pub struck_rest : {T : Type 0} (r : Result T Refusal) (charge : ℕ) (user : List ℕ) (timed : Bool) (lines : List (List ℕ)) (blank written : Option (List ℕ)) (text : List ℕ)
+    → IsStruck charge user timed lines text → ((count : ℕ) × Appends blank written (take count text)) → IfErr r IsUnwritten
+    → IfErr r (StruckEarly charge user timed blank written lines)
+struck_rest (Ok t) charge user timed lines blank written text is h fault = tt
+struck_rest (Err why) charge user timed lines blank written text is h fault = inr (record { text = text; is = is; count = h.0; part = h.1; fault = fault })
 
 -- a want of memory or a failure of the writer is told as one of them
 still_unwritten : (first why : Refusal) (input output : Type 0) → TellsEnd first input output why → IsUnwritten first → IsUnwritten why
@@ -78,3 +86,33 @@ early_after old new input output (Err why) (Err first) P Q S (inr t) p q unshown
     let is : first ≡ t.0 = let e : Err first ≡ Err t.0 = t.1 in cc in
     let tells : TellsEnd first input output why = subst (λ x. TellsEnd x input output why) (sym is) t.2 in
     later first why (still_unwritten first why input output tells) q
+
+-- ---- what was told before the end
+
+-- the end of what was told
+pub end_ok : (told : Result (Option BadLines) Refusal) (e : Result (Unit {0}) Refusal) (P : Type 0) → e ≡ end_of told → OnOk told P → OnOk e P
+end_ok (Ok bad) e P is p = subst (λ r. OnOk r P) (sym is) p
+end_ok (Err why) e P is p = subst (λ r. OnOk r P) (sym is) tt
+
+pub end_err : (told : Result (Option BadLines) Refusal) (e : Result (Unit {0}) Refusal) (Q : Refusal → Type 0) → e ≡ end_of told → IfErr told Q → IfErr e Q
+end_err (Ok bad) e Q is q = subst (λ r. IfErr r Q) (sym is) tt
+end_err (Err why) e Q is q = subst (λ r. IfErr r Q) (sym is) q
+
+-- an end, with what was told
+pub with_ok : (r : Result (Option BadLines) Refusal) (shown : Result (Unit {0}) Refusal) (told : Result (Option BadLines) Refusal) (P : Type 0)
+    → r ≡ ended_with shown told → OnOk shown P → OnOk r P
+with_ok r (Ok u) (Ok bad) P is p = subst (λ x. OnOk x P) (sym is) p
+with_ok r (Ok u) (Err why) P is p = subst (λ x. OnOk x P) (sym is) p
+with_ok r (Err why) told P is p = subst (λ x. OnOk x P) (sym is) tt
+
+pub with_err : (r : Result (Option BadLines) Refusal) (shown : Result (Unit {0}) Refusal) (told : Result (Option BadLines) Refusal) (Q : Refusal → Type 0)
+    → r ≡ ended_with shown told → IfErr shown Q → IfErr r Q
+with_err r (Ok u) (Ok bad) Q is q = subst (λ x. IfErr x Q) (sym is) tt
+with_err r (Ok u) (Err why) Q is q = subst (λ x. IfErr x Q) (sym is) tt
+with_err r (Err why) told Q is q = subst (λ x. IfErr x Q) (sym is) q
+
+pub with_bad : (r : Result (Option BadLines) Refusal) (shown e : Result (Unit {0}) Refusal) (told : Result (Option BadLines) Refusal) (B : Option BadLines → Type 0)
+    → r ≡ ended_with shown told → e ≡ end_of told → OnOk shown (IsOk e) → IfOk told B → IfOk r B
+with_bad r (Ok u) e (Ok bad) B is ends well b = subst (λ x. IfOk x B) (sym is) b
+with_bad r (Ok u) e (Err why) B is ends well b = absurd (true≢false (sym (subst IsOk ends well)))
+with_bad r (Err why) e told B is ends well b = subst (λ x. IfOk x B) (sym is) tt

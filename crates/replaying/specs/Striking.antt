@@ -37,10 +37,14 @@ abbrev pub is_of : (user : List ℕ) → Row → Bool
 is_of user (Asks event reply) = bytes_eq event.actor user
 is_of user row = false
 
--- the numbers of those lines, where the first line has this one
+-- the numbers of the lines of which this is so, where the first line has this one
+abbrev pub numbers_where : (Row → Bool) → ℕ → List Row → List ℕ
+numbers_where test n [] = []
+numbers_where test n (row ∷ rows) = if test row then n ∷ numbers_where test (n + 1) rows else numbers_where test (n + 1) rows
+
+-- the numbers of those of the user
 abbrev pub numbers_of : (user : List ℕ) → ℕ → List Row → List ℕ
-numbers_of user n [] = []
-numbers_of user n (row ∷ rows) = if is_of user row then n ∷ numbers_of user (n + 1) rows else numbers_of user (n + 1) rows
+numbers_of user n rows = numbers_where (is_of user) n rows
 
 -- what is printed for those lines, where the first line has this number
 abbrev pub text_for : (user : List ℕ) → ℕ → List Row → List ℕ

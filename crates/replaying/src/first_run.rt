@@ -1,30 +1,53 @@
 //! Running the lines of an input for the events that they make.
 
-ghost use Rattle.std.specs.Prelude.{◌≡◌, ◌≤◌, ◌<◌, false, [], length, map, slice_get, bytes_eq, MatchBool, MatchOption, IfOk, OnOk};
+ghost use Rattle.std.specs.Prelude.{◌≡◌, ◌≤◌, ◌<◌, ◌++◌, ◌∷◌, ℕ, List, if◌then◌else◌, false, [], length, map, slice_get, bytes_eq, MatchBool, MatchOption, IfOk, OnOk};
 ghost use Rattle.model.specs.Lines.{lines_of};
 ghost use Rattle.model.specs.Limits.{most_charge};
 ghost use Rattle.model.specs.Worlds.{nothing};
 ghost use Rattle.events.specs.Terms.{event_of};
 ghost use Rattle.schedule.specs.Standing.{setup_for, setup_of, world_of, stored_in};
-ghost use Rattle.replaying.specs.Recording.{Asked, AsksOn, AllAsked, IsFirstRun};
+ghost use Rattle.replaying.specs.BadLines.{is_bad_reading, AreBad};
+ghost use Rattle.replaying.specs.Recording.{AddsNumbers, Asked, AsksOn, AllAsked, IsFirstRun};
 
+use crate::bad_lines::BadLines;
+use crate::numbers::{FirstRun, Line, Numbers};
 use crate::one_pass::OnePass;
 use crate::recorder::Recorder;
 use book::{Blank, Front, Naming};
 use lines::cut;
 use model::Refusal;
 use schedule::{Core, Event, Limits, User};
-use session::{Mode, Session};
-use std::alloc::Global;
+use session::{Mode, Reading, Session};
+use std::alloc::{AllocError, Global};
 use std::hash::RandomState;
 use std::marker::Brand;
 use std::sync::Wait;
 
-/// What the lines of an input asked, and the numbers of those lines that made an event of one user.
-#[derive(Drop)]
-pub(crate) struct FirstRun {
-    pub(crate) events: Vec<Event>,
-    pub(crate) numbers: Vec<usize>,
+/// Whether a line is refused with 25 `BadLine`, by what it comes to.
+fn is_bad(reading: &Reading) -> bool
+    ensures { result ≡ is_bad_reading reading.now }
+{
+    matches!(reading, Reading::Refuses(Refusal::BadLine))
+}
+
+/// These lines, and behind them that of a number, where it is refused so.
+fn bad_after(bad: Option<BadLines>, is_bad: bool, number: usize) -> Option<BadLines>
+    ensures { (numbers : List ℕ) → AreBad bad numbers
+        → AreBad result (numbers ++ (if is_bad then number ∷ [] else [])) }
+{
+    if !is_bad {
+        return bad;
+    }
+    match bad {
+        Some(lines) => Some(BadLines {
+            count: lines.count.saturating_add(1),
+            first: lines.first,
+        }),
+        None => Some(BadLines {
+            count: 1,
+            first: number,
+        }),
+    }
 }
 
 /// Whether there is an event behind so many others, and it is a user's.
@@ -34,49 +57,72 @@ fn is_next_of(events: &[Event], before: usize, user: &User) -> bool
     events.get(before).is_some_and(|event| event.actor == *user)
 }
 
-/// Runs a line. Whether it makes an event of the user.
+/// Runs a line, and tells what it was.
 fn ask_line<J: Naming, H: Wait>(
     alloc: Global,
     session: &mut Session,
     recorder: &mut Recorder<'_, J, H>,
     line: &[u8],
     user: &User,
-) -> Result<bool, Refusal>
+) -> Result<Line, Refusal>
     requires { recorder.old.has_lost ≡ false }
-    ensures asked { IfOk result (λ his. Asked J.setup user.now line.now session.old session.new
+    ensures asked { IfOk result (Asked J.setup user.now line.now session.old session.new
         recorder.old.store (map event_of recorder.old.events.items)
-        recorder.new.store (map event_of recorder.new.events.items) his) }
+        recorder.new.store (map event_of recorder.new.events.items)) }
     ensures kept { OnOk result (recorder.new.has_lost ≡ false) }
 {
     let before = recorder.events.len();
-    session.line(alloc, line, recorder)?;
+    let reading = session.read(alloc, line)?;
+    let is_bad = is_bad(&reading);
+    session.answer(alloc, reading, recorder)?;
     if recorder.has_lost {
         return Err(Refusal::Memory);
     }
     if session.is_refused() {
         return Err(Refusal::BadUsers);
     }
-    Ok(is_next_of(recorder.events.as_slice(), before, user))
+    let is_his = is_next_of(recorder.events.as_slice(), before, user);
+    Ok(Line { is_his, is_bad })
 }
 
-/// Runs a line, and adds its number to the others where it makes an event of the user.
+/// Adds the number of a line to others where it is to be. The one error is memory.
+fn add_where(numbers: &mut Vec<usize>, is_his: bool, number: usize) -> Result<(), AllocError>
+    ensures { OnOk result (numbers.new.items ≡ numbers.old.items ++ (if is_his then number ∷ [] else [])) }
+{
+    if is_his {
+        numbers.push(number)?;
+    }
+    Ok(())
+}
+
+/// Adds the number of a line to those of the user's where it makes an event of his, and to those that are refused
+/// with 25 where it is. The one error is memory.
+fn add_numbers(numbers: &mut Numbers, line: Line, number: usize) -> Result<(), AllocError>
+    ensures { OnOk result (AddsNumbers line number numbers.old numbers.new) }
+{
+    add_where(&mut numbers.his, line.is_his, number)?;
+    numbers.bad = bad_after(numbers.bad, line.is_bad, number);
+    Ok(())
+}
+
+/// Runs a line, and adds its number to those of the user's where it makes an event of his, and to those that are
+/// refused with 25 where it is.
 fn ask_numbered<J: Naming, H: Wait>(
     alloc: Global,
     session: &mut Session,
     recorder: &mut Recorder<'_, J, H>,
     line: &[u8],
     user: &User,
-    numbers: &mut Vec<usize>,
+    numbers: &mut Numbers,
 ) -> Result<(), Refusal>
     requires { recorder.old.has_lost ≡ false }
     ensures asked { OnOk result (AsksOn J.setup user.now line.now session.old session.new
-        recorder.old.store (map event_of recorder.old.events.items) numbers.old.items
-        recorder.new.store (map event_of recorder.new.events.items) numbers.new.items) }
+        recorder.old.store (map event_of recorder.old.events.items) numbers.old
+        recorder.new.store (map event_of recorder.new.events.items) numbers.new) }
     ensures kept { OnOk result (recorder.new.has_lost ≡ false) }
 {
-    if ask_line(alloc, session, recorder, line, user)? {
-        numbers.push(session.line_count())?;
-    }
+    let line = ask_line(alloc, session, recorder, line, user)?;
+    add_numbers(numbers, line, session.line_count())?;
     Ok(())
 }
 
@@ -87,19 +133,23 @@ fn is_begun(rest: &[u8]) -> bool
     !rest.is_empty()
 }
 
-/// Runs the lines of an input. Gives the numbers of those that make an event of the user.
+/// Runs the lines of an input. Gives the numbers of those that make an event of the user, and of those that are
+/// refused with 25.
 fn ask_lines<J: Naming, H: Wait>(
     alloc: Global,
     recorder: &mut Recorder<'_, J, H>,
     input: &[u8],
     user: &User,
-) -> Result<Vec<usize>, Refusal>
+) -> Result<Numbers, Refusal>
     requires { (recorder.old.has_lost ≡ false) × (recorder.old.events.items ≡ []) }
-    ensures { IfOk result (λ numbers. AllAsked J.setup user.now (lines_of input.now)
-        recorder.old.store recorder.new.store (map event_of recorder.new.events.items) numbers.items) }
+    ensures { IfOk result (AllAsked J.setup user.now (lines_of input.now)
+        recorder.old.store recorder.new.store (map event_of recorder.new.events.items)) }
 {
     let mut session = Session::new(alloc, Mode::Service);
-    let mut numbers = Vec::new(alloc);
+    let mut numbers = Numbers {
+        his: Vec::new(alloc),
+        bad: None,
+    };
     let mut rest = input;
     while let Some((line, after)) = cut(b'\n', rest) {
         ask_numbered(alloc, &mut session, recorder, line, user, &mut numbers)?;

@@ -13,9 +13,12 @@ ghost use Rattle.schedule.specs.Ever.{run_of};
 ghost use Rattle.schedule.specs.Standing.{setup_for};
 ghost use Rattle.session.specs.Ahead.{LooksAhead};
 ghost use Rattle.session.specs.Serving.{HasFailed, IsNoFault, IsUnwritten, MayBeFault};
+ghost use Rattle.replaying.specs.BadLines.{TellsBadLines, end_of, ended_with};
 ghost use Rattle.replaying.specs.Striking.{Rerun, Struck, StruckEarly, lines_under, struck};
 
-use crate::first_run::{FirstRun, first_run};
+use crate::bad_lines::BadLines;
+use crate::first_run::first_run;
+use crate::numbers::{FirstRun, Numbers};
 use lines::answer_text;
 use model::Refusal;
 use nar::has_failed;
@@ -146,7 +149,8 @@ fn print_replies<W: Write + Faults>(
     Ok(())
 }
 
-/// Runs the lines of an input, and prints what is struck for a user, who is one of these.
+/// Runs the lines of an input, and prints what is struck for a user, who is one of these. Gives the lines that are
+/// refused with 25. The input is let go before the events that can reach him are run.
 fn strike_lines<H: Wait, W: Write + Faults>(
     rt: &H,
     alloc: Global,
@@ -155,32 +159,37 @@ fn strike_lines<H: Wait, W: Write + Faults>(
     limits: Limits,
     user: &User,
     timed: bool,
-    input: &[u8],
+    input: Vec<u8>,
     writer: &mut W,
-) -> Result<(), Refusal>
+) -> Result<Option<BadLines>, Refusal>
     requires charge { limits.charge ≤ most_charge }
-    requires found { (LooksAhead Service input.now (Some users.items)) × (is_among user.now users.items ≡ true) }
+    requires found { (LooksAhead Service input.items (Some users.items)) × (is_among user.now users.items ≡ true) }
     ensures ok { OnOk result (Struck limits.charge user.now timed
-        (W.contents writer.old) (W.contents writer.new) (lines_of input.now)) }
+        (W.contents writer.old) (W.contents writer.new) (lines_of input.items)) }
     ensures err { IfErr result (StruckEarly limits.charge user.now timed
-        (W.contents writer.old) (W.contents writer.new) (lines_of input.now)) }
+        (W.contents writer.old) (W.contents writer.new) (lines_of input.items)) }
+    ensures bad_lines { IfOk result (TellsBadLines limits.charge user.now (lines_of input.items)) }
 {
     let before = writer.failures();
     let copied = users.clone()?;
-    let first = first_run(rt, alloc, hashing, copied, limits, input, user)?;
+    let first = first_run(rt, alloc, hashing, copied, limits, input.as_slice(), user)?;
+    drop(input);
     let FirstRun { events, numbers } = first;
+    let Numbers { his, bad } = numbers;
     let replies = rerun(alloc, hashing, users, limits, user, timed, events)?;
     print_replies(
         alloc,
         replies.as_slice(),
         user,
-        numbers.as_slice(),
+        his.as_slice(),
         writer,
         before,
-    )
+    )?;
+    Ok(bad)
 }
 
-/// Runs the lines of an input, and prints what is struck for the user of a name.
+/// Runs the lines of an input, and prints what is struck for the user of a name. Gives the lines that are refused
+/// with 25.
 fn strike_input<H: Wait, W: Write + Faults>(
     rt: &H,
     alloc: Global,
@@ -188,24 +197,25 @@ fn strike_input<H: Wait, W: Write + Faults>(
     limits: Limits,
     name: &[u8],
     timed: bool,
-    input: &[u8],
+    input: Vec<u8>,
     writer: &mut W,
-) -> Result<(), Refusal>
+) -> Result<Option<BadLines>, Refusal>
     requires { limits.charge ≤ most_charge }
     ensures ok { OnOk result (Struck limits.charge name.now timed
-        (W.contents writer.old) (W.contents writer.new) (lines_of input.now)) }
+        (W.contents writer.old) (W.contents writer.new) (lines_of input.items)) }
     ensures err { IfErr result (StruckEarly limits.charge name.now timed
-        (W.contents writer.old) (W.contents writer.new) (lines_of input.now)) }
+        (W.contents writer.old) (W.contents writer.new) (lines_of input.items)) }
+    ensures bad_lines { IfOk result (TellsBadLines limits.charge name.now (lines_of input.items)) }
 {
-    let users = users_in(alloc, input)?;
+    let users = users_in(alloc, input.as_slice())?;
     let user = user_among(alloc, users.as_slice(), name)?;
     strike_lines(
         rt, alloc, hashing, users, limits, &user, timed, input, writer,
     )
 }
 
-/// Reads all that a reader gives, and prints what is struck of it for the user of a name. The writer is left to
-/// be flushed.
+/// Reads all that a reader gives, and prints what is struck of it for the user of a name. Gives the lines that are
+/// refused with 25. The writer is left to be flushed.
 fn strike_reader<H: Wait, R: Read + Faults, W: Write + Faults>(
     rt: &H,
     alloc: Global,
@@ -215,25 +225,42 @@ fn strike_reader<H: Wait, R: Read + Faults, W: Write + Faults>(
     timed: bool,
     reader: &mut R,
     writer: &mut W,
-) -> Result<(), Refusal>
+) -> Result<Option<BadLines>, Refusal>
     requires { limits.charge ≤ most_charge }
     ensures ok { OnOk result ((all : List ℕ) → R.remaining reader.old ≡ Some all
         → Struck limits.charge name.now timed (W.contents writer.old) (W.contents writer.new) (lines_of all)) }
     ensures err { IfErr result (λ why. (all : List ℕ) → R.remaining reader.old ≡ Some all
         → StruckEarly limits.charge name.now timed (W.contents writer.old) (W.contents writer.new) (lines_of all) why) }
+    ensures bad_lines { IfOk result (λ bad. (all : List ℕ) → R.remaining reader.old ≡ Some all
+        → TellsBadLines limits.charge name.now (lines_of all) bad) }
     ensures whole { OnOk result (¬ HasFailed (R.failed reader.old) (R.failed reader.new)) }
 {
     let input = read_whole(alloc, reader)?;
-    strike_input(
-        rt,
-        alloc,
-        hashing,
-        limits,
-        name,
-        timed,
-        input.as_slice(),
-        writer,
-    )
+    strike_input(rt, alloc, hashing, limits, name, timed, input, writer)
+}
+
+/// Whether a run ended well, whatever it told.
+fn end_of(told: &Result<Option<BadLines>, Refusal>) -> Result<(), Refusal>
+    ensures { result ≡ end_of told.now }
+{
+    match told {
+        Ok(_) => Ok(()),
+        Err(why) => Err(*why),
+    }
+}
+
+/// An end, with what was told before it.
+fn ended_with(
+    ended: Result<(), Refusal>,
+    told: Result<Option<BadLines>, Refusal>,
+) -> Result<Option<BadLines>, Refusal>
+    ensures { result ≡ ended_with ended told }
+{
+    match (ended, told) {
+        (Ok(()), Ok(bad)) => Ok(bad),
+        (Ok(()), Err(_)) => Ok(None),
+        (Err(why), _) => Err(why),
+    }
 }
 
 /// Runs the lines that a reader gives, and then, in a new store, those of their events that can reach a
@@ -241,7 +268,8 @@ fn strike_reader<H: Wait, R: Read + Faults, W: Write + Faults>(
 /// Writes what he is replied then, each reply as the line of its old number, and flushes it.
 ///
 /// The events are those of the first run, their expansions filled then. All of the input is read before any
-/// line is run, and all lines are run before anything is written.
+/// line is run, and all lines are run before anything is written. The lines that are refused with 25 are given,
+/// if there are any: nothing is written for them, whoever the user is.
 ///
 /// # Errors
 ///
@@ -262,13 +290,16 @@ pub fn strike<H: Wait, R: Read + Faults, W: Write + Faults>(
     timed: bool,
     reader: &mut R,
     writer: &mut W,
-) -> Result<(), Refusal>
+) -> Result<Option<BadLines>, Refusal>
     requires { limits.charge ≤ most_charge }
     ensures ok { OnOk result ((all : List ℕ) → R.remaining reader.old ≡ Some all
         → Struck limits.charge name.now timed (W.contents writer.old) (W.contents writer.new) (lines_of all)) }
     // Else nothing is written, or a beginning of it where writing failed, or memory while writing.
     ensures err { IfErr result (λ why. (all : List ℕ) → R.remaining reader.old ≡ Some all
         → StruckEarly limits.charge name.now timed (W.contents writer.old) (W.contents writer.new) (lines_of all) why) }
+    // These are the lines that the first run refused with 25.
+    ensures bad_lines { IfOk result (λ bad. (all : List ℕ) → R.remaining reader.old ≡ Some all
+        → TellsBadLines limits.charge name.now (lines_of all) bad) }
     // It ends well only where the reader's count shows no failure.
     ensures whole { OnOk result (¬ HasFailed (R.failed reader.old) (R.failed reader.new)) }
     ensures input_fault { IfErr result
@@ -279,6 +310,8 @@ pub fn strike<H: Wait, R: Read + Faults, W: Write + Faults>(
 {
     let reader_before = reader.failures();
     let writer_before = writer.failures();
-    let ended = strike_reader(rt, alloc, hashing, limits, name, timed, reader, writer);
-    flush_after(reader, reader_before, writer, writer_before, ended)
+    let told = strike_reader(rt, alloc, hashing, limits, name, timed, reader, writer);
+    let ended = end_of(&told);
+    let shown = flush_after(reader, reader_before, writer, writer_before, ended);
+    ended_with(shown, told)
 }

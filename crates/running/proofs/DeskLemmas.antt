@@ -76,9 +76,14 @@ first_last passes rest p split first =
 pub is_new : (p : Known) (n : ℕ) → p ≡ new_pass n → IsNew p
 is_new p n same = same ∙ ap new_pass (sym (ap (λ (k : Known). k.caller.number) same))
 
-pub new_push : {Q : Type 0} (ws : List (Worker Known Q)) (w : Worker Known Q) → AllNew IsNew ws → IsNew w.store → AllNew IsNew (ws ++ w ∷ [])
+new_push : {Q : Type 0} (ws : List (Worker Known Q)) (w : Worker Known Q) → AllNew IsNew ws → IsNew w.store → AllNew IsNew (ws ++ w ∷ [])
 new_push [] w all one = (one, tt)
 new_push (v ∷ vs) w all one = (all.0, new_push vs w all.1 one)
+
+-- one more such worker
+pub new_more : {Q : Type 0} (ws vs : List (Worker Known Q)) (w : Worker Known Q) (n : ℕ) → vs ≡ ws ++ w ∷ [] → AllNew IsNew ws → w.store ≡ new_pass n
+    → AllNew IsNew vs
+new_more ws vs w n same all one = subst (AllNew IsNew) (sym same) (new_push ws w all (is_new w.store n one))
 
 -- there is none
 pub first_none : (passes : List Known) → passes ≡ [] → AreFirst passes

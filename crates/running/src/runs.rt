@@ -61,7 +61,7 @@ fn are_accounted(sessions: &[u64], workers: &[u64], rows: &[Row]) -> bool
     true
 }
 
-/// Serves sessions that share a store.
+/// Serves sessions that share a store, and the rounds that they have going.
 fn serve_all<
     'a,
     J: Naming + Send + Sync,
@@ -71,13 +71,13 @@ fn serve_all<
 >(
     rt: &R,
     alloc: Global,
-    rounds: &Rounds,
     desks: Vec<SharedDesk<'a, J, R, Q, I>>,
 ) -> Result<Vec<SharedLeft<'a, J, R, Q>>, Refusal>
     ensures outputs { IfOk result (λ lefts. AllOutputs (IsTold J.setup) HasMet is_stopped I.remaining desks.entry.items lefts.items) }
     ensures memory { IfErr result (λ why. why ≡ Memory) }
 {
-    all_at_once(rt, alloc, rounds, desks)
+    let rounds = Rounds::new(alloc, desks.len())?;
+    all_at_once(rt, alloc, &rounds, desks)
 }
 
 /// Room for what sessions give back, taken before they begin: for so many passes, and for the outputs of so
@@ -123,12 +123,11 @@ fn serve_front<
     ensures memory { IfErr result (λ why. why ≡ Memory) }
 {
     let mut back = room_for::<J>(alloc, passes.len(), parts.len())?;
-    let rounds = Rounds::new(alloc, parts.len())?;
     let Ok(desks) = desks_for(rt, alloc, front, passes, parts) else {
         return Err(Refusal::Memory);
     };
     let sessions = numbers_of(alloc, &desks)?;
-    let lefts = serve_all(rt, alloc, &rounds, desks)?;
+    let lefts = serve_all(rt, alloc, desks)?;
     end_sessions(lefts, &mut back)?;
     Ok(Ended { back, sessions })
 }

@@ -3,6 +3,7 @@
 //! | Calls | What they do |
 //! |---|---|
 //! | [`Session::line`] | answers one line: gives what is printed for it |
+//! | [`Session::read`], [`Session::answer`] | the same in two steps: what the line comes to, and what is printed for that |
 //! | [`serve`] | answers the lines of a reader, and writes and flushes what is printed |
 //! | [`serve_behind`] | the same for a reader of which some was read ahead, but for the flush |
 //! | [`serve_head`] | answers the first lines of a reader, up to the one that names the users |
@@ -29,7 +30,7 @@ pub use ahead::{Ahead, read_ahead};
 pub use answering::{Answer, NoUsers};
 pub use counted::Counted;
 pub use head::{Head, serve_head};
-pub use lines::answer_text;
+pub use lines::{Reading, answer_text};
 pub use model::Mode;
 pub use nar::{Faults, write_whole};
 pub use serving::{Begun, serve, serve_behind, serve_on, serve_whole_lines};

@@ -80,8 +80,12 @@ impl Session {
         self.told.len()
     }
 
-    /// What the next line comes to.
-    pub(crate) fn read(&self, alloc: Global, line: &[u8]) -> Result<Reading, Refusal>
+    /// What the next line comes to, which is given without its newline. [`Session::answer`] answers it by that.
+    ///
+    /// # Errors
+    ///
+    /// - `Memory` only where memory was refused.
+    pub fn read(&self, alloc: Global, line: &[u8]) -> Result<Reading, Refusal>
         ensures read { IfOk result (Becomes (form_of self.now line.now)) }
         ensures memory { IfErr result (λ why. why ≡ Memory) }
     {
@@ -89,7 +93,11 @@ impl Session {
     }
 
     /// Answers the next line, by what it comes to, and gives what is printed for it.
-    pub(crate) fn answer<A: Answer>(
+    ///
+    /// # Errors
+    ///
+    /// - `Memory` as [`Session::line`] has it.
+    pub fn answer<A: Answer>(
         &mut self,
         alloc: Global,
         reading: Reading,

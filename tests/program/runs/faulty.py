@@ -96,7 +96,7 @@ def outputs(cases):
 
 
 def services(cases):
-    """In the other subcommands the line `wait` is refused, and nothing is built."""
+    """In the other subcommands the line `wait` is refused, and nothing is built; `strike` says how many are."""
     for stored in "process_builder", "lines_of_a_run":
         file = pathlib.Path(__file__).resolve().parent / f"{stored}.events"
         wanted = subprocess.run([REPLIES, file], stdout=subprocess.PIPE, text=True, check=True).stdout
@@ -106,4 +106,6 @@ def services(cases):
             cases.check(f"replay_of_{stored}", folder, run(folder, [cases.program, "replay", file]), output=wanted,
                         others=[] if refused else ["no line is refused"])
             came = run(folder, [cases.program, "strike", "--user", "alice", file])
-            cases.check(f"strike_of_{stored}", folder, came, output=lines)
+            first = refused[0].split(" ")[0] if refused else "0"
+            cases.check(f"strike_of_{stored}", folder, came, output=lines,
+                        errors=f"intstore: lines refused 25: {len(refused)}, the first is line {first}\n")

@@ -1,9 +1,9 @@
-use Rattle.std.proofs.Common.{rules, ◌≡◌, ◌<◌, [], length}
+use Rattle.std.proofs.Common.{rules, ◌≡◌, ◌<◌, [], length, refl}
 use Rattle.replaying.proofs.RecordingLemmas.{begins, next_line, last_line, all_lines}
 use Rattle.replaying.proofs.first_run.ask_lines.Goals as goal
 
 pub loop-line-init : goal.loop-line-init
-loop-line-init g c = (c.requires.0, begins _ _ _ _ _ _ _ c.new-session.ensures c.requires.1 (search rules))
+loop-line-init g c = (c.requires.0, begins _ _ _ _ _ _ _ c.new-session.ensures c.requires.1 (search rules, refl))
 
 pub loop-line-preserved : goal.loop-line-preserved
 loop-line-preserved g c = (
