@@ -1,0 +1,2 @@
+extern const char greet_home[];
+void greet(const char *name);
