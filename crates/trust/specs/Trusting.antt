@@ -1,6 +1,7 @@
 -- Trust among users who are named by their places, and sets of places as the bits of a word.
-use Rattle.std.specs.Prelude.{◌≡◌, ℕ, ◌==◌, Bool, true, false, not, ◌&&◌, ◌||◌, List, slice_index}
+use Rattle.std.specs.Prelude.{◌≡◌, ℕ, ◌<◌, ◌==◌, Bool, true, false, not, ◌&&◌, ◌||◌, List, slice_index, if◌then◌else◌}
 use Rattle.std.specs.Int.{bit_at}
+use Rattle.std.proofs.Common.{bit_or}
 
 -- whether the bit of a place is set
 abbrev pub holds : ℕ → ℕ → Bool
@@ -38,3 +39,11 @@ pub record IsReach (trust : ℕ → ℕ → Bool) (user : ℕ) (set : ℕ → Bo
   pub own : set user ≡ true
   pub closed : IsClosed trust set
   pub least : (other : ℕ → Bool) → other user ≡ true → IsClosed trust other → (v : ℕ) → set v ≡ true → other v ≡ true
+
+-- of 64 users each reaches those of his word
+abbrev pub AreReached : List ℕ → List ℕ → Type 0
+AreReached rows reached = (user : ℕ) → user < 64 → IsReach (trusts rows) user (holds (slice_index reached user))
+
+-- whom somebody reaches who reached these, once a user trusts one more, who reaches more
+abbrev pub reached_with : ℕ → ℕ → ℕ → ℕ
+reached_with reached user more = if holds reached user then bit_or reached more else reached

@@ -1,7 +1,7 @@
 //! Trust among 64 users, who are named by their places.
 
-ghost use Rattle.std.specs.Prelude.{◌≡◌, ℕ, ◌<◌, ◌==◌, ◌&&◌, not, false};
-ghost use Rattle.trust.specs.Trusting.{holds, trusts, with_pair, without_pair, with_said, IsReach, IsReachOf};
+ghost use Rattle.std.specs.Prelude.{◌≡◌, ℕ, ◌<◌, ◌==◌, ◌&&◌, not, false, slice_index};
+ghost use Rattle.trust.specs.Trusting.{holds, trusts, with_pair, without_pair, with_said, IsReach, IsReachOf, AreReached, reached_with};
 
 use crate::places::has_place;
 use std::marker::Model;
@@ -17,14 +17,78 @@ fn without(word: u64, place: usize) -> u64
     word & !(1 << place)
 }
 
-/// Who trusts whom, among 64 users. A user is named by his place in the list of a run, from 0 on.
+/// The users whom the users at some places reach: one after another is asked whom he trusts, until all are.
+fn reach_of(rows: &[u64; USERS], users: u64) -> u64
+    ensures { IsReachOf (trusts rows.now) (holds users) (holds result) }
+{
+    let mut reached: u64 = users;
+    let mut asked: u64 = 0;
+    while reached & !asked != 0 {
+        let next = (reached & !asked).trailing_zeros() as usize;
+        asked |= 1 << next;
+        reached |= rows[next];
+    }
+    reached
+}
+
+/// The users whom the user at a place reaches.
+fn reach_of_one(rows: &[u64; USERS], user: usize) -> u64
+    requires { user < 64 }
+    ensures { IsReach (trusts rows.now) user (holds result) }
+{
+    reach_of(rows, 1 << user)
+}
+
+/// Whom each user reaches.
+fn reach_of_each(rows: &[u64; USERS]) -> [u64; USERS]
+    ensures { AreReached rows.now result }
+{
+    let mut reached = [0; USERS];
+    for user in 0..USERS {
+        reached[user] = reach_of_one(rows, user);
+    }
+    reached
+}
+
+/// Whom somebody reaches who reached these, once the user at a place trusts one more, who reaches more.
+fn reached_with(reached: u64, user: usize, more: u64) -> u64
+    requires { user < 64 }
+    ensures { result ≡ reached_with reached user more }
+{
+    if has_place(reached, user) {
+        reached | more
+    } else {
+        reached
+    }
+}
+
+/// Whom each user reaches, once one trusts another as well: who reached the one reaches all whom the other reaches.
+fn each_reached_with(reached: &[u64; USERS], user: usize, other: usize) -> [u64; USERS]
+    requires of_run { user < 64 }
+    requires other_of_run { other < 64 }
+    ensures { (place : ℕ) → place < 64 → slice_index result place
+        ≡ reached_with (slice_index reached.now place) user (slice_index reached.now other) }
+{
+    let mut after = [0; USERS];
+    for place in 0..USERS {
+        after[place] = reached_with(reached[place], user, reached[other]);
+    }
+    after
+}
+
+/// Who trusts whom, among 64 users. A user is named by his place in the list of a run, from 0 on. Whom each
+/// of them reaches is kept, and found anew only where trust changes.
 pub struct Trust {
     rows: [u64; USERS],
+    reached: [u64; USERS],
 }
 
 impl Drop for Trust {
     fn drop(self) {
-        let Trust { rows: _ } = self;
+        let Trust {
+            rows: _,
+            reached: _,
+        } = self;
     }
 }
 
@@ -33,7 +97,11 @@ impl Model for Trust {
 
     ghost Value = { List ℕ };
 
+    ghost use Rattle.trust.specs.Trusting.{AreReached};
+
     ghost view = { λ t. t.rows };
+
+    ghost invariant = { λ t. AreReached t.rows t.reached };
 }
 
 impl Trust {
@@ -41,7 +109,9 @@ impl Trust {
     pub fn new() -> Trust
         ensures { trusts result ≡ (λ u v. false) }
     {
-        Trust { rows: [0; USERS] }
+        let rows = [0; USERS];
+        let reached = reach_of_each(&rows);
+        Trust { rows, reached }
     }
 
     /// From now on a user trusts another.
@@ -51,6 +121,7 @@ impl Trust {
         ensures { trusts self.new ≡ with_pair user other (trusts self.old) }
     {
         self.rows[user] |= 1 << other;
+        self.reached = each_reached_with(&self.reached, user, other);
     }
 
     /// From now on a user does not trust another.
@@ -60,6 +131,7 @@ impl Trust {
         ensures { trusts self.new ≡ without_pair user other (trusts self.old) }
     {
         self.rows[user] = without(self.rows[user], other);
+        self.reached = reach_of_each(&self.rows);
     }
 
     /// From now on a user trusts another, or does not. Whether he did is given back.
@@ -84,7 +156,7 @@ impl Trust {
         requires { user < 64 }
         ensures { IsReach (trusts self.now) user (holds result) }
     {
-        self.closure_of(1 << user)
+        self.reached[user]
     }
 
     /// The users whom the users at some places reach: themselves and, with each, all whom that one
@@ -92,13 +164,6 @@ impl Trust {
     pub fn closure_of(&self, users: u64) -> u64
         ensures { IsReachOf (trusts self.now) (holds users) (holds result) }
     {
-        let mut reached: u64 = users;
-        let mut asked: u64 = 0;
-        while reached & !asked != 0 {
-            let next = (reached & !asked).trailing_zeros() as usize;
-            asked |= 1 << next;
-            reached |= self.rows[next];
-        }
-        reached
+        reach_of(&self.rows, users)
     }
 }
