@@ -194,7 +194,12 @@ fn class_of<'a>(jobs: &Jobs, desk: &'a Desk, place: usize, number: u16) -> Optio
 }
 
 /// A record for another class, with the tree that a table has at its path. The one error is memory.
-fn realised(table: &Table, found: &Record, class: &Class) -> Result<Realisation, Refusal>
+fn realised(
+    alloc: Global,
+    table: &Table,
+    found: &Record,
+    class: &Class,
+) -> Result<Realisation, Refusal>
     requires { is_some (tree_at found.now.path table.now.sources) ≡ true }
     ensures { MatchResult result
         (λ made. (made ≡ for_class class.now (record_at table.now.sources found.now))
@@ -205,7 +210,7 @@ fn realised(table: &Table, found: &Record, class: &Class) -> Result<Realisation,
         Some(tree) => tree.clone()?,
         None => unreachable!(),
     };
-    Ok(Realisation::new(found.for_class(class.clone()?)?, tree))
+    Ok(Realisation::new(found.for_class(alloc, class.clone()?)?, tree))
 }
 
 /// What the goal of a number of the user at a place uses again: what was built already from the same,
@@ -233,7 +238,7 @@ pub(crate) fn used_again(
     };
     let labels = resolved.labels(alloc)?;
     match finished_build(trust, jobs, desks, place, resolved, &labels) {
-        Some(found) => Ok(Some(realised(table, found, class)?)),
+        Some(found) => Ok(Some(realised(alloc, table, found, class)?)),
         None => Ok(None),
     }
 }

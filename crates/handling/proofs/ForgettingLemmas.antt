@@ -15,9 +15,9 @@ use Rattle.model.specs.ForgetRequests as model
 use Rattle.model.proofs.BoolLemmas.{either, same_bytes, bytes_eq_sym, both_parts, or_cases}
 use Rattle.records.specs.Recorded.{Recorded}
 use Rattle.closures.specs.Trees.{tree_in, source_at, record_at}
-use Rattle.realise.specs.Held.{paths_held, without_archive, bytes_at}
+use Rattle.realise.specs.Held.{paths_held, bytes_at}
 use Rattle.realise.specs.Holdings.{Holdings, paths_of, is_recorded_at, remaining, refers_to, is_needed, stays_held, without_records}
-use Rattle.realise.proofs.ForgettingLemmas.{stays_closed}
+use Rattle.realise.proofs.ForgettingLemmas.{stays_closed, all_left}
 use Rattle.handling.specs.Sound.{Beside, sources_at, records_at, desk_of, IsSized, IsSound}
 use Rattle.handling.proofs.ChargeLemmas.{has_path, weight, first_adds}
 use Rattle.handling.proofs.DeskLemmas.{IsKnown, sources_known, records_known, held_found, held_paths}
@@ -140,14 +140,6 @@ module _ (table : List Source) (class path : List ℕ) where
       found None n e = cc
       found (Some x) n e = cc
 
-  sized_left : (archives : List (List ℕ × ℕ)) → All (IsSized table) archives → All (IsSized table) (without_archive path archives)
-  sized_left [] sized = sized
-  sized_left (a ∷ archives) sized = elim (either (bytes_eq path a.0)) [
-    | inl t ↦ rw t (All-tail (IsSized table) a archives sized)
-    | inr f ↦ rw f (All-cons (IsSized table) a (without_archive path archives) (All-head (IsSized table) a archives sized)
-        (sized_left archives (All-tail (IsSized table) a archives sized)))
-  ]
-
   known_left : (records : List Recorded) → All (IsKnown table) (paths records) → All (IsKnown table) (paths (remaining class path records))
   known_left [] known = known
   known_left (r ∷ records) known = elim (either (is_recorded_at class path r)) [
@@ -189,7 +181,7 @@ module _ (table : List Source) (class path : List ℕ) where
     pub sound_without : is_needed class path d ≡ false → IsSound table limit after
     sound_without free = record {
       charged = charged_left;
-      sized = elim (either (stays_held class path d)) [ inl t ↦ rw t sound.sized | inr f ↦ rw f (sized_left d.archives sound.sized) ];
+      sized = elim (either (stays_held class path d)) [ inl t ↦ rw t sound.sized | inr f ↦ rw f (all_left (IsSized table) path d.archives sound.sized) ];
       within = (let own = sound.within in omega (arith, own));
       few_sources = sound.few_sources;
       few_derivations = sound.few_derivations;

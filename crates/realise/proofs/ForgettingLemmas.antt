@@ -1,103 +1,139 @@
 -- A desk without the records of a class at a path.
-use Rattle.std.proofs.Common.{◌≡◌, ℕ, ◌+◌, ◌-◌, ◌≤◌, Bool, true, false, inl, inr, List, [], ◌∷◌, ◌++◌, map, refl, sym, ap, subst, ◌∙◌, arith, Option, Some, None}
-use Rattle.std.specs.Prelude.{◌&&◌, ◌||◌, not, filter, bytes_eq, sum_by, All, if◌then◌else◌}
-use Rattle.std.specs.List.{list_any}
-use Rattle.std.specs.Map.{lookup}
-use Rattle.std.specs.Global.{Vec}
+use Rattle.std.proofs.Common.{◌≡◌, ℕ, zero, suc, ◌+◌, ◌-◌, ◌<◌, ◌≤◌, length, get_or, take, Bool, true, false, inl, inr, List, [], ◌∷◌, map, refl, sym, ap, subst, ◌∙◌, arith, Option, Some, None}
+use Rattle.std.specs.Prelude.{◌&&◌, ◌||◌, filter, bytes_eq, sum_by, All, position, unwrap_or, option_map, cond, nat_lt, slice_set}
+use Rattle.std.specs.List.{list_any, swap_remove, position_or_len}
+use Rattle.std.specs.Map.{lookup, keys_of}
+use Rattle.std.specs.Option.{option_map_or}
 use Rattle.std.proofs.lemmas.Bool.{or_parts, or_left, or_right}
+use Rattle.std.proofs.lemmas.Bool.Decides.{nat_tests}
 use Rattle.std.proofs.lemmas.List.Elements.{All-nil, All-cons, All-head, All-tail}
 use Rattle.std.proofs.lemmas.List.Folds.{list_any-append}
-use Rattle.std.proofs.lemmas.List.Sums.{sum_by-cons}
-use Rattle.model.specs.Classes.{Class, is_one_of}
+use Rattle.std.proofs.lemmas.List.{length-map, get_or-map, get_or_default}
+use Rattle.std.proofs.lemmas.List.Quantifiers.{position-Some}
+use Rattle.std.proofs.lemmas.List.Sorted.{IsPermutation-swap_remove, All-permutation}
+use Rattle.std.proofs.lemmas.List.Sums.{sum_by-cons, sum_by-swap_remove, fails_before_first}
+use Rattle.model.specs.Classes.{Class}
 use Rattle.model.specs.Worlds.{Label}
 use Rattle.model.specs.ForgetRequests.{is_class_at}
 use Rattle.model.proofs.BoolLemmas.{either, same_bytes, bytes_eq_sym, both_parts, or_cases}
 use Rattle.admitted.proofs.EntryLemmas.{one_of_keys}
 use Rattle.records.specs.Recorded.{Recorded}
+use Rattle.realise.proofs.CountedLemmas.{some_more}
 use Rattle.realise.specs.declared.desk.Desk.TheInside.{Inside}
 use Rattle.realise.specs.Held.{Held, paths_held, bytes_held, without_archive, bytes_at}
 use Rattle.realise.specs.Kept.{holdings_of, IsConsistent}
-use Rattle.realise.specs.Holdings.{Holdings, paths_of, stays_held, is_record_of, is_recorded_at, remaining, refers_to, is_needed, is_at, has_labelled, IsClosed, IsClosedWith, without_records}
-use Rattle.realise.specs.Indexed.{IsIndexed, IsCleared}
+use Rattle.realise.specs.Holdings.{Holdings, paths_of, stays_held, is_recorded_at, remaining, refers_to, is_needed, is_at, has_labelled, IsClosed, IsClosedWith, without_records}
 
 -- ---- what is charged for a path
+
+-- what is found at a place is found by its path
+found_at : (path : List ℕ) (held : List (List ℕ × ℕ)) (i : ℕ) (d : List ℕ × ℕ) → i < length held → bytes_eq path (get_or held i d).0 ≡ true
+    → ((k : ℕ) → k < i → bytes_eq path (get_or held k d).0 ≡ false) → lookup (bytes_eq path) held ≡ Some (get_or held i d).1
+found_at path [] i d below here before = absurd (omega (arith, below))
+found_at path (a ∷ held) zero d below here before = rw here refl
+found_at path (a ∷ held) (suc i) d below here before =
+    rw (before 0 (omega arith)) (found_at path held i d (omega (arith, below)) here (λ k lt. before (suc k) (omega (arith, lt))))
+
+key_at : (held : List (List ℕ × ℕ)) (k : ℕ) (d : List ℕ × ℕ) → k < length held → get_or (keys_of held) k d.0 ≡ (get_or held k d).0
+key_at held k d lt = get_or-map (λ (a : List ℕ × ℕ). a.0) held k d d.0 lt
+
+none_at : (path : List ℕ) (held : List (List ℕ × ℕ)) → ((k : ℕ) (d : List ℕ × ℕ) → k < length held → bytes_eq path (get_or held k d).0 ≡ false)
+    → lookup (bytes_eq path) held ≡ None
+none_at path [] none = refl
+none_at path (a ∷ held) none = rw (none 0 a (omega arith)) (none_at path held (λ k d lt. none (suc k) d (omega (arith, lt))))
+
+no_place : (path : List ℕ) (held : List (List ℕ × ℕ)) → position (bytes_eq path) (keys_of held) ≡ None → lookup (bytes_eq path) held ≡ None
+no_place path held is = none_at path held (λ k d lt.
+    ap (bytes_eq path) (sym (key_at held k d lt))
+    ∙ fails_before_first (bytes_eq path) (keys_of held) k d.0 (omega (arith, past, lt, length-map held (λ (a : List ℕ × ℕ). a.0))))
+  where
+    past : length (keys_of held) ≤ position_or_len (bytes_eq path) (keys_of held)
+    past = elim (either (nat_lt (position_or_len (bytes_eq path) (keys_of held)) (length (keys_of held)))) [
+      | inl t ↦ let wrong = rw t at is in absurd (cc)
+      | inr f ↦ grind (arith, nat_tests, f)
+    ]
+
+-- the place of a path, and the archive there
+record IsPlace (path : List ℕ) (held : List (List ℕ × ℕ)) (i : ℕ) (d : List ℕ × ℕ) : Type 0 where
+  below : i < length held
+  here : bytes_eq path (get_or held i d).0 ≡ true
+  found : lookup (bytes_eq path) held ≡ Some (get_or held i d).1
+
+placed : (path : List ℕ) (held : List (List ℕ × ℕ)) (i : ℕ) (d : List ℕ × ℕ) → position (bytes_eq path) (keys_of held) ≡ Some i → IsPlace path held i d
+placed path held i d is =
+    let at = position-Some (bytes_eq path) (keys_of held) i d.0 is in
+    let below : i < length held = omega (arith, at.0, length-map held (λ (a : List ℕ × ℕ). a.0)) in
+    let here : bytes_eq path (get_or held i d).0 ≡ true = ap (bytes_eq path) (sym (key_at held i d below)) ∙ at.1 in
+    record {
+      below = below;
+      here = here;
+      found = found_at path held i d below here (λ k lt. ap (bytes_eq path) (sym (key_at held k d (omega (arith, lt, below)))) ∙ at.2 k lt);
+    }
+
+-- whatever is counted of archives is counted of that of a path and of the others
+swapped : (f : List ℕ × ℕ → ℕ) (path : List ℕ) (a : List ℕ × ℕ) (held : List (List ℕ × ℕ)) (o : Option ℕ) → position (bytes_eq path) (keys_of (a ∷ held)) ≡ o
+    → sum_by f (option_map_or (λ i. swap_remove (a ∷ held) i a) o (a ∷ held)) + unwrap_or (option_map (λ i. f (get_or (a ∷ held) i a)) o) 0 ≡ sum_by f (a ∷ held)
+swapped f path a held None is = omega arith
+swapped f path a held (Some i) is = sum_by-swap_remove f (a ∷ held) i a (placed path (a ∷ held) i a is).below
 
 -- the archives are that of a path and the others
 pub bytes_without : (path : List ℕ) (held : List (List ℕ × ℕ)) → bytes_held (without_archive path held) + bytes_at path held ≡ bytes_held held
 bytes_without path [] = refl
 bytes_without path (a ∷ held) =
-    let value = λ (b : List ℕ × ℕ). b.1 in
-    let all = sum_by-cons value a held in
-    elim (either (bytes_eq path a.0)) [
-      | inl t ↦ rw t (omega (arith, all))
-      | inr f ↦
-          let rest = bytes_without path held in
-          let left = sum_by-cons value a (without_archive path held) in
-          rw f (omega (arith, all, rest, left))
-    ]
+    let all = swapped (λ b. b.1) path a held (position (bytes_eq path) (keys_of (a ∷ held))) refl in
+    let own : bytes_at path (a ∷ held) ≡ unwrap_or (option_map (λ i. (get_or (a ∷ held) i a).1) (position (bytes_eq path) (keys_of (a ∷ held)))) 0 =
+    found_bytes (position (bytes_eq path) (keys_of (a ∷ held))) refl in
+    omega (arith, all, own)
+  where
+    found_bytes : (o : Option ℕ) → position (bytes_eq path) (keys_of (a ∷ held)) ≡ o
+        → bytes_at path (a ∷ held) ≡ unwrap_or (option_map (λ i. (get_or (a ∷ held) i a).1) o) 0
+    found_bytes None is = ap (λ o. unwrap_or o 0) (no_place path (a ∷ held) is)
+    found_bytes (Some i) is = ap (λ o. unwrap_or o 0) (placed path (a ∷ held) i a is).found
+
+-- a path counts once where it is held
+abbrev of_path : List ℕ → List ℕ × ℕ → ℕ
+of_path q b = cond (bytes_eq q b.0) 1 0
+
+some_held : (q : List ℕ) (held : List (List ℕ × ℕ)) → nat_lt 0 (sum_by (of_path q) held) ≡ list_any (bytes_eq q) (paths_held held)
+some_held q [] = refl
+some_held q (a ∷ held) =
+    ap (nat_lt 0) (sum_by-cons (of_path q) a held)
+    ∙ some_more (bytes_eq q a.0) (sum_by (of_path q) held) (list_any (bytes_eq q) (paths_held held)) (some_held q held)
 
 -- no other path is taken away
 pub others_held : (path q : List ℕ) (held : List (List ℕ × ℕ)) → bytes_eq q path ≡ false
     → list_any (bytes_eq q) (paths_held (without_archive path held)) ≡ list_any (bytes_eq q) (paths_held held)
 others_held path q [] other = refl
-others_held path q (a ∷ held) other = elim (either (bytes_eq path a.0)) [
-  | inl t ↦
-      let none : bytes_eq q a.0 ≡ false = ap (bytes_eq q) (sym (same_bytes path a.0 t)) ∙ other in
-      rw (t, none) refl
-  | inr f ↦ rw (f, others_held path q held other) refl
-]
+others_held path q (a ∷ held) other =
+    let all = swapped (of_path q) path a held (position (bytes_eq path) (keys_of (a ∷ held))) refl in
+    let none : unwrap_or (option_map (λ i. of_path q (get_or (a ∷ held) i a)) (position (bytes_eq path) (keys_of (a ∷ held)))) 0 ≡ 0 =
+    apart (position (bytes_eq path) (keys_of (a ∷ held))) refl in
+    let same : sum_by (of_path q) (without_archive path (a ∷ held)) ≡ sum_by (of_path q) (a ∷ held) = omega (arith, all, none) in
+    sym (some_held q (without_archive path (a ∷ held))) ∙ ap (nat_lt 0) same ∙ some_held q (a ∷ held)
+  where
+    apart : (o : Option ℕ) → position (bytes_eq path) (keys_of (a ∷ held)) ≡ o → unwrap_or (option_map (λ i. of_path q (get_or (a ∷ held) i a)) o) 0 ≡ 0
+    apart None is = refl
+    apart (Some i) is =
+        let at : path ≡ (get_or (a ∷ held) i a).0 = same_bytes path (get_or (a ∷ held) i a).0 (placed path (a ∷ held) i a is).here in
+        ap (λ b. cond b 1 0) (ap (bytes_eq q) (sym at) ∙ other)
+
+-- and what holds of all holds of those that are left
+pub all_left : (P : List ℕ × ℕ → Type 0) (path : List ℕ) (held : List (List ℕ × ℕ)) → All P held → All P (without_archive path held)
+all_left P path [] all = all
+all_left P path (a ∷ held) all = left (position (bytes_eq path) (keys_of (a ∷ held))) refl
+  where
+    left : (o : Option ℕ) → position (bytes_eq path) (keys_of (a ∷ held)) ≡ o → All P (option_map_or (λ i. swap_remove (a ∷ held) i a) o (a ∷ held))
+    left None is = all
+    left (Some i) is =
+        let xs : List (List ℕ × ℕ) = a ∷ held in
+        let x = get_or xs i a in
+        let place = placed path xs i a is in
+        let own : x ≡ get_or xs i x = get_or_default xs i a x place.below in
+        let last : get_or xs (length xs - 1) x ≡ get_or xs (length xs - 1) a = get_or_default xs (length xs - 1) x a (omega arith) in
+        let both = All-permutation P xs (x ∷ swap_remove xs i x) (IsPermutation-swap_remove xs i x place.below own) all in
+        subst (λ y. All P (take (length xs - 1) (slice_set xs i y))) last (All-tail P x (swap_remove xs i x) both)
 
 -- ---- the records that remain
-
--- they are found by their class
-pub cleared : (class path c : List ℕ) (records : List Recorded)
-    → (if bytes_eq class c then remaining class path (filter (is_record_of c) records) else filter (is_record_of c) records)
-    ≡ filter (is_record_of c) (remaining class path records)
-cleared class path c [] = elim (either (bytes_eq class c)) [ inl t ↦ rw t refl | inr f ↦ rw f refl ]
-cleared class path c (r ∷ records) =
-    let rest = cleared class path c records in
-    elim (either (bytes_eq r.class.path class)) [
-      | inl of ↦
-          let own : r.class.path ≡ class = same_bytes r.class.path class of in
-          elim (either (bytes_eq r.path path)) [
-            | inl at ↦ elim (either (bytes_eq class c)) [
-              | inl t ↦
-                  let his : bytes_eq r.class.path c ≡ true = ap (λ p. bytes_eq p c) own ∙ t in
-                  let same : remaining class path (filter (is_record_of c) records) ≡ filter (is_record_of c) (remaining class path records) = rw t at rest in
-                  rw (of, at, t, his) (rw (of, at) same)
-              | inr f ↦
-                  let his : bytes_eq r.class.path c ≡ false = ap (λ p. bytes_eq p c) own ∙ f in
-                  let same : filter (is_record_of c) records ≡ filter (is_record_of c) (remaining class path records) = rw f at rest in
-                  rw (of, at, f, his) same
-            ]
-            | inr away ↦ stays r rest (rw (of, away) refl)
-          ]
-      | inr other ↦ stays r rest (rw other refl)
-    ]
-  where
-    stays : (r : Recorded) → (if bytes_eq class c then remaining class path (filter (is_record_of c) records) else filter (is_record_of c) records)
-        ≡ filter (is_record_of c) (remaining class path records) → is_recorded_at class path r ≡ false
-        → (if bytes_eq class c then remaining class path (filter (is_record_of c) (r ∷ records)) else filter (is_record_of c) (r ∷ records))
-        ≡ filter (is_record_of c) (remaining class path (r ∷ records))
-    stays r rest kept = elim (either (bytes_eq class c)) [
-      | inl t ↦
-          let same : remaining class path (filter (is_record_of c) records) ≡ filter (is_record_of c) (remaining class path records) = rw t at rest in
-          elim (either (bytes_eq r.class.path c)) [
-            | inl his ↦ rw (t, kept, his) (rw kept (ap (λ rs. r ∷ rs) same))
-            | inr g ↦ rw (t, kept, g) same
-          ]
-      | inr f ↦
-          let same : filter (is_record_of c) records ≡ filter (is_record_of c) (remaining class path records) = rw f at rest in
-          elim (either (bytes_eq r.class.path c)) [
-            | inl his ↦ rw (f, kept, his) (ap (λ rs. r ∷ rs) same)
-            | inr g ↦ rw (f, kept, g) same
-          ]
-    ]
-
-pub indexed_without : (class path : List ℕ) (old new : List (List ℕ × Vec Recorded)) (records : List Recorded) → IsIndexed old records
-    → IsCleared old class path new → IsIndexed new (remaining class path records)
-indexed_without class path old new records is clear c =
-    clear c ∙ ap (λ (group : List Recorded). if bytes_eq class c then remaining class path group else group) (is c) ∙ cleared class path c records
 
 -- whoever is sought among some is sought by both tests among all
 pub any_kept : (test keep : Recorded → Bool) (records : List Recorded) → list_any test (filter keep records) ≡ list_any (λ r. keep r && test r) records

@@ -7,3 +7,4 @@ pub mod SeveralLemmas
 pub mod HoldingLemmas
 pub mod KeepingLemmas
 pub mod ForgettingLemmas
+mod NumberLemmas

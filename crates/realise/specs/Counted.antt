@@ -1,5 +1,5 @@
 -- How often the records of a desk are at a path, and how often their labels name another record.
-use Rattle.std.specs.Prelude.{◌≡◌, ℕ, ◌+◌, ◌-◌, Bool, ◌&&◌, not, cond, List, [], map, filter, sum_by, count_by, bytes_eq, unwrap_or}
+use Rattle.std.specs.Prelude.{◌≡◌, ℕ, ◌+◌, ◌-◌, Bool, ◌&&◌, not, cond, List, [], sum_by, count_by, bytes_eq, unwrap_or}
 use Rattle.std.specs.Map.{lookup}
 use Rattle.model.specs.Worlds.{Label}
 use Rattle.model.specs.ForgetRequests.{is_class_at}
@@ -59,36 +59,8 @@ once_for r l class path = cond (is_named_by class path r l) 1 0
 abbrev pub once_under : List ℕ → List ℕ → List ℕ → List ℕ → ℕ
 once_under own_class own_path class path = cond (bytes_eq own_class class && bytes_eq own_path path) 1 0
 
--- ---- uses
-
--- how many records are at each path, and how many labels name each path under each class
-pub record Used : Type 0 where
-  pub at : List (List ℕ × ℕ)
-  pub named : List (List ℕ × List (List ℕ × ℕ))
-
--- how many records are at a path
-abbrev pub records_at : List ℕ → List Recorded → ℕ
-records_at path records = count_by (λ r. bytes_eq r.path path) records
+-- ---- records
 
 -- how many labels of records name what is of a class at a path, and is not the record itself
 abbrev pub names_in : List ℕ → List ℕ → List Recorded → ℕ
 names_in class path records = sum_by (names_of class path) records
-
--- these records are counted besides
-pub record HasMoreUses (records : List Recorded) (old new : Used) : Type 0 where
-  pub at : (path : List ℕ) → count_at path new.at ≡ count_at path old.at + records_at path records
-  pub named : HasMoreNames (λ class path. names_in class path records) old.named new.named
-
--- these records are counted no longer
-pub record HasLessUses (records : List Recorded) (old new : Used) : Type 0 where
-  pub at : (path : List ℕ) → count_at path new.at ≡ count_at path old.at - records_at path records
-  pub named : HasLessNames (λ class path. names_in class path records) old.named new.named
-
-pub record HasSameUses (old new : Used) : Type 0 where
-  pub at : HasSameCounts old.at new.at
-  pub named : HasSameNames old.named new.named
-
--- these are the counts of records
-pub record IsCounted (uses : Used) (records : List Recorded) : Type 0 where
-  pub at : (path : List ℕ) → count_at path uses.at ≡ records_at path records
-  pub named : (class path : List ℕ) → count_under class path uses.named ≡ names_in class path records

@@ -1,7 +1,8 @@
 -- What a desk holds: its paths, each once, with the bytes of their archives.
 use Rattle.std.specs.Prelude.{ℕ, ◌+◌, List, [], ◌∷◌, ◌++◌, ◌≡◌, map, sum_by, bytes_eq, unwrap_or, if◌then◌else◌}
 use Rattle.std.specs.List.{list_any}
-use Rattle.std.specs.Map.{lookup, remove_entry}
+use Rattle.std.specs.Map.{lookup}
+use Rattle.indexmap.specs.IndexMap.{swap_remove_entry}
 use Rattle.model.specs.Classes.{is_one_of}
 
 -- the paths with the bytes of their archives, and for how many more there is room
@@ -20,9 +21,9 @@ bytes_held archives = sum_by (λ a. a.1) archives
 abbrev pub with_archive : List ℕ × ℕ → List (List ℕ × ℕ) → List (List ℕ × ℕ)
 with_archive a held = if list_any (bytes_eq a.0) (paths_held held) then held else held ++ a ∷ []
 
--- without a path
+-- without a path, with the last one in its place
 abbrev pub without_archive : List ℕ → List (List ℕ × ℕ) → List (List ℕ × ℕ)
-without_archive path held = remove_entry (bytes_eq path) held
+without_archive path held = swap_remove_entry (bytes_eq path) held
 
 -- the bytes of the archive of a path, none where it is not held
 abbrev pub bytes_at : List ℕ → List (List ℕ × ℕ) → ℕ

@@ -1,11 +1,11 @@
--- The table by which a desk finds the records of a class.
-use Rattle.std.specs.Prelude.{◌≡◌, ℕ, ◌-◌, List, [], ◌∷◌, ◌++◌, length, take, filter, map, bytes_eq, Option, Some, None, if◌then◌else◌}
-use Rattle.std.specs.Map.{lookup}
-use Rattle.std.specs.Global.{Vec}
+-- The tables by which a desk finds its records.
+use Rattle.std.specs.Prelude.{◌≡◌, ℕ, ◌-◌, List, [], ◌∷◌, ◌++◌, Bool, length, take, filter, map, bytes_eq, unwrap_or, if◌then◌else◌}
+use Rattle.std.specs.Map.{lookup, remove_entry}
 use Rattle.model.specs.Worlds.{Pin}
 use Rattle.records.specs.Recorded.{Recorded}
-use Rattle.realise.specs.Counted.{Used, IsCounted}
-use Rattle.realise.specs.Holdings.{is_record_of, remaining}
+use Rattle.realise.specs.Counted.{count_under, names_in, names_of, HasMoreNames, HasLessNames, HasSameNames}
+use Rattle.realise.specs.Numbers.{is_number, without_numbers}
+use Rattle.realise.specs.Holdings.{is_record_of}
 
 -- the pins of a map's entries
 abbrev pub pin_at : List ℕ × List ℕ → Pin
@@ -14,41 +14,66 @@ pin_at e = record { class = e.0; path = e.1 }
 abbrev pub pins_at : List (List ℕ × List ℕ) → List Pin
 pins_at entries = map pin_at entries
 
--- the records of a group, if there is one
-abbrev pub items_of : Option (Vec Recorded) → List Recorded
-items_of None = []
-items_of (Some group) = group.items
-
-abbrev pub group_at : List ℕ → List (List ℕ × Vec Recorded) → List Recorded
-group_at class groups = items_of (lookup (bytes_eq class) groups)
-
--- each class has its records there, the oldest first
-abbrev pub IsIndexed : List (List ℕ × Vec Recorded) → List Recorded → Type 0
-IsIndexed groups records = (class : List ℕ) → group_at class groups ≡ filter (is_record_of class) records
-
--- and what the records are counted for is so
-pub record AreTabled (groups : List (List ℕ × Vec Recorded)) (uses : Used) (records : List Recorded) : Type 0 where
-  pub indexed : IsIndexed groups records
-  pub counted : IsCounted uses records
-
--- one record more is in the group of its class, and no other group has changed
-abbrev pub IsGrouped : List (List ℕ × Vec Recorded) → Recorded → List (List ℕ × Vec Recorded) → Type 0
-IsGrouped old r new =
-    (class : List ℕ) → group_at class new ≡ (if is_record_of class r then group_at class old ++ r ∷ [] else group_at class old)
-
 -- all but the last
 abbrev pub without_last : List Recorded → List Recorded
 without_last records = take (length records - 1) records
 
--- the newest record of a class is gone from its group, and no other group has changed
-abbrev pub IsUngrouped : List (List ℕ × Vec Recorded) → List ℕ → List (List ℕ × Vec Recorded) → Type 0
-IsUngrouped old path new =
-    (class : List ℕ) → group_at class new ≡ (if bytes_eq path class then without_last (group_at class old) else group_at class old)
+-- ---- groups of records with numbers
 
--- the records at a path are gone from the group of a class, and no other group has changed
-abbrev pub IsCleared : List (List ℕ × Vec Recorded) → List ℕ → List ℕ → List (List ℕ × Vec Recorded) → Type 0
-IsCleared old class path new =
-    (c : List ℕ) → group_at c new ≡ (if bytes_eq class c then remaining class path (group_at c old) else group_at c old)
+abbrev pub Groups : Type 0
+Groups = List (List ℕ × List (ℕ × Recorded))
 
-abbrev pub HasSameGroups : List (List ℕ × Vec Recorded) → List (List ℕ × Vec Recorded) → Type 0
-HasSameGroups old new = (class : List ℕ) → group_at class new ≡ group_at class old
+-- the records of a group: none where there is none
+abbrev pub group_at : List ℕ → Groups → List (ℕ × Recorded)
+group_at key groups = unwrap_or (lookup (bytes_eq key) groups) []
+
+-- one record more is in its group, and no other group has changed
+abbrev pub IsGrouped : List ℕ → ℕ × Recorded → Groups → Groups → Type 0
+IsGrouped key e old new = (k : List ℕ) → group_at k new ≡ (if bytes_eq key k then group_at k old ++ e ∷ [] else group_at k old)
+
+-- the record of a number is gone from a group, and no other group has changed
+abbrev pub IsUngrouped : List ℕ → ℕ → Groups → Groups → Type 0
+IsUngrouped key number old new =
+    (k : List ℕ) → group_at k new ≡ (if bytes_eq key k then remove_entry (is_number number) (group_at k old) else group_at k old)
+
+abbrev pub HasSameGroups : Groups → Groups → Type 0
+HasSameGroups old new = (k : List ℕ) → group_at k new ≡ group_at k old
+
+-- ---- all tables
+
+-- whether a record is at a path
+abbrev pub is_record_at : List ℕ → Recorded → Bool
+is_record_at path r = bytes_eq r.path path
+
+-- the groups by class and by path, and how many labels name each path under each class
+pub record Tables : Type 0 where
+  pub by_class : Groups
+  pub by_path : Groups
+  pub named : List (List ℕ × List (List ℕ × ℕ))
+
+-- each group has the records that it is the group of
+abbrev pub AreGroups : (List ℕ → Recorded → Bool) → Groups → List (ℕ × Recorded) → Type 0
+AreGroups is_of groups numbered = (key : List ℕ) → group_at key groups ≡ filter (λ e. is_of key e.1) numbered
+
+-- these are the tables of records
+pub record AreTabled (tables : Tables) (numbered : List (ℕ × Recorded)) : Type 0 where
+  pub by_class : AreGroups is_record_of tables.by_class numbered
+  pub by_path : AreGroups is_record_at tables.by_path numbered
+  pub named : (class path : List ℕ) → count_under class path tables.named ≡ names_in class path (without_numbers numbered)
+
+-- a record is listed besides, under a number
+pub record HasListed (number : ℕ) (r : Recorded) (old new : Tables) : Type 0 where
+  pub by_class : IsGrouped r.class.path (number, r) old.by_class new.by_class
+  pub by_path : IsGrouped r.path (number, r) old.by_path new.by_path
+  pub named : HasMoreNames (λ class path. names_of class path r) old.named new.named
+
+-- it is listed no longer
+pub record HasUnlisted (number : ℕ) (r : Recorded) (old new : Tables) : Type 0 where
+  pub by_class : IsUngrouped r.class.path number old.by_class new.by_class
+  pub by_path : IsUngrouped r.path number old.by_path new.by_path
+  pub named : HasLessNames (λ class path. names_of class path r) old.named new.named
+
+pub record HasSameTables (old new : Tables) : Type 0 where
+  pub by_class : HasSameGroups old.by_class new.by_class
+  pub by_path : HasSameGroups old.by_path new.by_path
+  pub named : HasSameNames old.named new.named

@@ -4,3 +4,4 @@ pub mod Held
 pub mod Holdings
 pub mod Indexed
 pub mod Kept
+pub mod Numbers

@@ -1,16 +1,17 @@
 //! The records of one user.
 
-ghost use Rattle.std.specs.Prelude.{◌≡◌, ◌<◌, [], ◌∷◌, ◌++◌, map, filter, take, vec_len, vec_capacity, MatchResult};
+ghost use Rattle.std.specs.Prelude.{◌≡◌, ◌<◌, [], ◌∷◌, ◌++◌, map, filter, take, MatchResult};
 ghost use Rattle.std.specs.List.{list_any};
+ghost use Rattle.std.specs.Map.{remove_entry};
 ghost use Rattle.model.specs.Classes.{is_one_of};
-ghost use Rattle.realise.specs.Holdings.{is_record_of, remaining, refers_to};
-ghost use Rattle.realise.specs.Indexed.{without_last};
+ghost use Rattle.records.specs.Recorded.{same_recorded};
+ghost use Rattle.realise.specs.Holdings.{is_record_of, is_recorded_at, remaining, refers_to};
+ghost use Rattle.realise.specs.Numbers.{AscendByNumber, is_number};
+ghost use Rattle.realise.specs.Indexed.{AreTabled, is_record_at, without_last};
 ghost use Rattle.model.specs.declared.refusal.Refusal.TheVariants.{Memory};
 
-use crate::forgetting::remove_records;
-use crate::groups::{group_of_class, put_in_group, remove_from_group, take_from_group};
-use crate::uses::Uses;
-use indexmap::IndexMap;
+use crate::indexes::Indexes;
+use crate::numbered::Numbered;
 use model::Refusal;
 use records::Record;
 use std::alloc::Global;
@@ -20,22 +21,19 @@ use storepath::StorePath;
 
 /// The records of one user, the oldest first.
 ///
-/// Those of one class are found at once, however many there are: a table has copies of them by
-/// their class, which share what they hold. How many are at a path, and how many labels name one of
-/// them, is counted. The hashers have keys that nobody outside knows, since records may come from
-/// others.
+/// Each has a number, which is above those of all that are older. By its number it is found in the
+/// list, in the records of its class and in those at its path, and taken out of them, however many
+/// there are. The hashers have keys that nobody outside knows, since records may come from others.
 pub struct Records {
-    list: Vec<Record>,
-    by_class: IndexMap<StorePath, Vec<Record>, RandomState>,
-    uses: Uses,
+    list: Numbered,
+    indexes: Indexes,
 }
 
 impl Drop for Records {
     fn drop(self) {
         let Records {
             list: _,
-            by_class: _,
-            uses: _,
+            indexes: _,
         } = self;
     }
 }
@@ -46,30 +44,34 @@ impl Model for Records {
 
     ghost Value = { List Recorded };
 
+    ghost use Rattle.realise.specs.Numbers.{without_numbers};
     ghost use Rattle.realise.specs.Indexed.{AreTabled};
 
-    ghost view = { λ r. r.list.items };
+    ghost view = { λ r. without_numbers r.list };
 
-    ghost invariant = { λ r. AreTabled r.by_class.entries r.uses r.list.items };
+    ghost invariant = { λ r. AreTabled r.indexes r.list };
 }
 
-/// Puts a record for which there is room.
-fn push_reserved(records: &mut Vec<Record>, added: Record)
-    requires room { vec_len records.old < vec_capacity records.old }
-    ensures { records.new.items ≡ records.old.items ++ added ∷ [] }
+/// Takes the record of a number out, if there is one. It takes no memory.
+fn take_out(list: &mut Numbered, indexes: &mut Indexes, number: u64)
+    requires tabled { AreTabled indexes.old list.old }
+    ensures tabled { AreTabled indexes.new list.new }
+    ensures others { list.new ≡ remove_entry (is_number number) list.old }
+    ensures ascending { AscendByNumber list.old }
 {
-    records.push(added).unwrap();
+    if let Some(record) = list.remove(number) {
+        indexes.take(number, &record);
+    }
 }
 
 impl Records {
-    /// No records. `hashing` has the keys of the hasher for classes. It takes no memory.
+    /// No records. `hashing` has the keys of the hashers. It takes no memory.
     pub(crate) fn new(alloc: Global, hashing: RandomState) -> Records
         ensures { result ≡ [] }
     {
         Records {
-            list: Vec::new(alloc),
-            by_class: IndexMap::with_hasher(alloc, hashing),
-            uses: Uses::new(alloc, hashing),
+            list: Numbered::new(alloc),
+            indexes: Indexes::new(alloc, hashing),
         }
     }
 
@@ -84,14 +86,43 @@ impl Records {
     pub(crate) fn of_class(&self, class: &StorePath) -> &[Record]
         ensures { result.now ≡ filter (is_record_of class.now) self.now }
     {
-        group_of_class(&self.by_class, class)
+        self.indexes.of_class(class)
+    }
+
+    /// Those at a path, the oldest first.
+    fn at_path(&self, path: &StorePath) -> &[Record]
+        ensures { result.now ≡ filter (is_record_at path.now) self.now }
+    {
+        self.indexes.at_path(path)
     }
 
     /// Whether one of them is at a path. None is looked at.
     pub(crate) fn has_path(&self, path: &StorePath) -> bool
         ensures { result ≡ is_one_of (map (λ r. r.path) self.now) path.now }
     {
-        self.uses.at(path) > 0
+        !self.at_path(path).is_empty()
+    }
+
+    /// Whether a record is one of them. Those of its class are looked at, or those at its path, whichever
+    /// are fewer.
+    pub(crate) fn has(&self, added: &Record) -> bool
+        ensures { result ≡ list_any (λ r. same_recorded r added.now) self.now }
+    {
+        let of_class = self.of_class(added.class().path());
+        let at_path = self.at_path(added.path());
+        if at_path.len() < of_class.len() {
+            added.is_among(at_path)
+        } else {
+            added.is_among(of_class)
+        }
+    }
+
+    /// Whether one of them is of a class, at a path. Those of the class are looked at, or those at the
+    /// path, whichever are fewer.
+    pub(crate) fn has_recorded(&self, class: &StorePath, path: &StorePath) -> bool
+        ensures { result ≡ list_any (is_recorded_at class.now path.now) self.now }
+    {
+        self.indexes.number_of(class, path).is_some()
     }
 
     /// Whether a label names what is of a class at a path, other than one of a record of that class
@@ -100,7 +131,7 @@ impl Records {
         ensures { let others = remaining class.now path.now self.now in
             result ≡ list_any (refers_to class.now path.now) others }
     {
-        self.uses.named(class, path) > 0
+        self.indexes.named(class, path) > 0
     }
 
     /// Adds a record as the last. The one error is memory, and changes nothing.
@@ -109,14 +140,15 @@ impl Records {
             (λ _. self.new ≡ self.old ++ added ∷ [])
             (λ e. (e ≡ Memory) × (self.new ≡ self.old)) }
     {
+        let Some(number) = self.list.next() else {
+            return Err(Refusal::Memory);
+        };
         let copy = added.clone()?;
-        self.list.reserve(1)?;
-        self.uses.add(alloc, &added)?;
-        if let Err(why) = put_in_group(alloc, &mut self.by_class, copy) {
-            self.uses.take(&added);
+        self.indexes.put(alloc, number, &added)?;
+        if let Err(why) = self.list.push(number, copy) {
+            self.indexes.take(number, &added);
             return Err(why);
         }
-        push_reserved(&mut self.list, added);
         Ok(())
     }
 
@@ -124,9 +156,8 @@ impl Records {
     fn pop(&mut self)
         ensures { self.new ≡ without_last self.old }
     {
-        if let Some(record) = self.list.pop() {
-            take_from_group(&mut self.by_class, record.class().path());
-            self.uses.take(&record);
+        if let Some(number) = self.list.last() {
+            take_out(&mut self.list, &mut self.indexes, number);
         }
     }
 
@@ -143,10 +174,9 @@ impl Records {
     pub(crate) fn remove(&mut self, class: &StorePath, path: &StorePath)
         ensures { self.new ≡ remaining class.now path.now self.old }
     {
-        let group = group_of_class(&self.by_class, class);
-        self.uses.take_recorded(class, path, group);
-        remove_records(&mut self.list, class, path);
-        remove_from_group(&mut self.by_class, class, path);
+        while let Some(number) = self.indexes.number_of(class, path) {
+            take_out(&mut self.list, &mut self.indexes, number);
+        }
     }
 
     /// Adds records behind the others, all of them or none. The one error is memory, and changes

@@ -1,12 +1,10 @@
 //! What one user has.
 
 ghost use Rattle.std.specs.Prelude.{◌≡◌, ◌⊎◌, ◌+◌, ◌<◌, ◌≤◌, ◌^◌, [], ◌∷◌, ◌++◌, Ok, Err, None, false, length, map, MatchResult};
-ghost use Rattle.std.specs.List.{list_any};
 ghost use Rattle.std.specs.Option.{option_copied};
 ghost use Rattle.model.specs.Classes.{known_at, is_one_of};
 ghost use Rattle.model.specs.Worlds.{pinned, unpinned};
 ghost use Rattle.admitted.specs.Entries.{AreNew};
-ghost use Rattle.records.specs.Recorded.{same_recorded};
 ghost use Rattle.records.specs.Entries.{entry_path};
 ghost use Rattle.std.specs.Map.Iter.{ShowsInOrder, deref};
 ghost use Rattle.realise.specs.Held.{paths_held, IsSetOf};
@@ -215,21 +213,13 @@ impl Desk {
         self.holding.paths()
     }
 
-    /// Whether a record is on the desk. Only those of its class are looked at, and none where none is at
-    /// its path.
-    fn has_record(&self, added: &Record) -> bool
-        ensures { result ≡ list_any (λ r. same_recorded r added.now) self.now.records }
-    {
-        self.records.has_path(added.path()) && added.is_among(self.records_of(added.class().path()))
-    }
-
     /// Whether an entry is on the desk.
     pub fn has(&self, entry: &Entry) -> bool
         ensures { result ≡ is_on entry.now self.now }
     {
         match entry {
             Entry::Source(path) => self.known.has_source(path),
-            Entry::Record(added) => self.has_record(added),
+            Entry::Record(added) => self.records.has(added),
         }
     }
 

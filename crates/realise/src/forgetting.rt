@@ -4,7 +4,7 @@ ghost use Rattle.std.specs.Prelude.{◌≡◌, ◌++◌, true, false, map, bytes
 ghost use Rattle.std.specs.List.{list_any};
 ghost use Rattle.model.specs.Classes.{is_one_of};
 ghost use Rattle.realise.specs.Held.{paths_held};
-ghost use Rattle.realise.specs.Holdings.{is_recorded_at, remaining, is_needed, without_records};
+ghost use Rattle.realise.specs.Holdings.{is_recorded_at, is_needed, without_records};
 
 use crate::by_class::Records;
 use crate::desk::Desk;
@@ -16,26 +16,7 @@ use storepath::StorePath;
 pub(crate) fn is_recorded_at(class: &StorePath, path: &StorePath, one: &Record) -> bool
     ensures { result ≡ is_recorded_at class.now path.now one.now }
 {
-    one.class().path() == class && one.path() == path
-}
-
-/// Takes the records of a class at a path out of a list. It takes no memory.
-pub(crate) fn remove_records(records: &mut Vec<Record>, class: &StorePath, path: &StorePath)
-    ensures { records.new.items ≡ remaining class.now path.now records.old.items }
-{
-    records.retain(|one| !is_recorded_at(class, path, one));
-}
-
-/// Whether one of the records is of a class, at a path.
-fn has_record(class: &StorePath, path: &StorePath, records: &[Record]) -> bool
-    ensures { result ≡ list_any (is_recorded_at class.now path.now) records.now }
-{
-    for record in records {
-        if is_recorded_at(class, path, record) {
-            return true;
-        }
-    }
-    false
+    one.path() == path && one.class().path() == class
 }
 
 /// Whether a source or a record is at a path. No record is looked at.
@@ -46,11 +27,12 @@ fn is_there(known: &Known, records: &Records, path: &StorePath) -> bool
 }
 
 impl Desk {
-    /// Whether a record of a class, at a path, is on the desk. Only those of the class are looked at.
+    /// Whether a record of a class, at a path, is on the desk. Those of the class are looked at, or those at
+    /// the path, whichever are fewer.
     pub fn has_record_at(&self, class: &StorePath, path: &StorePath) -> bool
         ensures { result ≡ list_any (is_recorded_at class.now path.now) self.now.records }
     {
-        has_record(class, path, self.records_of(class))
+        self.records.has_recorded(class, path)
     }
 
     /// Whether a record has a label of a class at a path, and is not itself of that class at that path. That

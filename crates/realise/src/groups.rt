@@ -1,10 +1,12 @@
-//! Records by their classes.
+//! Groups of records, by what they have in common: their class, or their path.
 
-ghost use Rattle.std.specs.Prelude.{◌≡◌, ◌++◌, ◌∷◌, [], MatchResult};
-ghost use Rattle.realise.specs.Indexed.{group_at, IsGrouped, IsUngrouped, IsCleared, HasSameGroups};
+ghost use Rattle.std.specs.Prelude.{◌≡◌, true, ◌∷◌, [], MatchResult};
+ghost use Rattle.realise.specs.Holdings.{is_recorded_at};
+ghost use Rattle.realise.specs.Numbers.{IsAbove, number_of, without_numbers};
+ghost use Rattle.realise.specs.Indexed.{group_at, IsGrouped, IsUngrouped, HasSameGroups};
 ghost use Rattle.model.specs.declared.refusal.Refusal.TheVariants.{Memory};
 
-use crate::forgetting::remove_records;
+use crate::numbered::Numbered;
 use indexmap::IndexMap;
 use model::Refusal;
 use records::Record;
@@ -12,82 +14,92 @@ use std::alloc::Global;
 use std::hash::RandomState;
 use storepath::StorePath;
 
-/// Puts a record into a group that is there.
-fn push_record(group: &mut Vec<Record>, one: Record) -> Result<(), Refusal>
-    ensures { MatchResult result
-        (λ _. group.new.items ≡ group.old.items ++ one ∷ [])
-        (λ e. (e ≡ Memory) × (group.new.items ≡ group.old.items)) }
-{
-    group.push(one)?;
-    Ok(())
-}
-
-/// A group of one record.
-fn group_of(alloc: Global, one: Record) -> Result<Vec<Record>, Refusal>
-    ensures { MatchResult result
-        (λ group. group.items ≡ one ∷ [])
-        (λ e. e ≡ Memory) }
-{
-    let mut group = Vec::new(alloc);
-    group.push(one)?;
-    Ok(group)
-}
-
-/// The group of a class: none of its records, where it has none.
-pub(crate) fn group_of_class<'a>(
-    groups: &'a IndexMap<StorePath, Vec<Record>, RandomState>,
-    class: &StorePath,
+/// The records of a group: none, where there is none.
+pub(crate) fn records_in<'a>(
+    groups: &'a IndexMap<StorePath, Numbered, RandomState>,
+    key: &StorePath,
 ) -> &'a [Record]
-    ensures { result.now ≡ group_at class.now groups.now.entries }
+    ensures { result.now ≡ without_numbers (group_at key.now groups.now.entries) }
 {
-    match groups.get(class) {
+    match groups.get(key) {
         Some(group) => group.as_slice(),
         None => &[],
     }
 }
 
-/// Puts a record into the group of its class, the newest last. The one error is memory, and changes
-/// no group.
+/// The number of the first record of a class at a path in a group, if there is one. All of the group are
+/// looked at.
+pub(crate) fn number_in(
+    groups: &IndexMap<StorePath, Numbered, RandomState>,
+    key: &StorePath,
+    class: &StorePath,
+    path: &StorePath,
+) -> Option<u64>
+    ensures { result
+        ≡ number_of (is_recorded_at class.now path.now) (group_at key.now groups.now.entries) }
+{
+    groups.get(key)?.number_of(class, path)
+}
+
+/// A group of one record. The one error is memory.
+fn group_of(alloc: Global, number: u64, one: Record) -> Result<Numbered, Refusal>
+    ensures { MatchResult result
+        (λ group. group ≡ (number, one) ∷ [])
+        (λ e. e ≡ Memory) }
+{
+    let mut group = Numbered::new(alloc);
+    group.push(number, one)?;
+    Ok(group)
+}
+
+/// Puts a record with a number above all into a group. The one error is memory, and changes no
+/// group.
 pub(crate) fn put_in_group(
     alloc: Global,
-    groups: &mut IndexMap<StorePath, Vec<Record>, RandomState>,
+    groups: &mut IndexMap<StorePath, Numbered, RandomState>,
+    key: StorePath,
+    number: u64,
     one: Record,
 ) -> Result<(), Refusal>
+    requires above { IsAbove number (group_at key groups.old.entries) }
     ensures { MatchResult result
-        (λ _. IsGrouped groups.old.entries one groups.new.entries)
+        (λ _. IsGrouped key (number, one) groups.old.entries groups.new.entries)
         (λ e. (e ≡ Memory) × HasSameGroups groups.old.entries groups.new.entries) }
 {
-    let key = one.class().path().clone()?;
     if let Some(group) = groups.get_mut(&key) {
-        push_record(group, one)?;
+        group.push(number, one)?;
         return Ok(());
     }
-    let group = group_of(alloc, one)?;
+    let group = group_of(alloc, number, one)?;
     let _none = groups.insert(key, group)?;
     Ok(())
 }
 
-/// Takes the newest record out of the group of a class. The group stays, though it may be empty then.
-pub(crate) fn take_from_group(
-    groups: &mut IndexMap<StorePath, Vec<Record>, RandomState>,
-    class: &StorePath,
-)
-    ensures { IsUngrouped groups.old.entries class.now groups.new.entries }
+/// Takes the record of a number out of a group. The answer is whether it was the last one.
+fn take_last_from(
+    groups: &mut IndexMap<StorePath, Numbered, RandomState>,
+    key: &StorePath,
+    number: u64,
+) -> bool
+    ensures taken { IsUngrouped key.now number groups.old.entries groups.new.entries }
+    ensures last { result ≡ true → group_at key.now groups.new.entries ≡ [] }
 {
-    if let Some(group) = groups.get_mut(class) {
-        let _newest = group.pop();
-    }
+    let Some(group) = groups.get_mut(key) else {
+        return false;
+    };
+    let _record = group.remove(number);
+    group.as_slice().is_empty()
 }
 
-/// Takes the records at a path out of the group of a class. The group stays, though it may be empty then.
-pub(crate) fn remove_from_group(
-    groups: &mut IndexMap<StorePath, Vec<Record>, RandomState>,
-    class: &StorePath,
-    path: &StorePath,
+/// Takes the record of a number out of a group, and the group with its last record. It takes no memory.
+pub(crate) fn take_from_group(
+    groups: &mut IndexMap<StorePath, Numbered, RandomState>,
+    key: &StorePath,
+    number: u64,
 )
-    ensures { IsCleared groups.old.entries class.now path.now groups.new.entries }
+    ensures { IsUngrouped key.now number groups.old.entries groups.new.entries }
 {
-    if let Some(group) = groups.get_mut(class) {
-        remove_records(group, class, path);
+    if take_last_from(groups, key, number) {
+        let _empty = groups.swap_remove(key);
     }
 }

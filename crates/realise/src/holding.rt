@@ -145,12 +145,13 @@ impl Holding {
         let _absent = self.archives.insert(path, archive).unwrap();
     }
 
-    /// Takes a path away, if it is held. It takes no memory.
+    /// Takes a path away, if it is held. The last one is put in its place, so that no other moves. It takes no
+    /// memory.
     pub(crate) fn remove(&mut self, path: &StorePath)
         ensures removed { self.new.archives ≡ without_archive path.now self.old.archives }
         ensures gone { list_any (bytes_eq path.now) (paths_held self.new.archives) ≡ false }
     {
-        if let Some(archive) = self.archives.shift_remove(path) {
+        if let Some(archive) = self.archives.swap_remove(path) {
             self.charge -= archive;
         }
     }

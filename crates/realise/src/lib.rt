@@ -8,11 +8,12 @@ mod desk;
 mod forgetting;
 mod groups;
 mod holding;
+mod indexes;
 mod limits;
 mod names;
+mod numbered;
 mod parts;
 mod pins;
-mod uses;
 
 pub use additions::{Addition, add_to_each};
 pub use desk::Desk;

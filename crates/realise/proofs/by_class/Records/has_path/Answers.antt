@@ -1,11 +1,9 @@
-use Rattle.std.proofs.Common.{◌∙◌, ap}
-use Rattle.std.specs.Prelude.{nat_lt, map}
-use Rattle.model.specs.Classes.{is_one_of}
-use Rattle.realise.proofs.CountedLemmas.{path_there}
+use Rattle.std.proofs.Common.{length, ap, ◌∙◌}
+use Rattle.std.specs.Prelude.{not, ◌==◌}
+use Rattle.realise.proofs.DeskLemmas.{some_at_path}
 use Rattle.realise.proofs.by_class.Records.has_path.Goals as goal
 
 pub returns : goal.returns
 returns c =
-    let path = c.args.path.now in
-    ap (nat_lt 0) (c.at.ensures ∙ c.self.invariant.counted.at path) ∙ path_there path c.self.inside.list.items
-    ∙ ap (λ rs. is_one_of (map (λ r. r.path) rs) path) c.self.view_is
+    ap not (c.is_empty.ensures ∙ ap (λ rs. length rs == 0) c.at_path.ensures)
+    ∙ some_at_path c.args.path.now c.args.self.now

@@ -2,6 +2,7 @@ use Rattle.std.proofs.Common.{◌∙◌, ap}
 use Rattle.std.specs.Prelude.{nat_lt}
 use Rattle.std.specs.List.{list_any}
 use Rattle.realise.specs.Holdings.{remaining, refers_to}
+use Rattle.realise.specs.Numbers.{without_numbers}
 use Rattle.realise.proofs.CountedLemmas.{name_there}
 use Rattle.realise.proofs.by_class.Records.need.Goals as goal
 
@@ -9,5 +10,5 @@ pub returns : goal.returns
 returns c =
     let class = c.args.class.now in
     let path = c.args.path.now in
-    ap (nat_lt 0) (c.named.ensures ∙ c.self.invariant.counted.named class path) ∙ name_there class path c.self.inside.list.items
+    ap (nat_lt 0) (c.named.ensures ∙ c.self.invariant.named class path) ∙ name_there class path (without_numbers c.self.inside.list)
     ∙ ap (λ rs. list_any (refers_to class path) (remaining class path rs)) c.self.view_is

@@ -1,18 +1,32 @@
-use Rattle.std.proofs.Common.{◌≡◌, [], ◌∷◌, ◌++◌, List, ap, sym, subst, ◌∙◌}
+use Rattle.std.proofs.Common.{◌≡◌, ◌∷◌, ◌++◌, [], ℕ, ap, sym, subst, ◌∙◌}
 use Rattle.records.specs.Recorded.{Recorded}
-use Rattle.realise.specs.Indexed.{AreTabled, IsGrouped}
-use Rattle.realise.proofs.DeskLemmas.{indexed_more}
-use Rattle.realise.proofs.CountedLemmas.{counted_more}
+use Rattle.realise.specs.Holdings.{is_record_of}
+use Rattle.realise.specs.Indexed.{AreTabled, group_at, is_record_at}
+use Rattle.realise.proofs.NumberLemmas.{above_group, tabled_more, tabled_back}
 use Rattle.realise.proofs.by_class.Records.push.Goals as goal
 
-pub invariant_of-self-2 : goal.invariant_of-self-2
-invariant_of-self-2 c =
-    let before = c.self.inside.list.items in
-    let old = c.self.inside.by_class.entries in
-    let new = c.put_in_group.new.groups.entries in
-    let put = subst (λ (r : Recorded). IsGrouped old r new) c.in_ok-copy.ensures.cases c.in_default.ensures in
-    let more = indexed_more old new before c.args.added c.self.invariant.indexed put in
-    let counted = counted_more c.self.inside.uses c.add.new.self before c.args.added c.self.invariant.counted c.in_ok-add.ensures in
-    let records : c.push_reserved.new.records.items ≡ before ++ c.args.added ∷ [] =
-    c.push_reserved.ensures ∙ ap (λ (rs : List Recorded). rs ++ c.args.added ∷ []) c.in_ok-reserve.ensures.items in
-    subst (AreTabled new c.add.new.self) (sym records) (record { indexed = more; counted = counted })
+pub put-requires-clause-by_class : goal.put-requires-clause-by_class
+put-requires-clause-by_class c =
+    let class = c.args.added.class.path in
+    above_group c.in-Some.number (is_record_of class) (group_at class c.self.inside.indexes.by_class) c.self.inside.list (c.self.invariant.by_class class)
+    c.in-Some.ensures
+
+pub put-requires-clause-by_path : goal.put-requires-clause-by_path
+put-requires-clause-by_path c =
+    let path = c.args.added.path in
+    above_group c.in-Some.number (is_record_at path) (group_at path c.self.inside.indexes.by_path) c.self.inside.list (c.self.invariant.by_path path)
+    c.in-Some.ensures
+
+pub invariant_of-self-in-Err : goal.invariant_of-self-in-Err
+invariant_of-self-in-Err c =
+    subst (AreTabled c.take.new.self) (sym c.in-Err.ensures.1)
+    (tabled_back c.in-Some.number c.args.added c.self.inside.indexes c.put.new.self c.take.new.self c.self.inside.list c.self.invariant c.in-Some.ensures
+    c.in_ok-put.ensures c.take.ensures)
+
+pub invariant_of-self-in_default-push : goal.invariant_of-self-in_default-push
+invariant_of-self-in_default-push c =
+    let number : ℕ = c.in-Some.number in
+    let list = c.self.inside.list in
+    let is : c.push.new.self ≡ list ++ (number, c.args.added) ∷ [] =
+    c.in_default-push.ensures ∙ ap (λ (r : Recorded). list ++ (number, r) ∷ []) c.in_ok-copy.ensures.cases in
+    subst (AreTabled c.put.new.self) (sym is) (tabled_more number c.args.added c.self.inside.indexes c.put.new.self list c.self.invariant c.in_ok-put.ensures)

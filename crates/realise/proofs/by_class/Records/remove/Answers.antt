@@ -1,23 +1,44 @@
-use Rattle.std.proofs.Common.{sym, ◌∙◌, ap, subst}
-use Rattle.std.specs.Prelude.{filter}
-use Rattle.realise.specs.Holdings.{remaining, is_recorded_at}
-use Rattle.realise.specs.Indexed.{AreTabled}
-use Rattle.realise.specs.Counted.{HasLessUses}
-use Rattle.realise.proofs.ForgettingLemmas.{indexed_without}
-use Rattle.realise.proofs.CountedLemmas.{counted_without}
+use Rattle.std.proofs.Common.{◌≡◌, ◌<◌, false, length, ap, sym, ◌∙◌, arith}
+use Rattle.std.specs.Prelude.{not, is_some}
+use Rattle.std.specs.List.{list_any}
+use Rattle.realise.specs.Holdings.{is_recorded_at, remaining}
+use Rattle.realise.specs.Numbers.{without_numbers}
+use Rattle.realise.proofs.NumberLemmas.{IsFound, found_first, taken_rest, taken_length, some_number, none_remain}
 use Rattle.realise.proofs.by_class.Records.remove.Goals as goal
 
-pub invariant_of-self : goal.invariant_of-self
-invariant_of-self c =
+-- the record that the number finds
+module _ (c : goal.After-take_out) where
+  found : IsFound c.in-Some.number (is_recorded_at c.args.class.now c.args.path.now) c.loop-number.self-inside.list
+  found =
+      found_first c.in-Some.number (is_recorded_at c.args.class.now c.args.path.now) c.loop-number.self-inside.list c.take_out.ensures.ascending
+      (sym (c.number_of.ensures c.loop-number.self-inside.list c.loop-number.invariant.tabled) ∙ c.in-Some.is)
+
+  shorter : length (without_numbers c.take_out.new.list) < length (without_numbers c.loop-number.self-inside.list)
+  shorter =
+      let one = taken_length c.in-Some.number found.one c.loop-number.self-inside.list found.there in
+      let left = ap (λ numbered. length (without_numbers numbered)) c.take_out.ensures.others in
+      omega (arith, one, left)
+
+pub loop-number-smaller : goal.loop-number-smaller
+loop-number-smaller c = shorter c
+
+pub loop-number-preserved : goal.loop-number-preserved
+loop-number-preserved c =
     let class = c.args.class.now in
     let path = c.args.path.now in
-    let is = c.self.invariant in
-    let group = c.group_of_class-group.ensures ∙ is.indexed class in
-    subst (AreTabled c.remove_from_group.new.groups.entries c.take_recorded.new.self) (sym c.remove_records.ensures) (record {
-      indexed = indexed_without class path c.self.inside.by_class.entries c.remove_from_group.new.groups.entries c.self.inside.list.items is.indexed c.remove_from_group.ensures;
-      counted = counted_without class path c.self.inside.uses c.take_recorded.new.self c.self.inside.list.items is.counted
-          (subst (λ records. HasLessUses (filter (is_recorded_at class path) records) c.self.inside.uses c.take_recorded.new.self) group c.take_recorded.ensures);
-    })
+    let one = found c in
+    let gone : not (is_recorded_at class path one.one) ≡ false = ap not one.passes in
+    record {
+      tabled = c.take_out.ensures.tabled;
+      rest = ap (λ numbered. remaining class path (without_numbers numbered)) c.take_out.ensures.others
+          ∙ taken_rest c.in-Some.number one.one (λ r. not (is_recorded_at class path r)) c.loop-number.self-inside.list one.there gone
+          ∙ c.loop-number.invariant.rest;
+    }
 
 pub returns : goal.returns
-returns c = c.remove_records.ensures ∙ ap (remaining c.args.class.now c.args.path.now) c.self.view_is
+returns c =
+    let test = is_recorded_at c.args.class.now c.args.path.now in
+    let list = c.loop-number.self-inside.list in
+    let none : list_any test (without_numbers list) ≡ false =
+    sym (some_number test list) ∙ ap is_some (sym (c.number_of.ensures list c.loop-number.invariant.tabled) ∙ c.in_default.is) in
+    sym (none_remain test (without_numbers list) none) ∙ c.loop-number.invariant.rest

@@ -1,0 +1,12 @@
+use Rattle.std.proofs.Common.{ap, ◌∙◌}
+use Rattle.std.specs.Prelude.{filter}
+use Rattle.realise.specs.Indexed.{is_record_at}
+use Rattle.realise.specs.Numbers.{without_numbers}
+use Rattle.realise.proofs.NumberLemmas.{bare_filter}
+use Rattle.realise.proofs.by_class.Records.at_path.Goals as goal
+
+pub returns : goal.returns
+returns c =
+    let path = c.args.path.now in
+    c.at_path.ensures ∙ ap without_numbers (c.self.invariant.by_path path) ∙ bare_filter (is_record_at path) c.self.inside.list
+    ∙ ap (filter (is_record_at path)) c.self.view_is

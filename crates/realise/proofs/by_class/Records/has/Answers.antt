@@ -1,0 +1,24 @@
+use Rattle.std.proofs.Common.{ap, ◌∙◌}
+use Rattle.std.specs.Prelude.{filter}
+use Rattle.std.specs.List.{list_any}
+use Rattle.records.specs.Recorded.{same_recorded}
+use Rattle.realise.specs.Holdings.{is_record_of}
+use Rattle.realise.specs.Indexed.{is_record_at}
+use Rattle.realise.proofs.DeskLemmas.{found_in_group, found_at_path}
+use Rattle.realise.proofs.by_class.Records.has.Goals as goal
+
+pub returns-then-at_path-of_class : goal.returns-then-at_path-of_class
+returns-then-at_path-of_class c =
+    let added = c.args.added.now in
+    let records = c.args.self.now in
+    c.is_among.ensures
+    ∙ ap (list_any (λ q. same_recorded q added)) (c.at_path-at_path.ensures ∙ ap (λ path. filter (is_record_at path) records) c.path-2.ensures)
+    ∙ found_at_path added records
+
+pub returns-else-at_path-of_class : goal.returns-else-at_path-of_class
+returns-else-at_path-of_class c =
+    let added = c.args.added.now in
+    let records = c.args.self.now in
+    c.is_among-else-at_path-of_class.ensures
+    ∙ ap (list_any (λ q. same_recorded q added)) (c.of_class-of_class.ensures ∙ ap (λ class. filter (is_record_of class) records) (c.path.ensures ∙ ap (λ k. k.path) c.class.ensures))
+    ∙ found_in_group added records

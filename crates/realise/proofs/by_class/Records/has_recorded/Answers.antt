@@ -1,0 +1,12 @@
+use Rattle.std.proofs.Common.{ap, ◌∙◌}
+use Rattle.std.specs.Prelude.{is_some}
+use Rattle.std.specs.List.{list_any}
+use Rattle.realise.specs.Holdings.{is_recorded_at}
+use Rattle.realise.proofs.NumberLemmas.{some_number}
+use Rattle.realise.proofs.by_class.Records.has_recorded.Goals as goal
+
+pub returns : goal.returns
+returns c =
+    let test = is_recorded_at c.args.class.now c.args.path.now in
+    c.is_some.ensures ∙ ap is_some (c.number_of.ensures c.self.inside.list c.self.invariant) ∙ some_number test c.self.inside.list
+    ∙ ap (list_any test) c.self.view_is
