@@ -3,12 +3,13 @@ use Rattle.std.specs.Prelude.{ℕ, ◌+◌, ◌*◌, Bool, List, length, sum_by,
 use Rattle.std.specs.Global.{Vec}
 use Rattle.std.specs.Cmp.Lexicographic.{pointwise}
 use Rattle.model.specs.Archives.{nar}
+use Rattle.moving.specs.Repaired.{made_len}
 use Rattle.moving.specs.declared.repair.Repair.{Repair}
 
--- what a repaired record counts: the bytes of the archive of its tree, of which what it was repaired to has as many, and 1,024 for itself and for each of
--- its labels
+-- what a repaired record counts: the bytes of the archives of the tree that it was made of and of the one that came of it, and 1,024 for itself and for
+-- each of its labels
 abbrev pub size_of : Repair → ℕ
-size_of r = length (nar r.tree) + 1024 * (length r.moves.items + 1)
+size_of r = length (nar r.tree) + made_len r.outcome + 1024 * (length r.moves.items + 1)
 
 -- what the records count that are kept by keys
 abbrev pub sizes : {K : Type 0} → List (K × Repair) → ℕ

@@ -68,8 +68,8 @@ impl Drop for Cache {
 
 impl Cache {
     /// A cache that keeps the records that were used last, `most` of them and `most_bytes` bytes at most: a
-    /// record counts the archive of what it was repaired to, and 1,024 bytes for itself and for each of its
-    /// labels. `hashing` has the keys of its hashers.
+    /// record counts its archive and that of what it was repaired to, which are both kept alive, and 1,024
+    /// bytes for itself and for each of its labels. `hashing` has the keys of its hashers.
     ///
     /// # Errors
     ///

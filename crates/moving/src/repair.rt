@@ -3,7 +3,7 @@
 ghost use Rattle.std.specs.Prelude.{◌≡◌, true, min, IfOk, IfErr, IfSome, IfNone, option_copied};
 ghost use Rattle.model.specs.Repairs.{repaired};
 ghost use Rattle.model.specs.declared.refusal.Refusal.TheVariants.{Memory};
-ghost use Rattle.moving.specs.Repaired.{repaired_of};
+ghost use Rattle.moving.specs.Repaired.{repaired_of, made_len};
 ghost use Rattle.std.specs.Coded.{codes};
 ghost use Rattle.std.proofs.Props.{props};
 ghost use Rattle.model.specs.TreeCode.{tree_code};
@@ -90,6 +90,16 @@ pub(crate) fn copy_of(
     }
 }
 
+/// The length of the archive of what came of a record, in bytes: none where it was refused.
+fn made_len(outcome: &Result<Realisation, Refusal>) -> usize
+    ensures { result ≡ made_len outcome.now }
+{
+    match outcome {
+        Ok(made) => made.tree().nar_len(),
+        Err(_) => 0,
+    }
+}
+
 /// What comes of a record whose labels move. The one error is memory.
 pub(crate) fn tried(
     alloc: Global,
@@ -131,15 +141,17 @@ impl Repair {
         })
     }
 
-    /// How many bytes it counts: the archive of its tree, of which that of what came of it has as many, and 1,024
-    /// bytes for itself and for each label. At the greatest number it stays there.
+    /// How many bytes it counts: the archives of the tree that it was made of and of the one that came of it, and
+    /// 1,024 bytes for itself and for each label. At the greatest number it stays there.
     pub(crate) fn size(&self) -> u64
         ensures { result ≡ min (size_of self.now) 18446744073709551615 }
     {
         let labels = (self.moves.len() as u64)
             .saturating_add(1)
             .saturating_mul(BYTES_OF_LABEL);
-        (self.tree.nar_len() as u64).saturating_add(labels)
+        (self.tree.nar_len() as u64)
+            .saturating_add(made_len(&self.outcome) as u64)
+            .saturating_add(labels)
     }
 
     /// Whether it is that of this record, whose labels move so. Its own labels make no difference.
