@@ -37,16 +37,26 @@ fn is_folder(rt: &HostRuntime, name: &str) -> bool {
     }
 }
 
-/// Says on standard error which folders of a run cannot be used, in a line for each. What cannot be said is
-/// let go.
+/// Says on standard error that a folder cannot be used, where it cannot. What cannot be said is let go.
+fn tell_missing_folder(rt: &HostRuntime, name: &str) {
+    if !is_folder(rt, name) {
+        let _ = rt.eprintln(Fault::NoFolder(name));
+    }
+}
+
+/// Says on standard error which folders of a run cannot be used, in a line for each.
 pub(crate) fn tell_missing_folders(rt: &HostRuntime, run: &Run) {
     let builders = run.builders.as_str();
     let work = run.work.as_str();
-    if !is_folder(rt, builders) {
-        let _ = rt.eprintln(Fault::NoFolder(builders));
+    tell_missing_folder(rt, builders);
+    if work != builders {
+        tell_missing_folder(rt, work);
     }
-    if work != builders && !is_folder(rt, work) {
-        let _ = rt.eprintln(Fault::NoFolder(work));
+    if let Some(logs) = &run.logs {
+        let logs = logs.as_str();
+        if logs != builders && logs != work {
+            tell_missing_folder(rt, logs);
+        }
     }
 }
 

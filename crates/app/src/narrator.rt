@@ -4,7 +4,7 @@ ghost use Rattle.std.specs.Prelude.{◌≡◌, Err};
 ghost use Rattle.workers.specs.Outputs.{bytes_of, HasFailed};
 ghost use Rattle.workers.specs.declared.runner.RunFault.TheVariants.{Device};
 
-use builder::{Explains, Fault};
+use builder::{Explains, Fault, Logged};
 use events::Reply;
 use leading::RunningJob;
 use states::State;
@@ -15,11 +15,15 @@ use std::time::{Clock, Instant};
 use std::{fmt, str};
 use workers::{RunFault, Runner};
 
-/// How a builder ended, and how far its goal is then.
+/// The most lines of a log that are shown.
+const MOST_LINES: usize = 10;
+
+/// How a builder ended, how far its goal is then, and which log tells more, if one does.
 #[derive(Drop)]
 struct Ended<'a> {
     fault: Option<Fault>,
     reply: &'a Reply,
+    log: Option<&'a Logged>,
 }
 
 impl Display for Ended<'_> {
@@ -32,8 +36,34 @@ impl Display for Ended<'_> {
             Reply::GoalState(State::Failed(why)) => write!(f, "failed {}", why.number()),
             Reply::Refused(why) => write!(f, "refused {}", why.number()),
             _ => f.write_str("its goal waits"),
+        }?;
+        match self.log {
+            Some(log) => write!(f, ", log {}", log.path.as_str()),
+            None => Ok(()),
         }
     }
+}
+
+/// A line that a builder wrote. What is no plain text of ASCII in it is shown by its number, so that it does
+/// nothing to a terminal.
+#[derive(Drop)]
+struct Shown<'a>(&'a [u8]);
+
+impl Display for Shown<'_> {
+    fn fmt<W: fmt::Write>(&self, f: &mut Formatter<W>) -> fmt::Result {
+        for byte in self.0 {
+            match *byte {
+                b' '..=b'~' => f.write_char(char::from(*byte))?,
+                other => write!(f, "\\x{other:02x}")?,
+            }
+        }
+        Ok(())
+    }
+}
+
+/// Whether a reply says that a goal has failed.
+fn has_failed(reply: &Reply) -> bool {
+    matches!(reply, Reply::GoalState(State::Failed(_)))
 }
 
 /// The bytes of a name, as a text.
@@ -73,7 +103,8 @@ impl Running {
 }
 
 /// A runner that says on standard error as each builder starts, and how it and its goal ended, if it is to say
-/// anything. What cannot be said is let go.
+/// anything. Where the goal failed and the builder has a log, it names that and shows the last lines of it. What
+/// cannot be said is let go.
 #[derive(Drop)]
 pub(crate) struct Narrator<'a, H, Q: Drop> {
     host: &'a H,
@@ -105,6 +136,23 @@ impl<'a, H: Clock + Eprint, Q: Runner + Explains + Drop> Narrator<'a, H, Q> {
         if let Some(Running { name, begun }) = &self.running {
             let seconds = seconds_since(self.host, *begun);
             let _ = eprintln!(self.host; "intstore: {name} ends, {ended}, {seconds} s");
+        }
+    }
+
+    /// Shows the last lines of what a builder wrote to its standard error, each behind what the builder is called.
+    fn show_lines(&self, tail: &[u8]) {
+        let Some(Running { name, .. }) = &self.running else {
+            return;
+        };
+        let text = tail.strip_suffix(b"\n").unwrap_or(tail);
+        if text.is_empty() {
+            return;
+        }
+        let count = text.split(|byte| *byte == b'\n').count();
+        let skipped = count.saturating_sub(MOST_LINES);
+        for line in text.split(|byte| *byte == b'\n').skip(skipped) {
+            let shown = Shown(line);
+            let _ = eprintln!(self.host; "intstore: {name}: {shown}");
         }
     }
 
@@ -141,7 +189,15 @@ impl<H: Clock + Eprint, Q: Runner + Explains + Drop> Runner for Narrator<'_, H, 
     fn tell(&self, reply: &Reply) {
         self.runner.tell(reply);
         let fault = self.runner.fault();
-        self.say_end(Ended { fault, reply });
+        let log = if has_failed(reply) {
+            self.runner.log()
+        } else {
+            None
+        };
+        self.say_end(Ended { fault, reply, log });
+        if let Some(log) = log {
+            self.show_lines(log.tail.as_slice());
+        }
     }
 
     fn failures(&self) -> u64 {

@@ -4,7 +4,7 @@ use crate::actions::run_parts;
 use crate::fault::report;
 use crate::files;
 use crate::narrator::Narrator;
-use builder::{ProcessRunner, System};
+use builder::{Folders, ProcessRunner, System};
 use command_line::{Options, Run};
 use model::Refusal;
 use running::{Opening, Output, Part, Results, look_ahead};
@@ -15,7 +15,7 @@ use std::fs::{File, Files};
 use std::hash::RandomState;
 use std::io::{Eprint, Write};
 use std::path::PathBuf;
-use std::process::Processes;
+use std::process::{Processes, SystemProcess};
 use std::sync::Wait;
 use std::thread::Threads;
 use std::time::Clock;
@@ -65,8 +65,21 @@ fn open_all<'a>(
     Ok(Ok(files))
 }
 
+/// The folders of a runner.
+fn folders_for(rt: &HostRuntime, run: &Run) -> Result<Folders, AllocError> {
+    let logs = match &run.logs {
+        Some(logs) => Some(PathBuf::from_str(rt.alloc(), logs.as_str())?),
+        None => None,
+    };
+    Ok(Folders {
+        builders: PathBuf::from_str(rt.alloc(), run.builders.as_str())?,
+        work: PathBuf::from_str(rt.alloc(), run.work.as_str())?,
+        logs,
+    })
+}
+
 /// What builds: a runner for each worker of each file.
-pub(crate) fn runners_for<'a, H: Files + Processes + Clock + Eprint>(
+pub(crate) fn runners_for<'a, H: Files + Processes<Started = SystemProcess> + Clock + Eprint>(
     rt: &HostRuntime,
     host: &'a H,
     run: &Run,
@@ -74,9 +87,7 @@ pub(crate) fn runners_for<'a, H: Files + Processes + Clock + Eprint>(
     let mut runners = Vec::new(rt.alloc());
     for worker in 0..run.workers.saturating_mul(run.files.len()) {
         let _worker = worker;
-        let builders = PathBuf::from_str(rt.alloc(), run.builders.as_str())?;
-        let work = PathBuf::from_str(rt.alloc(), run.work.as_str())?;
-        let runner = ProcessRunner::new(System::new(host), builders, work);
+        let runner = ProcessRunner::new(System::new(host), folders_for(rt, run)?);
         runners.push(Narrator::new(host, run.verbose, runner))?;
     }
     Ok(runners)

@@ -1,5 +1,5 @@
 -- What a process is started with.
-use Rattle.std.specs.Prelude.{◌≡◌, ℕ, true, false, List, [], ◌∷◌, ◌++◌, codes, decimal, bytes_eq, Option, Some, None, if◌then◌else◌}
+use Rattle.std.specs.Prelude.{◌≡◌, ℕ, Bool, true, false, List, [], ◌∷◌, ◌++◌, codes, decimal, bytes_eq, Option, Some, None, if◌then◌else◌}
 use Rattle.std.specs.Global.{Global}
 use Rattle.std.specs.Fs.{asks_write, asks_create_new}
 use Rattle.std.specs.Path.{path_join}
@@ -39,17 +39,25 @@ pub record IsCommandFor (d : Derivation) (scratch builders inputs : List ℕ) (c
   pub own_name : command_arg0 command ≡ Some (path_join builders d.builder)
   pub folder : command_dir command ≡ None
 
--- of the streams of a builder the output is a pipe, and no other
-pub record AreStreams (streams : Streams) : Type 0 where
+-- of the streams of a builder the output is a pipe, the input is none, and the errors are one where there is a log
+pub record AreStreams (has_log : Bool) (streams : Streams) : Type 0 where
   pub stdin : makes_pipe streams.stdin ≡ false
   pub stdout : makes_pipe streams.stdout ≡ true
-  pub stderr : makes_pipe streams.stderr ≡ false
+  pub stderr : makes_pipe streams.stderr ≡ has_log
 
 -- a file is opened to be written, and is made anew: where something has its name, a link among others, opening it fails
 pub record IsMadeAnew (how : OpenOptions) : Type 0 where
   pub write : asks_write how ≡ true
   pub anew : asks_create_new how ≡ true
 
--- the name of the file of a job's inputs, in this folder
+-- the name of a file of a job, in this folder: its leader and number between two texts
+abbrev pub job_path : List ℕ → List ℕ → Job → List ℕ → List ℕ
+job_path folder before job behind = path_join folder ((((before ++ job.leader) ++ codes "-") ++ decimal job.number) ++ behind)
+
+-- the name of the file of a job's inputs
 abbrev pub inputs_path : List ℕ → Job → List ℕ
-inputs_path work job = path_join work (((codes "inputs-" ++ job.leader) ++ codes "-") ++ decimal job.number)
+inputs_path work job = job_path work (codes "inputs-") job []
+
+-- the name of a job's log
+abbrev pub log_path : List ℕ → Job → List ℕ
+log_path logs job = job_path logs [] job (codes ".log")

@@ -1,5 +1,6 @@
 pub mod Meaning
 pub mod Commands
+pub mod Logs
 pub mod Steps
 pub mod Running
 pub mod Building

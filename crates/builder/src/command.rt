@@ -7,7 +7,7 @@ ghost use Rattle.std.specs.Path.{path_bytes, path_buf_bytes};
 ghost use Rattle.std.specs.Process.{SameDir, SameEnv, SameProgramAndArgs, clears_env, command_arg0, command_args, command_dir, command_program, command_var};
 ghost use Rattle.model.specs.Derivations.{is_text, is_variable};
 ghost use Rattle.model.specs.Worlds.{is_user_name};
-ghost use Rattle.builder.specs.Commands.{AreStreams, IsCommandFor, Sets, SetsVariable, inputs_path};
+ghost use Rattle.builder.specs.Commands.{AreStreams, IsCommandFor, Sets, SetsVariable, inputs_path, job_path, log_path};
 
 use derivation::{Derivation, Text};
 use states::Job;
@@ -28,15 +28,19 @@ pub struct Streams {
     pub stderr: Stdio,
 }
 
-/// Those of a builder: an empty standard input, a pipe for its standard output, and a standard error that is
-/// dropped.
-pub(crate) fn builder_streams() -> Streams
-    ensures { AreStreams result }
+/// Those of a builder: an empty standard input, a pipe for its standard output, and for its standard error a pipe
+/// where it has a log; else what it writes there is dropped.
+pub(crate) fn builder_streams(has_log: bool) -> Streams
+    ensures { AreStreams has_log result }
 {
     Streams {
         stdin: Stdio::null(),
         stdout: Stdio::piped(),
-        stderr: Stdio::null(),
+        stderr: if has_log {
+            Stdio::piped()
+        } else {
+            Stdio::null()
+        },
     }
 }
 
@@ -68,19 +72,43 @@ fn text_of_path(path: &StorePath) -> &str
     text_of(path.bytes())
 }
 
-/// The name of the file of a job's inputs: `inputs-`, the name of its leader, `-` and the number of the goal
-/// that leads it, in this folder. The one error is memory.
+/// The name of a file of a job in this folder: the name of its leader, `-` and the number of the goal that leads it,
+/// between these texts. The one error is memory.
 #[tactic(auto, using(crate::proofs::TextLemmas::user_is_text))]
+fn job_path(
+    alloc: Global,
+    folder: Path<'_>,
+    before: &str,
+    job: &Job,
+    behind: &str,
+) -> Result<PathBuf, AllocError>
+    requires { is_user_name job.now.leader ≡ true }
+    ensures { IfOk result (λ path. path_buf_bytes path
+        ≡ job_path (path_bytes folder.entry) before.now job.now behind.now) }
+{
+    let number = job.number().to_string(alloc)?;
+    let mut name = String::from_str(alloc, before)?;
+    name.push_str(text_of(job.leader().bytes()))?;
+    name.push_str("-")?;
+    name.push_str(number.as_str())?;
+    name.push_str(behind)?;
+    folder.join(alloc, name.as_str())
+}
+
+/// The name of the file of a job's inputs in this folder: `inputs-LEADER-N`. The one error is memory.
 pub(crate) fn inputs_path(alloc: Global, work: Path<'_>, job: &Job) -> Result<PathBuf, AllocError>
     requires { is_user_name job.now.leader ≡ true }
     ensures { IfOk result (λ path. path_buf_bytes path ≡ inputs_path (path_bytes work.entry) job.now) }
 {
-    let number = job.number().to_string(alloc)?;
-    let mut name = String::from_str(alloc, "inputs-")?;
-    name.push_str(text_of(job.leader().bytes()))?;
-    name.push_str("-")?;
-    name.push_str(number.as_str())?;
-    work.join(alloc, name.as_str())
+    job_path(alloc, work, "inputs-", job, "")
+}
+
+/// The name of a job's log in this folder: `LEADER-N.log`. The one error is memory.
+pub(crate) fn log_path(alloc: Global, logs: Path<'_>, job: &Job) -> Result<PathBuf, AllocError>
+    requires { is_user_name job.now.leader ≡ true }
+    ensures { IfOk result (λ path. path_buf_bytes path ≡ log_path (path_bytes logs.entry) job.now) }
+{
+    job_path(alloc, logs, "", job, ".log")
 }
 
 /// Gives a command these arguments behind its own.

@@ -4,6 +4,7 @@ ghost use Rattle.std.specs.Prelude.{◌≡◌};
 ghost use Rattle.workers.specs.Outputs.{bytes_of};
 ghost use Rattle.builder.specs.Meaning.{fault_in, output_of, run_fault_of, told};
 
+use crate::log::Logged;
 use std::fmt;
 use std::fmt::{Display, Formatter};
 use std::num::NonZeroU8;
@@ -22,6 +23,8 @@ pub enum Fault {
     NotStarted,
     /// The file of inputs was not made or not written, or it stayed.
     InputsNotWritten,
+    /// The log was not made, so that the builder was not started.
+    LogNotMade,
     /// What the builder wrote was not read.
     OutputNotRead,
     /// How the builder ended was not learnt.
@@ -41,6 +44,7 @@ impl Fault {
             Fault::Killed(_)
             | Fault::NotStarted
             | Fault::InputsNotWritten
+            | Fault::LogNotMade
             | Fault::OutputNotRead
             | Fault::EndNotLearnt => RunFault::Device,
         }
@@ -58,6 +62,7 @@ impl Display for Fault {
             },
             Fault::NotStarted => f.write_str("not started"),
             Fault::InputsNotWritten => f.write_str("inputs not written"),
+            Fault::LogNotMade => f.write_str("log not made"),
             Fault::OutputNotRead => f.write_str("output not read"),
             Fault::EndNotLearnt => f.write_str("end not learnt"),
             Fault::Memory => f.write_str("out of memory"),
@@ -69,6 +74,9 @@ impl Display for Fault {
 pub trait Explains {
     /// Why the job that was built last gave no output, if it gave none.
     fn fault(&self) -> Option<Fault>;
+
+    /// The log of the job that was built last, if its builder was started with one.
+    fn log(&self) -> Option<&Logged>;
 }
 
 /// Why a build gave no output, if it gave none.

@@ -3,6 +3,7 @@
 ghost use Rattle.builder.specs.Steps.{Steps};
 
 use crate::command::Streams;
+use crate::log::{Log, Tail};
 use std::fs::OpenOptions;
 use std::io;
 use std::io::{Read, Write};
@@ -14,7 +15,7 @@ use std::process::{Command, ExitStatus};
 pub trait Outside {
     /// A file that is written.
     type File: Write + Drop;
-    /// The standard output of a process.
+    /// What a process writes: what is read of it is its standard output.
     type Output: Read + Drop;
     /// A process that was started.
     type Process: Drop;
@@ -34,19 +35,27 @@ pub trait Outside {
     fn close(&mut self, file: Self::File)
         ensures { steps.closed self.old file self.new };
 
-    /// Starts a process with these streams. The output is the other end of its standard output.
+    /// Starts a process with these streams. The output is the other end of its standard output. What it writes to its
+    /// standard error goes into the log, if there is one, while the output is read and while the process is waited
+    /// for.
     fn start(
         &mut self,
         command: &Command,
         streams: &Streams,
+        log: Option<Log<Self::File>>,
     ) -> io::Result<(Self::Process, Self::Output)>
-        ensures { steps.started self.old command.now streams.now result self.new };
+        ensures { steps.started self.old command.now streams.now log result self.new };
 
     /// Kills a process, if it can be.
     fn kill(&mut self, process: &mut Self::Process)
         ensures { steps.killed self.old process.old process.new self.new };
 
-    /// Waits until a process has ended. Gives how it ended.
-    fn wait(&mut self, process: Self::Process) -> io::Result<ExitStatus>
-        ensures { steps.waited self.old process result self.new };
+    /// Closes an output, and waits until its process has ended. Gives how it ended, and the last of what went into
+    /// its log, if it had one.
+    fn wait(
+        &mut self,
+        process: Self::Process,
+        output: Self::Output,
+    ) -> (io::Result<ExitStatus>, Option<Tail>)
+        ensures { steps.waited self.old process output result.0 self.new };
 }

@@ -1,27 +1,46 @@
 //! A runner that builds by processes.
 
-ghost use Rattle.std.specs.Prelude.{◌≡◌, ◌⊎◌, IfOk, IfErr, MatchResult};
-ghost use Rattle.std.specs.Path.{path_bytes, path_buf_bytes};
+ghost use Rattle.std.specs.Prelude.{◌≡◌, Some, None, Err, IfSome};
+ghost use Rattle.std.specs.Path.{path_buf_bytes};
 ghost use Rattle.workers.specs.Outputs.{bytes_of};
 ghost use Rattle.builder.specs.Meaning.{counted, output_of};
-ghost use Rattle.builder.specs.Running.{Ends, Runs, RunsInFolder, WritesAndRuns};
-ghost use Rattle.builder.specs.Building.{Builds, IsUnusable, Prepares};
-ghost use Rattle.builder.specs.declared.fault.Fault.TheVariants.{Memory, NotStarted};
+ghost use Rattle.builder.specs.Running.{Ends, MakesAnew, Runs, RunsInFolder, RunsLogged, RunsWithLog, WritesAndRuns, log_name};
+ghost use Rattle.builder.specs.Building.{Builds, log_path_in};
 
-use crate::command::{builder_streams, command_for, inputs_path};
+use crate::command::builder_streams;
 use crate::fault::{Explains, Fault, fault_in, told};
 use crate::inputs::{made_anew, write_inputs};
+use crate::log::{Log, Logged, Tail};
 use crate::meaning::{is_gone, meaning};
 use crate::output::read_output;
 use crate::outside::Outside;
-use aterm::parse;
+use crate::preparing::{Folders, Prepared, prepare};
 use closures::Entry;
 use leading::RunningJob;
-use model::Refusal;
 use std::alloc::Global;
-use std::path::{Path, PathBuf};
+use std::io;
+use std::path::PathBuf;
 use std::process::Command;
 use workers::{RunFault, Runner};
+
+/// What a process came to: what it wrote, or why that is none; and the last of its log, if it had one.
+#[derive(Drop)]
+struct Ended {
+    output: Result<Vec<u8>, Fault>,
+    tail: Option<Tail>,
+}
+
+impl Ended {
+    /// There was no process, for this reason.
+    fn without_process(fault: Fault) -> Ended
+        ensures { output_of result.output ≡ Err fault }
+    {
+        Ended {
+            output: Err(fault),
+            tail: None,
+        }
+    }
+}
 
 /// Reads what a process writes, and waits until it has ended, whatever came of it. Where it cannot be read,
 /// the process is killed before.
@@ -30,16 +49,18 @@ fn end<O: Outside>(
     outside: &mut O,
     mut process: O::Process,
     mut output: O::Output,
-) -> Result<Vec<u8>, Fault>
-    ensures { Ends O.steps O.Output.remaining outside.old process output (output_of result) outside.new }
+) -> Ended
+    ensures { Ends O.steps O.Output.remaining outside.old process output (output_of result.output) outside.new }
 {
     let read = read_output(alloc, &mut output);
-    drop(output);
     if read.is_err() {
         outside.kill(&mut process);
     }
-    let ended = outside.wait(process);
-    meaning(read, ended)
+    let (ended, tail) = outside.wait(process, output);
+    Ended {
+        output: meaning(read, ended),
+        tail,
+    }
 }
 
 /// Starts a process, and waits until it has ended.
@@ -47,12 +68,53 @@ fn run_process<O: Outside>(
     alloc: Global,
     outside: &mut O,
     command: &Command,
-) -> Result<Vec<u8>, Fault>
-    ensures { Runs O.steps O.Output.remaining outside.old command.now (output_of result) outside.new }
+    log: Option<Log<O::File>>,
+) -> Ended
+    ensures { Runs O.steps O.Output.remaining outside.old command.now log (output_of result.output) outside.new }
 {
-    match outside.start(command, &builder_streams()) {
+    match outside.start(command, &builder_streams(log.is_some()), log) {
         Ok((process, output)) => end(alloc, outside, process, output),
-        Err(_) => Err(Fault::NotStarted),
+        Err(_) => Ended::without_process(Fault::NotStarted),
+    }
+}
+
+/// Makes a file anew. What has the name before is removed, and where it stays, no file is made.
+fn make_anew<O: Outside>(outside: &mut O, path: &str) -> io::Result<O::File>
+    ensures { MakesAnew O.steps outside.old path.now result outside.new }
+{
+    let _before = outside.remove(path);
+    outside.open(&made_anew(), path)
+}
+
+/// Runs a process with a log in a file that was made for it, if it was.
+fn run_with_log<O: Outside>(
+    alloc: Global,
+    outside: &mut O,
+    command: &Command,
+    made: io::Result<O::File>,
+) -> Ended
+    ensures { RunsWithLog O.steps O.Output.remaining made outside.old command.now (output_of result.output) outside.new }
+{
+    let Ok(file) = made else {
+        return Ended::without_process(Fault::LogNotMade);
+    };
+    match Log::new(alloc, file) {
+        Ok(log) => run_process(alloc, outside, command, Some(log)),
+        Err(_) => Ended::without_process(Fault::LogNotMade),
+    }
+}
+
+/// Runs a process, with a log that is made anew for it, if it is to have one.
+fn run_logged<O: Outside>(alloc: Global, outside: &mut O, prepared: &Prepared) -> Ended
+    ensures { RunsLogged O.steps O.Output.remaining (log_name prepared.now) outside.old prepared.now.command
+        (output_of result.output) outside.new }
+{
+    match &prepared.log {
+        Some(path) => {
+            let made = make_anew(outside, path.as_str());
+            run_with_log(alloc, outside, &prepared.command, made)
+        }
+        None => run_process(alloc, outside, &prepared.command, None),
     }
 }
 
@@ -62,74 +124,83 @@ fn run_with_inputs<O: Outside>(
     outside: &mut O,
     mut file: O::File,
     closure: &[Entry],
-    command: &Command,
-) -> Result<Vec<u8>, Fault>
-    ensures { WritesAndRuns O.steps O.Output.remaining O.File.contents outside.old file closure.now command.now
-        (output_of result) outside.new }
+    prepared: &Prepared,
+) -> Ended
+    ensures { WritesAndRuns O.steps O.Output.remaining O.File.contents outside.old file closure.now prepared.now
+        (output_of result.output) outside.new }
 {
     let written = write_inputs(alloc, &mut file, closure);
     outside.close(file);
     match written {
-        Ok(()) => run_process(alloc, outside, command),
-        Err(_) => Err(Fault::InputsNotWritten),
+        Ok(()) => run_logged(alloc, outside, prepared),
+        Err(_) => Ended::without_process(Fault::InputsNotWritten),
     }
 }
 
-/// Runs a process with a file of inputs that is made anew for it, and is removed whatever came of it. What has
-/// the name before is removed, and where it stays, no file is made.
+/// Runs a process with a file of inputs that is made anew for it, and is removed whatever came of it.
 fn run_in_folder<O: Outside>(
     alloc: Global,
     outside: &mut O,
-    inputs: &str,
     closure: &[Entry],
-    command: &Command,
-) -> Result<Vec<u8>, Fault>
-    ensures { RunsInFolder O.steps O.Output.remaining O.File.contents outside.old inputs.now closure.now
-        command.now (output_of result) outside.new }
+    prepared: &Prepared,
+) -> Ended
+    ensures { RunsInFolder O.steps O.Output.remaining O.File.contents outside.old closure.now prepared.now
+        (output_of result.output) outside.new }
 {
-    let _before = outside.remove(inputs);
-    let Ok(file) = outside.open(&made_anew(), inputs) else {
-        return Err(Fault::InputsNotWritten);
+    let inputs = prepared.inputs.as_str();
+    let Ok(file) = make_anew(outside, inputs) else {
+        return Ended::without_process(Fault::InputsNotWritten);
     };
-    let given = run_with_inputs(alloc, outside, file, closure, command);
+    let ended = run_with_inputs(alloc, outside, file, closure, prepared);
     if is_gone(outside.remove(inputs)) {
-        given
+        ended
     } else {
-        Err(Fault::InputsNotWritten)
+        Ended {
+            output: Err(Fault::InputsNotWritten),
+            tail: ended.tail,
+        }
     }
 }
 
-/// What is started for a job, and the name of its file of inputs.
-fn prepare(
-    alloc: Global,
-    builders: Path<'_>,
-    work: Path<'_>,
-    job: &RunningJob,
-) -> Result<(Command, PathBuf), Fault>
-    ensures ok { IfOk result (λ p. Prepares (path_bytes builders.entry) (path_bytes work.entry) job.now p.0 (path_buf_bytes p.1)) }
-    ensures err { IfErr result (λ why. (why ≡ Memory) ⊎ ((why ≡ NotStarted) × IsUnusable job.now)) }
+/// What a build came to: what its builder wrote, or why that is none; and its log, if it was started with one.
+#[derive(Drop)]
+struct Built {
+    output: Result<Vec<u8>, Fault>,
+    log: Option<Logged>,
+}
+
+/// The log of this name, if there is one, and the last of what went into it.
+fn logged(alloc: Global, path: Option<PathBuf>, tail: Option<Tail>) -> Option<Logged>
+    ensures { IfSome result (λ log. path ≡ Some log.path) }
 {
-    let resolved = job.resolved();
-    let derivation = match parse(alloc, resolved.text()) {
-        Ok(derivation) => derivation,
-        Err(Refusal::Memory) => return Err(Fault::Memory),
-        Err(_) => return Err(Fault::NotStarted),
-    };
-    if !job.job().leader().is_well_formed() {
-        return Err(Fault::NotStarted);
+    match (path, tail) {
+        (Some(path), Some(tail)) => Some(Logged {
+            path,
+            tail: tail.to_vec(alloc).unwrap_or(Vec::new(alloc)),
+        }),
+        _ => None,
     }
-    let Ok(inputs) = inputs_path(alloc, work, job.job()) else {
-        return Err(Fault::Memory);
+}
+
+/// Builds a job.
+fn build<O: Outside>(alloc: Global, outside: &mut O, folders: &Folders, job: &RunningJob) -> Built
+    ensures builds { Builds O.steps O.Output.remaining O.File.contents folders.now outside.old job.now
+        (output_of result.output) outside.new }
+    ensures log { IfSome result.log (λ log. log_path_in folders.now job.now.job ≡ Some (path_buf_bytes log.path)) }
+{
+    let prepared = match prepare(alloc, folders, job) {
+        Ok(prepared) => prepared,
+        Err(why) => {
+            return Built {
+                output: Err(why),
+                log: None,
+            };
+        }
     };
-    match command_for(
-        alloc,
-        &derivation,
-        resolved.scratch(),
-        builders,
-        inputs.as_str(),
-    ) {
-        Ok(command) => Ok((command, inputs)),
-        Err(_) => Err(Fault::Memory),
+    let Ended { output, tail } = run_in_folder(alloc, outside, job.resolved().closure(), &prepared);
+    Built {
+        output,
+        log: logged(alloc, prepared.log, tail),
     }
 }
 
@@ -137,54 +208,29 @@ fn prepare(
 #[derive(Drop)]
 pub struct ProcessRunner<O> {
     outside: O,
-    builders: PathBuf,
-    work: PathBuf,
+    folders: Folders,
     failures: u64,
     fault: Option<Fault>,
+    log: Option<Logged>,
 }
 
 impl<O: Outside> ProcessRunner<O> {
-    /// A runner that has not failed. Programs whose names do not begin with `/` are looked for in the folder
-    /// `builders`, and the files of inputs stand in the folder `work`.
-    pub fn new(outside: O, builders: PathBuf, work: PathBuf) -> ProcessRunner<O>
+    /// A runner that has not failed. What it needs stands in these folders.
+    pub fn new(outside: O, folders: Folders) -> ProcessRunner<O>
         ensures outside { result.outside ≡ outside }
-        ensures builders { result.builders ≡ builders }
-        ensures work { result.work ≡ work }
+        ensures folders { result.folders ≡ folders }
         ensures failures { result.failures ≡ 0 }
         ensures fault { result.fault ≡ None }
+        ensures log { result.log ≡ None }
     {
         ProcessRunner {
             outside,
-            builders,
-            work,
+            folders,
             failures: 0,
             fault: None,
+            log: None,
         }
     }
-}
-
-/// Builds a job.
-fn build<O: Outside>(
-    alloc: Global,
-    outside: &mut O,
-    builders: Path<'_>,
-    work: Path<'_>,
-    job: &RunningJob,
-) -> Result<Vec<u8>, Fault>
-    ensures { Builds O.steps O.Output.remaining O.File.contents (path_bytes builders.entry) (path_bytes work.entry)
-        outside.old job.now (output_of result) outside.new }
-{
-    let (command, inputs) = match prepare(alloc, builders, work, job) {
-        Ok(prepared) => prepared,
-        Err(why) => return Err(why),
-    };
-    run_in_folder(
-        alloc,
-        outside,
-        inputs.as_str(),
-        job.resolved().closure(),
-        &command,
-    )
 }
 
 /// A count of failures behind this: one more where a device failed, as far as the number goes.
@@ -203,6 +249,10 @@ impl<O> Explains for ProcessRunner<O> {
     {
         self.fault
     }
+
+    fn log(&self) -> Option<&Logged> {
+        self.log.as_ref()
+    }
 }
 
 impl<O: Outside> Runner for ProcessRunner<O> {
@@ -213,15 +263,10 @@ impl<O: Outside> Runner for ProcessRunner<O> {
     ghost failed = { λ runner. runner.failures };
 
     fn run(&mut self, alloc: Global, job: &RunningJob) -> Result<Vec<u8>, RunFault> {
-        let built = build(
-            alloc,
-            &mut self.outside,
-            self.builders.as_path(),
-            self.work.as_path(),
-            job,
-        );
-        self.fault = fault_in(&built);
-        let given = told(built);
+        let Built { output, log } = build(alloc, &mut self.outside, &self.folders, job);
+        self.fault = fault_in(&output);
+        self.log = log;
+        let given = told(output);
         self.failures = counted(self.failures, &given);
         given
     }

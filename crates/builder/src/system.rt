@@ -3,10 +3,12 @@
 ghost use Rattle.builder.specs.Steps.{nothing_said};
 
 use crate::command::Streams;
+use crate::log::{Log, Tail};
 use crate::outside::Outside;
+use crate::written::Written;
 use std::fs::{Files, OpenOptions};
 use std::io::{Error, ErrorKind};
-use std::process::{Child, Command, ExitStatus, OpenProcess, Processes};
+use std::process::{Child, ChildStdout, Command, ExitStatus, Processes, SystemProcess};
 use std::{fs, io};
 
 /// How often a call is made in all that signals interrupt.
@@ -18,7 +20,7 @@ pub struct System<'a, R> {
     rt: &'a R,
 }
 
-impl<'a, R: Files + Processes> System<'a, R> {
+impl<'a, R: Files + Processes<Started = SystemProcess>> System<'a, R> {
     /// Those of this runtime.
     pub fn new(rt: &'a R) -> System<'a, R> {
         System { rt }
@@ -29,7 +31,7 @@ impl<'a, R: Files + Processes> System<'a, R> {
         &self,
         command: &Command,
         streams: &Streams,
-    ) -> io::Result<(Child<R::Started>, <R::Started as OpenProcess>::Stdout)> {
+    ) -> io::Result<(Child<SystemProcess>, ChildStdout)> {
         let Streams {
             stdin,
             stdout,
@@ -45,14 +47,29 @@ impl<'a, R: Files + Processes> System<'a, R> {
             }
         }
     }
+
+    /// Starts a process. A call that a signal interrupts is made again.
+    fn start_again(
+        &self,
+        command: &Command,
+        streams: &Streams,
+    ) -> io::Result<(Child<SystemProcess>, ChildStdout)> {
+        for _ in 1..MOST_TRIES {
+            match self.start_once(command, streams) {
+                Err(error) if error.kind() == ErrorKind::Interrupted => {}
+                started => return started,
+            }
+        }
+        self.start_once(command, streams)
+    }
 }
 
-impl<'a, R: Files + Processes> Outside for System<'a, R> {
+impl<'a, R: Files + Processes<Started = SystemProcess>> Outside for System<'a, R> {
     type File = R::File;
 
-    type Output = <R::Started as OpenProcess>::Stdout;
+    type Output = Written<R::File>;
 
-    type Process = Child<R::Started>;
+    type Process = Child<SystemProcess>;
 
     ghost steps = { nothing_said };
 
@@ -78,21 +95,25 @@ impl<'a, R: Files + Processes> Outside for System<'a, R> {
         &mut self,
         command: &Command,
         streams: &Streams,
-    ) -> io::Result<(Self::Process, Self::Output)> {
-        for _ in 1..MOST_TRIES {
-            match self.start_once(command, streams) {
-                Err(error) if error.kind() == ErrorKind::Interrupted => {}
-                started => return started,
-            }
-        }
-        self.start_once(command, streams)
+        log: Option<Log<Self::File>>,
+    ) -> io::Result<(Self::Process, Self::Output)>
+        ensures { Unit {0} }
+    {
+        let (mut process, output) = self.start_again(command, streams)?;
+        let stderr = process.stderr.take();
+        Ok((process, Written::new(output, stderr, log)))
     }
 
     fn kill(&mut self, process: &mut Self::Process) {
         let _ = process.kill();
     }
 
-    fn wait(&mut self, mut process: Self::Process) -> io::Result<ExitStatus> {
-        process.wait()
+    fn wait(
+        &mut self,
+        mut process: Self::Process,
+        output: Self::Output,
+    ) -> (io::Result<ExitStatus>, Option<Tail>) {
+        let tail = output.read_to_end_of(&mut process);
+        (process.wait(), tail)
     }
 }

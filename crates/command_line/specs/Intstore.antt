@@ -94,6 +94,15 @@ work_rule = record (new_rule (codes "work")) {
   defaults = codes "." ∷ [];
 }
 
+-- `--logs DIR`: not empty
+abbrev pub logs_rule : Rule
+logs_rule = record (new_rule (codes "logs")) {
+  long = Some (codes "logs");
+  action = Some Set;
+  value_names = 1;
+  parser = Some parser.NonEmptyString;
+}
+
 -- `--verbose`
 abbrev pub verbose_rule : Rule
 verbose_rule = record (new_rule (codes "verbose")) {
@@ -114,9 +123,9 @@ replay = with_rules (new_app (codes "replay")) (sweep_rule ∷ charge_rule ∷ f
 abbrev pub strike : App
 strike = with_rules (new_app (codes "strike")) (user_rule ∷ timed_rule ∷ charge_rule ∷ file_rule ∷ [])
 
--- `run --workers N [--builders DIR] [--work DIR] [--charge N] [--verbose] FILE..`
+-- `run --workers N [--builders DIR] [--work DIR] [--logs DIR] [--charge N] [--verbose] FILE..`
 abbrev pub run : App
-run = with_rules (new_app (codes "run")) (workers_rule ∷ builders_rule ∷ work_rule ∷ charge_rule
+run = with_rules (new_app (codes "run")) (workers_rule ∷ builders_rule ∷ work_rule ∷ logs_rule ∷ charge_rule
     ∷ verbose_rule ∷ files_rule ∷ [])
 
 -- it has a version, and does nothing without a subcommand

@@ -1,6 +1,6 @@
 -- What the words of a command line ask for.
 use Rattle.std.specs.Prelude.{◌≡◌, ◌≤◌, ◌⊎◌, ℕ, Bool, true, false, List, [], Option, Some, None}
-use Rattle.std.specs.Prelude.{Result, MatchResult, codes, length, map, string_bytes}
+use Rattle.std.specs.Prelude.{Result, MatchResult, codes, length, map, option_map, string_bytes}
 use Rattle.std.specs.Str.Parse.{IsNumeral, digits_value, without_leading_plus}
 use Rattle.model.specs.Limits.{most_charge}
 use Rattle.clap.specs.Kinds.{HasKind}
@@ -58,6 +58,7 @@ abbrev pub IsRunOf : List Row → Run → Type 0
 IsRunOf rows run = IsWorkersOf (one_of (codes "workers") rows) run.workers
     × (first_of (codes "builders") rows ≡ Some (string_bytes run.builders))
     × (first_of (codes "work") rows ≡ Some (string_bytes run.work))
+    × (first_of (codes "logs") rows ≡ option_map string_bytes run.logs)
     × IsFlagOf (one_of (codes "verbose") rows) run.verbose
     × AreFilesOf rows (map string_bytes run.files.items)
 

@@ -1,7 +1,7 @@
 //! The command `intstore` with its arguments, and the options that it finds in the words of a command line.
 
 ghost use Rattle.std.specs.Prelude.{IfOk, map, string_bytes};
-ghost use Rattle.command_line.specs.Intstore.{builders_rule, charge_rule, file_rule, files_rule};
+ghost use Rattle.command_line.specs.Intstore.{builders_rule, charge_rule, file_rule, files_rule, logs_rule};
 ghost use Rattle.command_line.specs.Intstore.{sweep_rule, timed_rule, user_rule, verbose_rule, work_rule, workers_rule};
 ghost use Rattle.command_line.specs.Intstore.{intstore, replay, run, strike};
 ghost use Rattle.command_line.specs.Intstore.{subcommands as described_subcommands};
@@ -122,6 +122,18 @@ fn work_argument<'a>(alloc: Global) -> Arg<'a>
         .help("The folder for the files that builders are given")
 }
 
+/// The option `--logs`.
+fn logs_argument<'a>(alloc: Global) -> Arg<'a>
+    ensures { IsArgument logs_rule result }
+{
+    Arg::new(alloc, "logs")
+        .long("logs")
+        .value_name("DIR")
+        .action(ArgAction::Set)
+        .value_parser(ValueParser::NonEmptyString)
+        .help("The folder for what builders write to standard error; left out, that is dropped")
+}
+
 /// The flag `--verbose`.
 fn verbose_argument<'a>(alloc: Global) -> Arg<'a>
     ensures { IsArgument verbose_rule result }
@@ -169,6 +181,7 @@ fn run_command<'a>(alloc: Global) -> Result<Command<'a>, AllocError>
         workers_argument(alloc),
         builders_argument(alloc),
         work_argument(alloc),
+        logs_argument(alloc),
         charge_argument(alloc),
         verbose_argument(alloc),
         files_argument(alloc),

@@ -83,6 +83,7 @@ fn run_of(alloc: Global, matches: &ArgMatches<'_>) -> Result<Option<Run>, AllocE
     let Some(work) = text_of(alloc, matches, "work")? else {
         return Ok(None);
     };
+    let logs = text_of(alloc, matches, "logs")?;
     let Some(files) = files_of(alloc, matches)? else {
         return Ok(None);
     };
@@ -90,6 +91,7 @@ fn run_of(alloc: Global, matches: &ArgMatches<'_>) -> Result<Option<Run>, AllocE
         workers,
         builders,
         work,
+        logs,
         verbose: matches.get_flag("verbose"),
         files,
     }))

@@ -42,6 +42,8 @@ pub struct Run {
     pub builders: String,
     /// The folder for the files that builders are given.
     pub work: String,
+    /// The folder for what builders write to standard error, if that is kept.
+    pub logs: Option<String>,
     /// Whether it is said on standard error as each builder starts, and how it ended.
     pub verbose: bool,
     /// The files, one for each session, in their order: 1 to 8.

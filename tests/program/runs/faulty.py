@@ -41,6 +41,7 @@ def command_lines(cases):
             ("no_workers", ["good"], "error: the following required arguments were not provided:\n  --workers <N>\n.*"),
             ("nine_files", ["--workers", "1", *["good"] * 9], "error: .*"),
             ("user_of_a_run", ["--workers", "1", "--user", "alice", "good"], "error: unexpected argument '--user' found\n.*"),
+            ("logs_without_a_name", ["--workers", "1", "--logs", "", "good"], "error: a value is required for '--logs <DIR>'.*"),
             ("workers_without_a_number", ["good", "--workers"], "error: a value is required for '--workers <N>'.*"),
             ("no_workers_and_a_missing_file", ["nothing"], "error: the following required arguments were not provided:\n.*")):
         check_words(cases, name, words, 2, re.compile(errors, re.DOTALL))
@@ -71,7 +72,7 @@ def faults(cases):
 
 
 def help_of_run(cases):
-    options = ["--workers <N>", "--builders <DIR>", "--work <DIR>", "--charge <N>", "--verbose", "<FILE>...", "--help"]
+    options = ["--workers <N>", "--builders <DIR>", "--work <DIR>", "--logs <DIR>", "--charge <N>", "--verbose", "<FILE>...", "--help"]
     for name, words in (("help_of_run", ["run", "--help"]), ("help_run", ["help", "run"])):
         with cases.folder() as folder:
             came = run(folder, [cases.program, *words])

@@ -1,4 +1,4 @@
-"""What stands under the name of a file of inputs before it is made: it is removed and never followed."""
+"""What stands under the name of a file of inputs, or of a log, before it is made: it is removed and never followed."""
 import os
 import re
 
@@ -8,36 +8,36 @@ NAME = "work/inputs-alice-1"
 KEPT = "kept"
 
 
-def link(folder):
-    (folder / NAME).symlink_to(folder / KEPT)
+def link(folder, name=NAME):
+    (folder / name).symlink_to(folder / KEPT)
 
 
-def dangling_link(folder):
-    (folder / NAME).symlink_to(folder / "planted")
+def dangling_link(folder, name=NAME):
+    (folder / name).symlink_to(folder / "planted")
 
 
-def link_to_a_folder(folder):
+def link_to_a_folder(folder, name=NAME):
     (folder / "planted").mkdir()
-    (folder / NAME).symlink_to(folder / "planted")
+    (folder / name).symlink_to(folder / "planted")
 
 
-def hard_link(folder):
-    os.link(folder / KEPT, folder / NAME)
+def hard_link(folder, name=NAME):
+    os.link(folder / KEPT, folder / name)
 
 
-def fifo(folder):
-    os.mkfifo(folder / NAME)
+def fifo(folder, name=NAME):
+    os.mkfifo(folder / name)
 
 
-def file_of_all(folder):
-    (folder / NAME).write_text("of all")
-    (folder / NAME).chmod(0o666)
+def file_of_all(folder, name=NAME):
+    (folder / name).write_text("of all")
+    (folder / name).chmod(0o666)
 
 
-def file_that_a_writer_has_open(folder):
+def file_that_a_writer_has_open(folder, name=NAME):
     """Whoever has the file that was there open does not alter the inputs."""
-    (folder / NAME).write_text("of all")
-    file_that_a_writer_has_open.file = (folder / NAME).open("ab", buffering=0)
+    (folder / name).write_text("of all")
+    file_that_a_writer_has_open.file = (folder / name).open("ab", buffering=0)
 
 
 def faults(folder):

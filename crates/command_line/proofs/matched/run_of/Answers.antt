@@ -18,4 +18,4 @@ returns c =
     let workers = subst (λ t. IsWorkersOf t c.in-Some.workers) (one_text-rows found (codes "workers")) (search rules) in
     let flag = subst (λ t. IsFlagOf t c.get_flag.result) (one_text-rows found (codes "verbose"))
     (c.get_flag.ensures.value, c.get_flag.ensures.other, c.get_flag.ensures.none) in
-    (workers, search rules, search rules, flag, search rules)
+    (workers, search rules, search rules, search rules, flag, search rules)
