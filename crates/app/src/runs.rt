@@ -109,10 +109,10 @@ fn take_runners<Q: Drop>(
     Ok(taken)
 }
 
-/// Reads each file up to its users, in their order, and gives it so many runners.
+/// Reads each file of a run up to its users, in their order, and gives it its runners.
 fn parts_of<'a, Q: Drop>(
     rt: &HostRuntime,
-    workers: usize,
+    run: &Run,
     files: Vec<Opened<'a>>,
     mut runners: Vec<Q>,
 ) -> io::Result<Result<Parts<Q>, Refused<'a>>> {
@@ -129,11 +129,12 @@ fn parts_of<'a, Q: Drop>(
         if found.users.is_none() {
             found.users = Some(users);
         }
-        let runners = take_runners(rt, &mut runners, workers)?;
+        let runners = take_runners(rt, &mut runners, run.workers)?;
         found.parts.push(Part {
             bytes,
             reader,
             runners,
+            sweeps: run.sweep,
         })?;
     }
     Ok(Ok(found))
@@ -197,7 +198,7 @@ pub(crate) fn run_files<H: Threads + Wait + Sync, Q: Runner + Send + Drop>(
         Ok(files) => files,
         Err(refused) => return Ok(report_refused(rt, refused)),
     };
-    let Parts { users, parts } = match parts_of(rt, run.workers, files, runners)? {
+    let Parts { users, parts } = match parts_of(rt, run, files, runners)? {
         Ok(found) => found,
         Err(refused) => return Ok(report_refused(rt, refused)),
     };

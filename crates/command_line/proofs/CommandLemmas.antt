@@ -4,20 +4,39 @@ use Rattle.std.specs.Prelude.{codes, unwrap_or}
 use Rattle.std.specs.Borrow.{Bor}
 use Rattle.std.specs.Result.{IsErrAnd}
 use Rattle.std.proofs.lemmas.List.{length-map}
-use Rattle.clap.specs.Built.{AddsInTurn, AddsSubcommand}
+use Rattle.clap.specs.Built.{AddsArg, AddsInTurn, AddsSubcommand}
 use Rattle.clap.specs.Matches.{found_of, matched_of, raw_values}
-use Rattle.clap.specs.Simple.{App, HasMatchesOf, subcommand_of, subcommand_rows_of, with_subcommand}
-use Rattle.clap.specs.Walk.{Row, Text, all_of, texts}
+use Rattle.clap.specs.Simple.{App, HasMatchesOf, subcommand_of, subcommand_rows_of, with_rule, with_subcommand}
+use Rattle.clap.specs.Walk.{Row, Rule, Text, all_of, texts}
 use Rattle.clap.proofs.WalkLemmas.{raw_values-rows}
+use Rattle.clap.specs.declared.builder.arg.Arg.{Arg}
 use Rattle.clap.specs.declared.builder.command.Command.{Command}
 use Rattle.clap.specs.declared.parser.matches.ArgMatches.{ArgMatches}
 use Rattle.clap.specs.Faults.{fault_of, is_simple_and_free}
 use Rattle.clap.specs.Kinds.{HasKind, Kinds}
 use Rattle.clap.specs.declared.error.Error.{Error}
-use Rattle.command_line.specs.Intstore.{intstore, most_files, with_subcommands}
+use Rattle.command_line.specs.Intstore.{intstore, most_files, with_rules, with_subcommands}
 use Rattle.command_line.specs.Named.{AnswersWords, AreFilesOf, AskFor, rows_in}
 use Rattle.command_line.specs.declared.settings.Options.{Options}
-use Rattle.command_line.specs.Steps.{AreCommands, IsCommand, IsFound}
+use Rattle.command_line.specs.Steps.{AreArguments, AreCommands, IsArgument, IsCommand, IsFound}
+
+-- one more argument
+argument_added : (above : App) (rule : Rule) (old : Command) (a : Arg) (new : Command) → IsCommand above old → IsArgument rule a
+    → AddsArg old a new → IsCommand (with_rule above rule) new
+argument_added above rule old a new is_old is_a added = (
+  added.shape is_a.1 ∙ ap₂ with_rule is_old.0 is_a.0,
+  added.globals ∙ ap₂ (λ x y. x || y) is_old.1 is_a.1,
+)
+
+-- and all of them
+pub arguments_added : (above : App) (rules : List Rule) (old new : Command) (args : List Arg) → IsCommand above old → AreArguments rules args
+    → AddsInTurn AddsArg old args new → IsCommand (with_rules above rules) new
+arguments_added above [] old new [] is_old are added = subst (IsCommand above) added is_old
+arguments_added above [] old new (a ∷ args) is_old are added = absurd are
+arguments_added above (rule ∷ rules) old new [] is_old are added = absurd are
+arguments_added above (rule ∷ rules) old new (a ∷ args) is_old are added =
+    let one = argument_added above rule old a added.0 is_old are.0 added.1 in
+    arguments_added (with_rule above rule) rules added.0 new args one are.1 added.2
 
 -- one more subcommand
 subcommand_added : (above sub : App) (old c new : Command) → IsCommand above old → IsCommand sub c

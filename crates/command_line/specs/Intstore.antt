@@ -123,10 +123,10 @@ replay = with_rules (new_app (codes "replay")) (sweep_rule ∷ charge_rule ∷ f
 abbrev pub strike : App
 strike = with_rules (new_app (codes "strike")) (user_rule ∷ timed_rule ∷ charge_rule ∷ file_rule ∷ [])
 
--- `run --workers N [--builders DIR] [--work DIR] [--logs DIR] [--charge N] [--verbose] FILE..`
+-- `run --workers N [--builders DIR] [--work DIR] [--logs DIR] [--sweep] [--charge N] [--verbose] FILE..`
 abbrev pub run : App
-run = with_rules (new_app (codes "run")) (workers_rule ∷ builders_rule ∷ work_rule ∷ logs_rule ∷ charge_rule
-    ∷ verbose_rule ∷ files_rule ∷ [])
+run = with_rules (new_app (codes "run")) (workers_rule ∷ builders_rule ∷ work_rule ∷ logs_rule ∷ sweep_rule
+    ∷ charge_rule ∷ verbose_rule ∷ files_rule ∷ [])
 
 -- it has a version, and does nothing without a subcommand
 abbrev pub needs_subcommand : Shape → Shape

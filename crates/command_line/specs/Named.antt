@@ -59,6 +59,7 @@ IsRunOf rows run = IsWorkersOf (one_of (codes "workers") rows) run.workers
     × (first_of (codes "builders") rows ≡ Some (string_bytes run.builders))
     × (first_of (codes "work") rows ≡ Some (string_bytes run.work))
     × (first_of (codes "logs") rows ≡ option_map string_bytes run.logs)
+    × IsFlagOf (one_of (codes "sweep") rows) run.sweep
     × IsFlagOf (one_of (codes "verbose") rows) run.verbose
     × AreFilesOf rows (map string_bytes run.files.items)
 

@@ -14,6 +14,12 @@ IsArgument rule a = (rule_of a ≡ rule) × (a.global ≡ false)
 abbrev pub IsCommand : App → Command → Type 0
 IsCommand described c = (app_of c ≡ described) × ((out-Command c).has_globals ≡ false)
 
+-- the arguments have these rules, one by one
+abbrev pub AreArguments : List Rule → List Arg → Type 0
+AreArguments [] [] = ⊤
+AreArguments (r ∷ rs) (a ∷ more) = IsArgument r a × AreArguments rs more
+AreArguments _ _ = ⊥
+
 -- the commands are those that are described, one by one
 abbrev pub AreCommands : List App → List Command → Type 0
 AreCommands [] [] = ⊤

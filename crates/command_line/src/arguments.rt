@@ -73,14 +73,14 @@ fn timed_argument<'a>(alloc: Global) -> Arg<'a>
         .help("Counts trust only while it is held, and not all that is ever given")
 }
 
-/// The flag `--sweep`.
-fn sweep_argument<'a>(alloc: Global) -> Arg<'a>
+/// The flag `--sweep`, with what it does.
+fn sweep_argument<'a>(alloc: Global, help: &'a str) -> Arg<'a>
     ensures { IsArgument sweep_rule result }
 {
     Arg::new(alloc, "sweep")
         .long("sweep")
         .action(ArgAction::SetTrue)
-        .help("Gives back after each event what nobody holds; the replies stay the same")
+        .help(help)
 }
 
 /// The option `--workers`.
@@ -149,7 +149,10 @@ fn replay_command<'a>(alloc: Global) -> Result<Command<'a>, AllocError>
     ensures { IfOk result (IsCommand replay) }
 {
     let arguments = vec![in alloc;
-        sweep_argument(alloc),
+        sweep_argument(
+            alloc,
+            "Gives back after each event what nobody holds; the replies stay the same",
+        ),
         charge_argument(alloc),
         file_argument(alloc),
     ]?;
@@ -182,6 +185,10 @@ fn run_command<'a>(alloc: Global) -> Result<Command<'a>, AllocError>
         builders_argument(alloc),
         work_argument(alloc),
         logs_argument(alloc),
+        sweep_argument(
+            alloc,
+            "Gives back after each round of builds what nobody holds; the replies stay the same",
+        ),
         charge_argument(alloc),
         verbose_argument(alloc),
         files_argument(alloc),

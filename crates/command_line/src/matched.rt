@@ -92,6 +92,7 @@ fn run_of(alloc: Global, matches: &ArgMatches<'_>) -> Result<Option<Run>, AllocE
         builders,
         work,
         logs,
+        sweep: matches.get_flag("sweep"),
         verbose: matches.get_flag("verbose"),
         files,
     }))

@@ -44,6 +44,8 @@ pub struct Run {
     pub work: String,
     /// The folder for what builders write to standard error, if that is kept.
     pub logs: Option<String>,
+    /// Whether after each round of builds the store gives back what nobody holds.
+    pub sweep: bool,
     /// Whether it is said on standard error as each builder starts, and how it ended.
     pub verbose: bool,
     /// The files, one for each session, in their order: 1 to 8.

@@ -2,7 +2,7 @@
 use denote.RattleType.{RattleType}
 use denote.Ref.{NamedLft}
 use denote.Struct.Field.{shr_ref_field}
-use denote.Param.Send.{IsSend, IsSync, shr_send, view_send}
+use denote.Param.Send.{IsSend, IsSync, sendable, shr_send, view_send}
 use denote.Param.SendFields.{declared_send, as_row_send}
 use Rattle.std.specs.declared.sync.ledger.Ledger as Ledger
 use Rattle.passes.specs.declared.naming.Naming as Naming
@@ -17,7 +17,7 @@ module _ (a : NamedLft) (J R : RattleType) (n : Naming.Ghosts J.Denot) (l : Ledg
       let front : IsSync (Front.the_row J n l) = front_sync J n l in
       declared_send (SharedInside.the_type a J R n l) (
         search (shr_send, y) depth 5,
-        (as_row_send (shr_ref_field a (Front.the_row J n l) tt) (shr_send a.mir a.lft (Front.the_row J n l) front), (pass_send J n l, tt)),
+        (as_row_send (shr_ref_field a (Front.the_row J n l) tt) (shr_send a.mir a.lft (Front.the_row J n l) front), (pass_send J n l, (search sendable, tt))),
       )
 
   pub store_send : IsSync R → IsSend (SharedStore.the_row a J R n l)

@@ -9,6 +9,7 @@ ghost use Rattle.events.specs.declared.reply.Reply.{Reply};
 ghost use Rattle.events.specs.declared.reply.Reply.TheVariants.{Refused};
 ghost use Rattle.running.specs.Teams.{AllMet};
 
+use std::alloc::Global;
 use workers::{Store, Worker};
 
 /// A store that meets others, and knows then what they were answered.
@@ -34,6 +35,9 @@ pub(crate) trait Meet: Store {
         ensures other { met other.old other.new }
         ensures knows { knows self.new other.new }
         ensures stopped { result ≡ stopped self.new };
+
+    /// Has what it calls give back what nobody holds, if it is to. No reply shows that. It may wait.
+    fn sweep(&self, alloc: Global);
 
     /// It may meet none.
     ghost met_none: { (s : Self) → met s s };

@@ -58,7 +58,12 @@ fn workers_with<'a, J: Naming, R: Wait, Q: Runner + Drop>(
     let mut workers = Vec::new(alloc);
     for runner in runners {
         let pass = next_pass(passes)?;
-        let store = SharedStore { rt, front, pass };
+        let store = SharedStore {
+            rt,
+            front,
+            pass,
+            sweeps: false,
+        };
         workers.push(Worker { store, runner })?;
     }
     Ok(workers)
@@ -84,6 +89,7 @@ fn desk_for<'a, J: Naming, R: Wait, Q: Runner + Drop, I: Drop>(
         bytes,
         reader,
         runners,
+        sweeps,
     } = part;
     let workers = workers_with(rt, alloc, front, passes, runners)?;
     let own = next_pass(passes)?;
@@ -92,6 +98,7 @@ fn desk_for<'a, J: Naming, R: Wait, Q: Runner + Drop, I: Drop>(
             rt,
             front,
             pass: own,
+            sweeps,
         },
         team: Team::new(workers),
         bytes,

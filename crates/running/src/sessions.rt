@@ -29,6 +29,9 @@ pub struct Part<I: Drop, Q: Drop> {
     pub reader: I,
     /// What builds the goals of its lines: a worker has each.
     pub runners: Vec<Q>,
+    /// Whether the store gives back what nobody holds after each round in which they are built, as far as there is
+    /// memory to find it. What is printed is the same.
+    pub sweeps: bool,
 }
 
 /// What the lines of a file gave.

@@ -24,6 +24,8 @@ pub(crate) struct SharedStore<'a, J: Naming, R: Wait> {
     pub(crate) front: &'a Front<J>,
     /// What it is called through.
     pub(crate) pass: Pass<J>,
+    /// Whether what is shared is swept when that is asked for.
+    pub(crate) sweeps: bool,
 }
 
 /// Contracts see it as its pass.
@@ -108,6 +110,12 @@ impl<J: Naming, R: Wait> Meet for SharedStore<'_, J, R> {
 
     fn meet(&mut self, other: &mut Self) -> bool {
         self.front.meet(self.rt, &mut self.pass, &mut other.pass)
+    }
+
+    fn sweep(&self, alloc: Global) {
+        if self.sweeps {
+            let _swept = self.front.sweep(self.rt, alloc);
+        }
     }
 
     ghost met_none = { met_none };

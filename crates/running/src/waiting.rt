@@ -113,8 +113,9 @@ fn look<S: Meet>(alloc: Global, store: &mut S, goals: &[Job]) -> Result<Left, Re
     Ok(Left { waiting, building })
 }
 
-/// Has goals built in one round, after which the store meets those of the workers. Where there are no
-/// workers any more, or no memory, that is 90; and 92 only where the store finds that it is stopped.
+/// Has goals built in one round, after which the store meets those of the workers, and gives back what nobody
+/// holds, if it is to. Where there are no workers any more, or no memory, that is 90; and 92 only where the store
+/// finds that it is stopped.
 fn build<S: Meet + Drop, Q: Runner + Drop, R: Wait>(
     rt: &R,
     alloc: Global,
@@ -130,6 +131,7 @@ fn build<S: Meet + Drop, Q: Runner + Drop, R: Wait>(
 {
     let answer = crew.build(rt, alloc, goals);
     let is_stopped = crew.team.meet(store);
+    store.sweep(alloc);
     match answer {
         Err(Refusal::Stopped) if !is_stopped => Err(Refusal::Memory),
         answer => answer,

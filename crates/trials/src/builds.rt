@@ -145,6 +145,7 @@ pub(crate) fn gate_two_workers<R: Threads + Wait + Sync>(
         bytes,
         reader,
         runners,
+        sweeps: false,
     };
     let parts = vec![in alloc; part]?;
     let results = running::run(rt, alloc, hashing, users, Limits::default(), parts)?;
@@ -170,6 +171,7 @@ pub(crate) fn built_once<R: Threads + Wait + Sync>(
         bytes,
         reader,
         runners,
+        sweeps: false,
     };
     let parts = vec![in alloc; part]?;
     let results = running::run(rt, alloc, hashing, users, Limits::default(), parts)?;

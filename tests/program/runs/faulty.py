@@ -72,7 +72,7 @@ def faults(cases):
 
 
 def help_of_run(cases):
-    options = ["--workers <N>", "--builders <DIR>", "--work <DIR>", "--logs <DIR>", "--charge <N>", "--verbose", "<FILE>...", "--help"]
+    options = ["--workers <N>", "--builders <DIR>", "--work <DIR>", "--logs <DIR>", "--sweep", "--charge <N>", "--verbose", "<FILE>...", "--help"]
     for name, words in (("help_of_run", ["run", "--help"]), ("help_run", ["help", "run"])):
         with cases.folder() as folder:
             came = run(folder, [cases.program, *words])

@@ -16,6 +16,8 @@ pub returns : goal.returns
 returns c =
     let found = found_of c.args.matches.now in
     let workers = subst (λ t. IsWorkersOf t c.in-Some.workers) (one_text-rows found (codes "workers")) (search rules) in
-    let flag = subst (λ t. IsFlagOf t c.get_flag.result) (one_text-rows found (codes "verbose"))
+    let sweep = subst (λ t. IsFlagOf t c.get_flag.result) (one_text-rows found (codes "sweep"))
     (c.get_flag.ensures.value, c.get_flag.ensures.other, c.get_flag.ensures.none) in
-    (workers, search rules, search rules, search rules, flag, search rules)
+    let verbose = subst (λ t. IsFlagOf t c.get_flag-2.result) (one_text-rows found (codes "verbose"))
+    (c.get_flag-2.ensures.value, c.get_flag-2.ensures.other, c.get_flag-2.ensures.none) in
+    (workers, search rules, search rules, search rules, sweep, verbose, search rules)
