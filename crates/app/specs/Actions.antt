@@ -8,7 +8,7 @@ use Rattle.command_line.specs.declared.settings.Action.TheVariants.{Replay, Stri
 
 -- all lines of one file are to be run
 abbrev pub IsReplay : Action → Type 0
-IsReplay (Replay sweep file) = ⊤
+IsReplay (Replay sweep explain file) = ⊤
 IsReplay action = ⊥
 
 -- where the events that can reach a user are to be run, timed or not, this is so of his name and of that

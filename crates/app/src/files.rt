@@ -1,11 +1,12 @@
 //! The files that the program reads, and what it prints to.
 
+use crate::explaining::{Explained, Lines};
 use crate::fault::Fault;
 use command_line::Run;
 use session::Counted;
 use std::alloc::AllocError;
 use std::fs::File;
-use std::io::{BufWriter, ErrorKind, Printer};
+use std::io::{BufReader, BufWriter, ErrorKind, Printer};
 use std::os::fd::{AsRawFd, RawFd};
 use std::{fs, io};
 
@@ -67,6 +68,28 @@ pub(crate) fn open(rt: &HostRuntime, name: &str) -> io::Result<Option<Counted<Fi
         Err(error) if error.kind() == ErrorKind::OutOfMemory => Err(error),
         Err(_) => Ok(None),
     }
+}
+
+/// The lines of a file, to be read beside another reader of it: of a file that is no pipe and no terminal, where it
+/// can be opened.
+fn lines_beside(rt: &HostRuntime, name: &str) -> io::Result<Option<Lines<BufReader<File>>>> {
+    match fs::metadata(rt, name) {
+        Ok(found) if found.is_file() => {}
+        _ => return Ok(None),
+    }
+    match fs::open(rt, name) {
+        Ok(file) => Ok(Some(Lines::new(BufReader::new(rt.alloc(), file)?))),
+        Err(_) => Ok(None),
+    }
+}
+
+/// Standard output, with what each refusal among the replies to the lines of this file means.
+pub(crate) fn explained<'a>(
+    rt: &'a HostRuntime,
+    name: &str,
+) -> io::Result<Explained<BufWriter<Printer<'a, HostRuntime>>, BufReader<File>>> {
+    let writer = BufWriter::new(rt.alloc(), io::writer(rt))?;
+    Ok(Explained::new(rt.alloc(), writer, lines_beside(rt, name)?))
 }
 
 /// Standard output.

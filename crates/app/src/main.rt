@@ -2,8 +2,11 @@
 #![tactic(auto)]
 
 mod actions;
+mod columns;
+mod explaining;
 mod fault;
 mod files;
+mod meanings;
 mod narrator;
 mod runs;
 
@@ -12,11 +15,32 @@ use crate::fault::{
 };
 use command_line::{Action, Options, options};
 use model::Refusal;
+use replaying::BadLines;
+use session::Counted;
+use std::fs::File;
 use std::hash::RandomState;
 use std::io;
 use std::io::ErrorKind;
 use std::process::ExitCode;
 use std::sync::Wait;
+
+/// Runs lines of a file as the options ask, and prints what comes of them, with what each refusal means where they
+/// ask for that.
+fn run_reader(
+    rt: &HostRuntime,
+    wait: &impl Wait,
+    options: &Options,
+    name: &str,
+    reader: &mut Counted<File>,
+) -> io::Result<Result<Option<BadLines>, Refusal>> {
+    let hashing = RandomState::new(rt)?;
+    if let Action::Replay { explain: true, .. } = &options.action {
+        let mut writer = Counted::new(files::explained(rt, name)?);
+        return Ok(actions::run_lines(wait, rt.alloc(), hashing, options, reader, &mut writer));
+    }
+    let mut writer = files::output(rt)?;
+    Ok(actions::run_lines(wait, rt.alloc(), hashing, options, reader, &mut writer))
+}
 
 /// Runs lines of a file as the options ask, says on standard error what went wrong, and gives the exit status.
 /// A file that cannot be opened ends like one that cannot be read.
@@ -24,9 +48,7 @@ fn run_file(rt: &HostRuntime, wait: &impl Wait, options: &Options, name: &str) -
     let Some(mut reader) = files::open(rt, name)? else {
         return Ok(report(rt, &Err(Refusal::InputFault), name));
     };
-    let mut writer = files::output(rt)?;
-    let hashing = RandomState::new(rt)?;
-    let told = actions::run_lines(wait, rt.alloc(), hashing, options, &mut reader, &mut writer);
+    let told = run_reader(rt, wait, options, name, &mut reader)?;
     let ended = tell_bad_lines(rt, told);
     Ok(report(rt, &ended, name))
 }

@@ -64,6 +64,13 @@ sweep_rule = record (new_rule (codes "sweep")) {
   action = Some SetTrue;
 }
 
+-- `--explain`
+abbrev pub explain_rule : Rule
+explain_rule = record (new_rule (codes "explain")) {
+  long = Some (codes "explain");
+  action = Some SetTrue;
+}
+
 -- `--workers N`: a number from 1 to 7
 abbrev pub workers_rule : Rule
 workers_rule = record (new_rule (codes "workers")) {
@@ -115,9 +122,9 @@ abbrev pub with_rules : App → List Rule → App
 with_rules a [] = a
 with_rules a (r ∷ rs) = with_rules (with_rule a r) rs
 
--- `replay [--sweep] [--charge N] FILE`
+-- `replay [--sweep] [--explain] [--charge N] FILE`
 abbrev pub replay : App
-replay = with_rules (new_app (codes "replay")) (sweep_rule ∷ charge_rule ∷ file_rule ∷ [])
+replay = with_rules (new_app (codes "replay")) (sweep_rule ∷ explain_rule ∷ charge_rule ∷ file_rule ∷ [])
 
 -- `strike --user U [--timed] [--charge N] FILE`
 abbrev pub strike : App

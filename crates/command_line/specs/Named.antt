@@ -65,8 +65,9 @@ IsRunOf rows run = IsWorkersOf (one_of (codes "workers") rows) run.workers
 
 -- the action is that of the subcommand with this name, for what its matches name
 abbrev pub IsActionOf : Text → List Row → Action → Type 0
-IsActionOf name rows (action.Replay sweep file) =
+IsActionOf name rows (action.Replay sweep explain file) =
     (name ≡ codes "replay") × IsFlagOf (one_of (codes "sweep") rows) sweep
+    × IsFlagOf (one_of (codes "explain") rows) explain
     × (first_of (codes "file") rows ≡ Some (string_bytes file))
 IsActionOf name rows (action.Strike user timed file) =
     (name ≡ codes "strike") × (first_of (codes "user") rows ≡ Some (string_bytes user))

@@ -1,7 +1,7 @@
 //! The command `intstore` with its arguments, and the options that it finds in the words of a command line.
 
 ghost use Rattle.std.specs.Prelude.{IfOk, map, string_bytes};
-ghost use Rattle.command_line.specs.Intstore.{builders_rule, charge_rule, file_rule, files_rule, logs_rule};
+ghost use Rattle.command_line.specs.Intstore.{builders_rule, charge_rule, explain_rule, file_rule, files_rule, logs_rule};
 ghost use Rattle.command_line.specs.Intstore.{sweep_rule, timed_rule, user_rule, verbose_rule, work_rule, workers_rule};
 ghost use Rattle.command_line.specs.Intstore.{intstore, replay, run, strike};
 ghost use Rattle.command_line.specs.Intstore.{subcommands as described_subcommands};
@@ -83,6 +83,16 @@ fn sweep_argument<'a>(alloc: Global, help: &'a str) -> Arg<'a>
         .help(help)
 }
 
+/// The flag `--explain`.
+fn explain_argument<'a>(alloc: Global) -> Arg<'a>
+    ensures { IsArgument explain_rule result }
+{
+    Arg::new(alloc, "explain")
+        .long("explain")
+        .action(ArgAction::SetTrue)
+        .help("Says behind each refusal, in a comment, what it means")
+}
+
 /// The option `--workers`.
 fn workers_argument<'a>(alloc: Global) -> Arg<'a>
     ensures { IsArgument workers_rule result }
@@ -153,6 +163,7 @@ fn replay_command<'a>(alloc: Global) -> Result<Command<'a>, AllocError>
             alloc,
             "Gives back after each event what nobody holds; the replies stay the same",
         ),
+        explain_argument(alloc),
         charge_argument(alloc),
         file_argument(alloc),
     ]?;

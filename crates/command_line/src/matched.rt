@@ -105,7 +105,12 @@ fn replay_of(alloc: Global, matches: &ArgMatches<'_>) -> Result<Option<Action>, 
     match text_of(alloc, matches, "file")? {
         Some(file) => {
             let sweep = matches.get_flag("sweep");
-            Ok(Some(Action::Replay { sweep, file }))
+            let explain = matches.get_flag("explain");
+            Ok(Some(Action::Replay {
+                sweep,
+                explain,
+                file,
+            }))
         }
         None => Ok(None),
     }

@@ -17,6 +17,8 @@ pub enum Action {
     Replay {
         /// Whether after each event the store gives back what nobody holds.
         sweep: bool,
+        /// Whether it is said behind each refusal what it means.
+        explain: bool,
         /// The file whose lines are run.
         file: String,
     },

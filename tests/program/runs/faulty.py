@@ -41,6 +41,7 @@ def command_lines(cases):
             ("no_workers", ["good"], "error: the following required arguments were not provided:\n  --workers <N>\n.*"),
             ("nine_files", ["--workers", "1", *["good"] * 9], "error: .*"),
             ("user_of_a_run", ["--workers", "1", "--user", "alice", "good"], "error: unexpected argument '--user' found\n.*"),
+            ("explain_of_a_run", ["--workers", "1", "--explain", "good"], "error: unexpected argument '--explain' found\n.*"),
             ("logs_without_a_name", ["--workers", "1", "--logs", "", "good"], "error: a value is required for '--logs <DIR>'.*"),
             ("workers_without_a_number", ["good", "--workers"], "error: a value is required for '--workers <N>'.*"),
             ("no_workers_and_a_missing_file", ["nothing"], "error: the following required arguments were not provided:\n.*")):

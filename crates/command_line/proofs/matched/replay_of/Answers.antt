@@ -7,6 +7,9 @@ use Rattle.command_line.proofs.matched.replay_of.Goals as goal
 
 pub returns-in-Some : goal.returns-in-Some
 returns-in-Some c =
-    let flag = subst (λ t. IsFlagOf t c.get_flag-sweep.result) (one_text-rows (found_of c.args.matches.now) (codes "sweep"))
+    let found = found_of c.args.matches.now in
+    let sweep = subst (λ t. IsFlagOf t c.get_flag-sweep.result) (one_text-rows found (codes "sweep"))
     (c.get_flag-sweep.ensures.value, c.get_flag-sweep.ensures.other, c.get_flag-sweep.ensures.none) in
-    (refl, flag, search rules)
+    let explain = subst (λ t. IsFlagOf t c.get_flag-explain.result) (one_text-rows found (codes "explain"))
+    (c.get_flag-explain.ensures.value, c.get_flag-explain.ensures.other, c.get_flag-explain.ensures.none) in
+    (refl, sweep, explain, search rules)
