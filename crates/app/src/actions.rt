@@ -6,7 +6,6 @@ ghost use Rattle.model.specs.Worlds.{are_users};
 ghost use Rattle.model.specs.declared.refusal.Refusal.TheVariants.{BadUsers, Quota, InputFault, OutputFault};
 ghost use Rattle.session.specs.Serving.{IsNoFault, IsOwn, MayBeFault};
 ghost use Rattle.replaying.specs.Replaying.{Replayed, ReplayedInPart};
-ghost use Rattle.replaying.specs.BadLines.{TellsBadLines};
 ghost use Rattle.replaying.specs.WholeLines.{ReplayedSoFar};
 ghost use Rattle.replaying.specs.Striking.{Struck, StruckEarly};
 ghost use Rattle.running.specs.Sessions.{CannotBegin};
@@ -16,7 +15,7 @@ ghost use Rattle.app.specs.Actions.{IsReplay, WhereStrikes, nothing_told};
 
 use command_line::{Action, Options};
 use model::Refusal;
-use replaying::{BadLines, replay, strike};
+use replaying::{BadLines, Observer, Settings, replay, strike};
 use running::{Part, Results, run};
 use schedule::{Limits, User};
 use session::Faults;
@@ -72,14 +71,12 @@ pub(crate) fn run_lines<H: Wait, R: Read + Faults, W: Write + Faults>(
         → ReplayedSoFar options.now.charge (W.contents writer.old) (W.contents writer.new) all (R.remaining reader.new)) }
     ensures errors { IsReplay options.now.action → IfErr result (λ why. (why ≡ InputFault) ⊎ IsOwn why) }
     // Those that can reach the user are run by `strike`, for his name, timed or not, and under that charge.
-    ensures struck { WhereStrikes options.now.action (λ user timed. OnOk result ((all : List ℕ) → R.remaining reader.old ≡ Some all
-        → Struck options.now.charge user timed (W.contents writer.old) (W.contents writer.new) (lines_of all))) }
+    ensures struck { WhereStrikes options.now.action (λ user timed. IfOk result (λ bad.
+        (all : List ℕ) → R.remaining reader.old ≡ Some all
+        → Struck options.now.charge user timed (W.contents writer.old) (W.contents writer.new) (lines_of all) bad)) }
     ensures struck_in_part { WhereStrikes options.now.action (λ user timed. IfErr result (λ why.
         (all : List ℕ) → R.remaining reader.old ≡ Some all
         → StruckEarly options.now.charge user timed (W.contents writer.old) (W.contents writer.new) (lines_of all) why)) }
-    ensures bad_lines { WhereStrikes options.now.action (λ user timed. IfOk result (λ bad.
-        (all : List ℕ) → R.remaining reader.old ≡ Some all
-        → TellsBadLines options.now.charge user (lines_of all) bad)) }
     ensures input_fault { IfErr result
         (MayBeFault InputFault (R.failed reader.old) (R.failed reader.new)) }
     ensures output_fault { IfErr result
@@ -87,21 +84,19 @@ pub(crate) fn run_lines<H: Wait, R: Read + Faults, W: Write + Faults>(
     ensures memory { IfErr result (IsNoFault (W.failed writer.old) (W.failed writer.new)) }
 {
     let limits = limits_of(options);
+    let settings = Settings { hashing, limits };
     match &options.action {
-        Action::Strike { user, timed, .. } => strike(
-            wait,
-            alloc,
-            hashing,
-            limits,
-            user.as_bytes(),
-            *timed,
-            reader,
-            writer,
-        ),
-        Action::Replay { sweep, .. } => nothing_told(replay(
-            wait, alloc, hashing, limits, *sweep, reader, writer,
-        )),
-        Action::Run(_) => nothing_told(replay(wait, alloc, hashing, limits, false, reader, writer)),
+        Action::Strike { user, timed, .. } => {
+            let observer = Observer {
+                name: user.as_bytes(),
+                timed: *timed,
+            };
+            strike(wait, alloc, settings, observer, reader, writer)
+        }
+        Action::Replay { sweep, .. } => {
+            nothing_told(replay(wait, alloc, settings, *sweep, reader, writer))
+        }
+        Action::Run(_) => nothing_told(replay(wait, alloc, settings, false, reader, writer)),
     }
 }
 

@@ -1,12 +1,10 @@
 -- What is printed for a user where only the events are run that can reach him, beside what is printed where all are.
-use Rattle.std.proofs.Common.{◌≡◌, ℕ, Bool, true, false, inl, inr, List, [], ◌∷◌, ◌++◌, map, Option, Some, None, refl, sym, ap, ◌∙◌, subst}
+use Rattle.std.proofs.Common.{◌≡◌, ℕ, Bool, true, false, inl, inr, List, [], ◌∷◌, ◌++◌, map, refl, sym, ap, ◌∙◌, subst}
 use Rattle.std.proofs.Common.{append_assoc}
 use Rattle.std.specs.Prelude.{◌&&◌, ◌||◌, not, filter, Contains, Result, Ok, Err, IfOk}
 use Rattle.std.specs.Global.{Vec}
 use Rattle.std.specs.List.{list_any}
-use Rattle.std.proofs.lemmas.List.{append-nil}
 use Rattle.std.proofs.lemmas.List.Elements.{All-contains}
-use Rattle.model.specs.declared.mode.Mode.TheVariants.{Service}
 use Rattle.model.specs.declared.refusal.Refusal.{Refusal}
 use Rattle.model.specs.Paths.{NoClash}
 use Rattle.model.specs.Worlds.{Setup, nothing}
@@ -15,28 +13,22 @@ use Rattle.model.specs.Steps.{answers, replies_to, replies}
 use Rattle.model.specs.Replies.{is_memory, is_unrecorded}
 use Rattle.model.specs.HashedTexts.{hashed}
 use Rattle.model.specs.Striking.{strike}
-use Rattle.model.specs.Lines.{lines_of}
-use Rattle.model.specs.Reach.{is_among}
 use Rattle.model.specs.Talk as talk
-use Rattle.model.specs.Talk.{fresh, after_all, Talks, asked_in, users_in}
+use Rattle.model.specs.Talk.{asked_in}
 use Rattle.model.proofs.BoolLemmas.{either}
-use Rattle.laws.proofs.TalkLemmas.{same_users, no_users}
 use Rattle.laws.proofs.HashLemmas.{hashes_no_more}
 use Rattle.trust.specs.declared.user.User.{User}
 use Rattle.events.specs.declared.event.Event.{Event as AskedEvent}
 use Rattle.events.specs.declared.reply.Reply.{Reply as GivenReply}
 use Rattle.events.specs.Terms.{event_of, answer_of}
 use Rattle.schedule.specs.Running.{HadMemory, IsRun}
-use Rattle.session.specs.Ahead.{LooksAhead}
 use Rattle.passes.specs.declared.row.Row.{Row}
 use Rattle.passes.specs.Histories.{event_in, answer_in, events_of, answers_of, IsLegal}
-use Rattle.replaying.specs.declared.bad_lines.BadLines.{BadLines}
 use Rattle.replaying.specs.declared.numbers.FirstRun.{FirstRun}
 use Rattle.replaying.specs.OnlyPass.{lacks_memory, says_stopped}
 use Rattle.replaying.specs.Replaying.{pair_of, StopsByMemory, AreOfOneStore}
-use Rattle.replaying.specs.Striking.{events_in, struck, numbers_of, text_for, lines_under, HadMemoryFor, HaveOneText, Answered, Rerun, IsStruck}
+use Rattle.replaying.specs.Striking.{events_in, struck, numbers_of, text_for, lines_under, HadMemoryFor, HaveOneText, Rerun, IsStruck}
 use Rattle.replaying.specs.Recording.{IsFirstRun}
-use Rattle.replaying.specs.BadLines.{TellsBadLines}
 use Rattle.replaying.proofs.StrikingLemmas.{answer_to, text-lines}
 
 -- ---- the first run
@@ -149,23 +141,6 @@ module _ (setup : Setup) (user : List ℕ) (rows : List talk.Row) where
       (ap (replies_to user) (second.private (one_text_struck timed clean) memory') ∙ sym (first_replies timed one clean.0 memory))
       ∙ sym (text-lines user 1 rows)
 
--- ---- the users
-
-named_as : (found named : Option (List (List ℕ))) (users : List (List ℕ)) → found ≡ Some users → (named ≡ None → found ≡ None)
-    → ((users users' : List (List ℕ)) → found ≡ Some users → named ≡ Some users' → users ≡ users') → named ≡ Some users
-named_as found None users is none some = let bad : found ≡ None = none refl in cc
-named_as found (Some others) users is none some = ap (λ us. Some us) (sym (some users others is refl))
-
--- all lines name the users that were found ahead
-pub named_ahead : (input : List ℕ) (users : List (List ℕ)) (rows : List talk.Row) → LooksAhead Service input (Some users)
-    → Talks (fresh Service) (lines_of input) rows
-    → users_in rows ≡ Some users
-named_ahead input users rows found t =
-    let whole : lines_of input ++ [] ≡ found.done ++ found.rest = append-nil (lines_of input) ∙ found.cut in
-    named_as (users_in found.rows) (users_in rows) users found.named
-    (no_users (fresh Service) (lines_of input) found.done [] found.rest rows found.rows refl t found.talks whole (inl refl))
-    (same_users (fresh Service) found.done (lines_of input) found.rest [] found.rows rows refl found.talks t (sym whole))
-
 -- ---- the second run
 
 pub run_again : (setup : Setup) (user : List ℕ) (timed : Bool) (events : List Event) (kept : List AskedEvent) (r : Result (Vec (User × GivenReply)) Refusal)
@@ -184,42 +159,27 @@ run_again setup user timed events kept (Err why) is steps same = tt
 
 -- ---- both runs
 
--- the lines of a first run are those of a store for the users who were found ahead
-run_answered : (charge : ℕ) (user input : List ℕ) (users : List (List ℕ)) (run : FirstRun) → LooksAhead Service input (Some users) → is_among user users ≡ true
-    → (first : IsFirstRun (record { users = users; charge = charge }) user (lines_of input) run) → Answered charge user (lines_of input) users first.rows
-run_answered charge user input users run found listed first = record {
-  talks = first.talks;
-  going = first.going;
-  named = named_ahead input users first.rows found first.talks;
-  listed = listed;
-  answered = first.answered;
-}
-
--- and those that were refused with 25 are told
-pub run_tells : (charge : ℕ) (user input : List ℕ) (users : List (List ℕ)) (run : FirstRun) → LooksAhead Service input (Some users) → is_among user users ≡ true
-    → IsFirstRun (record { users = users; charge = charge }) user (lines_of input) run → TellsBadLines charge user (lines_of input) run.numbers.bad
-run_tells charge user input users run found listed first = record {
-  users = users;
-  rows = first.rows;
-  first = run_answered charge user input users run found listed first;
-  bad_are = first.numbers_are.bad;
-}
-
-pub both_runs : (charge : ℕ) (user : List ℕ) (timed : Bool) (input : List ℕ) (users : List (List ℕ)) (run : FirstRun) (given : List (User × GivenReply))
-    → LooksAhead Service input (Some users) → is_among user users ≡ true
-    → IsFirstRun (record { users = users; charge = charge }) user (lines_of input) run
-    → Rerun (record { users = users; charge = charge }) user timed (map event_of run.events.items) given
-    → IsStruck charge user timed (lines_of input) (lines_under user run.numbers.his.items (replies_to user (map answer_of given)))
-both_runs charge user timed input users run given found listed first second =
-    let setup : Setup = record { users = users; charge = charge } in
-    let again : Rerun setup user timed (events_in first.rows) given = subst (λ es. Rerun setup user timed es given) first.events_are second in
-    let text_is = ap (λ ns. lines_under user ns (replies_to user (map answer_of given))) first.numbers_are.his in
-    record {
-      users = users;
-      rows = first.rows;
-      first = run_answered charge user input users run found listed first;
-      given = given;
-      second = again;
-      text_is = text_is;
-      same = λ clean memory memory'. text_is ∙ same_text setup user first.rows timed given first.answered again clean memory memory';
-    }
+pub both_runs : (charge : ℕ) (user : List ℕ) (timed : Bool) (lines : List (List ℕ)) (run : FirstRun) (given : List (User × GivenReply))
+    → (first : IsFirstRun charge user lines run)
+    → Rerun (record { users = run.users.items; charge = charge }) run.user timed (map event_of run.events.items) given
+    → (struck : IsStruck charge user timed lines (lines_under run.user run.numbers.his.items (replies_to run.user (map answer_of given))))
+    × (struck.rows ≡ first.rows)
+both_runs charge user timed lines run given first second =
+    let setup : Setup = record { users = run.users.items; charge = charge } in
+    let again : Rerun setup user timed (events_in first.rows) given =
+    subst (λ u. Rerun setup u timed (events_in first.rows) given) first.user_is
+    (subst (λ es. Rerun setup run.user timed es given) first.events_are second) in
+    let text_is =
+    ap (λ u. lines_under u run.numbers.his.items (replies_to u (map answer_of given))) first.user_is
+    ∙ ap (λ ns. lines_under user ns (replies_to user (map answer_of given))) first.numbers_are.his in (
+      record {
+        users = run.users.items;
+        rows = first.rows;
+        first = first.first;
+        given = given;
+        second = again;
+        text_is = text_is;
+        same = λ clean memory memory'. text_is ∙ same_text setup user first.rows timed given first.first.answered again clean memory memory';
+      },
+      refl,
+    )

@@ -1,28 +1,37 @@
 -- Lines whose events are kept.
-use Rattle.std.proofs.Common.{◌≡◌, ℕ, ◌+◌, ◌<◌, Bool, false, List, [], ◌∷◌, ◌++◌, length, map, refl, sym, ap, ◌∙◌, subst}
-use Rattle.std.proofs.Common.{arith, append_assoc, length-append, None, Some}
+use Rattle.std.proofs.Common.{◌≡◌, ℕ, ◌+◌, Bool, true, false, List, [], ◌∷◌, ◌++◌, length, map, refl, sym, ap, ◌∙◌, subst}
+use Rattle.std.proofs.Common.{arith, append_assoc, length-append, Option, None, Some}
 use Rattle.std.specs.Prelude.{if◌then◌else◌, bytes_eq, slice_get, MatchOption}
 use Rattle.std.proofs.lemmas.List.{append-nil}
 use Rattle.model.specs.declared.mode.Mode.TheVariants.{Service}
+use Rattle.std.specs.Global.{Vec}
 use Rattle.model.specs.Worlds.{Setup, Job}
+use Rattle.model.specs.Reach.{is_among}
 use Rattle.model.specs.Events.{Event as ModelEvent, Reply, Done}
-use Rattle.model.specs.Lines.{lines_of, cut_at}
-use Rattle.model.specs.Talk.{Row, Silent, Names, Refuses, Asks, Waits, Seen, fresh, after, after_all, GetsNext}
+use Rattle.model.specs.Lines.{lines_of}
+use Rattle.model.specs.Talk.{Row, Silent, Names, Refuses, Asks, Waits, Seen, fresh, form_of, after, after_all, Gets, GetsNext, Talks, users_in}
 use Rattle.events.specs.declared.event.Event.{Event}
 use Rattle.events.specs.Terms.{event_of}
-use Rattle.session.specs.Serving.{Link}
+use Rattle.session.specs.Serving.{Link, Chain, IsHeld}
+use Rattle.session.specs.Heads.{Idle, IsNamedBy}
+use Rattle.session.specs.Taking.{IsFirstLine}
 use Rattle.session.proofs.RowLemmas.{talks-more, after_all-more, chain-more, length-after_all}
-use Rattle.session.proofs.LineLemmas.{lines-newline, lines-last}
-use Rattle.session.proofs.FeedLemmas.{cut-line, cut-rest}
-use Rattle.replaying.specs.OnlyPass.{Only, unasked}
+use Rattle.session.proofs.LineLemmas.{form_of-held}
+use Rattle.session.proofs.AheadLemmas.{users_in-more}
+use Rattle.session.proofs.EarlyLemmas.{quiet}
+use Rattle.session.proofs.HeadLemmas.{alone-chain}
+use Rattle.replaying.specs.OnlyPass.{Only, unasked, IsOnlyAnswer, DoesNothing}
 use Rattle.replaying.specs.Replaying.{LinksOnly}
 use Rattle.lines.specs.declared.line.Reading.{Reading}
 use Rattle.lines.specs.declared.line.Reading.TheVariants as reading
 use Rattle.lines.specs.Reading.{IsRowOf}
-use Rattle.replaying.specs.Striking.{events_in, is_of, numbers_of, numbers_where}
-use Rattle.replaying.specs.BadLines.{is_bad_line, is_bad_reading, bad_numbers, AreBad}
-use Rattle.replaying.specs.Recording.{Keeps, AddsNumbers, AreNumbers, AsksOn, AllAsked, IsFirstRun}
-use Rattle.replaying.specs.declared.numbers.Numbers.{Numbers}
+use Rattle.replaying.specs.Striking.{events_in, is_of, numbers_of}
+use Rattle.replaying.specs.BadLines.{numbers_where, is_bad_line, is_bad_reading, bad_numbers, AreBad}
+use Rattle.replaying.specs.Recording.{NamesIn, IsFirst, Begins, NamesUsers, Keeps, AreNumbers, AsksOn, RunSoFar, RunsOut, IsAsked, IsFirstRun}
+use Rattle.replaying.specs.declared.bad_lines.BadLines.{BadLines}
+use Rattle.replaying.specs.declared.first_lines.First.{First}
+use Rattle.replaying.specs.declared.numbers.Named.{Named}
+use Rattle.replaying.specs.declared.numbers.Notes.{Notes}
 use Rattle.replaying.specs.declared.numbers.FirstRun.{FirstRun}
 use Rattle.replaying.proofs.ReplayLemmas.{one_store}
 use Rattle.replaying.proofs.StrikingLemmas.{numbers-more, events-more}
@@ -101,127 +110,228 @@ bad_row goals (reading.Refuses why) row bad is e = rw is e
 bad_row goals (reading.Asks event) row bad is e = rw is.1 e
 bad_row goals reading.Waits row bad is e = rw is.2 e
 
--- ---- all lines
+-- whether a row names users, by what its line comes to
+pub names_in : (goals : List Job) (r : Reading) (seen : Seen) (row : Row) (users : Option (Vec (List ℕ))) → IsNamedBy r users → IsRowOf goals r row
+    → seen.begun ≡ false → NamesIn row (after seen row) users
+names_in goals reading.Silent seen row None n e b = rw e (refl, b)
+names_in goals (reading.Names named) seen row None n e b = absurd n
+names_in goals (reading.Refuses why) seen row None n e b = rw e (refl, b)
+names_in goals (reading.Asks event) seen row None n e b = rw e.1 (refl, b)
+names_in goals reading.Waits seen row None n e b = rw e.2 (refl, b)
+names_in goals reading.Silent seen row (Some users) n e b = absurd n
+names_in goals (reading.Names named) seen row (Some users) n e b = e ∙ ap Names (sym n)
+names_in goals (reading.Refuses why) seen row (Some users) n e b = absurd n
+names_in goals (reading.Asks event) seen row (Some users) n e b = absurd n
+names_in goals reading.Waits seen row (Some users) n e b = absurd n
 
--- the first of all lines were asked, and the rest is left
-pub record SoFar (setup : Setup) (user : List ℕ) (all rest : List (List ℕ)) (seen : Seen) (old new : Only) (events : List ModelEvent)
-    (numbers : Numbers) : Type 0 where
-  pub done : List (List ℕ)
-  pub asked : AllAsked setup user done old new events numbers
-  pub seen_is : seen ≡ after_all (fresh Service) asked.rows
-  pub cut : all ≡ done ++ rest
+-- what is held of a line gets the line's row
+gets_held : (seen : Seen) (full held : List ℕ) (row : Row) → IsHeld full held → GetsNext seen held row → GetsNext seen full row
+gets_held seen full held row is g = subst (λ f. Gets seen.goals f row) (ap (form_of seen) is ∙ form_of-held seen full) g
 
--- where there are no lines, none is the user's and none was refused
-abbrev pub HasNone : Numbers → Type 0
-HasNone numbers = (numbers.his.items ≡ []) × AreBad numbers.bad []
+-- the number of one line more, where a test of its row says so
+numbered : (test : Row → Bool) (rows : List Row) (row : Row) (seen' : Seen) (so : Bool) → seen' ≡ after_all (fresh Service) (rows ++ row ∷ [])
+    → so ≡ test row → numbers_where test 1 rows ++ (if so then length seen'.told ∷ [] else []) ≡ numbers_where test 1 (rows ++ row ∷ [])
+numbered test rows row seen' so seen_is so_is =
+    let after_row : length seen'.told ≡ 0 + length (rows ++ row ∷ []) =
+    ap (λ (s : Seen). length s.told) seen_is ∙ length-after_all (fresh Service) (rows ++ row ∷ []) in
+    let count : length seen'.told ≡ 1 + length rows = omega (arith, after_row, length-append rows (row ∷ [])) in
+    ap (λ (b : Bool). numbers_where test 1 rows ++ (if b then length seen'.told ∷ [] else [])) so_is
+    ∙ ap (λ (n : ℕ). numbers_where test 1 rows ++ (if test row then n ∷ [] else [])) count
+    ∙ sym (numbers-more test 1 rows row)
 
-pub none_asked : (setup : Setup) (user : List ℕ) (all : List (List ℕ)) (old : Only) (numbers : Numbers) → HasNone numbers
-    → SoFar setup user all all (fresh Service) old old [] numbers
-none_asked setup user all old numbers none = record {
+-- ---- the lines up to the one that names the users
+
+-- none was answered yet
+pub begins_none : (all : List (List ℕ)) → Begins all all None (fresh Service) None
+begins_none all = record {
+  rows = [];
   done = [];
-  asked = record { rows = []; talks = tt; going = refl; links = refl; events_are = refl; numbers_are = record { his = none.0; bad = none.1 } };
-  seen_is = refl;
   cut = refl;
+  talks = tt;
+  going = refl;
+  named = refl;
+  quiet = refl;
+  seen_is = refl;
+  bad_are = refl;
 }
 
--- a new session has asked none
-pub begins : (setup : Setup) (user : List ℕ) (all : List (List ℕ)) (old : Only) (seen : Seen) (events : List Event) (numbers : Numbers)
-    → seen ≡ fresh Service → events ≡ [] → HasNone numbers → SoFar setup user all all seen old old (map event_of events) numbers
-begins setup user all old seen events numbers new none no_number =
-    subst (λ x. SoFar setup user all all x old old (map event_of events) numbers) (sym new)
-    (subst (λ es. SoFar setup user all all (fresh Service) old old (map event_of es) numbers) (sym none)
-    (none_asked setup user all old numbers no_number))
+-- one more was, which names these users or none
+begins_more : (all rest : List (List ℕ)) (full line : List ℕ) (seen seen' : Seen) (first : First) (bad bad' : Option BadLines)
+    (users : Option (List (List ℕ))) → seen.begun ≡ false → IsHeld full line → (h : IsFirst line seen seen' first) → users_in (h.row ∷ []) ≡ users
+    → ((numbers : List ℕ) → AreBad bad numbers → AreBad bad' (numbers ++ (if first.is_bad then length seen'.told ∷ [] else [])))
+    → Begins all (full ∷ rest) None seen bad → Begins all rest users seen' bad'
+begins_more all rest full line seen seen' first bad bad' users none held h names adds s =
+    let gets : GetsNext seen full h.row = gets_held seen full line h.row held h.gets in
+    let seen_is : seen' ≡ after_all (fresh Service) (s.rows ++ h.row ∷ []) =
+    h.seen_is ∙ ap (λ x. after x h.row) s.seen_is ∙ sym (after_all-more (fresh Service) s.rows h.row) in
+    record {
+      rows = s.rows ++ h.row ∷ [];
+      done = s.done ++ full ∷ [];
+      cut = s.cut ∙ sym (append_assoc s.done (full ∷ []) rest);
+      talks = talks-more (fresh Service) s.done s.rows full h.row s.talks s.going (subst (λ x. GetsNext x full h.row) s.seen_is gets);
+      going = ap (λ (x : Seen). x.refused) (sym seen_is) ∙ h.going;
+      named = users_in-more s.rows h.row s.named ∙ names;
+      quiet = chain-more Idle tt s.rows tt h.row tt s.quiet (quiet seen full h.row none gets);
+      seen_is = seen_is;
+      bad_are =
+          subst (AreBad bad') (numbered is_bad_line s.rows h.row seen' first.is_bad seen_is h.bad_is) (adds (bad_numbers 1 s.rows) s.bad_are);
+    }
 
-module _ (setup : Setup) (user : List ℕ) (old : Only) where
-  -- the number of one line more, where a test of its row says so
-  numbered : (test : Row → Bool) (rows : List Row) (row : Row) (seen' : Seen) (so : Bool) → seen' ≡ after_all (fresh Service) (rows ++ row ∷ [])
-      → so ≡ test row → numbers_where test 1 rows ++ (if so then length seen'.told ∷ [] else []) ≡ numbers_where test 1 (rows ++ row ∷ [])
-  numbered test rows row seen' so seen_is so_is =
-      let after_row : length seen'.told ≡ 0 + length (rows ++ row ∷ []) =
-      ap (λ (s : Seen). length s.told) seen_is ∙ length-after_all (fresh Service) (rows ++ row ∷ []) in
-      let count : length seen'.told ≡ 1 + length rows = omega (arith, after_row, length-append rows (row ∷ [])) in
-      ap (λ (b : Bool). numbers_where test 1 rows ++ (if b then length seen'.told ∷ [] else [])) so_is
-      ∙ ap (λ (n : ℕ). numbers_where test 1 rows ++ (if test row then n ∷ [] else [])) count
-      ∙ sym (numbers-more test 1 rows row)
+pub still_nobody : (line : List ℕ) (seen seen' : Seen) (first : First) → IsFirst line seen seen' first → first.users ≡ None → seen'.begun ≡ false
+still_nobody line seen seen' first h is = let n : NamesIn h.row seen' None = subst (NamesIn h.row seen') is h.named in n.1
 
-  -- both numbers
-  are_numbered : (rows : List Row) (row : Row) (line : List ℕ) (seen seen' : Seen) (mid new : Only) (events events' : List ModelEvent) (numbers numbers' : Numbers)
-      → (h : AsksOn setup user line seen seen' mid events numbers new events' numbers') → h.asked.row ≡ row
-      → seen' ≡ after_all (fresh Service) (rows ++ row ∷ []) → AreNumbers user rows numbers → AreNumbers user (rows ++ row ∷ []) numbers'
-  are_numbered rows row line seen seen' mid new events events' numbers numbers' h same seen_is are =
-      let adds = h.numbers_are in
-      let his_is : h.came.is_his ≡ is_of user row = h.asked.his_is ∙ ap (is_of user) same in
-      let bad_is : h.came.is_bad ≡ is_bad_line row = h.asked.bad_is ∙ ap is_bad_line same in
+module _ (all : List (List ℕ)) (bytes : List ℕ) (left : Option (List ℕ)) (line : List ℕ) (cut : IsFirstLine bytes left line)
+    (seen seen' : Seen) (first : First) (bad bad' : Option BadLines) (none : seen.begun ≡ false) (h : IsFirst line seen seen' first)
+    (adds : (numbers : List ℕ) → AreBad bad numbers → AreBad bad' (numbers ++ (if first.is_bad then length seen'.told ∷ [] else [])))
+    (s : Begins all (lines_of bytes) None seen bad) where
+  begins_line : (users : Option (List (List ℕ))) → users_in (h.row ∷ []) ≡ users → Begins all (lines_of cut.rest) users seen' bad'
+  begins_line users names =
+      begins_more all (lines_of cut.rest) cut.first line seen seen' first bad bad' users none cut.held h names adds
+      (subst (λ t. Begins all t None seen bad) cut.lines s)
+
+  -- the next line names nobody
+  pub begins_on : first.users ≡ None → (rest : List ℕ) × (left ≡ Some rest) × Begins all (lines_of rest) None seen' bad'
+  begins_on is = let n : NamesIn h.row seen' None = subst (NamesIn h.row seen') is h.named in (cut.rest, cut.left_is, begins_line None n.0)
+
+  -- it names users
+  pub names_users : (named : Named) → first.users ≡ Some named.users → named.session ≡ seen' → named.bad ≡ bad' → NamesUsers all left named
+  names_users named is session_is bad_is =
+      let n : NamesIn h.row seen' (Some named.users) = subst (NamesIn h.row seen') is h.named in
+      let b : Begins all (lines_of cut.rest) (Some named.users.items) seen' bad' =
+      begins_line (Some named.users.items) (ap (λ (r : Row). users_in (r ∷ [])) n) in
       record {
-        his = adds.his
-            ∙ ap (λ (t : List ℕ). t ++ (if h.came.is_his then length seen'.told ∷ [] else [])) are.his
-            ∙ numbered (is_of user) rows row seen' h.came.is_his seen_is his_is;
-        bad = subst (AreBad numbers'.bad) (numbered is_bad_line rows row seen' h.came.is_bad seen_is bad_is) (adds.bad (bad_numbers 1 rows) are.bad);
+        rest = cut.rest;
+        left_is = cut.left_is;
+        begins =
+            subst (λ x. Begins all (lines_of cut.rest) (Some named.users.items) x named.bad) (sym session_is)
+            (subst (λ x. Begins all (lines_of cut.rest) (Some named.users.items) seen' x) (sym bad_is) b);
       }
 
-  one_more : (all rest : List (List ℕ)) (line : List ℕ) (seen seen' : Seen) (mid new : Only) (events events' : List ModelEvent) (numbers numbers' : Numbers)
-      → SoFar setup user all (line ∷ rest) seen old mid events numbers → AsksOn setup user line seen seen' mid events numbers new events' numbers'
-      → SoFar setup user all rest seen' old new events' numbers'
-  one_more all rest line seen seen' mid new events events' numbers numbers' s h =
-      let a = s.asked in
-      let l = h.asked in
-      let gets : GetsNext (after_all (fresh Service) a.rows) line l.row = subst (λ x. GetsNext x line l.row) s.seen_is l.gets in
-      let seen_is : seen' ≡ after_all (fresh Service) (a.rows ++ l.row ∷ []) =
-      l.seen_is ∙ ap (λ x. after x l.row) s.seen_is ∙ sym (after_all-more (fresh Service) a.rows l.row) in
+-- ---- the lines behind it
+
+quiet_events : (rows : List Row) → Chain Idle tt rows tt → events_in rows ≡ []
+quiet_events [] h = refl
+quiet_events (Silent ∷ rows) h = quiet_events rows h.2
+quiet_events (Names users ∷ rows) h = quiet_events rows h.2
+quiet_events (Refuses why ∷ rows) h = quiet_events rows h.2
+quiet_events (Asks event reply ∷ rows) h = absurd h.1
+quiet_events (Waits goals reply ∷ rows) h = absurd h.1
+
+quiet_numbers : (user : List ℕ) (n : ℕ) (rows : List Row) → Chain Idle tt rows tt → numbers_of user n rows ≡ []
+quiet_numbers user n [] h = refl
+quiet_numbers user n (Silent ∷ rows) h = quiet_numbers user (n + 1) rows h.2
+quiet_numbers user n (Names users ∷ rows) h = quiet_numbers user (n + 1) rows h.2
+quiet_numbers user n (Refuses why ∷ rows) h = quiet_numbers user (n + 1) rows h.2
+quiet_numbers user n (Asks event reply ∷ rows) h = absurd h.1
+quiet_numbers user n (Waits goals reply ∷ rows) h = absurd h.1
+
+-- a store that was asked nothing begins behind the first lines
+pub run_begins : (setup : Setup) (user : List ℕ) (all rest : List (List ℕ)) (users : List (List ℕ)) (seen : Seen) (bad : Option BadLines) (notes : Notes)
+    → setup.users ≡ users → Begins all rest (Some users) seen bad → notes.session ≡ seen → notes.numbers.bad ≡ bad → notes.numbers.his.items ≡ []
+    → notes.user ≡ user → RunSoFar setup user all rest notes unasked []
+run_begins setup user all rest users seen bad notes of_users b session_is bad_is his_is user_is = record {
+  rows = b.rows;
+  done = b.done;
+  cut = b.cut;
+  talks = b.talks;
+  going = b.going;
+  named = b.named ∙ ap Some (sym of_users);
+  links = alone-chain (IsOnlyAnswer setup) DoesNothing unasked b.rows b.quiet;
+  events_are = sym (quiet_events b.rows b.quiet);
+  numbers_are = record {
+    his = his_is ∙ sym (quiet_numbers user 1 b.rows b.quiet);
+    bad = subst (λ x. AreBad x (bad_numbers 1 b.rows)) (sym bad_is) b.bad_are;
+  };
+  seen_is = session_is ∙ b.seen_is;
+  user_is = user_is;
+}
+
+named_still : (rows : List Row) (row : Row) (users : List (List ℕ)) → users_in rows ≡ Some users → users_in (rows ++ row ∷ []) ≡ Some users
+named_still [] row users e = cc
+named_still (Silent ∷ rows) row users e = named_still rows row users e
+named_still (Names named ∷ rows) row users e = e
+named_still (Refuses why ∷ rows) row users e = named_still rows row users e
+named_still (Asks event reply ∷ rows) row users e = named_still rows row users e
+named_still (Waits goals reply ∷ rows) row users e = named_still rows row users e
+
+module _ (setup : Setup) (user : List ℕ) where
+  -- both numbers
+  are_numbered : (rows : List Row) (line : List ℕ) (notes notes' : Notes) (mid new : Only) (events events' : List ModelEvent)
+      → (h : AsksOn setup line notes mid events notes' new events') → notes.user ≡ user
+      → notes'.session ≡ after_all (fresh Service) (rows ++ h.asked.row ∷ []) → AreNumbers user rows notes.numbers
+      → AreNumbers user (rows ++ h.asked.row ∷ []) notes'.numbers
+  are_numbered rows line notes notes' mid new events events' h user_is seen_is are =
+      let adds = h.numbers_are in
+      let row = h.asked.row in
+      let told = notes'.session.told in
+      let his_is : h.came.is_his ≡ is_of user row = h.asked.his_is ∙ ap (λ u. is_of u row) user_is in
       record {
-        done = s.done ++ line ∷ [];
-        asked = record {
-          rows = a.rows ++ l.row ∷ [];
-          talks = talks-more (fresh Service) s.done a.rows line l.row a.talks a.going gets;
-          going = ap (λ (x : Seen). x.refused) (sym seen_is) ∙ l.going;
-          links = chain-more (LinksOnly setup) old a.rows mid l.row new a.links l.link;
-          events_are = l.events_are ∙ ap (λ (t : List ModelEvent). t ++ events_in (l.row ∷ [])) a.events_are ∙ sym (events-more a.rows l.row);
-          numbers_are = are_numbered a.rows l.row line seen seen' mid new events events' numbers numbers' h refl seen_is a.numbers_are;
-        };
+        his = adds.his
+            ∙ ap (λ (t : List ℕ). t ++ (if h.came.is_his then length told ∷ [] else [])) are.his
+            ∙ numbered (is_of user) rows row notes'.session h.came.is_his seen_is his_is;
+        bad = subst (AreBad notes'.numbers.bad) (numbered is_bad_line rows row notes'.session h.came.is_bad seen_is h.asked.bad_is) (adds.bad (bad_numbers 1 rows) are.bad);
+      }
+
+  run_more : (all rest : List (List ℕ)) (full line : List ℕ) (notes notes' : Notes) (mid new : Only) (events events' : List ModelEvent) → IsHeld full line
+      → RunSoFar setup user all (full ∷ rest) notes mid events → AsksOn setup line notes mid events notes' new events'
+      → RunSoFar setup user all rest notes' new events'
+  run_more all rest full line notes notes' mid new events events' held s h =
+      let l = h.asked in
+      let gets : GetsNext (after_all (fresh Service) s.rows) full l.row =
+      subst (λ x. GetsNext x full l.row) s.seen_is (gets_held notes.session full line l.row held l.gets) in
+      let seen_is : notes'.session ≡ after_all (fresh Service) (s.rows ++ l.row ∷ []) =
+      l.seen_is ∙ ap (λ x. after x l.row) s.seen_is ∙ sym (after_all-more (fresh Service) s.rows l.row) in
+      record {
+        rows = s.rows ++ l.row ∷ [];
+        done = s.done ++ full ∷ [];
+        cut = s.cut ∙ sym (append_assoc s.done (full ∷ []) rest);
+        talks = talks-more (fresh Service) s.done s.rows full l.row s.talks s.going gets;
+        going = ap (λ (x : Seen). x.refused) (sym seen_is) ∙ l.going;
+        named = named_still s.rows l.row setup.users s.named;
+        links = chain-more (LinksOnly setup) unasked s.rows mid l.row new s.links l.link;
+        events_are = l.events_are ∙ ap (λ (t : List ModelEvent). t ++ events_in (l.row ∷ [])) s.events_are ∙ sym (events-more s.rows l.row);
+        numbers_are = are_numbered s.rows line notes notes' mid new events events' h s.user_is seen_is s.numbers_are;
         seen_is = seen_is;
-        cut = s.cut ∙ sym (append_assoc s.done (line ∷ []) rest);
+        user_is = h.user_is ∙ s.user_is;
       }
 
   -- the next line was asked
-  pub next_line : (all : List (List ℕ)) (rest line after : List ℕ) (seen seen' : Seen) (mid new : Only) (events events' : List ModelEvent)
-      (numbers numbers' : Numbers) → cut_at 10 rest ≡ Some (line, after) → SoFar setup user all (lines_of rest) seen old mid events numbers
-      → AsksOn setup user line seen seen' mid events numbers new events' numbers' → SoFar setup user all (lines_of after) seen' old new events' numbers'
-  next_line all rest line after seen seen' mid new events events' numbers numbers' cut s h =
-      let c = cut-line rest line after cut in
-      let lines : lines_of rest ≡ line ∷ lines_of after = ap lines_of c.0 ∙ lines-newline line after c.1 in
-      let so_far = subst (λ t. SoFar setup user all t seen old mid events numbers) lines s in
-      one_more all (lines_of after) line seen seen' mid new events events' numbers numbers' so_far h
-
-  all_done : (all : List (List ℕ)) (seen : Seen) (new : Only) (events : List ModelEvent) (numbers : Numbers)
-      → SoFar setup user all [] seen old new events numbers → AllAsked setup user all old new events numbers
-  all_done all seen new events numbers s = subst (λ t. AllAsked setup user t old new events numbers) (sym (s.cut ∙ append-nil s.done)) s.asked
-
-  -- nothing is left
-  pub all_lines : (all : List (List ℕ)) (rest : List ℕ) (seen : Seen) (new : Only) (events : List ModelEvent) (numbers : Numbers) → rest ≡ []
-      → SoFar setup user all (lines_of rest) seen old new events numbers → AllAsked setup user all old new events numbers
-  all_lines all rest seen new events numbers none s =
-      all_done all seen new events numbers (subst (λ t. SoFar setup user all (lines_of t) seen old new events numbers) none s)
-
-  -- the last line, which lacks its newline, was asked
-  pub last_line : (all : List (List ℕ)) (rest : List ℕ) (seen seen' : Seen) (mid new : Only) (events events' : List ModelEvent)
-      (numbers numbers' : Numbers) → cut_at 10 rest ≡ None → 0 < length rest → SoFar setup user all (lines_of rest) seen old mid events numbers
-      → AsksOn setup user rest seen seen' mid events numbers new events' numbers' → AllAsked setup user all old new events' numbers'
-  last_line all [] seen seen' mid new events events' numbers numbers' cut some s h = absurd (omega (arith, some))
-  last_line all (b ∷ rest) seen seen' mid new events events' numbers numbers' cut some s h =
-      let lines : lines_of (b ∷ rest) ≡ (b ∷ rest) ∷ [] = lines-last b rest (cut-rest (b ∷ rest) cut) in
-      let so_far = subst (λ t. SoFar setup user all t seen old mid events numbers) lines s in
-      all_done all seen' new events' numbers' (one_more all [] (b ∷ rest) seen seen' mid new events events' numbers numbers' so_far h)
+  pub runs_on : (all : List (List ℕ)) (bytes line : List ℕ) (left : Option (List ℕ)) (notes notes' : Notes) (mid new : Only) (events events' : List ModelEvent)
+      → IsFirstLine bytes left line → RunSoFar setup user all (lines_of bytes) notes mid events → AsksOn setup line notes mid events notes' new events'
+      → (rest : List ℕ) × (left ≡ Some rest) × RunSoFar setup user all (lines_of rest) notes' new events'
+  runs_on all bytes line left notes notes' mid new events events' cut s h = (
+    cut.rest,
+    cut.left_is,
+    run_more all (lines_of cut.rest) cut.first line notes notes' mid new events events' cut.held
+        (subst (λ t. RunSoFar setup user all t notes mid events) cut.lines s) h,
+  )
 
 -- ---- a first run
 
+-- what a store was asked that had been asked nothing
+pub asked_new : (setup : Setup) (left : Option (List ℕ)) (notes notes' : Notes) (old new : Only) (events : List ModelEvent) (kept : List Event)
+    → old ≡ unasked → events ≡ [] → RunsOut setup left notes old events notes' new (map event_of kept) → IsAsked setup left notes notes' kept
+asked_new setup left notes notes' old new events kept none nothing out user all rest known s =
+    let begun : RunSoFar setup user all (lines_of rest) notes old events =
+    subst (λ (o : Only). RunSoFar setup user all (lines_of rest) notes o events) (sym none)
+    (subst (λ (es : List ModelEvent). RunSoFar setup user all (lines_of rest) notes unasked es) (sym nothing) s) in
+    (new, out user all rest known begun)
+
 -- lines that a pass which had made no call was asked are one store's
-pub first_of : (setup : Setup) (user : List ℕ) (lines : List (List ℕ)) (old new : Only) (run : FirstRun) → old ≡ unasked
-    → AllAsked setup user lines old new (map event_of run.events.items) run.numbers → IsFirstRun setup user lines run
-first_of setup user lines old new run none a = record {
-  rows = a.rows;
-  talks = a.talks;
-  going = a.going;
-  answered = one_store setup old new a.rows none a.links;
-  events_are = a.events_are;
-  numbers_are = a.numbers_are;
+pub first_of : (charge : ℕ) (user : List ℕ) (lines : List (List ℕ)) (run : FirstRun) (notes : Notes) (only : Only)
+    → is_among user run.users.items ≡ true → run.user ≡ notes.user → run.numbers ≡ notes.numbers
+    → RunSoFar (record { users = run.users.items; charge = charge }) user lines [] notes only (map event_of run.events.items)
+    → IsFirstRun charge user lines run
+first_of charge user lines run notes only listed user_is numbers_are s = record {
+  rows = s.rows;
+  first = record {
+    talks = subst (λ t. Talks (fresh Service) t s.rows) (sym (s.cut ∙ append-nil s.done)) s.talks;
+    going = s.going;
+    named = s.named;
+    listed = listed;
+    answered = one_store (record { users = run.users.items; charge = charge }) unasked only s.rows refl s.links;
+  };
+  user_is = user_is ∙ s.user_is;
+  events_are = s.events_are;
+  numbers_are = subst (AreNumbers user s.rows) (sym numbers_are) s.numbers_are;
 }

@@ -6,7 +6,8 @@ use Rattle.model.specs.Events.{Event, Reply, Answer}
 use Rattle.model.specs.Steps.{replies_to}
 use Rattle.model.specs.Talk.{Row, Silent, Names, Refuses, Asks, Waits, answer_text, asked_of, asked_in}
 use Rattle.model.proofs.BoolLemmas.{same_bytes}
-use Rattle.replaying.specs.Striking.{events_in, is_of, numbers_of, numbers_where, text_for, lines_under}
+use Rattle.replaying.specs.BadLines.{numbers_where}
+use Rattle.replaying.specs.Striking.{events_in, numbers_of, text_for, lines_under}
 
 -- ---- one more line
 

@@ -1,45 +1,30 @@
 -- How the end of `strike` is told once all was flushed.
 use Rattle.std.proofs.Common.{◌≡◌, ℕ, Bool, true≢false, inl, inr, List, [], length, take, Option, refl, sym, subst, arith}
-use Rattle.std.specs.Prelude.{Result, Ok, Err, IsOk, IfOk, IfErr, OnOk, OnErr}
+use Rattle.std.specs.Prelude.{Result, Ok, Err, IsOk, IfOk, IfErr, OnOk}
 use Rattle.std.proofs.lemmas.List.{take_all}
 use Rattle.std.specs.Io.KnownBytes.{Appends}
 use Rattle.model.specs.declared.refusal.Refusal.{Refusal}
 use Rattle.model.specs.declared.refusal.Refusal.TheVariants.{OutputFault}
 use Rattle.model.specs.Lines.{lines_of}
 use Rattle.session.specs.Serving.{IsUnwritten, TellsEnd}
-use Rattle.session.proofs.RowLemmas.{appends-none, appends-flushed, on_ok}
+use Rattle.session.proofs.RowLemmas.{appends-none, appends-flushed}
 use Rattle.replaying.specs.declared.bad_lines.BadLines.{BadLines}
 use Rattle.replaying.specs.BadLines.{end_of, ended_with}
 use Rattle.replaying.specs.Striking.{IsStruck, Struck, StruckEarly}
 use Rattle.replaying.proofs.WholeLemmas.{Told}
 
 -- where it ended before anything was written
-pub nothing_written : {T : Type 0} (r : Result T Refusal) (charge : ℕ) (user : List ℕ) (timed : Bool) (lines : List (List ℕ)) (blank : Option (List ℕ))
-    → IfErr r (StruckEarly charge user timed blank blank lines)
-nothing_written (Ok t) charge user timed lines blank = tt
-nothing_written (Err why) charge user timed lines blank = inl (appends-none blank)
-
 pub nothing_known : {T : Type 0} (r : Result T Refusal) (charge : ℕ) (user : List ℕ) (timed : Bool) (known : List ℕ → Type 0) (blank : Option (List ℕ))
     → IfErr r (λ why. (all : List ℕ) → known all → StruckEarly charge user timed blank blank (lines_of all) why)
 nothing_known (Ok t) charge user timed known blank = tt
 nothing_known (Err why) charge user timed known blank = λ all k. inl (appends-none blank)
 
-module _ {T : Type 0} (r : Result T Refusal) (charge : ℕ) (user : List ℕ) (timed : Bool) (lines : List (List ℕ)) (blank written : Option (List ℕ)) where
-  -- where a text was found, what was written of it
-  pub struck_all : (text : List ℕ) → IsStruck charge user timed lines text → OnOk r (Appends blank written text) → OnOk r (Struck charge user timed blank written lines)
-  struck_all text is h = on_ok r (λ all. record { text = text; is = is; all = all }) h
-
-pub struck_part : {T : Type 0} (r : Result T Refusal) (charge : ℕ) (user : List ℕ) (timed : Bool) (lines : List (List ℕ)) (blank written : Option (List ℕ)) (text : List ℕ)
-    → IsStruck charge user timed lines text → OnErr r ((count : ℕ) × Appends blank written (take count text)) → IfErr r IsUnwritten
-    → IfErr r (StruckEarly charge user timed blank written lines)
-struck_part (Ok t) charge user timed lines blank written text is h fault = tt
-struck_part (Err why) charge user timed lines blank written text is h fault = inr (record { text = text; is = is; count = h.0; part = h.1; fault = fault })
-
-pub struck_rest : {T : Type 0} (r : Result T Refusal) (charge : ℕ) (user : List ℕ) (timed : Bool) (lines : List (List ℕ)) (blank written : Option (List ℕ)) (text : List ℕ)
-    → IsStruck charge user timed lines text → ((count : ℕ) × Appends blank written (take count text)) → IfErr r IsUnwritten
-    → IfErr r (StruckEarly charge user timed blank written lines)
-struck_rest (Ok t) charge user timed lines blank written text is h fault = tt
-struck_rest (Err why) charge user timed lines blank written text is h fault = inr (record { text = text; is = is; count = h.0; part = h.1; fault = fault })
+-- where a text was found, what was written of it
+pub struck_rest : {T : Type 0} (r : Result T Refusal) (charge : ℕ) (user : List ℕ) (timed : Bool) (known : List ℕ → Type 0) (blank written : Option (List ℕ)) (text : List ℕ)
+    → ((all : List ℕ) → known all → IsStruck charge user timed (lines_of all) text) → ((count : ℕ) × Appends blank written (take count text)) → IfErr r IsUnwritten
+    → IfErr r (λ why. (all : List ℕ) → known all → StruckEarly charge user timed blank written (lines_of all) why)
+struck_rest (Ok t) charge user timed known blank written text is h fault = tt
+struck_rest (Err why) charge user timed known blank written text is h fault = λ all k. inr (record { text = text; is = is all k; count = h.0; part = h.1; fault = fault })
 
 -- a want of memory or a failure of the writer is told as one of them
 still_unwritten : (first why : Refusal) (input output : Type 0) → TellsEnd first input output why → IsUnwritten first → IsUnwritten why
@@ -47,12 +32,12 @@ still_unwritten first why input output h (inl o) = elim (subst (λ x. TellsEnd x
 still_unwritten first why input output h (inr m) = elim (subst (λ x. TellsEnd x input output why) m h) [ inl f ↦ inl f.0 | inr m' ↦ inr m'.0 ]
 
 module _ (charge : ℕ) (user : List ℕ) (timed : Bool) (lines : List (List ℕ)) (blank written written' : Option (List ℕ)) (kept : Appends written written' []) where
-  pub all_flushed : Struck charge user timed blank written lines → Struck charge user timed blank written' lines
-  all_flushed h = record { text = h.text; is = h.is; all = appends-flushed blank written written' h.text h.all kept }
+  pub all_flushed : (bad : Option BadLines) → Struck charge user timed blank written lines bad → Struck charge user timed blank written' lines bad
+  all_flushed bad h = record { text = h.text; is = h.is; all = appends-flushed blank written written' h.text h.all kept; bad_are = h.bad_are }
 
   -- all of it was written, and was not flushed
-  pub not_flushed : Struck charge user timed blank written lines → StruckEarly charge user timed blank written' lines OutputFault
-  not_flushed h =
+  pub not_flushed : (bad : Option BadLines) → Struck charge user timed blank written lines bad → StruckEarly charge user timed blank written' lines OutputFault
+  not_flushed bad h =
       let whole : h.text ≡ take (length h.text) h.text = sym (take_all (length h.text) h.text (omega arith)) in
       inr (record {
         text = h.text;
@@ -94,6 +79,11 @@ pub end_ok : (told : Result (Option BadLines) Refusal) (e : Result (Unit {0}) Re
 end_ok (Ok bad) e P is p = subst (λ r. OnOk r P) (sym is) p
 end_ok (Err why) e P is p = subst (λ r. OnOk r P) (sym is) tt
 
+pub end_with : (told : Result (Option BadLines) Refusal) (e : Result (Unit {0}) Refusal) (B : Option BadLines → Type 0) → e ≡ end_of told → IfOk told B
+    → OnOk e ((bad : Option BadLines) × B bad)
+end_with (Ok bad) e B is b = subst (λ r. OnOk r ((bad : Option BadLines) × B bad)) (sym is) (bad, b)
+end_with (Err why) e B is b = subst (λ r. OnOk r ((bad : Option BadLines) × B bad)) (sym is) tt
+
 pub end_err : (told : Result (Option BadLines) Refusal) (e : Result (Unit {0}) Refusal) (Q : Refusal → Type 0) → e ≡ end_of told → IfErr told Q → IfErr e Q
 end_err (Ok bad) e Q is q = subst (λ r. IfErr r Q) (sym is) tt
 end_err (Err why) e Q is q = subst (λ r. IfErr r Q) (sym is) q
@@ -111,8 +101,8 @@ with_err r (Ok u) (Ok bad) Q is q = subst (λ x. IfErr x Q) (sym is) tt
 with_err r (Ok u) (Err why) Q is q = subst (λ x. IfErr x Q) (sym is) tt
 with_err r (Err why) told Q is q = subst (λ x. IfErr x Q) (sym is) q
 
-pub with_bad : (r : Result (Option BadLines) Refusal) (shown e : Result (Unit {0}) Refusal) (told : Result (Option BadLines) Refusal) (B : Option BadLines → Type 0)
-    → r ≡ ended_with shown told → e ≡ end_of told → OnOk shown (IsOk e) → IfOk told B → IfOk r B
-with_bad r (Ok u) e (Ok bad) B is ends well b = subst (λ x. IfOk x B) (sym is) b
-with_bad r (Ok u) e (Err why) B is ends well b = absurd (true≢false (sym (subst IsOk ends well)))
-with_bad r (Err why) e told B is ends well b = subst (λ x. IfOk x B) (sym is) tt
+pub with_told : (r : Result (Option BadLines) Refusal) (shown e : Result (Unit {0}) Refusal) (told : Result (Option BadLines) Refusal) (B C : Option BadLines → Type 0)
+    → r ≡ ended_with shown told → e ≡ end_of told → OnOk shown (IsOk e) → IfOk told B → ((bad : Option BadLines) → B bad → C bad) → IfOk r C
+with_told r (Ok u) e (Ok bad) B C is ends well b f = subst (λ x. IfOk x C) (sym is) (f bad b)
+with_told r (Ok u) e (Err why) B C is ends well b f = absurd (true≢false (sym (subst IsOk ends well)))
+with_told r (Err why) e told B C is ends well b f = subst (λ x. IfOk x C) (sym is) tt

@@ -1,12 +1,16 @@
 -- The lines of a file that were refused with 25.
-use Rattle.std.specs.Prelude.{◌≡◌, ℕ, ◌+◌, min, Bool, true, false, List, [], ◌∷◌, length, slice_get, Option, None, Some, Result, Ok, Err}
+use Rattle.std.specs.Prelude.{◌≡◌, ℕ, ◌+◌, min, Bool, true, false, if◌then◌else◌, List, [], ◌∷◌, length, slice_get, Option, None, Some, Result, Ok, Err}
 use Rattle.model.specs.declared.refusal.Refusal.{Refusal}
 use Rattle.model.specs.declared.refusal.Refusal.TheVariants.{BadLine}
 use Rattle.model.specs.Talk.{Row, Refuses}
 use Rattle.lines.specs.declared.line.Reading.{Reading}
 use Rattle.lines.specs.declared.line.Reading.TheVariants as reading
 use Rattle.replaying.specs.declared.bad_lines.BadLines.{BadLines}
-use Rattle.replaying.specs.Striking.{Answered, numbers_where}
+
+-- the numbers of the lines of which this is so, where the first line has this one
+abbrev pub numbers_where : (Row → Bool) → ℕ → List Row → List ℕ
+numbers_where test n [] = []
+numbers_where test n (row ∷ rows) = if test row then n ∷ numbers_where test (n + 1) rows else numbers_where test (n + 1) rows
 
 abbrev pub is_bad : Refusal → Bool
 is_bad BadLine = true
@@ -30,13 +34,6 @@ bad_numbers n rows = numbers_where is_bad_line n rows
 abbrev pub AreBad : Option BadLines → List ℕ → Type 0
 AreBad None numbers = numbers ≡ []
 AreBad (Some lines) numbers = (lines.count ≡ min (length numbers) 18446744073709551615) × (slice_get numbers 0 ≡ Some lines.first)
-
--- these are those of the lines of a file, which one store answered for the users whom they name
-pub record TellsBadLines (charge : ℕ) (user : List ℕ) (lines : List (List ℕ)) (bad : Option BadLines) : Type 0 where
-  pub users : List (List ℕ)
-  pub rows : List Row
-  pub first : Answered charge user lines users rows
-  pub bad_are : AreBad bad (bad_numbers 1 rows)
 
 -- ---- how it ended
 

@@ -20,6 +20,8 @@ use Rattle.events.specs.declared.reply.Reply.{Reply as GivenReply}
 use Rattle.events.specs.Terms.{event_of, answer_of}
 use Rattle.schedule.specs.Running.{HadMemory, IsRun}
 use Rattle.session.specs.Serving.{IsUnwritten}
+use Rattle.replaying.specs.declared.bad_lines.BadLines.{BadLines}
+use Rattle.replaying.specs.BadLines.{numbers_where, bad_numbers, AreBad}
 use Rattle.replaying.specs.Replaying.{AreOfOneStore}
 
 -- the events that the lines made, in their order
@@ -36,11 +38,6 @@ struck timed setup user events = if timed then strike_timed setup user events el
 abbrev pub is_of : (user : List ℕ) → Row → Bool
 is_of user (Asks event reply) = bytes_eq event.actor user
 is_of user row = false
-
--- the numbers of the lines of which this is so, where the first line has this one
-abbrev pub numbers_where : (Row → Bool) → ℕ → List Row → List ℕ
-numbers_where test n [] = []
-numbers_where test n (row ∷ rows) = if test row then n ∷ numbers_where test (n + 1) rows else numbers_where test (n + 1) rows
 
 -- the numbers of those of the user
 abbrev pub numbers_of : (user : List ℕ) → ℕ → List Row → List ℕ
@@ -97,11 +94,12 @@ pub record IsStruck (charge : ℕ) (user : List ℕ) (timed : Bool) (lines : Lis
   pub text_is : text ≡ lines_under user (numbers_of user 1 rows) (replies_to user (map answer_of given))
   pub same : HaveOneText (record { users = users; charge = charge }) timed user rows → HadMemoryFor rows → HadMemory given → text ≡ text_for user 1 rows
 
--- all of that text was written
-pub record Struck (charge : ℕ) (user : List ℕ) (timed : Bool) (blank written : Option (List ℕ)) (lines : List (List ℕ)) : Type 0 where
+-- all of that text was written; and these are the lines that were refused with 25 where all events are run
+pub record Struck (charge : ℕ) (user : List ℕ) (timed : Bool) (blank written : Option (List ℕ)) (lines : List (List ℕ)) (bad : Option BadLines) : Type 0 where
   pub text : List ℕ
   pub is : IsStruck charge user timed lines text
   pub all : Appends blank written text
+  pub bad_are : AreBad bad (bad_numbers 1 is.rows)
 
 -- a beginning of it was, where writing or memory failed
 pub record StruckInPart (charge : ℕ) (user : List ℕ) (timed : Bool) (blank written : Option (List ℕ)) (lines : List (List ℕ)) (why : Refusal) : Type 0 where

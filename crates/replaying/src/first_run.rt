@@ -1,54 +1,27 @@
 //! Running the lines of an input for the events that they make.
 
-ghost use Rattle.std.specs.Prelude.{◌≡◌, ◌≤◌, ◌<◌, ◌++◌, ◌∷◌, ℕ, List, if◌then◌else◌, false, [], length, map, slice_get, bytes_eq, MatchBool, MatchOption, IfOk, OnOk};
+ghost use Rattle.std.specs.Prelude.{◌≡◌, ◌≤◌, ◌++◌, ◌∷◌, ℕ, List, if◌then◌else◌, true, false, [], length, map, slice_get, bytes_eq, MatchOption, Some, IfOk, OnOk};
 ghost use Rattle.model.specs.Lines.{lines_of};
 ghost use Rattle.model.specs.Limits.{most_charge};
+ghost use Rattle.model.specs.Reach.{is_among};
 ghost use Rattle.model.specs.Worlds.{nothing};
 ghost use Rattle.events.specs.Terms.{event_of};
-ghost use Rattle.schedule.specs.Standing.{setup_for, setup_of, world_of, stored_in};
-ghost use Rattle.replaying.specs.BadLines.{is_bad_reading, AreBad};
-ghost use Rattle.replaying.specs.Recording.{AddsNumbers, Asked, AsksOn, AllAsked, IsFirstRun};
+ghost use Rattle.schedule.specs.Standing.{setup_of, world_of, stored_in};
+ghost use Rattle.replaying.specs.Recording.{AddsNumbers, Asked, AsksOn, RunsOut, IsAsked, IsFirstRun};
 
-use crate::bad_lines::BadLines;
-use crate::numbers::{FirstRun, Line, Numbers};
+use crate::first_lines::{bad_after, find_users, is_bad};
+use crate::numbers::{FirstRun, Line, Named, Notes, Numbers};
 use crate::one_pass::OnePass;
 use crate::recorder::Recorder;
+use crate::settings::Settings;
 use book::{Blank, Front, Naming};
-use lines::cut;
 use model::Refusal;
-use schedule::{Core, Event, Limits, User};
-use session::{Mode, Reading, Session};
+use schedule::{Core, Event, User};
+use session::{Session, next_line};
 use std::alloc::{AllocError, Global};
-use std::hash::RandomState;
+use std::io::BufRead;
 use std::marker::Brand;
 use std::sync::Wait;
-
-/// Whether a line is refused with 25 `BadLine`, by what it comes to.
-fn is_bad(reading: &Reading) -> bool
-    ensures { result ≡ is_bad_reading reading.now }
-{
-    matches!(reading, Reading::Refuses(Refusal::BadLine))
-}
-
-/// These lines, and behind them that of a number, where it is refused so.
-fn bad_after(bad: Option<BadLines>, is_bad: bool, number: usize) -> Option<BadLines>
-    ensures { (numbers : List ℕ) → AreBad bad numbers
-        → AreBad result (numbers ++ (if is_bad then number ∷ [] else [])) }
-{
-    if !is_bad {
-        return bad;
-    }
-    match bad {
-        Some(lines) => Some(BadLines {
-            count: lines.count.saturating_add(1),
-            first: lines.first,
-        }),
-        None => Some(BadLines {
-            count: 1,
-            first: number,
-        }),
-    }
-}
 
 /// Whether there is an event behind so many others, and it is a user's.
 fn is_next_of(events: &[Event], before: usize, user: &User) -> bool
@@ -57,22 +30,23 @@ fn is_next_of(events: &[Event], before: usize, user: &User) -> bool
     events.get(before).is_some_and(|event| event.actor == *user)
 }
 
-/// Runs a line, and tells what it was.
+/// Runs a line, and tells what it was. The line is let go before its event is answered.
 fn ask_line<J: Naming, H: Wait>(
     alloc: Global,
     session: &mut Session,
     recorder: &mut Recorder<'_, J, H>,
-    line: &[u8],
+    line: Vec<u8>,
     user: &User,
 ) -> Result<Line, Refusal>
     requires { recorder.old.has_lost ≡ false }
-    ensures asked { IfOk result (Asked J.setup user.now line.now session.old session.new
+    ensures asked { IfOk result (Asked J.setup user.now line.items session.old session.new
         recorder.old.store (map event_of recorder.old.events.items)
         recorder.new.store (map event_of recorder.new.events.items)) }
     ensures kept { OnOk result (recorder.new.has_lost ≡ false) }
 {
     let before = recorder.events.len();
-    let reading = session.read(alloc, line)?;
+    let reading = session.read(alloc, line.as_slice())?;
+    drop(line);
     let is_bad = is_bad(&reading);
     session.answer(alloc, reading, recorder)?;
     if recorder.has_lost {
@@ -109,74 +83,58 @@ fn add_numbers(numbers: &mut Numbers, line: Line, number: usize) -> Result<(), A
 /// refused with 25 where it is.
 fn ask_numbered<J: Naming, H: Wait>(
     alloc: Global,
-    session: &mut Session,
+    notes: &mut Notes,
     recorder: &mut Recorder<'_, J, H>,
-    line: &[u8],
-    user: &User,
-    numbers: &mut Numbers,
+    line: Vec<u8>,
 ) -> Result<(), Refusal>
     requires { recorder.old.has_lost ≡ false }
-    ensures asked { OnOk result (AsksOn J.setup user.now line.now session.old session.new
-        recorder.old.store (map event_of recorder.old.events.items) numbers.old
-        recorder.new.store (map event_of recorder.new.events.items) numbers.new) }
+    ensures asked { OnOk result (AsksOn J.setup line.items notes.old
+        recorder.old.store (map event_of recorder.old.events.items) notes.new
+        recorder.new.store (map event_of recorder.new.events.items)) }
     ensures kept { OnOk result (recorder.new.has_lost ≡ false) }
 {
-    let line = ask_line(alloc, session, recorder, line, user)?;
-    add_numbers(numbers, line, session.line_count())?;
+    let line = ask_line(alloc, &mut notes.session, recorder, line, &notes.user)?;
+    add_numbers(&mut notes.numbers, line, notes.session.line_count())?;
     Ok(())
 }
 
-/// Whether a last line is begun, which lacks its newline.
-fn is_begun(rest: &[u8]) -> bool
-    ensures { MatchBool result (0 < length rest.now) (rest.now ≡ []) }
-{
-    !rest.is_empty()
-}
-
-/// Runs the lines of an input. Gives the numbers of those that make an event of the user, and of those that are
-/// refused with 25.
-fn ask_lines<J: Naming, H: Wait>(
+/// Runs the lines of an input that are left.
+fn ask_lines<J: Naming, H: Wait, R: BufRead>(
     alloc: Global,
+    notes: &mut Notes,
     recorder: &mut Recorder<'_, J, H>,
-    input: &[u8],
-    user: &User,
-) -> Result<Numbers, Refusal>
-    requires { (recorder.old.has_lost ≡ false) × (recorder.old.events.items ≡ []) }
-    ensures { IfOk result (AllAsked J.setup user.now (lines_of input.now)
-        recorder.old.store recorder.new.store (map event_of recorder.new.events.items)) }
+    input: &mut R,
+) -> Result<(), Refusal>
+    requires { recorder.old.has_lost ≡ false }
+    ensures { OnOk result (RunsOut J.setup (R.remaining input.old) notes.old
+        recorder.old.store (map event_of recorder.old.events.items) notes.new
+        recorder.new.store (map event_of recorder.new.events.items)) }
 {
-    let mut session = Session::new(alloc, Mode::Service);
-    let mut numbers = Numbers {
-        his: Vec::new(alloc),
-        bad: None,
-    };
-    let mut rest = input;
-    while let Some((line, after)) = cut(b'\n', rest) {
-        ask_numbered(alloc, &mut session, recorder, line, user, &mut numbers)?;
-        rest = after;
+    for _ in 0..u64::MAX {
+        let Some(line) = next_line(alloc, input)? else {
+            return Ok(());
+        };
+        ask_numbered(alloc, notes, recorder, line)?;
     }
-    if !is_begun(rest) {
-        return Ok(numbers);
-    }
-    ask_numbered(alloc, &mut session, recorder, rest, user, &mut numbers)?;
-    Ok(numbers)
+    Err(Refusal::Memory)
 }
 
-/// Runs the lines of an input by a new core, behind a lock that one pass takes.
-fn ask_core<J: Naming, H: Wait>(
+/// Runs the lines of an input that are left by a new core, behind a lock that one pass takes. Gives the events
+/// that they make.
+fn ask_core<J: Naming, H: Wait, R: BufRead>(
     rt: &H,
     alloc: Global,
     blank: Blank,
     core: Core,
-    input: &[u8],
-    user: &User,
-) -> Result<FirstRun, Refusal>
+    notes: &mut Notes,
+    input: &mut R,
+) -> Result<Vec<Event>, Refusal>
     requires blank { (blank.calls.name ≡ J.name) × (blank.calls.parts ≡ J.parts) × (blank.calls.parts ≡ 1) }
     requires stops { blank.stops.name ≡ J.stops }
     requires log { blank.log.table.shared.table_id ≡ J.table }
     requires rows { blank.rows.seen.book ≡ J.book }
     requires core { (setup_of core ≡ J.setup) × (world_of core ≡ nothing) × (stored_in core ≡ []) }
-    ensures { IfOk result (λ run. IsFirstRun J.setup user.now (lines_of input.now) run) }
+    ensures { IfOk result (λ events. IsAsked J.setup (R.remaining input.old) notes.old notes.new events.items) }
 {
     let (front, mut passes) = Front::<J>::new(rt, alloc, blank, core, 1)?;
     let pass = passes.pop().unwrap();
@@ -191,25 +149,61 @@ fn ask_core<J: Naming, H: Wait>(
         events: Vec::new(alloc),
         has_lost: false,
     };
-    let numbers = ask_lines(alloc, &mut recorder, input, user)?;
+    ask_lines(alloc, notes, &mut recorder, input)?;
     let Recorder { events, .. } = recorder;
-    Ok(FirstRun { events, numbers })
+    Ok(events)
 }
 
-/// Runs the lines of an input by a new store for these users, whose charge is limited.
-pub(crate) fn first_run<H: Wait>(
+/// The user of a name, who is one of these.
+fn user_among(alloc: Global, users: &[User], name: &[u8]) -> Result<User, Refusal>
+    ensures { IfOk result (λ user. (user ≡ name.now) × (is_among name.now users.now ≡ true)) }
+{
+    let user = User::new(alloc, name)?;
+    if users.iter().any(|other| *other == user) {
+        Ok(user)
+    } else {
+        Err(Refusal::UnknownUser)
+    }
+}
+
+/// Runs the lines of an input by a new store for the users whom they name, of whom one has this name.
+pub(crate) fn first_run<H: Wait, R: BufRead>(
     rt: &H,
     alloc: Global,
-    hashing: RandomState,
-    users: Vec<User>,
-    limits: Limits,
-    input: &[u8],
-    user: &User,
+    settings: Settings,
+    name: &[u8],
+    input: &mut R,
 ) -> Result<FirstRun, Refusal>
-    requires { limits.charge ≤ most_charge }
-    ensures { IfOk result (λ run. IsFirstRun (setup_for users limits) user.now (lines_of input.now) run) }
+    requires { settings.limits.charge ≤ most_charge }
+    ensures { IfOk result (λ run. (all : List ℕ) → R.remaining input.old ≡ Some all
+        → IsFirstRun settings.limits.charge name.now (lines_of all) run) }
 {
-    let core = Core::new(alloc, hashing, users, limits)?;
+    let Settings { hashing, limits } = settings;
+    let named = find_users(alloc, input)?;
+    let Named {
+        session,
+        users,
+        bad,
+    } = named;
+    let user = user_among(alloc, users.as_slice(), name)?;
+    let copied = users.clone()?;
+    let core = Core::new(alloc, hashing, copied, limits)?;
     let blank = Blank::new(alloc, 1)?;
-    ask_core::<Brand, _>(rt, alloc, blank, core, input, user)
+    let numbers = Numbers {
+        his: Vec::new(alloc),
+        bad,
+    };
+    let mut notes = Notes {
+        session,
+        user,
+        numbers,
+    };
+    let events = ask_core::<Brand, _, _>(rt, alloc, blank, core, &mut notes, input)?;
+    let Notes { user, numbers, .. } = notes;
+    Ok(FirstRun {
+        users,
+        user,
+        events,
+        numbers,
+    })
 }

@@ -12,12 +12,12 @@ ghost use Rattle.replaying.specs.ServingOn.{ServesOn, ServesOnInPart, ServesOnSo
 ghost use Rattle.replaying.specs.Replaying.{Replayed, ReplayedInPart};
 
 use crate::one_pass::OnePass;
+use crate::settings::Settings;
 use book::{Blank, Front, Naming};
 use model::Refusal;
-use schedule::{Core, Limits, User};
+use schedule::{Core, User};
 use session::{Begun, Faults, Head, Mode, flush_after, serve_head, serve_on};
 use std::alloc::Global;
-use std::hash::RandomState;
 use std::io::{Read, Write};
 use std::marker::Brand;
 use std::mem;
@@ -70,26 +70,25 @@ fn serve_core<J: Naming, H: Wait, R: Read + Faults, W: Write + Faults>(
 fn serve_users<H: Wait, R: Read + Faults, W: Write + Faults>(
     rt: &H,
     alloc: Global,
-    hashing: RandomState,
+    settings: Settings,
     users: Vec<User>,
-    limits: Limits,
     sweeps: bool,
     begun: &mut Begun,
     reader: &mut R,
     writer: &mut W,
 ) -> Result<(), Refusal>
-    requires { limits.charge ≤ most_charge }
-    ensures ok { OnOk result (ServesOn (setup_for users limits) begun.old.session begun.old.rest.items
+    requires { settings.limits.charge ≤ most_charge }
+    ensures ok { OnOk result (ServesOn (setup_for users settings.limits) begun.old.session begun.old.rest.items
         (R.remaining reader.old) (R.remaining reader.new) (W.contents writer.old) (W.contents writer.new)) }
-    ensures err { IfErr result (λ why. are_users users.items ≡ true → ServesOnInPart (setup_for users limits)
+    ensures err { IfErr result (λ why. are_users users.items ≡ true → ServesOnInPart (setup_for users settings.limits)
         begun.old.session begun.old.rest.items (R.remaining reader.old) (R.remaining reader.new) (W.contents writer.old) (W.contents writer.new) why) }
-    ensures failed { IfErr result (λ why. why ≡ InputFault → ServesOnSoFar (setup_for users limits)
+    ensures failed { IfErr result (λ why. why ≡ InputFault → ServesOnSoFar (setup_for users settings.limits)
         begun.old.session begun.old.rest.items (R.remaining reader.old) (R.remaining reader.new) (W.contents writer.old) (W.contents writer.new)) }
     ensures whole { OnOk result (¬ HasFailed begun.old.reader_failures (R.failed reader.new)) }
     ensures errors { IfErr result (λ why. (why ≡ InputFault) ⊎ IsOwn why) }
     ensures output_fault { IfErr result (MayBeFault OutputFault begun.old.writer_failures (W.failed writer.new)) }
 {
-    let core = Core::new(alloc, hashing, users, limits)?;
+    let core = Core::new(alloc, settings.hashing, users, settings.limits)?;
     let blank = Blank::new(alloc, 1)?;
     serve_core::<Brand, _, _, _>(rt, alloc, blank, core, sweeps, begun, reader, writer)
 }
@@ -99,19 +98,18 @@ fn serve_users<H: Wait, R: Read + Faults, W: Write + Faults>(
 fn answer_input<H: Wait, R: Read + Faults, W: Write + Faults>(
     rt: &H,
     alloc: Global,
-    hashing: RandomState,
-    limits: Limits,
+    settings: Settings,
     sweeps: bool,
     reader: &mut R,
     writer: &mut W,
 ) -> Result<(), Refusal>
-    requires { limits.charge ≤ most_charge }
+    requires { settings.limits.charge ≤ most_charge }
     ensures ok { OnOk result ((all : List ℕ) → R.remaining reader.old ≡ Some all
-        → Replayed limits.charge (W.contents writer.old) (W.contents writer.new) (lines_of all)) }
+        → Replayed settings.limits.charge (W.contents writer.old) (W.contents writer.new) (lines_of all)) }
     ensures err { IfErr result (λ why. (all : List ℕ) → R.remaining reader.old ≡ Some all
-        → ReplayedInPart limits.charge (W.contents writer.old) (W.contents writer.new) (lines_of all) why) }
+        → ReplayedInPart settings.limits.charge (W.contents writer.old) (W.contents writer.new) (lines_of all) why) }
     ensures failed { IfErr result (λ why. why ≡ InputFault → (all : List ℕ) → R.remaining reader.old ≡ Some all
-        → ReplayedSoFar limits.charge (W.contents writer.old) (W.contents writer.new) all (R.remaining reader.new)) }
+        → ReplayedSoFar settings.limits.charge (W.contents writer.old) (W.contents writer.new) all (R.remaining reader.new)) }
     ensures whole { OnOk result (¬ HasFailed (R.failed reader.old) (R.failed reader.new)) }
     ensures errors { IfErr result (λ why. (why ≡ InputFault) ⊎ IsOwn why) }
     ensures output_fault { IfErr result (MayBeFault OutputFault (W.failed writer.old) (W.failed writer.new)) }
@@ -122,7 +120,7 @@ fn answer_input<H: Wait, R: Read + Faults, W: Write + Faults>(
         return Ok(());
     };
     serve_users(
-        rt, alloc, hashing, users, limits, sweeps, &mut begun, reader, writer,
+        rt, alloc, settings, users, sweeps, &mut begun, reader, writer,
     )
 }
 
@@ -146,22 +144,21 @@ fn answer_input<H: Wait, R: Read + Faults, W: Write + Faults>(
 pub fn replay<H: Wait, R: Read + Faults, W: Write + Faults>(
     rt: &H,
     alloc: Global,
-    hashing: RandomState,
-    limits: Limits,
+    settings: Settings,
     sweeps: bool,
     reader: &mut R,
     writer: &mut W,
 ) -> Result<(), Refusal>
-    requires { limits.charge ≤ most_charge }
+    requires { settings.limits.charge ≤ most_charge }
     // What a reader gives all of whose bytes are known, is answered to its end.
     ensures ok { OnOk result ((all : List ℕ) → R.remaining reader.old ≡ Some all
-        → Replayed limits.charge (W.contents writer.old) (W.contents writer.new) (lines_of all)) }
+        → Replayed settings.limits.charge (W.contents writer.old) (W.contents writer.new) (lines_of all)) }
     // Else its first lines are.
     ensures err { IfErr result (λ why. (all : List ℕ) → R.remaining reader.old ≡ Some all
-        → ReplayedInPart limits.charge (W.contents writer.old) (W.contents writer.new) (lines_of all) why) }
+        → ReplayedInPart settings.limits.charge (W.contents writer.old) (W.contents writer.new) (lines_of all) why) }
     // Where the reader failed, these are the lines that were read whole, and all of their text.
     ensures failed { IfErr result (λ why. why ≡ InputFault → (all : List ℕ) → R.remaining reader.old ≡ Some all
-        → ReplayedSoFar limits.charge (W.contents writer.old) (W.contents writer.new) all (R.remaining reader.new)) }
+        → ReplayedSoFar settings.limits.charge (W.contents writer.old) (W.contents writer.new) all (R.remaining reader.new)) }
     ensures errors { IfErr result (λ why. (why ≡ InputFault) ⊎ IsOwn why) }
     // It ends well only where the reader's count shows no failure.
     ensures whole { OnOk result (¬ HasFailed (R.failed reader.old) (R.failed reader.new)) }
@@ -173,6 +170,6 @@ pub fn replay<H: Wait, R: Read + Faults, W: Write + Faults>(
 {
     let reader_before = reader.failures();
     let writer_before = writer.failures();
-    let ended = answer_input(rt, alloc, hashing, limits, sweeps, reader, writer);
+    let ended = answer_input(rt, alloc, settings, sweeps, reader, writer);
     flush_after(reader, reader_before, writer, writer_before, ended)
 }

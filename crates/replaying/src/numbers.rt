@@ -1,7 +1,8 @@
 //! What is kept of the lines of an input that were run.
 
 use crate::bad_lines::BadLines;
-use schedule::Event;
+use schedule::{Event, User};
+use session::Session;
 
 /// What a line was to whom events are struck for: whether it made an event of his, and whether it was refused with
 /// 25 `BadLine`.
@@ -18,9 +19,28 @@ pub(crate) struct Numbers {
     pub(crate) bad: Option<BadLines>,
 }
 
-/// What the lines of an input asked, and the numbers that they have.
+/// A session that has answered the first lines of an input, up to the one that names the users, and those of
+/// them that were refused with 25.
+#[derive(Drop)]
+pub(crate) struct Named {
+    pub(crate) session: Session,
+    pub(crate) users: Vec<User>,
+    pub(crate) bad: Option<BadLines>,
+}
+
+/// A session on its way behind the line that names the users, and what is kept of its lines for one of them.
+#[derive(Drop)]
+pub(crate) struct Notes {
+    pub(crate) session: Session,
+    pub(crate) user: User,
+    pub(crate) numbers: Numbers,
+}
+
+/// What the lines of an input asked, for the users whom they name, and the numbers that they have.
 #[derive(Drop)]
 pub(crate) struct FirstRun {
+    pub(crate) users: Vec<User>,
+    pub(crate) user: User,
     pub(crate) events: Vec<Event>,
     pub(crate) numbers: Numbers,
 }

@@ -7,3 +7,4 @@ pub mod FeedLemmas
 pub mod AheadLemmas
 pub mod EarlyLemmas
 pub mod HeadLemmas
+pub mod TakingLemmas

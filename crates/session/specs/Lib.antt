@@ -1,3 +1,4 @@
 pub mod Serving
 pub mod Ahead
 pub mod Heads
+pub mod Taking

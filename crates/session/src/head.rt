@@ -34,8 +34,8 @@ pub(crate) struct Found {
     pub(crate) rest: Vec<u8>,
 }
 
-/// The users whom a line names, by what it comes to.
-fn users_of(reading: &Reading) -> Result<Option<Vec<User>>, AllocError>
+/// The users whom a line names, by what it comes to, or nothing. The one error is memory.
+pub fn users_of(reading: &Reading) -> Result<Option<Vec<User>>, AllocError>
     ensures { IfOk result (IsNamedBy reading.now) }
 {
     match reading {

@@ -11,6 +11,7 @@
 //! | [`serve_whole_lines`] | the same for bytes of which more was to come |
 //! | [`write_whole`] | writes all of a text |
 //! | [`flush_after`] | shows what was written, and says how it ended |
+//! | [`next_line`] | takes the next line of a reader |
 //! | [`read_ahead`] | finds the users of an input, and keeps what was read |
 //! | [`Counted`] | counts the failures of a reader or a writer |
 //!
@@ -25,11 +26,12 @@ mod head;
 mod serving;
 mod session;
 mod streams;
+mod taking;
 
 pub use ahead::{Ahead, read_ahead};
 pub use answering::{Answer, NoUsers};
 pub use counted::Counted;
-pub use head::{Head, serve_head};
+pub use head::{Head, serve_head, users_of};
 pub use lines::{Reading, answer_text};
 pub use model::Mode;
 pub use nar::{Faults, write_whole};
@@ -37,3 +39,4 @@ pub use serving::{Begun, serve, serve_behind, serve_on, serve_whole_lines};
 pub use session::Session;
 pub use states::Job;
 pub use streams::flush_after;
+pub use taking::next_line;

@@ -1,9 +1,8 @@
 use Rattle.std.proofs.Common.{rules}
-use Rattle.model.specs.Lines.{lines_of}
-use Rattle.replaying.proofs.RecordingLemmas.{first_of}
+use Rattle.replaying.proofs.RecordingLemmas.{asked_new}
 use Rattle.replaying.proofs.first_run.ask_core.Goals as goal
 
 pub returns : goal.returns
 returns g c =
-    let asked = rw (← c.recorder.view_is) at c.in_ok-numbers.ensures in
-    first_of g.J.Naming.setup c.args.user.now (lines_of c.args.input.now) _ _ _ (search rules) asked
+    let out = rw (← c.recorder.view_is) at c.in_ok-ask_lines.ensures in
+    asked_new g.J.Naming.setup _ _ _ _ _ _ _ (search rules) (search rules) out

@@ -11,13 +11,13 @@ returns-clause-asked g c =
     h.0 h.4 c.if-recorder.false in
     record {
       row = h.0;
-      gets = row-gets c.args.session.now.goals _ c.in_ok-reading.reading h.0 c.in_ok-reading.ensures.read h.1;
+      gets = rw c.as_slice.ensures.value at (row-gets c.args.session.now.goals _ c.in_ok-reading.reading h.0 c.in_ok-reading.ensures.read h.1);
       seen_is = h.2;
       going = sym c.if-is_refused.ensures;
       link = k.0;
       events_are = k.1;
       his_is =
-          his_at c.args.user.now c.args.recorder.now.events.items c.answer.new.answer.events.items c.as_slice.result.now c.len-before.result h.0
-          c.is_next_of-is_his.result c.as_slice.ensures.value (search rules) k.1 c.is_next_of-is_his.ensures;
+          his_at c.args.user.now c.args.recorder.now.events.items c.answer.new.answer.events.items c.as_slice-2.result.now c.len-before.result h.0
+          c.is_next_of-is_his.result c.as_slice-2.ensures.value (search rules) k.1 c.is_next_of-is_his.ensures;
       bad_is = bad_row c.args.session.now.goals c.in_ok-reading.reading h.0 _ h.1 c.is_bad-is_bad.ensures;
     }

@@ -1,13 +1,12 @@
-use Rattle.std.proofs.Common.{◌≡◌, false, length, map}
+use Rattle.std.proofs.Common.{◌≡◌, ℕ, false, List, Some, map}
 use Rattle.model.specs.Lines.{lines_of}
 use Rattle.events.specs.Terms.{event_of}
-use Rattle.replaying.proofs.RecordingLemmas.{SoFar}
+use Rattle.replaying.specs.Recording.{RunSoFar}
 use Rattle.replaying.proofs.first_run.ask_lines.Given as goal
 
 -- the lines so far were asked, and the rest is left
-abbrev pub invariant-loop-line : goal.invariant-loop-line
-invariant-loop-line g l = (l.recorder.has_lost ≡ false) × SoFar g.J.Naming.setup l.fn.user (lines_of l.fn.input) (lines_of l.rest) l.session
-    l.fn.recorder.store l.recorder.store (map event_of l.recorder.events.items) l.numbers
-
-abbrev pub decreases-loop-line : goal.decreases-loop-line
-decreases-loop-line g l = length l.rest
+abbrev pub invariant-loop : goal.invariant-loop
+invariant-loop g l = (l.recorder.has_lost ≡ false) × ((user : List ℕ) (all : List (List ℕ)) (rest : List ℕ) → g.R.Read.remaining l.fn.input ≡ Some rest
+    → RunSoFar g.J.Naming.setup user all (lines_of rest) l.fn.notes l.fn.recorder.store (map event_of l.fn.recorder.events.items)
+    → (left : List ℕ) × (g.R.Read.remaining l.input ≡ Some left)
+    × RunSoFar g.J.Naming.setup user all (lines_of left) l.notes l.recorder.store (map event_of l.recorder.events.items))

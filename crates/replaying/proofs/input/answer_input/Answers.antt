@@ -11,23 +11,23 @@ use Rattle.replaying.proofs.input.answer_input.Goals as goal
 pub returns-in_err-head-clause-err : goal.returns-in_err-head-clause-err
 returns-in_err-head-clause-err g c = err-is _ _ _ c.from_residual.ensures.1 (λ all known.
     let h = c.in_err-head.ensures.err in
-    quiet_in_part c.args.limits.charge all _ _ _ _ known h.0 _ h.1 h.2)
+    quiet_in_part c.args.settings.limits.charge all _ _ _ _ known h.0 _ h.1 h.2)
 
 pub returns-in_err-head-clause-failed : goal.returns-in_err-head-clause-failed
 returns-in_err-head-clause-failed g c = err-is _ _ _ c.from_residual.ensures.1 (λ failed all known.
     let h = c.in_err-head.ensures.failed failed in
-    quiet_so_far c.args.limits.charge all _ _ _ _ known h.0 h.1 h.2)
+    quiet_so_far c.args.settings.limits.charge all _ _ _ _ known h.0 h.1 h.2)
 
 pub returns-in_default-clause-ok : goal.returns-in_default-clause-ok
 returns-in_default-clause-ok g c = λ all known.
     let h = rw c.in_default.is at c.in_ok-head.ensures.ok in
-    quiet_replayed c.args.limits.charge all _ _ _ _ known h.0 h.1 h.2.0 h.2.1
+    quiet_replayed c.args.settings.limits.charge all _ _ _ _ known h.0 h.1 h.2.0 h.2.1
 
 pub returns-clause-ok : goal.returns-clause-ok
 returns-clause-ok g c = on_ok c.serve_users.result (λ h all known.
     let head = rw c.in-Some.is at c.in_ok-head.ensures.ok in
     let looks : LooksAhead Service all (Some c.in-Some.users.items) = names_all all head.0 _ _ _ _ _ c.in-Some.users.items _ known head.1 head.2 in
-    finished_by_store c.args.limits.charge all _ _ c.in-Some.users.items _ _ looks known
+    finished_by_store c.args.settings.limits.charge all _ _ c.in-Some.users.items _ _ looks known
     (h (g.R.Read.remaining c.args.reader.now) (g.W.Write.contents c.args.writer.now) head.2.front (is_answered _ _ _ _ head.0 _ _ _ head.1 head.2)))
     c.serve_users.ensures.ok
 
@@ -35,7 +35,7 @@ pub returns-clause-err : goal.returns-clause-err
 returns-clause-err g c = if_err c.serve_users.result (λ why h all known.
     let head = rw c.in-Some.is at c.in_ok-head.ensures.ok in
     let looks : LooksAhead Service all (Some c.in-Some.users.items) = names_all all head.0 _ _ _ _ _ c.in-Some.users.items _ known head.1 head.2 in
-    stopped_by_store c.args.limits.charge all _ _ c.in-Some.users.items _ _ why looks known
+    stopped_by_store c.args.settings.limits.charge all _ _ c.in-Some.users.items _ _ why looks known
     (h (found_are_users all c.in-Some.users.items looks)
     (g.R.Read.remaining c.args.reader.now) (g.W.Write.contents c.args.writer.now) head.2.front (is_answered _ _ _ _ head.0 _ _ _ head.1 head.2)))
     c.serve_users.ensures.err
@@ -44,7 +44,7 @@ pub returns-clause-failed : goal.returns-clause-failed
 returns-clause-failed g c = if_err c.serve_users.result (λ why h failed all known.
     let head = rw c.in-Some.is at c.in_ok-head.ensures.ok in
     let looks : LooksAhead Service all (Some c.in-Some.users.items) = names_all all head.0 _ _ _ _ _ c.in-Some.users.items _ known head.1 head.2 in
-    so_far_by_store c.args.limits.charge all _ _ c.in-Some.users.items _ _ looks known
+    so_far_by_store c.args.settings.limits.charge all _ _ c.in-Some.users.items _ _ looks known
     (h failed (g.R.Read.remaining c.args.reader.now) (g.W.Write.contents c.args.writer.now) head.2.front (is_answered _ _ _ _ head.0 _ _ _ head.1 head.2)))
     c.serve_users.ensures.failed
 

@@ -1,36 +1,28 @@
 use Rattle.replaying.proofs.InputLemmas.{after_ok}
-use Rattle.replaying.proofs.StruckLemmas.{all_flushed, not_flushed, early_told, early_after, end_ok, end_err, with_ok, with_err, with_bad}
+use Rattle.replaying.proofs.StruckLemmas.{all_flushed, not_flushed, early_told, early_after, end_ok, end_with, end_err, with_ok, with_err, with_told}
 use Rattle.replaying.proofs.striking.strike.Goals as goal
 
 pub returns-clause-ok : goal.returns-clause-ok
 returns-clause-ok g c =
-    let told = c.strike_reader-told.result in
-    let ended = c.end_of-ended.result in
-    let shown = c.flush_after-shown.result in
-    with_ok c.ended_with.result shown told _ c.ended_with.ensures
-    (after_ok shown ended _ _ c.flush_after-shown.ensures.ok (end_ok told ended _ c.end_of-ended.ensures c.strike_reader-told.ensures.ok) (λ h all known.
-    all_flushed _ _ _ _ _ _ _ c.flush_after-shown.ensures.kept (h all known)))
+    with_told c.ended_with.result c.flush_after-shown.result c.end_of-ended.result c.strike_lines-told.result _ _ c.ended_with.ensures c.end_of-ended.ensures
+    c.flush_after-shown.ensures.ok c.strike_lines-told.ensures.ok
+    (λ bad h all known. all_flushed _ _ _ _ _ _ _ c.flush_after-shown.ensures.kept bad (h all known))
 
 pub returns-clause-err : goal.returns-clause-err
 returns-clause-err g c =
-    let told = c.strike_reader-told.result in
+    let told = c.strike_lines-told.result in
     let ended = c.end_of-ended.result in
     let shown = c.flush_after-shown.result in
     with_err c.ended_with.result shown told _ c.ended_with.ensures
-    (early_after _ _ _ _ shown ended _ _ _ c.flush_after-shown.ensures.err (end_ok told ended _ c.end_of-ended.ensures c.strike_reader-told.ensures.ok)
-    (end_err told ended _ c.end_of-ended.ensures c.strike_reader-told.ensures.err)
-    (λ h all known. not_flushed _ _ _ _ _ _ _ c.flush_after-shown.ensures.kept (h all known))
+    (early_after _ _ _ _ shown ended _ _ _ c.flush_after-shown.ensures.err (end_with told ended _ c.end_of-ended.ensures c.strike_lines-told.ensures.ok)
+    (end_err told ended _ c.end_of-ended.ensures c.strike_lines-told.ensures.err)
+    (λ h all known. not_flushed _ _ _ _ _ _ _ c.flush_after-shown.ensures.kept h.0 (h.1 all known))
     (λ first why told h all known. early_told _ _ _ _ _ _ _ c.flush_after-shown.ensures.kept first why told (h all known)))
 
 pub returns-clause-whole : goal.returns-clause-whole
 returns-clause-whole g c =
-    let told = c.strike_reader-told.result in
+    let told = c.strike_lines-told.result in
     let ended = c.end_of-ended.result in
     let shown = c.flush_after-shown.result in
     with_ok c.ended_with.result shown told _ c.ended_with.ensures
-    (after_ok shown ended _ _ c.flush_after-shown.ensures.ok (end_ok told ended _ c.end_of-ended.ensures c.strike_reader-told.ensures.whole) (λ whole. whole))
-
-pub returns-clause-bad_lines : goal.returns-clause-bad_lines
-returns-clause-bad_lines g c =
-    with_bad c.ended_with.result c.flush_after-shown.result c.end_of-ended.result c.strike_reader-told.result _ c.ended_with.ensures c.end_of-ended.ensures
-    c.flush_after-shown.ensures.ok c.strike_reader-told.ensures.bad_lines
+    (after_ok shown ended _ _ c.flush_after-shown.ensures.ok (end_ok told ended _ c.end_of-ended.ensures c.strike_lines-told.ensures.whole) (λ whole. whole))
