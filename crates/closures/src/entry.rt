@@ -4,7 +4,7 @@ ghost use Rattle.std.specs.Prelude.{◌≡◌, option_copied, IfOk, MatchResult}
 ghost use Rattle.model.specs.declared.refusal.Refusal.TheVariants.{Memory};
 ghost use Rattle.model.specs.Worlds.{OfSource, OfRecord, path_of_entry};
 ghost use Rattle.model.specs.Closures.{class_of_entry, labels_of_entry, tree_of_entry};
-ghost use Rattle.records.specs.Entries.{entry_with};
+ghost use Rattle.records.specs.DeskEntries.{entry_with};
 ghost use Rattle.closures.specs.Entries.{is_entry_of};
 
 use crate::realisation::{Realisation, Source};
@@ -118,12 +118,12 @@ impl Entry {
 
     /// The entry without its tree, as it is put on a desk. The copy shares the labels. The one error
     /// is memory.
-    pub fn without_tree(&self) -> Result<records::Entry, AllocError>
+    pub fn without_tree(&self) -> Result<records::DeskEntry, AllocError>
         ensures { IfOk result (λ entry. entry_with (tree_of_entry self.now) entry ≡ self.now) }
     {
         match &self.item {
-            Item::Record(record) => Ok(records::Entry::Record(record.record().clone()?)),
-            Item::Source(source) => Ok(records::Entry::Source(source.path().clone()?)),
+            Item::Record(record) => Ok(records::DeskEntry::Record(record.record().clone()?)),
+            Item::Source(source) => Ok(records::DeskEntry::Source(source.path().clone()?)),
         }
     }
 

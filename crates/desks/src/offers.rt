@@ -26,7 +26,7 @@ use model::Refusal;
 use nar::Tree;
 use outputs::{Input, Output, Settlements, record_of};
 use realise::{Desk, Limits};
-use records::{Entry, Label, Record};
+use records::{DeskEntry, Label, Record};
 use std::alloc::Global;
 use store::Table;
 use storepath::StorePath;
@@ -128,7 +128,7 @@ pub fn offer(
         return Err(Refusal::UnknownDerivation);
     };
     let (record, settled) = output_for(alloc, settlements, desk, admitted, tree)?;
-    add_entry(alloc, table, desk, limits, Entry::Record(record), settled)
+    add_entry(alloc, table, desk, limits, DeskEntry::Record(record), settled)
 }
 
 /// What [`offer`] settles an output by, whatever its tree is, so that it can be settled before it is offered.

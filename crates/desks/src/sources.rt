@@ -17,7 +17,7 @@ use model::Refusal;
 use nar::Tree;
 use outputs::Sources;
 use realise::{Desk, Limits};
-use records::Entry;
+use records::DeskEntry;
 use std::alloc::Global;
 use store::Table;
 use storepath::{Name, StorePath};
@@ -45,7 +45,7 @@ pub fn add_source(
         (AddSourceRequest name.now tree) result table.new.sources desk.new }
 {
     let path = sources.path_of(alloc, name, &tree)?;
-    add_entry(alloc, table, desk, limits, Entry::Source(path), tree)
+    add_entry(alloc, table, desk, limits, DeskEntry::Source(path), tree)
 }
 
 /// The tree at a path, if the desk holds the path. Whoever else holds it makes no difference.

@@ -15,10 +15,10 @@ use Rattle.model.specs.Outcomes.{becomes, add_entry}
 use Rattle.model.specs.declared.refusal.Refusal.TheVariants.{Quota}
 use Rattle.model.proofs.BoolLemmas.{either, same_bytes, or_cases, both_parts}
 use Rattle.records.specs.Recorded.{Recorded, with_tree, same_recorded}
-use Rattle.records.specs.declared.entry.Entry.{Entry}
-use Rattle.records.specs.declared.entry.Entry.TheVariants as entry
+use Rattle.records.specs.declared.desk_entry.DeskEntry.{DeskEntry}
+use Rattle.records.specs.declared.desk_entry.DeskEntry.TheVariants as entry
 use Rattle.store.specs.Stored.{Extends}
-use Rattle.records.specs.Entries.{entry_path, entry_with}
+use Rattle.records.specs.DeskEntries.{entry_path, entry_with}
 use Rattle.realise.specs.Held.{with_archive}
 use Rattle.realise.specs.Holdings.{Holdings, paths_of, is_on, holds_entry, has_place, charged_more, is_roomy, IsClosedWithEntry}
 use Rattle.handling.specs.Sound.{sources_at, records_at, desk_of, IsSized, IsSound, Beside}
@@ -33,7 +33,7 @@ same_there : (table : List Source) (records : List Recorded) (tree : Tree) (r : 
 same_there table [] tree r = refl
 same_there table (q ∷ records) tree r = rw (same_there table records tree r) refl
 
-pub has_entry-is_on : (beside : Beside) (table : List Source) (d : Holdings) (tree : Tree) (e : Entry) → has_entry (entry_with tree e) (desk_of beside table d) ≡ is_on e d
+pub has_entry-is_on : (beside : Beside) (table : List Source) (d : Holdings) (tree : Tree) (e : DeskEntry) → has_entry (entry_with tree e) (desk_of beside table d) ≡ is_on e d
 has_entry-is_on beside table d tree (entry.Source path) = sym (held_found table d.known.sources path)
 has_entry-is_on beside table d tree (entry.Record r) = same_there table d.records tree r
 
@@ -63,7 +63,7 @@ append_any (x ∷ xs) ys path h = elim (either (bytes_eq x path)) [
 ]
 
 -- what is charged with one entry more
-pub charge_of-entry : (beside : Beside) (table : List Source) (d : Holdings) (tree : Tree) (e : Entry) → d.charge ≡ charge_of (desk_of beside table d)
+pub charge_of-entry : (beside : Beside) (table : List Source) (d : Holdings) (tree : Tree) (e : DeskEntry) → d.charge ≡ charge_of (desk_of beside table d)
     → IsThere table d (entry_path e) tree
     → charge_of (with_entry (entry_with tree e) (desk_of beside table d)) ≡ d.charge + charged_more (entry_path e) (length (nar tree)) d
 unfolding charge_of
@@ -102,7 +102,7 @@ third_left a b c p d e f g = rw (e, f, g) refl
 below : (n m : ℕ) → nat_le (n + 1) m ≡ nat_lt n m
 below n m = grind (arith, nat_tests)
 
-pub is_within-entry : (users : List (List ℕ)) (beside : Beside) (table : List Source) (limit : ℕ) (d : Holdings) (tree : Tree) (e : Entry) → IsSound table limit d
+pub is_within-entry : (users : List (List ℕ)) (beside : Beside) (table : List Source) (limit : ℕ) (d : Holdings) (tree : Tree) (e : DeskEntry) → IsSound table limit d
     → IsThere table d (entry_path e) tree
     → is_within (record { users = users; charge = limit }) (with_entry (entry_with tree e) (desk_of beside table d)) ≡ is_roomy e (charged_more (entry_path e) (length (nar tree)) d) limit d
 unfolding is_within
@@ -142,7 +142,7 @@ records_at-push table (q ∷ records) r tree e = rw (records_at-push table recor
 pub desk_with : Beside → Holdings → List Source → List Record → Desk
 desk_with beside d sources records = record { trusted = beside.trusted; sources = sources; derivations = d.known.derivations; records = records; pins = d.pins; goals = beside.goals }
 
-pub desk_of-entry : (beside : Beside) (old new : List Source) (limit : ℕ) (d : Holdings) (tree : Tree) (e : Entry) (archive : ℕ) → Extends old new → IsSound old limit d
+pub desk_of-entry : (beside : Beside) (old new : List Source) (limit : ℕ) (d : Holdings) (tree : Tree) (e : DeskEntry) (archive : ℕ) → Extends old new → IsSound old limit d
     → tree_at (entry_path e) new ≡ Some tree
     → desk_of beside new (holds_entry e archive d) ≡ with_entry (entry_with tree e) (desk_of beside old d)
 unfolding desk_with
@@ -165,7 +165,7 @@ known_between table [] ys path all one = All-cons (IsKnown table) path ys one al
 known_between table (x ∷ xs) ys path all one =
     All-cons (IsKnown table) x (xs ++ path ∷ ys) (All-head (IsKnown table) x (xs ++ ys) all) (known_between table xs ys path (All-tail (IsKnown table) x (xs ++ ys) all) one)
 
-pub known-entry : (table : List Source) (d : Holdings) (e : Entry) (archive : ℕ) → All (IsKnown table) (paths_of d) → IsKnown table (entry_path e)
+pub known-entry : (table : List Source) (d : Holdings) (e : DeskEntry) (archive : ℕ) → All (IsKnown table) (paths_of d) → IsKnown table (entry_path e)
     → All (IsKnown table) (paths_of (holds_entry e archive d))
 known-entry table d (entry.Source path) archive all one =
     let back : List (List ℕ) = map (λ r. r.path) d.records in
@@ -174,7 +174,7 @@ known-entry table d (entry.Record r) archive all one =
     let back : List (List ℕ) = map (λ q. q.path) d.records in
     rw (paths_more d.records r, ← append_assoc d.known.sources back (r.path ∷ [])) (All-push (IsKnown table) (d.known.sources ++ back) r.path all one)
 
-place_left : (e : Entry) (archive : ℕ) (d : Holdings) → length d.known.sources ≤ most_sources → length d.records ≤ most_records → has_place e d ≡ true
+place_left : (e : DeskEntry) (archive : ℕ) (d : Holdings) → length d.known.sources ≤ most_sources → length d.records ≤ most_records → has_place e d ≡ true
     → (length (holds_entry e archive d).known.sources ≤ most_sources) × (length (holds_entry e archive d).records ≤ most_records)
 place_left (entry.Source path) archive d sources records place =
     let room : length d.known.sources + 1 ≤ most_sources = grind (arith, nat_tests, place) in
@@ -183,23 +183,23 @@ place_left (entry.Record r) archive d sources records place =
     let room : length d.records + 1 ≤ most_records = grind (arith, nat_tests, place) in
     (sources, omega (arith, room, length-append d.records (r ∷ [])))
 
-derivations_stay : (e : Entry) (archive : ℕ) (d : Holdings) → (holds_entry e archive d).known.derivations ≡ d.known.derivations
+derivations_stay : (e : DeskEntry) (archive : ℕ) (d : Holdings) → (holds_entry e archive d).known.derivations ≡ d.known.derivations
 derivations_stay (entry.Source path) archive d = refl
 derivations_stay (entry.Record r) archive d = refl
 
-pins_stay : (e : Entry) (archive : ℕ) (d : Holdings) → (holds_entry e archive d).pins ≡ d.pins
+pins_stay : (e : DeskEntry) (archive : ℕ) (d : Holdings) → (holds_entry e archive d).pins ≡ d.pins
 pins_stay (entry.Source path) archive d = refl
 pins_stay (entry.Record r) archive d = refl
 
-pub charge_is : (e : Entry) (archive : ℕ) (d : Holdings) → (holds_entry e archive d).charge ≡ d.charge + charged_more (entry_path e) archive d
+pub charge_is : (e : DeskEntry) (archive : ℕ) (d : Holdings) → (holds_entry e archive d).charge ≡ d.charge + charged_more (entry_path e) archive d
 charge_is (entry.Source path) archive d = refl
 charge_is (entry.Record r) archive d = refl
 
-pub archives_are : (e : Entry) (archive : ℕ) (d : Holdings) → (holds_entry e archive d).archives ≡ with_archive (entry_path e, archive) d.archives
+pub archives_are : (e : DeskEntry) (archive : ℕ) (d : Holdings) → (holds_entry e archive d).archives ≡ with_archive (entry_path e, archive) d.archives
 archives_are (entry.Source path) archive d = refl
 archives_are (entry.Record r) archive d = refl
 
-pub sound-entry : (old new : List Source) (limit : ℕ) (d : Holdings) (tree : Tree) (e : Entry) → Extends old new → IsSound old limit d
+pub sound-entry : (old new : List Source) (limit : ℕ) (d : Holdings) (tree : Tree) (e : DeskEntry) → Extends old new → IsSound old limit d
     → IsThere old d (entry_path e) tree → tree_at (entry_path e) new ≡ Some tree
     → is_roomy e (charged_more (entry_path e) (length (nar tree)) d) limit d ≡ true → IsClosedWithEntry d e
     → IsSound new limit (holds_entry e (length (nar tree)) d)
@@ -225,7 +225,7 @@ sound-entry old new limit d tree e later sound there stored roomy closed =
 
 -- ---- adding it
 
-path_with : (tree : Tree) (e : Entry) → path_of_entry (entry_with tree e) ≡ entry_path e
+path_with : (tree : Tree) (e : DeskEntry) → path_of_entry (entry_with tree e) ≡ entry_path e
 path_with tree (entry.Source path) = refl
 path_with tree (entry.Record r) = refl
 
@@ -239,7 +239,7 @@ path_among (q ∷ records) r h = elim (or_cases (same_recorded q r) (list_any (�
 ]
 
 -- the path of an entry that is on a desk is in the table
-pub entry_known : (table : List Source) (limit : ℕ) (d : Holdings) (e : Entry) → IsSound table limit d → is_on e d ≡ true
+pub entry_known : (table : List Source) (limit : ℕ) (d : Holdings) (e : DeskEntry) → IsSound table limit d → is_on e d ≡ true
     → is_some (tree_at (entry_path e) table) ≡ true
 entry_known table limit d (entry.Source path) sound on = held_known table d.known.sources path (sources_known table limit d sound) on
 entry_known table limit d (entry.Record r) sound on = held_known table (map (λ q. q.path) d.records) r.path (records_known table limit d sound) (path_among d.records r on)
@@ -251,16 +251,16 @@ there_if_stored table limit d tree path true sound stored = λ held. stored
 there_if_stored table limit d tree path false sound stored = λ held. (let known = held_known table (paths_of d) path sound.known held in let none = rw stored at known in cc)
 
 -- an entry that is there, one too many, and one more
-pub entry_had : (users : List (List ℕ)) (beside : Beside) (limit : ℕ) (table : List Source) (d : Holdings) (tree : Tree) (e : Entry) → is_on e d ≡ true
+pub entry_had : (users : List (List ℕ)) (beside : Beside) (limit : ℕ) (table : List Source) (d : Holdings) (tree : Tree) (e : DeskEntry) → is_on e d ≡ true
     → add_entry (record { users = users; charge = limit }) (desk_of beside table d) (entry_with tree e) ≡ becomes (desk_of beside table d) (Path (entry_path e))
 entry_had users beside limit table d tree e on = rw (has_entry-is_on beside table d tree e, on) (ap (λ p. becomes (desk_of beside table d) (Path p)) (path_with tree e))
 
-pub entry_refused : (users : List (List ℕ)) (beside : Beside) (limit : ℕ) (table : List Source) (d : Holdings) (tree : Tree) (e : Entry) → IsSound table limit d
+pub entry_refused : (users : List (List ℕ)) (beside : Beside) (limit : ℕ) (table : List Source) (d : Holdings) (tree : Tree) (e : DeskEntry) → IsSound table limit d
     → IsThere table d (entry_path e) tree → is_on e d ≡ false
     → is_roomy e (charged_more (entry_path e) (length (nar tree)) d) limit d ≡ false → add_entry (record { users = users; charge = limit }) (desk_of beside table d) (entry_with tree e) ≡ Err Quota
 entry_refused users beside limit table d tree e sound there on over = rw (has_entry-is_on beside table d tree e, on, is_within-entry users beside table limit d tree e sound there, over) refl
 
-pub entry_new : (users : List (List ℕ)) (beside : Beside) (limit : ℕ) (table : List Source) (d : Holdings) (tree : Tree) (e : Entry) → IsSound table limit d
+pub entry_new : (users : List (List ℕ)) (beside : Beside) (limit : ℕ) (table : List Source) (d : Holdings) (tree : Tree) (e : DeskEntry) → IsSound table limit d
     → IsThere table d (entry_path e) tree → is_on e d ≡ false
     → is_roomy e (charged_more (entry_path e) (length (nar tree)) d) limit d ≡ true
     → add_entry (record { users = users; charge = limit }) (desk_of beside table d) (entry_with tree e) ≡ becomes (with_entry (entry_with tree e) (desk_of beside table d)) (Path (entry_path e))

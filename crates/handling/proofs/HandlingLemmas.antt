@@ -20,11 +20,11 @@ use Rattle.model.specs.SourceRequests.{fetch}
 use Rattle.model.specs.Replies.{is_clash_refusal, is_refused}
 use Rattle.model.specs.Steps.{outcome, outcome_of}
 use Rattle.events.specs.declared.reply.Reply as Rust
-use Rattle.records.specs.declared.entry.Entry.{Entry}
-use Rattle.records.specs.declared.entry.Entry.TheVariants as entry
+use Rattle.records.specs.declared.desk_entry.DeskEntry.{DeskEntry}
+use Rattle.records.specs.declared.desk_entry.DeskEntry.TheVariants as entry
 use Rattle.trust.specs.Naming.{place_of, trusted_at, IsWithin}
 use Rattle.store.specs.Stored.{IsAdded, IsTaken, Extends}
-use Rattle.records.specs.Entries.{entry_path, entry_with}
+use Rattle.records.specs.DeskEntries.{entry_path, entry_with}
 use Rattle.realise.specs.Holdings.{Holdings}
 use Rattle.handling.specs.Stored.{stored_by, tried_by}
 use Rattle.handling.specs.Sound.{Beside, desk_of, IsSound, AreGoalsSound, IsHashed}
@@ -296,7 +296,7 @@ left beside limit table desk request result sound plans serves at_once takes ans
 }
 
 -- an entry is added with its tree
-pub entry_handled : (beside : Beside) (limit : ℕ) (old new : List Source) (before now : Holdings) (request : Request) (entry : Entry) (tree : Tree)
+pub entry_handled : (beside : Beside) (limit : ℕ) (old new : List Source) (before now : Holdings) (request : Request) (entry : DeskEntry) (tree : Tree)
     (result : Result Rust.Reply Refusal)
     → let s : Source = record { path = entry_path entry; tree = tree } in
     IsSound old limit before
@@ -346,7 +346,7 @@ entry_handled beside limit old new before now request entry tree result sound as
 -- a source is added
 pub source_handled : (beside : Beside) (limit : ℕ) (old new : List Source) (before now : Holdings) (name : List ℕ) (tree : Tree) (path : List ℕ)
     (result : Result Rust.Reply Refusal)
-    → let entry : Entry = entry.Source path in
+    → let entry : DeskEntry = entry.Source path in
     IsSound old limit before → path ≡ source_path tree name → IsTree tree → AddsEntry limit old before entry tree result new now
     → IfOk result (λ r. is_refused (reply_of r) ≡ false)
     → OnOk result (IsAdded path tree old new) → OnOk result (IsSound new limit now) → OnErr result (IsKept old new before now)

@@ -16,9 +16,9 @@ use Rattle.model.specs.Steps.{outcome, outcome_of}
 use Rattle.model.specs.HashedTexts.{texts_of, texts_of_event}
 use Rattle.events.specs.declared.reply.Reply.{Reply}
 use Rattle.trust.specs.Naming.{place_of, trusted_at, IsWithin}
-use Rattle.records.specs.declared.entry.Entry.{Entry}
+use Rattle.records.specs.declared.desk_entry.DeskEntry.{DeskEntry}
 use Rattle.store.specs.Stored.{put_all, Extends}
-use Rattle.records.specs.Entries.{entry_with}
+use Rattle.records.specs.DeskEntries.{entry_with}
 use Rattle.realise.specs.Holdings.{Holdings}
 use Rattle.handling.specs.Stored.{stored_by, IsTakenFor}
 use Rattle.handling.specs.Sound.{Beside, desk_of, IsSound, AreGoalsSound, IsHashed, Clashes}
@@ -119,7 +119,7 @@ abbrev pub IsHandledByDesk : List Source → Holdings → Request → Result Rep
 IsHandledByDesk table before request result after = (limit : ℕ) → IsSound table limit before → IsHandledAtDesk limit table before request result table after
 
 -- an entry that is added with its tree: the reply is the model's, and so is the desk after it
-abbrev pub AddsEntry : ℕ → List Source → Holdings → Entry → Tree → Result Reply Refusal → List Source → Holdings → Type 0
+abbrev pub AddsEntry : ℕ → List Source → Holdings → DeskEntry → Tree → Result Reply Refusal → List Source → Holdings → Type 0
 AddsEntry limit old before entry tree result new after = (users : List (List ℕ)) (beside : Beside)
     → Fits (add_entry (record { users = users; charge = limit }) (desk_of beside old before) (entry_with tree entry)) (desk_of beside new after) result
 

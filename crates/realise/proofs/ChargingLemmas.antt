@@ -9,10 +9,10 @@ use Rattle.indexmap.specs.IndexSet.{insert_key}
 use Rattle.model.specs.Classes.{is_one_of}
 use Rattle.admitted.proofs.EntryLemmas.{one_of_keys, any_insert}
 use Rattle.records.specs.Recorded.{Recorded}
-use Rattle.records.specs.declared.entry.Entry.{Entry}
-use Rattle.records.specs.declared.entry.Entry.TheVariants as entry
+use Rattle.records.specs.declared.desk_entry.DeskEntry.{DeskEntry}
+use Rattle.records.specs.declared.desk_entry.DeskEntry.TheVariants as entry
 use Rattle.realise.specs.Held.{charged_beside, IsSetOf}
-use Rattle.records.specs.Entries.{entry_path}
+use Rattle.records.specs.DeskEntries.{entry_path}
 use Rattle.realise.specs.Holdings.{Holdings, paths_of, archive_of, holds_entry}
 use Rattle.records.proofs.LoopLemmas.{drop_next}
 
@@ -21,12 +21,12 @@ counted_or_not true n rest total h = omega arith
 counted_or_not false n rest total h = omega arith
 
 -- no more is charged than the archives have bytes
-pub no_more : (es : List (Entry × ℕ)) (paths : List (List ℕ)) → charged_beside (map archive_of es) paths ≤ sum_by (λ e. e.1) es
+pub no_more : (es : List (DeskEntry × ℕ)) (paths : List (List ℕ)) → charged_beside (map archive_of es) paths ≤ sum_by (λ e. e.1) es
 no_more [] paths = omega arith
 no_more (e ∷ es) paths =
     let next = paths ++ entry_path e.0 ∷ [] in
     let here = is_one_of paths (entry_path e.0) in
-    subst (λ n. charged_beside (map archive_of (e ∷ es)) paths ≤ n) (sym (sum_by-cons (λ (f : Entry × ℕ). f.1) e es))
+    subst (λ n. charged_beside (map archive_of (e ∷ es)) paths ≤ n) (sym (sum_by-cons (λ (f : DeskEntry × ℕ). f.1) e es))
     (counted_or_not here e.1 (charged_beside (map archive_of es) next) (sum_by (λ f. f.1) es) (no_more es next))
 
 -- what is charged is told by which paths are among those that are held, and not by their order
@@ -69,7 +69,7 @@ pub beside : (test : List ℕ → Bool) (held counted : List (List ℕ)) → lis
 beside test held counted absent = list_any-append test held counted ∙ ap (λ b. b || list_any test counted) absent
 
 -- so much was counted for the entries in front, whose paths are held or were counted; the next entry follows
-module _ (held counted : List (List ℕ)) (es : List (Entry × ℕ)) (i more : ℕ) (e : Entry × ℕ) (lt : i < length es) (is : e ≡ get_or es i e)
+module _ (held counted : List (List ℕ)) (es : List (DeskEntry × ℕ)) (i more : ℕ) (e : DeskEntry × ℕ) (lt : i < length es) (is : e ≡ get_or es i e)
     (so_far : more + charged_beside (map archive_of (drop i es)) (held ++ counted) ≡ charged_beside (map archive_of es) held) where
   abbrev path : List ℕ
   path = entry_path e.0
@@ -114,7 +114,7 @@ any_moved test xs ys path =
     ∙ ap (λ b. b || list_any test ys) (sym (list_any-append test xs (path ∷ []))) ∙ sym (list_any-append test (xs ++ path ∷ []) ys)
 
 -- the paths of a desk with one entry more
-pub paths_more : (test : List ℕ → Bool) (e : Entry) (archive : ℕ) (d : Holdings)
+pub paths_more : (test : List ℕ → Bool) (e : DeskEntry) (archive : ℕ) (d : Holdings)
     → list_any test (paths_of d ++ entry_path e ∷ []) ≡ list_any test (paths_of (holds_entry e archive d))
 paths_more test (entry.Source path) archive d = any_moved test d.known.sources (map (λ r. r.path) d.records) path
 paths_more test (entry.Record r) archive d =

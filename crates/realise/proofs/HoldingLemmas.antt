@@ -11,9 +11,9 @@ use Rattle.indexmap.specs.IndexSet.{insert_key}
 use Rattle.model.specs.Classes.{is_one_of}
 use Rattle.model.proofs.BoolLemmas.{either}
 use Rattle.admitted.proofs.EntryLemmas.{one_of_keys, any_insert}
-use Rattle.records.specs.declared.entry.Entry.{Entry}
+use Rattle.records.specs.declared.desk_entry.DeskEntry.{DeskEntry}
 use Rattle.realise.specs.Held.{paths_held, bytes_held, with_archive, with_archives, charged_beside, IsSetOf}
-use Rattle.records.specs.Entries.{entry_path}
+use Rattle.records.specs.DeskEntries.{entry_path}
 use Rattle.realise.specs.Holdings.{Holdings, paths_of, archive_of, holds_entry, holds_each, charged_more, charged_all}
 use Rattle.realise.proofs.ChargingLemmas.{paths_more}
 
@@ -99,7 +99,7 @@ next_fits a rest held all is fits =
 -- ---- entries
 
 -- what is charged for entries, one after another
-pub charged_entries : (es : List (Entry × ℕ)) (paths : List (List ℕ)) (d : Holdings) → IsSetOf paths (paths_of d)
+pub charged_entries : (es : List (DeskEntry × ℕ)) (paths : List (List ℕ)) (d : Holdings) → IsSetOf paths (paths_of d)
     → charged_beside (map archive_of es) paths ≡ charged_all es d
 charged_entries [] paths d set = refl
 charged_entries (e ∷ es) paths d set =
@@ -114,7 +114,7 @@ charged_entries (e ∷ es) paths d set =
     λ i. first i + rest i
 
 -- the paths that are held with them
-pub held_entries : (es : List (Entry × ℕ)) (paths : List (List ℕ)) (d : Holdings) → IsSetOf paths (paths_of d)
+pub held_entries : (es : List (DeskEntry × ℕ)) (paths : List (List ℕ)) (d : Holdings) → IsSetOf paths (paths_of d)
     → IsSetOf (paths ++ paths_held (map archive_of es)) (paths_of (holds_each es d))
 held_entries [] paths d set q = ap (list_any (bytes_eq q)) (append-nil paths) ∙ set q
 held_entries (e ∷ es) paths d set q =

@@ -9,11 +9,11 @@ use Rattle.model.specs.declared.refusal.Refusal.TheVariants.{Memory}
 use Rattle.model.specs.Classes.{Known, Admission, Class}
 use Rattle.model.specs.Worlds.{Label}
 use Rattle.records.specs.Recorded.{Recorded}
-use Rattle.records.specs.declared.entry.Entry.{Entry}
-use Rattle.records.specs.declared.entry.Entry.TheVariants as entry
+use Rattle.records.specs.declared.desk_entry.DeskEntry.{DeskEntry}
+use Rattle.records.specs.declared.desk_entry.DeskEntry.TheVariants as entry
 use Rattle.realise.specs.declared.desk.Desk.TheInside.{Inside}
 use Rattle.realise.specs.Held.{Held, paths_held, bytes_held, with_archive, with_archives, charged_beside, IsSetOf}
-use Rattle.records.specs.Entries.{entry_path}
+use Rattle.records.specs.DeskEntries.{entry_path}
 use Rattle.realise.specs.Holdings.{Holdings, paths_of, archive_of, is_on, known_with, records_with, IsNewSource, holds_entry, holds_each, charged_more, charged_all, is_at, has_labelled, IsClosed, IsClosedWith, IsClosedWithEntry}
 use Rattle.realise.specs.Kept.{holdings_of, IsConsistent}
 use Rattle.realise.proofs.HoldingLemmas.{bytes_with, held_with, bytes_beside, held_beside, charged_entries, held_entries}
@@ -44,15 +44,15 @@ kept d known records holding known_is records_are archives_are is =
 -- ---- one entry more
 
 -- a desk with an entry more among its sources or its records
-abbrev pub has_entry : Entry → Held → Inside → Inside
+abbrev pub has_entry : DeskEntry → Held → Inside → Inside
 has_entry e held d = record d { known = known_with e d.known; records = records_with e d.records; holding = held }
 
 -- a source that is not on a desk is not known there
-pub new_source : (e : Entry) (d : Holdings) → is_on e d ≡ false → IsNewSource e d.known
+pub new_source : (e : DeskEntry) (d : Holdings) → is_on e d ≡ false → IsNewSource e d.known
 new_source (entry.Source path) d absent = absent
 new_source (entry.Record r) d absent = tt
 
-module _ (d : Inside) (is : IsConsistent d) (e : Entry) (archive : ℕ) where
+module _ (d : Inside) (is : IsConsistent d) (e : DeskEntry) (archive : ℕ) where
   abbrev before : Holdings
   before = holdings_of d
 
@@ -68,7 +68,7 @@ module _ (d : Inside) (is : IsConsistent d) (e : Entry) (archive : ℕ) where
 
 module _ (d : Inside) (is : IsConsistent d) where
   -- the desk then
-  pub entry_view : (e : Entry) (archive : ℕ) (held new : Held) → held.archives ≡ d.holding.archives
+  pub entry_view : (e : DeskEntry) (archive : ℕ) (held new : Held) → held.archives ≡ d.holding.archives
       → new.archives ≡ with_archive (entry_path e, archive) held.archives
       → holdings_of (record (has_entry e held d) { holding = new }) ≡ holds_entry e archive (holdings_of d)
   entry_view (entry.Source path) archive held new same put =
@@ -81,19 +81,19 @@ module _ (d : Inside) (is : IsConsistent d) where
       λ i. record (holdings_of d) { records = d.records ++ r ∷ []; archives = there i; charge = bytes i }
 
 -- what a label names is on the desk still
-still_labelled : (e : Entry) (archive : ℕ) (d : Holdings) (path : List ℕ) (class : Option Class) → has_labelled d path class ≡ true
+still_labelled : (e : DeskEntry) (archive : ℕ) (d : Holdings) (path : List ℕ) (class : Option Class) → has_labelled d path class ≡ true
     → has_labelled (holds_entry e archive d) path class ≡ true
 still_labelled (entry.Source own) archive d path None is = list_any-append (λ p. bytes_eq p path) d.known.sources (own ∷ []) ∙ rw is refl
 still_labelled (entry.Source own) archive d path (Some class) is = is
 still_labelled (entry.Record r) archive d path None is = is
 still_labelled (entry.Record r) archive d path (Some class) is = list_any-append (is_at path class) d.records (r ∷ []) ∙ rw is refl
 
-still_closed : (e : Entry) (archive : ℕ) (d : Holdings) (r : Recorded) → IsClosedWith d r → IsClosedWith (holds_entry e archive d) r
+still_closed : (e : DeskEntry) (archive : ℕ) (d : Holdings) (r : Recorded) → IsClosedWith d r → IsClosedWith (holds_entry e archive d) r
 still_closed e archive d r =
     All-weaker (λ (l : Label). has_labelled d l.path l.class ≡ true) (λ (l : Label). has_labelled (holds_entry e archive d) l.path l.class ≡ true)
     (λ l is. still_labelled e archive d l.path l.class is) r.labels
 
-closed_with : (e : Entry) (archive : ℕ) (d : Holdings) → IsClosed d → IsClosedWithEntry d e → IsClosed (holds_entry e archive d)
+closed_with : (e : DeskEntry) (archive : ℕ) (d : Holdings) → IsClosed d → IsClosedWithEntry d e → IsClosed (holds_entry e archive d)
 closed_with (entry.Source path) archive d closed own =
     All-weaker (IsClosedWith d) (IsClosedWith (holds_entry (entry.Source path) archive d)) (still_closed (entry.Source path) archive d) d.records closed
 closed_with (entry.Record r) archive d closed own =
@@ -102,7 +102,7 @@ closed_with (entry.Record r) archive d closed own =
     (still_closed (entry.Record r) archive d r own)
 
 -- it keeps what its type keeps
-pub entry_kept : (d : Inside) → IsConsistent d → (e : Entry) (archive : ℕ) (held new : Held) → IsClosedWithEntry (holdings_of d) e
+pub entry_kept : (d : Inside) → IsConsistent d → (e : DeskEntry) (archive : ℕ) (held new : Held) → IsClosedWithEntry (holdings_of d) e
     → held.archives ≡ d.holding.archives → new.archives ≡ with_archive (entry_path e, archive) held.archives
     → IsConsistent (record (has_entry e held d) { holding = new })
 entry_kept d is e archive held new own same put =
@@ -117,7 +117,7 @@ entry_kept d is e archive held new own same put =
 
 -- ---- several entries more
 
-module _ (d : Inside) (is : IsConsistent d) (es : List (Entry × ℕ)) (archives : List (List ℕ × ℕ)) (are : archives ≡ map archive_of es) where
+module _ (d : Inside) (is : IsConsistent d) (es : List (DeskEntry × ℕ)) (archives : List (List ℕ × ℕ)) (are : archives ≡ map archive_of es) where
   abbrev now : Holdings
   now = holdings_of d
 

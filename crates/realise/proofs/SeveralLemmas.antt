@@ -10,9 +10,9 @@ use Rattle.model.specs.Worlds.{are_distinct}
 use Rattle.model.proofs.BoolLemmas.{both_parts, bytes_eq_sym}
 use Rattle.admitted.specs.Entries.{AreNew}
 use Rattle.records.specs.Recorded.{Recorded}
-use Rattle.records.specs.declared.entry.Entry.{Entry}
-use Rattle.records.specs.declared.entry.Entry.TheVariants as entry
-use Rattle.records.specs.Entries.{entry_path}
+use Rattle.records.specs.declared.desk_entry.DeskEntry.{DeskEntry}
+use Rattle.records.specs.declared.desk_entry.DeskEntry.TheVariants as entry
+use Rattle.records.specs.DeskEntries.{entry_path}
 use Rattle.realise.specs.Held.{with_archive, with_archives}
 use Rattle.realise.specs.Holdings.{Holdings, archive_of, is_on, holds_entry, holds_each, charged_more, charged_all, bare, sources_in, records_in, AreAbsent}
 
@@ -28,7 +28,7 @@ with_parts sources records archives more d = record d {
 }
 
 -- one entry first, and then the parts of the others
-parts_after : (e : Entry) (archive more : ℕ) (es : List Entry) (archives : List (List ℕ × ℕ)) (d : Holdings)
+parts_after : (e : DeskEntry) (archive more : ℕ) (es : List DeskEntry) (archives : List (List ℕ × ℕ)) (d : Holdings)
     → with_parts (sources_in es) (records_in es) archives more (holds_entry e archive d)
     ≡ with_parts (sources_in (e ∷ es)) (records_in (e ∷ es)) ((entry_path e, archive) ∷ archives) (charged_more (entry_path e) archive d + more) d
 unfolding with_archives
@@ -50,7 +50,7 @@ parts_after (entry.Record r) archive more es archives d =
     }
 
 -- entries added one after another are their sources, their records and their archives
-pub each_parts : (es : List (Entry × ℕ)) (d : Holdings)
+pub each_parts : (es : List (DeskEntry × ℕ)) (d : Holdings)
     → holds_each es d ≡ with_parts (sources_in (bare es)) (records_in (bare es)) (map archive_of es) (charged_all es d) d
 unfolding with_archives
 each_parts [] d =
@@ -65,7 +65,7 @@ each_parts (e ∷ es) d =
     each_parts es next ∙ parts_after e.0 e.1 (charged_all es next) (bare es) (map archive_of es) d
 
 -- what is known, the records, the archives and the charge together
-pub made : (es : List (Entry × ℕ)) (d : Holdings) (known : Known) (paths : List (List ℕ)) (added new : List Recorded) (archives : List (List ℕ × ℕ)) (charge : ℕ)
+pub made : (es : List (DeskEntry × ℕ)) (d : Holdings) (known : Known) (paths : List (List ℕ)) (added new : List Recorded) (archives : List (List ℕ × ℕ)) (charge : ℕ)
     → paths ≡ sources_in (bare es) → added ≡ records_in (bare es) → known ≡ record d.known { sources = d.known.sources ++ paths } → new ≡ d.records ++ added
     → archives ≡ with_archives (map archive_of es) d.archives → charge ≡ d.charge + charged_all es d
     → record d { known = known; records = new; archives = archives; charge = charge } ≡ holds_each es d
@@ -77,7 +77,7 @@ made es d known paths added new archives charge are_paths are_added known_is new
 
 -- ---- the sources among them
 
-sources_absent : (es : List Entry) (d : Holdings) → All (λ e. is_on e d ≡ false) es → All (λ path. is_one_of d.known.sources path ≡ false) (sources_in es)
+sources_absent : (es : List DeskEntry) (d : Holdings) → All (λ e. is_on e d ≡ false) es → All (λ path. is_one_of d.known.sources path ≡ false) (sources_in es)
 sources_absent [] d all = All-nil (λ path. is_one_of d.known.sources path ≡ false)
 sources_absent (entry.Source path ∷ es) d all =
     All-cons (λ p. is_one_of d.known.sources p ≡ false) path (sources_in es) (All-head (λ e. is_on e d ≡ false) (entry.Source path) es all)
@@ -106,5 +106,5 @@ new_paths known (path ∷ paths) all distinct =
       new_paths (known ++ path ∷ []) paths (still_absent known paths path (All-tail (λ p. is_one_of known p ≡ false) path paths all) others) both.1,
     )
 
-pub sources_new : (es : List Entry) (d : Holdings) → AreAbsent es d → AreNew d.known.sources (sources_in es)
+pub sources_new : (es : List DeskEntry) (d : Holdings) → AreAbsent es d → AreNew d.known.sources (sources_in es)
 sources_new es d absent = new_paths d.known.sources (sources_in es) (sources_absent es d absent.absent) absent.distinct

@@ -6,9 +6,9 @@ use Rattle.model.specs.Worlds.{Pin, are_distinct}
 use Rattle.model.specs.Limits.{most_sources, most_records}
 use Rattle.model.specs.ForgetRequests.{is_class_at}
 use Rattle.records.specs.Recorded.{Recorded, same_recorded}
-use Rattle.records.specs.Entries.{entry_path}
-use Rattle.records.specs.declared.entry.Entry.{Entry}
-use Rattle.records.specs.declared.entry.Entry.TheVariants as entry
+use Rattle.records.specs.DeskEntries.{entry_path}
+use Rattle.records.specs.declared.desk_entry.DeskEntry.{DeskEntry}
+use Rattle.records.specs.declared.desk_entry.DeskEntry.TheVariants as entry
 use Rattle.realise.specs.Held.{with_archive, without_archive, bytes_at}
 
 -- ---- desks
@@ -74,7 +74,7 @@ without_records class path d = record d {
 -- ---- entries
 
 -- whether an entry is on a desk
-abbrev pub is_on : Entry → Holdings → Bool
+abbrev pub is_on : DeskEntry → Holdings → Bool
 is_on (entry.Source path) d = is_one_of d.known.sources path
 is_on (entry.Record r) d = list_any (λ q. same_recorded q r) d.records
 
@@ -83,7 +83,7 @@ abbrev pub charged_more : List ℕ → ℕ → Holdings → ℕ
 charged_more path archive d = if is_one_of (paths_of d) path then 0 else archive
 
 -- a desk with one entry more, whose archive has so many bytes: they are charged unless its path is held
-abbrev pub holds_entry : Entry → ℕ → Holdings → Holdings
+abbrev pub holds_entry : DeskEntry → ℕ → Holdings → Holdings
 holds_entry (entry.Source path) archive d = record d {
   known = record d.known { sources = d.known.sources ++ path ∷ [] };
   archives = with_archive (path, archive) d.archives;
@@ -96,71 +96,71 @@ holds_entry (entry.Record r) archive d = record d {
 }
 
 -- what is known, and the records, with one entry more
-abbrev pub known_with : Entry → Known → Known
+abbrev pub known_with : DeskEntry → Known → Known
 known_with (entry.Source path) known = record known { sources = known.sources ++ path ∷ [] }
 known_with (entry.Record r) known = known
 
-abbrev pub records_with : Entry → List Recorded → List Recorded
+abbrev pub records_with : DeskEntry → List Recorded → List Recorded
 records_with (entry.Source path) records = records
 records_with (entry.Record r) records = records ++ r ∷ []
 
 -- a source that is not known yet; of a record nothing is asked
-abbrev pub IsNewSource : Entry → Known → Type 0
+abbrev pub IsNewSource : DeskEntry → Known → Type 0
 IsNewSource (entry.Source path) known = is_one_of known.sources path ≡ false
 IsNewSource (entry.Record r) known = Unit {0}
 
 -- whether a desk may have one such entry more
-abbrev pub has_place : Entry → Holdings → Bool
+abbrev pub has_place : DeskEntry → Holdings → Bool
 has_place (entry.Source path) d = nat_lt (length d.known.sources) most_sources
 has_place (entry.Record r) d = nat_lt (length d.records) most_records
 
 -- whether a desk may have one such entry more, and be charged so many bytes more
-abbrev pub is_roomy : Entry → ℕ → ℕ → Holdings → Bool
+abbrev pub is_roomy : DeskEntry → ℕ → ℕ → Holdings → Bool
 is_roomy e more limit d = has_place e d && nat_le (d.charge + more) limit
 
 -- ---- several entries
 
 -- what a desk is charged more for entries whose archives have so many bytes, one after another
-abbrev pub charged_all : List (Entry × ℕ) → Holdings → ℕ
+abbrev pub charged_all : List (DeskEntry × ℕ) → Holdings → ℕ
 charged_all [] d = 0
 charged_all (e ∷ es) d = charged_more (entry_path e.0) e.1 d + charged_all es (holds_entry e.0 e.1 d)
 
 -- a desk with these entries more, one after another
-abbrev pub holds_each : List (Entry × ℕ) → Holdings → Holdings
+abbrev pub holds_each : List (DeskEntry × ℕ) → Holdings → Holdings
 holds_each [] d = d
 holds_each (e ∷ es) d = holds_each es (holds_entry e.0 e.1 d)
 
 -- the archives have fewer bytes together than can be counted
-abbrev pub AreCountable : List (Entry × ℕ) → Type 0
+abbrev pub AreCountable : List (DeskEntry × ℕ) → Type 0
 AreCountable entries = sum_by (λ e. e.1) entries < 2 ^ 64
 
 -- the sources among entries, and the records
-abbrev pub sources_in : List Entry → List (List ℕ)
+abbrev pub sources_in : List DeskEntry → List (List ℕ)
 sources_in [] = []
 sources_in (entry.Source path ∷ es) = path ∷ sources_in es
 sources_in (entry.Record r ∷ es) = sources_in es
 
-abbrev pub records_in : List Entry → List Recorded
+abbrev pub records_in : List DeskEntry → List Recorded
 records_in [] = []
 records_in (entry.Source path ∷ es) = records_in es
 records_in (entry.Record r ∷ es) = r ∷ records_in es
 
 -- entries without the bytes of their archives
-abbrev pub bare : List (Entry × ℕ) → List Entry
+abbrev pub bare : List (DeskEntry × ℕ) → List DeskEntry
 bare entries = map (λ e. e.0) entries
 
 -- the path of an entry, with the bytes of its archive
-abbrev pub archive_of : Entry × ℕ → List ℕ × ℕ
+abbrev pub archive_of : DeskEntry × ℕ → List ℕ × ℕ
 archive_of e = (entry_path e.0, e.1)
 
 -- these paths are the sources among entries, these records their records, and these archives those of all
-pub record AreParts (entries : List (Entry × ℕ)) (paths : List (List ℕ)) (records : List Recorded) (archives : List (List ℕ × ℕ)) : Type 0 where
+pub record AreParts (entries : List (DeskEntry × ℕ)) (paths : List (List ℕ)) (records : List Recorded) (archives : List (List ℕ × ℕ)) : Type 0 where
   pub paths_are : paths ≡ sources_in (bare entries)
   pub records_are : records ≡ records_in (bare entries)
   pub archives_are : archives ≡ map archive_of entries
 
 -- none of the entries is on a desk, and no source comes twice
-pub record AreAbsent (entries : List Entry) (d : Holdings) : Type 0 where
+pub record AreAbsent (entries : List DeskEntry) (d : Holdings) : Type 0 where
   pub absent : All (λ e. is_on e d ≡ false) entries
   pub distinct : are_distinct (sources_in entries) ≡ true
 
@@ -180,7 +180,7 @@ abbrev pub IsClosedWith : Holdings → Recorded → Type 0
 IsClosedWith d r = All (λ l. has_labelled d l.path l.class ≡ true) r.labels
 
 -- and what the labels of an entry name; a source has none
-abbrev pub IsClosedWithEntry : Holdings → Entry → Type 0
+abbrev pub IsClosedWithEntry : Holdings → DeskEntry → Type 0
 IsClosedWithEntry d (entry.Source path) = Unit {0}
 IsClosedWithEntry d (entry.Record r) = IsClosedWith d r
 

@@ -5,7 +5,7 @@ ghost use Rattle.std.specs.Option.{option_copied};
 ghost use Rattle.model.specs.Classes.{known_at, is_one_of};
 ghost use Rattle.model.specs.Worlds.{pinned, unpinned};
 ghost use Rattle.admitted.specs.Entries.{AreNew};
-ghost use Rattle.records.specs.Entries.{entry_path};
+ghost use Rattle.records.specs.DeskEntries.{entry_path};
 ghost use Rattle.std.specs.Map.Iter.{ShowsInOrder, deref};
 ghost use Rattle.realise.specs.Held.{paths_held, IsSetOf};
 ghost use Rattle.realise.specs.Holdings.{known_with, records_with, IsNewSource, records_of, paths_of, is_on, has_place, charged_more, holds_entry, holds_derivation, with_pins, bare, IsClosed, IsClosedWithEntry, holds_each, charged_all, AreAbsent, AreCountable};
@@ -19,7 +19,7 @@ use crate::pins::Pins;
 use admitted::{Admitted, Known};
 use indexmap::map::Keys;
 use model::Refusal;
-use records::{Entry, Record};
+use records::{DeskEntry, Record};
 use std::alloc::Global;
 use std::hash::RandomState;
 use std::marker::Model;
@@ -66,7 +66,7 @@ fn put_entry(
     alloc: Global,
     known: &mut Known,
     records: &mut Records,
-    entry: Entry,
+    entry: DeskEntry,
 ) -> Result<(), Refusal>
     requires absent { IsNewSource entry known.old }
     ensures { MatchResult result
@@ -75,8 +75,8 @@ fn put_entry(
         (λ e. (e ≡ Memory) × (known.new ≡ known.old) × (records.new ≡ records.old)) }
 {
     match entry {
-        Entry::Source(source) => known.add_source(source),
-        Entry::Record(record) => records.push(alloc, record),
+        DeskEntry::Source(source) => known.add_source(source),
+        DeskEntry::Record(record) => records.push(alloc, record),
     }
 }
 
@@ -110,7 +110,7 @@ fn put_entry_if<F: FnOnce() -> Result<bool, Refusal>>(
     alloc: Global,
     known: &mut Known,
     records: &mut Records,
-    entry: Entry,
+    entry: DeskEntry,
     check: F,
 ) -> Result<bool, Refusal>
     requires callable { F.IsAlwaysCallable check }
@@ -214,22 +214,22 @@ impl Desk {
     }
 
     /// Whether an entry is on the desk.
-    pub fn has(&self, entry: &Entry) -> bool
+    pub fn has(&self, entry: &DeskEntry) -> bool
         ensures { result ≡ is_on entry.now self.now }
     {
         match entry {
-            Entry::Source(path) => self.known.has_source(path),
-            Entry::Record(added) => self.records.has(added),
+            DeskEntry::Source(path) => self.known.has_source(path),
+            DeskEntry::Record(added) => self.records.has(added),
         }
     }
 
     /// Whether there may be one such entry more.
-    pub fn has_place_for(&self, entry: &Entry) -> bool
+    pub fn has_place_for(&self, entry: &DeskEntry) -> bool
         ensures { result ≡ has_place entry.now self.now }
     {
         match entry {
-            Entry::Source(_) => self.known.source_count() < MOST_SOURCES,
-            Entry::Record(_) => self.records.as_slice().len() < MOST_RECORDS,
+            DeskEntry::Source(_) => self.known.source_count() < MOST_SOURCES,
+            DeskEntry::Record(_) => self.records.as_slice().len() < MOST_RECORDS,
         }
     }
 
@@ -253,7 +253,7 @@ impl Desk {
     pub fn add_if<F: FnOnce() -> Result<bool, Refusal>>(
         &mut self,
         alloc: Global,
-        entry: Entry,
+        entry: DeskEntry,
         archive: u64,
         check: F,
     ) -> Result<bool, Refusal>
@@ -278,7 +278,7 @@ impl Desk {
     /// # Errors
     ///
     /// - `Memory` only where memory was refused.
-    pub fn charged_for_all(&self, alloc: Global, entries: &[(Entry, u64)]) -> Result<u64, Refusal>
+    pub fn charged_for_all(&self, alloc: Global, entries: &[(DeskEntry, u64)]) -> Result<u64, Refusal>
         requires { AreCountable entries.now }
         ensures { MatchResult result
             (λ more. more ≡ charged_all entries.now self.now)
@@ -294,7 +294,7 @@ impl Desk {
     /// # Errors
     ///
     /// - `Memory` only where memory was refused. Then nothing has changed.
-    pub fn add_all(&mut self, alloc: Global, entries: Vec<(Entry, u64)>) -> Result<(), Refusal>
+    pub fn add_all(&mut self, alloc: Global, entries: Vec<(DeskEntry, u64)>) -> Result<(), Refusal>
         requires absent { AreAbsent (bare entries.items) self.old }
         requires fits { self.old.charge + charged_all entries.items self.old < 2 ^ 64 }
         requires closed { IsClosed (holds_each entries.items self.old) }

@@ -11,7 +11,7 @@ ghost use Rattle.model.specs.declared.refusal.Refusal.TheVariants.{Memory};
 use indexmap::map::Keys;
 use indexmap::{IndexMap, IndexSet};
 use model::Refusal;
-use records::Entry;
+use records::DeskEntry;
 use std::alloc::{AllocError, Global};
 use std::hash::RandomState;
 use std::marker::Model;
@@ -86,7 +86,7 @@ impl Holding {
     fn charged_beside(
         &self,
         counted: &mut IndexSet<StorePath, RandomState>,
-        entries: &[(Entry, u64)],
+        entries: &[(DeskEntry, u64)],
     ) -> Result<u64, Refusal>
         requires countable { AreCountable entries.now }
         requires fresh { counted.old.keys ≡ [] }
@@ -111,7 +111,7 @@ impl Holding {
     pub(crate) fn charged_for_all(
         &self,
         alloc: Global,
-        entries: &[(Entry, u64)],
+        entries: &[(DeskEntry, u64)],
     ) -> Result<u64, Refusal>
         requires { AreCountable entries.now }
         ensures { let archives = map archive_of entries.now in MatchResult result

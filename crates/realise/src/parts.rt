@@ -1,12 +1,12 @@
 //! What entries are put on a desk as.
 
 ghost use Rattle.std.specs.Prelude.{◌≡◌, [], ◌∷◌, ◌++◌, OnOk, IfErr, MatchResult};
-ghost use Rattle.records.specs.Entries.{entry_path};
+ghost use Rattle.records.specs.DeskEntries.{entry_path};
 ghost use Rattle.realise.specs.Holdings.{sources_in, records_in, AreParts};
 ghost use Rattle.model.specs.declared.refusal.Refusal.TheVariants.{Memory};
 
 use model::Refusal;
-use records::{Entry, Record};
+use records::{DeskEntry, Record};
 use std::alloc::Global;
 use storepath::StorePath;
 
@@ -34,7 +34,7 @@ impl Parts {
     }
 
     /// Adds an entry with the bytes of its archive. The one error is memory.
-    fn push(&mut self, entry: Entry, archive: u64) -> Result<(), Refusal>
+    fn push(&mut self, entry: DeskEntry, archive: u64) -> Result<(), Refusal>
         ensures sources { OnOk result
             (self.new.sources.items ≡ self.old.sources.items ++ sources_in (entry ∷ [])) }
         ensures records { OnOk result
@@ -45,15 +45,15 @@ impl Parts {
     {
         self.archives.push((entry.path().clone()?, archive))?;
         match entry {
-            Entry::Source(path) => self.sources.push(path)?,
-            Entry::Record(record) => self.records.push(record)?,
+            DeskEntry::Source(path) => self.sources.push(path)?,
+            DeskEntry::Record(record) => self.records.push(record)?,
         }
         Ok(())
     }
 }
 
 /// The parts of entries with the bytes of their archives. The one error is memory.
-pub(crate) fn parted(alloc: Global, entries: Vec<(Entry, u64)>) -> Result<Parts, Refusal>
+pub(crate) fn parted(alloc: Global, entries: Vec<(DeskEntry, u64)>) -> Result<Parts, Refusal>
     ensures { MatchResult result
         (λ p. AreParts entries.items p.sources.items p.records.items p.archives.items)
         (λ e. e ≡ Memory) }

@@ -1,4 +1,4 @@
 pub mod Recorded
 pub mod Ordered
 pub mod LabelLaws
-pub mod Entries
+pub mod DeskEntries

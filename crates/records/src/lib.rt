@@ -2,12 +2,12 @@
 //! and entries, which are put on desks.
 #![tactic(auto)]
 
-mod entry;
+mod desk_entry;
 mod label;
 mod order;
 mod record;
 
-pub use entry::Entry;
+pub use desk_entry::DeskEntry;
 pub use label::Label;
 pub use order::{is_class_before, labels_in_order, labels_of};
 pub use record::Record;

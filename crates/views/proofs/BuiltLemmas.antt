@@ -15,10 +15,10 @@ use Rattle.model.specs.Closures.{class_of_entry, labels_of_entry, tree_of_entry,
 use Rattle.model.proofs.BoolLemmas.{either, same_bytes, bytes_same, or_cases, both_parts}
 use Rattle.laws.proofs.MemberLemmas.{In, in_of, contains_of, any_of, in_left, in_append}
 use Rattle.records.specs.LabelLaws.{same_label_laws}
-use Rattle.records.specs.declared.entry.Entry.{Entry}
+use Rattle.records.specs.declared.desk_entry.DeskEntry.{DeskEntry}
 use Rattle.closures.specs.Entries.{is_entry_of}
 use Rattle.realise.specs.Holdings.{Holdings, is_on, charged_all, sources_in, records_in, charged_more, holds_entry}
-use Rattle.records.specs.Entries.{entry_path}
+use Rattle.records.specs.DeskEntries.{entry_path}
 use Rattle.store.specs.Stored.{Extends}
 use Rattle.handling.specs.Sound.{IsClosure, desk_of, IsSound, Beside}
 use Rattle.views.specs.Taking.{entry_without, counted, missing_on, are_roomy, AreCopyable, IsLabelledBy, has_built, with_built}
@@ -191,7 +191,7 @@ more_records [] q = omega arith
 more_records (OfSource s ∷ es) q = more_records es q
 more_records (OfRecord r ∷ es) q = let rest = more_records es q in omega (arith, rest)
 
-more_charged : (xs : List (Entry × ℕ)) (y : Entry × ℕ) (d : Holdings) → charged_all xs d ≤ charged_all (xs ++ y ∷ []) d
+more_charged : (xs : List (DeskEntry × ℕ)) (y : DeskEntry × ℕ) (d : Holdings) → charged_all xs d ≤ charged_all (xs ++ y ∷ []) d
 more_charged [] y d = omega arith
 more_charged (x ∷ xs) y d =
     let rest = more_charged xs y (holds_entry x.0 x.1 d) in

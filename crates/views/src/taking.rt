@@ -18,7 +18,7 @@ use events::{CopiedReply, Reply};
 use model::Refusal;
 use nar::Tree;
 use realise::{Desk, Limits, MOST_RECORDS, MOST_SOURCES};
-use records::Entry;
+use records::DeskEntry;
 use serving::{Cache, served_are_made};
 use std::alloc::Global;
 use store::Table;
@@ -63,7 +63,7 @@ fn missing_on(
     alloc: Global,
     desk: &Desk,
     entries: &[closures::Entry],
-) -> Result<Vec<(Entry, u64)>, Refusal>
+) -> Result<Vec<(DeskEntry, u64)>, Refusal>
     ensures found { IfOk result (λ found.
         found.items ≡ map counted (missing_on desk.now entries.now)) }
     ensures small { IfOk result (λ found. All (λ e. e.1 ≤ 67108864) found.items) }
@@ -81,7 +81,7 @@ fn missing_on(
 }
 
 /// How many of the entries are sources, and how many are records.
-fn counts(entries: &[(Entry, u64)]) -> (usize, usize)
+fn counts(entries: &[(DeskEntry, u64)]) -> (usize, usize)
     ensures sources { result.0 ≡ length (sources_in (bare entries.now)) }
     ensures records { result.1 ≡ length (records_in (bare entries.now)) }
 {
@@ -89,8 +89,8 @@ fn counts(entries: &[(Entry, u64)]) -> (usize, usize)
     let mut records = 0;
     for entry in entries {
         match &entry.0 {
-            Entry::Source(_) => sources += 1,
-            Entry::Record(_) => records += 1,
+            DeskEntry::Source(_) => sources += 1,
+            DeskEntry::Record(_) => records += 1,
         }
     }
     (sources, records)
@@ -106,7 +106,7 @@ fn fits(had: u64, more: u64, most: u64) -> bool
 
 /// Whether a desk stays within its limits with these entries more, for which so many bytes are
 /// charged.
-fn has_room(desk: &Desk, limits: Limits, entries: &[(Entry, u64)], more: u64) -> bool
+fn has_room(desk: &Desk, limits: Limits, entries: &[(DeskEntry, u64)], more: u64) -> bool
     requires sources { length desk.now.known.sources ≤ most_sources }
     requires records { length desk.now.records ≤ most_records }
     requires charge { desk.now.charge ≤ limits.charge }

@@ -3,7 +3,7 @@ use Rattle.std.proofs.lemmas.Result.{err_from_is_err_and}
 use Rattle.model.specs.Worlds.{Source}
 use Rattle.store.specs.Stored.{AreNew, put_all, sources_of}
 use Rattle.store.proofs.PuttingLemmas.{few_missing}
-use Rattle.records.specs.declared.entry.Entry.{Entry}
+use Rattle.records.specs.declared.desk_entry.DeskEntry.{DeskEntry}
 use Rattle.realise.specs.Holdings.{bare, AreAbsent, AreCountable, charged_all, holds_each}
 use Rattle.views.specs.Taking.{are_roomy}
 use Rattle.views.proofs.MissingLemmas.{are_countable, are_absent}
@@ -30,7 +30,7 @@ returns-then-not-has_room c =
 
 pub add_all-requires-clause-absent : goal.add_all-requires-clause-absent
 add_all-requires-clause-absent c =
-    subst (λ (es : List (Entry × ℕ)). AreAbsent (bare es) c.args.desk.now) (sym c.in_ok-found.ensures.found)
+    subst (λ (es : List (DeskEntry × ℕ)). AreAbsent (bare es) c.args.desk.now) (sym c.in_ok-found.ensures.found)
     (are_absent c.args.desk.now c.args.entries.now c.requires.copyable)
 
 pub add_all-requires-clause-closed : goal.add_all-requires-clause-closed
@@ -41,7 +41,7 @@ add_all-requires-clause-closed c =
 pub returns : goal.returns
 returns c =
     let old : List Source = c.args.table.now.sources in
-    let found : List (Entry × ℕ) = c.in_ok-found.found.items in
+    let found : List (DeskEntry × ℕ) = c.in_ok-found.found.items in
     let more : c.in_ok-more.more ≡ charged_all found c.args.desk.now = search rules in
     let roomy : are_roomy (bare found) c.in_ok-more.more c.args.limits.charge c.args.desk.now ≡ true = search rules in
     let stored : c.put_all_reserved.new.self.sources ≡ put_all (sources_of c.in_ok-trees.trees.items) old =

@@ -1,6 +1,6 @@
 use Rattle.std.proofs.Common.{◌≡◌, ◌+◌, ◌<◌, ◌^◌, ℕ, List, refl, sym, ap, subst, ◌∙◌, arith}
 use Rattle.admitted.specs.Entries.{AreNew}
-use Rattle.records.specs.declared.entry.Entry.{Entry}
+use Rattle.records.specs.declared.desk_entry.DeskEntry.{DeskEntry}
 use Rattle.realise.specs.Held.{paths_held, bytes_held, with_archives, IsSetOf}
 use Rattle.realise.specs.Holdings.{Holdings, paths_of, bare, holds_each, charged_all, sources_in, IsClosed}
 use Rattle.realise.specs.Kept.{holdings_of}
@@ -14,7 +14,7 @@ invariant_of-self c =
 
 pub put_parts-requires : goal.put_parts-requires
 put_parts-requires c =
-    let entries : List (Entry × ℕ) = c.args.entries.items in
+    let entries : List (DeskEntry × ℕ) = c.args.entries.items in
     let new : AreNew c.self.inside.known.sources (sources_in (bare entries)) =
     subst (λ (d : Holdings). AreNew d.known.sources (sources_in (bare entries))) (sym c.self.view_is)
     (sources_new (bare entries) c.args.self.now c.requires.absent) in
@@ -27,7 +27,7 @@ invariant_of-self-in_err-put_parts c =
 
 pub put_all_reserved-requires-clause-fits : goal.put_all_reserved-requires-clause-fits
 put_all_reserved-requires-clause-fits c =
-    let entries : List (Entry × ℕ) = c.args.entries.items in
+    let entries : List (DeskEntry × ℕ) = c.args.entries.items in
     let d : Holdings = holdings_of c.self.inside in
     let archives : List (List ℕ × ℕ) = c.in_ok-parts.parts.archives.items in
     let fits : d.charge + charged_all entries d < 2 ^ 64 =
@@ -38,7 +38,7 @@ put_all_reserved-requires-clause-fits c =
 
 -- once all are put
 module _ (c : goal.After-put_all_reserved) where
-  abbrev entries : List (Entry × ℕ)
+  abbrev entries : List (DeskEntry × ℕ)
   entries = c.args.entries.items
 
   abbrev before : Holdings

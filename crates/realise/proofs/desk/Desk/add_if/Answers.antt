@@ -3,7 +3,7 @@ use Rattle.model.specs.Classes.{Known}
 use Rattle.records.specs.Recorded.{Recorded}
 use Rattle.realise.specs.declared.desk.Desk.TheInside.{Inside}
 use Rattle.realise.specs.Held.{Held, bytes_held, with_archive}
-use Rattle.records.specs.Entries.{entry_path}
+use Rattle.records.specs.DeskEntries.{entry_path}
 use Rattle.realise.specs.Holdings.{Holdings, charged_more, holds_entry, known_with, IsNewSource, IsClosedWithEntry}
 use Rattle.realise.specs.Kept.{holdings_of, IsConsistent}
 use Rattle.realise.proofs.KeepingLemmas.{kept, new_source, entry_bytes, entry_view, entry_kept}

@@ -3,9 +3,9 @@ use Rattle.std.specs.Prelude.{bytes_eq}
 use Rattle.std.specs.List.{list_any}
 use Rattle.std.proofs.lemmas.Bool.{not-true, not-false}
 use Rattle.indexmap.specs.IndexSet.{insert_key}
-use Rattle.records.specs.declared.entry.Entry.{Entry}
+use Rattle.records.specs.declared.desk_entry.DeskEntry.{DeskEntry}
 use Rattle.realise.specs.Held.{paths_held, charged_beside}
-use Rattle.records.specs.Entries.{entry_path}
+use Rattle.records.specs.DeskEntries.{entry_path}
 use Rattle.realise.specs.Holdings.{archive_of}
 use Rattle.realise.proofs.ChargingLemmas.{among, beside, counted_again, counted_first, counted_fits}
 use Rattle.realise.proofs.holding.Holding.charged_beside.Goals.{then-branch, else-branch}
@@ -14,7 +14,7 @@ use Rattle.realise.proofs.holding.Holding.charged_beside.Goals as goal
 pub loop-entry-preserved-then-has : goal.loop-entry-preserved-then-has
 loop-entry-preserved-then-has c =
     let held = paths_held c.args.self.now.archives in
-    let e : Entry × ℕ = c.entry-item.result in
+    let e : DeskEntry × ℕ = c.entry-item.result in
     let counted : List (List ℕ) = c.loop-entry.counted.keys in
     let there : list_any (bytes_eq (entry_path e.0)) held ≡ true = search rules in
     counted_again held counted c.args.entries.now c.loop-entry.entry-index c.loop-entry.more e (omega arith) c.entry-item.is c.loop-entry.invariant
@@ -23,7 +23,7 @@ loop-entry-preserved-then-has c =
 pub overflow_add-more : goal.overflow_add-more
 overflow_add-more c =
     let held = paths_held c.args.self.now.archives in
-    let e : Entry × ℕ = c.entry-item.result in
+    let e : DeskEntry × ℕ = c.entry-item.result in
     let counted : List (List ℕ) = c.loop-entry.counted.keys in
     let absent : list_any (bytes_eq (entry_path e.0)) held ≡ false = search rules in
     let copy : c.in_ok-clone.field-0 ≡ entry_path e.0 = search rules in
@@ -35,7 +35,7 @@ overflow_add-more c =
 pub loop-entry-preserved : goal.loop-entry-preserved
 loop-entry-preserved c =
     let held = paths_held c.args.self.now.archives in
-    let e : Entry × ℕ = c.entry-item.result in
+    let e : DeskEntry × ℕ = c.entry-item.result in
     let path = entry_path e.0 in
     let entries = c.args.entries.now in
     let counted : List (List ℕ) = c.loop-entry.counted.keys in
