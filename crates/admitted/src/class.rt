@@ -2,7 +2,7 @@
 
 ghost use Rattle.std.specs.Prelude.{◌≡◌, ◌≤◌};
 
-use derivation::Derivation;
+use aterm::Derivation;
 use std::alloc::AllocError;
 use std::marker::Model;
 use storepath::StorePath;

@@ -8,7 +8,7 @@ use Rattle.model.specs.declared.refusal.Refusal.TheVariants.{BadDerivation, Memo
 use Rattle.reading.proofs.ReadingLemmas.{if_true, some_same}
 use Rattle.aterm.specs.Laws.{DerivationsPass, ReadingIsExact}
 use Rattle.aterm.specs.Refused.{IsRefused, IsNotRead}
-use Rattle.derivation.proofs.Tests.{derivation_passes, derivation_from_test}
+use Rattle.aterm.proofs.Tests.{derivation_passes, derivation_from_test}
 use Rattle.aterm.proofs.Sound.{bind_some}
 use Rattle.aterm.proofs.SoundWhole.{derivation_sound}
 use Rattle.aterm.proofs.Refusing.{read_again}

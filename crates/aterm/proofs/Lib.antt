@@ -6,3 +6,6 @@ pub mod Complete
 pub mod PathTexts
 pub mod Refusing
 pub mod Exact
+pub mod ListTexts
+pub mod Tests
+pub mod Written

@@ -7,8 +7,8 @@ use Rattle.model.specs.declared.refusal.Refusal.TheVariants.{BadDerivation}
 use Rattle.model.specs.DerivationTexts.{derivation_at}
 use Rattle.reading.proofs.ReadingLemmas.{some_same}
 use Rattle.reading.specs.Outcomes.{Fails}
-use Rattle.derivation.specs.Parts.{derivation_of}
-use Rattle.derivation.specs.declared.derivation.Parts.{Parts}
+use Rattle.aterm.specs.Parts.{derivation_of}
+use Rattle.aterm.specs.declared.derivation.Parts.{Parts}
 use Rattle.aterm.specs.Refused.{HasNoPaths, IsRefused, IsUnread}
 use Rattle.reading.specs.declared.steps.ReadError.{ReadError}
 use Rattle.reading.specs.declared.steps.ReadError.TheVariants.{Memory, Malformed}

@@ -1,3 +1,5 @@
 pub mod Strings
 pub mod Refused
 pub mod Laws
+pub mod Parts
+pub mod Writing

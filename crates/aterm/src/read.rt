@@ -3,12 +3,13 @@
 ghost use Rattle.std.specs.Prelude.{◌≡◌, IfOk, MatchResult, Some, []};
 ghost use Rattle.model.specs.Derivations.{derivation_text, IsDerivation, IsOnlyDerivation};
 ghost use Rattle.model.specs.DerivationTexts.{tag_at, escaped_at, character_at, string_at, member_at, members_at, variable_at, variables_at, derivation_at, derivation_of_text};
-ghost use Rattle.derivation.specs.Parts.{derivation_of};
+ghost use Rattle.aterm.specs.Parts.{derivation_of};
 ghost use Rattle.aterm.specs.Strings.{derivation_read};
 ghost use Rattle.aterm.specs.Refused.{AreNoPaths, HasNoPaths, IsRefused, IsNotRead, IsUnread};
 ghost use Rattle.reading.specs.Outcomes.{Gives};
 
-use derivation::{Derivation, Parts, Text};
+use crate::derivation::{Derivation, Parts};
+use crate::text::Text;
 use model::Refusal;
 use reading::ReadError;
 use std::alloc::Global;

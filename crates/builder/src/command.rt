@@ -9,7 +9,7 @@ ghost use Rattle.model.specs.Derivations.{is_text, is_variable};
 ghost use Rattle.model.specs.Worlds.{is_user_name};
 ghost use Rattle.builder.specs.Commands.{AreStreams, IsCommandFor, Sets, SetsVariable, inputs_path, job_path, log_path};
 
-use derivation::{Derivation, Text};
+use aterm::{Derivation, Text};
 use states::Job;
 use std::alloc::{AllocError, Global};
 use std::os::unix::process::CommandExt;

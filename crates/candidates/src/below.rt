@@ -8,7 +8,7 @@ ghost use Rattle.candidates.specs.Below.{AreBelow};
 ghost use Rattle.candidates.specs.Reaching.{AreReached, AreSame, IsReached, IsStep, chosen, has_class, is_label_for, is_named, is_named_in, is_news, is_record_named};
 
 use classes::{Known, input_classes, set_of};
-use derivation::Derivation;
+use aterm::Derivation;
 use indexmap::IndexSet;
 use model::Refusal;
 use realise::Desk;

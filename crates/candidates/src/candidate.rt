@@ -7,7 +7,7 @@ ghost use Rattle.records.specs.Ordered.{source_label, record_label};
 ghost use Rattle.records.specs.Recorded.{AreInPathOrder};
 
 use crate::below::records_below;
-use derivation::Derivation;
+use aterm::Derivation;
 use model::Refusal;
 use realise::Desk;
 use records::{Label, Record, labels_in_order};

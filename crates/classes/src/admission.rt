@@ -11,7 +11,7 @@ ghost use Rattle.model.specs.Classes.{known_at, is_one_of, mask_of, rank_at, gre
 ghost use Rattle.model.specs.declared.refusal.Refusal.TheVariants.{MissingInput, Memory};
 
 use admitted::{Admitted, Class, Known, set_of};
-use derivation::{Derivation, Text, print, print_with_inputs};
+use aterm::{Derivation, Text, print, print_with_inputs};
 use hashmod::sha256;
 use indexmap::IndexSet;
 use model::Refusal;

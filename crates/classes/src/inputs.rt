@@ -5,7 +5,7 @@ ghost use Rattle.model.specs.Resolutions.{input_classes};
 ghost use Rattle.model.specs.declared.refusal.Refusal.TheVariants.{Memory};
 
 use admitted::Known;
-use derivation::Derivation;
+use aterm::Derivation;
 use model::Refusal;
 use std::alloc::Global;
 use storepath::StorePath;

@@ -3,7 +3,7 @@
 ghost use Rattle.std.specs.Prelude.{◌≡◌};
 
 use crate::output::Output;
-use derivation::Text;
+use aterm::Text;
 use nar::Tree;
 use storepath::{Name, StorePath};
 use trust::User;

@@ -10,7 +10,7 @@ ghost use Rattle.nar.specs.TextReading.{is_lower_digit};
 
 use crate::cutting::Word;
 use crate::numbers::numeral_up_to;
-use derivation::Text;
+use aterm::Text;
 use events::Output;
 use hex::FromHexError;
 use model::Refusal;

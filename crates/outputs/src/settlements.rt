@@ -15,7 +15,7 @@ ghost use Rattle.outputs.specs.Kept.{HasOutput, HasSettled, one_more};
 use crate::input::Input;
 use crate::output::Output;
 use crate::settlement::{Settlement, copy_of};
-use derivation::Derivation;
+use aterm::Derivation;
 use model::Refusal;
 use nar::Tree;
 use records::Label;

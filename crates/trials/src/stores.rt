@@ -6,7 +6,7 @@ ghost use Rattle.schedule.specs.Standing.{world_of, stored_in};
 
 use crate::answer::Answer;
 use crate::calls::number;
-use derivation::Text;
+use aterm::Text;
 use model::Refusal;
 use nar::{Tree, tree_text};
 use schedule::{Core, Event, LARGEST_CHARGE, Limits, Reply, Request, User};

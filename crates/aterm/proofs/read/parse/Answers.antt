@@ -2,7 +2,7 @@ use Rattle.std.specs.Prelude.{Err}
 use Rattle.model.specs.declared.refusal.Refusal.TheVariants.{BadDerivation}
 use Rattle.aterm.proofs.Refusing.{made_or_refused, made_only}
 use Rattle.aterm.proofs.Exact.{given_from_read}
-use Rattle.derivation.specs.Parts.{derivation_of}
+use Rattle.aterm.specs.Parts.{derivation_of}
 use Rattle.aterm.proofs.read.parse.Goals as goal
 
 pub returns-in-Ok-clause-read : goal.returns-in-Ok-clause-read

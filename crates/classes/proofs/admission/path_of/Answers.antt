@@ -5,7 +5,7 @@ use Rattle.model.specs.Paths.{DerivationFile, store_path}
 use Rattle.model.specs.Derivations.{derivation_text}
 use Rattle.model.specs.Classes.{is_one_of, sorted, references_of, derivation_path}
 use Rattle.std.specs.Prelude.{filter}
-use Rattle.derivation.specs.Parts.{derivation_of}
+use Rattle.aterm.specs.Parts.{derivation_of}
 use Rattle.classes.proofs.admission.path_of.Goals as goal
 
 pub returns : goal.returns

@@ -1,3 +1,0 @@
-pub mod ListTexts
-pub mod Tests
-pub mod Written
