@@ -14,7 +14,7 @@ ghost use Rattle.model.specs.declared.refusal.Refusal.TheVariants.{Memory};
 ghost use Rattle.records.specs.Recorded.{AreInPathOrder};
 ghost use Rattle.building.specs.Built.{IsBuiltBy, IsBuiltOn, IsClosedBuilt, HasInput, HasInputFrom, IsBuiltAt, AreBuiltOn, built_at, built_of, built_output, record_under, all_built, numbered, HaveInputs};
 
-use admitted::Admitted;
+use classes::Admitted;
 use closures::Resolved;
 use jobs::{Goal, Jobs};
 use model::Refusal;

@@ -10,7 +10,9 @@ ghost use Rattle.model.specs.Derivations.{name_of};
 ghost use Rattle.model.specs.Classes.{known_at, is_one_of, mask_of, rank_at, greatest, sorted, derivation_path, masked_text, class_of, admission_of, admit};
 ghost use Rattle.model.specs.declared.refusal.Refusal.TheVariants.{MissingInput, Memory};
 
-use admitted::{Admitted, Class, Known, set_of};
+use crate::class::{Admitted, Class};
+use crate::known::Known;
+use crate::paths::set_of;
 use aterm::{Derivation, Text, print, print_with_inputs};
 use hashmod::sha256;
 use indexmap::IndexSet;

@@ -4,7 +4,7 @@ ghost use Rattle.std.specs.Prelude.{◌≡◌, MatchResult};
 ghost use Rattle.model.specs.Resolutions.{input_classes};
 ghost use Rattle.model.specs.declared.refusal.Refusal.TheVariants.{Memory};
 
-use admitted::Known;
+use crate::known::Known;
 use aterm::Derivation;
 use model::Refusal;
 use std::alloc::Global;

@@ -2,8 +2,13 @@
 #![tactic(auto)]
 
 mod admission;
+mod class;
 mod inputs;
+mod known;
+mod paths;
 
 pub use admission::{admit, admit_at, path_of};
-pub use admitted::{Admitted, Class, Known, set_of};
+pub use class::{Admitted, Class};
 pub use inputs::input_classes;
+pub use known::Known;
+pub use paths::set_of;

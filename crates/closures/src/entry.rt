@@ -8,7 +8,7 @@ ghost use Rattle.records.specs.DeskEntries.{entry_with};
 ghost use Rattle.closures.specs.Entries.{is_entry_of};
 
 use crate::realisation::{Realisation, Source};
-use admitted::Class;
+use classes::Class;
 use model::Refusal;
 use nar::Tree;
 use records::Label;

@@ -3,7 +3,7 @@
 ghost use Rattle.std.specs.Prelude.{◌≡◌};
 ghost use Rattle.records.specs.Recorded.{with_tree, AreInPathOrder, without_tree};
 
-use admitted::Class;
+use classes::Class;
 use nar::Tree;
 use records::{Label, Record};
 use std::alloc::AllocError;

@@ -19,7 +19,7 @@ ghost use Rattle.outputs.specs.Kept.{HasNeeded};
 ghost use Rattle.desks.specs.Offering.{IsOutput, IsNotSettled, IsNoOutput, HasOffered};
 
 use crate::entries::add_entry;
-use admitted::Admitted;
+use classes::Admitted;
 use candidates::candidates;
 use events::CopiedReply;
 use model::Refusal;

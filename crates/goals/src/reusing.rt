@@ -15,7 +15,7 @@ ghost use Rattle.closures.specs.Trees.{record_at};
 ghost use Rattle.choose.specs.Visible.{AreStored};
 ghost use Rattle.goals.specs.Reusing.{path_before, is_found_at, done_path, found_by, found_on, found_in, class_for, IsFinishedBuild, IsHeldAmong, IsUsedAgain};
 
-use admitted::Class;
+use classes::Class;
 use closures::{Realisation, Resolved};
 use jobs::{Goal, Jobs, State};
 use model::Refusal;

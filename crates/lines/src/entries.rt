@@ -6,7 +6,7 @@ ghost use Rattle.model.specs.Closures.{class_of_entry, labels_of_entry, tree_of_
 ghost use Rattle.model.specs.Talk.{class_text, label_text, labels_text, entry_text};
 
 use crate::pieces::{add, add_number};
-use admitted::Class;
+use classes::Class;
 use closures::Entry;
 use records::Label;
 use std::alloc::{AllocError, Global};

@@ -11,7 +11,7 @@ ghost use Rattle.closures.specs.Codes.{record_code};
 
 use crate::moves::Move;
 use crate::moving::repaired;
-use admitted::Class;
+use classes::Class;
 use closures::Realisation;
 use model::Refusal;
 use nar::Tree;

@@ -4,7 +4,7 @@ ghost use Rattle.std.specs.Prelude.{◌≡◌, ◌⊎◌, ◌+◌, ◌<◌, ◌�
 ghost use Rattle.std.specs.Option.{option_copied};
 ghost use Rattle.model.specs.Classes.{known_at, is_one_of};
 ghost use Rattle.model.specs.Worlds.{pinned, unpinned};
-ghost use Rattle.admitted.specs.Entries.{AreNew};
+ghost use Rattle.classes.specs.Entries.{AreNew};
 ghost use Rattle.records.specs.DeskEntries.{entry_path};
 ghost use Rattle.std.specs.Map.Iter.{ShowsInOrder, deref};
 ghost use Rattle.realise.specs.Held.{paths_held, IsSetOf};
@@ -16,7 +16,7 @@ use crate::holding::Holding;
 use crate::limits::{MOST_RECORDS, MOST_SOURCES};
 use crate::parts::parted;
 use crate::pins::Pins;
-use admitted::{Admitted, Known};
+use classes::{Admitted, Known};
 use indexmap::map::Keys;
 use model::Refusal;
 use records::{DeskEntry, Record};

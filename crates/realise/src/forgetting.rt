@@ -8,7 +8,7 @@ ghost use Rattle.realise.specs.Holdings.{is_recorded_at, is_needed, without_reco
 
 use crate::by_class::Records;
 use crate::desk::Desk;
-use admitted::Known;
+use classes::Known;
 use records::Record;
 use storepath::StorePath;
 

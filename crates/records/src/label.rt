@@ -3,7 +3,7 @@
 ghost use Rattle.std.specs.Prelude.{◌≡◌, option_copied};
 ghost use Rattle.model.specs.Worlds.{same_class};
 
-use admitted::Class;
+use classes::Class;
 use std::alloc::AllocError;
 use std::marker::Model;
 use storepath::StorePath;

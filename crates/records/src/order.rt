@@ -8,7 +8,7 @@ ghost use Rattle.records.specs.Ordered.{least_class, labels_at};
 ghost use Rattle.records.specs.Recorded.{AreInPathOrder};
 
 use crate::label::Label;
-use admitted::{Class, set_of};
+use classes::{Class, set_of};
 use indexmap::IndexSet;
 use model::Refusal;
 use std::alloc::Global;

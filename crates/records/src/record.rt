@@ -7,7 +7,7 @@ ghost use Rattle.records.specs.Recorded.{IsSame, AreInPathOrder, same_recorded};
 ghost use Rattle.model.specs.declared.refusal.Refusal.TheVariants.{Memory};
 
 use crate::label::Label;
-use admitted::Class;
+use classes::Class;
 use model::Refusal;
 use std::alloc::{AllocError, Global};
 use std::marker::Model;

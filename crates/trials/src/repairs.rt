@@ -2,7 +2,7 @@
 
 use crate::answer::Answer;
 use crate::calls::number;
-use admitted::Class;
+use classes::Class;
 use closures::Realisation;
 use indexmap::IndexMap;
 use model::Refusal;

@@ -10,7 +10,7 @@ use Rattle.std.proofs.lemmas.Bool.Decides.{same_from_decides}
 use Rattle.std.proofs.lemmas.List.Elements.{All-head, All-tail}
 use Rattle.model.specs.Classes.{Admission, known_at, is_one_of}
 use Rattle.model.proofs.BoolLemmas.{either, bytes_eq_sym}
-use Rattle.admitted.specs.Entries.{IsKeyed, AreKeyed, admissions_of}
+use Rattle.classes.specs.Entries.{IsKeyed, AreKeyed, admissions_of}
 
 -- what is known of a path is at its key
 pub known_entries : (path : List ℕ) (sources : List (List ℕ)) (entries : List (List ℕ × Admission)) → AreKeyed entries

@@ -4,9 +4,9 @@ use Rattle.std.specs.Map.{lookup}
 use Rattle.std.proofs.lemmas.List.Elements.{All-push}
 use Rattle.indexmap.proofs.CallerLemmas.{insert_entry-new}
 use Rattle.model.specs.Classes.{known_at}
-use Rattle.admitted.specs.Entries.{IsKeyed, admissions_of}
-use Rattle.admitted.proofs.EntryLemmas.{known_entries, admissions_of-push}
-use Rattle.admitted.proofs.known.Known.add_derivation.Goals as goal
+use Rattle.classes.specs.Entries.{IsKeyed, admissions_of}
+use Rattle.classes.proofs.EntryLemmas.{known_entries, admissions_of-push}
+use Rattle.classes.proofs.known.Known.add_derivation.Goals as goal
 
 key : (c : goal.Joined-none) → c.in_ok-path.path ≡ c.args.admitted.path
 key c = search rules

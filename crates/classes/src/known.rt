@@ -2,7 +2,7 @@
 
 ghost use Rattle.std.specs.Prelude.{◌≡◌, ◌≤◌, None, false, [], ◌∷◌, ◌++◌, MatchResult, option_copied, length, take};
 ghost use Rattle.indexmap.specs.IndexSet.{spare};
-ghost use Rattle.admitted.specs.Entries.{AreNew};
+ghost use Rattle.classes.specs.Entries.{AreNew};
 ghost use Rattle.model.specs.Classes.{known_at, is_one_of};
 ghost use Rattle.model.specs.declared.refusal.Refusal.TheVariants.{Memory};
 
@@ -33,7 +33,7 @@ impl Drop for Known {
 
 impl Model for Known {
     ghost use Rattle.model.specs.Classes.{Known as KnownValue};
-    ghost use Rattle.admitted.specs.Entries.{AreKeyed, admissions_of};
+    ghost use Rattle.classes.specs.Entries.{AreKeyed, admissions_of};
 
     ghost Value = { KnownValue };
 

@@ -1,6 +1,6 @@
 use Rattle.std.proofs.Common.{sym, ◌∙◌}
-use Rattle.admitted.proofs.EntryLemmas.{known_entries}
-use Rattle.admitted.proofs.known.Known.derivation.Goals as goal
+use Rattle.classes.proofs.EntryLemmas.{known_entries}
+use Rattle.classes.proofs.known.Known.derivation.Goals as goal
 
 pub returns : goal.returns
 returns c = rw (← c.self.view_is) (c.get.ensures.value ∙ sym (known_entries c.args.path.now c.self.inside.sources.keys c.self.inside.derivations.entries c.self.invariant))

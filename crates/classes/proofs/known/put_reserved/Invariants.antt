@@ -1,8 +1,8 @@
 use Rattle.std.proofs.Common.{◌≡◌, ◌≤◌, ◌++◌, length}
 use Rattle.std.specs.Vec.Iter.{into_iter_items}
 use Rattle.indexmap.specs.IndexSet.{spare}
-use Rattle.admitted.specs.Entries.{AreNew}
-use Rattle.admitted.proofs.known.put_reserved.Given as goal
+use Rattle.classes.specs.Entries.{AreNew}
+use Rattle.classes.proofs.known.put_reserved.Given as goal
 
 abbrev pub invariant-loop-path : goal.invariant-loop-path
 invariant-loop-path l = record {

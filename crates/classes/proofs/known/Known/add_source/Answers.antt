@@ -2,8 +2,8 @@ use Rattle.std.proofs.Common.{◌≡◌, false, [], ◌∷◌, ◌++◌, refl, �
 use Rattle.std.specs.Prelude.{bytes_eq}
 use Rattle.std.specs.List.{list_any}
 use Rattle.model.specs.Classes.{is_one_of}
-use Rattle.admitted.proofs.EntryLemmas.{one_of_keys}
-use Rattle.admitted.proofs.known.Known.add_source.Goals as goal
+use Rattle.classes.proofs.EntryLemmas.{one_of_keys}
+use Rattle.classes.proofs.known.Known.add_source.Goals as goal
 
 pub returns : goal.returns
 returns c =

@@ -3,9 +3,9 @@ use Rattle.std.specs.Prelude.{bytes_eq}
 use Rattle.std.specs.List.{list_any}
 use Rattle.std.specs.Vec.Iter.{into_iter_items}
 use Rattle.indexmap.specs.IndexSet.{spare}
-use Rattle.admitted.specs.Entries.{AreNew}
-use Rattle.admitted.proofs.EntryLemmas.{one_of_keys}
-use Rattle.admitted.proofs.known.put_reserved.Goals as goal
+use Rattle.classes.specs.Entries.{AreNew}
+use Rattle.classes.proofs.EntryLemmas.{one_of_keys}
+use Rattle.classes.proofs.known.put_reserved.Goals as goal
 
 pub loop-path-preserved : goal.loop-path-preserved
 loop-path-preserved c =
