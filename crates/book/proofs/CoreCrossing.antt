@@ -20,11 +20,11 @@ use Rattle.realise.proofs.desk.Desk.TheSendSync as desks
 use Rattle.rewrite.specs.contracts.named.Named as Named
 use Rattle.rewrite.proofs.named.Named.TheSendSync as nameds
 use Rattle.store.specs.contracts.table.Table as Table
-use Rattle.closures.specs.contracts.realisation.Realisation as Realisation
-use Rattle.closures.specs.contracts.realisation.Source as Source
-use Rattle.closures.specs.contracts.entry.Entry as Entry
-use Rattle.closures.specs.contracts.entry.Closure as Closure
-use Rattle.closures.specs.contracts.resolved.Resolved as Resolved
+use Rattle.records.specs.contracts.realisation.Realisation as Realisation
+use Rattle.records.specs.contracts.realisation.Source as Source
+use Rattle.records.specs.contracts.entry.Entry as Entry
+use Rattle.records.specs.contracts.entry.Closure as Closure
+use Rattle.records.specs.contracts.resolved.Resolved as Resolved
 use Rattle.moving.specs.contracts.repair.Repair as Repair
 use Rattle.moving.specs.contracts.moves.Move as Move
 use Rattle.moving.proofs.moves.Move.TheSendSync as moves

@@ -5,7 +5,7 @@ ghost use Rattle.std.specs.Io.KnownBytes.{Appends};
 ghost use Rattle.model.specs.Inputs.{input_of, input_text, inputs_behind, inputs_of, inputs_text};
 ghost use Rattle.builder.specs.Commands.{IsMadeAnew};
 
-use closures::Entry;
+use records::Entry;
 use model::Refusal;
 use nar::{encode, str_text};
 use std::alloc::Global;

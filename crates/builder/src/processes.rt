@@ -15,7 +15,7 @@ use crate::meaning::{is_gone, meaning};
 use crate::output::read_output;
 use crate::outside::Outside;
 use crate::preparing::{Folders, Prepared, prepare};
-use closures::Entry;
+use records::Entry;
 use leading::RunningJob;
 use std::alloc::Global;
 use std::io;

@@ -15,7 +15,7 @@ use Rattle.laws.proofs.MemberLemmas.{In, in_right, in_map, from_filter, from_fla
 use Rattle.records.specs.Recorded.{Recorded}
 use Rattle.realise.specs.Holdings.{Holdings, paths_of, is_record_of}
 use Rattle.choose.specs.Visible.{Visible, seen, desks_of, IsStored, IsDeskStored, AreStored, recorded_before, is_recorded_at, is_any_or_at, those_at, records_on, is_recorded_pinned, choose_recorded, choose_in}
-use Rattle.closures.specs.Trees.{record_at}
+use Rattle.records.specs.Trees.{record_at}
 
 -- ---- the least
 

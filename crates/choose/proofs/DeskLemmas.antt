@@ -3,7 +3,7 @@ use Rattle.std.proofs.Common.{◌≡◌, refl, List, [], ◌∷◌, ◌++◌}
 use Rattle.std.specs.Prelude.{map}
 use Rattle.model.specs.Worlds.{Source, Desk}
 use Rattle.realise.specs.Holdings.{Holdings}
-use Rattle.closures.specs.Trees.{source_at, record_at}
+use Rattle.records.specs.Trees.{source_at, record_at}
 use Rattle.choose.specs.Visible.{visible_on, seen}
 
 -- the desks of users, and what the store holds for each of them

@@ -14,7 +14,7 @@ use Rattle.laws.proofs.MemberLemmas.{In, in_of, contains_of, in_left, in_right, 
 use Rattle.records.specs.Recorded.{Recorded}
 use Rattle.realise.specs.Holdings.{Holdings, is_at, has_labelled, IsClosed, IsClosedWith}
 use Rattle.choose.specs.Visible.{Visible, visible_on, seen, choose_in, SeesSourcesOf, SeesSourcesIn, paths_in, LabelsAreVisible, is_source_on}
-use Rattle.closures.specs.Trees.{source_at, record_at}
+use Rattle.records.specs.Trees.{source_at, record_at}
 use Rattle.choose.specs.Gathering.{IsGathered}
 use Rattle.laws.proofs.ClosureLemmas.{chosen_among}
 use Rattle.choose.proofs.SourceLemmas.{some_desk}

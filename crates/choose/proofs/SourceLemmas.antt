@@ -10,7 +10,7 @@ use Rattle.laws.proofs.MemberLemmas.{In, in_left}
 use Rattle.model.proofs.BoolLemmas.{either, same_bytes}
 use Rattle.realise.specs.Holdings.{Holdings, paths_of}
 use Rattle.choose.specs.Visible.{Visible, seen, desks_of, IsStored, IsDeskStored, AreStored, is_source_on, source_in}
-use Rattle.closures.specs.Trees.{source_at}
+use Rattle.records.specs.Trees.{source_at}
 use Rattle.choose.proofs.ChoosingLemmas.{all_in, false_true}
 
 find_append : (p : Source → Bool) (xs ys : List Source) → find p xs ≡ None → find p (xs ++ ys) ≡ find p ys

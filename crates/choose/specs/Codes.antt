@@ -3,7 +3,7 @@ use Rattle.std.specs.Prelude.{List, refl}
 use Rattle.std.specs.Coded.{Coded, code_by, coded×, coded_list}
 use Rattle.model.specs.Worlds.{Source, Record}
 use Rattle.model.specs.Choices.{Plan}
-use Rattle.closures.specs.Codes.{source_code, record_code}
+use Rattle.records.specs.Codes.{source_code, record_code}
 use Rattle.choose.specs.Visible.{Visible}
 
 abbrev pub visible_code : Coded Visible

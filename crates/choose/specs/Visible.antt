@@ -9,7 +9,7 @@ use Rattle.model.specs.Worlds.{Source, Label, Record, Desk, Pin, tree_at}
 use Rattle.model.specs.Orders.{first_by, list_before, least}
 use Rattle.model.specs.Choices.{visible_records, visible_sources, label_before, choose_among, source_among, sources_below, Plan, plan_by}
 use Rattle.records.specs.Recorded.{Recorded}
-use Rattle.closures.specs.Trees.{source_at, record_at}
+use Rattle.records.specs.Trees.{source_at, record_at}
 use Rattle.realise.specs.Holdings.{Holdings, IsClosed, paths_of, records_of}
 
 -- ---- what is visible

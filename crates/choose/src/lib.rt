@@ -9,7 +9,7 @@ mod planned;
 mod planning;
 mod view;
 
-pub use closures::{Closure, Entry, Realisation, Source};
+pub use records::{Closure, Entry, Realisation, Source};
 pub use planned::Plan;
 pub use planning::plan;
 pub use view::View;

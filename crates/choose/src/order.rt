@@ -6,8 +6,7 @@ ghost use Rattle.model.specs.Orders.{list_before};
 ghost use Rattle.model.specs.Choices.{label_before, rank_before, source_before};
 ghost use Rattle.choose.specs.Visible.{recorded_before};
 
-use closures::{Realisation, Source};
-use records::{Label, Record, is_class_before};
+use records::{Label, Realisation, Record, Source, is_class_before};
 use std::cmp::Ordering;
 
 // Whether one label goes before another: by path, and then by class.

@@ -3,7 +3,7 @@
 ghost use Rattle.std.specs.Prelude.{◌≡◌};
 ghost use Rattle.choose.specs.Gathering.{IsInOrder};
 
-use closures::{Realisation, Source};
+use records::{Realisation, Source};
 use std::marker::Model;
 
 /// What a closure needs: the chosen records by rank and then class path, and the sources by path.

@@ -15,7 +15,7 @@ use crate::gathering::Gathering;
 use crate::order::{compare_records, compare_sources};
 use crate::planned::Plan;
 use crate::view::View;
-use closures::{Realisation, Source};
+use records::{Realisation, Source};
 use model::Refusal;
 use realise::Pins;
 use std::alloc::Global;

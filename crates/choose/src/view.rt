@@ -7,7 +7,7 @@ ghost use Rattle.model.specs.Worlds.{tree_at};
 ghost use Rattle.realise.specs.Holdings.{IsClosed};
 ghost use Rattle.choose.specs.Visible.{seen, desks_of, IsStored, AreStored, is_source_on, source_in};
 
-use closures::Source;
+use records::Source;
 use model::Refusal;
 use nar::Tree;
 use realise::Desk;

@@ -4,7 +4,7 @@ ghost use Rattle.std.specs.Prelude.{◌≡◌};
 ghost use Rattle.model.specs.Talk.{told_in};
 ghost use Rattle.events.specs.Terms.{reply_of};
 
-use closures::Closure;
+use records::Closure;
 use model::Refusal;
 use nar::Tree;
 use states::State;

@@ -22,7 +22,7 @@ use Rattle.laws.proofs.ClosureLemmas.{least_in}
 use Rattle.laws.proofs.LabelLemmas.{from_labels_in_order}
 use Rattle.records.specs.Recorded.{Recorded}
 use Rattle.realise.specs.Holdings.{Holdings, paths_of, is_record_of, records_of}
-use Rattle.closures.specs.Trees.{record_at}
+use Rattle.records.specs.Trees.{record_at}
 use Rattle.choose.specs.Visible.{IsStored, IsDeskStored, AreStored}
 use Rattle.choose.proofs.ChoosingLemmas.{least_from_append, all_in}
 use Rattle.trust.specs.Trusting.{IsReach}

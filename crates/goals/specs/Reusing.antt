@@ -10,7 +10,7 @@ use Rattle.model.specs.Outcomes.{view_of}
 use Rattle.laws.proofs.MemberLemmas.{In}
 use Rattle.trust.specs.Naming.{place_of, IsWithin}
 use Rattle.records.specs.Recorded.{Recorded}
-use Rattle.closures.specs.Trees.{record_at}
+use Rattle.records.specs.Trees.{record_at}
 use Rattle.realise.specs.Holdings.{Holdings, records_of}
 use Rattle.jobs.specs.States.{path_in}
 use Rattle.jobs.specs.Joining.{same_as}

@@ -19,7 +19,7 @@ ghost use Rattle.goals.specs.Planning.{IsResolvedAt, TellsToPlan, fails, IsNotKe
 
 use choose::View;
 use classes::input_classes;
-use closures::Resolved;
+use records::Resolved;
 use aterm::Derivation;
 use events::CopiedReply;
 use handling::desks_in_view;

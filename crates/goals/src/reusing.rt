@@ -11,16 +11,15 @@ ghost use Rattle.model.specs.declared.refusal.Refusal.TheVariants.{Memory};
 ghost use Rattle.trust.specs.Trusting.{holds, trusts};
 ghost use Rattle.jobs.specs.Owned.{goals_at};
 ghost use Rattle.handling.specs.Viewing.{places_of, desk_at};
-ghost use Rattle.closures.specs.Trees.{record_at};
+ghost use Rattle.records.specs.Trees.{record_at};
 ghost use Rattle.choose.specs.Visible.{AreStored};
 ghost use Rattle.goals.specs.Reusing.{path_before, is_found_at, done_path, found_by, found_on, found_in, class_for, IsFinishedBuild, IsHeldAmong, IsUsedAgain};
 
 use classes::Class;
-use closures::{Realisation, Resolved};
+use records::{Label, Realisation, Record, Resolved};
 use jobs::{Goal, Jobs, State};
 use model::Refusal;
 use realise::Desk;
-use records::{Label, Record};
 use std::alloc::Global;
 use store::Table;
 use storepath::StorePath;

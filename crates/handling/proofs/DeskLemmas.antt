@@ -14,7 +14,7 @@ use Rattle.records.specs.Recorded.{Recorded, without_tree}
 use Rattle.store.specs.Stored.{Extends}
 use Rattle.realise.specs.Held.{paths_held, with_archive, with_archives}
 use Rattle.realise.specs.Holdings.{Holdings, paths_of, holds_derivation, IsClosedWith}
-use Rattle.closures.specs.Trees.{source_at}
+use Rattle.records.specs.Trees.{source_at}
 use Rattle.handling.specs.Sound.{sources_at, records_at, desk_of, IsSized, IsSound, IsEmpty, Beside}
 
 -- a path of the table

@@ -14,7 +14,7 @@ use Rattle.model.specs.FinishedBuilds.{is_record_at}
 use Rattle.model.specs.ForgetRequests as model
 use Rattle.model.proofs.BoolLemmas.{either, same_bytes, bytes_eq_sym, both_parts, or_cases}
 use Rattle.records.specs.Recorded.{Recorded}
-use Rattle.closures.specs.Trees.{tree_in, source_at, record_at}
+use Rattle.records.specs.Trees.{tree_in, source_at, record_at}
 use Rattle.realise.specs.Held.{paths_held, bytes_at}
 use Rattle.realise.specs.Holdings.{Holdings, paths_of, is_recorded_at, remaining, refers_to, is_needed, stays_held, without_records}
 use Rattle.realise.proofs.ForgettingLemmas.{stays_closed, all_left}

@@ -8,7 +8,7 @@ use Rattle.model.specs.Events.{Request, AddSource, AddDerivation, Offer, Fetch, 
 use Rattle.model.specs.Choices as choices
 use Rattle.model.specs.Outcomes.{view_of, sight_of}
 use Rattle.model.specs.GoalRequests.{resolve_for}
-use Rattle.closures.specs.Sound.{IsSoundPlan}
+use Rattle.records.specs.Sound.{IsSoundPlan}
 
 -- the plan of the closure of classes and sources for a user, if there is one, has sound records
 abbrev pub HasSoundPlanOf : Setup → World → List ℕ → List (List ℕ) → List (List ℕ) → Type 0

@@ -8,7 +8,7 @@ use Rattle.model.specs.KeptClosures.{is_planned}
 use Rattle.model.specs.Closures.{tree_of_entry, entry_before, IsWhole}
 use Rattle.records.specs.Recorded.{Recorded}
 use Rattle.laws.proofs.SetLemmas.{Ascends}
-use Rattle.closures.specs.Trees.{source_at, record_at}
+use Rattle.records.specs.Trees.{source_at, record_at}
 use Rattle.realise.specs.Holdings.{Holdings, paths_of, IsClosed}
 
 -- sources with their trees

@@ -6,7 +6,7 @@ use Rattle.model.specs.declared.refusal.Refusal.{Refusal}
 use Rattle.model.specs.declared.refusal.Refusal.TheVariants.{UnknownUser, Quota, BadUsers, BadName, TooLarge, BadNar, BadPath, BadLine, BadDerivation, MissingInput, RankTooHigh, UnknownDerivation, UnknownGoal, WrongState, NotRealised, RewriteRefused, NotHeld, ClosureTooLarge, InUse, BuilderFailed, BadOutput, InputFault, OutputFault, Memory, Clash, Stopped}
 use Rattle.model.specs.declared.refusal.RewriteFault.TheVariants.{InName, Overlap, Accidental}
 use Rattle.model.specs.Worlds.{Resolved, Job, State, Waiting, Planned, Building, Done, Failed, Goal}
-use Rattle.closures.specs.Codes.{resolved_code}
+use Rattle.records.specs.Codes.{resolved_code}
 use Rattle.states.specs.Codes.{job_code}
 use Rattle.jobs.specs.Owned.{Owned, OwnedByAll}
 

@@ -10,7 +10,7 @@ ghost use Rattle.jobs.specs.Owned.{with_goals, ChangesOwn};
 
 use crate::goal::Goal;
 use crate::goals::Goals;
-use closures::Entry;
+use records::Entry;
 use states::State;
 use storepath::StorePath;
 use trust::{User, is_reached};

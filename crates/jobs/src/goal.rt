@@ -7,7 +7,7 @@ ghost use Rattle.jobs.specs.States.{path_in, is_alike, planned_with};
 ghost use Rattle.jobs.specs.Joining.{same_as};
 
 use crate::same::same_resolved;
-use closures::Resolved;
+use records::Resolved;
 use states::{Job, State};
 use std::marker::Model;
 use storepath::StorePath;

@@ -14,7 +14,7 @@ ghost use Rattle.jobs.specs.States.{planned_with, IsIdle};
 use crate::finished::goal_of;
 use crate::goal::Goal;
 use crate::indexes::Indexes;
-use closures::Resolved;
+use records::Resolved;
 use model::Refusal;
 use states::{Job, State};
 use std::alloc::Global;

@@ -11,7 +11,7 @@ use crate::ascending::Ascending;
 use crate::finished::{finished_under, first_alike};
 use crate::goal::Goal;
 use crate::index::{exchange_at, insert_at, insert_reserved_at, numbers_at, remove_at, reserve_at};
-use closures::Resolved;
+use records::Resolved;
 use indexmap::IndexMap;
 use model::Refusal;
 use states::Job;

@@ -4,7 +4,7 @@ ghost use Rattle.std.specs.Prelude.{◌≡◌};
 ghost use Rattle.std.specs.Cmp.Lexicographic.{pointwise};
 ghost use Rattle.model.specs.Goals.{same_entry, same_resolved};
 
-use closures::{Entry, Resolved};
+use records::{Entry, Resolved};
 
 /// Whether two entries are of one class at one path, with the same labels, or are one source.
 fn same_entry(one: &Entry, other: &Entry) -> bool

@@ -19,7 +19,7 @@ ghost use Rattle.jobs.specs.Planners.{HasPlanners};
 use crate::goal::Goal;
 use crate::goals::Goals;
 use crate::planners::Planners;
-use closures::Resolved;
+use records::Resolved;
 use model::Refusal;
 use states::{Job, State};
 use std::alloc::Global;

@@ -3,7 +3,7 @@ use Rattle.std.specs.Prelude.{refl}
 use Rattle.std.specs.Coded.{Coded, code_by, coded×}
 use Rattle.model.specs.Worlds.{Job, Resolved}
 use Rattle.model.specs.Goals.{Running}
-use Rattle.closures.specs.Codes.{resolved_code}
+use Rattle.records.specs.Codes.{resolved_code}
 use Rattle.states.specs.Codes.{job_code}
 
 abbrev pub running_code : Coded Running

@@ -8,7 +8,7 @@ ghost use Rattle.trust.specs.Naming.{name_at};
 ghost use Rattle.leading.specs.Asking.{IsAnswerTo};
 
 use crate::leader::leads;
-use closures::Resolved;
+use records::Resolved;
 use jobs::{Job, Jobs};
 use model::Refusal;
 use std::alloc::AllocError;

@@ -7,8 +7,7 @@ ghost use Rattle.model.specs.Talk.{class_text, label_text, labels_text, entry_te
 
 use crate::pieces::{add, add_number};
 use classes::Class;
-use closures::Entry;
-use records::Label;
+use records::{Entry, Label};
 use std::alloc::{AllocError, Global};
 
 /// Adds a mark, and what a path is there for: the path of a class, or `source`.

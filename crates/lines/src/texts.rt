@@ -9,7 +9,7 @@ ghost use Rattle.events.specs.Terms.{reply_of};
 
 use crate::entries::add_entries;
 use crate::pieces::{add, add_number};
-use closures::Entry;
+use records::Entry;
 use events::Reply;
 use model::Refusal;
 use nar::{Tree, tree_text};

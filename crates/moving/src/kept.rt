@@ -8,7 +8,7 @@ ghost use Rattle.moving.specs.declared.repair.Repair.{Repair as RepairValue};
 
 use crate::moves::Move;
 use crate::repair::{Repair, copy_of};
-use closures::Realisation;
+use records::Realisation;
 use lru::LruCache;
 use model::Refusal;
 use std::alloc::{AllocError, Global};

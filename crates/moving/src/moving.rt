@@ -11,16 +11,15 @@ ghost use Rattle.records.specs.Recorded.{AreInPathOrder};
 ghost use Rattle.moving.specs.Served.{served_from, MovesTo};
 ghost use Rattle.moving.specs.AtHand.{one_more};
 ghost use Rattle.moving.specs.Counting.{bound_of, IsAtHand, IsBounded, IsToRepair};
-ghost use Rattle.closures.specs.Sound.{IsSoundRecord};
+ghost use Rattle.records.specs.Sound.{IsSoundRecord};
 
 use crate::cache::Cache;
 use crate::images::images_of;
 use crate::moves::{Move, is_any_replaced, is_any_replaced_by, moved_labels, moves_of};
-use closures::Realisation;
+use records::{Label, Realisation, Record};
 use indexmap::IndexMap;
 use model::{Refusal, RewriteFault};
 use nar::{Nar, encode};
-use records::{Label, Record};
 use rewrite::{Named, settle, substitute};
 use scan::occurrences;
 use std::alloc::{AllocError, Global};

@@ -7,12 +7,12 @@ ghost use Rattle.moving.specs.Repaired.{repaired_of, made_len};
 ghost use Rattle.std.specs.Coded.{codes};
 ghost use Rattle.std.proofs.Props.{props};
 ghost use Rattle.model.specs.TreeCode.{tree_code};
-ghost use Rattle.closures.specs.Codes.{record_code};
+ghost use Rattle.records.specs.Codes.{record_code};
 
 use crate::moves::Move;
 use crate::moving::repaired;
 use classes::Class;
-use closures::Realisation;
+use records::Realisation;
 use model::Refusal;
 use nar::Tree;
 use std::alloc::{AllocError, Global};

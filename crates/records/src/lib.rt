@@ -3,11 +3,17 @@
 #![tactic(auto)]
 
 mod desk_entry;
+mod entries;
 mod label;
 mod order;
+mod realisation;
 mod record;
+mod resolved;
 
 pub use desk_entry::DeskEntry;
+pub use entries::{Closure, Entry};
 pub use label::Label;
 pub use order::{is_class_before, labels_in_order, labels_of};
+pub use realisation::{Realisation, Source};
 pub use record::Record;
+pub use resolved::Resolved;

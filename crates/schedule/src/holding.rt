@@ -6,7 +6,7 @@ ghost use Rattle.model.specs.KeptClosures.{is_planned};
 ghost use Rattle.states.specs.States.{state_of};
 ghost use Rattle.schedule.specs.Sweeping.{holds_path, hold_path, has_entry_at, keeps_path, keep_path, keep_any_path, IsHolding, Holds};
 
-use closures::Entry;
+use records::Entry;
 use indexmap::IndexSet;
 use jobs::{Goal, Jobs, State};
 use model::Refusal;

@@ -16,7 +16,7 @@ use Rattle.model.proofs.BoolLemmas.{either, same_bytes, bytes_same, or_cases, bo
 use Rattle.laws.proofs.MemberLemmas.{In, in_of, contains_of, any_of, in_left, in_append}
 use Rattle.records.specs.LabelLaws.{same_label_laws}
 use Rattle.records.specs.declared.desk_entry.DeskEntry.{DeskEntry}
-use Rattle.closures.specs.Entries.{is_entry_of}
+use Rattle.records.specs.ClosureEntries.{is_entry_of}
 use Rattle.realise.specs.Holdings.{Holdings, is_on, charged_all, sources_in, records_in, charged_more, holds_entry}
 use Rattle.records.specs.DeskEntries.{entry_path}
 use Rattle.store.specs.Stored.{Extends}

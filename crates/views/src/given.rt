@@ -12,7 +12,7 @@ ghost use Rattle.handling.specs.Handling.{IsHandledBySight};
 ghost use Rattle.handling.specs.Sound.{IsClosure};
 
 use choose::{Plan, View, plan};
-use closures::{Closure, Entry};
+use records::{Closure, Entry};
 use events::{CopiedReply, Reply};
 use handling::desks_in_view;
 use laws::closures_are_whole;

@@ -13,12 +13,11 @@ ghost use Rattle.handling.specs.Handling.{IsHandledBySight};
 ghost use Rattle.views.specs.Taking.{tree_with_path, counted, missing_on, are_roomy, AreCopyable, IsLabelledBy, has_built, with_built, CopiesEntries};
 
 use crate::given::entries_for;
-use closures::Realisation;
+use records::{DeskEntry, Realisation};
 use events::{CopiedReply, Reply};
 use model::Refusal;
 use nar::Tree;
 use realise::{Desk, Limits, MOST_RECORDS, MOST_SOURCES};
-use records::DeskEntry;
 use serving::{Cache, served_are_made};
 use std::alloc::Global;
 use store::Table;
@@ -26,7 +25,7 @@ use storepath::StorePath;
 use trust::Trust;
 
 /// The path by which a class is served among entries.
-fn path_for(class: &StorePath, entries: &[closures::Entry]) -> Result<StorePath, Refusal>
+fn path_for(class: &StorePath, entries: &[records::Entry]) -> Result<StorePath, Refusal>
     ensures { let answer = path_for class.now entries.now in MatchResult result
         (λ path. answer ≡ Some path)
         (λ e. (e ≡ Memory) ⊎ ((e ≡ NotRealised) × (answer ≡ None))) }
@@ -44,7 +43,7 @@ fn path_for(class: &StorePath, entries: &[closures::Entry]) -> Result<StorePath,
 /// The trees of entries, with their paths. The one error is memory.
 pub fn trees_of(
     alloc: Global,
-    entries: &[closures::Entry],
+    entries: &[records::Entry],
 ) -> Result<Vec<(StorePath, Tree)>, Refusal>
     ensures { MatchResult result
         (λ trees. trees.items ≡ map tree_with_path entries.now)
@@ -62,7 +61,7 @@ pub fn trees_of(
 fn missing_on(
     alloc: Global,
     desk: &Desk,
-    entries: &[closures::Entry],
+    entries: &[records::Entry],
 ) -> Result<Vec<(DeskEntry, u64)>, Refusal>
     ensures found { IfOk result (λ found.
         found.items ≡ map counted (missing_on desk.now entries.now)) }
@@ -131,7 +130,7 @@ fn copy_entries(
     table: &mut Table,
     desk: &mut Desk,
     limits: Limits,
-    entries: &[closures::Entry],
+    entries: &[records::Entry],
 ) -> Result<(), Refusal>
     requires sound { IsSound table.old.sources limits.charge desk.old }
     requires copyable { AreCopyable entries.now }
@@ -167,7 +166,7 @@ pub fn copy_all(
     table: &mut Table,
     desk: &mut Desk,
     limits: Limits,
-    entries: &[closures::Entry],
+    entries: &[records::Entry],
 ) -> Result<(), Refusal>
     requires sound { IsSound table.old.sources limits.charge desk.old }
     requires closure { IsClosure entries.now }
@@ -178,7 +177,7 @@ pub fn copy_all(
 }
 
 /// Whether a record is that of one of the entries.
-fn is_among(entries: &[closures::Entry], built: &Realisation) -> bool
+fn is_among(entries: &[records::Entry], built: &Realisation) -> bool
     ensures { result ≡ has_built entries.now built.now }
 {
     entries.iter().any(|entry| entry.is_of(built))
@@ -187,16 +186,16 @@ fn is_among(entries: &[closures::Entry], built: &Realisation) -> bool
 /// Entries with that of a record more, unless it is among them. The one error is memory.
 fn with_built(
     alloc: Global,
-    entries: &[closures::Entry],
+    entries: &[records::Entry],
     built: Realisation,
-) -> Result<Vec<closures::Entry>, Refusal>
+) -> Result<Vec<records::Entry>, Refusal>
     ensures { MatchResult result
         (λ all. all.items ≡ with_built entries.now built)
         (λ e. e ≡ Memory) }
 {
     let mut all = entries.to_vec(alloc)?;
     if !is_among(entries, &built) {
-        all.push(closures::Entry::of_record(built))?;
+        all.push(records::Entry::of_record(built))?;
     }
     Ok(all)
 }
@@ -216,7 +215,7 @@ pub fn copy_with(
     table: &mut Table,
     desk: &mut Desk,
     limits: Limits,
-    entries: &[closures::Entry],
+    entries: &[records::Entry],
     built: Realisation,
 ) -> Result<(), Refusal>
     requires sound { IsSound table.old.sources limits.charge desk.old }

@@ -1,7 +1,7 @@
 use Rattle.std.proofs.Common.{◌∙◌, refl, sym, ap, Some}
 use Rattle.std.specs.Prelude.{option_copied, option_map, is_some}
 use Rattle.model.specs.Worlds.{pin_of, tree_at}
-use Rattle.closures.specs.Trees.{record_at}
+use Rattle.records.specs.Trees.{record_at}
 use Rattle.choose.proofs.ChoosingLemmas.{found_choice, found_stored, made_record}
 use Rattle.choose.proofs.choice.chosen.Goals as goal
 

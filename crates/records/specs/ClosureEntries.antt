@@ -1,8 +1,8 @@
 -- Entries.
 use Rattle.std.specs.Prelude.{Bool, false}
 use Rattle.model.specs.Worlds as worlds
-use Rattle.closures.specs.declared.entry.Item.{Item}
-use Rattle.closures.specs.declared.entry.Item.TheVariants as item
+use Rattle.records.specs.declared.entries.Item.{Item}
+use Rattle.records.specs.declared.entries.Item.TheVariants as item
 
 -- what contracts see of an entry
 abbrev pub entry_of : Item → worlds.Entry

@@ -6,9 +6,10 @@ ghost use Rattle.model.specs.Endings.{label_of_entry, labels_from};
 ghost use Rattle.model.specs.declared.refusal.Refusal.TheVariants.{Memory};
 ghost use Rattle.records.specs.Recorded.{AreInPathOrder};
 
-use crate::entry::{Closure, Entry};
+use crate::entries::{Closure, Entry};
 use model::Refusal;
-use records::{Label, labels_in_order};
+use crate::label::Label;
+use crate::order::labels_in_order;
 use std::alloc::{AllocError, Global};
 use std::marker::Model;
 use std::sync::ArcSlice;
@@ -35,7 +36,7 @@ impl Drop for Resolved {
 impl Model for Resolved {
     ghost use Rattle.std.specs.Arc.{arc_slice_items};
     ghost use Rattle.model.specs.Worlds.{Resolved as ResolvedValue};
-    ghost use Rattle.closures.specs.Codes.{resolved_code};
+    ghost use Rattle.records.specs.Codes.{resolved_code};
 
     ghost Value = { ResolvedValue };
 

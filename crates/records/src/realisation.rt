@@ -5,7 +5,8 @@ ghost use Rattle.records.specs.Recorded.{with_tree, AreInPathOrder, without_tree
 
 use classes::Class;
 use nar::Tree;
-use records::{Label, Record};
+use crate::label::Label;
+use crate::record::Record;
 use std::alloc::AllocError;
 use std::marker::Model;
 use storepath::StorePath;
@@ -23,7 +24,7 @@ impl Drop for Realisation {
 }
 
 impl Model for Realisation {
-    ghost use Rattle.closures.specs.Codes.{record_code};
+    ghost use Rattle.records.specs.Codes.{record_code};
     ghost use Rattle.model.specs.Worlds.{Record as RecordValue};
     ghost use Rattle.records.specs.Recorded.{with_tree};
 
@@ -105,7 +106,7 @@ impl Drop for Source {
 }
 
 impl Model for Source {
-    ghost use Rattle.closures.specs.Codes.{source_code};
+    ghost use Rattle.records.specs.Codes.{source_code};
     ghost use Rattle.model.specs.Worlds.{Source as SourceValue};
 
     ghost Value = { SourceValue };

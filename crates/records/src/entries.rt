@@ -5,13 +5,13 @@ ghost use Rattle.model.specs.declared.refusal.Refusal.TheVariants.{Memory};
 ghost use Rattle.model.specs.Worlds.{OfSource, OfRecord, path_of_entry};
 ghost use Rattle.model.specs.Closures.{class_of_entry, labels_of_entry, tree_of_entry};
 ghost use Rattle.records.specs.DeskEntries.{entry_with};
-ghost use Rattle.closures.specs.Entries.{is_entry_of};
+ghost use Rattle.records.specs.ClosureEntries.{is_entry_of};
 
 use crate::realisation::{Realisation, Source};
 use classes::Class;
 use model::Refusal;
 use nar::Tree;
-use records::Label;
+use crate::label::Label;
 use std::alloc::AllocError;
 use std::marker::Model;
 use std::sync::ArcSlice;
@@ -44,14 +44,14 @@ impl Drop for Entry {
 }
 
 impl Model for Entry {
-    ghost use Rattle.closures.specs.Codes.{entry_code};
+    ghost use Rattle.records.specs.Codes.{entry_code};
     ghost use Rattle.model.specs.Worlds.{Entry as EntryValue};
 
     ghost Value = { EntryValue };
 
     ghost coded = { entry_code };
 
-    ghost use Rattle.closures.specs.Entries.{entry_of};
+    ghost use Rattle.records.specs.ClosureEntries.{entry_of};
 
     ghost view = { λ e. entry_of e.item };
 }
@@ -118,12 +118,12 @@ impl Entry {
 
     /// The entry without its tree, as it is put on a desk. The copy shares the labels. The one error
     /// is memory.
-    pub fn without_tree(&self) -> Result<records::DeskEntry, AllocError>
+    pub fn without_tree(&self) -> Result<crate::desk_entry::DeskEntry, AllocError>
         ensures { IfOk result (λ entry. entry_with (tree_of_entry self.now) entry ≡ self.now) }
     {
         match &self.item {
-            Item::Record(record) => Ok(records::DeskEntry::Record(record.record().clone()?)),
-            Item::Source(source) => Ok(records::DeskEntry::Source(source.path().clone()?)),
+            Item::Record(record) => Ok(crate::desk_entry::DeskEntry::Record(record.record().clone()?)),
+            Item::Source(source) => Ok(crate::desk_entry::DeskEntry::Source(source.path().clone()?)),
         }
     }
 
@@ -167,7 +167,7 @@ impl Model for Closure {
     ghost use Rattle.std.specs.Arc.{arc_slice_items};
     ghost use Rattle.std.specs.Coded.{coded_list};
     ghost use Rattle.std.specs.Prelude.{List};
-    ghost use Rattle.closures.specs.Codes.{entry_code};
+    ghost use Rattle.records.specs.Codes.{entry_code};
     ghost use Rattle.model.specs.Worlds.{Entry as EntryValue};
 
     ghost Value = { List EntryValue };

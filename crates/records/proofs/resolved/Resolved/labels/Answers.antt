@@ -3,7 +3,7 @@ use Rattle.std.proofs.lemmas.Result.{err_from_is_err_and}
 use Rattle.model.specs.Worlds.{Entry, Label}
 use Rattle.model.specs.Endings.{label_of_entry}
 use Rattle.records.proofs.LoopLemmas.{drop_next}
-use Rattle.closures.proofs.resolved.Resolved.labels.Goals as goal
+use Rattle.records.proofs.resolved.Resolved.labels.Goals as goal
 
 pub returns-in_err-label_of : goal.returns-in_err-label_of
 returns-in_err-label_of c =

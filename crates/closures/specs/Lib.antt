@@ -1,4 +1,0 @@
-pub mod Codes
-pub mod Entries
-pub mod Sound
-pub mod Trees
