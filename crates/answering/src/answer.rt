@@ -6,9 +6,8 @@ ghost use Rattle.model.specs.Replies.{ends_wait};
 ghost use Rattle.model.specs.Worlds.{Job as Goal};
 ghost use Rattle.events.specs.Terms.{event_of, reply_of};
 
-use events::{Event, Reply};
+use events::{Event, Job, Reply};
 use model::Refusal;
-use states::Job;
 use std::alloc::Global;
 
 /// What answers the events of a session, and waits for its goals.

@@ -9,10 +9,9 @@ ghost use Rattle.events.specs.Terms.{event_of, reply_of};
 ghost use Rattle.answering.specs.Answered.{IsAnswered};
 
 use crate::answer::Answer;
-use events::{Event, Reply};
+use events::{Event, Job, Reply};
 use lines::{Told, answer_text, told_in};
 use model::Refusal;
-use states::Job;
 use std::alloc::Global;
 use trust::User;
 

@@ -5,9 +5,8 @@ ghost use Rattle.workers.specs.Outputs.{bytes_of, HasFailed};
 ghost use Rattle.workers.specs.declared.runner.RunFault.TheVariants.{Device};
 
 use builder::{Explains, Fault, Logged};
-use events::Reply;
+use events::{Reply, State};
 use leading::RunningJob;
-use states::State;
 use std::alloc::Global;
 use std::fmt::{Display, Formatter};
 use std::io::Eprint;

@@ -10,7 +10,7 @@ ghost use Rattle.model.specs.Worlds.{is_user_name};
 ghost use Rattle.builder.specs.Commands.{AreStreams, IsCommandFor, Sets, SetsVariable, inputs_path, job_path, log_path};
 
 use aterm::{Derivation, Text};
-use states::Job;
+use events::Job;
 use std::alloc::{AllocError, Global};
 use std::os::unix::process::CommandExt;
 use std::path::{Path, PathBuf};

@@ -11,7 +11,7 @@ use crate::fault::Fault;
 use aterm::parse;
 use leading::RunningJob;
 use model::Refusal;
-use states::Job;
+use events::Job;
 use std::alloc::{AllocError, Global};
 use std::path::PathBuf;
 use std::process::Command;

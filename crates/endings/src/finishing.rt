@@ -10,7 +10,7 @@ ghost use Rattle.model.specs.Worlds.{are_users};
 ghost use Rattle.model.specs.Goals.{goal_at};
 ghost use Rattle.model.specs.Events.{Finish as FinishRequest};
 ghost use Rattle.events.specs.declared.reply.Reply.TheVariants.{GoalState};
-ghost use Rattle.states.specs.States.{state_of};
+ghost use Rattle.events.specs.States.{state_of};
 ghost use Rattle.trust.specs.Trusting.{trusts};
 ghost use Rattle.trust.specs.Naming.{IsWithin, name_at};
 ghost use Rattle.store.specs.Stored.{AreNew, sources_of};

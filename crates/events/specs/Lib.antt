@@ -1,1 +1,3 @@
 pub mod Terms
+pub mod Codes
+pub mod States

@@ -8,7 +8,7 @@ use Rattle.events.specs.declared.event.Request.TheVariants.{AddSource, AddDeriva
 use Rattle.events.specs.declared.event.Event.{Event}
 use Rattle.events.specs.declared.reply.Reply.{Reply}
 use Rattle.events.specs.declared.reply.Reply.TheVariants.{Done, Path, Derivation, Content, Entries, GoalNumber, GoalState, Refused}
-use Rattle.states.specs.States.{state_of}
+use Rattle.events.specs.States.{state_of}
 
 abbrev pub request_of : Request → events.Request
 request_of (AddSource name tree) = events.AddSource name tree

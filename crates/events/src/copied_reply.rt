@@ -2,14 +2,14 @@
 
 ghost use Rattle.std.specs.Prelude.{◌≡◌, IfOk, IfErr, false};
 ghost use Rattle.model.specs.Events.{GoalState as GoalStateReply};
-ghost use Rattle.states.specs.States.{state_of};
+ghost use Rattle.events.specs.States.{state_of};
 ghost use Rattle.events.specs.Terms.{reply_of, shares_nothing};
 ghost use Rattle.events.specs.declared.reply.Reply.TheVariants.{Done, GoalNumber, GoalState, Refused};
-ghost use Rattle.states.specs.declared.state.State.TheVariants.{Planned, Failed};
+ghost use Rattle.events.specs.declared.state.State.TheVariants.{Planned, Failed};
 
 use crate::reply::Reply;
 use model::Refusal;
-use states::State;
+use crate::state::State;
 use std::alloc::AllocError;
 use std::marker::Model;
 

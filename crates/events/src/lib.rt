@@ -3,10 +3,14 @@
 
 mod copied_reply;
 mod event;
+mod job;
 mod output;
 mod reply;
+mod state;
 
 pub use copied_reply::CopiedReply;
 pub use event::{Event, Request};
+pub use job::Job;
 pub use output::Output;
 pub use reply::Reply;
+pub use state::State;

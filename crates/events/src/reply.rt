@@ -7,7 +7,7 @@ ghost use Rattle.events.specs.Terms.{reply_of};
 use records::Closure;
 use model::Refusal;
 use nar::Tree;
-use states::State;
+use crate::state::State;
 use storepath::StorePath;
 
 /// The answer to one event.

@@ -9,7 +9,7 @@ ghost use Rattle.trust.specs.Naming.{names, IsWithin};
 ghost use Rattle.choose.specs.Visible.{IsComplete};
 ghost use Rattle.store.specs.Stored.{put_all};
 ghost use Rattle.jobs.specs.Owned.{goals_at, with_goals_at};
-ghost use Rattle.states.specs.States.{state_of};
+ghost use Rattle.events.specs.States.{state_of};
 ghost use Rattle.jobs.specs.States.{planned_with};
 ghost use Rattle.handling.specs.Stored.{source_of_entry};
 ghost use Rattle.handling.specs.Sound.{IsSound, IsClosure, IsStored, AreGoalsSound};

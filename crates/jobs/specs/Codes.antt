@@ -7,7 +7,7 @@ use Rattle.model.specs.declared.refusal.Refusal.TheVariants.{UnknownUser, Quota,
 use Rattle.model.specs.declared.refusal.RewriteFault.TheVariants.{InName, Overlap, Accidental}
 use Rattle.model.specs.Worlds.{Resolved, Job, State, Waiting, Planned, Building, Done, Failed, Goal}
 use Rattle.records.specs.Codes.{resolved_code}
-use Rattle.states.specs.Codes.{job_code}
+use Rattle.events.specs.Codes.{job_code}
 use Rattle.jobs.specs.Owned.{Owned, OwnedByAll}
 
 abbrev pub refusal_code : Coded Refusal

@@ -11,7 +11,7 @@ ghost use Rattle.jobs.specs.Owned.{with_goals, ChangesOwn};
 use crate::goal::Goal;
 use crate::goals::Goals;
 use records::Entry;
-use states::State;
+use events::State;
 use storepath::StorePath;
 use trust::{User, is_reached};
 

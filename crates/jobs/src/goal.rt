@@ -2,13 +2,13 @@
 
 ghost use Rattle.std.specs.Prelude.{◌≡◌, None, Some, option_copied};
 ghost use Rattle.model.specs.Goals.{in_state, new_goal, job_in};
-ghost use Rattle.states.specs.States.{state_of};
+ghost use Rattle.events.specs.States.{state_of};
 ghost use Rattle.jobs.specs.States.{path_in, is_alike, planned_with};
 ghost use Rattle.jobs.specs.Joining.{same_as};
 
 use crate::same::same_resolved;
 use records::Resolved;
-use states::{Job, State};
+use events::{Job, State};
 use std::marker::Model;
 use storepath::StorePath;
 
@@ -37,7 +37,7 @@ impl Model for Goal {
 
     ghost coded = { goal_code };
 
-    ghost use Rattle.states.specs.States.{state_of};
+    ghost use Rattle.events.specs.States.{state_of};
 
     ghost view = { λ g.
         record { derivation = g.derivation; resolved = g.resolved; state = state_of g.state } };

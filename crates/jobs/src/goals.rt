@@ -8,7 +8,7 @@ ghost use Rattle.model.specs.Goals.{goal_at, in_state, new_goal, members, led_by
 ghost use Rattle.jobs.specs.Joining.{job_with, least_with, lesser_of};
 ghost use Rattle.jobs.specs.Owned.{with_goals, ChangesOwn};
 ghost use Rattle.jobs.specs.Numbers.{numbers, leads_at, finished, first_built};
-ghost use Rattle.states.specs.States.{state_of};
+ghost use Rattle.events.specs.States.{state_of};
 ghost use Rattle.jobs.specs.States.{planned_with, IsIdle};
 
 use crate::finished::goal_of;
@@ -16,7 +16,7 @@ use crate::goal::Goal;
 use crate::indexes::Indexes;
 use records::Resolved;
 use model::Refusal;
-use states::{Job, State};
+use events::{Job, State};
 use std::alloc::Global;
 use std::hash::RandomState;
 use std::marker::Model;

@@ -14,7 +14,7 @@ use crate::index::{exchange_at, insert_at, insert_reserved_at, numbers_at, remov
 use records::Resolved;
 use indexmap::IndexMap;
 use model::Refusal;
-use states::Job;
+use events::Job;
 use std::alloc::Global;
 use std::hash::RandomState;
 use storepath::StorePath;

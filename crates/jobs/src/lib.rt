@@ -14,5 +14,5 @@ mod users;
 
 pub use goal::Goal;
 pub use goals::MOST_GOALS;
-pub use states::{Job, State};
+pub use events::{Job, State};
 pub use users::Jobs;

@@ -4,16 +4,15 @@ ghost use Rattle.std.specs.Prelude.{◌≡◌, ◌++◌, ◌∷◌, [], OnOk, If
 ghost use Rattle.model.specs.declared.refusal.Refusal.TheVariants.{Memory};
 ghost use Rattle.model.specs.Events as events;
 ghost use Rattle.model.specs.Talk.{job_text, state_text, reply_text, answer_text};
-ghost use Rattle.states.specs.States.{state_of};
+ghost use Rattle.events.specs.States.{state_of};
 ghost use Rattle.events.specs.Terms.{reply_of};
 
 use crate::entries::add_entries;
 use crate::pieces::{add, add_number};
 use records::Entry;
-use events::Reply;
+use events::{Job, Reply, State};
 use model::Refusal;
 use nar::{Tree, tree_text};
-use states::{Job, State};
 use std::alloc::{AllocError, Global};
 use storepath::StorePath;
 

@@ -9,10 +9,9 @@ ghost use Rattle.running.specs.Sessions.{AsksStatus, Calls, GivesUp, HasTold};
 
 use crate::crews::Crew;
 use crate::meeting::Meet;
-use events::{Event, Reply, Request};
+use events::{Event, Reply, Request, State};
 use model::Refusal;
 use session::{Answer, Job};
-use states::State;
 use std::alloc::Global;
 use std::marker::Model;
 use std::sync::Wait;

@@ -3,7 +3,7 @@
 ghost use Rattle.std.specs.Prelude.{◌≡◌, length, bytes_eq, All, IfErr, OnOk};
 ghost use Rattle.model.specs.declared.refusal.Refusal.TheVariants.{Memory};
 ghost use Rattle.model.specs.KeptClosures.{is_planned};
-ghost use Rattle.states.specs.States.{state_of};
+ghost use Rattle.events.specs.States.{state_of};
 ghost use Rattle.schedule.specs.Sweeping.{holds_path, hold_path, has_entry_at, keeps_path, keep_path, keep_any_path, IsHolding, Holds};
 
 use records::Entry;

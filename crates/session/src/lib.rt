@@ -37,6 +37,6 @@ pub use model::Mode;
 pub use nar::{Faults, write_whole};
 pub use serving::{Begun, serve, serve_behind, serve_on, serve_whole_lines};
 pub use session::Session;
-pub use states::Job;
+pub use events::Job;
 pub use streams::flush_after;
 pub use taking::next_line;

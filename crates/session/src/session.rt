@@ -8,10 +8,9 @@ ghost use Rattle.lines.specs.Reading.{Becomes, IsRowOf};
 ghost use Rattle.session.specs.Serving.{Link, Gives, GivesRow, StopsAt};
 
 use answering::{Answer, ask, wait};
-use events::{Event, Reply};
+use events::{Event, Job, Reply};
 use lines::{Reading, Told, answer_text, read_line};
 use model::{Mode, Refusal};
-use states::Job;
 use std::alloc::{AllocError, Global};
 use std::marker::Model;
 

@@ -4,8 +4,8 @@ use Rattle.std.specs.NonZero.{non_zero_u8_get}
 use Rattle.model.specs.declared.refusal.Refusal.{Refusal}
 use Rattle.model.specs.declared.refusal.Refusal.TheVariants.{Memory, Stopped}
 use Rattle.model.specs.Goals.{Running, is_in}
-use Rattle.states.specs.States.{state_of}
-use Rattle.states.specs.declared.state.State.TheVariants.{Planned}
+use Rattle.events.specs.States.{state_of}
+use Rattle.events.specs.declared.state.State.TheVariants.{Planned}
 use Rattle.events.specs.declared.event.Request.{Request}
 use Rattle.events.specs.declared.event.Request.TheVariants.{Plan, Start, Finish, Fail}
 use Rattle.events.specs.declared.event.Event.{Event}

@@ -6,9 +6,8 @@ ghost use Rattle.workers.specs.Outputs.{bytes_of};
 ghost use Rattle.workers.specs.Working.{TakesMemory, ending, met_in, met_by, is_planned, leads_own};
 
 use crate::runner::RunFault;
-use events::{Output, Reply, Request};
+use events::{Output, Reply, Request, State};
 use model::Refusal;
-use states::State;
 use trust::User;
 
 /// What ends the job that the goal of a number leads, of which a runner gave this.

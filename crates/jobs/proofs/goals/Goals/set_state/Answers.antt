@@ -4,7 +4,7 @@ use Rattle.model.specs.Worlds.{Goal}
 use Rattle.model.specs.Goals.{goal_at, in_state}
 use Rattle.jobs.specs.Owned.{Owned}
 use Rattle.jobs.specs.Numbers.{finished, undone}
-use Rattle.states.specs.States.{state_of}
+use Rattle.events.specs.States.{state_of}
 use Rattle.jobs.proofs.NumberLemmas.{found, changed, got}
 use Rattle.jobs.proofs.IndexedLemmas.{indexed_left, built_kept}
 use Rattle.jobs.proofs.FinishedLemmas.{undone_written}

@@ -1,6 +1,6 @@
 use Rattle.std.proofs.Common.{◌≡◌, ◌<◌, Some, ap, sym, ◌∙◌, length, length-set, List}
 use Rattle.model.specs.Goals.{goal_at, with_goal_at, in_state}
-use Rattle.states.specs.States.{state_of}
+use Rattle.events.specs.States.{state_of}
 use Rattle.jobs.proofs.UserLemmas.{goals_read, goals_written}
 use Rattle.jobs.specs.Owned.{Owned}
 use Rattle.jobs.proofs.PlannerLemmas.{state_written}

@@ -1,7 +1,7 @@
 -- How far goals are.
 use Rattle.model.specs.Worlds as model
-use Rattle.states.specs.declared.state.State.{State}
-use Rattle.states.specs.declared.state.State.TheVariants.{Waiting, Planned, Building, Done, Failed}
+use Rattle.events.specs.declared.state.State.{State}
+use Rattle.events.specs.declared.state.State.TheVariants.{Waiting, Planned, Building, Done, Failed}
 
 -- what contracts see of a state
 abbrev pub state_of : State → model.State

@@ -27,7 +27,7 @@ impl Drop for Job {
 
 impl Model for Job {
     ghost use Rattle.model.specs.Worlds.{Job as JobValue};
-    ghost use Rattle.states.specs.Codes.{job_code};
+    ghost use Rattle.events.specs.Codes.{job_code};
 
     ghost Value = { JobValue };
 
