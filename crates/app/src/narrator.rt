@@ -6,7 +6,7 @@ ghost use Rattle.workers.specs.declared.runner.RunFault.TheVariants.{Device};
 
 use builder::{Explains, Fault, Logged};
 use events::{Reply, State};
-use leading::RunningJob;
+use jobs::RunningJob;
 use std::alloc::Global;
 use std::fmt::{Display, Formatter};
 use std::io::Eprint;

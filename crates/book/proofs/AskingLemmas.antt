@@ -12,7 +12,7 @@ use Rattle.model.specs.RunningJobs.{with_kept, led_job, job_led_by}
 use Rattle.model.specs.KeptClosures.{KeptClosuresAreGood}
 use Rattle.model.specs.Steps.{world_after}
 use Rattle.model.specs.HashedTexts.{hashed}
-use Rattle.leading.specs.Asking.{IsAnswerTo}
+use Rattle.jobs.specs.Asking.{IsAnswerTo}
 use Rattle.passes.specs.declared.row.Row.{Row}
 use Rattle.schedule.specs.declared.state.Core.{Core}
 use Rattle.schedule.specs.Standing.{setup_of}

@@ -8,7 +8,7 @@ use Rattle.model.specs.RunningJobs.{job_led_by}
 use Rattle.model.specs.KeptClosures.{IsWellKept}
 use Rattle.model.specs.Steps.{world_after}
 use Rattle.model.specs.HashedTexts.{hashed}
-use Rattle.leading.specs.Asking.{IsAnswerTo}
+use Rattle.jobs.specs.Asking.{IsAnswerTo}
 use Rattle.passes.specs.declared.row.Row.{Row}
 use Rattle.passes.specs.Histories.{events_of, IsLegal}
 

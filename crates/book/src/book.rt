@@ -8,7 +8,7 @@ ghost use Rattle.model.specs.Worlds.{nothing};
 ghost use Rattle.model.specs.HashedTexts.{hashed};
 ghost use Rattle.model.specs.declared.refusal.Refusal.TheVariants.{Memory, Stopped};
 ghost use Rattle.schedule.specs.Standing.{world_of, setup_of, stored_in};
-ghost use Rattle.leading.specs.Asking.{IsAnswerTo};
+ghost use Rattle.jobs.specs.Asking.{IsAnswerTo};
 ghost use Rattle.schedule.specs.Asking.{job_asked_for};
 ghost use Rattle.schedule.specs.Sweeping.{is_held};
 ghost use Rattle.store.specs.Stored.{kept_at};

@@ -9,7 +9,7 @@ ghost use Rattle.builder.specs.declared.fault.Fault.TheVariants.{Memory, NotStar
 use crate::command::{command_for, inputs_path, log_path};
 use crate::fault::Fault;
 use aterm::parse;
-use leading::RunningJob;
+use jobs::RunningJob;
 use model::Refusal;
 use events::Job;
 use std::alloc::{AllocError, Global};

@@ -16,7 +16,7 @@ use crate::output::read_output;
 use crate::outside::Outside;
 use crate::preparing::{Folders, Prepared, prepare};
 use records::Entry;
-use leading::RunningJob;
+use jobs::RunningJob;
 use std::alloc::Global;
 use std::io;
 use std::path::PathBuf;

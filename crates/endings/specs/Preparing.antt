@@ -4,7 +4,7 @@ use Rattle.model.specs.Archives.{Tree}
 use Rattle.model.specs.ArchiveReading.{tree_of_archive}
 use Rattle.model.specs.Worlds.{Goal, Job}
 use Rattle.model.specs.Goals.{goal_at}
-use Rattle.leading.specs.Leading.{leading}
+use Rattle.jobs.specs.Leading.{leading}
 use Rattle.realise.specs.Holdings.{Holdings}
 use Rattle.outputs.specs.declared.input.Input.{Input}
 use Rattle.outputs.specs.declared.settlement.Settlement.{Settlement}

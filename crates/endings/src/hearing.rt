@@ -13,8 +13,7 @@ ghost use Rattle.building.specs.Built.{AreBuiltOn};
 ghost use Rattle.endings.specs.Hearing.{Hears, trees_built, tree_built, all_trees, AreStored, IsBuiltAtPlace, AreAllBuiltOn, AreBuiltFor, IsHeardAtPlace, AreHeard, IsMadeBeside, IsNotMade};
 
 use building::{Built, Gains, built_on, gains_for, waiting};
-use jobs::{Job, Jobs, State};
-use leading::members_reached;
+use jobs::{Job, Jobs, State, members_reached};
 use model::Refusal;
 use nar::Tree;
 use outputs::Settlements;

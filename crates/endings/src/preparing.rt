@@ -11,8 +11,7 @@ ghost use Rattle.handling.specs.Viewing.{desk_at};
 ghost use Rattle.endings.specs.Preparing.{HasLedOutput, HasNeededFor};
 
 use building::input_for_goal;
-use jobs::Jobs;
-use leading::leads;
+use jobs::{Jobs, leads};
 use model::Refusal;
 use outputs::Input;
 use realise::Desk;

@@ -8,3 +8,4 @@ pub mod UserLemmas
 pub mod ForgettingLemmas
 pub mod FirstLemmas
 pub mod FinishedLemmas
+mod LedLemmas

@@ -5,3 +5,6 @@ pub mod Rising
 pub mod Numbers
 pub mod Planners
 pub mod Joining
+pub mod Leading
+pub mod RunningCodes
+pub mod Asking

@@ -8,11 +8,17 @@ mod goal;
 mod goals;
 mod index;
 mod indexes;
+mod leader;
+mod members;
 mod planners;
+mod running;
 mod same;
 mod users;
 
+pub use events::{Job, State};
 pub use goal::Goal;
 pub use goals::MOST_GOALS;
-pub use events::{Job, State};
+pub use leader::leads;
+pub use members::members_reached;
+pub use running::{RunningJob, led_job};
 pub use users::Jobs;

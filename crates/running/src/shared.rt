@@ -6,7 +6,7 @@ ghost use Rattle.running.specs.Calling.{is_read, IsTold};
 
 use crate::meeting::Meet;
 use book::{Front, Naming, Pass};
-use leading::RunningJob;
+use jobs::RunningJob;
 use model::Refusal;
 use schedule::{Event, Query, Reply, User};
 use std::alloc::Global;

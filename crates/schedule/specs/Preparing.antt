@@ -8,7 +8,7 @@ use Rattle.model.specs.Goals.{goal_at}
 use Rattle.model.specs.Reach.{is_among}
 use Rattle.model.specs.References.{candidates}
 use Rattle.model.specs.Worlds.{Desk, Goal, known_of}
-use Rattle.leading.specs.Leading.{leading}
+use Rattle.jobs.specs.Leading.{leading}
 use Rattle.outputs.specs.Kept.{HasOutput, HasPlaced, HasNeeded}
 use Rattle.outputs.specs.declared.input.Input.{Input}
 use Rattle.outputs.specs.declared.settlements.Settlements.{Settlements}

@@ -21,7 +21,7 @@ mod work;
 
 pub use events::{CopiedReply, Event, Output, Reply, Request};
 pub use finding::Finding;
-pub use leading::RunningJob;
+pub use jobs::RunningJob;
 pub use moving::Cache;
 pub use preparing::Need;
 pub use query::{Query, Question};

@@ -3,12 +3,12 @@
 ghost use Rattle.std.specs.Prelude.{◌≡◌, ◌≢◌, false, Err};
 ghost use Rattle.model.specs.declared.refusal.Refusal.TheVariants.{Stopped};
 ghost use Rattle.schedule.specs.Standing.{is_stopped};
-ghost use Rattle.leading.specs.Asking.{IsAnswerTo};
+ghost use Rattle.jobs.specs.Asking.{IsAnswerTo};
 ghost use Rattle.schedule.specs.Asking.{job_asked_for};
 
 use crate::state::Core;
 use handling::place_of;
-use leading::{RunningJob, led_job};
+use jobs::{RunningJob, led_job};
 use model::Refusal;
 use trust::User;
 

@@ -8,7 +8,7 @@ use crate::answer::Answer;
 use crate::calls::with_newlines;
 use crate::devices::{Source, calls_of};
 use crate::turns::is_set_in_time;
-use leading::RunningJob;
+use jobs::RunningJob;
 use model::Refusal;
 use nar::{Tree, encode};
 use running::{Opening, Output, Part, look_ahead};

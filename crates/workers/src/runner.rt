@@ -7,7 +7,7 @@ ghost use Rattle.workers.specs.declared.runner.RunFault.TheVariants.{Device};
 ghost use Rattle.workers.specs.Outputs.{bytes_of, HasFailed};
 
 use events::Reply;
-use leading::RunningJob;
+use jobs::RunningJob;
 use std::alloc::Global;
 use std::num::NonZeroU8;
 

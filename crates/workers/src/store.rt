@@ -7,7 +7,7 @@ ghost use Rattle.events.specs.declared.event.Event.{Event};
 ghost use Rattle.events.specs.declared.reply.Reply.{Reply};
 
 use events::{Event, Reply};
-use leading::RunningJob;
+use jobs::RunningJob;
 use model::Refusal;
 use std::alloc::Global;
 use trust::User;

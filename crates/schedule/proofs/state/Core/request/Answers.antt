@@ -4,7 +4,7 @@ use Rattle.model.specs.RunningJobs.{led_job}
 use Rattle.jobs.specs.Owned.{goals_at}
 use Rattle.trust.specs.Trusting.{trusts}
 use Rattle.trust.specs.Naming.{place_of, name_at}
-use Rattle.leading.specs.Asking.{IsAnswerTo}
+use Rattle.jobs.specs.Asking.{IsAnswerTo}
 use Rattle.schedule.specs.Standing.{setup_of, world_of}
 use Rattle.schedule.proofs.AskingLemmas.{led_at, led_by_none}
 use Rattle.schedule.proofs.state.Core.request.Goals as goal

@@ -6,8 +6,8 @@ use Rattle.model.specs.declared.refusal.Refusal.TheVariants.{WrongState}
 use Rattle.model.specs.Worlds.{Job, Goal}
 use Rattle.model.specs.Goals.{is_in, Running}
 use Rattle.model.specs.RunningJobs.{with_kept, led_job}
-use Rattle.leading.specs.Leading.{leading}
-use Rattle.leading.specs.Asking.{IsAnswerTo}
+use Rattle.jobs.specs.Leading.{leading}
+use Rattle.jobs.specs.Asking.{IsAnswerTo}
 
 not_in : (b : Bool) (kept : Result Running Refusal) (why : Refusal) (check : Result (Unit {0}) Refusal) → check ≡ (if b then Ok tt else Err WrongState)
     → check ≡ Err why → (if b then kept else Err WrongState) ≡ Err why

@@ -5,11 +5,12 @@ ghost use Rattle.model.specs.Goals.{goal_at};
 ghost use Rattle.model.specs.RunningJobs.{led_job};
 ghost use Rattle.jobs.specs.Owned.{goals_at};
 ghost use Rattle.trust.specs.Naming.{name_at};
-ghost use Rattle.leading.specs.Asking.{IsAnswerTo};
+ghost use Rattle.jobs.specs.Asking.{IsAnswerTo};
 
 use crate::leader::leads;
 use records::Resolved;
-use jobs::{Job, Jobs};
+use crate::users::Jobs;
+use events::Job;
 use model::Refusal;
 use std::alloc::AllocError;
 use std::marker::Model;
@@ -33,7 +34,7 @@ impl Drop for RunningJob {
 
 impl Model for RunningJob {
     ghost use Rattle.model.specs.Goals.{Running};
-    ghost use Rattle.leading.specs.Codes.{running_code};
+    ghost use Rattle.jobs.specs.RunningCodes.{running_code};
 
     ghost Value = { Running };
 

@@ -4,8 +4,8 @@ use Rattle.model.specs.Worlds.{Job}
 use Rattle.model.specs.Goals.{goal_at}
 use Rattle.jobs.specs.Owned.{goals_at}
 use Rattle.trust.specs.Naming.{name_at}
-use Rattle.leading.proofs.LedLemmas.{is_refused}
-use Rattle.leading.proofs.running.led_job.Goals as goal
+use Rattle.jobs.proofs.LedLemmas.{is_refused}
+use Rattle.jobs.proofs.running.led_job.Goals as goal
 
 pub returns-in_err-leads : goal.returns-in_err-leads
 returns-in_err-leads c =

@@ -3,9 +3,10 @@
 ghost use Rattle.std.specs.Prelude.{◌<◌, length};
 ghost use Rattle.jobs.specs.Owned.{goals_at};
 ghost use Rattle.trust.specs.Trusting.{trusts};
-ghost use Rattle.leading.specs.Leading.{AreReached};
+ghost use Rattle.jobs.specs.Leading.{AreReached};
 
-use jobs::{Job, Jobs};
+use crate::users::Jobs;
+use events::Job;
 use trust::{Trust, has_place};
 
 /// The numbers of the goals in a job of the user at a place, ascending, if he reaches the user at the

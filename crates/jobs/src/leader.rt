@@ -4,9 +4,9 @@ ghost use Rattle.std.specs.Prelude.{◌≡◌, ◌<◌, length};
 ghost use Rattle.model.specs.Goals.{goal_at};
 ghost use Rattle.jobs.specs.Owned.{goals_at};
 ghost use Rattle.trust.specs.Naming.{name_at};
-ghost use Rattle.leading.specs.Leading.{leading};
+ghost use Rattle.jobs.specs.Leading.{leading};
 
-use jobs::Jobs;
+use crate::users::Jobs;
 use model::Refusal;
 use trust::User;
 
