@@ -20,11 +20,10 @@ ghost use Rattle.desks.specs.Offering.{IsOutput, IsNotSettled, IsNoOutput, HasOf
 
 use crate::entries::add_entry;
 use classes::Admitted;
-use candidates::candidates;
+use outputs::{Input, Output, Settlements, candidates, record_of};
 use events::CopiedReply;
 use model::Refusal;
 use nar::Tree;
-use outputs::{Input, Output, Settlements, record_of};
 use realise::{Desk, Limits};
 use records::{DeskEntry, Label, Record};
 use std::alloc::Global;

@@ -2,6 +2,8 @@
 //! (Dolstra 2006, chapter 6).
 #![tactic(auto)]
 
+mod below;
+mod candidate;
 mod input;
 mod output;
 mod placed;
@@ -10,6 +12,8 @@ mod settlement;
 mod settlements;
 mod sources;
 
+pub use below::records_below;
+pub use candidate::candidates;
 pub use input::Input;
 pub use output::Output;
 pub use record::record_of;

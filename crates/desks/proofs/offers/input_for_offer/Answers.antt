@@ -3,7 +3,7 @@ use Rattle.std.proofs.lemmas.Option.{same_Some}
 use Rattle.model.specs.Classes.{Admission, known_at}
 use Rattle.model.specs.Worlds.{Label}
 use Rattle.outputs.specs.Kept.{HasOutput}
-use Rattle.candidates.specs.Below.{AreCandidates}
+use Rattle.outputs.specs.Below.{AreCandidates}
 use Rattle.desks.specs.Offering.{AreLabels}
 use Rattle.desks.proofs.OfferLemmas.{are_labels}
 use Rattle.desks.proofs.offers.input_for_offer.Goals as goal

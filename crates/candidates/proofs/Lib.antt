@@ -1,2 +1,0 @@
-pub mod SameLemmas
-pub mod StepLemmas

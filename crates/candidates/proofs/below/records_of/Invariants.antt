@@ -1,8 +1,0 @@
-use Rattle.std.proofs.Common.{◌≡◌, take}
-use Rattle.std.specs.Prelude.{filter}
-use Rattle.realise.specs.Holdings.{is_record_of}
-use Rattle.candidates.proofs.StepLemmas.{joined}
-use Rattle.candidates.proofs.below.records_of.Given as goal
-
-abbrev pub invariant-loop-class : goal.invariant-loop-class
-invariant-loop-class l = l.found.items ≡ joined (λ c. filter (is_record_of c) l.desk.records) (take l.class-index l.classes.keys)
