@@ -2,3 +2,4 @@ pub mod Serving
 pub mod Ahead
 pub mod Heads
 pub mod Taking
+pub mod Answered

@@ -10,7 +10,7 @@ ghost use Rattle.session.specs.Serving.{HasFailed};
 use crate::serving::{CHUNK, hold, is_begun};
 use crate::session::Session;
 use crate::streams::read_some;
-use answering::NoUsers;
+use crate::answer::NoUsers;
 use lines::{Reading, cut};
 use model::{Mode, Refusal};
 use nar::Faults;

@@ -10,7 +10,7 @@ ghost use Rattle.session.specs.Serving.{AnsweredSoFar, EndedEarly, EndsAtLast, E
 use crate::serving::{Begun, CHUNK, hold, is_begun};
 use crate::session::Session;
 use crate::streams::{read_some, want_of};
-use answering::{Answer, NoUsers};
+use crate::answer::{Answer, NoUsers};
 use lines::{Reading, cut};
 use model::{Mode, Refusal};
 use nar::{Faults, write_whole};

@@ -21,6 +21,8 @@
 #![tactic(auto)]
 
 mod ahead;
+mod answer;
+mod asking;
 mod counted;
 mod head;
 mod serving;
@@ -29,14 +31,15 @@ mod streams;
 mod taking;
 
 pub use ahead::{Ahead, read_ahead};
-pub use answering::{Answer, NoUsers};
+pub use answer::{Answer, NoUsers};
+pub use asking::{Answered, ask, wait};
 pub use counted::Counted;
+pub use events::Job;
 pub use head::{Head, serve_head, users_of};
 pub use lines::{Reading, answer_text};
 pub use model::Mode;
 pub use nar::{Faults, write_whole};
 pub use serving::{Begun, serve, serve_behind, serve_on, serve_whole_lines};
 pub use session::Session;
-pub use events::Job;
 pub use streams::flush_after;
 pub use taking::next_line;

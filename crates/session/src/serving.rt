@@ -11,7 +11,7 @@ ghost use Rattle.session.specs.Serving.{Finished, HoldsMore, IsFault, IsNoFault,
 
 use crate::session::Session;
 use crate::streams::{flush, read_some, want_of};
-use answering::Answer;
+use crate::answer::Answer;
 use lines::{LONGEST_LINE, cut};
 use model::{Mode, Refusal};
 use nar::{Faults, write_whole};

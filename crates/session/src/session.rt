@@ -7,7 +7,8 @@ ghost use Rattle.lines.specs.declared.line.Reading.TheVariants as readings;
 ghost use Rattle.lines.specs.Reading.{Becomes, IsRowOf};
 ghost use Rattle.session.specs.Serving.{Link, Gives, GivesRow, StopsAt};
 
-use answering::{Answer, ask, wait};
+use crate::answer::Answer;
+use crate::asking::{ask, wait};
 use events::{Event, Job, Reply};
 use lines::{Reading, Told, answer_text, read_line};
 use model::{Mode, Refusal};

@@ -2,7 +2,7 @@
 use Rattle.std.specs.Prelude.{◌≡◌, ℕ, List}
 use Rattle.model.specs.Events as events
 use Rattle.model.specs.Talk.{answer_text, told_in, goal_by}
-use Rattle.answering.specs.declared.asking.Answered.{Answered}
+use Rattle.session.specs.declared.asking.Answered.{Answered}
 
 -- what an actor's reply tells, the goal that it gives him, and what is printed for it as the line of that number
 abbrev pub IsAnswered : ℕ → List ℕ → events.Reply → Answered → Type 0

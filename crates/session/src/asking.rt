@@ -6,7 +6,7 @@ ghost use Rattle.model.specs.Replies.{ends_wait};
 ghost use Rattle.model.specs.Talk.{answer_text, goal_by};
 ghost use Rattle.model.specs.Events as events;
 ghost use Rattle.events.specs.Terms.{event_of, reply_of};
-ghost use Rattle.answering.specs.Answered.{IsAnswered};
+ghost use Rattle.session.specs.Answered.{IsAnswered};
 
 use crate::answer::Answer;
 use events::{Event, Job, Reply};
