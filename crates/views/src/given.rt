@@ -18,7 +18,7 @@ use handling::desks_in_view;
 use laws::closures_are_whole;
 use model::Refusal;
 use realise::Desk;
-use serving::{Cache, served_closure_with};
+use repair::{Cache, served_closure_with};
 use std::alloc::Global;
 use store::Table;
 use storepath::StorePath;

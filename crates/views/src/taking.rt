@@ -18,7 +18,7 @@ use events::{CopiedReply, Reply};
 use model::Refusal;
 use nar::Tree;
 use realise::{Desk, Limits, MOST_RECORDS, MOST_SOURCES};
-use serving::{Cache, served_are_made};
+use repair::{Cache, served_are_made};
 use std::alloc::Global;
 use store::Table;
 use storepath::StorePath;

@@ -1,0 +1,40 @@
+//! Laws of repair.
+
+ghost use Rattle.repair.specs.RepairLaws.{MovedIsGone, ServedIsSound};
+ghost use Rattle.repair.specs.RepairLaws.{PlansKeepNoReplaced, ClosuresKeepNoReplaced, ServedAreMade};
+
+/// A path that is replaced is gone from the tree of the record whose labels moved.
+///
+/// No program calls this: it states the law, which its proof shows.
+pub fn moved_is_gone()
+    ensures { MovedIsGone }
+{}
+
+/// What serves a class has a path and a tree, where the records do.
+///
+/// No program calls this: it states the law, which its proof shows.
+pub fn served_is_sound()
+    ensures { ServedIsSound }
+{}
+
+/// What is served for a plan keeps no path that is replaced, where hash parts tell paths apart.
+///
+/// No program calls this: it states the law, which its proof shows.
+pub fn plans_keep_no_replaced()
+    ensures { PlansKeepNoReplaced }
+{}
+
+/// What is served for the plan of a view keeps no path that is replaced, where hash parts tell paths
+/// apart.
+///
+/// No program calls this: it states the law, which its proof shows.
+pub fn closures_keep_no_replaced()
+    ensures { ClosuresKeepNoReplaced }
+{}
+
+/// Each entry that is served for a plan is the plan's own, or was made by the texts that are hashed.
+///
+/// No program calls this: it states the law, which its proof shows.
+pub fn served_are_made()
+    ensures { ServedAreMade }
+{}
