@@ -13,11 +13,11 @@ use Rattle.model.specs.KeptClosures.{KeptClosuresAreGood}
 use Rattle.model.specs.Steps.{world_after}
 use Rattle.model.specs.HashedTexts.{hashed}
 use Rattle.jobs.specs.Asking.{IsAnswerTo}
-use Rattle.passes.specs.declared.row.Row.{Row}
+use Rattle.history.specs.declared.row.Row.{Row}
 use Rattle.schedule.specs.declared.state.Core.{Core}
 use Rattle.schedule.specs.Standing.{setup_of}
 use Rattle.schedule.specs.Asking.{job_asked_for}
-use Rattle.passes.specs.Histories.{events_of, IsLegal}
+use Rattle.history.specs.Histories.{events_of, IsLegal}
 use Rattle.book.specs.Keeping.{Contents, StandsFor}
 use Rattle.book.specs.Asking.{IsAskedAfter}
 

@@ -8,10 +8,10 @@ use Rattle.model.specs.Goals.{Running}
 use Rattle.model.specs.declared.refusal.Refusal.TheVariants.{Memory, Stopped}
 use Rattle.events.specs.declared.reply.Reply.{Reply}
 use Rattle.events.specs.declared.reply.Reply.TheVariants.{Refused}
-use Rattle.passes.specs.declared.row.Row.{Row}
-use Rattle.passes.specs.Callers.{Caller, answered, told_stopped}
-use Rattle.passes.specs.Histories.{gave_up}
-use Rattle.passes.proofs.Prefixes.{prefix_self, prefix_push, prefix_trans}
+use Rattle.history.specs.declared.row.Row.{Row}
+use Rattle.history.specs.Callers.{Caller, answered, told_stopped}
+use Rattle.history.specs.Histories.{gave_up}
+use Rattle.history.proofs.Prefixes.{prefix_self, prefix_push, prefix_trans}
 
 -- the sure rows stay where a call has no row
 pub sure_stays : (old new : Caller) (reply : Reply) → gave_up reply ≡ true → (reply ≡ Refused Memory → new ≡ old)

@@ -44,21 +44,21 @@ use Rattle.events.specs.contracts.reply.Reply as Reply
 use Rattle.schedule.specs.contracts.state.Core as Core
 use Rattle.schedule.specs.contracts.work.Work as Work
 use Rattle.schedule.specs.contracts.work.Ready as Ready
-use Rattle.passes.specs.contracts.row.Row as Row
-use Rattle.passes.proofs.beginning.Beginning.TheSendSync as beginnings
+use Rattle.history.specs.contracts.row.Row as Row
+use Rattle.history.proofs.beginning.Beginning.TheSendSync as beginnings
 use Rattle.left_right.specs.contracts.reader.Reader as Reader
 use Rattle.left_right.proofs.reader.Reader.TheSendSync as readers
 use Rattle.left_right.proofs.writer.Writer.TheSendSync as writers
-use Rattle.snapshots.specs.contracts.snapshot.Snapshot as Snapshot
-use Rattle.snapshots.specs.contracts.snapshot.Snapshot.TheInside as Inside
-use Rattle.snapshots.specs.contracts.snapshot.NewRow as NewRow
-use Rattle.snapshots.specs.contracts.snapshot.Operation as Operation
-use Rattle.snapshots.specs.contracts.snapshot.SnapshotAbsorbOperation.TheImpl as absorbing
-use Rattle.snapshots.specs.contracts.law.End as End
-use Rattle.snapshots.specs.contracts.law.Law as Law
-use Rattle.snapshots.specs.contracts.law.Shown as Shown
-use Rattle.snapshots.specs.contracts.law.View as View
-use Rattle.snapshots.specs.contracts.law.LawProtocolSnapshotView.TheImpl as law
+use Rattle.history.specs.contracts.snapshot.Snapshot as Snapshot
+use Rattle.history.specs.contracts.snapshot.Snapshot.TheInside as Inside
+use Rattle.history.specs.contracts.snapshot.NewRow as NewRow
+use Rattle.history.specs.contracts.snapshot.Operation as Operation
+use Rattle.history.specs.contracts.snapshot.SnapshotAbsorbOperation.TheImpl as absorbing
+use Rattle.history.specs.contracts.law.End as End
+use Rattle.history.specs.contracts.law.Law as Law
+use Rattle.history.specs.contracts.law.Shown as Shown
+use Rattle.history.specs.contracts.law.View as View
+use Rattle.history.specs.contracts.law.LawProtocolSnapshotView.TheImpl as law
 use Rattle.book.proofs.CacheCrossing.{LruCache-send, LruCache-sync}
 
 -- ---- trees, and what holds them

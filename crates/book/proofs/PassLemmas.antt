@@ -1,8 +1,8 @@
 -- The passes of a new front.
 use Rattle.std.proofs.Common.{◌≡◌, ℕ, suc, ◌+◌, List, [], ◌∷◌, ◌++◌, map, ap, sym, ◌∙◌, arith}
 use Rattle.std.proofs.lemmas.List.{map-append}
-use Rattle.passes.specs.Callers.{below}
-use Rattle.passes.specs.Callers.{Known, new_pass}
+use Rattle.history.specs.Callers.{below}
+use Rattle.history.specs.Callers.{Known, new_pass}
 
 more : (n : ℕ) → suc n ≡ n + 1
 more n = omega arith

@@ -2,12 +2,12 @@
 use Rattle.std.proofs.Common.{◌≡◌, ℕ, zero, suc, true, true≢false, List, [], ◌∷◌, sym, ap, ◌∙◌, subst}
 use mathlib.Core.Option.{some}
 use lib.ListN.{get_elem?}
-use Rattle.passes.specs.Histories.{IsLegal}
-use Rattle.passes.proofs.HistoryLemmas.{legal_none}
-use Rattle.snapshots.specs.declared.law.Shown.{Shown}
-use Rattle.snapshots.specs.declared.law.View.{View}
-use Rattle.snapshots.specs.Naming.{setup_in}
-use Rattle.snapshots.specs.Tied.{stranger, Tied}
+use Rattle.history.specs.Histories.{IsLegal}
+use Rattle.history.proofs.HistoryLemmas.{legal_none}
+use Rattle.history.specs.declared.law.Shown.{Shown}
+use Rattle.history.specs.declared.law.View.{View}
+use Rattle.history.specs.Naming.{setup_in}
+use Rattle.history.specs.Tied.{stranger, Tied}
 
 -- where nothing is shown yet, and nobody knows anything, the rule holds
 pub tied_first : (x : Shown) → x.rows ≡ [] → x.seen ≡ [] → Tied x (stranger ∷ [])

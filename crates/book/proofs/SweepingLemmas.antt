@@ -3,7 +3,7 @@ use Rattle.std.proofs.Common.{◌≡◌, ℕ, Bool, List, ◌∙◌}
 use Rattle.model.specs.Worlds.{Setup}
 use Rattle.schedule.specs.declared.state.Core.{Core}
 use Rattle.schedule.specs.Standing.{world_of, setup_of, HasHashed}
-use Rattle.passes.specs.declared.row.Row.{Row}
+use Rattle.history.specs.declared.row.Row.{Row}
 use Rattle.book.specs.Keeping.{Kept}
 
 pub kept_swept : (setup : Setup) (old new : Core) (stopped : Bool) (rows : List Row) → Kept setup old stopped rows → setup_of new ≡ setup_of old

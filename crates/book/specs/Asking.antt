@@ -9,8 +9,8 @@ use Rattle.model.specs.KeptClosures.{IsWellKept}
 use Rattle.model.specs.Steps.{world_after}
 use Rattle.model.specs.HashedTexts.{hashed}
 use Rattle.jobs.specs.Asking.{IsAnswerTo}
-use Rattle.passes.specs.declared.row.Row.{Row}
-use Rattle.passes.specs.Histories.{events_of, IsLegal}
+use Rattle.history.specs.declared.row.Row.{Row}
+use Rattle.history.specs.Histories.{events_of, IsLegal}
 
 -- what is told is so after these rows, which are a legal history: where no two texts that their events hash have one folded digest, it is
 -- the job that the goal leads in the world that they reach, or why it leads none, and what the goal keeps was found when it was planned,

@@ -11,9 +11,9 @@ use Rattle.events.specs.declared.reply.Reply.{Reply}
 use Rattle.schedule.specs.Standing.{world_of, setup_of, stored_in, IsUnchanged}
 use Rattle.events.specs.Terms.{event_of, reply_of}
 use Rattle.schedule.specs.Stepping.{IsCoreStep}
-use Rattle.passes.specs.declared.row.Row.{Row}
-use Rattle.passes.specs.Histories.{events_of, answers_of, gave_up}
-use Rattle.snapshots.specs.Following.{HasReached}
+use Rattle.history.specs.declared.row.Row.{Row}
+use Rattle.history.specs.Histories.{events_of, answers_of, gave_up}
+use Rattle.history.specs.Following.{HasReached}
 
 -- a book as contracts see it: its core, its rows, and whether it is stopped
 pub record Contents : Type 0 where

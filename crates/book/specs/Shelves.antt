@@ -1,6 +1,6 @@
 -- What a book publishes.
 use Rattle.std.specs.Prelude.{Bool, List}
-use Rattle.passes.specs.declared.row.Row.{Row}
+use Rattle.history.specs.declared.row.Row.{Row}
 
 -- the rows that are published, and whether the next can be
 pub record Shelved : Type 0 where

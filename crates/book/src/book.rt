@@ -13,8 +13,8 @@ ghost use Rattle.schedule.specs.Asking.{job_asked_for};
 ghost use Rattle.schedule.specs.Sweeping.{is_held};
 ghost use Rattle.store.specs.Stored.{kept_at};
 ghost use Rattle.events.specs.declared.reply.Reply.TheVariants.{Refused};
-ghost use Rattle.passes.specs.Callers.{answered, told_stopped, knowing, stops_of, Matches};
-ghost use Rattle.passes.specs.Histories.{row, gave_up, IsLegal};
+ghost use Rattle.history.specs.Callers.{answered, told_stopped, knowing, stops_of, Matches};
+ghost use Rattle.history.specs.Histories.{row, gave_up, IsLegal};
 ghost use Rattle.book.specs.Keeping.{IsNew, Steps, TookEvent, Stops, KeepsCore, IsModelReply, StandsFor};
 
 use crate::counts::Counts;
@@ -24,7 +24,7 @@ use crate::shelf::Shelf;
 use crate::steps::step;
 use laws::{isolation, timed_isolation};
 use model::Refusal;
-use passes::{Beginning, Log, Naming, Pass, Row, StopCount};
+use history::{Beginning, Log, Naming, Pass, Row, StopCount};
 use schedule::{Core, Event, Ready, Reply, RunningJob, User};
 use std::alloc::{AllocError, Global};
 use std::marker::Model;
@@ -65,7 +65,7 @@ impl<J: Naming> Drop for Book<J> {
 
 impl<J: Naming> Model for Book<J> {
     ghost use Rattle.std.specs.Prelude.{◌≡◌, true, false, length};
-    ghost use Rattle.passes.specs.Callers.{stops_of};
+    ghost use Rattle.history.specs.Callers.{stops_of};
     ghost use Rattle.book.specs.Keeping.{Contents, Kept};
 
     ghost Value = { Contents };

@@ -1,6 +1,6 @@
 //! What is counted of the calls of a front.
 
-use passes::{Naming, StopCount};
+use history::{Naming, StopCount};
 use std::sync::ledger::Share;
 
 /// Some parts of both counts.

@@ -6,12 +6,12 @@ ghost use Rattle.left_right.specs.Sides.{view};
 ghost use Rattle.model.specs.declared.refusal.Refusal.TheVariants.{Memory, Stopped};
 ghost use Rattle.events.specs.declared.reply.Reply.TheVariants.{Refused};
 ghost use Rattle.schedule.specs.Queries.{event_for};
-ghost use Rattle.passes.specs.Callers.{told_stopped, knowing, rows_of, seeing, with_caller};
-ghost use Rattle.passes.specs.Histories.{row, gave_up, IsLegal, IsAnswered, IsReadAfter};
+ghost use Rattle.history.specs.Callers.{told_stopped, knowing, rows_of, seeing, with_caller};
+ghost use Rattle.history.specs.Histories.{row, gave_up, IsLegal, IsAnswered, IsReadAfter};
 ghost use Rattle.events.specs.Terms.{event_of};
-ghost use Rattle.snapshots.specs.Following.{FindsRead, IsNeedAfter, IsPreparedAfter};
-ghost use Rattle.snapshots.specs.Naming.{name_of, book_in, setup_in};
-ghost use Rattle.snapshots.specs.Tied.{knower};
+ghost use Rattle.history.specs.Following.{FindsRead, IsNeedAfter, IsPreparedAfter};
+ghost use Rattle.history.specs.Naming.{name_of, book_in, setup_in};
+ghost use Rattle.history.specs.Tied.{knower};
 ghost use Rattle.book.specs.Asking.{IsAskedAfter};
 
 use crate::book::Book;
@@ -19,9 +19,8 @@ use crate::shelf::insist;
 use core::mem::replace_with;
 use laws::{isolation, kept_closures_are_good, timed_isolation};
 use model::Refusal;
-use passes::{Beginning, Naming, Pass as Caller, StopCount, has_given_up};
+use history::{Beginning, Naming, Pass as Caller, SnapshotReader, StopCount, computed, has_given_up, look, need};
 use schedule::{Cache, Event, Finding, Need, Query, Ready, Reply, RunningJob, User};
-use snapshots::{SnapshotReader, computed, look, need};
 use std::alloc::Global;
 use std::marker::Model;
 use std::sync::Wait;
@@ -60,9 +59,9 @@ impl<J: Naming> Drop for Pass<J> {
 impl<J: Naming> Model for Pass<J> {
     ghost use Rattle.std.specs.Prelude.{◌≡◌, length};
     ghost use mathlib.Core.List.{IsPrefix};
-    ghost use Rattle.passes.specs.Callers.{Known};
-    ghost use Rattle.snapshots.specs.Naming.{name_of};
-    ghost use Rattle.snapshots.specs.Tied.{knower};
+    ghost use Rattle.history.specs.Callers.{Known};
+    ghost use Rattle.history.specs.Naming.{name_of};
+    ghost use Rattle.history.specs.Tied.{knower};
 
     ghost Value = { Known };
 

@@ -2,15 +2,14 @@
 
 ghost use Rattle.std.specs.Prelude.{◌≡◌, ◌+◌, ◌<◌, ◌^◌, ◌++◌, ◌∷◌, [], drop, length, true, false, MatchBool};
 ghost use Rattle.std.specs.Arc.{arc_value};
-ghost use Rattle.passes.specs.Histories.{IsLegal};
-ghost use Rattle.snapshots.specs.Naming.{name_of, book_in, setup_in};
-ghost use Rattle.snapshots.specs.Tied.{IsQuiet};
+ghost use Rattle.history.specs.Histories.{IsLegal};
+ghost use Rattle.history.specs.Naming.{name_of, book_in, setup_in};
+ghost use Rattle.history.specs.Tied.{IsQuiet};
 ghost use Rattle.book.specs.Shelves.{Shelved};
 
 use core::mem::replace_with;
-use passes::{Beginning, Head, Naming, Row};
+use history::{Beginning, End, Head, Naming, NewRow, Row, SnapshotWriter, publish, sweep};
 use schedule::Ready;
-use snapshots::{End, NewRow, SnapshotWriter, publish, sweep};
 use std::marker::Model;
 use std::sync::{Arc, Wait};
 
@@ -40,8 +39,8 @@ impl<J: Naming> Drop for Shelf<J> {
 impl<J: Naming> Model for Shelf<J> {
     ghost use Rattle.std.specs.Prelude.{◌≡◌, drop, true};
     ghost use Rattle.book.specs.Shelves.{Shelved};
-    ghost use Rattle.snapshots.specs.Naming.{name_of};
-    ghost use Rattle.snapshots.specs.Tied.{IsQuiet};
+    ghost use Rattle.history.specs.Naming.{name_of};
+    ghost use Rattle.history.specs.Tied.{IsQuiet};
 
     ghost Value = { Shelved };
 

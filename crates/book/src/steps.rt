@@ -4,13 +4,13 @@ ghost use Rattle.std.specs.Prelude.{◌≡◌, ◌++◌, ◌∷◌, [], true, fa
 ghost use Rattle.model.specs.declared.refusal.Refusal.TheVariants.{Memory};
 ghost use Rattle.schedule.specs.Standing.{setup_of, IsUnchanged};
 ghost use Rattle.events.specs.declared.reply.Reply.TheVariants.{Refused};
-ghost use Rattle.passes.specs.Histories.{row, gave_up, IsLegal};
+ghost use Rattle.history.specs.Histories.{row, gave_up, IsLegal};
 ghost use Rattle.book.specs.Keeping.{Kept, Steps, TookEvent};
 
 use crate::shelf::Shelf;
 use laws::{isolation, timed_isolation};
 use model::Refusal;
-use passes::{Naming, Row};
+use history::{Naming, Row};
 use schedule::{Core, Event, Ready, Reply};
 use std::alloc::{AllocError, Global};
 use std::sync::{Arc, Wait};

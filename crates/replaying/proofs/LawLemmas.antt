@@ -22,8 +22,8 @@ use Rattle.events.specs.declared.event.Event.{Event as AskedEvent}
 use Rattle.events.specs.declared.reply.Reply.{Reply as GivenReply}
 use Rattle.events.specs.Terms.{event_of, answer_of}
 use Rattle.schedule.specs.Running.{HadMemory, IsRun}
-use Rattle.passes.specs.declared.row.Row.{Row}
-use Rattle.passes.specs.Histories.{event_in, answer_in, events_of, answers_of, IsLegal}
+use Rattle.history.specs.declared.row.Row.{Row}
+use Rattle.history.specs.Histories.{event_in, answer_in, events_of, answers_of, IsLegal}
 use Rattle.replaying.specs.declared.numbers.FirstRun.{FirstRun}
 use Rattle.replaying.specs.OnlyPass.{lacks_memory, says_stopped}
 use Rattle.replaying.specs.Replaying.{pair_of, StopsByMemory, AreOfOneStore}

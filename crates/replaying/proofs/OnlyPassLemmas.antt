@@ -15,9 +15,9 @@ use Rattle.schedule.specs.declared.query.Question.{Question}
 use Rattle.schedule.specs.declared.query.Question.TheVariants.{Status, Closure, Fetch}
 use Rattle.schedule.specs.declared.query.Query.{Query}
 use Rattle.schedule.specs.Queries.{request_in, event_for}
-use Rattle.passes.specs.Callers.{Caller, Known, told_stopped, seeing}
-use Rattle.passes.specs.Histories.{row, gave_up, IsAnswered, IsReadAfter, IsLegal}
-use Rattle.passes.proofs.HistoryLemmas.{some_memory}
+use Rattle.history.specs.Callers.{Caller, Known, told_stopped, seeing}
+use Rattle.history.specs.Histories.{row, gave_up, IsAnswered, IsReadAfter, IsLegal}
+use Rattle.history.proofs.HistoryLemmas.{some_memory}
 use Rattle.replaying.specs.OnlyPass.{known_by, says_stopped, IsOnlyAnswer}
 
 stopped_so : (reply : Reply) → says_stopped (reply_of reply) ≡ true → reply ≡ Refused Stopped

@@ -14,10 +14,10 @@ use Rattle.laws.proofs.QueryLemmas.{no_change}
 use Rattle.laws.proofs.StrikeLemmas.{isolated}
 use Rattle.laws.proofs.TimedLemmas.{timed}
 use Rattle.events.specs.Terms.{reply_of}
-use Rattle.passes.specs.declared.row.Row.{Row}
-use Rattle.passes.specs.Histories.{event_in, events_of, answers_of, gave_up, IsLegal, IsToldAfter}
-use Rattle.passes.proofs.HistoryLemmas.{answers_push, hashed_push, events_push, rows_push, legal_none}
-use Rattle.snapshots.proofs.LegalLemmas.{legal_with}
+use Rattle.history.specs.declared.row.Row.{Row}
+use Rattle.history.specs.Histories.{event_in, events_of, answers_of, gave_up, IsLegal, IsToldAfter}
+use Rattle.history.proofs.HistoryLemmas.{answers_push, hashed_push, events_push, rows_push, legal_none}
+use Rattle.history.proofs.LegalLemmas.{legal_with}
 
 -- the closure that the last of some events is given, or that it keeps, is good
 good_last : (setup : Setup) (w : World) (events : List Event) (e : Event) → GiveGoodClosures setup w (events ++ e ∷ [])

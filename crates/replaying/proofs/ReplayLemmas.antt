@@ -10,8 +10,8 @@ use Rattle.model.specs.Replies.{is_unrecorded}
 use Rattle.model.specs.Talk as talk
 use Rattle.model.specs.Talk.{Silent, Names, Refuses, Asks, Waits, asked_in}
 use Rattle.session.specs.Serving.{Chain}
-use Rattle.passes.specs.declared.row.Row.{Row}
-use Rattle.passes.specs.Histories.{event_in, gave_up, IsLegal}
+use Rattle.history.specs.declared.row.Row.{Row}
+use Rattle.history.specs.Histories.{event_in, gave_up, IsLegal}
 use Rattle.replaying.specs.OnlyPass.{Only, unasked, lacks_memory, says_stopped, history_after, IsOnlyAnswer}
 use Rattle.replaying.specs.Replaying.{pair_of, AreOfOneStore, LinksOnly}
 use Rattle.replaying.proofs.ReadRowLemmas.{WithReads, no_reads, row_more, query_more}

@@ -4,9 +4,9 @@ use Rattle.model.specs.Worlds.{Setup, Job}
 use Rattle.model.specs.Events.{is_query, Event, Reply, Done}
 use Rattle.model.specs.Replies.{is_refusal, is_stopped_refusal, is_memory, is_unrecorded}
 use Rattle.events.specs.Terms.{reply_of}
-use Rattle.passes.specs.declared.row.Row.{Row}
-use Rattle.passes.specs.Callers.{Known}
-use Rattle.passes.specs.Histories.{event_in, IsLegal}
+use Rattle.history.specs.declared.row.Row.{Row}
+use Rattle.history.specs.Callers.{Known}
+use Rattle.history.specs.Histories.{event_in, IsLegal}
 
 -- a store as its one pass knows it: the rows that the pass is sure of, which are the whole history; whether memory was refused
 -- to one of its events that are no queries; and whether it was told that the store is stopped

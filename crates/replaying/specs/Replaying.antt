@@ -13,8 +13,8 @@ use Rattle.model.specs.Talk as talk
 use Rattle.model.specs.Talk.{fresh, after_all, Talks, text_from, asked_in, users_in}
 use Rattle.events.specs.Terms.{reply_of}
 use Rattle.session.specs.Serving.{Link, Finished, EndedEarly, HasRefused}
-use Rattle.passes.specs.declared.row.Row.{Row}
-use Rattle.passes.specs.Histories.{event_in, IsLegal}
+use Rattle.history.specs.declared.row.Row.{Row}
+use Rattle.history.specs.Histories.{event_in, IsLegal}
 use Rattle.model.specs.Replies.{is_unrecorded}
 use Rattle.replaying.specs.OnlyPass.{Only, unasked, lacks_memory, says_stopped, IsOnlyAnswer, DoesNothing}
 

@@ -11,11 +11,11 @@ use Rattle.model.proofs.BoolLemmas.{either}
 use Rattle.events.specs.declared.event.Event.{Event}
 use Rattle.events.specs.declared.reply.Reply.{Reply}
 use Rattle.events.specs.declared.reply.Reply.TheVariants.{Refused}
-use Rattle.passes.specs.declared.row.Row.{Row}
-use Rattle.passes.specs.Callers.{Caller, Known, answered, told_stopped, knowing, rows_of}
-use Rattle.passes.proofs.Prefixes.{prefix_self, prefix_push, prefix_trans}
-use Rattle.passes.proofs.RowLemmas.{rows_of-append, one_more}
-use Rattle.passes.specs.Histories.{row, gave_up, IsReadAfter}
+use Rattle.history.specs.declared.row.Row.{Row}
+use Rattle.history.specs.Callers.{Caller, Known, answered, told_stopped, knowing, rows_of}
+use Rattle.history.proofs.Prefixes.{prefix_self, prefix_push, prefix_trans}
+use Rattle.history.proofs.RowLemmas.{rows_of-append, one_more}
+use Rattle.history.specs.Histories.{row, gave_up, IsReadAfter}
 use Rattle.workers.specs.Working.{Call}
 use Rattle.running.specs.Calling.{is_read, has_row, IsTold, own_rows, rows_for, IsAnsweredBy, AnsweredInOrder}
 use Rattle.running.specs.Meeting.{HasMet, gave_up_cases, is_stopped, stopped_met, stopped_called}

@@ -14,7 +14,7 @@ use Rattle.model.specs.Worlds.{Setup}
 use Rattle.model.specs.Goals.{Running}
 use Rattle.events.specs.declared.event.Event.{Event}
 use Rattle.events.specs.declared.reply.Reply.{Reply}
-use Rattle.passes.specs.Callers.{Known, new_pass, below, rows_of, stops_of}
+use Rattle.history.specs.Callers.{Known, new_pass, below, rows_of, stops_of}
 use Rattle.book.specs.declared.history.History.{History}
 use Rattle.running.specs.declared.sessions.Desk.{Desk}
 use Rattle.running.specs.declared.sessions.Left.{Left}
@@ -27,9 +27,9 @@ use Rattle.running.specs.Teams.{AllNew, stops_in}
 use Rattle.running.specs.Desks.{AreFirst, IsDeskOf, AreDesksOf, passes_for, passes_needed, session_passes, passes_left, all_passes, numbers_in, all_numbers, stops_left, IsCrew, AreCrews, OutputOf, AllOutputs}
 use Rattle.running.specs.Runs.{IsGivenBack, AreOutputs, WorkersStand, AreServed, IsClosed, AreResults, are_accounted}
 use Rattle.running.specs.declared.runs.Results.{Results}
-use Rattle.passes.specs.declared.row.Row.{Row}
-use Rattle.passes.specs.Histories.{IsLegal}
-use Rattle.passes.proofs.HistoryLemmas.{legal_none}
+use Rattle.history.specs.declared.row.Row.{Row}
+use Rattle.history.specs.Histories.{IsLegal}
+use Rattle.history.proofs.HistoryLemmas.{legal_none}
 use Rattle.workers.specs.declared.runner.RunFault.{RunFault}
 use Rattle.workers.specs.declared.worker.Worker.{Worker}
 use mathlib.Core.Logic.{∥∥₁_elim, ∥∥₁_map}

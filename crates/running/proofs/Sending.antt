@@ -5,7 +5,7 @@ use denote.Struct.Field.{shr_ref_field}
 use denote.Param.Send.{IsSend, IsSync, sendable, shr_send, view_send}
 use denote.Param.SendFields.{declared_send, as_row_send}
 use Rattle.std.specs.declared.sync.ledger.Ledger as Ledger
-use Rattle.passes.specs.declared.naming.Naming as Naming
+use Rattle.history.specs.declared.naming.Naming as Naming
 use Rattle.book.specs.contracts.front.Front as Front
 use Rattle.running.specs.contracts.shared.SharedStore as SharedStore
 use Rattle.running.specs.contracts.shared.SharedStore.TheInside as SharedInside

@@ -14,8 +14,8 @@ use Rattle.schedule.specs.declared.query.Query.{Query}
 use Rattle.schedule.specs.declared.query.Question.{Question}
 use Rattle.schedule.specs.declared.query.Question.TheVariants.{Status, Closure, Fetch}
 use Rattle.schedule.specs.Queries.{request_in, event_for}
-use Rattle.passes.specs.Callers.{Caller, Known, seeing, told_stopped}
-use Rattle.passes.specs.Histories.{gave_up, IsAnswered, IsReadAfter}
+use Rattle.history.specs.Callers.{Caller, Known, seeing, told_stopped}
+use Rattle.history.specs.Histories.{gave_up, IsAnswered, IsReadAfter}
 use Rattle.running.specs.Calling.{is_read, has_row, IsCounted, IsTold}
 
 -- neither of two

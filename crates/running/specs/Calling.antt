@@ -10,10 +10,10 @@ use Rattle.events.specs.Terms.{request_of}
 use Rattle.events.specs.declared.event.Event.{Event}
 use Rattle.events.specs.declared.reply.Reply.{Reply}
 use Rattle.events.specs.declared.reply.Reply.TheVariants.{Refused}
-use Rattle.passes.specs.declared.row.Row.{Row}
-use Rattle.passes.specs.Callers.{Known, told_stopped, seeing, with_caller, rows_of}
+use Rattle.history.specs.declared.row.Row.{Row}
+use Rattle.history.specs.Callers.{Known, told_stopped, seeing, with_caller, rows_of}
 use Rattle.workers.specs.Working.{Call}
-use Rattle.passes.specs.Histories.{row, gave_up, IsAnswered, IsReadAfter}
+use Rattle.history.specs.Histories.{row, gave_up, IsAnswered, IsReadAfter}
 use Rattle.book.specs.Asking.{IsAskedAfter}
 
 -- ---- one call

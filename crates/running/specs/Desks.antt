@@ -5,7 +5,7 @@ use Rattle.model.specs.Worlds.{Setup}
 use Rattle.model.specs.Goals.{Running}
 use Rattle.events.specs.declared.event.Event.{Event}
 use Rattle.events.specs.declared.reply.Reply.{Reply}
-use Rattle.passes.specs.Callers.{Known, new_pass, below}
+use Rattle.history.specs.Callers.{Known, new_pass, below}
 use Rattle.workers.specs.declared.runner.RunFault.{RunFault}
 use Rattle.workers.specs.declared.worker.Worker.{Worker}
 use Rattle.running.specs.Calling.{IsTold, IsAskedBy}

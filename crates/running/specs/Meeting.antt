@@ -11,9 +11,9 @@ use Rattle.model.proofs.BoolLemmas.{either}
 use Rattle.events.specs.declared.event.Event.{Event}
 use Rattle.events.specs.declared.reply.Reply.{Reply}
 use Rattle.events.specs.declared.reply.Reply.TheVariants.{Refused}
-use Rattle.passes.specs.Callers.{Caller, Known, knowing, told_stopped, new_pass}
-use Rattle.passes.specs.Histories.{gave_up}
-use Rattle.passes.proofs.Prefixes.{prefix_self, prefix_trans}
+use Rattle.history.specs.Callers.{Caller, Known, knowing, told_stopped, new_pass}
+use Rattle.history.specs.Histories.{gave_up}
+use Rattle.history.proofs.Prefixes.{prefix_self, prefix_trans}
 use Rattle.running.specs.Calling.{is_read, IsTold, IsAskedBy}
 
 -- a pass met others, or none: of its own calls it knows what it knew, but that the front may be stopped, and it has seen what it had seen

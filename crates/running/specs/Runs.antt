@@ -15,9 +15,9 @@ use Rattle.model.specs.Talk.{fresh, after_all, Talks, text_from}
 use Rattle.events.specs.declared.event.Event.{Event}
 use Rattle.events.specs.declared.reply.Reply.{Reply}
 use Rattle.events.specs.Terms.{event_of, reply_of}
-use Rattle.passes.specs.declared.row.Row.{Row}
-use Rattle.passes.specs.Callers.{Known, new_pass, rows_of, stops_of}
-use Rattle.passes.specs.Histories.{IsLegal}
+use Rattle.history.specs.declared.row.Row.{Row}
+use Rattle.history.specs.Callers.{Known, new_pass, rows_of, stops_of}
+use Rattle.history.specs.Histories.{IsLegal}
 use Rattle.book.specs.declared.history.History.{History}
 use Rattle.workers.specs.declared.runner.RunFault.{RunFault}
 use Rattle.workers.specs.declared.ticket.Ticket.{Ticket}

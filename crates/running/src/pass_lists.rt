@@ -2,7 +2,7 @@
 
 ghost use Rattle.std.specs.Prelude.{◌≡◌, ◌+◌, ◌++◌, ◌∷◌, [], length, map, IfOk, IfErr};
 ghost use Rattle.model.specs.declared.refusal.Refusal.TheVariants.{Memory, Quota};
-ghost use Rattle.passes.specs.Callers.{new_pass};
+ghost use Rattle.history.specs.Callers.{new_pass};
 ghost use Rattle.running.specs.Sessions.{CannotBegin};
 ghost use Rattle.running.specs.Meeting.{IsNew};
 ghost use Rattle.running.specs.Teams.{AllNew};

@@ -32,7 +32,7 @@ pub(crate) struct SharedStore<'a, J: Naming, R: Wait> {
 impl<'a, J: Naming, R: Wait> Model for SharedStore<'a, J, R> {
     ghost use Rattle.std.specs.Coded.{codes};
     ghost use Rattle.model.specs.TreeCode.{tree_code};
-    ghost use Rattle.passes.specs.Callers.{Known};
+    ghost use Rattle.history.specs.Callers.{Known};
 
     ghost Value = { Known };
 

@@ -45,7 +45,7 @@ pub(crate) struct Member<'a, J: Naming, R, T> {
 impl<'a, J: Naming, R, T> Model for Member<'a, J, R, T> {
     ghost use Rattle.std.specs.Coded.{codes};
     ghost use Rattle.model.specs.TreeCode.{tree_code};
-    ghost use Rattle.passes.specs.Callers.{Known};
+    ghost use Rattle.history.specs.Callers.{Known};
 
     ghost Value = { Known };
 

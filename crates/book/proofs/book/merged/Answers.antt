@@ -3,8 +3,8 @@ use Rattle.std.proofs.lemmas.List.{map_push}
 use Rattle.std.proofs.lemmas.List.Sums.{sum_by-append, sum_by-cons}
 use Rattle.std.proofs.lemmas.List.Elements.{All-push}
 use mathlib.Core.List.{IsPrefix}
-use Rattle.passes.specs.Callers.{Caller, Matches}
-use Rattle.passes.specs.Callers.{Known}
+use Rattle.history.specs.Callers.{Caller, Matches}
+use Rattle.history.specs.Callers.{Known}
 use Rattle.book.proofs.book.merged.Goals as goal
 
 -- the sum of a list with one number more

@@ -1,6 +1,6 @@
 use Rattle.std.specs.Prelude.{◌≡◌, ◌+◌, map, sum, length, All}
 use mathlib.Core.List.{IsPrefix}
-use Rattle.passes.specs.Callers.{Matches}
+use Rattle.history.specs.Callers.{Matches}
 use Rattle.book.proofs.book.merged.Given as goal
 
 abbrev pub invariant-loop-pass : goal.invariant-loop-pass

@@ -1,5 +1,5 @@
 use Rattle.std.proofs.Common.{◌+◌, [], ap, ◌∙◌, arith}
-use Rattle.passes.specs.declared.log.Recorded.{Recorded}
+use Rattle.history.specs.declared.log.Recorded.{Recorded}
 use Rattle.book.proofs.PassLemmas.{newcomers_next}
 use Rattle.book.proofs.front.passes_of.Goals as goal
 

@@ -1,9 +1,9 @@
 use Rattle.std.specs.Prelude.{◌≡◌, ◌+◌, map, [], false}
-use Rattle.passes.specs.Callers.{below}
+use Rattle.history.specs.Callers.{below}
 use Rattle.left_right.specs.Sides.{view}
-use Rattle.snapshots.specs.Naming.{name_of}
-use Rattle.snapshots.specs.Tied.{knower}
-use Rattle.passes.specs.Callers.{new_pass}
+use Rattle.history.specs.Naming.{name_of}
+use Rattle.history.specs.Tied.{knower}
+use Rattle.history.specs.Callers.{new_pass}
 use Rattle.book.proofs.front.passes_of.Given as goal
 
 abbrev pub invariant-loop-number : goal.invariant-loop-number

@@ -1,7 +1,7 @@
 use Rattle.std.proofs.Common.{◌≡◌, [], ap, sym, ◌∙◌}
-use Rattle.snapshots.specs.declared.law.Shown.{Shown}
-use Rattle.snapshots.specs.Naming.{name_of}
-use Rattle.snapshots.specs.Tied.{knower}
+use Rattle.history.specs.declared.law.Shown.{Shown}
+use Rattle.history.specs.Naming.{name_of}
+use Rattle.history.specs.Tied.{knower}
 use Rattle.book.proofs.ShelfLemmas.{tied_first}
 use Rattle.book.proofs.front.writer_of.Goals as goal
 

@@ -1,8 +1,8 @@
 use Rattle.std.proofs.Common.{◌≡◌, false, [], ◌∷◌, ◌++◌, ap, sym, ◌∙◌, subst}
 use Rattle.events.specs.declared.event.Event.{Event}
 use Rattle.events.specs.declared.reply.Reply.{Reply}
-use Rattle.passes.specs.declared.row.Row.{Row}
-use Rattle.passes.specs.Histories.{row, gave_up}
+use Rattle.history.specs.declared.row.Row.{Row}
+use Rattle.history.specs.Histories.{row, gave_up}
 use Rattle.book.specs.Keeping.{Steps}
 use Rattle.book.proofs.KeepingLemmas.{goes_on, is_legal}
 use Rattle.book.proofs.steps.step.Goals as goal

@@ -1,7 +1,7 @@
 use Rattle.std.proofs.Common.{sym, ◌∙◌, ap, List, [], ◌∷◌, ◌++◌, ℕ}
 use Rattle.std.specs.Prelude.{map}
 use Rattle.std.proofs.lemmas.List.{append_assoc, map-append}
-use Rattle.passes.specs.Callers.{Known}
+use Rattle.history.specs.Callers.{Known}
 use Rattle.running.specs.declared.sessions.Output.{Output}
 use Rattle.running.specs.Desks.{passes_left, all_passes, numbers_in, all_numbers}
 use Rattle.running.proofs.DeskLemmas.{all_push, numbers_push, crews_push}

@@ -1,6 +1,6 @@
 use Rattle.std.proofs.Common.{◌∙◌, ap, List, ◌++◌, ℕ, length}
 use Rattle.std.specs.Prelude.{map}
-use Rattle.passes.specs.Callers.{Known}
+use Rattle.history.specs.Callers.{Known}
 use Rattle.running.specs.declared.sessions.Output.{Output}
 use Rattle.running.specs.Desks.{session_passes, all_passes, all_numbers}
 use Rattle.running.proofs.DeskLemmas.{all_served}

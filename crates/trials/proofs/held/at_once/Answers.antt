@@ -6,7 +6,7 @@ use Rattle.std.specs.contracts.vec.Vec as Vec
 use Rattle.std.specs.contracts.alloc.Global as Global
 use Rattle.std.specs.contracts.impls.GlobalAllocator.TheImpl.{ghosts}
 use Rattle.std.proofs.Crossing.{crosses, Vec-send}
-use Rattle.passes.specs.contracts.row.Row as Row
+use Rattle.history.specs.contracts.row.Row as Row
 use Rattle.book.proofs.CoreCrossing.{row_send}
 use Rattle.trials.specs.contracts.held.Preparing as Preparing
 use Rattle.trials.proofs.held.at_once.Goals as goal

@@ -8,7 +8,7 @@ use denote.Struct.Field.{shr_ref_field, row_field}
 use mir.Syntax.{named}
 use Rattle.std.proofs.Crossing.{send, crosses}
 use Rattle.std.specs.declared.sync.ledger.Ledger as Ledger
-use Rattle.passes.specs.declared.naming.Naming as Naming
+use Rattle.history.specs.declared.naming.Naming as Naming
 use Rattle.book.specs.contracts.front.Front as Front
 use Rattle.trials.specs.contracts.turns.Member as Member
 use Rattle.trials.specs.contracts.turns.Member.TheInside as Inside

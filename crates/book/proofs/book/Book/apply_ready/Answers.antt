@@ -6,10 +6,10 @@ use Rattle.events.specs.declared.reply.Reply.{Reply}
 use Rattle.events.specs.declared.reply.Reply.TheVariants.{Refused}
 use Rattle.schedule.specs.declared.state.Core.{Core}
 use Rattle.schedule.specs.Standing.{world_of, setup_of, stored_in, IsUnchanged}
-use Rattle.passes.specs.declared.row.Row.{Row}
-use Rattle.passes.specs.declared.log.Recorded.{Recorded}
-use Rattle.passes.specs.Callers.{Caller, answered, stops_of, Matches}
-use Rattle.passes.specs.Histories.{row, gave_up, IsLegal}
+use Rattle.history.specs.declared.row.Row.{Row}
+use Rattle.history.specs.declared.log.Recorded.{Recorded}
+use Rattle.history.specs.Callers.{Caller, answered, stops_of, Matches}
+use Rattle.history.specs.Histories.{row, gave_up, IsLegal}
 use Rattle.book.specs.Shelves.{Shelved}
 use Rattle.book.specs.Keeping.{Contents, Kept, Steps, IsModelReply, TookEvent}
 use Rattle.book.proofs.KeepingLemmas.{goes_on, stops, stays, replied, is_legal, sure_of_all}

@@ -2,7 +2,7 @@ use Rattle.std.proofs.Common.{◌≡◌, List, ℕ, ap, ◌∙◌}
 use Rattle.std.proofs.lemmas.List.Elements.{All-contains_itself}
 use Rattle.model.specs.Worlds.{nothing}
 use Rattle.model.specs.HashedTexts.{hashed}
-use Rattle.passes.specs.Histories.{events_of}
+use Rattle.history.specs.Histories.{events_of}
 use Rattle.book.specs.Keeping.{Contents}
 use Rattle.book.proofs.KeepingLemmas.{is_legal, sure_of_all}
 use Rattle.book.proofs.book.Book.request.Given.{Over}

@@ -1,8 +1,8 @@
 use Rattle.std.proofs.Common.{List, [], ◌∷◌, ◌++◌, length, ap, sym, ◌∙◌, subst}
 use mathlib.Core.List.{IsPrefix}
-use Rattle.passes.specs.declared.row.Row.{Row}
-use Rattle.passes.specs.Callers.{Caller, answered, stops_of}
-use Rattle.passes.specs.Histories.{row, IsLegal}
+use Rattle.history.specs.declared.row.Row.{Row}
+use Rattle.history.specs.Callers.{Caller, answered, stops_of}
+use Rattle.history.specs.Histories.{row, IsLegal}
 use Rattle.book.proofs.CallLemmas.{sure_seen, sure_counted, seen_grows}
 use Rattle.book.proofs.pass.Pass.call.Given.{Over}
 use Rattle.book.proofs.pass.Pass.call.Goals.{After-sure_after}

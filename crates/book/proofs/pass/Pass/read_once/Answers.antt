@@ -1,12 +1,12 @@
 use Rattle.std.proofs.Common.{◌≡◌, List, [], ◌∷◌, ◌++◌, ap, sym, ◌∙◌, subst}
 use Rattle.model.specs.Worlds.{Setup}
-use Rattle.passes.specs.declared.row.Row.{Row}
-use Rattle.passes.specs.Callers.{Known}
-use Rattle.passes.specs.Histories.{row, IsLegal}
+use Rattle.history.specs.declared.row.Row.{Row}
+use Rattle.history.specs.Callers.{Known}
+use Rattle.history.specs.Histories.{row, IsLegal}
 use Rattle.schedule.specs.Queries.{event_for}
-use Rattle.snapshots.specs.Naming.{setup_in}
-use Rattle.snapshots.specs.Following.{FindsRead}
-use Rattle.snapshots.proofs.LegalLemmas.{legal_with}
+use Rattle.history.specs.Naming.{setup_in}
+use Rattle.history.specs.Following.{FindsRead}
+use Rattle.history.proofs.LegalLemmas.{legal_with}
 use Rattle.book.proofs.pass.Pass.read_once.Goals as goal
 
 pub returns-then-see-clause-read : goal.returns-then-see-clause-read

@@ -1,7 +1,7 @@
 use Rattle.std.proofs.Common.{List, length, ap, sym, ◌∙◌, subst}
 use mathlib.Core.List.{IsPrefix}
-use Rattle.passes.specs.declared.row.Row.{Row}
-use Rattle.passes.specs.Callers.{stops_of}
+use Rattle.history.specs.declared.row.Row.{Row}
+use Rattle.history.specs.Callers.{stops_of}
 use Rattle.book.specs.Keeping.{Contents}
 use Rattle.book.specs.Asking.{IsAskedAfter}
 use Rattle.book.proofs.CallLemmas.{sure_asked}

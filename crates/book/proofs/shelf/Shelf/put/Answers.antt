@@ -1,9 +1,9 @@
 use Rattle.std.proofs.Common.{◌≡◌, true, List, [], ◌∷◌, ◌++◌, ap, sym, ◌∙◌, subst}
 use Rattle.std.specs.Arc.{arc_value}
 use Rattle.model.specs.Worlds.{Setup}
-use Rattle.passes.specs.declared.row.Row.{Row}
-use Rattle.passes.specs.Histories.{IsLegal}
-use Rattle.snapshots.specs.Naming.{book_in, setup_in}
+use Rattle.history.specs.declared.row.Row.{Row}
+use Rattle.history.specs.Histories.{IsLegal}
+use Rattle.history.specs.Naming.{book_in, setup_in}
 use Rattle.book.specs.Shelves.{Shelved}
 use Rattle.book.proofs.shelf.Shelf.put.Goals as goal
 

@@ -1,0 +1,130 @@
+-- A core follows the rows of a history.
+use Rattle.std.proofs.Common.{◌≡◌, ℕ, false, List, [], ◌∷◌, ◌++◌, refl, sym, ap, ◌∙◌, subst, Result, Ok, Err}
+use Rattle.std.specs.Prelude.{All, Contains, IfOk}
+use Rattle.model.specs.declared.refusal.Refusal.{Refusal}
+use Rattle.std.proofs.lemmas.List.Elements.{All-nil, All-contains_itself}
+use Rattle.model.specs.Paths.{NoClash}
+use Rattle.model.specs.Worlds.{Setup, World, nothing}
+use Rattle.model.specs.Events as events
+use Rattle.model.specs.Steps.{world_after, after, reply_to}
+use Rattle.model.specs.Replies.{is_memory}
+use Rattle.model.specs.HashedTexts.{hashed, texts_of_event}
+use Rattle.model.specs.GivenClosures.{GivesGoodClosure, KeepsGoodClosure}
+use Rattle.laws.proofs.KnowledgeLemmas.{world_after-push}
+use Rattle.events.specs.declared.event.Event.{Event}
+use Rattle.events.specs.declared.reply.Reply.{Reply}
+use Rattle.events.specs.Terms.{event_of, reply_of}
+use Rattle.schedule.specs.declared.state.Core.{Core}
+use Rattle.handling.specs.Sound.{IsHashed}
+use Rattle.schedule.specs.Standing.{world_of, setup_of, stored_in, HasHashed, IsUnchanged}
+use Rattle.schedule.specs.Stepping.{IsCoreStep}
+use Rattle.schedule.proofs.RunLemmas.{hashed_kept, all_back}
+use Rattle.history.specs.declared.row.Row.{Row}
+use Rattle.history.specs.Histories.{event_in, events_of}
+use Rattle.history.proofs.HistoryLemmas.{all_front, hashed_push, events_push, some_memory}
+use Rattle.schedule.specs.declared.work.Ready.{Ready}
+use Rattle.schedule.specs.declared.preparing.Need.{Need}
+use Rattle.schedule.specs.Preparing.{HasOutcome, IsPrepared, IsMade}
+use Rattle.schedule.specs.declared.finding.Finding.{Finding}
+use Rattle.schedule.specs.Findings.{IsServedFrom}
+use Rattle.history.specs.Following.{HasReached, Follows, Takes, IsModelRead, FindsRead, IsPreparedAfter, IsNeedAfter}
+
+-- a new core follows no rows
+pub starts : (core : Core) → world_of core ≡ nothing → stored_in core ≡ [] → Follows (setup_of core) core []
+unfolding world_after stored_in HasHashed
+starts core empty none = record { reached = λ texts clean inside. record { world = empty; hashes = rw none (All-nil (IsHashed texts)) } }
+
+-- it follows them where nothing of it changed
+pub still : (old new : Core) (rows : List Row) → Follows (setup_of old) old rows → IsUnchanged old new → Follows (setup_of new) new rows
+still old new rows f same =
+    subst (λ s. Follows s new rows) (sym same.setup) (record {
+      reached = λ texts clean inside. record {
+        world = same.world ∙ (f.reached texts clean inside).world;
+        hashes = hashed_kept texts old new same.stored (f.reached texts clean inside).hashes;
+      };
+    })
+
+-- nor where it is swept
+pub still_swept : (old new : Core) (rows : List Row) → Follows (setup_of old) old rows → setup_of new ≡ setup_of old → world_of new ≡ world_of old
+    → ((texts : List (List ℕ)) → HasHashed texts old → HasHashed texts new) → Follows (setup_of new) new rows
+still_swept old new rows f given same hashed =
+    subst (λ s. Follows s new rows) (sym given) (record {
+      reached = λ texts clean inside. record {
+        world = same ∙ (f.reached texts clean inside).world;
+        hashes = hashed texts (f.reached texts clean inside).hashes;
+      };
+    })
+
+-- the step, where no two texts clash
+record Goes (setup : Setup) (rows : List Row) (e : events.Event) (given : events.Reply) (new : Core) (texts : List (List ℕ)) : Type 0 where
+  reply : given ≡ reply_to setup (world_after setup nothing (events_of rows)) e
+  world : world_of new ≡ after setup (world_after setup nothing (events_of rows)) e
+  hashes : HasHashed texts new
+  good : GivesGoodClosure setup (world_after setup nothing (events_of rows)) e × KeepsGoodClosure setup (world_after setup nothing (events_of rows)) e
+
+goes : (old new : Core) (rows : List Row) (e : events.Event) (reply : events.Reply) → Follows (setup_of old) old rows → is_memory reply ≡ false
+    → IsCoreStep old e reply new
+    → (texts : List (List ℕ)) → NoClash texts → All (Contains texts) (hashed (setup_of old) nothing (events_of rows ++ e ∷ []))
+    → Goes (setup_of old) rows e reply new texts
+goes old new rows e reply f some steps texts clean inside =
+    let setup : Setup = setup_of old in
+    let es : List events.Event = events_of rows in
+    let own : List (List ℕ) = texts_of_event setup (world_after setup nothing es) e in
+    let all : All (Contains texts) (hashed setup nothing es ++ own) = subst (All (Contains texts)) (hashed_push setup nothing es e) inside in
+    let before : HasReached setup old texts rows = f.reached texts clean (all_front (Contains texts) (hashed setup nothing es) own all) in
+    let here : All (Contains texts) (texts_of_event setup (world_of old) e) = rw before.world (all_back (Contains texts) (hashed setup nothing es) own all) in
+    let stepped = steps.step some (steps.no_clash texts clean before.hashes here) in
+    record {
+      reply = stepped.told ∙ ap (λ (w : World). reply_to setup w e) before.world;
+      world = stepped.world ∙ ap (λ (w : World). after setup w e) before.world;
+      hashes = steps.hashed texts before.hashes here;
+      good = subst (λ (w : World). GivesGoodClosure setup w e × KeepsGoodClosure setup w e) before.world (steps.good texts clean before.hashes here some);
+    }
+
+-- and a row more, where it takes its event
+pub followed : (old new : Core) (rows : List Row) (r : Row) → Follows (setup_of old) old rows → Takes old r new → Follows (setup_of new) new (rows ++ r ∷ [])
+followed old new rows r f takes =
+    let setup : Setup = setup_of old in
+    let push : events_of (rows ++ r ∷ []) ≡ events_of rows ++ event_in r ∷ [] = events_push rows r in
+    subst (λ s. Follows s new (rows ++ r ∷ [])) (sym takes.step.setup) (record {
+      reached = λ texts clean inside.
+          let now = goes old new rows (event_in r) (reply_of takes.reply) f (some_memory takes.reply takes.some) takes.step texts clean
+          (subst (λ (es : List events.Event). All (Contains texts) (hashed setup nothing es)) push inside) in
+          record {
+            world = now.world ∙ sym (ap (world_after setup nothing) push ∙ world_after-push setup nothing (events_of rows) (event_in r));
+            hashes = now.hashes;
+          };
+    })
+
+-- what it answers to what is only read
+reads : (core : Core) (rows : List Row) (e : Event) (reply : Reply) → Follows (setup_of core) core rows → IsCoreStep core (event_of e) (reply_of reply) core
+    → IsModelRead (setup_of core) rows e reply
+reads core rows e reply f steps = record {
+  told = λ some.
+      let texts : List (List ℕ) = hashed (setup_of core) nothing (events_of rows ++ event_of e ∷ []) in
+      let now : NoClash texts → Goes (setup_of core) rows (event_of e) (reply_of reply) core texts =
+      λ clean. goes core core rows (event_of e) (reply_of reply) f (some_memory reply some) steps texts clean (All-contains_itself texts) in
+      record { same = λ clean. (now clean).reply; good = λ clean. (now clean).good };
+  going = λ stopped. steps.going refl (ap reply_of stopped);
+}
+
+-- so does what is served of what it finds
+pub finds : (core : Core) (rows : List Row) (e : Event) (found : Finding) → Follows (setup_of core) core rows
+    → ((reply : Reply) → IsServedFrom found reply → IsCoreStep core (event_of e) (reply_of reply) core) → FindsRead (setup_of core) rows e found
+finds core rows e found f steps = λ reply from. reads core rows e reply f (steps reply from)
+
+-- the values that it makes are those that are needed after the rows
+prepares : (core : Core) (rows : List Row) (e : events.Event) (ready : Ready) → Follows (setup_of core) core rows → IsPrepared core e ready
+    → IsPreparedAfter (setup_of core) rows e ready
+prepares core rows e ready f prepared = record {
+  path = prepared.path;
+  outcome = λ clean known.
+      let texts : List (List ℕ) = hashed (setup_of core) nothing (events_of rows) in
+      subst (λ (w : World). HasOutcome (w e.actor) e.actor e.request ready.work.settlements) (f.reached texts clean (All-contains_itself texts)).world
+      (prepared.outcome known);
+}
+
+pub needs : (core : Core) (rows : List Row) (e : events.Event) (result : Result Need Refusal) → Follows (setup_of core) core rows
+    → IfOk result (λ need. (ready : Ready) → IsMade need e.request ready → IsPrepared core e ready) → IfOk result (IsNeedAfter (setup_of core) rows e)
+needs core rows e (Ok need) f made = λ ready is. prepares core rows e ready f (made ready is)
+needs core rows e (Err why) f made = tt

@@ -1,0 +1,9 @@
+pub mod FollowLemmas
+pub mod Ties
+pub mod LegalLemmas
+pub mod Prefixes
+pub mod TokenLemmas
+pub mod RowLemmas
+pub mod BeginningLemmas
+pub mod AddingLemmas
+pub mod HistoryLemmas

@@ -1,0 +1,62 @@
+-- A core that has taken the events of rows.
+use Rattle.std.specs.Prelude.{◌≡◌, ◌≢◌, ℕ, true, false, List, [], All, Contains}
+use Rattle.model.specs.declared.refusal.Refusal.TheVariants.{Stopped}
+use Rattle.model.specs.Events as events
+use Rattle.model.specs.Paths.{NoClash}
+use Rattle.model.specs.Reach.{is_among}
+use Rattle.model.specs.Worlds.{Setup, nothing}
+use Rattle.model.specs.Steps.{world_after}
+use Rattle.model.specs.HashedTexts.{hashed}
+use Rattle.schedule.specs.declared.state.Core.{Core}
+use Rattle.schedule.specs.Standing.{world_of, setup_of, stored_in, HasHashed}
+use Rattle.schedule.specs.Stepping.{IsCoreStep}
+use Rattle.schedule.specs.declared.work.Ready.{Ready}
+use Rattle.schedule.specs.declared.preparing.Need.{Need}
+use Rattle.schedule.specs.Preparing.{HasPath, HasOutcome, IsMade}
+use Rattle.schedule.specs.declared.finding.Finding.{Finding}
+use Rattle.schedule.specs.Findings.{IsServedFrom}
+use Rattle.events.specs.declared.event.Event.{Event}
+use Rattle.events.specs.declared.reply.Reply.{Reply}
+use Rattle.events.specs.declared.reply.Reply.TheVariants.{Refused}
+use Rattle.events.specs.Terms.{event_of, reply_of}
+use Rattle.history.specs.declared.row.Row.{Row}
+use Rattle.history.specs.Histories.{event_in, events_of, gave_up, IsToldAfter}
+
+-- a core that has taken no event
+abbrev pub IsFresh : Core → Type 0
+IsFresh core = (world_of core ≡ nothing) × (stored_in core ≡ [])
+
+-- the core is that of the world which the events reach, and its trees were made by texts that were hashed
+pub record HasReached (setup : Setup) (core : Core) (texts : List (List ℕ)) (rows : List Row) : Type 0 where
+  pub world : world_of core ≡ world_after setup nothing (events_of rows)
+  pub hashes : HasHashed texts core
+
+-- so it is wherever texts have no clash and all that the events hash is among them
+pub record Follows (setup : Setup) (core : Core) (rows : List Row) : Type 0 where
+  pub reached : (texts : List (List ℕ)) → NoClash texts → All (Contains texts) (hashed setup nothing (events_of rows)) → HasReached setup core texts rows
+
+-- a core takes the event of a row, whatever it replies
+pub record Takes (old : Core) (row : Row) (new : Core) : Type 0 where
+  pub reply : Reply
+  pub some : gave_up reply ≡ false
+  pub step : IsCoreStep old (event_in row) (reply_of reply) new
+
+-- a reply to an event that is read after these rows: it is the model's, or that memory was refused
+pub record IsModelRead (setup : Setup) (rows : List Row) (event : Event) (reply : Reply) : Type 0 where
+  pub told : gave_up reply ≡ false → IsToldAfter setup rows (event_of event) (reply_of reply)
+  pub going : reply ≢ Refused Stopped
+
+-- whatever reply is served of a finding is one to an event that is read after these rows
+abbrev pub FindsRead : Setup → List Row → Event → Finding → Type 0
+FindsRead setup rows event found = (reply : Reply) → IsServedFrom found reply → IsModelRead setup rows event reply
+
+-- the values that an event needs after these rows are there: the path of a source; and, where no two texts that the rows' events hash have
+-- one folded digest, what comes of an offer, and of the output of a job for the goal that leads it
+pub record IsPreparedAfter (setup : Setup) (rows : List Row) (e : events.Event) (ready : Ready) : Type 0 where
+  pub path : HasPath e.request ready.work.sources
+  pub outcome : NoClash (hashed setup nothing (events_of rows)) → is_among e.actor setup.users ≡ true
+      → HasOutcome (world_after setup nothing (events_of rows) e.actor) e.actor e.request ready.work.settlements
+
+-- whatever is made of a need are the values that an event needs after these rows
+abbrev pub IsNeedAfter : Setup → List Row → events.Event → Need → Type 0
+IsNeedAfter setup rows e need = (ready : Ready) → IsMade need e.request ready → IsPreparedAfter setup rows e ready

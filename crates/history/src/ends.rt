@@ -1,0 +1,167 @@
+//! Publishing, and looking at what is published.
+
+ghost use Rattle.std.specs.Prelude.{◌≡◌, ◌++◌, ◌∷◌, [], drop, fold, true, false, IfSome, IfOk, IfErr, MatchBool};
+ghost use Rattle.std.specs.Arc.{arc_value};
+ghost use Rattle.left_right.specs.Sides.{view};
+ghost use Rattle.schedule.specs.Queries.{event_for};
+ghost use Rattle.history.specs.Histories.{IsLegal};
+ghost use Rattle.model.specs.declared.refusal.Refusal.TheVariants.{Memory};
+ghost use Rattle.events.specs.Terms.{event_of};
+ghost use Rattle.history.specs.Following.{FindsRead, IsNeedAfter};
+ghost use Rattle.history.specs.Naming.{book_in, setup_in};
+ghost use Rattle.crossbeam_utils.specs.Register.{TurnsAt};
+ghost use Rattle.history.specs.declared.law.Shown.{Shown};
+ghost use Rattle.history.specs.Tied.{knower, absorbed, added, IsQuiet, Tied, Sees};
+
+use crate::law::{Looks, SnapshotReader, SnapshotWriter, Tells};
+use crate::snapshot::{NewRow, Operation};
+use model::Refusal;
+use crate::beginning::Beginning;
+use schedule::{Event, Finding, Need, Query};
+use std::alloc::AllocError;
+use std::sync::Wait;
+
+/// Looks for what is only read after the rows that are published, with these rows, which are a legal
+/// history. It waits for nobody, and what it finds is served once the snapshot is left. Nothing is found
+/// where the writer is gone.
+pub fn look(reader: SnapshotReader, query: Query) -> (SnapshotReader, Option<(Finding, Beginning)>)
+    requires { (view reader.place).knows ≡ true }
+    ensures view { view result.0.place ≡ view reader.place }
+    ensures rows { IfSome result.1 (λ t. t.1.seen.book ≡ book_in (view reader.place).name) }
+    ensures legal { IfSome result.1
+        (λ t. IsLegal (setup_in (view reader.place).name) t.1.seen.log) }
+    ensures found { IfSome result.1
+        (λ t. FindsRead (setup_in (view reader.place).name) t.1.seen.log (event_for query) t.0) }
+{
+    match reader.enter_as::<Looks>() {
+        Ok(reading) => {
+            let snapshot = reading.get();
+            let found = snapshot.look(&query);
+            let rows = snapshot.seen();
+            (reading.leave(), Some((found, rows)))
+        }
+        Err(reader) => (reader, None),
+    }
+}
+
+/// What an event needs to be made after the rows that are published, with these rows. It waits for nobody,
+/// and what is needed is made once the snapshot is left. There is no answer where the writer is gone.
+pub fn need(
+    reader: SnapshotReader,
+    event: &Event,
+) -> (SnapshotReader, Option<(Result<Need, Refusal>, Beginning)>)
+    requires { (view reader.place).knows ≡ true }
+    ensures view { view result.0.place ≡ view reader.place }
+    ensures rows { IfSome result.1 (λ t. t.1.seen.book ≡ book_in (view reader.place).name) }
+    ensures need { IfSome result.1 (λ t. IfOk t.0 (IsNeedAfter
+        (setup_in (view reader.place).name) t.1.seen.log (event_of event.now))) }
+    ensures memory { IfSome result.1 (λ t. IfErr t.0 (λ why. why ≡ Memory)) }
+{
+    match reader.enter_as::<Looks>() {
+        Ok(reading) => {
+            let snapshot = reading.get();
+            let needed = snapshot.need(event);
+            let rows = snapshot.seen();
+            (reading.leave(), Some((needed, rows)))
+        }
+        Err(reader) => (reader, None),
+    }
+}
+
+/// How many values the copy that is published had to make itself. It waits for nobody. There is no answer
+/// where the writer is gone.
+pub fn computed(reader: SnapshotReader) -> (SnapshotReader, Option<u64>)
+    requires { (view reader.place).knows ≡ true }
+    ensures { view result.0.place ≡ view reader.place }
+{
+    match reader.enter_as::<Looks>() {
+        Ok(reading) => {
+            let made = reading.get().computed();
+            (reading.leave(), Some(made))
+        }
+        Err(reader) => (reader, None),
+    }
+}
+
+/// Publishes what is pending, and says whether it did. Else it stays pending.
+fn publish_pending<R: Wait>(rt: &R, writer: SnapshotWriter) -> (SnapshotWriter, bool)
+    requires { (next : Shown)
+        → next ≡ fold absorbed writer.desk.shown.value (drop writer.behind writer.log.items)
+        → TurnsAt Tied writer.desk.place.id (view writer.desk.place)
+        writer.desk.shown.value next Sees }
+    ensures { MatchBool result.1
+        ((result.0.desk.shown.value
+        ≡ fold absorbed writer.desk.shown.value (drop writer.behind writer.log.items))
+        × (drop result.0.behind result.0.log.items ≡ []))
+        ((result.0.desk.shown.value ≡ writer.desk.shown.value)
+        × (drop result.0.behind result.0.log.items ≡ drop writer.behind writer.log.items)) }
+{
+    let (writer, published) = writer.publish_as::<Looks, R>(rt);
+    match published {
+        Ok(()) => (writer, true),
+        Err(_) => (writer, false),
+    }
+}
+
+/// Publishes a row behind the others, with which they are a legal history, and says whether it did.
+/// What was pending before shows nothing.
+pub fn publish<R: Wait>(rt: &R, writer: SnapshotWriter, new: NewRow) -> (SnapshotWriter, bool)
+    requires quiet { IsQuiet writer.desk.shown.value (drop writer.behind writer.log.items) }
+    requires rows { new.after.seen.log
+        ≡ writer.desk.shown.value.rows ++ arc_value new.row ∷ [] }
+    requires book { new.after.seen.book ≡ book_in writer.desk.shown.value.name }
+    requires legal { IsLegal (setup_in writer.desk.shown.value.name) new.after.seen.log }
+    ensures { MatchBool result.1
+        ((result.0.desk.shown.value ≡ added writer.desk.shown.value new)
+        × (drop result.0.behind result.0.log.items ≡ []))
+        (result.0.desk.shown.value ≡ writer.desk.shown.value) }
+{
+    let mut writer = writer;
+    let Ok(()) = writer.append(Operation::Add(new)) else {
+        return (writer, false);
+    };
+    publish_pending(rt, writer)
+}
+
+/// Publishes a sweep, and says whether it did. Else it may be pending, which shows nothing.
+pub fn sweep<R: Wait>(rt: &R, writer: SnapshotWriter) -> (SnapshotWriter, bool)
+    requires quiet { IsQuiet writer.desk.shown.value (drop writer.behind writer.log.items) }
+    ensures shown { result.0.desk.shown.value ≡ writer.desk.shown.value }
+    ensures quiet { IsQuiet result.0.desk.shown.value
+        (drop result.0.behind result.0.log.items) }
+{
+    let mut writer = writer;
+    let Ok(()) = writer.append(Operation::Sweep) else {
+        return (writer, false);
+    };
+    publish_pending(rt, writer)
+}
+
+/// Publishes what is there already, which has no rows, so that the writer knows the name.
+pub fn begin<R: Wait>(rt: &R, writer: SnapshotWriter) -> (SnapshotWriter, bool)
+    requires ready { drop writer.behind writer.log.items ≡ [] }
+    requires rows { (writer.desk.shown.value.rows ≡ []) × (writer.desk.shown.value.seen ≡ []) }
+    ensures shown { result.0.desk.shown.value ≡ writer.desk.shown.value }
+    ensures ready { drop result.0.behind result.0.log.items ≡ [] }
+    ensures knows { result.1 ≡ true
+        → view result.0.desk.place ≡ knower writer.desk.shown.value.name }
+{
+    let (writer, published) = writer.publish_as::<Looks, R>(rt);
+    (writer, published.is_ok())
+}
+
+/// A reader that knows what the writer knows.
+///
+/// # Errors
+///
+/// - `AllocError` only where memory was refused, or no place is left for a reader.
+pub fn reader_of(writer: &mut SnapshotWriter) -> Result<SnapshotReader, AllocError>
+    ensures view { IfOk result (λ r. view r.place ≡ view writer.old.desk.place) }
+    ensures same { (view writer.new.desk.place ≡ view writer.old.desk.place)
+        × (writer.new.desk.shown ≡ writer.old.desk.shown) × (writer.new.log ≡ writer.old.log)
+        × (writer.new.behind ≡ writer.old.behind) }
+{
+    let mut reader = writer.factory().reader()?;
+    reader.learn::<Tells>(writer.tell::<Tells>());
+    Ok(reader)
+}

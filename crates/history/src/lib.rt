@@ -1,0 +1,24 @@
+//! What is published of a book, and read without its lock.
+//!
+//! A [`Snapshot`] is a core that has taken the events of all rows up to a moment, with these rows. Its
+//! writer, an [`End`], publishes each row behind the others, and each sweep; a reader looks at what is
+//! published and waits for nobody.
+#![tactic(auto)]
+
+mod beginning;
+mod ends;
+mod law;
+mod log;
+mod naming;
+mod pass;
+mod row;
+mod snapshot;
+
+pub use beginning::{Beginning, Empty, Head, Lengths};
+pub use ends::{begin, computed, look, need, publish, reader_of, sweep};
+pub use law::{End, Law, Looks, Name, Shown, SnapshotReader, SnapshotWriter, Tells, View};
+pub use log::{Blank, Claim, Log, Opened};
+pub use naming::{Naming, StopCount};
+pub use pass::Pass;
+pub use row::{Row, has_given_up};
+pub use snapshot::{NewRow, Operation, Snapshot};

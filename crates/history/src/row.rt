@@ -1,0 +1,28 @@
+//! What was asked and answered.
+
+ghost use Rattle.std.specs.Prelude.{◌≡◌};
+ghost use Rattle.history.specs.Histories.{gave_up};
+
+use events::{Event, Reply};
+use model::Refusal;
+
+/// One call that was answered otherwise than with 90 `Memory` or 92 `Stopped`.
+#[derive(Drop)]
+pub struct Row {
+    /// The number of the pass that made the call, from 0 on.
+    pub pass: u64,
+    /// What was asked.
+    pub event: Event,
+    /// What was answered.
+    pub reply: Reply,
+}
+
+/// Whether a reply is 90 `Memory` or 92 `Stopped`: a call that is answered so has no row.
+pub fn has_given_up(reply: &Reply) -> bool
+    ensures { result ≡ gave_up reply.now }
+{
+    match reply {
+        Reply::Refused(why) => matches!(why, Refusal::Memory | Refusal::Stopped),
+        _ => false,
+    }
+}

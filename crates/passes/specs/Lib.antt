@@ -1,4 +1,0 @@
-pub mod Callers
-pub mod Tokens
-pub mod Beginnings
-pub mod Histories

@@ -1,3 +1,0 @@
-pub mod FollowLemmas
-pub mod Ties
-pub mod LegalLemmas
