@@ -36,7 +36,7 @@ use Rattle.handling.proofs.GoalLemmas.{goals_sound_at}
 use Rattle.handling.proofs.TrustLemmas.{distinct_users}
 use Rattle.handling.proofs.ForgettingLemmas.{sound_without, there_as, needed_as, desk_without}
 use Rattle.handling.proofs.ViewLemmas.{reach_of}
-use Rattle.views.proofs.ClosureLemmas.{world, his_desk, his_sound}
+use Rattle.handlers.proofs.ClosureLemmas.{world, his_desk, his_sound}
 use Rattle.goals.proofs.AskingLemmas.{goals_handled}
 
 -- ---- goals that are let go

@@ -38,8 +38,8 @@ use Rattle.handling.specs.Supported.{goals_of}
 use Rattle.handling.proofs.DeskLemmas.{known_of-desk_of}
 use Rattle.handling.proofs.TrustLemmas.{distinct_users}
 use Rattle.handling.proofs.ViewLemmas.{view_is, places_in, places_out, places_below}
-use Rattle.views.specs.Taking.{IsLabelledBy}
-use Rattle.views.proofs.ClosureLemmas.{world, his_desk}
+use Rattle.handlers.specs.Taking.{IsLabelledBy}
+use Rattle.handlers.proofs.ClosureLemmas.{world, his_desk}
 use Rattle.goals.specs.Reusing.{path_before, is_found_at, done_path, found_at, found_by, found_if, found_on, found_in, class_if, class_for, used_again, IsHeldWith, IsFinishedBuild, IsUsedAgain}
 
 -- ---- one after another

@@ -16,7 +16,7 @@ use Rattle.handling.specs.Parts.{parts, world_in}
 use Rattle.handling.specs.Handling.{IsHandledWithGoals, IsHandledAtPlace}
 use Rattle.handling.specs.Viewing.{desk_at}
 use Rattle.handling.proofs.GoalLemmas.{goals_sound_at}
-use Rattle.views.specs.Taking.{with_built, CopiesEntries}
+use Rattle.handlers.specs.Taking.{with_built, CopiesEntries}
 use Rattle.goals.specs.Starting.{IsToStart, uncopied_state, IsStarted, IsUncopied, IsLacking, StartsAnew, IsNotCopied, HasFailed, FailsForRoom, IsDone, HasNoRoom, StartsDone}
 use Rattle.goals.specs.Reusing.{IsUsedAgain}
 use Rattle.goals.proofs.StoredLemmas.{put_stored, built_stored}

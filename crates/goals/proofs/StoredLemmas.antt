@@ -15,7 +15,7 @@ use Rattle.laws.proofs.SetLemmas.{Ascends}
 use Rattle.store.specs.Stored.{put_all, put_once, IsTaken}
 use Rattle.handling.specs.Stored.{source_of_entry, AreTaken}
 use Rattle.handling.specs.Sound.{IsClosure, IsStored}
-use Rattle.views.specs.Taking.{has_built, with_built}
+use Rattle.handlers.specs.Taking.{has_built, with_built}
 
 -- ---- a closure that is there
 

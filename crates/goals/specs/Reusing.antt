@@ -18,7 +18,7 @@ use Rattle.jobs.specs.Numbers.{numbers, is_done_under}
 use Rattle.handling.specs.Parts.{parts, world_in}
 use Rattle.handling.specs.Viewing.{desk_at}
 use Rattle.handling.specs.Supported.{goals_of}
-use Rattle.views.specs.Taking.{IsLabelledBy}
+use Rattle.handlers.specs.Taking.{IsLabelledBy}
 
 -- ---- the records of one desk
 

@@ -31,7 +31,7 @@ use repair::{Cache, resolve_with, served_are_made};
 use std::alloc::Global;
 use store::Table;
 use trust::{Trust, User, is_reached};
-use views::trees_of;
+use handlers::trees_of;
 
 /// What a derivation is built from, for the user at a place, of all that he sees.
 fn resolved_for(

@@ -12,7 +12,7 @@ use Rattle.realise.specs.Holdings.{Holdings}
 use Rattle.handling.specs.Parts.{desk_among, beside_at, goals_of}
 use Rattle.handling.proofs.WorldLemmas.{place_found, place_is_among, no_place}
 use Rattle.trust.proofs.PlaceLemmas.{name_found}
-use Rattle.views.proofs.ClosureLemmas.{his_desk}
+use Rattle.handlers.proofs.ClosureLemmas.{his_desk}
 
 module _ (users : List (List ℕ)) (limit : ℕ) (trust : ℕ → ℕ → Bool) (goals : List (List Goal)) (table : List Source) (desks : List Holdings) (user : List ℕ) where
   abbrev world : World

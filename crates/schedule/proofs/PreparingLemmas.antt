@@ -12,14 +12,14 @@ use Rattle.realise.specs.Holdings.{Holdings}
 use Rattle.outputs.specs.Kept.{HasOutput, HasNeeded}
 use Rattle.outputs.specs.declared.input.Input.{Input}
 use Rattle.outputs.specs.declared.settlement.Settlement.{Settlement}
-use Rattle.desks.specs.Offering.{HasOffered}
+use Rattle.handlers.specs.Offering.{HasOffered}
 use Rattle.building.specs.Built.{HasBuilt}
 use Rattle.endings.specs.Preparing.{HasLedOutput, HasNeededFor}
 use Rattle.handling.specs.Parts.{desk_among, beside_at, goals_of}
 use Rattle.handling.specs.Sound.{Beside, desk_of}
 use Rattle.handling.specs.Viewing.{desk_at}
 use Rattle.handling.proofs.DeskLemmas.{known_of-desk_of}
-use Rattle.views.proofs.ClosureLemmas.{his_desk}
+use Rattle.handlers.proofs.ClosureLemmas.{his_desk}
 use Rattle.outputs.specs.declared.settlements.Settlements.{Settlements}
 use Rattle.schedule.specs.Preparing.{HasInput, HasOutcome}
 

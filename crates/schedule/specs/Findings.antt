@@ -3,7 +3,7 @@ use Rattle.std.specs.Prelude.{◌≡◌, Result, Ok, Err}
 use Rattle.model.specs.declared.refusal.Refusal.{Refusal}
 use Rattle.events.specs.declared.reply.Reply.{Reply}
 use Rattle.events.specs.declared.reply.Reply.TheVariants.{Refused}
-use Rattle.views.specs.Serving.{IsServedOf}
+use Rattle.handlers.specs.Serving.{IsServedOf}
 use Rattle.schedule.specs.declared.finding.Finding.{Finding}
 use Rattle.schedule.specs.declared.finding.Finding.TheVariants.{Told, Planned}
 

@@ -9,7 +9,7 @@ use events::Reply;
 use model::Refusal;
 use moving::Cache;
 use std::alloc::Global;
-use views::serve_plan;
+use handlers::serve_plan;
 
 /// What a core finds for a query. What takes long of a closure, its repairs, is left to [`Finding::serve`],
 /// which needs no core.

@@ -11,7 +11,7 @@ ghost use Rattle.schedule.specs.Preparing.{output_of, HasPath, HasInput, HasOutc
 
 use crate::state::Core;
 use crate::work::{Ready, Work};
-use desks::input_for_offer;
+use handlers::input_for_offer;
 use endings::{input_for_finish, tree_in};
 use events::{Event, Request};
 use handling::place_of;

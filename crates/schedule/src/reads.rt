@@ -10,7 +10,7 @@ ghost use Rattle.handling.specs.Parts.{parts};
 ghost use Rattle.handling.specs.Handling.{IsHandled, IsHandledByAll};
 ghost use Rattle.events.specs.Terms.{request_of, event_of, reply_of};
 ghost use Rattle.events.specs.declared.reply.Reply.{Reply as ReplyValue};
-ghost use Rattle.views.specs.Serving.{MayServe};
+ghost use Rattle.handlers.specs.Serving.{MayServe};
 ghost use Rattle.schedule.specs.Standing.{parts_of};
 ghost use Rattle.schedule.specs.Queries.{request_in, event_for};
 ghost use Rattle.schedule.specs.Findings.{MayGive, IsServedFrom};
@@ -20,7 +20,7 @@ use crate::finding::Finding;
 use crate::query::{Query, Question};
 use crate::state::Core;
 use choose::Plan;
-use desks::fetch;
+use handlers::{fetch, plan_for};
 use events::{CopiedReply, Reply};
 use goals::status;
 use handling::place_of;
@@ -32,7 +32,6 @@ use rewrite::one_tree_at_a_path;
 use std::alloc::Global;
 use store::Table;
 use trust::{Trust, User};
-use views::plan_for;
 
 /// What is found where a reply is made.
 fn told(reply: Result<CopiedReply, Refusal>) -> Result<Finding, Refusal>

@@ -1,7 +1,7 @@
 use Rattle.std.proofs.Common.{◌≡◌, inl, inr, refl, ap, subst, Result, Ok, Err}
 use Rattle.model.specs.declared.refusal.Refusal.{Refusal}
 use Rattle.events.specs.Terms.{reply_of}
-use Rattle.views.specs.Taking.{CopiesEntries}
+use Rattle.handlers.specs.Taking.{CopiesEntries}
 use Rattle.goals.proofs.starting.fail_for_room.Goals as goal
 
 pub returns : goal.returns

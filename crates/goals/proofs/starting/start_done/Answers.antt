@@ -7,7 +7,7 @@ use Rattle.model.specs.Events.{GoalState}
 use Rattle.realise.specs.Holdings.{Holdings}
 use Rattle.jobs.specs.Owned.{ChangesGoal}
 use Rattle.events.specs.Terms.{reply_of}
-use Rattle.views.specs.Taking.{IsLabelledBy, with_built, CopiesEntries}
+use Rattle.handlers.specs.Taking.{IsLabelledBy, with_built, CopiesEntries}
 use Rattle.goals.specs.Starting.{FailsForRoom}
 use Rattle.goals.proofs.starting.start_done.Goals as goal
 

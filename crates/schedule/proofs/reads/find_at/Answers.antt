@@ -9,7 +9,7 @@ use Rattle.handling.proofs.TrustLemmas.{few_users}
 use Rattle.model.specs.declared.refusal.Refusal.{Refusal}
 use Rattle.model.specs.Events.{Event}
 use Rattle.events.specs.declared.reply.Reply.{Reply}
-use Rattle.views.proofs.ClosureLemmas.{all_complete, handled_of_plan}
+use Rattle.handlers.proofs.ClosureLemmas.{all_complete, handled_of_plan}
 use Rattle.handling.proofs.HandlingLemmas.{asking, by_desk, by_sight, by_reading}
 use Rattle.events.specs.Terms.{request_of}
 use Rattle.schedule.specs.Queries.{request_in}

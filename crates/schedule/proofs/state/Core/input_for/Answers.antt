@@ -8,7 +8,7 @@ use Rattle.events.specs.Terms.{request_of}
 use Rattle.outputs.specs.Kept.{HasNeeded}
 use Rattle.outputs.specs.declared.settlement.Settlement.{Settlement}
 use Rattle.outputs.specs.declared.settlements.Settlements.{Settlements}
-use Rattle.desks.specs.Offering.{HasOffered}
+use Rattle.handlers.specs.Offering.{HasOffered}
 use Rattle.endings.specs.Preparing.{HasLedOutput, HasNeededFor}
 use Rattle.endings.proofs.MadeLemmas.{at_place}
 use Rattle.handling.specs.Parts.{goals_of}

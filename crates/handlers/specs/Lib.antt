@@ -1,0 +1,4 @@
+pub mod Serving
+pub mod Taking
+pub mod Adding
+pub mod Offering

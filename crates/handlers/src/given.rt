@@ -1,0 +1,118 @@
+//! Asking for a closure.
+
+ghost use Rattle.std.specs.Prelude.{◌≡◌, ◌<◌, ◌≤◌, ℕ, List, IfOk, Ok, length};
+ghost use Rattle.model.specs.Worlds.{Entry as EntryValue};
+ghost use Rattle.model.specs.Closures.{served_plan};
+ghost use Rattle.model.specs.Events.{Closure as ClosureRequest};
+ghost use Rattle.choose.specs.Visible.{IsComplete};
+ghost use Rattle.trust.specs.Trusting.{trusts};
+ghost use Rattle.handling.specs.Viewing.{desk_at};
+ghost use Rattle.handlers.specs.Serving.{IsServedAt, IsPlannedAt, IsServedOf};
+ghost use Rattle.handling.specs.Handling.{IsHandledBySight};
+ghost use Rattle.handling.specs.Sound.{IsClosure};
+
+use choose::{Plan, View, plan};
+use records::{Closure, Entry};
+use events::{CopiedReply, Reply};
+use handling::desks_in_view;
+use laws::closures_are_whole;
+use model::Refusal;
+use realise::Desk;
+use repair::{Cache, served_closure_with};
+use std::alloc::Global;
+use store::Table;
+use storepath::StorePath;
+use trust::Trust;
+
+/// What the closure of a class needs, of all that the user at a place sees.
+///
+/// # Errors
+///
+/// - `NotRealised` exactly where no desk that he sees has a record of the class.
+/// - `ClosureTooLarge` exactly where there would be more than 1,024 entries.
+/// - `Memory` only where memory was refused; it may stand in the place of each answer.
+pub fn plan_for(
+    alloc: Global,
+    trust: &Trust,
+    table: &Table,
+    desks: &[Desk],
+    place: usize,
+    class: &StorePath,
+) -> Result<Plan, Refusal>
+    requires of_run { place < length desks.now }
+    requires few { length desks.now ≤ 64 }
+    requires complete { IsComplete table.now.sources desks.now }
+    ensures planned { IsPlannedAt (trusts trust.now) table.now.sources desks.now place
+        class.now result }
+    ensures closures { IfOk result (λ p. (entries : List EntryValue)
+        → served_plan p ≡ Ok entries → IsClosure entries) }
+{
+    closures_are_whole();
+    let seen = desks_in_view(alloc, trust, place, desks)?;
+    let view = View::new(table, seen);
+    let classes = [class.clone()?];
+    plan(alloc, &view, desks[place].pins(), &classes, &[])
+}
+
+/// The closure that was planned, as it is told.
+///
+/// # Errors
+///
+/// - `RewriteRefused` exactly where a record cannot be repaired, with the reason of the first such class
+///   by rank and then by the path of the class.
+/// - `Memory` only where memory was refused; it may stand in the place of each answer.
+pub fn serve_plan(alloc: Global, plan: &Plan, cache: &mut Cache) -> Result<Reply, Refusal>
+    ensures { IsServedOf plan.now result }
+{
+    let entries = served_closure_with(alloc, plan, cache)?;
+    Ok(Reply::Entries(Closure::new(entries)?))
+}
+
+/// The entries of the closure of a class for the user at a place, of all that he sees.
+pub(crate) fn entries_for(
+    alloc: Global,
+    trust: &Trust,
+    table: &Table,
+    desks: &[Desk],
+    place: usize,
+    cache: &mut Cache,
+    class: &StorePath,
+) -> Result<Vec<Entry>, Refusal>
+    requires of_run { place < length desks.now }
+    requires few { length desks.now ≤ 64 }
+    requires complete { IsComplete table.now.sources desks.now }
+    ensures served { IsServedAt (trusts trust.now) table.now.sources desks.now place
+        class.now result }
+    ensures closure { IfOk result (λ entries. IsClosure entries.items) }
+{
+    let planned = plan_for(alloc, trust, table, desks, place, class)?;
+    served_closure_with(alloc, &planned, cache)
+}
+
+/// The closure of a class for the user at a place, of all that he sees.
+///
+/// # Errors
+///
+/// - `NotRealised` exactly where no desk that he sees has a record of the class.
+/// - `ClosureTooLarge` exactly where there would be more than 1,024 entries.
+/// - `RewriteRefused` exactly where a record cannot be repaired, with the reason of the first such class
+///   by rank and then by the path of the class.
+/// - `Memory` only where memory was refused; it may stand in the place of each answer.
+pub fn closure(
+    alloc: Global,
+    trust: &Trust,
+    table: &Table,
+    desks: &[Desk],
+    place: usize,
+    cache: &mut Cache,
+    class: &StorePath,
+) -> Result<CopiedReply, Refusal>
+    requires of_run { place < length desks.now }
+    requires few { length desks.now ≤ 64 }
+    requires complete { IsComplete table.now.sources desks.now }
+    ensures { (limit : ℕ) → IsHandledBySight (trusts trust.now) limit table.now.sources desks.now
+        place (ClosureRequest class.now) result table.now.sources (desk_at desks.now place) }
+{
+    let entries = entries_for(alloc, trust, table, desks, place, cache, class)?;
+    Ok(CopiedReply::new(Reply::Entries(Closure::new(entries)?))?)
+}

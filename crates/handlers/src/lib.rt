@@ -1,0 +1,20 @@
+//! The requests that read all that a user sees: closures, and taking them. A closure is planned by what
+//! the user sees, and then served of the plan alone.
+#![tactic(auto)]
+
+mod derivations;
+mod entries;
+mod given;
+mod offers;
+mod pins;
+mod sources;
+mod taking;
+mod trusting;
+
+pub use derivations::add_derivation;
+pub use given::{closure, plan_for, serve_plan};
+pub use offers::{input_for_offer, offer};
+pub use pins::{pin, unpin};
+pub use sources::{add_source, fetch};
+pub use taking::{copy_all, copy_with, take, trees_of};
+pub use trusting::{add_trust, remove_trust};
