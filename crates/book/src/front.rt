@@ -18,8 +18,11 @@ use crate::counts::Counts;
 use crate::history::History;
 use crate::pass::Pass;
 use crate::shelf::Shelf;
+use history::{
+    Beginning, Blank, Log, Naming, Pass as Caller, Snapshot, SnapshotWriter, StopCount, begin,
+    reader_of,
+};
 use model::Refusal;
-use history::{Beginning, Blank, Log, Naming, Pass as Caller, Snapshot, SnapshotWriter, StopCount, begin, reader_of};
 use schedule::{Core, Event, Ready, Reply, RunningJob, User};
 use std::alloc::Global;
 use std::num::NonZeroUsize;

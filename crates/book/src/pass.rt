@@ -17,9 +17,12 @@ ghost use Rattle.book.specs.Asking.{IsAskedAfter};
 use crate::book::Book;
 use crate::shelf::insist;
 use core::mem::replace_with;
+use history::{
+    Beginning, Naming, Pass as Caller, SnapshotReader, StopCount, computed, has_given_up, look,
+    need,
+};
 use laws::{isolation, kept_closures_are_good, timed_isolation};
 use model::Refusal;
-use history::{Beginning, Naming, Pass as Caller, SnapshotReader, StopCount, computed, has_given_up, look, need};
 use schedule::{Cache, Event, Finding, Need, Query, Ready, Reply, RunningJob, User};
 use std::alloc::Global;
 use std::marker::Model;

@@ -8,9 +8,9 @@ ghost use Rattle.history.specs.Histories.{row, gave_up, IsLegal};
 ghost use Rattle.book.specs.Keeping.{Kept, Steps, TookEvent};
 
 use crate::shelf::Shelf;
+use history::{Naming, Row};
 use laws::{isolation, timed_isolation};
 use model::Refusal;
-use history::{Naming, Row};
 use schedule::{Core, Event, Ready, Reply};
 use std::alloc::{AllocError, Global};
 use std::sync::{Arc, Wait};

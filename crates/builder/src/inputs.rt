@@ -5,9 +5,9 @@ ghost use Rattle.std.specs.Io.KnownBytes.{Appends};
 ghost use Rattle.model.specs.Inputs.{input_of, input_text, inputs_behind, inputs_of, inputs_text};
 ghost use Rattle.builder.specs.Commands.{IsMadeAnew};
 
-use records::Entry;
 use model::Refusal;
 use nar::{encode, str_text};
+use records::Entry;
 use std::alloc::Global;
 use std::fs::OpenOptions;
 use std::io::{Error, Write};

@@ -9,9 +9,9 @@ ghost use Rattle.builder.specs.declared.fault.Fault.TheVariants.{Memory, NotStar
 use crate::command::{command_for, inputs_path, log_path};
 use crate::fault::Fault;
 use aterm::parse;
+use events::Job;
 use jobs::RunningJob;
 use model::Refusal;
-use events::Job;
 use std::alloc::{AllocError, Global};
 use std::path::PathBuf;
 use std::process::Command;

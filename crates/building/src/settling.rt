@@ -15,12 +15,12 @@ ghost use Rattle.records.specs.Recorded.{AreInPathOrder};
 ghost use Rattle.building.specs.Built.{IsBuiltBy, IsBuiltOn, IsClosedBuilt, HasInput, HasInputFrom, IsBuiltAt, AreBuiltOn, built_at, built_of, built_output, record_under, all_built, numbered, HaveInputs};
 
 use classes::Admitted;
-use records::{Label, Record, Resolved};
 use jobs::{Goal, Jobs};
 use model::Refusal;
 use nar::Tree;
 use outputs::{Output, Settlements, record_of};
 use realise::Desk;
+use records::{Label, Record, Resolved};
 use std::alloc::Global;
 use storepath::StorePath;
 

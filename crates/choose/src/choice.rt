@@ -8,9 +8,9 @@ ghost use Rattle.choose.specs.Visible.{recorded_before, those_at, pinned_at, of_
 
 use crate::order::is_record_before;
 use crate::view::{View, tree_in};
-use records::{Realisation, Record};
 use model::Refusal;
 use realise::{Desk, Pins};
+use records::{Realisation, Record};
 use storepath::StorePath;
 
 // The best so far, or a record where that stands before it.

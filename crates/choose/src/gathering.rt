@@ -9,10 +9,10 @@ ghost use Rattle.choose.specs.Gathering.{has_class, has_source, with_chosen, wit
 
 use crate::choice::chosen;
 use crate::view::View;
-use records::{Label, Realisation, Source};
 use indexmap::IndexSet;
 use model::Refusal;
 use realise::Pins;
+use records::{Label, Realisation, Source};
 use std::alloc::{AllocError, Global};
 use std::marker::Model;
 use storepath::StorePath;

@@ -9,7 +9,7 @@ mod planned;
 mod planning;
 mod view;
 
-pub use records::{Closure, Entry, Realisation, Source};
 pub use planned::Plan;
 pub use planning::plan;
+pub use records::{Closure, Entry, Realisation, Source};
 pub use view::View;

@@ -15,9 +15,9 @@ use crate::gathering::Gathering;
 use crate::order::{compare_records, compare_sources};
 use crate::planned::Plan;
 use crate::view::View;
-use records::{Realisation, Source};
 use model::Refusal;
 use realise::Pins;
+use records::{Realisation, Source};
 use std::alloc::Global;
 use storepath::StorePath;
 

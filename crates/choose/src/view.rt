@@ -7,10 +7,10 @@ ghost use Rattle.model.specs.Worlds.{tree_at};
 ghost use Rattle.realise.specs.Holdings.{IsClosed};
 ghost use Rattle.choose.specs.Visible.{seen, desks_of, IsStored, AreStored, is_source_on, source_in};
 
-use records::Source;
 use model::Refusal;
 use nar::Tree;
 use realise::Desk;
+use records::Source;
 use std::alloc::AllocError;
 use std::marker::Model;
 use store::Table;

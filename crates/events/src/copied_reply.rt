@@ -8,8 +8,8 @@ ghost use Rattle.events.specs.declared.reply.Reply.TheVariants.{Done, GoalNumber
 ghost use Rattle.events.specs.declared.state.State.TheVariants.{Planned, Failed};
 
 use crate::reply::Reply;
-use model::Refusal;
 use crate::state::State;
+use model::Refusal;
 use std::alloc::AllocError;
 use std::marker::Model;
 

@@ -4,10 +4,10 @@ ghost use Rattle.std.specs.Prelude.{◌≡◌};
 ghost use Rattle.model.specs.Talk.{told_in};
 ghost use Rattle.events.specs.Terms.{reply_of};
 
-use records::Closure;
+use crate::state::State;
 use model::Refusal;
 use nar::Tree;
-use crate::state::State;
+use records::Closure;
 use storepath::StorePath;
 
 /// The answer to one event.

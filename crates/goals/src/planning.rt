@@ -17,21 +17,21 @@ ghost use Rattle.handling.specs.Viewing.{desk_at};
 ghost use Rattle.handling.specs.Handling.{IsHandledAtPlace};
 ghost use Rattle.goals.specs.Planning.{IsResolvedAt, TellsToPlan, fails, IsNotKept};
 
+use aterm::Derivation;
 use choose::View;
 use classes::input_classes;
-use records::Resolved;
-use aterm::Derivation;
 use events::CopiedReply;
+use handlers::trees_of;
 use handling::desks_in_view;
 use jobs::{Jobs, State};
 use laws::closures_are_whole;
 use model::Refusal;
 use realise::Desk;
+use records::Resolved;
 use repair::{Cache, resolve_with, served_are_made};
 use std::alloc::Global;
 use store::Table;
 use trust::{Trust, User, is_reached};
-use handlers::trees_of;
 
 /// What a derivation is built from, for the user at a place, of all that he sees.
 fn resolved_for(

@@ -16,10 +16,10 @@ ghost use Rattle.choose.specs.Visible.{AreStored};
 ghost use Rattle.goals.specs.Reusing.{path_before, is_found_at, done_path, found_by, found_on, found_in, class_for, IsFinishedBuild, IsHeldAmong, IsUsedAgain};
 
 use classes::Class;
-use records::{Label, Realisation, Record, Resolved};
 use jobs::{Goal, Jobs, State};
 use model::Refusal;
 use realise::Desk;
+use records::{Label, Realisation, Record, Resolved};
 use std::alloc::Global;
 use store::Table;
 use storepath::StorePath;

@@ -12,12 +12,12 @@ ghost use Rattle.handling.specs.Handling.{IsHandledBySight};
 ghost use Rattle.handling.specs.Sound.{IsClosure};
 
 use choose::{Plan, View, plan};
-use records::{Closure, Entry};
 use events::{CopiedReply, Reply};
 use handling::desks_in_view;
 use laws::closures_are_whole;
 use model::Refusal;
 use realise::Desk;
+use records::{Closure, Entry};
 use repair::{Cache, served_closure_with};
 use std::alloc::Global;
 use store::Table;

@@ -20,10 +20,10 @@ ghost use Rattle.handlers.specs.Offering.{IsOutput, IsNotSettled, IsNoOutput, Ha
 
 use crate::entries::add_entry;
 use classes::Admitted;
-use outputs::{Input, Output, Settlements, candidates, record_of};
 use events::CopiedReply;
 use model::Refusal;
 use nar::Tree;
+use outputs::{Input, Output, Settlements, candidates, record_of};
 use realise::{Desk, Limits};
 use records::{DeskEntry, Label, Record};
 use std::alloc::Global;
@@ -127,7 +127,14 @@ pub fn offer(
         return Err(Refusal::UnknownDerivation);
     };
     let (record, settled) = output_for(alloc, settlements, desk, admitted, tree)?;
-    add_entry(alloc, table, desk, limits, DeskEntry::Record(record), settled)
+    add_entry(
+        alloc,
+        table,
+        desk,
+        limits,
+        DeskEntry::Record(record),
+        settled,
+    )
 }
 
 /// What [`offer`] settles an output by, whatever its tree is, so that it can be settled before it is offered.

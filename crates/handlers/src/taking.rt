@@ -13,11 +13,11 @@ ghost use Rattle.handling.specs.Handling.{IsHandledBySight};
 ghost use Rattle.handlers.specs.Taking.{tree_with_path, counted, missing_on, are_roomy, AreCopyable, IsLabelledBy, has_built, with_built, CopiesEntries};
 
 use crate::given::entries_for;
-use records::{DeskEntry, Realisation};
 use events::{CopiedReply, Reply};
 use model::Refusal;
 use nar::Tree;
 use realise::{Desk, Limits, MOST_RECORDS, MOST_SOURCES};
+use records::{DeskEntry, Realisation};
 use repair::{Cache, served_are_made};
 use std::alloc::Global;
 use store::Table;

@@ -13,10 +13,10 @@ ghost use Rattle.crossbeam_utils.specs.Register.{TurnsAt};
 ghost use Rattle.history.specs.declared.law.Shown.{Shown};
 ghost use Rattle.history.specs.Tied.{knower, absorbed, added, IsQuiet, Tied, Sees};
 
+use crate::beginning::Beginning;
 use crate::law::{Looks, SnapshotReader, SnapshotWriter, Tells};
 use crate::snapshot::{NewRow, Operation};
 use model::Refusal;
-use crate::beginning::Beginning;
 use schedule::{Event, Finding, Need, Query};
 use std::alloc::AllocError;
 use std::sync::Wait;

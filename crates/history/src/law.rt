@@ -1,11 +1,11 @@
 //! The rule of what is published.
 
+use crate::row::Row;
 use crate::snapshot::{Operation, Snapshot};
 use atomic_table::{Join, Split};
 use crossbeam_utils::rule::{Outcome, Protocol};
 use left_right::reader::Reader;
 use left_right::writer::Writer;
-use crate::row::Row;
 use std::collections::LinkedList;
 use std::mem::ManuallyDrop;
 use std::sync::Wait;

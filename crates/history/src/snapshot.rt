@@ -14,11 +14,11 @@ ghost use Rattle.history.specs.Following.{IsFresh, FindsRead, IsNeedAfter, Takes
 ghost use Rattle.history.specs.Naming.{name_of, setup_in};
 ghost use Rattle.history.specs.Tied.{absorbed, added};
 
+use crate::beginning::Beginning;
 use crate::law::Shown;
+use crate::row::{Row, has_given_up};
 use left_right::Absorb;
 use model::Refusal;
-use crate::beginning::Beginning;
-use crate::row::{Row, has_given_up};
 use schedule::{Core, Event, Finding, Need, Query, Ready};
 use std::alloc::{AllocError, Global};
 use std::marker::Model;

@@ -10,8 +10,8 @@ ghost use Rattle.jobs.specs.Owned.{with_goals, ChangesOwn};
 
 use crate::goal::Goal;
 use crate::goals::Goals;
-use records::Entry;
 use events::State;
+use records::Entry;
 use storepath::StorePath;
 use trust::{User, is_reached};
 

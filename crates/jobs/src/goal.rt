@@ -7,8 +7,8 @@ ghost use Rattle.jobs.specs.States.{path_in, is_alike, planned_with};
 ghost use Rattle.jobs.specs.Joining.{same_as};
 
 use crate::same::same_resolved;
-use records::Resolved;
 use events::{Job, State};
+use records::Resolved;
 use std::marker::Model;
 use storepath::StorePath;
 

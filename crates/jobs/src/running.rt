@@ -8,10 +8,10 @@ ghost use Rattle.trust.specs.Naming.{name_at};
 ghost use Rattle.jobs.specs.Asking.{IsAnswerTo};
 
 use crate::leader::leads;
-use records::Resolved;
 use crate::users::Jobs;
 use events::Job;
 use model::Refusal;
+use records::Resolved;
 use std::alloc::AllocError;
 use std::marker::Model;
 use trust::User;

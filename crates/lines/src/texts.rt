@@ -9,10 +9,10 @@ ghost use Rattle.events.specs.Terms.{reply_of};
 
 use crate::entries::add_entries;
 use crate::pieces::{add, add_number};
-use records::Entry;
 use events::{Job, Reply, State};
 use model::Refusal;
 use nar::{Tree, tree_text};
+use records::Entry;
 use std::alloc::{AllocError, Global};
 use storepath::StorePath;
 

@@ -9,8 +9,8 @@ ghost use Rattle.moving.specs.Counting.{hits_of, bound_of, IsBounded, KeepsNone,
 use crate::kept::Kept;
 use crate::moves::Move;
 use crate::repair::{Repair, copy_of, tried};
-use records::Realisation;
 use model::Refusal;
+use records::Realisation;
 use std::alloc::{AllocError, Global};
 use std::hash::RandomState;
 use std::mem;

@@ -8,9 +8,9 @@ ghost use Rattle.moving.specs.declared.repair.Repair.{Repair as RepairValue};
 
 use crate::moves::Move;
 use crate::repair::{Repair, copy_of};
-use records::Realisation;
 use lru::LruCache;
 use model::Refusal;
+use records::Realisation;
 use std::alloc::{AllocError, Global};
 use std::hash::RandomState;
 use std::num::NonZeroUsize;

@@ -12,9 +12,9 @@ ghost use Rattle.records.specs.Codes.{record_code};
 use crate::moves::Move;
 use crate::moving::repaired;
 use classes::Class;
-use records::Realisation;
 use model::Refusal;
 use nar::Tree;
+use records::Realisation;
 use std::alloc::{AllocError, Global};
 use storepath::StorePath;
 

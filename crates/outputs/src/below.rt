@@ -7,8 +7,8 @@ ghost use Rattle.model.specs.declared.refusal.Refusal.TheVariants.{Memory};
 ghost use Rattle.outputs.specs.Below.{AreBelow};
 ghost use Rattle.outputs.specs.Reaching.{AreReached, AreSame, IsReached, IsStep, chosen, has_class, is_label_for, is_named, is_named_in, is_news, is_record_named};
 
-use classes::{Known, input_classes, set_of};
 use aterm::Derivation;
+use classes::{Known, input_classes, set_of};
 use indexmap::IndexSet;
 use model::Refusal;
 use realise::Desk;

@@ -278,7 +278,11 @@ impl Desk {
     /// # Errors
     ///
     /// - `Memory` only where memory was refused.
-    pub fn charged_for_all(&self, alloc: Global, entries: &[(DeskEntry, u64)]) -> Result<u64, Refusal>
+    pub fn charged_for_all(
+        &self,
+        alloc: Global,
+        entries: &[(DeskEntry, u64)],
+    ) -> Result<u64, Refusal>
         requires { AreCountable entries.now }
         ensures { MatchResult result
             (λ more. more ≡ charged_all entries.now self.now)

@@ -7,11 +7,11 @@ ghost use Rattle.model.specs.Closures.{class_of_entry, labels_of_entry, tree_of_
 ghost use Rattle.records.specs.DeskEntries.{entry_with};
 ghost use Rattle.records.specs.ClosureEntries.{is_entry_of};
 
+use crate::label::Label;
 use crate::realisation::{Realisation, Source};
 use classes::Class;
 use model::Refusal;
 use nar::Tree;
-use crate::label::Label;
 use std::alloc::AllocError;
 use std::marker::Model;
 use std::sync::ArcSlice;
@@ -122,8 +122,12 @@ impl Entry {
         ensures { IfOk result (λ entry. entry_with (tree_of_entry self.now) entry ≡ self.now) }
     {
         match &self.item {
-            Item::Record(record) => Ok(crate::desk_entry::DeskEntry::Record(record.record().clone()?)),
-            Item::Source(source) => Ok(crate::desk_entry::DeskEntry::Source(source.path().clone()?)),
+            Item::Record(record) => Ok(crate::desk_entry::DeskEntry::Record(
+                record.record().clone()?,
+            )),
+            Item::Source(source) => Ok(crate::desk_entry::DeskEntry::Source(
+                source.path().clone()?,
+            )),
         }
     }
 

@@ -3,10 +3,10 @@
 ghost use Rattle.std.specs.Prelude.{◌≡◌};
 ghost use Rattle.records.specs.Recorded.{with_tree, AreInPathOrder, without_tree};
 
-use classes::Class;
-use nar::Tree;
 use crate::label::Label;
 use crate::record::Record;
+use classes::Class;
+use nar::Tree;
 use std::alloc::AllocError;
 use std::marker::Model;
 use storepath::StorePath;

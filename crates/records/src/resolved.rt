@@ -7,9 +7,9 @@ ghost use Rattle.model.specs.declared.refusal.Refusal.TheVariants.{Memory};
 ghost use Rattle.records.specs.Recorded.{AreInPathOrder};
 
 use crate::entries::{Closure, Entry};
-use model::Refusal;
 use crate::label::Label;
 use crate::order::labels_in_order;
+use model::Refusal;
 use std::alloc::{AllocError, Global};
 use std::marker::Model;
 use std::sync::ArcSlice;

@@ -8,9 +8,9 @@ ghost use Rattle.model.specs.declared.refusal.Refusal.TheVariants.{Memory};
 ghost use Rattle.repair.specs.Serving.{AreEntries};
 ghost use Rattle.moving.specs.Served.{values_of};
 
-use records::{Entry, Realisation, Source};
 use indexmap::IndexMap;
 use model::Refusal;
+use records::{Entry, Realisation, Source};
 use std::alloc::Global;
 use std::cmp::Ordering;
 use storepath::StorePath;

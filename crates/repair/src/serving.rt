@@ -14,11 +14,11 @@ ghost use Rattle.records.specs.Sound.{IsSoundPlan};
 
 use crate::entries::entries_with;
 use choose::{Plan, View, plan};
-use records::{Entry, Realisation};
 use indexmap::IndexMap;
 use model::Refusal;
 use moving::{Cache, serve};
 use realise::Pins;
+use records::{Entry, Realisation};
 use std::alloc::Global;
 use storepath::StorePath;
 

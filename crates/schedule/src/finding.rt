@@ -6,10 +6,10 @@ ghost use Rattle.schedule.specs.declared.finding.Finding.TheVariants.{Planned};
 
 use choose::Plan;
 use events::Reply;
+use handlers::serve_plan;
 use model::Refusal;
 use moving::Cache;
 use std::alloc::Global;
-use handlers::serve_plan;
 
 /// What a core finds for a query. What takes long of a closure, its repairs, is left to [`Finding::serve`],
 /// which needs no core.

@@ -6,11 +6,11 @@ ghost use Rattle.model.specs.KeptClosures.{is_planned};
 ghost use Rattle.events.specs.States.{state_of};
 ghost use Rattle.schedule.specs.Sweeping.{holds_path, hold_path, has_entry_at, keeps_path, keep_path, keep_any_path, IsHolding, Holds};
 
-use records::Entry;
 use indexmap::IndexSet;
 use jobs::{Goal, Jobs, State};
 use model::Refusal;
 use realise::Desk;
+use records::Entry;
 use std::hash::RandomState;
 use storepath::StorePath;
 

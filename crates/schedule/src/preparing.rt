@@ -11,9 +11,9 @@ ghost use Rattle.schedule.specs.Preparing.{output_of, HasPath, HasInput, HasOutc
 
 use crate::state::Core;
 use crate::work::{Ready, Work};
-use handlers::input_for_offer;
 use endings::{input_for_finish, tree_in};
 use events::{Event, Request};
+use handlers::input_for_offer;
 use handling::place_of;
 use model::Refusal;
 use nar::Tree;

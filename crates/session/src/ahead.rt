@@ -7,10 +7,10 @@ ghost use Rattle.model.specs.Talk.{fresh};
 ghost use Rattle.session.specs.Ahead.{IsLook, NoUsersSoFar, LooksAhead, SearchesOn, SearchesLast};
 ghost use Rattle.session.specs.Serving.{HasFailed};
 
+use crate::answer::NoUsers;
 use crate::serving::{CHUNK, hold, is_begun};
 use crate::session::Session;
 use crate::streams::read_some;
-use crate::answer::NoUsers;
 use lines::{Reading, cut};
 use model::{Mode, Refusal};
 use nar::Faults;

@@ -7,10 +7,10 @@ ghost use Rattle.model.specs.Talk.{fresh};
 ghost use Rattle.session.specs.Heads.{Idle, IsHead, IsHeadLine, IsHeadPiece, IsNamedBy, rest_found, users_found};
 ghost use Rattle.session.specs.Serving.{AnsweredSoFar, EndedEarly, EndsAtLast, EndsIn, Finishes, HasFailed, IsNoFault, IsOwn, MayBeFault};
 
+use crate::answer::{Answer, NoUsers};
 use crate::serving::{Begun, CHUNK, hold, is_begun};
 use crate::session::Session;
 use crate::streams::{read_some, want_of};
-use crate::answer::{Answer, NoUsers};
 use lines::{Reading, cut};
 use model::{Mode, Refusal};
 use nar::{Faults, write_whole};

@@ -9,9 +9,9 @@ ghost use Rattle.session.specs.Serving.{Link, GoesOn, EndsIn, Finishes, EndsAtLa
 ghost use Rattle.session.specs.Serving.{EndsBehind, FinishesBehind, HasFailed, StopsBehind};
 ghost use Rattle.session.specs.Serving.{Finished, HoldsMore, IsFault, IsNoFault, IsOwn, MayBeFault, NotShown};
 
+use crate::answer::Answer;
 use crate::session::Session;
 use crate::streams::{flush, read_some, want_of};
-use crate::answer::Answer;
 use lines::{LONGEST_LINE, cut};
 use model::{Mode, Refusal};
 use nar::{Faults, write_whole};

@@ -3,11 +3,11 @@
 use crate::answer::Answer;
 use crate::calls::number;
 use classes::Class;
-use records::{Label, Realisation, Record};
 use indexmap::IndexMap;
 use model::Refusal;
 use moving::{Cache, serve};
 use nar::Tree;
+use records::{Label, Realisation, Record};
 use std::alloc::Global;
 use std::hash::RandomState;
 use std::num::NonZeroUsize;
