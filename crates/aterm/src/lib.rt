@@ -1,4 +1,4 @@
-//! Reading the texts of derivations, in the ATerm format of the Nix Reference Manual.
+//! Derivations, and their texts in the ATerm format of the Nix Reference Manual, which are read and written.
 #![tactic(auto)]
 
 mod derivation;

@@ -1,4 +1,4 @@
-//! The output classes of derivations, and their ranks (Dolstra 2006, chapter 6).
+//! The output classes of derivations, and their ranks, and what a desk knows of them (Dolstra 2006, chapter 6).
 #![tactic(auto)]
 
 mod admission;

@@ -1,4 +1,4 @@
-//! What users ask of a store, and what they are answered.
+//! What users ask of a store, and what they are answered: how far goals are, among other things.
 #![tactic(auto)]
 
 mod copied_reply;

@@ -1,5 +1,6 @@
-//! The requests that read all that a user sees: closures, and taking them. A closure is planned by what
-//! the user sees, and then served of the plan alone.
+//! The requests on desks: sources, derivations, offers, trust and pins, which read and change the desk of
+//! their user alone, or whom he trusts; closures, and taking them, which read all that he sees. A closure
+//! is planned by what the user sees, and then served of the plan alone.
 #![tactic(auto)]
 
 mod derivations;

@@ -1,4 +1,8 @@
-//! What is published of a book, and read without its lock.
+//! The history of a front: its callers, what they know of it, and what is published of it and read
+//! without the front's lock.
+//!
+//! A [`Pass`] is one caller. What it knows of the history, and what is recorded there, are tokens,
+//! which have no bytes: the [`Log`] lies under the lock, and each pass has a claim.
 //!
 //! A [`Snapshot`] is a core that has taken the events of all rows up to a moment, with these rows. Its
 //! writer, an [`End`], publishes each row behind the others, and each sweep; a reader looks at what is

@@ -1,4 +1,5 @@
-//! The goals of users, and the jobs in which goals are built together.
+//! The goals of users, and the jobs in which goals are built together: which goal leads a job, what the
+//! job is built from, and which of its goals are of those who reach its leader.
 #![tactic(auto)]
 
 mod ascending;

@@ -1,5 +1,6 @@
 //! Outputs: trees that were built for a derivation get the paths of their content, and records
-//! (Dolstra 2006, chapter 6).
+//! (Dolstra 2006, chapter 6). What an output may refer to are the sources of its desk, the records of its
+//! derivation's inputs, and all that their labels reach (section 6.2).
 #![tactic(auto)]
 
 mod below;

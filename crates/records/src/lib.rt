@@ -1,5 +1,6 @@
-//! What was built for classes (Dolstra 2006, section 6.2): records, the labels of what they refer to,
-//! and entries, which are put on desks.
+//! What was built for classes (Dolstra 2006, section 6.2): records, the labels of what they refer to, and
+//! entries, which are put on desks; closures, whose entries are records and sources with their trees, and
+//! what a derivation is built from.
 #![tactic(auto)]
 
 mod desk_entry;

@@ -125,8 +125,8 @@ fn answer_input<H: Wait, R: Read + Faults, W: Write + Faults>(
 }
 
 /// Answers the lines that a reader gives, in a store for the users whom they name first and under
-/// these limits, and writes the replies. What is written is flushed, whatever the end, but for a failure of
-/// the writer.
+/// these limits, and writes the replies. What is written is flushed before more is read, so that whoever waits
+/// for a reply before the next line comes has it; and at the end, whatever that is, but for a failure of the writer.
 ///
 /// Where it sweeps, what nobody holds is given back after each event that is no query, as far as there is
 /// memory to find it. What is promised of the text is the same.

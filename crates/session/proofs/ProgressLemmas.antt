@@ -62,6 +62,20 @@ module _ {mode : Mode} {A : Type 0} (L : A → Row → A → Type 0) (first : A)
     seen_is = p.seen_is;
   }
 
+  -- what was written is flushed
+  pub progress-flushed : (now : A) (written written' : Option (List ℕ)) (input : List ℕ) (seen : Seen) (held : List ℕ)
+      → Progress mode L first now blank written input seen held → Appends written written' [] → Progress mode L first now blank written' input seen held
+  progress-flushed now written written' input seen held p kept = record {
+    so_far = record {
+      rows = p.so_far.rows;
+      lines = p.so_far.lines;
+      chain = p.so_far.chain;
+      text = appends-flushed blank written written' (text_from 1 p.so_far.rows) p.so_far.text kept;
+    };
+    held_is = p.held_is;
+    seen_is = p.seen_is;
+  }
+
   -- the row of the line which is held
   line_gets : (now : A) (written : Option (List ℕ)) (input : List ℕ) (seen : Seen) (held : List ℕ)
       (p : Progress mode L first now blank written input seen held) (row : Row) → GetsNext seen held row
@@ -291,6 +305,20 @@ own_read why d f = elim d [
   ]
 ]
 
+-- what may come of showing what was written and then reading more
+module _ (reader reader' writer writer' : ℕ) (why : Refusal) (fault : IsFault InputFault reader reader' why ⊎ IsFault OutputFault writer writer' why) where
+  pub more_not_users : why ≡ BadUsers → ⊥
+  more_not_users = elim fault [ inl i ↦ by_input why i.0 | inr o ↦ λ e. let bad : OutputFault ≡ BadUsers = sym o.0 ∙ e in cc ]
+
+  pub more_errors : (why ≡ InputFault) ⊎ IsOwn why
+  more_errors = elim fault [ inl i ↦ inl i.0 | inr o ↦ inr (own_output why (inl o.0)) ]
+
+  pub more_input : MayBeFault InputFault reader reader' why
+  more_input e = elim fault [ inl i ↦ i.1 | inr o ↦ absurd (own_read why (own_output why (inl o.0)) e) ]
+
+  pub more_output : MayBeFault OutputFault writer writer' why
+  more_output e = elim fault [ inl i ↦ let bad : InputFault ≡ OutputFault = sym i.0 ∙ e in cc | inr o ↦ o.1 ]
+
 -- by another fact that says where the input is at its end
 pub early-weakened : {mode : Mode} {A : Type 0} (L : A → Row → A → Type 0) (first now : A) (blank written : Option (List ℕ)) (input : List ℕ) (at_end at_end' : Type 0) (why : Refusal) → (at_end → at_end')
     → EndedEarly mode L first now blank written input at_end why → EndedEarly mode L first now blank written input at_end' why
@@ -401,6 +429,13 @@ module _ {A : Type 0} (L : A → Row → A → Type 0) where
       → GoesOn L now next written written' seen seen' held held' bytes → GoesOn L now next written written' seen seen' held held' (bytes ++ [])
   goes-nowhere now next written written' seen seen' held held' bytes goes =
       subst (GoesOn L now next written written' seen seen' held held') (sym (append-nil bytes)) goes
+
+  -- what was written is flushed
+  pub goes-flushed : (now next : A) (written between written' : Option (List ℕ)) (seen seen' : Seen) (held held' bytes : List ℕ)
+      → GoesOn L now next written between seen seen' held held' bytes → Appends between written' []
+      → GoesOn L now next written written' seen seen' held held' bytes
+  goes-flushed now next written between written' seen seen' held held' bytes goes kept mode first blank input p =
+      progress-flushed L first blank next between written' (input ++ bytes) seen' held' (goes mode first blank input p) kept
 
   -- from there on it goes over a piece
   pub goes-further : (now mid next : A) (written between written' : Option (List ℕ)) (seen half seen' : Seen) (held part held' bytes input piece : List ℕ)

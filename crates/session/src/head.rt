@@ -10,7 +10,7 @@ ghost use Rattle.session.specs.Serving.{AnsweredSoFar, EndedEarly, EndsAtLast, E
 use crate::answer::{Answer, NoUsers};
 use crate::serving::{Begun, CHUNK, hold, is_begun};
 use crate::session::Session;
-use crate::streams::{read_some, want_of};
+use crate::streams::{read_more, want_of};
 use lines::{Reading, cut};
 use model::{Mode, Refusal};
 use nar::{Faults, write_whole};
@@ -158,7 +158,7 @@ fn head_by<R: Read + Faults, W: Write + Faults>(
     let writer_before = writer.failures();
     let mut chunk = [0u8; CHUNK];
     for _ in 0..u64::MAX {
-        let Some(n) = read_some(reader, reader_before, &mut chunk)? else {
+        let Some(n) = read_more(reader, reader_before, writer, writer_before, &mut chunk)? else {
             continue;
         };
         if n == 0 {
@@ -174,7 +174,8 @@ fn head_by<R: Read + Faults, W: Write + Faults>(
 }
 
 /// Answers the first lines of what a reader gives, up to the one that names the users, and writes what is
-/// printed for them. No such line asks anybody. The writer is left to be flushed.
+/// printed for them. No such line asks anybody. What was written is flushed before more is read; at the end the
+/// writer is left to be flushed.
 ///
 /// # Errors
 ///

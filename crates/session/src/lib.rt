@@ -4,7 +4,7 @@
 //! |---|---|
 //! | [`Session::line`] | answers one line: gives what is printed for it |
 //! | [`Session::read`], [`Session::answer`] | the same in two steps: what the line comes to, and what is printed for that |
-//! | [`serve`] | answers the lines of a reader, and writes and flushes what is printed |
+//! | [`serve`] | answers the lines of a reader, and writes what is printed, and flushes it before more is read |
 //! | [`serve_behind`] | the same for a reader of which some was read ahead, but for the flush |
 //! | [`serve_head`] | answers the first lines of a reader, up to the one that names the users |
 //! | [`serve_on`] | answers the lines behind those |

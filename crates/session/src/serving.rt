@@ -11,7 +11,7 @@ ghost use Rattle.session.specs.Serving.{Finished, HoldsMore, IsFault, IsNoFault,
 
 use crate::answer::Answer;
 use crate::session::Session;
-use crate::streams::{flush, read_some, want_of};
+use crate::streams::{flush, read_more, want_of};
 use lines::{LONGEST_LINE, cut};
 use model::{Mode, Refusal};
 use nar::{Faults, write_whole};
@@ -170,7 +170,7 @@ fn serve_by<R: Read + Faults, W: Write + Faults, A: Answer>(
     feed(alloc, session, held, bytes, writer, writer_before, answer)?;
     let mut chunk = [0u8; CHUNK];
     for _ in 0..u64::MAX {
-        let Some(n) = read_some(reader, reader_before, &mut chunk)? else {
+        let Some(n) = read_more(reader, reader_before, writer, writer_before, &mut chunk)? else {
             continue;
         };
         if n == 0 {
@@ -184,7 +184,8 @@ fn serve_by<R: Read + Faults, W: Write + Faults, A: Answer>(
 }
 
 /// Answers the lines of an input to its end, of which the first are answered, and writes what is printed for
-/// them. The reader gives what stands behind what was read. The writer is left to be flushed.
+/// them. The reader gives what stands behind what was read. What was written is flushed before more is read, so
+/// that whoever waits for a reply before the next line comes has it; at the end the writer is left to be flushed.
 ///
 /// A line of more than 268,435,456 bytes is skipped without being kept. A reader or writer that fails
 /// and does not count it is tried again.
@@ -242,7 +243,8 @@ pub fn serve_on<R: Read + Faults, W: Write + Faults, A: Answer>(
 }
 
 /// Answers the lines of an input to its end, and writes what is printed for them. Some of its bytes were
-/// read ahead, and the reader gives what stands behind them. The writer is left to be flushed.
+/// read ahead, and the reader gives what stands behind them. What was written is flushed before more is read;
+/// at the end the writer is left to be flushed.
 ///
 /// A line of more than 268,435,456 bytes is skipped without being kept. A reader or writer that fails
 /// and does not count it is tried again.
@@ -309,7 +311,7 @@ pub fn serve_behind<R: Read + Faults, W: Write + Faults, A: Answer>(
 }
 
 /// Answers the lines of the reader to the input's end, writes what is printed for them, and flushes that
-/// where it ends so or with `BadUsers`.
+/// before more is read, and where it ends so or with `BadUsers`.
 ///
 /// # Errors
 ///

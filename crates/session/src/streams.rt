@@ -119,3 +119,25 @@ pub(crate) fn read_some<R: Read + Faults>(
         _ => Ok(None),
     }
 }
+
+/// Shows what was written, and then reads some bytes as [`read_some`] does: so that whoever waits for a reply before
+/// the next line comes has it.
+pub(crate) fn read_more<R: Read + Faults, W: Write + Faults>(
+    reader: &mut R,
+    reader_before: u64,
+    writer: &mut W,
+    writer_before: u64,
+    chunk: &mut [u8],
+) -> Result<Option<usize>, Refusal>
+    requires { 0 < length chunk.old }
+    ensures kept { Appends (W.contents writer.old) (W.contents writer.new) [] }
+    ensures ok { IfOk result
+        (HasRead (R.remaining reader.old) (R.remaining reader.new) chunk.new) }
+    ensures err { OnErr result (Consumes (R.remaining reader.old) (R.remaining reader.new) []) }
+    ensures fault { IfErr result (λ why. IsFault InputFault reader_before (R.failed reader.new) why
+        ⊎ IsFault OutputFault writer_before (W.failed writer.new) why) }
+    ensures whole { IfOk result (λ n. n ≡ Some 0 → ¬ HasFailed reader_before (R.failed reader.new)) }
+{
+    flush(writer, writer_before)?;
+    read_some(reader, reader_before, chunk)
+}
