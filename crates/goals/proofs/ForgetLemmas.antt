@@ -16,7 +16,7 @@ use Rattle.model.specs.ForgetRequests.{is_entry_at, is_built_from, builds_with, 
 use Rattle.model.specs.ForgetRequests as model
 use Rattle.model.specs.Events as events
 use Rattle.model.specs.Replies.{is_clash_refusal}
-use Rattle.model.specs.Outcomes.{Sight, sight_of, reaches, becomes, check, Outcome}
+use Rattle.model.specs.Outcomes.{Observation, observation_of, reaches, becomes, check, Outcome}
 use Rattle.model.specs.Steps.{outcome}
 use Rattle.model.proofs.BoolLemmas.{either}
 use Rattle.trust.specs.Trusting.{IsReach}
@@ -99,8 +99,8 @@ module _ (users : List (List ℕ)) (limit : ℕ) (trust : ℕ → ℕ → Bool) 
   abbrev w : World
   w = world users limit trust goals table desks actor place listed found paired within
 
-  abbrev sight : Sight
-  sight = sight_of setup w actor
+  abbrev observation : Observation
+  observation = observation_of setup w actor
 
   abbrev request : events.Request
   request = events.Forget class path
@@ -112,23 +112,23 @@ module _ (users : List (List ℕ)) (limit : ℕ) (trust : ℕ → ℕ → Bool) 
   his = his_desk users limit trust goals table desks actor place listed found paired within
 
   -- whether a record of it is there
-  there_is : list_any (is_record_at class path) sight.desk.records ≡ list_any (is_recorded_at class path) d.records
+  there_is : list_any (is_record_at class path) observation.desk.records ≡ list_any (is_recorded_at class path) d.records
   there_is = ap (λ (x : Desk). list_any (is_record_at class path) x.records) his ∙ there_as table class path d.records
 
   -- whether it is in use
   module _ (set : ℕ → Bool) (reach : IsReach trust place set) where
-    reached : names users set ≡ sight.reach
+    reached : names users set ≡ observation.reach
     reached = reach_of users limit trust goals table desks (distinct_users users listed) paired actor place set within found reach
 
-    used_is : is_in_use sight class path ≡ (is_needed class path d || list_any (builds_with (names users set) class path) own)
+    used_is : is_in_use observation class path ≡ (is_needed class path d || list_any (builds_with (names users set) class path) own)
     used_is =
-        (λ i. list_any (model.refers_to_class class path) (model.remaining class path (his i).records) || list_any (builds_with sight.reach class path) (his i).goals)
+        (λ i. list_any (model.refers_to_class class path) (model.remaining class path (his i).records) || list_any (builds_with observation.reach class path) (his i).goals)
         ∙ (λ i. needed_as table class path d i || list_any (builds_with (sym reached i) class path) own)
 
-  forget_is : (held used : Bool) → list_any (is_recorded_at class path) d.records ≡ held → is_in_use sight class path ≡ used
-      → forget sight class path ≡ check NotHeld held (check InUse (not used) (becomes (model.without_records class path sight.desk) events.Done))
+  forget_is : (held used : Bool) → list_any (is_recorded_at class path) d.records ≡ held → is_in_use observation class path ≡ used
+      → forget observation class path ≡ check NotHeld held (check InUse (not used) (becomes (model.without_records class path observation.desk) events.Done))
   forget_is held used there is =
-      λ i. check NotHeld ((there_is ∙ there) i) (check InUse (not (is i)) (becomes (model.without_records class path sight.desk) events.Done))
+      λ i. check NotHeld ((there_is ∙ there) i) (check InUse (not (is i)) (becomes (model.without_records class path observation.desk) events.Done))
 
   own_sound : AreGoalsSound table own
   own_sound = goals_sound_at table goals place goals_sound
@@ -137,7 +137,7 @@ module _ (users : List (List ℕ)) (limit : ℕ) (trust : ℕ → ℕ → Bool) 
   d_sound = his_sound users limit trust goals table desks actor place listed found paired within sound
 
   -- what is refused leaves all
-  refused_so : (why : Refusal) → (why ≡ Memory → ⊥) → is_clash_refusal why ≡ false → forget sight class path ≡ Err why
+  refused_so : (why : Refusal) → (why ≡ Memory → ⊥) → is_clash_refusal why ≡ false → forget observation class path ≡ Err why
       → IsHandledWithGoals setup w actor (trusted_at users trust place) own table d request (Err why) own table d
   unfolding outcome
   refused_so why other no_clash is =
@@ -147,7 +147,7 @@ module _ (users : List (List ℕ)) (limit : ℕ) (trust : ℕ → ℕ → Bool) 
   -- there is none
   pub forget_absent : list_any (is_recorded_at class path) d.records ≡ false
       → IsHandledWithGoals setup w actor (trusted_at users trust place) own table d request (Err NotHeld) own table d
-  forget_absent none = refused_so NotHeld (λ memory. cc) refl (forget_is false (is_in_use sight class path) none refl)
+  forget_absent none = refused_so NotHeld (λ memory. cc) refl (forget_is false (is_in_use observation class path) none refl)
 
   module _ (set : ℕ → Bool) (reach : IsReach trust place set) (there : list_any (is_recorded_at class path) d.records ≡ true) where
     -- it is in use
@@ -162,8 +162,8 @@ module _ (users : List (List ℕ)) (limit : ℕ) (trust : ℕ → ℕ → Bool) 
     unfolding outcome
     forget_done free held reply told =
         let parts = or_parts (is_needed class path d) (list_any (builds_with (names users set) class path) own) free in
-        let is : forget sight class path ≡ becomes (model.without_records class path sight.desk) events.Done = forget_is true false there (used_is set reach ∙ free) in
-        let after : model.without_records class path sight.desk ≡ desk_of (beside (map (let_go class path) own)) table (without_records class path d) =
+        let is : forget observation class path ≡ becomes (model.without_records class path observation.desk) events.Done = forget_is true false there (used_is set reach ∙ free) in
+        let after : model.without_records class path observation.desk ≡ desk_of (beside (map (let_go class path) own)) table (without_records class path d) =
         ap (model.without_records class path) his ∙ desk_without table class path (beside own) d in
         record {
           handled = record {

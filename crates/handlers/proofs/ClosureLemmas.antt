@@ -13,7 +13,7 @@ use Rattle.model.specs.Results.{then_do, each}
 use Rattle.model.specs.Orders.{placed, set_of}
 use Rattle.model.specs.Worlds.{Source, Record, Setup, Desk, Pin, World, Goal, Entry, OfSource, OfRecord, are_users}
 use Rattle.model.specs.Events as events
-use Rattle.model.specs.Outcomes.{Sight, sight_of, view_of, becomes}
+use Rattle.model.specs.Outcomes.{Observation, observation_of, view_of, becomes}
 use Rattle.model.specs.ClosureRequests.{closure}
 use Rattle.model.specs.Choices.{Plan, choose, small_plan, plan_by, plan}
 use Rattle.model.specs.Repairs.{serve_all}
@@ -41,7 +41,7 @@ use Rattle.events.specs.Terms.{reply_of}
 use Rattle.handling.specs.Parts.{beside_at, desk_among}
 use Rattle.handling.specs.Given.{HasSoundPlan}
 use Rattle.handlers.specs.Serving.{AreServed, AreNotServed, AtPlace, IsServedAt, IsPlanned, IsNotPlanned, IsPlannedAt, Serves, IsServedOf, MayServe}
-use Rattle.handling.specs.Handling.{Fits, RefusedAtOnce, IsHandledKeeping, IsHandledBySight}
+use Rattle.handling.specs.Handling.{Fits, RefusedAtOnce, IsHandledKeeping, IsHandledByObservation}
 use Rattle.handling.specs.Viewing.{bare, desk_at, IsView}
 use Rattle.handling.proofs.WorldLemmas.{place_found, desk_found}
 use Rattle.handling.proofs.StepLemmas.{TakesMemory, may_lack}
@@ -78,17 +78,17 @@ module _ (users : List (List ℕ)) (limit : ℕ) (trust : ℕ → ℕ → Bool) 
 
   -- where nothing changes
   pub left_there : (request : events.Request) (result : Result Rust.Reply Refusal) → All (IsSound table limit) desks
-      → Fits (outcome setup (sight_of setup world actor) request) (world actor) result
-      → IfOk result (λ r. is_refused (reply_of r) ≡ false) → RefusedAtOnce (outcome setup (sight_of setup world actor) request) result
+      → Fits (outcome setup (observation_of setup world actor) request) (world actor) result
+      → IfOk result (λ r. is_refused (reply_of r) ≡ false) → RefusedAtOnce (outcome setup (observation_of setup world actor) request) result
       → TakesMemory request → IfErr result (λ why. is_clash_refusal why ≡ false) → OnOk result (table ≡ put_all (stored_by setup world actor request) table)
       → OnOk result (HasSoundPlan setup world actor request)
       → IsHandledKeeping setup world actor (beside_at users trust goals place) table (desk_at desks place) request result table (desk_at desks place)
   left_there request result sound fits answered at_once takes no_clash stored plans = record {
     handled = record {
-      serves = subst (λ (d : Desk). Fits (outcome setup (sight_of setup world actor) request) d result) his_desk fits;
+      serves = subst (λ (d : Desk). Fits (outcome setup (observation_of setup world actor) request) d result) his_desk fits;
       answered = answered;
       at_once = at_once;
-      no_memory = may_lack request (outcome setup (sight_of setup world actor) request) result takes;
+      no_memory = may_lack request (outcome setup (observation_of setup world actor) request) result takes;
       kept = is_left table (desk_at desks place) result;
       sound = his_sound sound;
       grows = λ path there. refl;
@@ -168,25 +168,25 @@ unserved_no_clash setup w u class why (inl memory) = rw memory refl
 unserved_no_clash setup w u class why (inr is) = closure_refusals (λ why. is_clash_refusal why ≡ false) refl refl (λ fault. refl) (view_of setup w u) (w u).pins (class ∷ []) [] why is
 
 -- no refusal of a closure is one that needs no memory
-closure_at_once : (s : Sight) (class : List ℕ) (result : Result Rust.Reply Refusal) → RefusedAtOnce (closure s class) result
+closure_at_once : (s : Observation) (class : List ℕ) (result : Result Rust.Reply Refusal) → RefusedAtOnce (closure s class) result
 closure_at_once s class result = closure_cases (λ o. RefusedAtOnce o result) s class (λ entries why quick o. cc) (λ why quick o. cc) (λ why quick o. cc) (λ fault why quick o. cc)
 
 -- ---- a closure that is told
 
 pub closure_handled : (trust : ℕ → ℕ → Bool) (limit : ℕ) (table : List Source) (desks : List Holdings) (place : ℕ) (class : List ℕ) (entries : List Entry) (reply : Rust.Reply)
     → AtPlace trust table desks place (λ setup w u. AreServed setup w u class entries) → reply_of reply ≡ events.Entries entries
-    → IsHandledBySight trust limit table desks place (events.Closure class) (Ok reply) table (desk_at desks place)
+    → IsHandledByObservation trust limit table desks place (events.Closure class) (Ok reply) table (desk_at desks place)
 unfolding outcome
 closure_handled trust limit table desks place class entries reply served told users goals actor listed found paired sound within =
     let s : Setup = record { users = users; charge = limit } in
     let w : World = world users limit trust goals table desks actor place listed found paired within in
     left_there users limit trust goals table desks actor place listed found paired within (events.Closure class) (Ok reply) sound
     (ap (λ o. then_do o (λ es. becomes (w actor) (events.Entries es))) (served users limit goals actor listed found paired within).are ∙ ap (becomes (w actor)) (sym told))
-    (rw told refl) (closure_at_once (sight_of s w actor) class (Ok reply)) (λ reply. refl) (search rules) refl (served users limit goals actor listed found paired within).sound
+    (rw told refl) (closure_at_once (observation_of s w actor) class (Ok reply)) (λ reply. refl) (search rules) refl (served users limit goals actor listed found paired within).sound
 
 pub closure_refused : (trust : ℕ → ℕ → Bool) (limit : ℕ) (table : List Source) (desks : List Holdings) (place : ℕ) (class : List ℕ) (why : Refusal)
     → AtPlace trust table desks place (λ setup w u. AreNotServed setup w u class why)
-    → IsHandledBySight trust limit table desks place (events.Closure class) (Err why) table (desk_at desks place)
+    → IsHandledByObservation trust limit table desks place (events.Closure class) (Err why) table (desk_at desks place)
 unfolding outcome
 closure_refused trust limit table desks place class why refused users goals actor listed found paired sound within =
     let s : Setup = record { users = users; charge = limit } in
@@ -197,18 +197,18 @@ closure_refused trust limit table desks place class why refused users goals acto
       | inl memory ↦ (let no = rw memory at own in cc)
       | inr is ↦ ap (λ o. then_do o (λ es. becomes (w actor) (events.Entries es))) is
     ])
-    (search rules) (closure_at_once (sight_of s w actor) class (Err why)) (λ reply. refl) (unserved_no_clash s w actor class why none) (search rules) (search rules)
+    (search rules) (closure_at_once (observation_of s w actor) class (Err why)) (λ reply. refl) (unserved_no_clash s w actor class why none) (search rules) (search rules)
 
 -- and so is one that is served of a plan, or says why there is none
 pub handled_of_plan : (trust : ℕ → ℕ → Bool) (limit : ℕ) (table : List Source) (desks : List Holdings) (place : ℕ) (class : List ℕ)
     (planned : Result Plan Refusal) (given : Result Rust.Reply Refusal) → IsPlannedAt trust table desks place class planned → MayServe planned given
-    → IsHandledBySight trust limit table desks place (events.Closure class) given table (desk_at desks place)
+    → IsHandledByObservation trust limit table desks place (events.Closure class) given table (desk_at desks place)
 handled_of_plan trust limit table desks place class (Ok p) (Ok reply) planned served =
     closure_handled trust limit table desks place class served.entries reply (served_of_plan trust table desks place class p served.entries planned served.are served.sound) served.told
 handled_of_plan trust limit table desks place class (Ok p) (Err why) planned served =
     closure_refused trust limit table desks place class why (refused_of_plan trust table desks place class p why planned served)
 handled_of_plan trust limit table desks place class (Err why) given none is =
-    subst (λ (o : Result Rust.Reply Refusal). IsHandledBySight trust limit table desks place (events.Closure class) o table (desk_at desks place)) (sym is)
+    subst (λ (o : Result Rust.Reply Refusal). IsHandledByObservation trust limit table desks place (events.Closure class) o table (desk_at desks place)) (sym is)
     (closure_refused trust limit table desks place class why (unplanned_at trust table desks place class why none))
 
 -- ---- the entries of a closure

@@ -61,7 +61,7 @@ module _ (beside : Beside) (limit : ℕ) (table : List Source) (d : Holdings) (p
       → IsHandledBeside beside limit table d (Offer path tree) (Err UnknownDerivation) table d
   unfolding outcome
   unknown_handled sound none =
-      left beside limit table d (Offer path tree) (Err UnknownDerivation) sound (λ setup w u. tt) (λ users sight same own. rw (same, known_there None none) refl)
+      left beside limit table d (Offer path tree) (Err UnknownDerivation) sound (λ setup w u. tt) (λ users observation same own. rw (same, known_there None none) refl)
       (offer_at_once (desk_of beside table d) path tree (Err UnknownDerivation) (λ absent. refl)) (λ reply. refl) (search rules) refl (search rules)
 
   offer_is : (a : Admission) → known_at d.known path ≡ Some a → (setup : Setup)
@@ -93,7 +93,7 @@ module _ (beside : Beside) (limit : ℕ) (table : List Source) (d : Holdings) (p
       → IsHandledBeside beside limit table d (Offer path tree) (Err why) table d
   unfolding outcome
   refused_handled a why sound known refused =
-      left beside limit table d (Offer path tree) (Err why) sound (λ setup w u. tt) (λ users sight same. rw same (refusal_fits a why known refused (record { users = users; charge = limit })))
+      left beside limit table d (Offer path tree) (Err why) sound (λ setup w u. tt) (λ users observation same. rw same (refusal_fits a why known refused (record { users = users; charge = limit })))
       (offer_at_once (desk_of beside table d) path tree (Err why) (λ absent. (let no = sym (known_there (Some a) known) ∙ absent in cc))) (λ reply. refl) (search rules) (refusal_no_clash a why refused) (search rules)
 
   -- the output is added
@@ -107,7 +107,7 @@ module _ (beside : Beside) (limit : ℕ) (table : List Source) (d : Holdings) (p
   unfolding outcome
   offer_handled new now settled a r result sound known output =
       entry_handled beside limit table new d now (Offer path tree) (entry.Record r) settled result sound
-      (λ setup sight same. rw same (offer_is a known setup ∙ output_outcome setup))
+      (λ setup observation same. rw same (offer_is a known setup ∙ output_outcome setup))
       (offer_at_once (desk_of beside table d) path tree result (λ absent. (let no = sym (known_there (Some a) known) ∙ absent in cc))) (λ reply. refl)
       (λ setup w u here.
       ap (λ e. output_stored e tree (known_at (known_of e) path)) here ∙ ap (output_stored (desk_of beside table d) tree) (known_there (Some a) known)

@@ -15,7 +15,7 @@ use Rattle.model.specs.Orders.{set_of}
 use Rattle.model.specs.Limits.{most_entries}
 use Rattle.model.specs.Closures.{served_plan, texts_of_plan, closure, closure_texts, path_for}
 use Rattle.model.specs.ClosureRequests.{closure_for, take_entries, take}
-use Rattle.model.specs.Outcomes.{Sight, sight_of, view_of, becomes, need, room}
+use Rattle.model.specs.Outcomes.{Observation, observation_of, view_of, becomes, need, room}
 use Rattle.model.specs.Steps.{outcome}
 use Rattle.model.proofs.BoolLemmas.{either}
 use Rattle.laws.proofs.MemberLemmas.{In, in_of, contains_of, in_map, from_map, from_flat_map, from_filter_map, from_set}
@@ -36,7 +36,7 @@ use Rattle.events.specs.Terms.{reply_of}
 use Rattle.handling.specs.Parts.{beside_at, desk_among}
 use Rattle.handling.specs.Given.{HasSoundPlanOf}
 use Rattle.handlers.specs.Serving.{AreServed, AreNotServed, AtPlace}
-use Rattle.handling.specs.Handling.{RefusedAtOnce, IsHandledBySight}
+use Rattle.handling.specs.Handling.{RefusedAtOnce, IsHandledByObservation}
 use Rattle.handlers.specs.Taking.{CopiesEntries}
 use Rattle.handling.specs.Viewing.{bare, desk_at}
 use Rattle.handling.proofs.DeskLemmas.{IsKnown, sources_known, records_known, some_of}
@@ -171,11 +171,11 @@ copied_at limit old desks place any entries copies result new after below same c
     rw (later, ← before, ← same) copied
 
 -- no refusal of it is one that needs no memory
-take_at_once : (setup : Setup) (s : Sight) (class : List ℕ) (result : Result Rust.Reply Refusal) → RefusedAtOnce (take setup s class) result
+take_at_once : (setup : Setup) (s : Observation) (class : List ℕ) (result : Result Rust.Reply Refusal) → RefusedAtOnce (take setup s class) result
 take_at_once setup s class result =
     take_cases (λ o. RefusedAtOnce o result) s class setup (λ entries path is there why quick o. cc) (λ why quick o. cc) (λ why quick o. cc) (λ fault why quick o. cc) (λ why quick o. cc)
 
-taken_outcome : (setup : Setup) (s : Sight) (class : List ℕ) (entries : List Entry) (path : List ℕ) → closure_for s class ≡ Ok entries → path_for class entries ≡ Some path
+taken_outcome : (setup : Setup) (s : Observation) (class : List ℕ) (entries : List Entry) (path : List ℕ) → closure_for s class ≡ Ok entries → path_for class entries ≡ Some path
     → take setup s class ≡ room setup (with_entries entries s.desk) (events.Path path)
 taken_outcome setup s class entries path is there =
     ap (λ o. then_do o (take_entries setup s.desk class)) is
@@ -184,7 +184,7 @@ taken_outcome setup s class entries path is there =
 module _ (law : ServedAreMade) (trust : ℕ → ℕ → Bool) (limit : ℕ) (old : List Source) (desks : List Holdings) (place : ℕ) (class : List ℕ) where
   -- it is not served
   pub take_unserved : (why : Refusal) → AtPlace trust old desks place (λ setup w u. AreNotServed setup w u class why)
-      → IsHandledBySight trust limit old desks place (events.Take class) (Err why) old (desk_at desks place)
+      → IsHandledByObservation trust limit old desks place (events.Take class) (Err why) old (desk_at desks place)
   unfolding outcome
   take_unserved why refused users goals actor listed found paired sound within =
       let s : Setup = record { users = users; charge = limit } in
@@ -195,12 +195,12 @@ module _ (law : ServedAreMade) (trust : ℕ → ℕ → Bool) (limit : ℕ) (old
         | inl memory ↦ (let no = rw memory at own in cc)
         | inr is ↦ ap (λ o. then_do o (take_entries s (w actor) class)) is
       ])
-      (search rules) (take_at_once s (sight_of s w actor) class (Err why)) (λ reply. refl) (unserved_no_clash s w actor class why none) (search rules) (search rules)
+      (search rules) (take_at_once s (observation_of s w actor) class (Err why)) (λ reply. refl) (unserved_no_clash s w actor class why none) (search rules) (search rules)
 
   module _ (entries : List Entry) (served : AtPlace trust old desks place (λ setup w u. AreServed setup w u class entries)) where
     -- memory was refused, or nothing serves the class
     pub take_unnamed : (why : Refusal) → (why ≡ Memory) ⊎ ((why ≡ NotRealised) × (path_for class entries ≡ None))
-        → IsHandledBySight trust limit old desks place (events.Take class) (Err why) old (desk_at desks place)
+        → IsHandledByObservation trust limit old desks place (events.Take class) (Err why) old (desk_at desks place)
     unfolding outcome
     take_unnamed why refused users goals actor listed found paired sound within =
         let s : Setup = record { users = users; charge = limit } in
@@ -212,13 +212,13 @@ module _ (law : ServedAreMade) (trust : ℕ → ℕ → Bool) (limit : ℕ) (old
               ap (λ o. then_do o (take_entries s (w actor) class)) (served users limit goals actor listed found paired within).are
               ∙ ap (λ o. need NotRealised o (λ p. room s (with_entries entries (w actor)) (events.Path p))) none.1 ∙ ap Err (sym none.0)
         ])
-        (search rules) (take_at_once s (sight_of s w actor) class (Err why)) (λ reply. refl)
+        (search rules) (take_at_once s (observation_of s w actor) class (Err why)) (λ reply. refl)
         (elim refused [ inl memory ↦ rw memory refl | inr none ↦ rw none.0 refl ]) (search rules) (search rules)
 
     module _ (path : List ℕ) (named : path_for class entries ≡ Some path) (new : List Source) (after : Holdings) where
       -- it is taken
       pub take_done : (reply : Rust.Reply) → reply_of reply ≡ events.Path path → CopiesEntries limit old (desk_at desks place) entries (Ok tt) new after
-          → IsHandledBySight trust limit old desks place (events.Take class) (Ok reply) new after
+          → IsHandledByObservation trust limit old desks place (events.Take class) (Ok reply) new after
       unfolding outcome
       take_done reply told copies users goals actor listed found paired sound within =
           let s : Setup = record { users = users; charge = limit } in
@@ -228,11 +228,11 @@ module _ (law : ServedAreMade) (trust : ℕ → ℕ → Bool) (limit : ℕ) (old
           record {
             handled = record {
               serves =
-                  taken_outcome s (sight_of s w actor) class entries path mine.are named
+                  taken_outcome s (observation_of s w actor) class entries path mine.are named
                   ∙ ap (λ d. room s (with_entries entries d) (events.Path path)) his
                   ∙ copies.fits users (beside_at users trust goals place) (events.Path path) ∙ ap (becomes (desk_of (beside_at users trust goals place) new after)) (sym told);
               answered = rw told refl;
-              at_once = take_at_once s (sight_of s w actor) class (Ok reply);
+              at_once = take_at_once s (observation_of s w actor) class (Ok reply);
               no_memory = λ free. cc;
               kept = search rules;
               sound = copies.sound;
@@ -250,7 +250,7 @@ module _ (law : ServedAreMade) (trust : ℕ → ℕ → Bool) (limit : ℕ) (old
 
       -- it is refused
       pub take_refused : (why : Refusal) → CopiesEntries limit old (desk_at desks place) entries (Err why) new after
-          → IsHandledBySight trust limit old desks place (events.Take class) (Err why) new after
+          → IsHandledByObservation trust limit old desks place (events.Take class) (Err why) new after
       unfolding outcome
       take_refused why copies users goals actor listed found paired sound within =
           let s : Setup = record { users = users; charge = limit } in
@@ -260,11 +260,11 @@ module _ (law : ServedAreMade) (trust : ℕ → ℕ → Bool) (limit : ℕ) (old
           record {
             handled = record {
               serves = λ own.
-                  taken_outcome s (sight_of s w actor) class entries path mine.are named
+                  taken_outcome s (observation_of s w actor) class entries path mine.are named
                   ∙ ap (λ d. room s (with_entries entries d) (events.Path path)) his
                   ∙ copies.fits users (beside_at users trust goals place) (events.Path path) own;
               answered = search rules;
-              at_once = take_at_once s (sight_of s w actor) class (Err why);
+              at_once = take_at_once s (observation_of s w actor) class (Err why);
               no_memory = λ free. cc;
               kept = copies.kept;
               sound = kept_sound old new (desk_at desks place) after limit (his_sound users limit trust goals old desks actor place listed found paired within sound) copies.kept;

@@ -8,7 +8,7 @@ ghost use Rattle.choose.specs.Visible.{IsComplete};
 ghost use Rattle.trust.specs.Trusting.{trusts};
 ghost use Rattle.handling.specs.Viewing.{desk_at};
 ghost use Rattle.handlers.specs.Serving.{IsServedAt, IsPlannedAt, IsServedOf};
-ghost use Rattle.handling.specs.Handling.{IsHandledBySight};
+ghost use Rattle.handling.specs.Handling.{IsHandledByObservation};
 ghost use Rattle.handling.specs.Sound.{IsClosure};
 
 use choose::{Plan, View, plan};
@@ -110,7 +110,7 @@ pub fn closure(
     requires of_run { place < length desks.now }
     requires few { length desks.now ≤ 64 }
     requires complete { IsComplete table.now.sources desks.now }
-    ensures { (limit : ℕ) → IsHandledBySight (trusts trust.now) limit table.now.sources desks.now
+    ensures { (limit : ℕ) → IsHandledByObservation (trusts trust.now) limit table.now.sources desks.now
         place (ClosureRequest class.now) result table.now.sources (desk_at desks.now place) }
 {
     let entries = entries_for(alloc, trust, table, desks, place, cache, class)?;

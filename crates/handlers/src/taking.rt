@@ -9,7 +9,7 @@ ghost use Rattle.realise.specs.Holdings.{bare, sources_in, records_in};
 ghost use Rattle.trust.specs.Trusting.{trusts};
 ghost use Rattle.handling.specs.Sound.{IsSound, IsClosure};
 ghost use Rattle.handling.specs.Viewing.{desk_at};
-ghost use Rattle.handling.specs.Handling.{IsHandledBySight};
+ghost use Rattle.handling.specs.Handling.{IsHandledByObservation};
 ghost use Rattle.handlers.specs.Taking.{tree_with_path, counted, missing_on, are_roomy, AreCopyable, IsLabelledBy, has_built, with_built, CopiesEntries};
 
 use crate::given::entries_for;
@@ -253,7 +253,7 @@ pub fn take(
     requires of_run { place < length desks.old }
     requires few { length desks.old ≤ 64 }
     requires sound { All (IsSound table.old.sources limits.charge) desks.old }
-    ensures taken { IsHandledBySight (trusts trust.now) limits.charge table.old.sources desks.old
+    ensures taken { IsHandledByObservation (trusts trust.now) limits.charge table.old.sources desks.old
         place (TakeRequest class.now) result table.new.sources (desk_at desks.new place) }
     ensures others { desks.new ≡ slice_set desks.old place (desk_at desks.new place) }
 {

@@ -14,7 +14,7 @@ use Rattle.model.specs.DerivationTexts.{derivation_of_text}
 use Rattle.model.specs.Limits.{most_derivation_bytes}
 use Rattle.model.specs.Worlds.{Source, Setup, Desk, World, Goal, is_user, are_users, held_at}
 use Rattle.model.specs.Events.{Request, AddSource, AddDerivation, Fetch, Event, Content}
-use Rattle.model.specs.Outcomes.{Sight, sight_of, becomes, add_entry}
+use Rattle.model.specs.Outcomes.{Observation, observation_of, becomes, add_entry}
 use Rattle.model.specs.HashedTexts.{texts_of}
 use Rattle.model.specs.SourceRequests.{fetch}
 use Rattle.model.specs.Replies.{is_clash_refusal, is_refused}
@@ -32,7 +32,7 @@ use Rattle.events.specs.Terms.{reply_of}
 use Rattle.handling.specs.Parts.{goals_of, beside_at, Parts, parts, world_in, desk_among}
 use Rattle.handling.specs.Viewing.{bare}
 use Rattle.handling.specs.Given.{HasSoundPlan}
-use Rattle.handling.specs.Handling.{Fits, Serves, ServesAtOnce, Stores, IsKept, AreKept, IsHandledKeeping, IsHandledBeside, IsHandledAtDesk, IsHandledByDesk, IsHandledWithGoals, IsHandledBySight, IsHandledAtPlace, IsHandledByGoals, IsReadAtPlace, AddsEntry, AddsDerivation, IsHandled, is_fault}
+use Rattle.handling.specs.Handling.{Fits, Serves, ServesAtOnce, Stores, IsKept, AreKept, IsHandledKeeping, IsHandledBeside, IsHandledAtDesk, IsHandledByDesk, IsHandledWithGoals, IsHandledByObservation, IsHandledAtPlace, IsHandledByGoals, IsReadAtPlace, AddsEntry, AddsDerivation, IsHandled, is_fault}
 use Rattle.handling.proofs.DeskLemmas.{sound_kept}
 use Rattle.handling.proofs.DerivationLemmas.{derivation_read}
 use Rattle.store.proofs.TableLemmas.{put_once-Extends, put_once-All, found_holds}
@@ -123,8 +123,8 @@ module _ (old : Parts) (e : Event) (i : ℕ) (asks : Asks old e.actor i) where
       let given : ℕ → Beside = beside_at old.setup.users old.trust old.goals in
       let beside : ℕ → Beside = beside_at old.setup.users old.trust (slice_set old.goals i changed) in
       let below : i < length old.goals = subst (λ n. i < n) (sym asks.with_goals) (place_below old.setup.users e.actor i asks.found) in
-      let serves : Fits (outcome old.setup (sight_of old.setup w e.actor) e.request) (desk_of (beside i) new now) result =
-      subst (λ (b : Beside). Fits (outcome old.setup (sight_of old.setup w e.actor) e.request) (desk_of b new now) result)
+      let serves : Fits (outcome old.setup (observation_of old.setup w e.actor) e.request) (desk_of (beside i) new now) result =
+      subst (λ (b : Beside). Fits (outcome old.setup (observation_of old.setup w e.actor) e.request) (desk_of b new now) result)
       (beside_here old.setup.users old.trust old.goals i changed below) handled.serves in
       let own : is_user old.setup e.actor ≡ true = place_is_among old.setup.users e.actor i place in
       record {
@@ -196,10 +196,10 @@ module _ (old : Parts) (e : Event) (i : ℕ) (asks : Asks old e.actor i) where
       (handles old.setup.charge (sound_at old.table old.setup.charge old.desks i (get_or old.desks i d) asks.sound (desk_there d)))
 
   -- and one that reads what he sees
-  pub by_sight : (new : List Source) (now : Holdings) (result : Result Rust.Reply Refusal)
-      → IsHandledBySight old.trust old.setup.charge old.table old.desks i e.request result new now
+  pub by_observation : (new : List Source) (now : Holdings) (result : Result Rust.Reply Refusal)
+      → IsHandledByObservation old.trust old.setup.charge old.table old.desks i e.request result new now
       → IsHandled old e result (parts old.setup.users old.setup.charge old.trust old.goals new (slice_set old.desks i now))
-  by_sight new now result handles =
+  by_observation new now result handles =
       in_world_kept new (get_or old.desks i bare) now result (desk_there bare)
       (handles old.setup.users old.goals e.actor asks.listed asks.found asks.paired asks.sound asks.within)
 
@@ -279,10 +279,10 @@ pub left : (beside : Beside) (limit : ℕ) (table : List Source) (desk : Holding
     → IsHandledBeside beside limit table desk request result table desk
 left beside limit table desk request result sound plans serves at_once takes answered no_clash stored users w u here = record {
   handled = record {
-    serves = serves users (sight_of (record { users = users; charge = limit }) w u) here;
+    serves = serves users (observation_of (record { users = users; charge = limit }) w u) here;
     answered = answered;
-    at_once = at_once (record { users = users; charge = limit }) (sight_of (record { users = users; charge = limit }) w u) here;
-    no_memory = may_lack request (outcome (record { users = users; charge = limit }) (sight_of (record { users = users; charge = limit }) w u) request) result takes;
+    at_once = at_once (record { users = users; charge = limit }) (observation_of (record { users = users; charge = limit }) w u) here;
+    no_memory = may_lack request (outcome (record { users = users; charge = limit }) (observation_of (record { users = users; charge = limit }) w u) request) result takes;
     kept = is_left table desk result;
     sound = sound;
     grows = λ path there. refl;
@@ -300,7 +300,7 @@ pub entry_handled : (beside : Beside) (limit : ℕ) (old new : List Source) (bef
     (result : Result Rust.Reply Refusal)
     → let s : Source = record { path = entry_path entry; tree = tree } in
     IsSound old limit before
-    → ((setup : Setup) (sight : Sight) → sight.desk ≡ desk_of beside old before → outcome setup sight request ≡ add_entry setup (desk_of beside old before) (entry_with tree entry))
+    → ((setup : Setup) (observation : Observation) → observation.desk ≡ desk_of beside old before → outcome setup observation request ≡ add_entry setup (desk_of beside old before) (entry_with tree entry))
     → ServesAtOnce (desk_of beside old before) request result → TakesMemory request
     → ((setup : Setup) (w : World) (u : List ℕ) → w u ≡ desk_of beside old before → stored_by setup w u request ≡ s ∷ [])
     → ((setup : Setup) (w : World) (u : List ℕ) → tried_by setup w u request ≡ stored_by setup w u request)
@@ -316,10 +316,10 @@ entry_handled beside limit old new before now request entry tree result sound as
     let setup : Setup = record { users = users; charge = limit } in
     record {
       handled = record {
-        serves = rw (asks setup (sight_of setup w u) here) (adds users beside);
+        serves = rw (asks setup (observation_of setup w u) here) (adds users beside);
         answered = answered;
-        at_once = at_once setup (sight_of setup w u) here;
-        no_memory = may_lack request (outcome setup (sight_of setup w u) request) result takes;
+        at_once = at_once setup (observation_of setup w u) here;
+        no_memory = may_lack request (outcome setup (observation_of setup w u) request) result takes;
         kept = kept;
         sound = either_way result (IsSound new limit now) sound_now (on_err_weaker result (kept_sound old new before now limit sound) kept);
         grows = either_way result _ (on_ok_weaker result (λ more. rw more (put_once-Extends s old)) stored)
@@ -355,7 +355,7 @@ pub source_handled : (beside : Beside) (limit : ℕ) (old new : List Source) (be
 unfolding outcome
 source_handled beside limit old new before now name tree path result sound is whole =
     entry_handled beside limit old new before now (AddSource name tree) (entry.Source path) tree result sound
-    (λ setup sight same. rw (same, is) refl) (source_at_once (desk_of beside old before) name tree result) (λ reply. refl) (λ setup w u here. rw is refl) (λ setup w u. refl) (λ setup w u. tt)
+    (λ setup observation same. rw (same, is) refl) (source_at_once (desk_of beside old before) name tree result) (λ reply. refl) (λ setup w u here. rw is refl) (λ setup w u. refl) (λ setup w u. tt)
     (λ texts setup w u here inside. rw is (source_hashed texts name tree whole inside))
 
 fetch_fits : (setup : Setup) (d : Desk) (path : List ℕ) (tree : Tree) (result : Result Rust.Reply Refusal) → held_at path d ≡ Some tree
@@ -381,7 +381,7 @@ pub fetch_handled : (beside : Beside) (limit : ℕ) (table : List Source) (desk 
 unfolding outcome
 fetch_handled beside limit table desk path tree result sound there content memory =
     left beside limit table desk (Fetch path) result sound (λ setup w u. tt)
-    (λ users sight same. rw same (fetch_fits (record { users = users; charge = limit }) (desk_of beside table desk) path tree result there content memory))
+    (λ users observation same. rw same (fetch_fits (record { users = users; charge = limit }) (desk_of beside table desk) path tree result there content memory))
     (fetch_at_once (desk_of beside table desk) path result (λ none. let no = sym there ∙ none in cc)) (λ reply. refl) (fetch_answered tree result content)
     (no_clash_of_memory result memory) (on_ok_any result (Stores table (desk_of beside table desk) (Fetch path) table) (λ setup w u here. refl))
 
@@ -399,7 +399,7 @@ derivation_handled beside limit table before now text derivation result within r
     serves = rw (here, derivation_read users beside table limit before text derivation within read) (adds users beside);
     answered = answered;
     at_once = derivation_at_once (desk_of beside table before) text result (λ large. let no : true ≡ false = sym within ∙ large in cc)
-        (record { users = users; charge = limit }) (sight_of (record { users = users; charge = limit }) w u) here;
+        (record { users = users; charge = limit }) (observation_of (record { users = users; charge = limit }) w u) here;
     no_memory = λ free. cc;
     kept = on_err_weaker result (λ same. record { sources = refl; desk = same }) kept;
     sound = sound;

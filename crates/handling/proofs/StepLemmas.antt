@@ -8,7 +8,7 @@ use Rattle.model.specs.Settling.{given, MadeSource}
 use Rattle.model.specs.Worlds.{Source, Setup, Desk, World, is_user, held_at, known_of}
 use Rattle.model.specs.Limits.{most_derivation_bytes}
 use Rattle.model.specs.Events.{Request, AddSource, AddDerivation, Offer, Fetch, Event, Reply}
-use Rattle.model.specs.Outcomes.{sight_of, Outcome, becomes, reply_of, desk_after, reaches}
+use Rattle.model.specs.Outcomes.{observation_of, Outcome, becomes, reply_of, desk_after, reaches}
 use Rattle.model.specs.Steps.{outcome, outcome_of, after}
 use Rattle.model.specs.Replies.{is_refused}
 use Rattle.model.specs.SourceRequests.{source_named, source_texts}
@@ -51,7 +51,7 @@ kept_later old new before now kept path h = rw kept.sources refl
 
 -- the outcome of a user of the run
 outcome_is : (setup : Setup) (w : World) (e : Event) → is_user setup e.actor ≡ true
-    → outcome_of setup w e ≡ outcome setup (sight_of setup w e.actor) e.request
+    → outcome_of setup w e ≡ outcome setup (observation_of setup w e.actor) e.request
 outcome_is setup w e known = rw known refl
 
 -- a desk after a change that all hear nothing of
@@ -75,11 +75,11 @@ step_done given now setup old new limit desks e i before after reply others late
     }
 
 pub step_at_once : (setup : Setup) (w : World) (e : Event) (i : ℕ) (result : Result Rust.Reply Refusal) → IsPlace setup.users e.actor i
-    → RefusedAtOnce (outcome setup (sight_of setup w e.actor) e.request) result → RefusedAtOnce (outcome_of setup w e) result
+    → RefusedAtOnce (outcome setup (observation_of setup w e.actor) e.request) result → RefusedAtOnce (outcome_of setup w e) result
 step_at_once setup w e i result place at_once why quick o = at_once why quick (sym (outcome_is setup w e (place_is_among setup.users e.actor i place)) ∙ o)
 
 pub step_no_memory : (setup : Setup) (w : World) (e : Event) (i : ℕ) (result : Result Rust.Reply Refusal) → IsPlace setup.users e.actor i
-    → NeverLacksMemory e.request (outcome setup (sight_of setup w e.actor) e.request) result → NeverLacksMemory e.request (outcome_of setup w e) result
+    → NeverLacksMemory e.request (outcome setup (observation_of setup w e.actor) e.request) result → NeverLacksMemory e.request (outcome_of setup w e) result
 step_no_memory setup w e i result place no_memory =
     subst (λ o. NeverLacksMemory e.request o result) (sym (outcome_is setup w e (place_is_among setup.users e.actor i place))) no_memory
 
@@ -111,7 +111,7 @@ pub told_result : (given now : ℕ → Beside) (setup : Setup) (old new : List S
     (before after : Holdings) (result : Result Rust.Reply Refusal)
     → let w : World = desk_among given old setup.users desks in
     ((k : ℕ) → k ≢ i → now k ≡ given k) → Extends old new → All (IsSound old limit) desks → IsPlace setup.users e.actor i → slice_get desks i ≡ Some before
-    → Fits (outcome setup (sight_of setup w e.actor) e.request) (desk_of (now i) new after) result → IfOk result (λ r. is_refused (told_of r) ≡ false)
+    → Fits (outcome setup (observation_of setup w e.actor) e.request) (desk_of (now i) new after) result → IfOk result (λ r. is_refused (told_of r) ≡ false)
     → IfOk result
     (λ r. (is_refused (told_of r) ≡ false) × IsStep setup w e (told_of r) (desk_among now new setup.users (slice_set desks i after)))
 told_result given now setup old new limit desks e i before after (Ok r) others later sound place here fits answered = (
@@ -122,7 +122,7 @@ told_result given now setup old new limit desks e i before after (Ok r) others l
 told_result given now setup old new limit desks e i before after (Err why) others later sound place here fits answered = search rules
 
 pub refused_result : (setup : Setup) (w : World) (e : Event) (i : ℕ) (after : Desk) (result : Result Rust.Reply Refusal)
-    → IsPlace setup.users e.actor i → Fits (outcome setup (sight_of setup w e.actor) e.request) after result
+    → IsPlace setup.users e.actor i → Fits (outcome setup (observation_of setup w e.actor) e.request) after result
     → IfErr result (λ why. is_fault why ≡ false → outcome_of setup w e ≡ Err why)
 refused_result setup w e i after (Ok r) place fits = search rules
 refused_result setup w e i after (Err why) place fits = λ own. outcome_is setup w e (place_is_among setup.users e.actor i place) ∙ fits own
@@ -159,13 +159,13 @@ AtOnce result o = RefusedAtOnce o result
 
 pub source_at_once : (d : Desk) (name : List ℕ) (tree : Tree) (result : Result Rust.Reply Refusal) → ServesAtOnce d (AddSource name tree) result
 unfolding outcome
-source_at_once d name tree result setup sight same =
+source_at_once d name tree result setup observation same =
     rw same (add_source_cases (AtOnce result) setup d name tree (λ why quick o. cc) (λ why quick o. cc) (λ why quick o. cc))
 
 pub derivation_at_once : (d : Desk) (text : List ℕ) (result : Result Rust.Reply Refusal)
     → (nat_le (length text) most_derivation_bytes ≡ false → result ≡ Err TooLarge) → ServesAtOnce d (AddDerivation text) result
 unfolding outcome
-derivation_at_once d text result long setup sight same =
+derivation_at_once d text result long setup observation same =
     rw same (add_derivation_cases (AtOnce result) setup d text
     (record { had = λ a why quick o. cc; added = λ derivation a is why quick o. cc; over = λ why quick o. cc; unread = λ why quick o. cc; missing = λ why quick o. cc; high = λ why quick o. cc })
     (λ large why quick o. let given = long large in cc))
@@ -173,12 +173,12 @@ derivation_at_once d text result long setup sight same =
 pub offer_at_once : (d : Desk) (path : List ℕ) (tree : Tree) (result : Result Rust.Reply Refusal)
     → (known_at (known_of d) path ≡ None → result ≡ Err UnknownDerivation) → ServesAtOnce d (Offer path tree) result
 unfolding outcome
-offer_at_once d path tree result none setup sight same =
+offer_at_once d path tree result none setup observation same =
     rw same (offer_cases (AtOnce result) setup d path tree
     (record { had = λ r why quick o. cc; added = λ r why quick o. cc; over = λ why quick o. cc; refused = λ fault why quick o. cc; unknown = λ absent why quick o. (let given = none absent in cc) }))
 
 pub fetch_at_once : (d : Desk) (path : List ℕ) (result : Result Rust.Reply Refusal) → (held_at path d ≡ None → result ≡ Err NotHeld)
     → ServesAtOnce d (Fetch path) result
 unfolding outcome
-fetch_at_once d path result none setup sight same =
+fetch_at_once d path result none setup observation same =
     rw same (fetch_cases (AtOnce result) d path (λ tree held why quick o. cc) (λ absent why quick o. let given = none absent in cc))

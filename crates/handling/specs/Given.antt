@@ -6,7 +6,7 @@ use Rattle.model.specs.Goals.{goal_at}
 use Rattle.model.specs.Resolutions.{input_classes}
 use Rattle.model.specs.Events.{Request, AddSource, AddDerivation, Offer, Fetch, Trust, Distrust, Pin, Unpin, Closure, Take, Build, Status, Plan, Start, Finish, Fail, Forget}
 use Rattle.model.specs.Choices as choices
-use Rattle.model.specs.Outcomes.{view_of, sight_of}
+use Rattle.model.specs.Outcomes.{view_of, observation_of}
 use Rattle.model.specs.GoalRequests.{resolve_for}
 use Rattle.records.specs.Sound.{IsSoundPlan}
 
@@ -17,7 +17,7 @@ HasSoundPlanOf setup w u classes sources = (p : choices.Plan) → choices.plan (
 -- so has that of what a goal of his is to be built from, if there is such
 abbrev pub HasSoundGoalPlan : Setup → World → List ℕ → ℕ → Type 0
 HasSoundGoalPlan setup w u n = (g : Goal) (a : Admission) (r : Resolved) → goal_at n (w u).goals ≡ Some g → known_at (known_of (w u)) g.derivation ≡ Some a
-    → resolve_for (sight_of setup w u) a.derivation ≡ Ok r → HasSoundPlanOf setup w u (input_classes (known_of (w u)) a.derivation) a.derivation.sources
+    → resolve_for (observation_of setup w u) a.derivation ≡ Ok r → HasSoundPlanOf setup w u (input_classes (known_of (w u)) a.derivation) a.derivation.sources
 
 -- the plan of a closure that a user is given, or that a goal of his keeps, if there is one, has sound records
 abbrev pub HasSoundPlan : Setup → World → List ℕ → Request → Type 0

@@ -10,7 +10,7 @@ use Rattle.model.specs.Events as events
 use Rattle.model.specs.Events.{Request, Trust, Distrust, Unpin, Status, Fail, Forget, Event}
 use Rattle.model.specs.Replies.{is_memory_refusal, is_clash_refusal, is_refused, needs_no_memory}
 use Rattle.model.specs.Outcomes as outcomes
-use Rattle.model.specs.Outcomes.{Sight, sight_of, Outcome, becomes, add_entry}
+use Rattle.model.specs.Outcomes.{Observation, observation_of, Outcome, becomes, add_entry}
 use Rattle.model.specs.DerivationRequests.{admit_new}
 use Rattle.model.specs.Steps.{outcome, outcome_of}
 use Rattle.model.specs.HashedTexts.{texts_of, texts_of_event}
@@ -59,11 +59,11 @@ Fits outcome desk (Err why) = is_fault why ≡ false → outcome ≡ Err why
 
 -- a request at a desk gives this result and leaves that desk, whoever its user is and whatever else he sees
 abbrev pub Serves : Setup → Desk → Request → Desk → Result Reply Refusal → Type 0
-Serves setup old request new result = (sight : Sight) → sight.desk ≡ old → Fits (outcome setup sight request) new result
+Serves setup old request new result = (observation : Observation) → observation.desk ≡ old → Fits (outcome setup observation request) new result
 
 -- a request at a desk is refused at once where that needs no memory
 abbrev pub ServesAtOnce : Desk → Request → Result Reply Refusal → Type 0
-ServesAtOnce desk request result = (setup : Setup) (sight : Sight) → sight.desk ≡ desk → RefusedAtOnce (outcome setup sight request) result
+ServesAtOnce desk request result = (setup : Setup) (observation : Observation) → observation.desk ≡ desk → RefusedAtOnce (outcome setup observation request) result
 
 -- a request of the user of a desk puts what it stores into a table, whoever he is and whatever else there is
 abbrev pub Stores : List Source → Desk → Request → List Source → Type 0
@@ -78,12 +78,12 @@ pub record IsKept (old new : List Source) (before after : Holdings) : Type 0 whe
 pub record IsHandledIn (setup : Setup) (w : World) (u : List ℕ) (beside : Beside) (old : List Source) (before : Holdings) (request : Request)
     (result : Result Reply Refusal) (new : List Source) (after : Holdings) : Type 0 where
   -- the reply is the model's, and so is the desk after it
-  pub serves : Fits (outcome setup (sight_of setup w u) request) (desk_of beside new after) result
+  pub serves : Fits (outcome setup (observation_of setup w u) request) (desk_of beside new after) result
   pub answered : IfOk result (λ r. is_refused (reply_of r) ≡ false)
   -- a refusal that needs no memory is told whether there is memory or not
-  pub at_once : RefusedAtOnce (outcome setup (sight_of setup w u) request) result
+  pub at_once : RefusedAtOnce (outcome setup (observation_of setup w u) request) result
   -- what takes no memory is never told as 90
-  pub no_memory : NeverLacksMemory request (outcome setup (sight_of setup w u) request) result
+  pub no_memory : NeverLacksMemory request (outcome setup (observation_of setup w u) request) result
   -- a refusal leaves all as it was
   pub kept : OnErr result (IsKept old new before after)
   -- the desk is within its limits, and what it holds is stored
@@ -207,8 +207,8 @@ IsHandledByAll old place request result new = (actor : List ℕ) → place_of ol
     → IsHandled old (record { actor = actor; request = request }) result new
 
 -- what a handler promises that reads what the user at a place sees, and changes the table and his desk
-abbrev pub IsHandledBySight : (ℕ → ℕ → Bool) → ℕ → List Source → List Holdings → ℕ → Request → Result Reply Refusal → List Source → Holdings → Type 0
-IsHandledBySight trust limit old desks place request result new after = (users : List (List ℕ)) (goals : List (List Goal)) (actor : List ℕ)
+abbrev pub IsHandledByObservation : (ℕ → ℕ → Bool) → ℕ → List Source → List Holdings → ℕ → Request → Result Reply Refusal → List Source → Holdings → Type 0
+IsHandledByObservation trust limit old desks place request result new after = (users : List (List ℕ)) (goals : List (List Goal)) (actor : List ℕ)
     → are_users users ≡ true → place_of users actor ≡ Some place → length desks ≡ length users → All (IsSound old limit) desks
     → IsWithin (length users) trust
     → let before = parts users limit trust goals old desks in

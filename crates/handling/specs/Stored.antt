@@ -8,7 +8,7 @@ use Rattle.model.specs.Settling.{Settled}
 use Rattle.model.specs.Worlds.{Source, Record, Setup, Desk, World, known_of, Entry, path_of_entry, Resolved, Job, Goal, tree_of_record}
 use Rattle.model.specs.References.{candidates}
 use Rattle.model.specs.Events.{Request, AddSource, AddDerivation, Offer, Fetch, Trust, Distrust, Pin, Unpin, Closure, Take, Build, Status, Plan, Start, Finish, Fail, Forget, Event}
-use Rattle.model.specs.Outcomes.{Sight, sight_of, reaches}
+use Rattle.model.specs.Outcomes.{Observation, observation_of, reaches}
 use Rattle.model.specs.Goals.{goal_at, members}
 use Rattle.model.specs.Endings.{built_record}
 use Rattle.model.specs.GoalRequests.{resolve_for}
@@ -40,11 +40,11 @@ abbrev pub resolved_sources : Result Resolved Refusal → List Source
 resolved_sources (Ok r) = map source_of_entry r.closure
 resolved_sources (Err why) = []
 
-abbrev pub admitted_sources : Sight → Option Admission → List Source
+abbrev pub admitted_sources : Observation → Option Admission → List Source
 admitted_sources s None = []
 admitted_sources s (Some a) = resolved_sources (resolve_for s a.derivation)
 
-abbrev pub planned_sources : Sight → Option Goal → List Source
+abbrev pub planned_sources : Observation → Option Goal → List Source
 planned_sources s None = []
 planned_sources s (Some g) = admitted_sources s (known_at (known_of s.desk) g.derivation)
 
@@ -67,10 +67,10 @@ stored_by setup w u (Distrust user) = []
 stored_by setup w u (Pin class path) = []
 stored_by setup w u (Unpin class) = []
 stored_by setup w u (Closure class) = []
-stored_by setup w u (Take class) = taken_sources (closure_for (sight_of setup w u) class)
+stored_by setup w u (Take class) = taken_sources (closure_for (observation_of setup w u) class)
 stored_by setup w u (Build derivation) = []
 stored_by setup w u (Status number) = []
-stored_by setup w u (Plan number) = planned_sources (sight_of setup w u) (goal_at number (w u).goals)
+stored_by setup w u (Plan number) = planned_sources (observation_of setup w u) (goal_at number (w u).goals)
 stored_by setup w u (Start number) = []
 stored_by setup w u (Finish number bytes) = gained_sources setup w (record { actor = u; request = Finish number bytes })
 stored_by setup w u (Fail number status) = []

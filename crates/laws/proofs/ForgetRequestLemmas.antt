@@ -9,12 +9,12 @@ use Rattle.model.specs.Worlds.{Waiting, Goal}
 use Rattle.model.specs.Goals.{in_state, is_building}
 use Rattle.model.specs.FinishedBuilds.{is_record_at}
 use Rattle.model.specs.Events as events
-use Rattle.model.specs.Outcomes.{Sight, Outcome, becomes, check}
+use Rattle.model.specs.Outcomes.{Observation, Outcome, becomes, check}
 use Rattle.model.specs.ForgetRequests.{is_built_from, let_go, without_records, is_in_use, forget}
 use Rattle.laws.proofs.OutcomeLemmas.{checked}
 use Rattle.laws.proofs.GoalLemmas.{Under}
 
-module _ (P : Outcome → Type 0) (s : Sight) (class path : List ℕ) where
+module _ (P : Outcome → Type 0) (s : Observation) (class path : List ℕ) where
   -- the records are taken out, or are not there, or are in use
   pub forget_cases : P (becomes (without_records class path s.desk) events.Done) → P (Err NotHeld) → P (Err InUse) → P (forget s class path)
   forget_cases gone absent used =

@@ -9,7 +9,7 @@ use Rattle.model.specs.ArchiveReading.{tree_of_archive}
 use Rattle.model.specs.Worlds.{Job, Desk, World, nothing, Setup, is_user}
 use Rattle.model.specs.Goals.{goal_at, members}
 use Rattle.model.specs.Events.{Request, AddSource, AddDerivation, Offer, Fetch, Trust, Distrust, Pin, Unpin, Closure, Take, Build, Status, Plan, Start, Finish, Fail, Forget, Event}
-use Rattle.model.specs.Outcomes.{reaches, Sight, sight_of, News, Outcome, desk_after}
+use Rattle.model.specs.Outcomes.{reaches, Observation, observation_of, News, Outcome, desk_after}
 use Rattle.model.specs.Steps.{outcome_of, after}
 use Rattle.model.specs.DerivationRequests.{derivation_texts}
 use Rattle.model.specs.OfferRequests.{offer_texts}
@@ -22,7 +22,7 @@ use Rattle.model.specs.Laws.{StrikingHashesNoMore}
 use Rattle.model.proofs.BoolLemmas.{either, same_bytes}
 use Rattle.model.proofs.ReachLemmas.{leads-IsLeast}
 use Rattle.laws.proofs.GoalLemmas.{Under, heard_nothing}
-use Rattle.laws.proofs.AgreeLemmas.{Agree, leads_agree, sight_agree}
+use Rattle.laws.proofs.AgreeLemmas.{Agree, leads_agree, observation_agree}
 use Rattle.laws.proofs.StrikeLemmas.{IsInward, after_agree, after_stranger, gives_user}
 
 -- what holds of texts holds of the first of them, and of those behind
@@ -110,11 +110,11 @@ module _ (P : List ℕ → Type 0) where
     request_within u h (Distrust user) all = all
     request_within u h (Pin class path) all = all
     request_within u h (Unpin class) all = all
-    request_within u h (Closure class) all = subst (λ (s : Sight). All P (texts_for s class)) (sight_agree setup set w v agree u h) all
-    request_within u h (Take class) all = subst (λ (s : Sight). All P (texts_for s class)) (sight_agree setup set w v agree u h) all
+    request_within u h (Closure class) all = subst (λ (s : Observation). All P (texts_for s class)) (observation_agree setup set w v agree u h) all
+    request_within u h (Take class) all = subst (λ (s : Observation). All P (texts_for s class)) (observation_agree setup set w v agree u h) all
     request_within u h (Build derivation) all = all
     request_within u h (Status number) all = all
-    request_within u h (Plan number) all = subst (λ (s : Sight). All P (plan_texts s number)) (sight_agree setup set w v agree u h) all
+    request_within u h (Plan number) all = subst (λ (s : Observation). All P (plan_texts s number)) (observation_agree setup set w v agree u h) all
     request_within u h (Start number) all = all
     request_within u h (Finish number bytes) all =
         let job : Job = record { leader = u; number = number } in

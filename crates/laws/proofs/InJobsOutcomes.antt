@@ -25,7 +25,7 @@ use Rattle.model.specs.Goals.{goal_at, with_goal, with_new_goal, new_goal, in_st
 use Rattle.model.specs.Endings.{End, Output, Failure}
 use Rattle.model.specs.Events as events
 use Rattle.model.specs.Events.{Request, AddSource, AddDerivation, Offer, Fetch, Trust, Distrust, Pin as PinIt, Unpin, Closure, Take, Build, Status, Plan, Start, Finish, Fail, Forget, Reply, Path, Content, Entries, GoalNumber, GoalState}
-use Rattle.model.specs.Outcomes.{Sight, Ended, Outcome, becomes, check, need, room, add_entry, heard}
+use Rattle.model.specs.Outcomes.{Observation, Ended, Outcome, becomes, check, need, room, add_entry, heard}
 use Rattle.model.specs.SourceRequests.{source_named}
 use Rattle.model.specs.DerivationRequests.{admit_new}
 use Rattle.model.specs.OfferRequests.{output_settled, offer}
@@ -40,8 +40,8 @@ use Rattle.laws.proofs.FitLemmas.{IsSound, job_reached}
 use Rattle.laws.proofs.InJobsLemmas.{at_in, goal_put, entries_in, within_in, in_job, heard_in}
 
 -- what a user sees, and what his request does, where his goals and those that he sees are in these jobs alone
-abbrev pub sight_in : (Job → Bool) → Sight → Sight
-sight_in jobs s = record s { desk = desk_in jobs s.desk; view = map (desk_in jobs) s.view }
+abbrev pub observation_in : (Job → Bool) → Observation → Observation
+observation_in jobs s = record s { desk = desk_in jobs s.desk; view = map (desk_in jobs) s.view }
 
 abbrev pub outcome_in : (Job → Bool) → Outcome → Outcome
 outcome_in jobs (Err why) = Err why
@@ -128,10 +128,10 @@ module _ (jobs : Job → Bool) where
   planned_same (Done path) r = refl
   planned_same (Failed why) r = refl
 
-  module _ (setup : Setup) (s : Sight) (sound : IsSound s) (covers : Covers jobs s.reach) where
+  module _ (setup : Setup) (s : Observation) (sound : IsSound s) (covers : Covers jobs s.reach) where
     -- the same with the goals in these jobs alone
-    abbrev t : Sight
-    t = sight_in jobs s
+    abbrev t : Observation
+    t = observation_in jobs s
 
     -- how far a goal is, as its user sees it
     seen_in : (state : State) → as_seen s.reach (state_in jobs state) ≡ as_seen s.reach state

@@ -17,7 +17,7 @@ use Rattle.model.specs.Choices as choices
 use Rattle.model.specs.Closures as closures
 use Rattle.model.specs.Resolutions.{input_classes, resolved_over, resolve}
 use Rattle.model.specs.Events.{Request, AddSource, AddDerivation, Offer, Fetch, Trust, Distrust, Pin, Unpin, Closure, Take, Build, Status, Plan, Start, Finish, Fail, Forget, Event, Reply, GoalState}
-use Rattle.model.specs.Outcomes.{reaches, Sight, sight_of, News, Quiet, Ended, Change, Outcome, becomes, check, need, reply_of, heard, desk_after}
+use Rattle.model.specs.Outcomes.{reaches, Observation, observation_of, News, Quiet, Ended, Change, Outcome, becomes, check, need, reply_of, heard, desk_after}
 use Rattle.model.specs.FinishedBuilds.{finished_build, for_class}
 use Rattle.model.specs.GoalRequests.{own_job, turns, plan_resolved, resolve_for, plan_goal, done_again, start_copied, start_goal}
 use Rattle.model.specs.GoalRequests as requests
@@ -219,7 +219,7 @@ follows_heard setup actor reached (Ended n end) d = follows_all_ended setup reac
 -- ---- what a request does to the goals of its user
 
 -- a goal that waited is planned: it keeps what a derivation that is known was resolved to
-record PlansGoal (s : Sight) (r : Request) (o : Outcome) : Type 0 where
+record PlansGoal (s : Observation) (r : Request) (o : Outcome) : Type 0 where
   number : ℕ
   asked : r ≡ Plan number
   goal : Goal
@@ -231,14 +231,14 @@ record PlansGoal (s : Sight) (r : Request) (o : Outcome) : Type 0 where
   outcome_is : o ≡ becomes (with_goal number (planned_goal goal resolved) s.desk) (GoalState Planned)
 
 -- what the goals keep was kept before, or the request is refused
-abbrev GoalsFollow : Sight → Outcome → Type 0
+abbrev GoalsFollow : Observation → Outcome → Type 0
 GoalsFollow s (Err why) = Unit {0}
 GoalsFollow s (Ok c) = Follows s.desk.goals c.desk.goals
 
-abbrev Fits : Sight → Request → Outcome → Type 0
+abbrev Fits : Observation → Request → Outcome → Type 0
 Fits s r o = GoalsFollow s o ⊎ PlansGoal s r o
 
-module _ (s : Sight) (n : ℕ) where
+module _ (s : Observation) (n : ℕ) where
   plan_fits : Fits s (Plan n) (requests.plan s n)
   plan_fits =
       let P : Outcome → Type 0 = Fits s (Plan n) in
@@ -303,7 +303,7 @@ kept_in (Done path) kept r e = absurd (cc)
 kept_in (Failed why) kept r e = absurd (cc)
 
 -- a goal that is done with what was built already, or for which there is no room
-again_fits : (setup : Setup) (s : Sight) (n : ℕ) (g : Goal) (q : Record) (d : Desk) → goal_at n d.goals ≡ Some g → d.goals ≡ s.desk.goals
+again_fits : (setup : Setup) (s : Observation) (n : ℕ) (g : Goal) (q : Record) (d : Desk) → goal_at n d.goals ≡ Some g → d.goals ≡ s.desk.goals
     → GoalsFollow s (done_again setup s d n g q)
 again_fits setup s n g q d there same =
     let P : Outcome → Type 0 = GoalsFollow s in
@@ -319,7 +319,7 @@ again_fits setup s n g q d there same =
     (λ new. one_of P (is_within setup (with_record q d)) (turns s (with_record q d) n done) (turns s d n failed) (λ fits. is_done) (λ full. is_failed))
 
 -- a goal whose closure is copied
-copied_fits : (setup : Setup) (s : Sight) (n : ℕ) (g : Goal) (r : Resolved) (known : Option Admission) (built : Option Record) (d : Desk)
+copied_fits : (setup : Setup) (s : Observation) (n : ℕ) (g : Goal) (r : Resolved) (known : Option Admission) (built : Option Record) (d : Desk)
     → goal_at n d.goals ≡ Some g → d.goals ≡ s.desk.goals → is_some g.resolved ≡ true → GoalsFollow s (start_copied setup s d n g r known built)
 copied_fits setup s n g r known built d there same keeps = of known built
   where
@@ -333,7 +333,7 @@ copied_fits setup s n g r known built d there same keeps = of known built
     of (Some a) None = entered
     of None built = entered
 
-start_fits : (setup : Setup) (s : Sight) (n : ℕ) → GoalsFollow s (requests.start setup s n)
+start_fits : (setup : Setup) (s : Observation) (n : ℕ) → GoalsFollow s (requests.start setup s n)
 start_fits setup s n =
     let P : Outcome → Type 0 = GoalsFollow s in
     needed P UnknownGoal (goal_at n s.desk.goals) (λ g. need WrongState (planned_in g.state g.resolved) (start_goal setup s n g))
@@ -348,11 +348,11 @@ start_fits setup s n =
     (λ outside. follows_state n (Failed Quota) g s.desk.goals there refl))
     (λ none. tt)) (λ absent. tt)
 
-end_fits : (setup : Setup) (s : Sight) (n : ℕ) (end : End) → GoalsFollow s (end_job setup s n end)
+end_fits : (setup : Setup) (s : Observation) (n : ℕ) (end : End) → GoalsFollow s (end_job setup s n end)
 end_fits setup s n end = end_job_cases (GoalsFollow s) setup s n end (λ g there leads. follows_itself s.desk.goals) tt (λ absent. tt)
 
 -- the case of each request
-outcome_fits : (setup : Setup) (s : Sight) (r : Request) → Fits s r (outcome setup s r)
+outcome_fits : (setup : Setup) (s : Observation) (r : Request) → Fits s r (outcome setup s r)
 unfolding outcome
 outcome_fits setup s (AddSource name tree) =
     inl (add_source_cases (GoalsFollow s) setup s.desk name tree (follows_itself s.desk.goals) (follows_itself s.desk.goals) tt)
@@ -386,7 +386,7 @@ outcome_fits setup s (Forget class path) = inl (forget_cases (GoalsFollow s) s c
 
 -- what the goals of a user keep was kept before, or the event is his own and plans one
 abbrev FollowsOrPlans : Setup → World → Event → List ℕ → Desk → Type 0
-FollowsOrPlans setup w e u later = Follows (w u).goals later.goals ⊎ ((u ≡ e.actor) × PlansGoal (sight_of setup w e.actor) e.request (outcome_of setup w e))
+FollowsOrPlans setup w e u later = Follows (w u).goals later.goals ⊎ ((u ≡ e.actor) × PlansGoal (observation_of setup w e.actor) e.request (outcome_of setup w e))
 
 module _ (setup : Setup) (w : World) (e : Event) (u : List ℕ) (reached : Bool) where
   -- the actor's desk, or another, before news are heard
@@ -400,19 +400,19 @@ module _ (setup : Setup) (w : World) (e : Event) (u : List ℕ) (reached : Bool)
       let d : Desk = if bytes_eq u e.actor then c.desk else w u in
       follows_further (w u).goals d.goals (heard setup e.actor reached c.news d).goals follows (follows_heard setup e.actor reached c.news d)
 
-  after_outcome : (o : Outcome) → outcome_of setup w e ≡ o → Fits (sight_of setup w e.actor) e.request o → FollowsOrPlans setup w e u (desk_after setup e.actor o u reached (w u))
+  after_outcome : (o : Outcome) → outcome_of setup w e ≡ o → Fits (observation_of setup w e.actor) e.request o → FollowsOrPlans setup w e u (desk_after setup e.actor o u reached (w u))
   after_outcome (Err why) is fits = inl (follows_itself (w u).goals)
   after_outcome (Ok c) is (inl follows) = inl (heard_follows c (own_or_other c follows))
   after_outcome (Ok c) is (inr plans) = elim (either (bytes_eq u e.actor)) [
-    | inl own ↦ inr (same_bytes u e.actor own, subst (PlansGoal (sight_of setup w e.actor) e.request) (sym is) plans)
+    | inl own ↦ inr (same_bytes u e.actor own, subst (PlansGoal (observation_of setup w e.actor) e.request) (sym is) plans)
     | inr other ↦ inl (heard_follows c (subst (λ (b : Bool). Follows (w u).goals (if b then c.desk else w u).goals) (sym other) (follows_itself (w u).goals)))
   ]
 
 after_follows : (setup : Setup) (w : World) (e : Event) (u : List ℕ) → FollowsOrPlans setup w e u (after setup w e u)
 after_follows setup w e u =
     after_outcome setup w e u (reaches setup w u e.actor) (outcome_of setup w e) refl
-    (cond_both (is_user setup e.actor) (outcome setup (sight_of setup w e.actor) e.request) (Err UnknownUser) (Fits (sight_of setup w e.actor) e.request)
-    (λ yes. outcome_fits setup (sight_of setup w e.actor) e.request) (λ no. inl tt))
+    (cond_both (is_user setup e.actor) (outcome setup (observation_of setup w e.actor) e.request) (Err UnknownUser) (Fits (observation_of setup w e.actor) e.request)
+    (λ yes. outcome_fits setup (observation_of setup w e.actor) e.request) (λ no. inl tt))
 
 -- ---- what is kept after events
 
@@ -542,12 +542,12 @@ kept_longer setup done e u n r other old = record {
 
 -- what an event plans is well kept
 kept_now : (setup : Setup) (done : List Event) (e : Event) (n : ℕ) (r : Resolved)
-    → (plans : PlansGoal (sight_of setup (world_after setup nothing done) e.actor) e.request (outcome_of setup (world_after setup nothing done) e))
+    → (plans : PlansGoal (observation_of setup (world_after setup nothing done) e.actor) e.request (outcome_of setup (world_after setup nothing done) e))
     → n ≡ plans.number → r ≡ plans.resolved → KeepsGoodClosure setup (world_after setup nothing done) e → IsWellKept setup (done ++ e ∷ []) e.actor n r
 kept_now setup done e n r plans number same good =
     let w : World = world_after setup nothing done in
     let u : List ℕ = e.actor in
-    let s : Sight = sight_of setup w u in
+    let s : Observation = observation_of setup w u in
     let d = plans.admission.derivation in
     let new : Goal = planned_goal plans.goal plans.resolved in
     let told : reply_to setup w e ≡ GoalState Planned = ap reply_of plans.outcome_is in
@@ -585,7 +585,7 @@ kept_now setup done e n r plans number same good =
     not_cut (x ∷ since) rest same = cc
 
 -- the goals of a user after an event of his that plans one
-goals_planned : (setup : Setup) (w : World) (e : Event) (u : List ℕ) (plans : PlansGoal (sight_of setup w e.actor) e.request (outcome_of setup w e)) → u ≡ e.actor
+goals_planned : (setup : Setup) (w : World) (e : Event) (u : List ℕ) (plans : PlansGoal (observation_of setup w e.actor) e.request (outcome_of setup w e)) → u ≡ e.actor
     → (after setup w e u).goals ≡ with_goal_at plans.number (planned_goal plans.goal plans.resolved) (w u).goals
 goals_planned setup w e u plans own =
     let new : Goal = planned_goal plans.goal plans.resolved in
@@ -594,21 +594,21 @@ goals_planned setup w e u plans own =
 
 -- what the goal keeps then is well kept
 kept_planned : (setup : Setup) (done : List Event) (e : Event) (u : List ℕ) (n : ℕ) (g : Goal) (r : Resolved)
-    → (plans : PlansGoal (sight_of setup (world_after setup nothing done) e.actor) e.request (outcome_of setup (world_after setup nothing done) e))
+    → (plans : PlansGoal (observation_of setup (world_after setup nothing done) e.actor) e.request (outcome_of setup (world_after setup nothing done) e))
     → u ≡ e.actor → n ≡ plans.number → planned_goal plans.goal plans.resolved ≡ g → g.resolved ≡ Some r → KeepsGoodClosure setup (world_after setup nothing done) e
     → IsWellKept setup (done ++ e ∷ []) u n r
 kept_planned setup done e u n g r plans own number is kept good =
     let same : r ≡ plans.resolved = some_same r plans.resolved (sym kept ∙ ap (λ (y : Goal). y.resolved) (sym is)) in
     subst (λ x. IsWellKept setup (done ++ e ∷ []) x n r) (sym own) (kept_now setup done e n r plans number same good)
 
-outcome_planned : (setup : Setup) (s : Sight) (n : ℕ) → reply_of (outcome setup s (Plan n)) ≡ GoalState Planned → PlansGoal s (Plan n) (outcome setup s (Plan n))
+outcome_planned : (setup : Setup) (s : Observation) (n : ℕ) → reply_of (outcome setup s (Plan n)) ≡ GoalState Planned → PlansGoal s (Plan n) (outcome setup s (Plan n))
 unfolding outcome
 outcome_planned setup s n = planned_so s n
 
 -- an event that is answered that the goal is planned plans it
-plans_it : (setup : Setup) (w : World) (u : List ℕ) (n : ℕ) → IsPlanned setup w u n → PlansGoal (sight_of setup w u) (Plan n) (outcome_of setup w (planning u n))
+plans_it : (setup : Setup) (w : World) (u : List ℕ) (n : ℕ) → IsPlanned setup w u n → PlansGoal (observation_of setup w u) (Plan n) (outcome_of setup w (planning u n))
 plans_it setup w u n =
-    let s : Sight = sight_of setup w u in
+    let s : Observation = observation_of setup w u in
     cond_both (is_user setup u) (outcome setup s (Plan n)) (Err UnknownUser) (λ (o : Outcome). reply_of o ≡ GoalState Planned → PlansGoal s (Plan n) o)
     (λ yes. outcome_planned setup s n) (λ no told. absurd (cc))
 
@@ -663,7 +663,7 @@ kept_more setup done e u good well n g r there kept =
 -- ---- nothing else changes what is kept
 
 -- an event that is answered that a goal is planned is its user's own and asks for it
-asks_itself : (setup : Setup) (w : World) (e : Event) (u : List ℕ) (n : ℕ) → u ≡ e.actor → (plans : PlansGoal (sight_of setup w e.actor) e.request (outcome_of setup w e))
+asks_itself : (setup : Setup) (w : World) (e : Event) (u : List ℕ) (n : ℕ) → u ≡ e.actor → (plans : PlansGoal (observation_of setup w e.actor) e.request (outcome_of setup w e))
     → n ≡ plans.number → (e ≡ planning u n) × IsPlanned setup w u n
 asks_itself setup w e u n own plans number =
     let event : e ≡ planning u n = λ j. record { actor = sym own j; request = (plans.asked ∙ ap Plan (sym number)) j } in

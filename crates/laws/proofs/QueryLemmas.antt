@@ -5,7 +5,7 @@ use Rattle.model.specs.declared.refusal.Refusal.TheVariants.{UnknownUser}
 use Rattle.model.specs.Worlds.{Setup, Desk, World, is_user}
 use Rattle.model.specs.Events.{Request, AddSource, AddDerivation, Offer, Fetch, Trust, Distrust, Pin, Unpin, Closure, Take, Build, Status, Plan, Start, Finish, Fail, Forget, is_query, Event, Reply, Content, Entries, GoalState}
 use Rattle.model.specs.Goals.{as_seen}
-use Rattle.model.specs.Outcomes.{reaches, Sight, sight_of, Outcome, becomes, desk_after}
+use Rattle.model.specs.Outcomes.{reaches, Observation, observation_of, Outcome, becomes, desk_after}
 use Rattle.model.specs.Steps.{outcome, outcome_of, after}
 use Rattle.model.specs.Laws.{QueriesChangeNothing}
 use Rattle.model.proofs.BoolLemmas.{same_bytes, either}
@@ -27,15 +27,15 @@ told setup w u reply x reached = own (bytes_eq x u) refl
     own false is = refl
 
 -- so does what comes of a query
-leaves : (setup : Setup) (w : World) (u : List ℕ) (request : Request) → is_query request ≡ true → Leaves setup w u (outcome setup (sight_of setup w u) request)
+leaves : (setup : Setup) (w : World) (u : List ℕ) (request : Request) → is_query request ≡ true → Leaves setup w u (outcome setup (observation_of setup w u) request)
 unfolding outcome
 leaves setup w u (Fetch path) asks = fetch_cases (Leaves setup w u) (w u) path (λ tree held. told setup w u (Content tree)) (λ absent x reached. refl)
 leaves setup w u (Closure class) asks =
-    closure_cases (Leaves setup w u) (sight_of setup w u) class (λ entries. told setup w u (Entries entries)) (λ x reached. refl) (λ x reached. refl) (λ why x reached. refl)
-leaves setup w u (Status n) asks = status_cases (Leaves setup w u) (sight_of setup w u) n (λ g there. told setup w u (GoalState (as_seen (reaches setup w u) g.state))) (λ absent x reached. refl)
+    closure_cases (Leaves setup w u) (observation_of setup w u) class (λ entries. told setup w u (Entries entries)) (λ x reached. refl) (λ x reached. refl) (λ why x reached. refl)
+leaves setup w u (Status n) asks = status_cases (Leaves setup w u) (observation_of setup w u) n (λ g there. told setup w u (GoalState (as_seen (reaches setup w u) g.state))) (λ absent x reached. refl)
 leaves setup w u request asks = absurd (cc)
 
 pub no_change : QueriesChangeNothing
 no_change setup w e asks i x =
-    checked (Leaves setup w e.actor) UnknownUser (is_user setup e.actor) (outcome setup (sight_of setup w e.actor) e.request)
+    checked (Leaves setup w e.actor) UnknownUser (is_user setup e.actor) (outcome setup (observation_of setup w e.actor) e.request)
     (λ known. leaves setup w e.actor e.request asks) (λ stranger y reached. refl) x (reaches setup w x e.actor) i

@@ -9,17 +9,17 @@ use Rattle.model.specs.Reach.{leads, is_among}
 use Rattle.model.specs.Worlds.{Setup, is_user, Resolved, Job, State, Goal, Desk, World, nothing}
 use Rattle.model.specs.Goals.{same_job, running_in, led_by}
 use Rattle.model.specs.Events.{Event}
-use Rattle.model.specs.Outcomes.{trusts, reaches, view_of, joins, running_for, Sight, sight_of, News, Quiet, Ended, Outcome, check, heard, reply_of, desk_after}
+use Rattle.model.specs.Outcomes.{trusts, reaches, view_of, joins, running_for, Observation, observation_of, News, Quiet, Ended, Outcome, check, heard, reply_of, desk_after}
 use Rattle.model.specs.Steps.{outcome, outcome_of, reply_to, after, world_after, answers, replies_to}
 use Rattle.model.specs.Timed.{reached_from, near, kept_from, state_in, goal_in, desk_in, AgreesOn}
 use Rattle.model.specs.Laws.{IsTimed}
 use Rattle.model.proofs.BoolLemmas.{either, or_cases, both_parts, same_bytes, bytes_same, bytes_eq_sym}
 use Rattle.model.proofs.ReachLemmas.{leads_link, leads_least, leads-IsLeast}
 use Rattle.laws.proofs.GoalLemmas.{keeps_heard}
-use Rattle.laws.proofs.AgreeLemmas.{and_agree, map_agree, flat_map_agree, sight_sound}
+use Rattle.laws.proofs.AgreeLemmas.{and_agree, map_agree, flat_map_agree, observation_sound}
 use Rattle.laws.proofs.StrikeLemmas.{told}
 use Rattle.laws.proofs.InJobsLemmas.{in_job, unless_ended, heard_in, heard_apart}
-use Rattle.laws.proofs.InJobsOutcomes.{sight_in, outcome_in, Covers, requested_in}
+use Rattle.laws.proofs.InJobsOutcomes.{observation_in, outcome_in, Covers, requested_in}
 
 -- ---- who is near
 
@@ -91,7 +91,7 @@ users_after setup w e known x y t = elim (either (is_user setup e.actor)) [
 ]
   where
     refused : (b : Bool) → b ≡ false
-        → (desk_after setup e.actor (check UnknownUser b (outcome setup (sight_of setup w e.actor) e.request)) x (reaches setup w x e.actor) (w x)).trusted y ≡ (w x).trusted y
+        → (desk_after setup e.actor (check UnknownUser b (outcome setup (observation_of setup w e.actor) e.request)) x (reaches setup w x e.actor) (w x)).trusted y ≡ (w x).trusted y
     refused b f = rw f refl
 
 -- ---- worlds that agree
@@ -120,8 +120,8 @@ module _ (setup : Setup) (set : List ℕ → Bool) (w v : World) (agree : Agrees
   led_same u h n [] = refl
   led_same u h n (g ∷ goals) = rw (led_one u h n g.state g.resolved, led_same u h (suc n) goals) refl
 
-  sight_same : (u : List ℕ) → set u ≡ true → sight_of setup w u ≡ sight_in agree.jobs (sight_of setup v u)
-  sight_same u h =
+  observation_same : (u : List ℕ) → set u ≡ true → observation_of setup w u ≡ observation_in agree.jobs (observation_of setup v u)
+  observation_same u h =
       let same : (x : List ℕ) → reaches setup w u x ≡ reaches setup v u x = λ x. leads_same setup.users u x h in
       let inside : (x : List ℕ) → reaches setup w u x ≡ true → set x ≡ true = λ x t. leads_least (trusts w) set closed setup.users u x h t in
       let joined : (x : List ℕ) → joins setup w u x ≡ joins setup v u x = λ x.
@@ -138,11 +138,11 @@ module _ (setup : Setup) (set : List ℕ → Bool) (w v : World) (agree : Agrees
 
   outcome_same : (e : Event) → set e.actor ≡ true → outcome_of setup w e ≡ outcome_in agree.jobs (outcome_of setup v e)
   outcome_same e h =
-      let s : Sight = sight_of setup v e.actor in
+      let s : Observation = observation_of setup v e.actor in
       let covers : Covers agree.jobs s.reach = λ job t.
       agree.inside job (leads_least (trusts w) set closed setup.users e.actor job.leader h (leads_same setup.users e.actor job.leader h ∙ t)) in
-      ap (λ z. check UnknownUser (is_user setup e.actor) (outcome setup z e.request)) (sight_same e.actor h)
-      ∙ of (is_user setup e.actor) _ _ (requested_in agree.jobs setup s (sight_sound setup v e.actor) covers e.request)
+      ap (λ z. check UnknownUser (is_user setup e.actor) (outcome setup z e.request)) (observation_same e.actor h)
+      ∙ of (is_user setup e.actor) _ _ (requested_in agree.jobs setup s (observation_sound setup v e.actor) covers e.request)
     where
       of : (b : Bool) (o p : Outcome) → o ≡ outcome_in agree.jobs p → check UnknownUser b o ≡ outcome_in agree.jobs (check UnknownUser b p)
       of true o p is = is

@@ -5,7 +5,7 @@ use Rattle.model.specs.declared.refusal.Refusal.TheVariants.{UnknownUser}
 use Rattle.model.specs.Worlds.{Setup, is_user, Desk, World, Entry, with_entries}
 use Rattle.model.specs.Endings.{End, Output, Failure}
 use Rattle.model.specs.Events.{Request, AddSource, AddDerivation, Offer, Fetch, Trust, Distrust, Pin, Unpin, Closure, Take, Build, Status, Plan, Start, Finish, Fail, Forget, Event}
-use Rattle.model.specs.Outcomes.{trusts, reaches, Sight, sight_of, Outcome, check, desk_after}
+use Rattle.model.specs.Outcomes.{trusts, reaches, Observation, observation_of, Outcome, check, desk_after}
 use Rattle.model.specs.EndRequests.{end_job}
 use Rattle.model.specs.Steps.{outcome, outcome_of, after}
 use Rattle.model.specs.Timed.{trusted_by, trusts_after}
@@ -21,7 +21,7 @@ use Rattle.laws.proofs.GoalRequestLemmas.{build_cases, status_cases, plan_cases,
 use Rattle.laws.proofs.EndRequestLemmas.{end_job_cases}
 use Rattle.laws.proofs.ForgetRequestLemmas.{forget_cases}
 
-module _ (setup : Setup) (s : Sight) (y : List ℕ) where
+module _ (setup : Setup) (s : Observation) (y : List ℕ) where
   -- whether the user trusts y after an outcome; a refusal changes nothing
   abbrev trusts_then : Outcome → Bool
   trusts_then (Err why) = s.desk.trusted y
@@ -99,18 +99,18 @@ stranger_after : (setup : Setup) (w : World) (e : Event) (x y : List ℕ) → is
 stranger_after setup w e x y f = of (is_user setup e.actor) f
   where
     of : (b : Bool) → b ≡ false
-        → (desk_after setup e.actor (check UnknownUser b (outcome setup (sight_of setup w e.actor) e.request)) x (reaches setup w x e.actor) (w x)).trusted y ≡ (w x).trusted y
+        → (desk_after setup e.actor (check UnknownUser b (outcome setup (observation_of setup w e.actor) e.request)) x (reaches setup w x e.actor) (w x)).trusted y ≡ (w x).trusted y
     of b f = rw f refl
 
 actor_after : (setup : Setup) (w : World) (e : Event) (y : List ℕ) → is_user setup e.actor ≡ true
     → trusts (after setup w e) e.actor y ≡ trusted_by setup e.actor e.request (trusts w e.actor) y
 actor_after setup w e y h =
-    own_after setup (sight_of setup w e.actor) y e.actor (outcome_of setup w e) (reaches setup w e.actor e.actor) (w e.actor) refl ∙ of (is_user setup e.actor) h
-    ∙ requested setup (sight_of setup w e.actor) y e.request
+    own_after setup (observation_of setup w e.actor) y e.actor (outcome_of setup w e) (reaches setup w e.actor e.actor) (w e.actor) refl ∙ of (is_user setup e.actor) h
+    ∙ requested setup (observation_of setup w e.actor) y e.request
   where
     of : (b : Bool) → b ≡ true
-        → trusts_then setup (sight_of setup w e.actor) y (check UnknownUser b (outcome setup (sight_of setup w e.actor) e.request))
-        ≡ trusts_then setup (sight_of setup w e.actor) y (outcome setup (sight_of setup w e.actor) e.request)
+        → trusts_then setup (observation_of setup w e.actor) y (check UnknownUser b (outcome setup (observation_of setup w e.actor) e.request))
+        ≡ trusts_then setup (observation_of setup w e.actor) y (outcome setup (observation_of setup w e.actor) e.request)
     of b h = rw h refl
 
 pub trust_after : (setup : Setup) (w : World) (e : Event) (x y : List ℕ) → trusts (after setup w e) x y ≡ trusts_after setup e (trusts w) x y

@@ -7,7 +7,7 @@ use Rattle.model.specs.Worlds.{Record, Entry, OfSource, OfRecord, Resolved, Wait
 use Rattle.model.specs.Goals.{in_state, as_seen, is_building}
 use Rattle.model.specs.FinishedBuilds.{is_record_at}
 use Rattle.model.specs.Events as events
-use Rattle.model.specs.Outcomes.{Sight, Outcome, becomes, check}
+use Rattle.model.specs.Outcomes.{Observation, Outcome, becomes, check}
 
 -- ---- what needs a record
 
@@ -49,11 +49,11 @@ abbrev pub without_records : List ℕ → List ℕ → Desk → Desk
 without_records class path d = record d { records = remaining class path d.records; goals = map (let_go class path) d.goals }
 
 -- whether a record that remains refers to it, or a goal is built from it
-abbrev pub is_in_use : Sight → List ℕ → List ℕ → Bool
+abbrev pub is_in_use : Observation → List ℕ → List ℕ → Bool
 is_in_use s class path =
     list_any (refers_to_class class path) (remaining class path s.desk.records) || list_any (builds_with s.reach class path) s.desk.goals
 
-abbrev pub forget : Sight → List ℕ → List ℕ → Outcome
+abbrev pub forget : Observation → List ℕ → List ℕ → Outcome
 forget s class path =
     check NotHeld (list_any (is_record_at class path) s.desk.records)
     (check InUse (not (is_in_use s class path)) (becomes (without_records class path s.desk) events.Done))

@@ -13,7 +13,7 @@ returns-in_err-path c beside =
     let memory : p.0 ≡ Memory = rw p.2 c.in_err-path.ensures.memory in
     let table = c.args.table.now.sources in
     rw (p.1, memory) (left beside c.args.limits.charge table c.args.desk.now (AddSource c.args.name.now c.args.tree) (Err Memory) c.requires (λ setup w u. tt)
-    (λ users sight same own. cc) (source_at_once (desk_of beside table c.args.desk.now) c.args.name.now c.args.tree (Err Memory)) (λ reply. refl) (search rules) refl
+    (λ users observation same own. cc) (source_at_once (desk_of beside table c.args.desk.now) c.args.name.now c.args.tree (Err Memory)) (λ reply. refl) (search rules) refl
     (search rules))
 
 pub returns : goal.returns

@@ -10,7 +10,7 @@ use Rattle.model.specs.declared.refusal.Refusal.{Refusal}
 use Rattle.model.specs.Events.{Event}
 use Rattle.events.specs.declared.reply.Reply.{Reply}
 use Rattle.handlers.proofs.ClosureLemmas.{all_complete, handled_of_plan}
-use Rattle.handling.proofs.HandlingLemmas.{asking, by_desk, by_sight, by_reading}
+use Rattle.handling.proofs.HandlingLemmas.{asking, by_desk, by_observation, by_reading}
 use Rattle.events.specs.Terms.{request_of}
 use Rattle.schedule.specs.Queries.{request_in}
 use Rattle.schedule.proofs.reads.find_at.Goals as goal
@@ -36,7 +36,7 @@ returns-in-Closure c given gives actor found =
     let trust = trusts c.args.trust.now in
     let with_desks : List Holdings → Parts = parts c.args.users.now c.args.limits.charge trust c.args.jobs.now.goals c.args.table.now.sources in
     subst (λ (ds : List Holdings). IsHandled (with_desks c.args.desks.now) event given (with_desks ds)) (set-get_or c.args.desks.now c.args.place bare)
-    (by_sight _ event c.args.place asks c.args.table.now.sources (desk_at c.args.desks.now c.args.place) given
+    (by_observation _ event c.args.place asks c.args.table.now.sources (desk_at c.args.desks.now c.args.place) given
     (rw c.in-Closure.is
     (handled_of_plan trust c.args.limits.charge c.args.table.now.sources c.args.desks.now c.args.place _ c.plan_for.result given
     c.plan_for.ensures.planned (c.planned.ensures given gives))))
