@@ -1,4 +1,4 @@
-//! The end of a job with an output: what all users hear of it is made beside everything, and then put in
+//! The end of a job with an output: what all users receive of it is made beside everything, and then put in
 //! place.
 
 ghost use Rattle.std.specs.Prelude.{◌≡◌, ◌<◌, ◌≤◌, ◌⊎◌, ◌++◌, ℕ, All, IfOk, IfErr, OnOk, OnErr, true, is_some, length, map};
@@ -20,12 +20,12 @@ ghost use Rattle.handling.specs.Parts.{goals_of, parts};
 ghost use Rattle.handling.specs.Viewing.{desk_at};
 ghost use Rattle.building.specs.Gaining.{last_state, state_at, with_gains, with_states, IsSettable};
 ghost use Rattle.endings.specs.Committing.{gains_at, states_for, AreToAdd, MayGain};
-ghost use Rattle.endings.specs.Hearing.{AreAllBuiltOn, IsNotMade};
+ghost use Rattle.endings.specs.Delivery.{AreAllBuiltOn, IsNotMade};
 ghost use Rattle.endings.specs.Finishing.{IsPrepared};
 ghost use Rattle.handling.specs.Handling.{IsHandledByAll};
 
 use crate::committing::{additions_of, gained_by_all, set_all};
-use crate::hearing::heard_by_all;
+use crate::delivery::delivered_by_all;
 use building::Gains;
 use events::{CopiedReply, Reply};
 use jobs::{Job, Jobs, State, leads};
@@ -69,7 +69,7 @@ fn state_then(state: &State, number: u16, states: &[(u16, State)]) -> Result<Sta
 /// What the end of a job with an output changes.
 #[derive(Drop)]
 pub(crate) struct Ending {
-    heard: Vec<(Gains, Vec<(u16, State)>)>,
+    delivered: Vec<(Gains, Vec<(u16, State)>)>,
     additions: Vec<Addition>,
     trees: Vec<(StorePath, Tree)>,
     told: State,
@@ -108,7 +108,7 @@ fn prepare(
     ensures refused { IfErr result (IsNotMade table.now.sources (option_copied tree.entry)
         (trusts trust.now) place job.now desks.now jobs.now.goals) }
 {
-    let heard = heard_by_all(
+    let delivered = delivered_by_all(
         alloc,
         trust,
         table,
@@ -120,12 +120,12 @@ fn prepare(
         tree,
         settlements,
     )?;
-    let trees = table.missing(alloc, gained_by_all(alloc, &heard)?)?;
-    let additions = additions_of(alloc, &heard)?;
+    let trees = table.missing(alloc, gained_by_all(alloc, &delivered)?)?;
+    let additions = additions_of(alloc, &delivered)?;
     let goal = jobs.get(place, number).unwrap();
-    let told = state_then(goal.state(), number, heard[place].1.as_slice())?;
+    let told = state_then(goal.state(), number, delivered[place].1.as_slice())?;
     Ok(Ending {
-        heard,
+        delivered,
         additions,
         trees,
         told,
@@ -196,22 +196,22 @@ fn put_in_place(
     desks: &mut [Desk],
     ending: Ending,
 ) -> Result<CopiedReply, Refusal>
-    requires each { length ending.heard.items ≡ length desks.old }
-    requires additions { AreToAdd ending.heard.items ending.additions.items }
+    requires each { length ending.delivered.items ≡ length desks.old }
+    requires additions { AreToAdd ending.delivered.items ending.additions.items }
     requires may { (place : ℕ) → place < length desks.old
-        → MayGain (desk_at desks.old place) (gains_at ending.heard.items place) }
-    requires count { length ending.heard.items ≡ length jobs.old.goals }
+        → MayGain (desk_at desks.old place) (gains_at ending.delivered.items place) }
+    requires count { length ending.delivered.items ≡ length jobs.old.goals }
     requires settable { (place : ℕ) → place < length jobs.old.goals
-        → All (IsSettable (goals_of jobs.old.goals place)) (states_for ending.heard.items place) }
+        → All (IsSettable (goals_of jobs.old.goals place)) (states_for ending.delivered.items place) }
     requires new { AreNew table.old.sources (sources_of ending.trees.items) }
     ensures told { IfOk result (λ reply. reply ≡ GoalState ending.told) }
     ensures table { OnOk result
         (table.new.sources ≡ table.old.sources ++ sources_of ending.trees.items) }
     ensures gained { OnOk result ((place : ℕ) → place < length desks.old → desk_at desks.new place
-        ≡ with_gains (gains_at ending.heard.items place) (desk_at desks.old place)) }
+        ≡ with_gains (gains_at ending.delivered.items place) (desk_at desks.old place)) }
     ensures states { OnOk result ((place : ℕ) → place < length jobs.old.goals
         → goals_of jobs.new.goals place
-        ≡ with_states (states_for ending.heard.items place) (goals_of jobs.old.goals place)) }
+        ≡ with_states (states_for ending.delivered.items place) (goals_of jobs.old.goals place)) }
     ensures with_desks { length desks.new ≡ length desks.old }
     ensures with_goals { length jobs.new.goals ≡ length jobs.old.goals }
     ensures users { jobs.new.users ≡ jobs.old.users }
@@ -223,7 +223,7 @@ fn put_in_place(
     table.reserve(ending.trees.len())?;
     let reply = CopiedReply::new(Reply::GoalState(ending.told))?;
     add_to_each(alloc, desks, ending.additions)?;
-    set_all(jobs, ending.heard);
+    set_all(jobs, ending.delivered);
     table.put_all_reserved(ending.trees);
     Ok(reply)
 }

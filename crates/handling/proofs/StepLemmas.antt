@@ -54,7 +54,7 @@ outcome_is : (setup : Setup) (w : World) (e : Event) → is_user setup e.actor �
     → outcome_of setup w e ≡ outcome setup (observation_of setup w e.actor) e.request
 outcome_is setup w e known = rw known refl
 
--- a desk after a change that all hear nothing of
+-- a desk after a change that all receive nothing of
 after_becomes : (setup : Setup) (actor : List ℕ) (o : Outcome) (d : Desk) (r : Reply) (x : List ℕ) (reached : Bool) (old : Desk) → o ≡ becomes d r
     → desk_after setup actor o x reached old ≡ (if bytes_eq x actor then d else old)
 after_becomes setup actor o d r x reached old e = ap (λ p. desk_after setup actor p x reached old) e

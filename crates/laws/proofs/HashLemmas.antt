@@ -9,7 +9,7 @@ use Rattle.model.specs.ArchiveReading.{tree_of_archive}
 use Rattle.model.specs.Worlds.{Job, Desk, World, nothing, Setup, is_user}
 use Rattle.model.specs.Goals.{goal_at, members}
 use Rattle.model.specs.Events.{Request, AddSource, AddDerivation, Offer, Fetch, Trust, Distrust, Pin, Unpin, Closure, Take, Build, Status, Plan, Start, Finish, Fail, Forget, Event}
-use Rattle.model.specs.Outcomes.{reaches, Observation, observation_of, News, Outcome, desk_after}
+use Rattle.model.specs.Outcomes.{reaches, Observation, observation_of, Notification, Outcome, desk_after}
 use Rattle.model.specs.Steps.{outcome_of, after}
 use Rattle.model.specs.DerivationRequests.{derivation_texts}
 use Rattle.model.specs.OfferRequests.{offer_texts}
@@ -21,7 +21,7 @@ use Rattle.model.specs.Striking.{gives_trust, ever, strike}
 use Rattle.model.specs.Laws.{StrikingHashesNoMore}
 use Rattle.model.proofs.BoolLemmas.{either, same_bytes}
 use Rattle.model.proofs.ReachLemmas.{leads-IsLeast}
-use Rattle.laws.proofs.GoalLemmas.{Under, heard_nothing}
+use Rattle.laws.proofs.GoalLemmas.{Under, delivered_nothing}
 use Rattle.laws.proofs.AgreeLemmas.{Agree, leads_agree, observation_agree}
 use Rattle.laws.proofs.StrikeLemmas.{IsInward, after_agree, after_stranger, gives_user}
 
@@ -38,14 +38,14 @@ all_back P (x ∷ xs) ys h = all_back P xs ys (All-tail P x (xs ++ ys) h)
 abbrev AreIdle : (List ℕ → Bool) → World → Type 0
 AreIdle set v = (x : List ℕ) → set x ≡ false → v x ≡ nothing x
 
--- a desk of one who has done nothing hears nothing
+-- a desk of one who has done nothing receives nothing
 idle_after : (setup : Setup) (actor : List ℕ) (o : Outcome) (x : List ℕ) (reached : Bool) (d : Desk) → bytes_eq x actor ≡ false → d ≡ nothing x
     → desk_after setup actor o x reached d ≡ nothing x
 idle_after setup actor (Err why) x reached d other idle = idle
 idle_after setup actor (Ok c) x reached d other idle =
     let nobody : List ℕ → Bool = λ y. false in
     let goals : All (Under nobody) d.goals = subst (λ (e : Desk). All (Under nobody) e.goals) (sym idle) (All-nil (Under nobody)) in
-    rw other (heard_nothing setup nobody actor reached c.news d refl goals ∙ idle)
+    rw other (delivered_nothing setup nobody actor reached c.notification d refl goals ∙ idle)
 
 -- and so those outside a set stay where one of the set acts
 stay_idle : (setup : Setup) (set : List ℕ → Bool) (v : World) (e : Event) → set e.actor ≡ true → AreIdle set v → AreIdle set (after setup v e)

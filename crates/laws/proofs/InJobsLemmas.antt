@@ -9,7 +9,7 @@ use Rattle.model.specs.declared.refusal.Refusal.TheVariants.{Quota, BuilderFaile
 use Rattle.model.specs.Worlds.{Setup, Record, Entry, OfSource, OfRecord, Job, State, Waiting, Planned, Building, Done, Failed, Goal, Desk, known_of, has_record, with_record, charge_of, is_within, with_entry, with_all, missing, with_entries}
 use Rattle.model.specs.Goals.{goal_at, with_goal_at, with_goal, in_state, same_job, is_in, members}
 use Rattle.model.specs.Endings.{End, Output, Failure, built_record, done_with, with_output, ended_with, ended_goal, ended_goals}
-use Rattle.model.specs.Outcomes.{News, Quiet, Ended, heard}
+use Rattle.model.specs.Outcomes.{Notification, NoNotification, Ended, delivered}
 use Rattle.model.specs.Timed.{state_in, goal_in, desk_in}
 use Rattle.model.proofs.BoolLemmas.{either, both_parts, same_bytes}
 
@@ -114,11 +114,11 @@ module _ (setup : Setup) (jobs : Job → Bool) where
       ap (λ o. ended_goal setup reached end n o (desk_in jobs d)) (at_in jobs n d.goals) ∙ ended_in reached end n (goal_at n d.goals) d in
       ap (ended_goals setup reached end ns) one ∙ all_ended_in reached end ns next
 
-  -- a leader whose jobs are all among these is heard alike
-  pub heard_in : (actor : List ℕ) (reached : Bool) (news : News) (d : Desk) → ((job : Job) → job.leader ≡ actor → jobs job ≡ true)
-      → heard setup actor reached news (desk_in jobs d) ≡ desk_in jobs (heard setup actor reached news d)
-  heard_in actor reached Quiet d inside = refl
-  heard_in actor reached (Ended n end) d inside =
+  -- a leader whose jobs are all among these is delivered alike
+  pub delivered_in : (actor : List ℕ) (reached : Bool) (notification : Notification) (d : Desk) → ((job : Job) → job.leader ≡ actor → jobs job ≡ true)
+      → delivered setup actor reached notification (desk_in jobs d) ≡ desk_in jobs (delivered setup actor reached notification d)
+  delivered_in actor reached NoNotification d inside = refl
+  delivered_in actor reached (Ended n end) d inside =
       let job : Job = record { leader = actor; number = n } in
       let stays : (other : Job) → same_job other job ≡ true → jobs other ≡ true = λ other same.
       inside other (same_bytes other.leader actor (both_parts _ _ same).0) in
@@ -185,9 +185,9 @@ module _ (setup : Setup) (end : End) (job : Job) (d : Desk) where
       stays (Done path) f = refl
       stays (Failed why) f = refl
 
--- the jobs that stay after the news of one whose leader is not reached
-abbrev pub unless_ended : List ℕ → News → (Job → Bool) → Job → Bool
-unless_ended actor Quiet jobs job = jobs job
+-- the jobs that stay after the notification of one whose leader is not reached
+abbrev pub unless_ended : List ℕ → Notification → (Job → Bool) → Job → Bool
+unless_ended actor NoNotification jobs job = jobs job
 unless_ended actor (Ended n end) jobs job = jobs job && but (record { leader = actor; number = n }) job
 
 state_both : (jobs others : Job → Bool) (s : State) → state_in others (state_in jobs s) ≡ state_in (λ job. jobs job && others job) s
@@ -204,10 +204,10 @@ goals_both jobs others (g ∷ goals) =
     let rest = goals_both jobs others goals in
     λ i. in_state (one i) g ∷ rest i
 
-pub heard_apart : (setup : Setup) (jobs : Job → Bool) (actor : List ℕ) (news : News) (d : Desk)
-    → heard setup actor false news (desk_in jobs d) ≡ desk_in (unless_ended actor news jobs) d
-heard_apart setup jobs actor Quiet d = refl
-heard_apart setup jobs actor (Ended n end) d =
+pub delivered_apart : (setup : Setup) (jobs : Job → Bool) (actor : List ℕ) (notification : Notification) (d : Desk)
+    → delivered setup actor false notification (desk_in jobs d) ≡ desk_in (unless_ended actor notification jobs) d
+delivered_apart setup jobs actor NoNotification d = refl
+delivered_apart setup jobs actor (Ended n end) d =
     let job : Job = record { leader = actor; number = n } in
     rest_waits setup end job d [] (map (goal_in jobs) d.goals) ∙ ap (λ gs. record d { goals = gs }) (goals_both jobs (but job) d.goals)
 

@@ -25,7 +25,7 @@ use Rattle.model.specs.Goals.{goal_at, with_goal, with_new_goal, new_goal, in_st
 use Rattle.model.specs.Endings.{End, Output, Failure}
 use Rattle.model.specs.Events as events
 use Rattle.model.specs.Events.{Request, AddSource, AddDerivation, Offer, Fetch, Trust, Distrust, Pin as PinIt, Unpin, Closure, Take, Build, Status, Plan, Start, Finish, Fail, Forget, Reply, Path, Content, Entries, GoalNumber, GoalState}
-use Rattle.model.specs.Outcomes.{Observation, Ended, Outcome, becomes, check, need, room, add_entry, heard}
+use Rattle.model.specs.Outcomes.{Observation, Ended, Outcome, becomes, check, need, room, add_entry, delivered}
 use Rattle.model.specs.SourceRequests.{source_named}
 use Rattle.model.specs.DerivationRequests.{admit_new}
 use Rattle.model.specs.OfferRequests.{output_settled, offer}
@@ -37,7 +37,7 @@ use Rattle.model.specs.Steps.{outcome}
 use Rattle.model.specs.Timed.{state_in, goal_in, desk_in}
 use Rattle.model.proofs.BoolLemmas.{either, both_parts, same_bytes}
 use Rattle.laws.proofs.FitLemmas.{IsSound, job_reached}
-use Rattle.laws.proofs.InJobsLemmas.{at_in, goal_put, entries_in, within_in, in_job, heard_in}
+use Rattle.laws.proofs.InJobsLemmas.{at_in, goal_put, entries_in, within_in, in_job, delivered_in}
 
 -- what a user sees, and what his request does, where his goals and those that he sees are in these jobs alone
 abbrev pub observation_in : (Job → Bool) → Observation → Observation
@@ -45,7 +45,7 @@ observation_in jobs s = record s { desk = desk_in jobs s.desk; view = map (desk_
 
 abbrev pub outcome_in : (Job → Bool) → Outcome → Outcome
 outcome_in jobs (Err why) = Err why
-outcome_in jobs (Ok c) = Ok (record { desk = desk_in jobs c.desk; reply = c.reply; news = c.news })
+outcome_in jobs (Ok c) = Ok (record { desk = desk_in jobs c.desk; reply = c.reply; notification = c.notification })
 
 -- all jobs whose leaders are reached are among these
 abbrev pub Covers : (Job → Bool) → (List ℕ → Bool) → Type 0
@@ -222,13 +222,13 @@ module _ (jobs : Job → Bool) where
     end_in : (n : ℕ) (end : End) → end_job setup t n end ≡ outcome_in jobs (end_job setup s n end)
     end_in n end =
         let own : (job : Job) → job.leader ≡ s.user → jobs job ≡ true = λ job is. covers job (ap s.reach is ∙ sound.own) in
-        let after : Desk = heard setup s.user (s.reach s.user) (Ended n end) s.desk in
-        let hears : heard setup s.user (s.reach s.user) (Ended n end) (desk_in jobs s.desk) ≡ desk_in jobs after = heard_in setup jobs s.user (s.reach s.user) (Ended n end) s.desk own in
-        let reply : told_of s.reach (goal_at n (heard setup s.user (s.reach s.user) (Ended n end) (desk_in jobs s.desk)).goals) ≡ told_of s.reach (goal_at n after.goals) =
-        ap (λ (d : Desk). told_of s.reach (goal_at n d.goals)) hears ∙ ap (told_of s.reach) (at_in jobs n after.goals) ∙ told_in (goal_at n after.goals) in
+        let after : Desk = delivered setup s.user (s.reach s.user) (Ended n end) s.desk in
+        let receives : delivered setup s.user (s.reach s.user) (Ended n end) (desk_in jobs s.desk) ≡ desk_in jobs after = delivered_in setup jobs s.user (s.reach s.user) (Ended n end) s.desk own in
+        let reply : told_of s.reach (goal_at n (delivered setup s.user (s.reach s.user) (Ended n end) (desk_in jobs s.desk)).goals) ≡ told_of s.reach (goal_at n after.goals) =
+        ap (λ (d : Desk). told_of s.reach (goal_at n d.goals)) receives ∙ ap (told_of s.reach) (at_in jobs n after.goals) ∙ told_in (goal_at n after.goals) in
         goal_needed_in UnknownGoal n s.desk.goals _ _ (λ g.
         checked_in WrongState _ _ _ _ (in_job jobs (own_job s n) (λ other same. own other (leader_of other same)) g.state)
-        (λ i. Ok (record { desk = desk_in jobs s.desk; reply = reply i; news = Ended n end })))
+        (λ i. Ok (record { desk = desk_in jobs s.desk; reply = reply i; notification = Ended n end })))
       where
         leader_of : (other : Job) → same_job other (own_job s n) ≡ true → other.leader ≡ s.user
         leader_of other same = same_bytes other.leader s.user (both_parts _ _ same).0

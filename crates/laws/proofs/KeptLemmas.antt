@@ -17,7 +17,7 @@ use Rattle.model.specs.Choices as choices
 use Rattle.model.specs.Closures as closures
 use Rattle.model.specs.Resolutions.{input_classes, resolved_over, resolve}
 use Rattle.model.specs.Events.{Request, AddSource, AddDerivation, Offer, Fetch, Trust, Distrust, Pin, Unpin, Closure, Take, Build, Status, Plan, Start, Finish, Fail, Forget, Event, Reply, GoalState}
-use Rattle.model.specs.Outcomes.{reaches, Observation, observation_of, News, Quiet, Ended, Change, Outcome, becomes, check, need, reply_of, heard, desk_after}
+use Rattle.model.specs.Outcomes.{reaches, Observation, observation_of, Notification, NoNotification, Ended, Change, Outcome, becomes, check, need, reply_of, delivered, desk_after}
 use Rattle.model.specs.FinishedBuilds.{finished_build, for_class}
 use Rattle.model.specs.GoalRequests.{own_job, turns, plan_resolved, resolve_for, plan_goal, done_again, start_copied, start_goal}
 use Rattle.model.specs.GoalRequests as requests
@@ -212,9 +212,9 @@ follows_all_ended setup reached end (n ∷ ns) d =
     follows_further d.goals next.goals (ended_goals setup reached end ns next).goals
     (follows_ended setup reached end n (goal_at n d.goals) d refl) (follows_all_ended setup reached end ns next)
 
-follows_heard : (setup : Setup) (actor : List ℕ) (reached : Bool) (news : News) (d : Desk) → Follows d.goals (heard setup actor reached news d).goals
-follows_heard setup actor reached Quiet d = follows_itself d.goals
-follows_heard setup actor reached (Ended n end) d = follows_all_ended setup reached end (members (record { leader = actor; number = n }) 1 d.goals) d
+follows_delivered : (setup : Setup) (actor : List ℕ) (reached : Bool) (notification : Notification) (d : Desk) → Follows d.goals (delivered setup actor reached notification d).goals
+follows_delivered setup actor reached NoNotification d = follows_itself d.goals
+follows_delivered setup actor reached (Ended n end) d = follows_all_ended setup reached end (members (record { leader = actor; number = n }) 1 d.goals) d
 
 -- ---- what a request does to the goals of its user
 
@@ -389,23 +389,23 @@ abbrev FollowsOrPlans : Setup → World → Event → List ℕ → Desk → Type
 FollowsOrPlans setup w e u later = Follows (w u).goals later.goals ⊎ ((u ≡ e.actor) × PlansGoal (observation_of setup w e.actor) e.request (outcome_of setup w e))
 
 module _ (setup : Setup) (w : World) (e : Event) (u : List ℕ) (reached : Bool) where
-  -- the actor's desk, or another, before news are heard
+  -- the actor's desk, or another, before notification are delivered
   own_or_other : (c : Change) → Follows (w e.actor).goals c.desk.goals → Follows (w u).goals (if bytes_eq u e.actor then c.desk else w u).goals
   own_or_other c follows =
       cond_both (bytes_eq u e.actor) c.desk (w u) (λ (d : Desk). Follows (w u).goals d.goals)
       (λ yes. subst (λ x. Follows (w x).goals c.desk.goals) (sym (same_bytes u e.actor yes)) follows) (λ no. follows_itself (w u).goals)
 
-  heard_follows : (c : Change) → Follows (w u).goals (if bytes_eq u e.actor then c.desk else w u).goals → Follows (w u).goals (desk_after setup e.actor (Ok c) u reached (w u)).goals
-  heard_follows c follows =
+  delivered_follows : (c : Change) → Follows (w u).goals (if bytes_eq u e.actor then c.desk else w u).goals → Follows (w u).goals (desk_after setup e.actor (Ok c) u reached (w u)).goals
+  delivered_follows c follows =
       let d : Desk = if bytes_eq u e.actor then c.desk else w u in
-      follows_further (w u).goals d.goals (heard setup e.actor reached c.news d).goals follows (follows_heard setup e.actor reached c.news d)
+      follows_further (w u).goals d.goals (delivered setup e.actor reached c.notification d).goals follows (follows_delivered setup e.actor reached c.notification d)
 
   after_outcome : (o : Outcome) → outcome_of setup w e ≡ o → Fits (observation_of setup w e.actor) e.request o → FollowsOrPlans setup w e u (desk_after setup e.actor o u reached (w u))
   after_outcome (Err why) is fits = inl (follows_itself (w u).goals)
-  after_outcome (Ok c) is (inl follows) = inl (heard_follows c (own_or_other c follows))
+  after_outcome (Ok c) is (inl follows) = inl (delivered_follows c (own_or_other c follows))
   after_outcome (Ok c) is (inr plans) = elim (either (bytes_eq u e.actor)) [
     | inl own ↦ inr (same_bytes u e.actor own, subst (PlansGoal (observation_of setup w e.actor) e.request) (sym is) plans)
-    | inr other ↦ inl (heard_follows c (subst (λ (b : Bool). Follows (w u).goals (if b then c.desk else w u).goals) (sym other) (follows_itself (w u).goals)))
+    | inr other ↦ inl (delivered_follows c (subst (λ (b : Bool). Follows (w u).goals (if b then c.desk else w u).goals) (sym other) (follows_itself (w u).goals)))
   ]
 
 after_follows : (setup : Setup) (w : World) (e : Event) (u : List ℕ) → FollowsOrPlans setup w e u (after setup w e u)
@@ -450,7 +450,7 @@ resolved_plan view pins known d r is =
     let two = then_ok (choices.plan view pins classes d.sources) closures.served_plan one.0 one.1 in
     (two.0, two.1)
 
--- the goals of the actor after a change of which nothing is heard
+-- the goals of the actor after a change of which nothing is delivered
 goals_after : (setup : Setup) (w : World) (e : Event) (d : Desk) (reply : Reply) → outcome_of setup w e ≡ becomes d reply → (after setup w e e.actor).goals ≡ d.goals
 goals_after setup w e d reply o =
     ap (λ (p : Outcome). (desk_after setup e.actor p e.actor (reaches setup w e.actor e.actor) (w e.actor)).goals) o

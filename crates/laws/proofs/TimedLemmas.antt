@@ -9,16 +9,16 @@ use Rattle.model.specs.Reach.{leads, is_among}
 use Rattle.model.specs.Worlds.{Setup, is_user, Resolved, Job, State, Goal, Desk, World, nothing}
 use Rattle.model.specs.Goals.{same_job, running_in, led_by}
 use Rattle.model.specs.Events.{Event}
-use Rattle.model.specs.Outcomes.{trusts, reaches, view_of, joins, running_for, Observation, observation_of, News, Quiet, Ended, Outcome, check, heard, reply_of, desk_after}
+use Rattle.model.specs.Outcomes.{trusts, reaches, view_of, joins, running_for, Observation, observation_of, Notification, NoNotification, Ended, Outcome, check, delivered, reply_of, desk_after}
 use Rattle.model.specs.Steps.{outcome, outcome_of, reply_to, after, world_after, answers, replies_to}
 use Rattle.model.specs.Timed.{reached_from, near, kept_from, state_in, goal_in, desk_in, AgreesOn}
 use Rattle.model.specs.Laws.{IsTimed}
 use Rattle.model.proofs.BoolLemmas.{either, or_cases, both_parts, same_bytes, bytes_same, bytes_eq_sym}
 use Rattle.model.proofs.ReachLemmas.{leads_link, leads_least, leads-IsLeast}
-use Rattle.laws.proofs.GoalLemmas.{keeps_heard}
+use Rattle.laws.proofs.GoalLemmas.{keeps_delivered}
 use Rattle.laws.proofs.AgreeLemmas.{and_agree, map_agree, flat_map_agree, observation_sound}
 use Rattle.laws.proofs.StrikeLemmas.{told}
-use Rattle.laws.proofs.InJobsLemmas.{in_job, unless_ended, heard_in, heard_apart}
+use Rattle.laws.proofs.InJobsLemmas.{in_job, unless_ended, delivered_in, delivered_apart}
 use Rattle.laws.proofs.InJobsOutcomes.{observation_in, outcome_in, Covers, requested_in}
 
 -- ---- who is near
@@ -79,7 +79,7 @@ others_trust : (setup : Setup) (actor : List ℕ) (o : Outcome) (x : List ℕ) (
     → (desk_after setup actor o x reached d).trusted y ≡ d.trusted y
 others_trust setup actor (Err why) x reached d y f = refl
 others_trust setup actor (Ok c) x reached d y f =
-    ap (λ (trusts : List ℕ → Bool). trusts y) (keeps_heard setup actor reached c.news (if bytes_eq x actor then c.desk else d)).trusted ∙ rw f refl
+    ap (λ (trusts : List ℕ → Bool). trusts y) (keeps_delivered setup actor reached c.notification (if bytes_eq x actor then c.desk else d)).trusted ∙ rw f refl
 
 pub users_after : (setup : Setup) (w : World) (e : Event) → IsOfUsers setup w → IsOfUsers setup (after setup w e)
 users_after setup w e known x y t = elim (either (is_user setup e.actor)) [
@@ -161,7 +161,7 @@ desk_same : (setup : Setup) (jobs : Job → Bool) (actor : List ℕ) → ((job :
     → desk_after setup actor (outcome_in jobs o) x reached (desk_in jobs d) ≡ desk_in jobs (desk_after setup actor o x reached d)
 desk_same setup jobs actor inside (Err why) x reached d = refl
 desk_same setup jobs actor inside (Ok c) x reached d =
-    ap (heard setup actor reached c.news) (of (bytes_eq x actor)) ∙ heard_in setup jobs actor reached c.news (if bytes_eq x actor then c.desk else d) inside
+    ap (delivered setup actor reached c.notification) (of (bytes_eq x actor)) ∙ delivered_in setup jobs actor reached c.notification (if bytes_eq x actor then c.desk else d) inside
   where
     of : (b : Bool) → (if b then desk_in jobs c.desk else desk_in jobs d) ≡ desk_in jobs (if b then c.desk else d)
     of true = refl
@@ -226,16 +226,16 @@ module _ (setup : Setup) (u : List ℕ) (w v : World) (e : Event) (events : List
         desks = λ x s. ap (λ o. desk_after setup e.actor o x (reaches setup w x e.actor) (w x)) is ∙ agree.desks x (near_now x s);
       }
       by_outcome (Ok c) is = record {
-        jobs = unless_ended e.actor c.news agree.jobs;
-        inside = λ job s. stays c.news job s;
+        jobs = unless_ended e.actor c.notification agree.jobs;
+        inside = λ job s. stays c.notification job s;
         desks = λ x s.
             ap (λ o. desk_after setup e.actor o x (reaches setup w x e.actor) (w x)) is
             ∙ rw (apart_from then_near x e.actor s f, unreached f x s)
-            (ap (heard setup e.actor false c.news) (agree.desks x (near_now x s)) ∙ heard_apart setup agree.jobs e.actor c.news (v x));
+            (ap (delivered setup e.actor false c.notification) (agree.desks x (near_now x s)) ∙ delivered_apart setup agree.jobs e.actor c.notification (v x));
       }
         where
-          stays : (news : News) (job : Job) → then_near job.leader ≡ true → unless_ended e.actor news agree.jobs job ≡ true
-          stays Quiet job s = agree.inside job (near_now job.leader s)
+          stays : (notification : Notification) (job : Job) → then_near job.leader ≡ true → unless_ended e.actor notification agree.jobs job ≡ true
+          stays NoNotification job s = agree.inside job (near_now job.leader s)
           stays (Ended n end) job s = rw (agree.inside job (near_now job.leader s), apart_from then_near job.leader e.actor s f) refl
 
 -- ---- runs

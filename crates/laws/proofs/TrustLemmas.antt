@@ -10,7 +10,7 @@ use Rattle.model.specs.EndRequests.{end_job}
 use Rattle.model.specs.Steps.{outcome, outcome_of, after}
 use Rattle.model.specs.Timed.{trusted_by, trusts_after}
 use Rattle.model.proofs.BoolLemmas.{either, same_bytes, bytes_same}
-use Rattle.laws.proofs.GoalLemmas.{keeps_heard}
+use Rattle.laws.proofs.GoalLemmas.{keeps_delivered}
 use Rattle.laws.proofs.SourceRequestLemmas.{add_source_cases, fetch_cases}
 use Rattle.laws.proofs.DerivationRequestLemmas.{add_derivation_cases}
 use Rattle.laws.proofs.OfferRequestLemmas.{offer_cases}
@@ -81,11 +81,11 @@ module _ (setup : Setup) (s : Observation) (y : List ℕ) where
   requested (Fail n status) = ends n Failure
   requested (Forget class path) = forget_cases Stays s class path refl refl refl
 
-  -- nor does the news change whom he trusts
+  -- nor does the notification change whom he trusts
   own_after : (actor : List ℕ) (o : Outcome) (reached : Bool) (d : Desk) → d ≡ s.desk → (desk_after setup actor o actor reached d).trusted y ≡ trusts_then o
   own_after actor (Err why) reached d is = ap (λ (e : Desk). e.trusted y) is
   own_after actor (Ok c) reached d is =
-      ap (λ (t : List ℕ → Bool). t y) (keeps_heard setup actor reached c.news (if bytes_eq actor actor then c.desk else d)).trusted
+      ap (λ (t : List ℕ → Bool). t y) (keeps_delivered setup actor reached c.notification (if bytes_eq actor actor then c.desk else d)).trusted
       ∙ rw (bytes_same actor) refl
 
 -- and of others it is no matter what the outcome is
@@ -93,7 +93,7 @@ other_after : (setup : Setup) (actor : List ℕ) (o : Outcome) (x : List ℕ) (r
     → (desk_after setup actor o x reached d).trusted y ≡ d.trusted y
 other_after setup actor (Err why) x reached d y f = refl
 other_after setup actor (Ok c) x reached d y f =
-    ap (λ (t : List ℕ → Bool). t y) (keeps_heard setup actor reached c.news (if bytes_eq x actor then c.desk else d)).trusted ∙ rw f refl
+    ap (λ (t : List ℕ → Bool). t y) (keeps_delivered setup actor reached c.notification (if bytes_eq x actor then c.desk else d)).trusted ∙ rw f refl
 
 stranger_after : (setup : Setup) (w : World) (e : Event) (x y : List ℕ) → is_user setup e.actor ≡ false → trusts (after setup w e) x y ≡ trusts w x y
 stranger_after setup w e x y f = of (is_user setup e.actor) f

@@ -7,15 +7,15 @@ use Rattle.events.specs.States.{state_of}
 use Rattle.trust.specs.Trusting.{trusts}
 use Rattle.store.specs.Stored.{put_all, sources_of, AreThere}
 use Rattle.building.specs.Gaining.{last_state, state_at}
-use Rattle.endings.specs.Committing.{Heard, trees_gained, states_for, states_heard, AreToAdd}
+use Rattle.endings.specs.Committing.{Delivered, trees_gained, states_for, states_delivered, AreToAdd}
 use Rattle.endings.proofs.CommitLemmas.{states_there}
 use Rattle.endings.proofs.AllBuiltLemmas.{only_memory}
 use Rattle.endings.proofs.finishing.prepare.Goals as goal
 
-pub returns-in_err-heard : goal.returns-in_err-heard
-returns-in_err-heard c =
+pub returns-in_err-delivered : goal.returns-in_err-delivered
+returns-in_err-delivered c =
     let p = err_from_is_err_and c.from_residual.result c.from_residual.ensures.1 in
-    rw (p.1, p.2) (record { prepared = tt; refused = c.in_err-heard.ensures.refused })
+    rw (p.1, p.2) (record { prepared = tt; refused = c.in_err-delivered.ensures.refused })
 
 pub returns-in_err-gained_by_all : goal.returns-in_err-gained_by_all
 returns-in_err-gained_by_all c =
@@ -25,10 +25,10 @@ returns-in_err-gained_by_all c =
 pub returns-in_err-trees-clause-refused : goal.returns-in_err-trees-clause-refused
 returns-in_err-trees-clause-refused c =
     let p = err_from_is_err_and c.from_residual-in_err-trees.result c.from_residual-in_err-trees.ensures.1 in
-    let are : c.in_ok-gained_by_all.field-0.items ≡ trees_gained c.in_ok-heard.heard.items =
+    let are : c.in_ok-gained_by_all.field-0.items ≡ trees_gained c.in_ok-delivered.delivered.items =
     c.in_ok-gained_by_all.ensures ∙ ap trees_gained c.deref.ensures.value in
     rw (p.1, p.2) (inl (only_memory (trusts c.args.trust.now) c.args.place c.args.limits.charge c.args.job.now c.args.desks.now c.args.jobs.now.goals
-    c.args.table.now.sources (option_copied c.args.tree) c.in_ok-heard.heard.items c.in_ok-heard.ensures.heard c.in_err-trees.field-0.0
+    c.args.table.now.sources (option_copied c.args.tree) c.in_ok-delivered.delivered.items c.in_ok-delivered.ensures.delivered c.in_err-trees.field-0.0
     c.in_ok-gained_by_all.field-0.items are c.in_err-trees.ensures.refused))
 
 pub returns-in_err-additions : goal.returns-in_err-additions
@@ -43,22 +43,22 @@ returns-in_err-told c =
 
 pub returns-clause-prepared : goal.returns-clause-prepared
 returns-clause-prepared c =
-    let heard : List Heard = c.in_ok-heard.heard.items in
-    let are : c.in_ok-gained_by_all.field-0.items ≡ trees_gained heard = c.in_ok-gained_by_all.ensures ∙ ap trees_gained c.deref.ensures.value in
-    let within : c.args.place < length heard = (let count = c.in_ok-heard.ensures.count in let below = c.requires.of_run in omega (arith, count, below)) in
+    let delivered : List Delivered = c.in_ok-delivered.delivered.items in
+    let are : c.in_ok-gained_by_all.field-0.items ≡ trees_gained delivered = c.in_ok-gained_by_all.ensures ∙ ap trees_gained c.deref.ensures.value in
+    let within : c.args.place < length delivered = (let count = c.in_ok-delivered.ensures.count in let below = c.requires.of_run in omega (arith, count, below)) in
     record {
-      made = c.in_ok-heard.ensures.heard;
-      count = c.in_ok-heard.ensures.count;
-      additions = subst (λ (hs : List Heard). AreToAdd hs c.in_ok-additions.additions.items) c.deref-2.ensures.value c.in_ok-additions.ensures;
+      made = c.in_ok-delivered.ensures.delivered;
+      count = c.in_ok-delivered.ensures.count;
+      additions = subst (λ (hs : List Delivered). AreToAdd hs c.in_ok-additions.additions.items) c.deref-2.ensures.value c.in_ok-additions.ensures;
       all = sym (ap (λ ts. put_all (sources_of ts) c.args.table.now.sources) are) ∙ c.in_ok-trees.ensures.all;
       new = c.in_ok-trees.ensures.new;
       there = subst (AreThere c.args.table.now.sources) are c.in_ok-trees.ensures.there;
       told = λ g is.
           let same : g ≡ c.unwrap-goal.result.now =
           (let some : option_copied c.get.result ≡ Some c.unwrap-goal.result.now = search rules in let own = sym is ∙ sym c.get.ensures ∙ some in cc) in
-          let states : map state_at c.as_slice.result.now ≡ states_for heard c.args.place =
-          ap (map state_at) c.as_slice.ensures.value ∙ ap (λ (h : Heard). states_heard h) c.index.ensures
-          ∙ states_there heard c.args.place c.index.result.now within in
+          let states : map state_at c.as_slice.result.now ≡ states_for delivered c.args.place =
+          ap (map state_at) c.as_slice.ensures.value ∙ ap (λ (h : Delivered). states_delivered h) c.index.ensures
+          ∙ states_there delivered c.args.place c.index.result.now within in
           let state : state_of c.state.result.now ≡ g.state = c.state.ensures ∙ ap (λ (x : Goal). x.state) (sym same) in
           c.in_ok-told.ensures ∙ ap (λ (s : State). last_state c.args.number s (map state_at c.as_slice.result.now)) state
           ∙ ap (last_state c.args.number g.state) states;

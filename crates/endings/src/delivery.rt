@@ -10,7 +10,7 @@ ghost use Rattle.std.specs.Option.{option_copied};
 ghost use Rattle.jobs.specs.Owned.{goals_at};
 ghost use Rattle.trust.specs.Trusting.{trusts};
 ghost use Rattle.building.specs.Built.{AreBuiltOn};
-ghost use Rattle.endings.specs.Hearing.{Hears, trees_built, tree_built, all_trees, AreStored, IsBuiltAtPlace, AreAllBuiltOn, AreBuiltFor, IsHeardAtPlace, AreHeard, IsMadeBeside, IsNotMade};
+ghost use Rattle.endings.specs.Delivery.{Receives, trees_built, tree_built, all_trees, AreStored, IsBuiltAtPlace, AreAllBuiltOn, AreBuiltFor, IsDeliveredAtPlace, AreDelivered, IsMadeBeside, IsNotMade};
 
 use building::{Built, Gains, built_on, gains_for, waiting};
 use jobs::{Job, Jobs, State, members_reached};
@@ -144,9 +144,9 @@ fn build_from(
     Ok(all)
 }
 
-/// What a user hears of a job that ended with an output, where he reaches its leader or not: what his
+/// What a user receives of a job that ended with an output, where he reaches its leader or not: what his
 /// desk gets, and how far each of his goals in the job is then. The one error is memory.
-fn hear(
+fn receive(
     alloc: Global,
     desk: &Desk,
     limits: Limits,
@@ -159,7 +159,7 @@ fn hear(
     requires of_run { place < length jobs.now.goals }
     requires records { length desk.now.records ≤ most_records }
     requires charge { desk.now.charge ≤ limits.charge }
-    ensures hears { IfOk result (λ r. Hears limits.charge desk.now (goals_at place jobs.now) job.now
+    ensures receives { IfOk result (λ r. Receives limits.charge desk.now (goals_at place jobs.now) job.now
         reached built.items (gains_in r.0) (map state_at r.1.items)) }
     ensures charge { IfOk result (λ r. desk.now.charge + r.0.more ≤ limits.charge) }
     ensures memory { IfErr result (λ why. why ≡ Memory) }
@@ -171,9 +171,9 @@ fn hear(
     Ok((Gains::new(alloc), states))
 }
 
-/// What the user at a place hears of a job that ended with an output, of which this was built for his
+/// What the user at a place receives of a job that ended with an output, of which this was built for his
 /// goals. The one error is memory.
-fn hear_at(
+fn receive_at(
     alloc: Global,
     trust: &Trust,
     desk: &Desk,
@@ -189,18 +189,18 @@ fn hear_at(
     requires of_run { place < length jobs.now.goals }
     requires records { length desk.now.records ≤ most_records }
     requires charge { desk.now.charge ≤ limits.charge }
-    ensures heard { IfOk result (λ r. IsHeardAtPlace (trusts trust.now) leader limits.charge job.now
+    ensures delivered { IfOk result (λ r. IsDeliveredAtPlace (trusts trust.now) leader limits.charge job.now
         desk.now (goals_at place jobs.now) place built.items (gains_in r.0) (map state_at r.1.items)) }
     ensures memory { IfErr result (λ why. why ≡ Memory) }
 {
     let reached = has_place(trust.closure(place), leader);
-    let heard = hear(alloc, desk, limits, jobs, place, job, reached, built)?;
-    Ok(heard)
+    let delivered = receive(alloc, desk, limits, jobs, place, job, reached, built)?;
+    Ok(delivered)
 }
 
-/// What each user hears of a job that ended with an output, in the order of users, of which these were
+/// What each user receives of a job that ended with an output, in the order of users, of which these were
 /// built for their goals. The one error is memory.
-pub(crate) fn hear_all(
+pub(crate) fn receive_all(
     alloc: Global,
     trust: &Trust,
     desks: &[Desk],
@@ -216,28 +216,28 @@ pub(crate) fn hear_all(
     requires count { length built.items ≡ length desks.now }
     requires records { All (λ d. length d.records ≤ most_records) desks.now }
     requires charge { All (λ d. d.charge ≤ limits.charge) desks.now }
-    ensures heard { IfOk result (λ heard. AreHeard (trusts trust.now) leader limits.charge job.now
-        desks.now jobs.now.goals built.items heard.items) }
-    ensures count { IfOk result (λ heard. length heard.items ≡ length desks.now) }
+    ensures delivered { IfOk result (λ delivered. AreDelivered (trusts trust.now) leader limits.charge job.now
+        desks.now jobs.now.goals built.items delivered.items) }
+    ensures count { IfOk result (λ delivered. length delivered.items ≡ length desks.now) }
     ensures memory { IfErr result (λ why. why ≡ Memory) }
 {
     let mut all = Vec::new(alloc);
     for own in built {
         let place = all.len();
         let desk = &desks[place];
-        all.push(hear_at(alloc, trust, desk, limits, jobs, leader, place, job, own)?)?;
+        all.push(receive_at(alloc, trust, desk, limits, jobs, leader, place, job, own)?)?;
     }
     Ok(all)
 }
 
-/// What each user hears of a job that ended with an output, in the order of users. Nothing changes.
+/// What each user receives of a job that ended with an output, in the order of users. Nothing changes.
 ///
 /// # Errors
 ///
 /// - `Clash` only where another tree is at the path of one that was built, in the table or with one
 ///   before it.
 /// - `Memory` only where memory was refused.
-pub(crate) fn heard_by_all(
+pub(crate) fn delivered_by_all(
     alloc: Global,
     trust: &Trust,
     table: &Table,
@@ -255,14 +255,14 @@ pub(crate) fn heard_by_all(
     requires on_desks { AreAllBuiltOn job.now desks.now jobs.now.goals }
     requires records { All (λ d. length d.records ≤ most_records) desks.now }
     requires charge { All (λ d. d.charge ≤ limits.charge) desks.now }
-    ensures heard { IfOk result (λ heard. IsMadeBeside table.now.sources (option_copied tree.entry)
-        (trusts trust.now) leader limits.charge job.now desks.now jobs.now.goals heard.items) }
-    ensures count { IfOk result (λ heard. length heard.items ≡ length desks.now) }
+    ensures delivered { IfOk result (λ delivered. IsMadeBeside table.now.sources (option_copied tree.entry)
+        (trusts trust.now) leader limits.charge job.now desks.now jobs.now.goals delivered.items) }
+    ensures count { IfOk result (λ delivered. length delivered.items ≡ length desks.now) }
     ensures refused { IfErr result (IsNotMade table.now.sources (option_copied tree.entry)
         (trusts trust.now) leader job.now desks.now jobs.now.goals) }
 {
     let built = build_from(alloc, trust, desks, jobs, leader, job, tree, settlements)?;
     tested(alloc, table, &built)?;
-    let heard = hear_all(alloc, trust, desks, limits, jobs, leader, job, built)?;
-    Ok(heard)
+    let delivered = receive_all(alloc, trust, desks, limits, jobs, leader, job, built)?;
+    Ok(delivered)
 }
