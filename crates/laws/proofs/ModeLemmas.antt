@@ -7,7 +7,7 @@ use Rattle.model.specs.declared.refusal.Refusal.TheVariants.{BadUsers, BadLine, 
 use Rattle.model.specs.Worlds.{Job, are_users}
 use Rattle.model.specs.Events.{Reply}
 use Rattle.model.specs.Lines.{Told, split, cut_at, filled}
-use Rattle.model.specs.Forms.{Form, Wish, names_form, users_form, first_form, wish_in, wish_form, later_form, text_form, line_form, is_empty_word, is_quiet, is_printable, longest_line}
+use Rattle.model.specs.Forms.{Form, Command, names_form, users_form, first_form, command_in, command_form, later_form, text_form, line_form, is_empty_word, is_quiet, is_printable, longest_line}
 use Rattle.model.specs.Forms as form
 use Rattle.model.specs.Talk.{Row, Silent, Names, Refuses, Asks, Waits, Seen, after, form_of, Gets, GetsNext, Talks, awaited_in}
 
@@ -26,14 +26,14 @@ no_wait-users (word ∷ names) =
     either_form (bytes_eq word (codes "users")) (names_form names) (form.Refuses BadLine)
     (either_form (are_users names) (form.Names names) (form.Refuses BadUsers) tt tt) tt
 
-no_wait-wish : (user : List ℕ) (wish : Option Wish) → IsNoWait (wish_form user wish)
-no_wait-wish user None = tt
-no_wait-wish user (Some wish) = tt
+no_wait-command : (user : List ℕ) (command : Option Command) → IsNoWait (command_form user command)
+no_wait-command user None = tt
+no_wait-command user (Some command) = tt
 
 no_wait-later : (text : List ℕ) (r : Option (List ℕ × List ℕ)) → IsNoWait (later_form Service text r)
 no_wait-later text None = tt
 no_wait-later text (Some r) =
-    either_form (bytes_eq r.0 (codes "users")) (form.Refuses BadLine) (wish_form r.0 (wish_in Service r.1)) tt (no_wait-wish r.0 (wish_in Service r.1))
+    either_form (bytes_eq r.0 (codes "users")) (form.Refuses BadLine) (command_form r.0 (command_in Service r.1)) tt (no_wait-command r.0 (command_in Service r.1))
 
 no_wait-text : (begun : Bool) (text : Option (List ℕ)) → IsNoWait (text_form Service begun text)
 no_wait-text begun None = tt
@@ -55,7 +55,7 @@ no_wait-row : (goals awaited : List Job) (f : Form) (reply : Reply) → IsNoWait
 no_wait-row goals awaited form.Silent reply n g = g
 no_wait-row goals awaited (form.Names users) reply n g = g
 no_wait-row goals awaited (form.Refuses why) reply n g = g
-no_wait-row goals awaited (form.Asks user wish) reply n g = g
+no_wait-row goals awaited (form.Asks user command) reply n g = g
 no_wait-row goals awaited form.Waits reply n g = n
 
 no_wait-next : (seen : Seen) (line : List ℕ) (awaited : List Job) (reply : Reply) → seen.mode ≡ Service → GetsNext seen line (Waits awaited reply) → ⊥

@@ -4,4 +4,4 @@ pub mod WordLemmas
 pub mod EntryLemmas
 pub mod FillLemmas
 pub mod OutputLemmas
-pub mod WishLemmas
+pub mod CommandLemmas

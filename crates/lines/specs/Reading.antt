@@ -7,7 +7,7 @@ use Rattle.model.specs.declared.verb.WordKind.TheVariants as kind
 use Rattle.model.specs.Lines.{is_numeral}
 use Rattle.model.specs.Words.{AreWell, FirstIll, number_in}
 use Rattle.model.specs.Verbs.{kinds_of, IsRequestOf}
-use Rattle.model.specs.Forms.{Form, Wish}
+use Rattle.model.specs.Forms.{Form, Command}
 use Rattle.model.specs.Forms as form
 use Rattle.model.specs.Talk.{Row, Silent, Names, Refuses, Asks, Waits, Gets}
 use Rattle.model.specs.Replies.{ends_wait}
@@ -23,26 +23,26 @@ use Rattle.lines.specs.declared.line.Reading.TheVariants as reading
 abbrev pub numeral_up_to : ℕ → List ℕ → Option ℕ
 numeral_up_to most word = if is_numeral word && nat_le (number_in word) most then Some (number_in word) else None
 
--- the wish of a verb with these words
-abbrev pub wish_of : Verb → List (List ℕ) → Wish
-wish_of verb words = record { verb = verb; words = words }
+-- the command of a verb with these words
+abbrev pub command_of : Verb → List (List ℕ) → Command
+command_of verb words = record { verb = verb; words = words }
 
--- a wish makes this request
-abbrev pub IsRequestOfWish : Wish → Request → Type 0
-IsRequestOfWish wish request = AreWell (kinds_of wish.verb) wish.words × IsRequestOf wish.verb wish.words (request_of request)
+-- a command makes this request
+abbrev pub IsRequestOfCommand : Command → Request → Type 0
+IsRequestOfCommand command request = AreWell (kinds_of command.verb) command.words × IsRequestOf command.verb command.words (request_of request)
 
 -- it makes none: a word is ill-formed, or memory was refused
-abbrev pub IsNoRequest : Wish → Refusal → Type 0
-IsNoRequest wish why = (why ≡ Memory) ⊎ FirstIll (kinds_of wish.verb) wish.words why
+abbrev pub IsNoRequest : Command → Refusal → Type 0
+IsNoRequest command why = (why ≡ Memory) ⊎ FirstIll (kinds_of command.verb) command.words why
 
--- a user's wish makes this event
-abbrev pub IsEventOfWish : List ℕ → Wish → Event → Type 0
-IsEventOfWish user wish event =
-    AreWell (kind.User ∷ kinds_of wish.verb) (user ∷ wish.words) × (event.actor ≡ user) × IsRequestOf wish.verb wish.words (request_of event.request)
+-- a user's command makes this event
+abbrev pub IsEventOfCommand : List ℕ → Command → Event → Type 0
+IsEventOfCommand user command event =
+    AreWell (kind.User ∷ kinds_of command.verb) (user ∷ command.words) × (event.actor ≡ user) × IsRequestOf command.verb command.words (request_of event.request)
 
 -- it makes none
-abbrev pub IsNoEvent : List ℕ → Wish → Refusal → Type 0
-IsNoEvent user wish why = (why ≡ Memory) ⊎ FirstIll (kind.User ∷ kinds_of wish.verb) (user ∷ wish.words) why
+abbrev pub IsNoEvent : List ℕ → Command → Refusal → Type 0
+IsNoEvent user command why = (why ≡ Memory) ⊎ FirstIll (kind.User ∷ kinds_of command.verb) (user ∷ command.words) why
 
 -- the row of what a line comes to, where the lines before it got these goals
 abbrev pub IsRowOf : List Job → Reading → Row → Type 0
@@ -60,7 +60,7 @@ Becomes form (reading.Refuses why) = (goals : List Job) → Gets goals form (Ref
 Becomes form (reading.Asks event) = (goals : List Job) (reply : events.Reply) → Gets goals form (Asks (event_of event) reply)
 Becomes form reading.Waits = (goals : List Job) (reply : events.Reply) → ends_wait reply ≡ true → Gets goals form (Waits goals reply)
 
--- a line of any wish that makes this event, or none for this, comes to this
-abbrev pub BecomesOfWish : Result Event Refusal → Reading → Type 0
-BecomesOfWish event reading =
-    (user : List ℕ) (wish : Wish) → MatchResult event (IsEventOfWish user wish) (IsNoEvent user wish) → Becomes (form.Asks user wish) reading
+-- a line of any command that makes this event, or none for this, comes to this
+abbrev pub BecomesOfCommand : Result Event Refusal → Reading → Type 0
+BecomesOfCommand event reading =
+    (user : List ℕ) (command : Command) → MatchResult event (IsEventOfCommand user command) (IsNoEvent user command) → Becomes (form.Asks user command) reading

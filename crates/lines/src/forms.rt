@@ -5,13 +5,13 @@ ghost use Rattle.std.specs.List.{list_all};
 ghost use Rattle.model.specs.declared.refusal.Refusal.TheVariants.{Memory};
 ghost use Rattle.model.specs.Lines.{split, cut_at};
 ghost use Rattle.model.specs.Forms.{is_quiet, is_printable, names_form, users_form, first_form, word_form, later_form, text_form, line_form};
-ghost use Rattle.lines.specs.Reading.{Becomes, BecomesOfWish};
+ghost use Rattle.lines.specs.Reading.{Becomes, BecomesOfCommand};
 
 use crate::cutting::{Word, cut, first_words, has_empty_word};
 use crate::expand::fill;
 use crate::line::Reading;
 use crate::told::Told;
-use crate::wishes::{read_event, wish_in};
+use crate::commands::{read_event, command_in};
 use crate::words::read_users;
 use events::Event;
 use model::{Mode, Refusal};
@@ -46,7 +46,7 @@ fn is_printable(line: &[u8]) -> bool
 
 /// What a line comes to that makes this event, or is refused.
 fn asks(event: Result<Event, Refusal>) -> Result<Reading, Refusal>
-    ensures read { IfOk result (BecomesOfWish event) }
+    ensures read { IfOk result (BecomesOfCommand event) }
     ensures memory { IfErr result (λ why. why ≡ Memory) }
 {
     match event {
@@ -77,10 +77,10 @@ fn read_later(alloc: Global, mode: Mode, text: &[u8]) -> Result<Reading, Refusal
     if user == b"users".as_slice() {
         return Ok(Reading::Refuses(Refusal::BadLine));
     }
-    let Some(wish) = wish_in(alloc, mode, behind)? else {
+    let Some(command) = command_in(alloc, mode, behind)? else {
         return Ok(Reading::Refuses(Refusal::BadLine));
     };
-    asks(read_event(alloc, user, &wish))
+    asks(read_event(alloc, user, &command))
 }
 
 /// Reads the names of a line of users.

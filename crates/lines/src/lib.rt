@@ -13,7 +13,7 @@ mod numbers;
 mod pieces;
 mod texts;
 mod told;
-mod wishes;
+mod commands;
 mod words;
 
 pub use cutting::cut;

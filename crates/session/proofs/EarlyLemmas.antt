@@ -13,7 +13,7 @@ use Rattle.session.specs.Heads.{Idle}
 
 -- a form of a line that asks nobody
 abbrev IsQuiet : Form → Type 0
-IsQuiet (form.Asks user wish) = ⊥
+IsQuiet (form.Asks user command) = ⊥
 IsQuiet form.Waits = ⊥
 IsQuiet form = Unit {0}
 
@@ -46,10 +46,10 @@ quiet_row : (goals : List Job) (f : Form) (row : Row) → IsQuiet f → Gets goa
 quiet_row goals f Silent q g = tt
 quiet_row goals f (Names users) q g = tt
 quiet_row goals f (Refuses why) q g = tt
-quiet_row goals (form.Asks user wish) (Asks event reply) q g = absurd q
+quiet_row goals (form.Asks user command) (Asks event reply) q g = absurd q
 quiet_row goals form.Waits (Asks event reply) q g = absurd q
 quiet_row goals f (Asks event reply) q g = absurd g
-quiet_row goals (form.Asks user wish) (Waits awaited reply) q g = absurd q
+quiet_row goals (form.Asks user command) (Waits awaited reply) q g = absurd q
 quiet_row goals form.Waits (Waits awaited reply) q g = absurd q
 quiet_row goals f (Waits awaited reply) q g = absurd g
 

@@ -1,7 +1,7 @@
 use Rattle.std.proofs.Common.{◌≡◌, ◌∙◌, ◌<◌, ◌≤◌, ℕ, List, [], ◌∷◌, get_or, length, ap, subst, arith, MatchResult}
-use Rattle.model.specs.Forms.{Wish}
-use Rattle.lines.specs.Reading.{wish_of, IsRequestOfWish, IsNoRequest}
-use Rattle.lines.proofs.wishes.request_of.Goals as goal
+use Rattle.model.specs.Forms.{Command}
+use Rattle.lines.specs.Reading.{command_of, IsRequestOfCommand, IsNoRequest}
+use Rattle.lines.proofs.commands.request_of.Goals as goal
 
 -- a list of one item is that item
 one_item : (xs items : List (List ℕ)) (x y : List ℕ) → 1 ≤ length xs → length xs < 2 → x ≡ get_or xs 0 x → y ≡ x → xs ≡ items → y ∷ [] ≡ items
@@ -20,15 +20,15 @@ two_items (a ∷ b ∷ d ∷ xs) items x y v w least below here next one two all
 
 pub returns-in-len1 : goal.returns-in-len1
 returns-in-len1 c =
-    let words = one_item c.as_slice.result.now c.wish.inside.words.items c.word-item.result c.bytes.result.now
+    let words = one_item c.as_slice.result.now c.command.inside.words.items c.word-item.result c.bytes.result.now
     c.in-len1.len_at_least c.in-len1.len_below c.word-item.is c.bytes.ensures c.as_slice.ensures.value in
-    subst (λ (w : Wish). MatchResult c.request_of_one.result (IsRequestOfWish w) (IsNoRequest w)) (ap (wish_of c.wish.inside.verb) words ∙ c.wish.view_is)
+    subst (λ (w : Command). MatchResult c.request_of_one.result (IsRequestOfCommand w) (IsNoRequest w)) (ap (command_of c.command.inside.verb) words ∙ c.command.view_is)
     c.request_of_one.ensures
 
 pub returns-in-len2 : goal.returns-in-len2
 returns-in-len2 c =
-    let words = two_items c.as_slice.result.now c.wish.inside.words.items c.first-item.result c.second-item.result c.bytes-in-len2.result.now
+    let words = two_items c.as_slice.result.now c.command.inside.words.items c.first-item.result c.second-item.result c.bytes-in-len2.result.now
     c.bytes-in-len2-2.result.now c.in-len2.len_at_least c.in-len2.len_below c.first-item.is c.second-item.is c.bytes-in-len2.ensures c.bytes-in-len2-2.ensures
     c.as_slice.ensures.value in
-    subst (λ (w : Wish). MatchResult c.request_of_two.result (IsRequestOfWish w) (IsNoRequest w)) (ap (wish_of c.wish.inside.verb) words ∙ c.wish.view_is)
+    subst (λ (w : Command). MatchResult c.request_of_two.result (IsRequestOfCommand w) (IsNoRequest w)) (ap (command_of c.command.inside.verb) words ∙ c.command.view_is)
     c.request_of_two.ensures

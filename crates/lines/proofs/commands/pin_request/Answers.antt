@@ -1,8 +1,8 @@
 use Rattle.std.proofs.Common.{◌∷◌, [], Err, ap, refl}
 use Rattle.std.proofs.lemmas.Result.{err_from_is_err_and}
 use Rattle.model.specs.declared.verb.WordKind.TheVariants as kind
-use Rattle.lines.proofs.WishLemmas.{path_ill, first_ill, later_ill}
-use Rattle.lines.proofs.wishes.pin_request.Goals as goal
+use Rattle.lines.proofs.CommandLemmas.{path_ill, first_ill, later_ill}
+use Rattle.lines.proofs.commands.pin_request.Goals as goal
 
 pub returns-in_err-class : goal.returns-in_err-class
 returns-in_err-class c =

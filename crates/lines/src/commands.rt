@@ -5,8 +5,8 @@ ghost use Rattle.model.specs.declared.refusal.Refusal.TheVariants.{Memory};
 ghost use Rattle.model.specs.declared.verb.Verb.TheVariants as verbs;
 ghost use Rattle.model.specs.declared.verb.WordKind.TheVariants as kinds;
 ghost use Rattle.model.specs.Verbs.{kinds_of, verb_in};
-ghost use Rattle.model.specs.Forms.{is_text, words_by, wish_in};
-ghost use Rattle.lines.specs.Reading.{wish_of, IsRequestOfWish, IsNoRequest, IsEventOfWish, IsNoEvent};
+ghost use Rattle.model.specs.Forms.{is_text, words_by, command_in};
+ghost use Rattle.lines.specs.Reading.{command_of, IsRequestOfCommand, IsNoRequest, IsEventOfCommand, IsNoEvent};
 
 use crate::cutting::{Word, cut, first_words, has_empty_word, one_word};
 use crate::words::{read_exit_status, read_number, read_output, read_text, read_tree, read_user};
@@ -17,27 +17,27 @@ use std::marker::Model;
 use storepath::{Name, read_path};
 
 /// A verb with its words, as many as it has kinds of them.
-pub(crate) struct Wish<'a> {
+pub(crate) struct Command<'a> {
     verb: Verb,
     words: Vec<Word<'a>>,
 }
 
-impl Drop for Wish<'_> {
+impl Drop for Command<'_> {
     fn drop(self) {
-        let Wish { verb: _, words: _ } = self;
+        let Command { verb: _, words: _ } = self;
     }
 }
 
-impl<'a> Model for Wish<'a> {
+impl<'a> Model for Command<'a> {
     ghost use Rattle.std.specs.Prelude.{◌≡◌, length};
     ghost use Rattle.model.specs.Verbs.{kinds_of};
-    ghost use Rattle.model.specs.Forms.{Wish as WishValue};
+    ghost use Rattle.model.specs.Forms.{Command as CommandValue};
 
-    ghost Value = { WishValue };
+    ghost Value = { CommandValue };
 
-    ghost view = { λ wish. record { verb = wish.verb; words = wish.words.items } };
+    ghost view = { λ command. record { verb = command.verb; words = command.words.items } };
 
-    ghost invariant = { λ wish. length wish.words.items ≡ length (kinds_of wish.verb) };
+    ghost invariant = { λ command. length command.words.items ≡ length (kinds_of command.verb) };
 }
 
 /// Whether all that is left of the line is one word.
@@ -77,13 +77,13 @@ fn verb_in(mode: Mode, word: &[u8]) -> Option<Verb>
     if mode.knows(verb) { Some(verb) } else { None }
 }
 
-/// What stands behind a user's name as a wish, in lines of the mode.
-pub(crate) fn wish_in(
+/// What stands behind a user's name as a command, in lines of the mode.
+pub(crate) fn command_in(
     alloc: Global,
     mode: Mode,
     text: &[u8],
-) -> Result<Option<Wish<'_>>, AllocError>
-    ensures { IfOk result (λ wish. wish ≡ wish_in mode text.now) }
+) -> Result<Option<Command<'_>>, AllocError>
+    ensures { IfOk result (λ command. command ≡ command_in mode text.now) }
 {
     let Some((word, rest)) = cut(b' ', text) else {
         return Ok(None);
@@ -94,14 +94,14 @@ pub(crate) fn wish_in(
     let Some(words) = words_by(alloc, verb.kinds(), rest)? else {
         return Ok(None);
     };
-    Ok(Some(Wish { verb, words }))
+    Ok(Some(Command { verb, words }))
 }
 
 /// The request of a verb with one word, which is a path.
 fn request_of_path(alloc: Global, verb: Verb, word: &[u8]) -> Result<Request, Refusal>
     requires { kinds_of verb ≡ kinds.Path ∷ [] }
-    ensures { let wish = wish_of verb (word.now ∷ []) in
-        MatchResult result (IsRequestOfWish wish) (IsNoRequest wish) }
+    ensures { let command = command_of verb (word.now ∷ []) in
+        MatchResult result (IsRequestOfCommand command) (IsNoRequest command) }
 {
     let path = read_path(alloc, word)?;
     match verb {
@@ -117,8 +117,8 @@ fn request_of_path(alloc: Global, verb: Verb, word: &[u8]) -> Result<Request, Re
 /// The request of a verb with one word, which is the number of a goal.
 fn request_of_number(verb: Verb, word: &[u8]) -> Result<Request, Refusal>
     requires { kinds_of verb ≡ kinds.Number ∷ [] }
-    ensures { let wish = wish_of verb (word.now ∷ []) in
-        MatchResult result (IsRequestOfWish wish) (IsNoRequest wish) }
+    ensures { let command = command_of verb (word.now ∷ []) in
+        MatchResult result (IsRequestOfCommand command) (IsNoRequest command) }
 {
     let number = read_number(word)?;
     match verb {
@@ -132,8 +132,8 @@ fn request_of_number(verb: Verb, word: &[u8]) -> Result<Request, Refusal>
 /// The request of a verb with one word.
 fn request_of_one(alloc: Global, verb: Verb, word: &[u8]) -> Result<Request, Refusal>
     requires { length (kinds_of verb) ≡ 1 }
-    ensures { let wish = wish_of verb (word.now ∷ []) in
-        MatchResult result (IsRequestOfWish wish) (IsNoRequest wish) }
+    ensures { let command = command_of verb (word.now ∷ []) in
+        MatchResult result (IsRequestOfCommand command) (IsNoRequest command) }
 {
     match verb {
         Verb::Derivation => Ok(Request::AddDerivation(read_text(alloc, word)?)),
@@ -146,8 +146,8 @@ fn request_of_one(alloc: Global, verb: Verb, word: &[u8]) -> Result<Request, Ref
 
 /// The request of the verb `source`.
 fn source_request(alloc: Global, first: &[u8], second: &[u8]) -> Result<Request, Refusal>
-    ensures { let wish = wish_of verbs.Source (first.now ∷ second.now ∷ []) in
-        MatchResult result (IsRequestOfWish wish) (IsNoRequest wish) }
+    ensures { let command = command_of verbs.Source (first.now ∷ second.now ∷ []) in
+        MatchResult result (IsRequestOfCommand command) (IsNoRequest command) }
 {
     let name = Name::new(alloc, first)?;
     Ok(Request::AddSource(name, read_tree(alloc, second)?))
@@ -155,8 +155,8 @@ fn source_request(alloc: Global, first: &[u8], second: &[u8]) -> Result<Request,
 
 /// The request of the verb `offer`.
 fn offer_request(alloc: Global, first: &[u8], second: &[u8]) -> Result<Request, Refusal>
-    ensures { let wish = wish_of verbs.Offer (first.now ∷ second.now ∷ []) in
-        MatchResult result (IsRequestOfWish wish) (IsNoRequest wish) }
+    ensures { let command = command_of verbs.Offer (first.now ∷ second.now ∷ []) in
+        MatchResult result (IsRequestOfCommand command) (IsNoRequest command) }
 {
     let path = read_path(alloc, first)?;
     Ok(Request::Offer(path, read_tree(alloc, second)?))
@@ -164,8 +164,8 @@ fn offer_request(alloc: Global, first: &[u8], second: &[u8]) -> Result<Request, 
 
 /// The request of the verb `pin`.
 fn pin_request(alloc: Global, first: &[u8], second: &[u8]) -> Result<Request, Refusal>
-    ensures { let wish = wish_of verbs.Pin (first.now ∷ second.now ∷ []) in
-        MatchResult result (IsRequestOfWish wish) (IsNoRequest wish) }
+    ensures { let command = command_of verbs.Pin (first.now ∷ second.now ∷ []) in
+        MatchResult result (IsRequestOfCommand command) (IsNoRequest command) }
 {
     let class = read_path(alloc, first)?;
     Ok(Request::Pin(class, read_path(alloc, second)?))
@@ -173,8 +173,8 @@ fn pin_request(alloc: Global, first: &[u8], second: &[u8]) -> Result<Request, Re
 
 /// The request of the verb `forget`.
 fn forget_request(alloc: Global, first: &[u8], second: &[u8]) -> Result<Request, Refusal>
-    ensures { let wish = wish_of verbs.Forget (first.now ∷ second.now ∷ []) in
-        MatchResult result (IsRequestOfWish wish) (IsNoRequest wish) }
+    ensures { let command = command_of verbs.Forget (first.now ∷ second.now ∷ []) in
+        MatchResult result (IsRequestOfCommand command) (IsNoRequest command) }
 {
     let class = read_path(alloc, first)?;
     Ok(Request::Forget(class, read_path(alloc, second)?))
@@ -182,8 +182,8 @@ fn forget_request(alloc: Global, first: &[u8], second: &[u8]) -> Result<Request,
 
 /// The request of the verb `finish`.
 fn finish_request(alloc: Global, first: &[u8], second: &[u8]) -> Result<Request, Refusal>
-    ensures { let wish = wish_of verbs.Finish (first.now ∷ second.now ∷ []) in
-        MatchResult result (IsRequestOfWish wish) (IsNoRequest wish) }
+    ensures { let command = command_of verbs.Finish (first.now ∷ second.now ∷ []) in
+        MatchResult result (IsRequestOfCommand command) (IsNoRequest command) }
 {
     let number = read_number(first)?;
     Ok(Request::Finish(number, read_output(alloc, second)?))
@@ -197,8 +197,8 @@ fn request_of_two(
     second: &[u8],
 ) -> Result<Request, Refusal>
     requires { length (kinds_of verb) ≡ 2 }
-    ensures { let wish = wish_of verb (first.now ∷ second.now ∷ []) in
-        MatchResult result (IsRequestOfWish wish) (IsNoRequest wish) }
+    ensures { let command = command_of verb (first.now ∷ second.now ∷ []) in
+        MatchResult result (IsRequestOfCommand command) (IsNoRequest command) }
 {
     match verb {
         Verb::Source => source_request(alloc, first, second),
@@ -211,22 +211,22 @@ fn request_of_two(
     }
 }
 
-/// The request of a wish.
-fn request_of(alloc: Global, wish: &Wish<'_>) -> Result<Request, Refusal>
-    ensures { MatchResult result (IsRequestOfWish wish.now) (IsNoRequest wish.now) }
+/// The request of a command.
+fn request_of(alloc: Global, command: &Command<'_>) -> Result<Request, Refusal>
+    ensures { MatchResult result (IsRequestOfCommand command.now) (IsNoRequest command.now) }
 {
-    match wish.words.as_slice() {
-        [word] => request_of_one(alloc, wish.verb, word.bytes()),
-        [first, second] => request_of_two(alloc, wish.verb, first.bytes(), second.bytes()),
+    match command.words.as_slice() {
+        [word] => request_of_one(alloc, command.verb, word.bytes()),
+        [first, second] => request_of_two(alloc, command.verb, first.bytes(), second.bytes()),
         _ => Err(Refusal::BadLine),
     }
 }
 
-/// The event of a user's wish.
-pub(crate) fn read_event(alloc: Global, user: &[u8], wish: &Wish<'_>) -> Result<Event, Refusal>
-    ensures { MatchResult result (IsEventOfWish user.now wish.now) (IsNoEvent user.now wish.now) }
+/// The event of a user's command.
+pub(crate) fn read_event(alloc: Global, user: &[u8], command: &Command<'_>) -> Result<Event, Refusal>
+    ensures { MatchResult result (IsEventOfCommand user.now command.now) (IsNoEvent user.now command.now) }
 {
     let actor = read_user(alloc, user)?;
-    let request = request_of(alloc, wish)?;
+    let request = request_of(alloc, command)?;
     Ok(Event { actor, request })
 }

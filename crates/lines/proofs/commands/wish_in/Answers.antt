@@ -1,5 +1,5 @@
 use Rattle.lines.proofs.WordLemmas.{words_by-length}
-use Rattle.lines.proofs.wishes.wish_in.Goals as goal
+use Rattle.lines.proofs.commands.command_in.Goals as goal
 
 pub invariant_of-result : goal.invariant_of-result
 invariant_of-result c =

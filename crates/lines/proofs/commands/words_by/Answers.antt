@@ -1,7 +1,7 @@
 use Rattle.std.proofs.Common.{sym, ◌∙◌}
 use Rattle.std.proofs.lemmas.Result.{err_from_is_err_and}
-use Rattle.lines.proofs.WishLemmas.{by_text, by_empty, by_many, by_other}
-use Rattle.lines.proofs.wishes.words_by.Goals as goal
+use Rattle.lines.proofs.CommandLemmas.{by_text, by_empty, by_many, by_other}
+use Rattle.lines.proofs.commands.words_by.Goals as goal
 
 pub returns-then-is_text : goal.returns-then-is_text
 returns-then-is_text c =
