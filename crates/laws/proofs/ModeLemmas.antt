@@ -6,7 +6,7 @@ use Rattle.model.specs.declared.mode.Mode.TheVariants.{Service}
 use Rattle.model.specs.declared.refusal.Refusal.TheVariants.{BadUsers, BadLine, TooLarge}
 use Rattle.model.specs.Worlds.{Job, are_users}
 use Rattle.model.specs.Events.{Reply}
-use Rattle.model.specs.Lines.{Told, split, cut_at, filled}
+use Rattle.model.specs.Lines.{LineResult, split, cut_at, filled}
 use Rattle.model.specs.Forms.{Form, Command, names_form, users_form, first_form, command_in, command_form, later_form, text_form, line_form, is_empty_word, is_quiet, is_printable, longest_line}
 use Rattle.model.specs.Forms as form
 use Rattle.model.specs.Talk.{Row, Silent, Names, Refuses, Asks, Waits, Seen, after, form_of, Gets, GetsNext, Talks, awaited_in}
@@ -42,7 +42,7 @@ no_wait-text begun (Some text) =
     either_form begun (later_form Service text (cut_at 32 text)) (first_form words) (no_wait-later text (cut_at 32 text))
     (either_form (list_any is_empty_word words) (form.Refuses BadLine) (users_form words) tt (no_wait-users words))
 
-no_wait-line : (begun : Bool) (told : List Told) (line : List ℕ) → IsNoWait (line_form Service begun told line)
+no_wait-line : (begun : Bool) (told : List LineResult) (line : List ℕ) → IsNoWait (line_form Service begun told line)
 no_wait-line begun told line =
     let text : Form = text_form Service begun (filled told line) in
     let printable : Form = if not (list_all is_printable line) then form.Refuses BadLine else text in

@@ -4,7 +4,7 @@ use Rattle.std.proofs.lemmas.List.{append-nil}
 use Rattle.std.specs.List.{list_all}
 use Rattle.model.specs.declared.mode.Mode.{Mode}
 use Rattle.model.specs.Forms.{longest_line, is_quiet, is_printable, line_form, text_form}
-use Rattle.model.specs.Lines.{Told, cut_at, split, joined, piece_text, pieces_text, text_from_pieces, filled}
+use Rattle.model.specs.Lines.{LineResult, cut_at, split, joined, piece_text, pieces_text, text_from_pieces, filled}
 use Rattle.lines.proofs.CutLemmas.{split-one, split-more}
 
 joined-joined : (a b c : Option (List ℕ)) → joined a (joined b c) ≡ joined (joined a b) c
@@ -17,29 +17,29 @@ joined-nil : (a : Option (List ℕ)) → joined a (Some []) ≡ a
 joined-nil None = refl
 joined-nil (Some x) = ap Some (append-nil x)
 
-pub fill-plain : (told : List Told) (line : List ℕ) → cut_at 123 line ≡ None → filled told line ≡ Some line
+pub fill-plain : (told : List LineResult) (line : List ℕ) → cut_at 123 line ≡ None → filled told line ≡ Some line
 fill-plain told line e = ap (text_from_pieces told) (split-one 123 line e) ∙ ap Some (append-nil line)
 
-pub fill-start : (told : List Told) (line first rest : List ℕ) → cut_at 123 line ≡ Some (first, rest)
+pub fill-start : (told : List LineResult) (line first rest : List ℕ) → cut_at 123 line ≡ Some (first, rest)
     → joined (Some first) (pieces_text told (split 123 rest)) ≡ filled told line
 fill-start told line first rest e = sym (ap (text_from_pieces told) (split-more 123 line first rest e))
 
-fill-more : (told : List Told) (old rest piece others : List ℕ) → cut_at 123 rest ≡ Some (piece, others)
+fill-more : (told : List LineResult) (old rest piece others : List ℕ) → cut_at 123 rest ≡ Some (piece, others)
     → joined (Some old) (pieces_text told (split 123 rest)) ≡ joined (joined (Some old) (piece_text told piece)) (pieces_text told (split 123 others))
 fill-more told old rest piece others e =
     ap (λ ps. joined (Some old) (pieces_text told ps)) (split-more 123 rest piece others e)
     ∙ joined-joined (Some old) (piece_text told piece) (pieces_text told (split 123 others))
 
-pub fill-step : (told : List Told) (old new rest piece others : List ℕ) → cut_at 123 rest ≡ Some (piece, others)
+pub fill-step : (told : List LineResult) (old new rest piece others : List ℕ) → cut_at 123 rest ≡ Some (piece, others)
     → Some new ≡ joined (Some old) (piece_text told piece)
     → joined (Some new) (pieces_text told (split 123 others)) ≡ joined (Some old) (pieces_text told (split 123 rest))
 fill-step told old new rest piece others e f = ap (λ a. joined a (pieces_text told (split 123 others))) f ∙ sym (fill-more told old rest piece others e)
 
-pub fill-stop : (told : List Told) (old rest piece others : List ℕ) → cut_at 123 rest ≡ Some (piece, others) → None ≡ joined (Some old) (piece_text told piece)
+pub fill-stop : (told : List LineResult) (old rest piece others : List ℕ) → cut_at 123 rest ≡ Some (piece, others) → None ≡ joined (Some old) (piece_text told piece)
     → None ≡ joined (Some old) (pieces_text told (split 123 rest))
 fill-stop told old rest piece others e f = ap (λ a. joined a (pieces_text told (split 123 others))) f ∙ sym (fill-more told old rest piece others e)
 
-pub fill-last : (told : List Told) (old rest : List ℕ) → cut_at 123 rest ≡ None
+pub fill-last : (told : List LineResult) (old rest : List ℕ) → cut_at 123 rest ≡ None
     → joined (Some old) (piece_text told rest) ≡ joined (Some old) (pieces_text told (split 123 rest))
 fill-last told old rest e =
     sym (ap (λ ps. joined (Some old) (pieces_text told ps)) (split-one 123 rest e) ∙ ap (joined (Some old)) (joined-nil (piece_text told rest)))
@@ -54,6 +54,6 @@ ltb-false : (m n : ℕ) → n ≤ m → ltb m n ≡ false
 ltb-false m n h = grind arith
 
 -- a line of printable bytes, and neither too long nor quiet, is its text
-pub line_form-text : (mode : Mode) (begun : Bool) (told : List Told) (line : List ℕ) (text : Option (List ℕ)) → length line ≤ longest_line → is_quiet line ≡ false
+pub line_form-text : (mode : Mode) (begun : Bool) (told : List LineResult) (line : List ℕ) (text : Option (List ℕ)) → length line ≤ longest_line → is_quiet line ≡ false
     → list_all is_printable line ≡ true → filled told line ≡ text → line_form mode begun told line ≡ text_form mode begun text
 line_form-text mode begun told line text h q p e = rw (ltb-false longest_line (length line) h, q, p, e) refl

@@ -5,7 +5,7 @@ ghost use Rattle.model.specs.Lines.{named_line, is_letter, expansion_in, nothing
 
 use crate::cutting::cut;
 use crate::numbers::numeral_up_to;
-use crate::told::Told;
+use crate::told::LineResult;
 use std::alloc::{AllocError, Global};
 use std::marker::Model;
 use storepath::StorePath;
@@ -71,7 +71,7 @@ fn expansion_in(count: usize, text: &[u8]) -> Option<Expansion<'_>>
 }
 
 /// The path that an expansion is of, where the reply to its line has one.
-fn named_path<'a>(told: &'a [Told], expansion: &Expansion<'_>) -> Option<&'a StorePath>
+fn named_path<'a>(told: &'a [LineResult], expansion: &Expansion<'_>) -> Option<&'a StorePath>
     ensures { let told = slice_index_or told.now expansion.now.line nothing_told in
         let named = told_by expansion.now.letter told in
         MatchOption result (named ≡ None) (λ path. named ≡ Some path.now) }
@@ -104,7 +104,7 @@ fn add_part(
 fn add_piece(
     alloc: Global,
     text: &mut Vec<u8>,
-    told: &[Told],
+    told: &[LineResult],
     piece: &[u8],
 ) -> Result<bool, AllocError>
     ensures { IfOk result (λ whole. (if whole then Some text.new.items else None)
@@ -124,7 +124,7 @@ fn add_piece(
 }
 
 /// A line with its expansions made, or nothing where one names what its reply has not.
-pub(crate) fn fill(alloc: Global, told: &[Told], line: &[u8]) -> Result<Option<Vec<u8>>, AllocError>
+pub(crate) fn fill(alloc: Global, told: &[LineResult], line: &[u8]) -> Result<Option<Vec<u8>>, AllocError>
     ensures { IfOk result (λ text. option_map (λ t. t.items) text ≡ filled told.now line.now) }
 {
     let Some((first, pieces)) = cut(b'{', line) else {

@@ -10,7 +10,7 @@ ghost use Rattle.lines.specs.Reading.{Becomes, BecomesOfCommand};
 use crate::cutting::{Word, cut, first_words, has_empty_word};
 use crate::expand::fill;
 use crate::line::Reading;
-use crate::told::Told;
+use crate::told::LineResult;
 use crate::commands::{read_event, command_in};
 use crate::words::read_users;
 use events::Event;
@@ -145,7 +145,7 @@ pub fn read_line(
     alloc: Global,
     mode: Mode,
     begun: bool,
-    told: &[Told],
+    told: &[LineResult],
     line: &[u8],
 ) -> Result<Reading, Refusal>
     ensures read { IfOk result (Becomes (line_form mode begun told.now line.now)) }

@@ -20,4 +20,4 @@ pub use cutting::cut;
 pub use forms::{LONGEST_LINE, read_line};
 pub use line::Reading;
 pub use texts::answer_text;
-pub use told::{Told, told_in};
+pub use told::{LineResult, told_in};

@@ -5,7 +5,7 @@ use Rattle.std.specs.List.{list_any, list_all}
 use Rattle.model.specs.declared.mode.Mode.{Mode}
 use Rattle.model.specs.declared.refusal.Refusal.TheVariants.{BadLine, BadUsers, TooLarge}
 use Rattle.model.specs.Worlds.{Job, are_users}
-use Rattle.model.specs.Lines.{Told, split, filled}
+use Rattle.model.specs.Lines.{LineResult, split, filled}
 use Rattle.model.specs.Forms.{Form, names_form, users_form, text_form, line_form, is_empty_word, is_quiet, is_printable, longest_line}
 use Rattle.model.specs.Forms as form
 use Rattle.model.specs.Talk.{Row, Silent, Names, Refuses, Asks, Waits, Seen, form_of, Gets, GetsNext}
@@ -33,7 +33,7 @@ quiet_text mode None = tt
 quiet_text mode (Some text) =
     quiet_if (list_any is_empty_word (split 32 text)) (form.Refuses BadLine) (users_form (split 32 text)) tt (quiet_users (split 32 text))
 
-quiet_line : (mode : Mode) (told : List Told) (line : List ℕ) → IsQuiet (line_form mode false told line)
+quiet_line : (mode : Mode) (told : List LineResult) (line : List ℕ) → IsQuiet (line_form mode false told line)
 quiet_line mode told line =
     let text : Form = text_form mode false (filled told line) in
     let printable : Form = if not (list_all is_printable line) then form.Refuses BadLine else text in

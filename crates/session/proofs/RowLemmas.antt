@@ -4,7 +4,7 @@ use Rattle.std.proofs.Common.{Result, Ok, Err, false}
 use Rattle.std.specs.Result.{OnOk, IfErr, IsErrAnd}
 use Rattle.std.proofs.lemmas.List.{append-nil}
 use Rattle.std.specs.Io.KnownBytes.{Appends, Consumes, Keeps, prepend_known}
-use Rattle.model.specs.Lines.{Told}
+use Rattle.model.specs.Lines.{LineResult}
 use Rattle.model.specs.Talk.{Row, Silent, Names, Refuses, Asks, Waits, Seen, GetsNext, after, after_all, Talks, text_from, row_text}
 use Rattle.session.specs.Serving.{Chain}
 pub use Rattle.nar.proofs.WritingLemmas.{appends-none, appends-more, take-seam, on_err}
@@ -26,11 +26,11 @@ chain-more L a [] b row c h l = (c, subst (λ x. L x row c) h l, refl)
 chain-more L a (r ∷ rows) b row c h l = (h.0, h.1, chain-more L h.0 rows b row c h.2 l)
 
 length-after : (seen : Seen) (row : Row) → length (after seen row).told ≡ length seen.told + 1
-length-after seen Silent = omega (arith, length-append {A = Told})
-length-after seen (Names users) = omega (arith, length-append {A = Told})
-length-after seen (Refuses why) = omega (arith, length-append {A = Told})
-length-after seen (Asks event reply) = omega (arith, length-append {A = Told})
-length-after seen (Waits goals reply) = omega (arith, length-append {A = Told})
+length-after seen Silent = omega (arith, length-append {A = LineResult})
+length-after seen (Names users) = omega (arith, length-append {A = LineResult})
+length-after seen (Refuses why) = omega (arith, length-append {A = LineResult})
+length-after seen (Asks event reply) = omega (arith, length-append {A = LineResult})
+length-after seen (Waits goals reply) = omega (arith, length-append {A = LineResult})
 
 pub length-after_all : (seen : Seen) (rows : List Row) → length (after_all seen rows).told ≡ length seen.told + length rows
 length-after_all seen [] = omega arith

@@ -5,7 +5,7 @@ use Rattle.model.specs.declared.mode.Mode.{Mode}
 use Rattle.model.specs.declared.refusal.Refusal.{Refusal}
 use Rattle.model.specs.Events as events
 use Rattle.model.specs.Worlds.{Job}
-use Rattle.model.specs.Lines.{Told, nothing_told}
+use Rattle.model.specs.Lines.{LineResult, nothing_told}
 use Rattle.model.specs.Forms.{Form}
 use Rattle.model.specs.Replies.{ends_wait}
 use Rattle.model.specs.Talk.{Row, Names, Refuses, Asks, Waits, Seen, form_of, Gets, GetsNext, answer_text, told_in, goal_by, with_goal, is_bad_users}
@@ -16,7 +16,7 @@ use Rattle.lines.specs.declared.line.Reading.TheVariants as reading
 use Rattle.lines.specs.Reading.{IsRowOf, Becomes}
 use Rattle.session.specs.Serving.{Link, Gives, GivesRow, StopsAt}
 
-abbrev pub seen_by : Mode → Bool → Bool → List Told → List Job → Seen
+abbrev pub seen_by : Mode → Bool → Bool → List LineResult → List Job → Seen
 seen_by mode begun refused told goals = record { mode = mode; begun = begun; refused = refused; told = told; goals = goals }
 
 -- what a line may be, where its row is that of what it comes to
@@ -28,7 +28,7 @@ row-gets goals form (reading.Asks event) row b e = rw e.1 (b goals e.0)
 row-gets goals form reading.Waits row b e = rw e.2 (b goals e.0 e.1)
 
 -- a row with neither an event nor a wait
-module _ (mode : Mode) (begun refused : Bool) (told told' : List Told) (goals : List Job) (n : ℕ) (one : Told) (e₁ : told' ≡ told ++ one ∷ [])
+module _ (mode : Mode) (begun refused : Bool) (told told' : List LineResult) (goals : List Job) (n : ℕ) (one : LineResult) (e₁ : told' ≡ told ++ one ∷ [])
     (e₂ : one ≡ nothing_told) (e₃ : n ≡ length told + 1) where
   pub row-named : (result : Result (Vec ℕ) Refusal) → IfOk result (λ text. text.items ≡ answer_text n (codes "-") events.Done)
       → IfOk result (λ text. (users : List (List ℕ))
@@ -51,8 +51,8 @@ module _ (mode : Mode) (begun refused : Bool) (told told' : List Told) (goals : 
 
 module _ {A : Type 0} (R : A → events.Event → events.Reply → A → Type 0) (W : A → List Job → events.Reply → A → Type 0) where
   -- the row of an event
-  pub gives-asked : (mode : Mode) (begun refused : Bool) (told told' : List Told) (goals goals' : List Job) (text : List ℕ) (n : ℕ) (event : Event)
-      (reply : events.Reply) (one : Told) (goal : Option Job) (now next : A)
+  pub gives-asked : (mode : Mode) (begun refused : Bool) (told told' : List LineResult) (goals goals' : List Job) (text : List ℕ) (n : ℕ) (event : Event)
+      (reply : events.Reply) (one : LineResult) (goal : Option Job) (now next : A)
       → told' ≡ told ++ one ∷ [] → one ≡ told_in reply → goals' ≡ with_goal goals goal → goal ≡ goal_by event.actor reply → n ≡ length told + 1
       → text ≡ answer_text n event.actor reply → R now (event_of event) reply next
       → Gives (IsRowOf goals (reading.Asks event)) (Link R W) (seen_by mode begun refused told goals) (seen_by mode begun refused told' goals') now next text
@@ -66,8 +66,8 @@ module _ {A : Type 0} (R : A → events.Event → events.Reply → A → Type 0)
   )
 
   -- the row of a wait
-  pub gives-waited : (mode : Mode) (begun refused : Bool) (told told' : List Told) (goals shown : List Job) (text : List ℕ) (n : ℕ)
-      (reply : events.Reply) (one : Told) (now next : A)
+  pub gives-waited : (mode : Mode) (begun refused : Bool) (told told' : List LineResult) (goals shown : List Job) (text : List ℕ) (n : ℕ)
+      (reply : events.Reply) (one : LineResult) (now next : A)
       → told' ≡ told ++ one ∷ [] → one ≡ nothing_told → shown ≡ goals → n ≡ length told + 1 → ends_wait reply ≡ true
       → text ≡ answer_text n (codes "-") reply → W now shown reply next
       → Gives (IsRowOf goals reading.Waits) (Link R W) (seen_by mode begun refused told goals) (seen_by mode begun refused told' goals) now next text

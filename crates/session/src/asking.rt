@@ -10,7 +10,7 @@ ghost use Rattle.session.specs.Answered.{IsAnswered};
 
 use crate::answer::Answer;
 use events::{Event, Job, Reply};
-use lines::{Told, answer_text, told_in};
+use lines::{LineResult, answer_text, told_in};
 use model::Refusal;
 use std::alloc::Global;
 use trust::User;
@@ -19,7 +19,7 @@ use trust::User;
 #[derive(Drop)]
 pub struct Answered {
     /// What it tells.
-    pub told: Told,
+    pub told: LineResult,
     /// The goal that it gives the actor, if it does, named as the job that it would lead.
     pub goal: Option<Job>,
     /// What is printed for it.

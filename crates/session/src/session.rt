@@ -10,7 +10,7 @@ ghost use Rattle.session.specs.Serving.{Link, Gives, GivesRow, StopsAt};
 use crate::answer::Answer;
 use crate::asking::{ask, wait};
 use events::{Event, Job, Reply};
-use lines::{Reading, Told, answer_text, read_line};
+use lines::{Reading, LineResult, answer_text, read_line};
 use model::{Mode, Refusal};
 use std::alloc::{AllocError, Global};
 use std::marker::Model;
@@ -20,7 +20,7 @@ pub struct Session {
     mode: Mode,
     begun: bool,
     refused: bool,
-    told: Vec<Told>,
+    told: Vec<LineResult>,
     /// The goals that the lines got, each named as the job that it would lead.
     goals: Vec<Job>,
 }
@@ -123,7 +123,7 @@ impl Session {
         ensures ok { IfOk result (λ text. GivesRow Silent self.old self.new text.items) }
         ensures memory { IfErr result (λ why. why ≡ Memory) }
     {
-        self.told.push(Told::nothing())?;
+        self.told.push(LineResult::nothing())?;
         Ok(Vec::new(alloc))
     }
 
@@ -134,7 +134,7 @@ impl Session {
         ensures memory { IfErr result (λ why. why ≡ Memory) }
     {
         let number = self.told.len() + 1;
-        self.told.push(Told::nothing())?;
+        self.told.push(LineResult::nothing())?;
         self.begun = true;
         answer_text(alloc, number, b"-", &Reply::Done)
     }
@@ -145,7 +145,7 @@ impl Session {
         ensures memory { IfErr result (λ why. why ≡ Memory) }
     {
         let number = self.told.len() + 1;
-        self.told.push(Told::nothing())?;
+        self.told.push(LineResult::nothing())?;
         self.refused = is_bad_users(why) | self.refused;
         answer_text(alloc, number, b"-", &Reply::Refused(why))
     }
@@ -178,7 +178,7 @@ impl Session {
             (Link A.answers A.waited) answer.old answer.new) }
     {
         let text = wait(alloc, self.told.len() + 1, self.goals.as_slice(), answer)?;
-        self.told.push(Told::nothing())?;
+        self.told.push(LineResult::nothing())?;
         Ok(text)
     }
 

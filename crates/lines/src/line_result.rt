@@ -11,25 +11,25 @@ use storepath::StorePath;
 
 /// What the reply to a line tells that later lines may use: a path, and the path of a class.
 #[derive(Drop)]
-pub struct Told {
+pub struct LineResult {
     pub(crate) path: Option<StorePath>,
     pub(crate) class: Option<StorePath>,
 }
 
-impl Model for Told {
-    ghost use Rattle.model.specs.Lines.{Told as ToldValue};
+impl Model for LineResult {
+    ghost use Rattle.model.specs.Lines.{LineResult as LineResultValue};
 
-    ghost Value = { ToldValue };
+    ghost Value = { LineResultValue };
 
     ghost view = { λ told. record { path = told.path; class = told.class } };
 }
 
-impl Told {
+impl LineResult {
     /// What a line tells that has no reply, or one with no path.
-    pub fn nothing() -> Told
+    pub fn nothing() -> LineResult
         ensures { result ≡ nothing_told }
     {
-        Told {
+        LineResult {
             path: None,
             class: None,
         }
@@ -37,9 +37,9 @@ impl Told {
 }
 
 /// What a reply tells.
-pub fn told_in(reply: Reply) -> Told
+pub fn told_in(reply: Reply) -> LineResult
     ensures { result ≡ told_in (reply_of reply) }
 {
     let (path, class) = reply.into_paths();
-    Told { path, class }
+    LineResult { path, class }
 }
