@@ -18,15 +18,15 @@ ghost use Rattle.handling.specs.Sound.{IsSound, AreGoalsSound};
 ghost use Rattle.handling.specs.Supported.{AreSupported};
 ghost use Rattle.handling.specs.Parts.{goals_of, parts};
 ghost use Rattle.handling.specs.Viewing.{desk_at};
-ghost use Rattle.building.specs.Gaining.{last_state, state_at, with_gains, with_states, IsSettable};
-ghost use Rattle.endings.specs.Committing.{gains_at, states_for, AreToAdd, MayGain};
+ghost use Rattle.building.specs.DeskDeltas.{last_state, state_at, with_delta, with_states, IsSettable};
+ghost use Rattle.endings.specs.Committing.{delta_at, states_for, AreToAdd, MayGain};
 ghost use Rattle.endings.specs.Delivery.{AreAllBuiltOn, IsNotMade};
 ghost use Rattle.endings.specs.Finishing.{IsPrepared};
 ghost use Rattle.handling.specs.Handling.{IsHandledByAll};
 
 use crate::committing::{additions_of, gained_by_all, set_all};
 use crate::delivery::delivered_by_all;
-use building::Gains;
+use building::DeskDelta;
 use events::{CopiedReply, Reply};
 use jobs::{Job, Jobs, State, leads};
 use model::Refusal;
@@ -52,7 +52,7 @@ pub fn tree_in(alloc: Global, output: &[u8]) -> Result<Option<Tree>, Refusal>
 
 /// How far the goal of a number, which was this far, is once goals have got these states. The one error
 /// is memory.
-#[tactic(auto, unfolding(building::specs::Gaining::last_state))]
+#[tactic(auto, unfolding(building::specs::DeskDeltas::last_state))]
 fn state_then(state: &State, number: u16, states: &[(u16, State)]) -> Result<State, AllocError>
     ensures { IfOk result (λ then. state_of then
         ≡ last_state number (state_of state.now) (map state_at states.now)) }
@@ -69,7 +69,7 @@ fn state_then(state: &State, number: u16, states: &[(u16, State)]) -> Result<Sta
 /// What the end of a job with an output changes.
 #[derive(Drop)]
 pub(crate) struct Ending {
-    delivered: Vec<(Gains, Vec<(u16, State)>)>,
+    delivered: Vec<(DeskDelta, Vec<(u16, State)>)>,
     additions: Vec<Addition>,
     trees: Vec<(StorePath, Tree)>,
     told: State,
@@ -199,7 +199,7 @@ fn put_in_place(
     requires each { length ending.delivered.items ≡ length desks.old }
     requires additions { AreToAdd ending.delivered.items ending.additions.items }
     requires may { (place : ℕ) → place < length desks.old
-        → MayGain (desk_at desks.old place) (gains_at ending.delivered.items place) }
+        → MayGain (desk_at desks.old place) (delta_at ending.delivered.items place) }
     requires count { length ending.delivered.items ≡ length jobs.old.goals }
     requires settable { (place : ℕ) → place < length jobs.old.goals
         → All (IsSettable (goals_of jobs.old.goals place)) (states_for ending.delivered.items place) }
@@ -208,7 +208,7 @@ fn put_in_place(
     ensures table { OnOk result
         (table.new.sources ≡ table.old.sources ++ sources_of ending.trees.items) }
     ensures gained { OnOk result ((place : ℕ) → place < length desks.old → desk_at desks.new place
-        ≡ with_gains (gains_at ending.delivered.items place) (desk_at desks.old place)) }
+        ≡ with_delta (delta_at ending.delivered.items place) (desk_at desks.old place)) }
     ensures states { OnOk result ((place : ℕ) → place < length jobs.old.goals
         → goals_of jobs.new.goals place
         ≡ with_states (states_for ending.delivered.items place) (goals_of jobs.old.goals place)) }

@@ -6,7 +6,7 @@ use Rattle.model.specs.Worlds.{Goal, State}
 use Rattle.events.specs.States.{state_of}
 use Rattle.trust.specs.Trusting.{trusts}
 use Rattle.store.specs.Stored.{put_all, sources_of, AreThere}
-use Rattle.building.specs.Gaining.{last_state, state_at}
+use Rattle.building.specs.DeskDeltas.{last_state, state_at}
 use Rattle.endings.specs.Committing.{Delivered, trees_gained, states_for, states_delivered, AreToAdd}
 use Rattle.endings.proofs.CommitLemmas.{states_there}
 use Rattle.endings.proofs.AllBuiltLemmas.{only_memory}
