@@ -1,3 +1,3 @@
 pub mod Keeping
 pub mod Asking
-pub mod Shelves
+pub mod Publishing

@@ -20,7 +20,7 @@ ghost use Rattle.book.specs.Keeping.{IsNew, Steps, TookEvent, Stops, KeepsCore, 
 use crate::counts::Counts;
 use crate::history::History;
 use crate::pass::Pass as Seer;
-use crate::shelf::Shelf;
+use crate::publisher::Publisher;
 use crate::steps::step;
 use history::{Beginning, Log, Naming, Pass, Row, StopCount};
 use laws::{isolation, timed_isolation};
@@ -44,7 +44,7 @@ pub struct Book<J: Naming> {
     stops: ledger::Book<StopCount<J>>,
     spare: Counts<J>,
     log: Log<J>,
-    shelf: Shelf<J>,
+    publisher: Publisher<J>,
     stopped: bool,
 }
 
@@ -57,7 +57,7 @@ impl<J: Naming> Drop for Book<J> {
             stops: _,
             spare: _,
             log: _,
-            shelf: _,
+            publisher: _,
             stopped: _,
         } = self;
     }
@@ -81,7 +81,7 @@ impl<J: Naming> Model for Book<J> {
         × (length b.history.items ≡ b.calls.total)
         × (b.spare.calls.parts ≡ 0) × (b.spare.calls.amount ≡ 0)
         × (b.log.rows ≡ b.history.items) × (b.log.stopped ≡ b.stopped)
-        × (b.shelf.rows ≡ b.history.items) × (b.stopped ≡ false → b.shelf.whole ≡ true)
+        × (b.publisher.rows ≡ b.history.items) × (b.stopped ≡ false → b.publisher.whole ≡ true)
         × (b.stops.total ≡ stops_of b.stopped)
         × (b.spare.stops.parts ≡ 0) × (b.spare.stops.amount ≡ 0) };
 }
@@ -120,13 +120,13 @@ impl<J: Naming> Book<J> {
         stops: ledger::Book<StopCount<J>>,
         spare: Counts<J>,
         log: Log<J>,
-        shelf: Shelf<J>,
+        publisher: Publisher<J>,
     ) -> Book<J>
         requires core { IsNew J.setup core }
         requires calls { (calls.total ≡ 0) × (spare.calls.parts ≡ 0) × (spare.calls.amount ≡ 0) }
         requires stops { (stops.total ≡ 0) × (spare.stops.parts ≡ 0) × (spare.stops.amount ≡ 0) }
         requires log { (log.rows ≡ []) × (log.stopped ≡ false) }
-        requires shelf { (shelf.rows ≡ []) × (shelf.whole ≡ true) }
+        requires publisher { (publisher.rows ≡ []) × (publisher.whole ≡ true) }
         ensures { result ≡ record { core = core; rows = []; stopped = false } }
     {
         Book {
@@ -136,7 +136,7 @@ impl<J: Naming> Book<J> {
             stops,
             spare,
             log,
-            shelf,
+            publisher,
             stopped: false,
         }
     }
@@ -227,7 +227,7 @@ impl<J: Naming> Book<J> {
             calls,
             stops,
             log,
-            shelf,
+            publisher,
             stopped,
             ..
         } = self;
@@ -242,7 +242,7 @@ impl<J: Naming> Book<J> {
             return refuse(Refusal::Memory, event);
         };
         let number = pass.number();
-        let answered = match step(rt, alloc, core, shelf, number, event, asked, ready) {
+        let answered = match step(rt, alloc, core, publisher, number, event, asked, ready) {
             Ok(answered) => answered,
             Err(why) => return Reply::Refused(why),
         };
@@ -334,7 +334,7 @@ impl<J: Naming> Book<J> {
             return Err(Refusal::Stopped);
         }
         self.core.sweep(alloc)?;
-        if self.shelf.sweep(rt) {
+        if self.publisher.sweep(rt) {
             Ok(())
         } else {
             Err(Refusal::Memory)
@@ -372,7 +372,7 @@ impl<J: Naming> Book<J> {
     pub(crate) fn seen(&self) -> Beginning
         ensures { (result.seen.log ≡ self.now.rows) × (result.seen.book ≡ J.book) }
     {
-        self.shelf.seen()
+        self.publisher.seen()
     }
 
     /// Compares what a pass knows, and tells it whether the book is stopped.
@@ -404,14 +404,14 @@ impl<J: Naming> Book<J> {
             mut stops,
             spare,
             mut log,
-            shelf,
+            publisher,
             stopped,
         } = self;
-        let rows = shelf.seen();
+        let rows = publisher.seen();
         let mut all = merged(rt, spare, passes, &mut log, &rows);
         calls.audit(&mut all.calls);
         stops.audit(&mut all.stops);
-        shelf.take(rt);
+        publisher.take(rt);
         History {
             rows: history,
             stopped,

@@ -17,7 +17,7 @@ use crate::book::{Book, refuse};
 use crate::counts::Counts;
 use crate::history::History;
 use crate::pass::Pass;
-use crate::shelf::Shelf;
+use crate::publisher::Publisher;
 use history::{
     Beginning, Blank, Log, Naming, Pass as Caller, Snapshot, SnapshotWriter, StopCount, begin,
     reader_of,
@@ -186,8 +186,8 @@ impl<J: Naming> Front<J> {
         let mut writer = writer_of::<J, R>(rt, alloc, &core, &none)?;
         match passes_of(alloc, &core, n, &mut all, &mut log, &mut writer, &none) {
             Ok(passes) => {
-                let shelf = Shelf::new(head, none, writer);
-                let book = Book::new(alloc, core, calls, stops, all, log, shelf);
+                let publisher = Publisher::new(head, none, writer);
+                let book = Book::new(alloc, core, calls, stops, all, log, publisher);
                 let front = Front {
                     book: Mutex::new(book),
                 };

@@ -15,7 +15,7 @@ ghost use Rattle.history.specs.Tied.{knower};
 ghost use Rattle.book.specs.Asking.{IsAskedAfter};
 
 use crate::book::Book;
-use crate::shelf::insist;
+use crate::publisher::insist;
 use core::mem::replace_with;
 use history::{
     Beginning, Naming, Pass as Caller, SnapshotReader, StopCount, computed, has_given_up, look,

@@ -7,7 +7,7 @@ ghost use Rattle.events.specs.declared.reply.Reply.TheVariants.{Refused};
 ghost use Rattle.history.specs.Histories.{row, gave_up, IsLegal};
 ghost use Rattle.book.specs.Keeping.{Kept, Steps, TookEvent};
 
-use crate::shelf::Shelf;
+use crate::publisher::Publisher;
 use history::{Naming, Row};
 use laws::{isolation, timed_isolation};
 use model::Refusal;
@@ -60,15 +60,15 @@ fn row_again(row: &Row) -> Result<Row, AllocError>
 fn show<J: Naming, R: Wait>(
     rt: &R,
     alloc: Global,
-    shelf: &mut Shelf<J>,
+    publisher: &mut Publisher<J>,
     row: &Row,
     ready: Ready,
 ) -> bool
-    requires whole { shelf.old.whole ≡ true }
-    requires legal { IsLegal J.setup (shelf.old.rows ++ row.now ∷ []) }
+    requires whole { publisher.old.whole ≡ true }
+    requires legal { IsLegal J.setup (publisher.old.rows ++ row.now ∷ []) }
     ensures shown { result ≡ true
-        → shelf.new ≡ record { rows = shelf.old.rows ++ row.now ∷ []; whole = true } }
-    ensures lost { result ≡ false → shelf.new.rows ≡ shelf.old.rows }
+        → publisher.new ≡ record { rows = publisher.old.rows ++ row.now ∷ []; whole = true } }
+    ensures lost { result ≡ false → publisher.new.rows ≡ publisher.old.rows }
 {
     let Ok(copy) = row_again(row) else {
         return false;
@@ -76,7 +76,7 @@ fn show<J: Naming, R: Wait>(
     let Ok(shared) = Arc::new(alloc, copy) else {
         return false;
     };
-    shelf.put(rt, shared, ready)
+    publisher.put(rt, shared, ready)
 }
 
 /// Lets a core take an event and publishes the row, and gives its reply and the row. There is none
@@ -87,25 +87,25 @@ pub(crate) fn step<J: Naming, R: Wait>(
     rt: &R,
     alloc: Global,
     core: &mut Core,
-    shelf: &mut Shelf<J>,
+    publisher: &mut Publisher<J>,
     pass: u64,
     event: Event,
     asked: Event,
     ready: Ready,
 ) -> Result<Option<(Reply, Row)>, Refusal>
     requires asked { asked ≡ event }
-    requires whole { shelf.old.whole ≡ true }
-    requires kept { Kept J.setup core.old false shelf.old.rows }
+    requires whole { publisher.old.whole ≡ true }
+    requires kept { Kept J.setup core.old false publisher.old.rows }
     ensures row { IfOk result (λ found. IfSome found (λ p. p.1 ≡ row pass event p.0)) }
     ensures some { IfOk result (λ found. IfSome found (λ p. gave_up p.0 ≡ false)) }
     ensures step { IfOk result (λ found. IfSome found (λ p. Steps core.old event p.0 core.new)) }
     ensures shown { IfOk result (λ found. IfSome found (λ p.
-        shelf.new ≡ record { rows = shelf.old.rows ++ p.1 ∷ []; whole = true })) }
+        publisher.new ≡ record { rows = publisher.old.rows ++ p.1 ∷ []; whole = true })) }
     ensures lost { IfOk result (λ found. IfNone found (TookEvent core.old event core.new)) }
-    ensures not_shown { IfOk result (λ found. IfNone found (shelf.new.rows ≡ shelf.old.rows)) }
+    ensures not_shown { IfOk result (λ found. IfNone found (publisher.new.rows ≡ publisher.old.rows)) }
     ensures given { setup_of core.new ≡ setup_of core.old }
     ensures refused { IfErr result (λ why. IsUnchanged core.old core.new) }
-    ensures kept { IfErr result (λ why. shelf.new ≡ shelf.old) }
+    ensures kept { IfErr result (λ why. publisher.new ≡ publisher.old) }
     ensures memory { IfErr result (λ why. why ≡ Memory) }
 {
     isolation();
@@ -122,7 +122,7 @@ pub(crate) fn step<J: Naming, R: Wait>(
         event: asked,
         reply: copy,
     };
-    if !show(rt, alloc, shelf, &row, ready) {
+    if !show(rt, alloc, publisher, &row, ready) {
         return Ok(None);
     }
     Ok(Some((reply, row)))

@@ -10,7 +10,7 @@ use Rattle.history.specs.declared.row.Row.{Row}
 use Rattle.history.specs.declared.log.Recorded.{Recorded}
 use Rattle.history.specs.Callers.{Caller, answered, stops_of, Matches}
 use Rattle.history.specs.Histories.{row, gave_up, IsLegal}
-use Rattle.book.specs.Shelves.{Shelved}
+use Rattle.book.specs.Publishing.{Published}
 use Rattle.book.specs.Keeping.{Contents, Kept, Steps, IsModelReply, TookEvent}
 use Rattle.book.proofs.KeepingLemmas.{goes_on, stops, stays, replied, is_legal, sure_of_all}
 use Rattle.book.proofs.book.Book.apply_ready.Given.{Over}
@@ -160,8 +160,8 @@ invariant_of-self-in-Err g c =
       c.self.invariant.3,
       ap (λ (log : Recorded). log.rows) c.compare.ensures.same ∙ (c.self.invariant.4 ∙ sym c.hold.ensures.rows),
       ap (λ (log : Recorded). log.stopped) c.compare.ensures.same ∙ c.self.invariant.5,
-      ap (λ (shelf : Shelved). shelf.rows) c.in-Err.ensures.kept ∙ (c.self.invariant.6 ∙ sym c.hold.ensures.rows),
-      λ going. ap (λ (shelf : Shelved). shelf.whole) c.in-Err.ensures.kept ∙ c.self.invariant.7 going,
+      ap (λ (publisher : Published). publisher.rows) c.in-Err.ensures.kept ∙ (c.self.invariant.6 ∙ sym c.hold.ensures.rows),
+      λ going. ap (λ (publisher : Published). publisher.whole) c.in-Err.ensures.kept ∙ c.self.invariant.7 going,
       c.audit-2.ensures.total ∙ c.self.invariant.8,
       c.self.invariant.9,
       c.self.invariant.10,
@@ -277,7 +277,7 @@ rows_now g c = c.push.ensures ∙ ap (λ (rows : List Row). rows ++ c.in-Some.ro
 kept_now : (g : Over) (c : goal.After-push g) → Kept g.J.Naming.setup c.step.new.core false (c.self.inside.history.items ++ c.in-Some.row ∷ [])
 kept_now g c = goes_on g.J.Naming.setup c.self.inside.core c.step.new.core c.self.inside.history.items c.in-Some.row (going g c) (some_row g c) (step_of g c)
 
-shown_now : (g : Over) (c : goal.After-push g) → c.step.new.shelf ≡ record { rows = c.self.inside.shelf.rows ++ c.in-Some.row ∷ []; whole = true }
+shown_now : (g : Over) (c : goal.After-push g) → c.step.new.publisher ≡ record { rows = c.self.inside.publisher.rows ++ c.in-Some.row ∷ []; whole = true }
 shown_now g c = rw c.in-Some.is at c.in-Ok-step.ensures.shown
 
 pub step-requires-clause-whole : goal.step-requires-clause-whole
@@ -299,8 +299,8 @@ invariant_of-self-2 g c =
       c.self.invariant.3,
       ap (λ (l : Recorded). l.rows) c.add_row.ensures.log ∙ (ap (λ (rows : List Row). rows ++ r ∷ []) log ∙ sym (rows_now g c)),
       ap (λ (l : Recorded). l.stopped) c.add_row.ensures.log ∙ (ap (λ (l : Recorded). l.stopped) c.compare.ensures.same ∙ c.self.invariant.5),
-      ap (λ (shelf : Shelved). shelf.rows) (shown_now g c) ∙ (ap (λ (rows : List Row). rows ++ r ∷ []) c.self.invariant.6 ∙ sym (rows_now g c)),
-      λ _. ap (λ (shelf : Shelved). shelf.whole) (shown_now g c),
+      ap (λ (publisher : Published). publisher.rows) (shown_now g c) ∙ (ap (λ (rows : List Row). rows ++ r ∷ []) c.self.invariant.6 ∙ sym (rows_now g c)),
+      λ _. ap (λ (publisher : Published). publisher.whole) (shown_now g c),
       c.audit-2.ensures.total ∙ c.self.invariant.8,
       c.self.invariant.9,
       c.self.invariant.10,

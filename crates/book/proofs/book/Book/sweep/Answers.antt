@@ -1,5 +1,5 @@
 use Rattle.std.proofs.Common.{ap, ◌∙◌}
-use Rattle.book.specs.Shelves.{Shelved}
+use Rattle.book.specs.Publishing.{Published}
 use Rattle.book.proofs.SweepingLemmas.{kept_swept}
 use Rattle.book.proofs.book.Book.sweep.Goals as goal
 
@@ -28,8 +28,8 @@ invariant_of-self-2 g c =
       c.self.invariant.3,
       c.self.invariant.4,
       c.self.invariant.5,
-      ap (λ (s : Shelved). s.rows) c.sweep-2.ensures ∙ c.self.invariant.6,
-      λ going. ap (λ (s : Shelved). s.whole) c.sweep-2.ensures ∙ c.self.invariant.7 going,
+      ap (λ (s : Published). s.rows) c.sweep-2.ensures ∙ c.self.invariant.6,
+      λ going. ap (λ (s : Published). s.whole) c.sweep-2.ensures ∙ c.self.invariant.7 going,
       c.self.invariant.8,
       c.self.invariant.9,
       c.self.invariant.10,

@@ -5,7 +5,7 @@ ghost use Rattle.std.specs.Arc.{arc_value};
 ghost use Rattle.history.specs.Histories.{IsLegal};
 ghost use Rattle.history.specs.Naming.{name_of, book_in, setup_in};
 ghost use Rattle.history.specs.Tied.{IsQuiet};
-ghost use Rattle.book.specs.Shelves.{Shelved};
+ghost use Rattle.book.specs.Publishing.{Published};
 
 use core::mem::replace_with;
 use history::{Beginning, End, Head, Naming, NewRow, Row, SnapshotWriter, publish, sweep};
@@ -18,16 +18,16 @@ const MOST_ROWS: u64 = 1 << 61;
 
 /// The writer of the snapshot, with the history as those see it who do not take the lock. Contracts see
 /// the rows that are published, and whether another can be: none can after one was refused.
-pub(crate) struct Shelf<J: Naming> {
+pub(crate) struct Publisher<J: Naming> {
     head: Head<J>,
     rows: Beginning,
     end: End,
     whole: bool,
 }
 
-impl<J: Naming> Drop for Shelf<J> {
+impl<J: Naming> Drop for Publisher<J> {
     fn drop(self) {
-        let Shelf {
+        let Publisher {
             head: _,
             rows: _,
             end: _,
@@ -36,13 +36,13 @@ impl<J: Naming> Drop for Shelf<J> {
     }
 }
 
-impl<J: Naming> Model for Shelf<J> {
+impl<J: Naming> Model for Publisher<J> {
     ghost use Rattle.std.specs.Prelude.{◌≡◌, drop, true};
-    ghost use Rattle.book.specs.Shelves.{Shelved};
+    ghost use Rattle.book.specs.Publishing.{Published};
     ghost use Rattle.history.specs.Naming.{name_of};
     ghost use Rattle.history.specs.Tied.{IsQuiet};
 
-    ghost Value = { Shelved };
+    ghost Value = { Published };
 
     ghost use Rattle.std.specs.Coded.{codes};
     ghost use Rattle.model.specs.TreeCode.{tree_code};
@@ -103,16 +103,16 @@ fn sweep_next<R: Wait>(writer: SnapshotWriter, rt: &R) -> (SnapshotWriter, bool)
     sweep(rt, writer)
 }
 
-impl<J: Naming> Shelf<J> {
-    /// A shelf of a writer of no rows.
-    pub(crate) fn new(head: Head<J>, rows: Beginning, writer: SnapshotWriter) -> Shelf<J>
+impl<J: Naming> Publisher<J> {
+    /// A publisher of a writer of no rows.
+    pub(crate) fn new(head: Head<J>, rows: Beginning, writer: SnapshotWriter) -> Publisher<J>
         requires rows { (rows.seen.log ≡ []) × (rows.seen.book ≡ J.book) }
         requires writer { (writer.desk.shown.value.rows ≡ [])
             × (writer.desk.shown.value.name ≡ name_of J.book J.setup)
             × (drop writer.behind writer.log.items ≡ []) }
         ensures { result ≡ record { rows = []; whole = true } }
     {
-        Shelf {
+        Publisher {
             head,
             rows,
             end: End { writer },
@@ -129,7 +129,7 @@ impl<J: Naming> Shelf<J> {
             (self.new ≡ record { rows = self.old.rows ++ arc_value row ∷ []; whole = true })
             (self.new ≡ record { rows = self.old.rows; whole = false }) }
     {
-        let Shelf {
+        let Publisher {
             head,
             rows,
             end,
@@ -169,7 +169,7 @@ impl<J: Naming> Shelf<J> {
 
     /// Frees the snapshot once each reader has left.
     pub(crate) fn take<R: Wait>(self, rt: &R) {
-        let Shelf {
+        let Publisher {
             head: _head,
             rows: _rows,
             end,

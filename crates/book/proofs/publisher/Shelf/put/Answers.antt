@@ -4,8 +4,8 @@ use Rattle.model.specs.Worlds.{Setup}
 use Rattle.history.specs.declared.row.Row.{Row}
 use Rattle.history.specs.Histories.{IsLegal}
 use Rattle.history.specs.Naming.{book_in, setup_in}
-use Rattle.book.specs.Shelves.{Shelved}
-use Rattle.book.proofs.shelf.Shelf.put.Goals as goal
+use Rattle.book.specs.Publishing.{Published}
+use Rattle.book.proofs.publisher.Publisher.put.Goals as goal
 
 pub replace_with-requires : goal.replace_with-requires
 replace_with-requires g c =
@@ -15,8 +15,8 @@ replace_with-requires g c =
     let log : c.again.result.seen.log ≡ inside.rows.seen.log ++ v ∷ [] =
     ap (λ s. s.log) c.again.ensures ∙ (c.add.ensures.added c.insist-2.ensures ∙ (λ i. before i ++ c.deref.ensures i ∷ [])) in
     let shown : inside.end.writer.desk.shown.value.rows ≡ inside.rows.seen.log = c.self.invariant.1 in
-    let rows : c.args.self.now.rows ≡ inside.rows.seen.log = sym (ap (λ (s : Shelved). s.rows) c.self.view_is) in (
-      c.self.invariant.3 (ap (λ (s : Shelved). s.whole) c.self.view_is ∙ c.requires.whole),
+    let rows : c.args.self.now.rows ≡ inside.rows.seen.log = sym (ap (λ (s : Published). s.rows) c.self.view_is) in (
+      c.self.invariant.3 (ap (λ (s : Published). s.whole) c.self.view_is ∙ c.requires.whole),
       (
         log ∙ ap (λ (rs : List Row). rs ++ v ∷ []) (sym shown),
         (
