@@ -7,7 +7,7 @@ use crate::narrator::Narrator;
 use builder::{Folders, ProcessRunner, System};
 use command_line::{Options, Run};
 use model::Refusal;
-use running::{Opening, Output, Part, Results, look_ahead};
+use running::{InputHead, Output, Part, Results, look_ahead};
 use schedule::User;
 use session::Counted;
 use std::alloc::AllocError;
@@ -122,7 +122,7 @@ fn parts_of<'a, Q: Drop>(
     };
     for file in files {
         let Opened { name, mut reader } = file;
-        let Opening { bytes, users } = match look_ahead(rt.alloc(), &mut reader) {
+        let InputHead { bytes, users } = match look_ahead(rt.alloc(), &mut reader) {
             Ok(opening) => opening,
             Err(why) => return Ok(Err(Refused { name, why })),
         };

@@ -24,7 +24,7 @@ use Rattle.running.specs.Calling.{IsTold}
 use Rattle.running.specs.Meeting.{HasMet, IsNew, is_stopped, stops_by}
 use Rattle.running.specs.Sessions.{Outputs}
 use Rattle.running.specs.Teams.{AllNew, stops_in}
-use Rattle.running.specs.Desks.{AreFirst, IsDeskOf, AreDesksOf, passes_for, passes_needed, session_passes, passes_left, all_passes, numbers_in, all_numbers, stops_left, IsCrew, AreCrews, OutputOf, AllOutputs}
+use Rattle.running.specs.Desks.{AreFirst, IsDeskOf, AreDesksOf, passes_for, passes_needed, session_passes, passes_left, all_passes, numbers_in, all_numbers, stops_left, IsPool, ArePools, OutputOf, AllOutputs}
 use Rattle.running.specs.Runs.{IsGivenBack, AreOutputs, WorkersStand, AreServed, IsClosed, AreResults, are_accounted}
 use Rattle.running.specs.declared.runs.Results.{Results}
 use Rattle.history.specs.declared.row.Row.{Row}
@@ -169,13 +169,13 @@ module _ {I Q : Type 0} where
   -- what the desks of files leave stands in the history of the front to which all passes were given back
   pub outputs_of : (setup : Setup) (gives : Q → Running → Result (List ℕ) RunFault → Q → Type 0) (remaining : I → Option (List ℕ))
       (history : History) (numbers : List ℕ) (parts : List (Part I Q)) (desks : List (Desk Known Q I)) (lefts : List (Left Known Q))
-      → AreDesksOf numbers parts desks → AllOutputs (IsTold setup) HasMet is_stopped remaining desks lefts → AreCrews setup gives lefts
+      → AreDesksOf numbers parts desks → AllOutputs (IsTold setup) HasMet is_stopped remaining desks lefts → ArePools setup gives lefts
       → All (IsGivenBack history) (all_passes lefts)
       → AreOutputs setup remaining history numbers (map stops_left lefts) parts (map (λ (l : Left Known Q). l.output) lefts)
-  outputs_of setup gives remaining history [] [] [] [] are all crews back = tt
-  outputs_of setup gives remaining history (n ∷ ns) (p ∷ ps) (d ∷ ds) (l ∷ ls) are all crews back =
+  outputs_of setup gives remaining history [] [] [] [] are all pools back = tt
+  outputs_of setup gives remaining history (n ∷ ns) (p ∷ ps) (d ∷ ds) (l ∷ ls) are all pools back =
       let last : Known × Bool = (l.store, l.team.has_met_memory) in (
-        output_ran setup history n l.store l.team.has_met_memory (stops_in stops_by l.team.workers) crews.0.1
+        output_ran setup history n l.store l.team.has_met_memory (stops_in stops_by l.team.workers) pools.0.1
             (All-head (IsGivenBack history) l.store (map (λ w. w.store) l.team.workers ++ all_passes ls) back)
             (prepend_known p.bytes.items (remaining p.reader)) l.output.ended l.output.text.items
             (subst (λ (first : Known × Bool). Outputs (IsTold setup) HasMet is_stopped first last (prepend_known p.bytes.items (remaining p.reader)) l.output)
@@ -184,14 +184,14 @@ module _ {I Q : Type 0} where
             (prepend_known p.bytes.items (remaining reader)) l.output) are.0.1
             (subst (λ bytes. Outputs (IsTold setup) HasMet is_stopped (d.store, d.team.has_met_memory) last
             (prepend_known bytes.items (remaining d.reader)) l.output) are.0.0 all.0))),
-        outputs_of setup gives remaining history ns ps ds ls are.1 all.1 crews.1 (rest_back history l ls back),
+        outputs_of setup gives remaining history ns ps ds ls are.1 all.1 pools.1 (rest_back history l ls back),
       )
-  outputs_of setup gives remaining history [] [] [] (l ∷ ls) are all crews back = absurd all
-  outputs_of setup gives remaining history [] [] (d ∷ ds) ls are all crews back = absurd are
-  outputs_of setup gives remaining history [] (p ∷ ps) ds ls are all crews back = absurd are
-  outputs_of setup gives remaining history (n ∷ ns) [] ds ls are all crews back = absurd are
-  outputs_of setup gives remaining history (n ∷ ns) (p ∷ ps) [] ls are all crews back = absurd are
-  outputs_of setup gives remaining history (n ∷ ns) (p ∷ ps) (d ∷ ds) [] are all crews back = absurd all
+  outputs_of setup gives remaining history [] [] [] (l ∷ ls) are all pools back = absurd all
+  outputs_of setup gives remaining history [] [] (d ∷ ds) ls are all pools back = absurd are
+  outputs_of setup gives remaining history [] (p ∷ ps) ds ls are all pools back = absurd are
+  outputs_of setup gives remaining history (n ∷ ns) [] ds ls are all pools back = absurd are
+  outputs_of setup gives remaining history (n ∷ ns) (p ∷ ps) [] ls are all pools back = absurd are
+  outputs_of setup gives remaining history (n ∷ ns) (p ∷ ps) (d ∷ ds) [] are all pools back = absurd all
 
 -- ---- workers
 
@@ -210,12 +210,12 @@ module _ {Q : Type 0} where
       omega (arith, rest, named, first, both, all)
 
   -- the workers of all sessions stand in the history
-  pub crews_stand : (setup : Setup) (gives : Q → Running → Result (List ℕ) RunFault → Q → Type 0) (history : History) (lefts : List (Left Known Q))
-      → AreCrews setup gives lefts → All (IsGivenBack history) (all_passes lefts) → ∥ WorkersStand setup gives history (all_numbers lefts) ∥₁
-  crews_stand setup gives history [] crews back = ∣ tt ∣₁
-  crews_stand setup gives history (l ∷ ls) crews back =
-      ∥∥₁_elim crews.0.0 squash₁ (λ worked.
-      ∥∥₁_map (crews_stand setup gives history ls crews.1 (rest_back history l ls back)) (λ rest.
+  pub pools_stand : (setup : Setup) (gives : Q → Running → Result (List ℕ) RunFault → Q → Type 0) (history : History) (lefts : List (Left Known Q))
+      → ArePools setup gives lefts → All (IsGivenBack history) (all_passes lefts) → ∥ WorkersStand setup gives history (all_numbers lefts) ∥₁
+  pools_stand setup gives history [] pools back = ∣ tt ∣₁
+  pools_stand setup gives history (l ∷ ls) pools back =
+      ∥∥₁_elim pools.0.0 squash₁ (λ worked.
+      ∥∥₁_map (pools_stand setup gives history ls pools.1 (rest_back history l ls back)) (λ rest.
       stand_append setup gives history (numbers_in l.team.workers) (all_numbers ls)
       (workers_stand setup gives history l.team.workers (own_back history l ls back) worked) rest))
 
@@ -240,10 +240,10 @@ numbers_push (l ∷ ls) left =
     let own : List ℕ = numbers_in l.team.workers in
     ap (λ (ns : List ℕ). own ++ ns) (numbers_push ls left) ∙ sym (append_assoc own (all_numbers ls) (numbers_in left.team.workers))
 
-pub crews_push : {Q : Type 0} (setup : Setup) (gives : Q → Running → Result (List ℕ) RunFault → Q → Type 0) (lefts : List (Left Known Q)) (left : Left Known Q)
-    → AreCrews setup gives lefts → IsCrew setup gives left.team → AreCrews setup gives (lefts ++ left ∷ [])
-crews_push setup gives [] left all one = (one, tt)
-crews_push setup gives (l ∷ ls) left all one = (all.0, crews_push setup gives ls left all.1 one)
+pub pools_push : {Q : Type 0} (setup : Setup) (gives : Q → Running → Result (List ℕ) RunFault → Q → Type 0) (lefts : List (Left Known Q)) (left : Left Known Q)
+    → ArePools setup gives lefts → IsPool setup gives left.team → ArePools setup gives (lefts ++ left ∷ [])
+pools_push setup gives [] left all one = (one, tt)
+pools_push setup gives (l ∷ ls) left all one = (all.0, pools_push setup gives ls left all.1 one)
 
 pub all_push : {Q : Type 0} (lefts : List (Left Known Q)) (left : Left Known Q) → all_passes (lefts ++ left ∷ []) ≡ all_passes lefts ++ passes_left left
 all_push [] left = append-nil (passes_left left)
@@ -273,19 +273,19 @@ module _ {I Q : Type 0} (setup : Setup) (gives : Q → Running → Result (List 
   -- what sessions left by these desks
   pub all_served : (numbers : List ℕ) (parts : List (Part I Q)) (desks : List (Desk Known Q I)) (lefts : List (Left Known Q))
       (sessions workers : List ℕ) (passes : List Known) (outputs : List Output)
-      → AreDesksOf numbers parts desks → AllOutputs (IsTold setup) HasMet is_stopped remaining desks lefts → AreCrews setup gives lefts
+      → AreDesksOf numbers parts desks → AllOutputs (IsTold setup) HasMet is_stopped remaining desks lefts → ArePools setup gives lefts
       → sessions ≡ map (λ (d : Desk Known Q I). d.store.caller.number) desks → workers ≡ all_numbers lefts → passes ≡ all_passes lefts
       → outputs ≡ map (λ (l : Left Known Q). l.output) lefts → AreServed setup gives remaining numbers parts sessions workers passes outputs
-  all_served numbers parts desks lefts sessions workers passes outputs are all crews named numbered back gave = record {
+  all_served numbers parts desks lefts sessions workers passes outputs are all pools named numbered back gave = record {
     named = named ∙ desk_numbers numbers parts desks are;
     stops = map stops_left lefts;
     all = sum-map stops_left lefts ∙ stops_all lefts ∙ ap (sum_by stops_by) (sym back);
     outputs_are = λ history given.
         subst (λ (os : List Output). AreOutputs setup remaining history numbers (map stops_left lefts) parts os) (sym gave)
-        (outputs_of setup gives remaining history numbers parts desks lefts are all crews (subst (All (IsGivenBack history)) back given));
+        (outputs_of setup gives remaining history numbers parts desks lefts are all pools (subst (All (IsGivenBack history)) back given));
     workers_are = λ history given.
         subst (λ (ns : List ℕ). ∥ WorkersStand setup gives history ns ∥₁) (sym numbered)
-        (crews_stand setup gives history lefts crews (subst (All (IsGivenBack history)) back given));
+        (pools_stand setup gives history lefts pools (subst (All (IsGivenBack history)) back given));
   }
 
   -- and what came of them where the front was closed

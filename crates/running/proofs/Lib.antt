@@ -4,7 +4,7 @@ mod Sending
 mod WaitLemmas
 mod MeetLemmas
 mod TeamLemmas
-mod OpeningLemmas
+mod InputHeadLemmas
 mod ServedLemmas
 mod RunLemmas
 mod DeskLemmas

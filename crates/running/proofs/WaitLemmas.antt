@@ -137,12 +137,12 @@ module _ {S : Type 0} (called : S → Event → Reply → S → Type 0) (met kno
   asked_again goals a b c first next = further called met more goals a b c first next
 
   -- the workers are those who were there, or the store knows what they were answered
-  pub knows_again : {C Q : Type 0} (workers_of : C → List (Worker S Q)) (goals : List Job) (first crew later : C) (a b : S)
-      → (crew ≡ first) ⊎ All (λ w. knows a w.store) (workers_of crew) → Asked called met goals a b
-      → (later ≡ crew) ⊎ All (λ w. knows b w.store) (workers_of later)
+  pub knows_again : {C Q : Type 0} (workers_of : C → List (Worker S Q)) (goals : List Job) (first pool later : C) (a b : S)
+      → (pool ≡ first) ⊎ All (λ w. knows a w.store) (workers_of pool) → Asked called met goals a b
+      → (later ≡ pool) ⊎ All (λ w. knows b w.store) (workers_of later)
       → (later ≡ first) ⊎ All (λ w. knows b w.store) (workers_of later)
-  knows_again workers_of goals first crew later a b before asked (inr now) = inr now
-  knows_again workers_of goals first crew later a b (inl same) asked (inl still) = inl (still ∙ same)
-  knows_again workers_of goals first crew later a b (inr known) asked (inl still) =
+  knows_again workers_of goals first pool later a b before asked (inr now) = inr now
+  knows_again workers_of goals first pool later a b (inl same) asked (inl still) = inl (still ∙ same)
+  knows_again workers_of goals first pool later a b (inr known) asked (inl still) =
       inr (subst (λ c. All (λ w. knows b w.store) (workers_of c)) (sym still)
-      (knows_still called met knows on after goals a b (workers_of crew) asked known))
+      (knows_still called met knows on after goals a b (workers_of pool) asked known))

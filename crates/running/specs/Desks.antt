@@ -73,13 +73,13 @@ module _ {Q : Type 0} where
 
   module _ (setup : Setup) (gives : Q → Running → Result (List ℕ) RunFault → Q → Type 0) where
     -- what is known of the workers of a session
-    abbrev pub IsCrew : TeamView Known Q → Type 0
-    IsCrew = IsTeam (IsTold setup) (IsAskedBy setup) gives HasMet IsNew stops_by
+    abbrev pub IsPool : TeamView Known Q → Type 0
+    IsPool = IsTeam (IsTold setup) (IsAskedBy setup) gives HasMet IsNew stops_by
 
     -- of those whom all leave
-    abbrev pub AreCrews : List (Left Known Q) → Type 0
-    AreCrews [] = Unit {0}
-    AreCrews (left ∷ lefts) = IsCrew left.team × AreCrews lefts
+    abbrev pub ArePools : List (Left Known Q) → Type 0
+    ArePools [] = Unit {0}
+    ArePools (left ∷ lefts) = IsPool left.team × ArePools lefts
 
 -- each session leaves the output of its file, in their order
 module _ {S Q I : Type 0} (called : S → Event → Reply → S → Type 0) (met : S → S → Type 0) (stopped : S → Bool) (remaining : I → Option (List ℕ)) where

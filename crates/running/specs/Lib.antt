@@ -2,6 +2,6 @@ pub mod Calling
 pub mod Meeting
 pub mod Teams
 pub mod Sessions
-pub mod Openings
+pub mod InputHeads
 pub mod Desks
 pub mod Runs

@@ -6,9 +6,9 @@
 //! | [`run`] | runs the lines of files, each in a thread of its own, with workers that build |
 #![tactic(auto)]
 
-mod crews;
+mod pools;
 mod meeting;
-mod openings;
+mod input_head;
 mod pass_lists;
 mod rounds;
 mod runs;
@@ -17,6 +17,6 @@ mod shared;
 mod teams;
 mod waiting;
 
-pub use openings::{Opening, look_ahead};
+pub use input_head::{InputHead, look_ahead};
 pub use runs::{Results, run};
 pub use sessions::{Output, Part};

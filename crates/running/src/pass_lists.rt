@@ -6,7 +6,7 @@ ghost use Rattle.history.specs.Callers.{new_pass};
 ghost use Rattle.running.specs.Sessions.{CannotBegin};
 ghost use Rattle.running.specs.Meeting.{IsNew};
 ghost use Rattle.running.specs.Teams.{AllNew};
-ghost use Rattle.running.specs.Desks.{AreFirst, IsDeskOf, AreDesksOf, IsCrew, AreCrews, session_passes, passes_for as needed_for, passes_left, all_passes, numbers_in, all_numbers};
+ghost use Rattle.running.specs.Desks.{AreFirst, IsDeskOf, AreDesksOf, IsPool, ArePools, session_passes, passes_for as needed_for, passes_left, all_passes, numbers_in, all_numbers};
 
 use crate::sessions::{Desk, Left, Output, Part};
 use crate::shared::SharedStore;
@@ -168,7 +168,7 @@ fn end_session<J: Naming, R: Wait, Q: Runner + Drop>(
         ≡ back.old.passes.items ++ passes_left left.entry) }
     ensures numbers { IfOk result (λ _. back.new.workers.items
         ≡ back.old.workers.items ++ numbers_in left.entry.team.workers) }
-    ensures crew { IfOk result (λ _. IsCrew J.setup Q.gives left.entry.team) }
+    ensures pool { IfOk result (λ _. IsPool J.setup Q.gives left.entry.team) }
 {
     let Left {
         output,
@@ -190,7 +190,7 @@ pub(crate) fn end_sessions<J: Naming, R: Wait, Q: Runner + Drop>(
         ≡ back.old.outputs.items ++ map (λ left. left.output) lefts.entry.items) }
     ensures passes { IfOk result (λ _. back.new.passes.items ≡ back.old.passes.items ++ all_passes lefts.entry.items) }
     ensures numbers { IfOk result (λ _. back.new.workers.items ≡ back.old.workers.items ++ all_numbers lefts.entry.items) }
-    ensures crews { IfOk result (λ _. AreCrews J.setup Q.gives lefts.entry.items) }
+    ensures pools { IfOk result (λ _. ArePools J.setup Q.gives lefts.entry.items) }
 {
     for left in lefts {
         end_session(left, back)?;

@@ -6,11 +6,11 @@ ghost use Rattle.model.specs.declared.refusal.Refusal.TheVariants.{Memory};
 ghost use Rattle.running.specs.Sessions.{Outputs, kept_fault};
 ghost use Rattle.running.specs.Desks.{OutputOf, AllOutputs};
 
-use crate::crews::{Crew, start_building};
+use crate::pools::{WorkerPool, start_building};
 use crate::meeting::Meet;
 use crate::rounds::Rounds;
 use crate::teams::Team;
-use crate::waiting::Station;
+use crate::waiting::BuildingSession;
 use model::{Mode, Refusal};
 use session::{Counted, Faults, serve_behind};
 use std::alloc::Global;
@@ -83,14 +83,14 @@ fn serve_lines<S: Meet + Drop, Q: Runner + Drop, I: Read + Faults + Drop, R: Wai
     alloc: Global,
     bytes: Vec<u8>,
     reader: I,
-    station: &mut Station<'_, S, Q, R>,
+    building_session: &mut BuildingSession<'_, S, Q, R>,
 ) -> Output
-    ensures { Outputs S.called S.met S.stopped station.old station.new
+    ensures { Outputs S.called S.met S.stopped building_session.old building_session.new
         (prepend_known bytes.items (I.remaining reader)) result }
 {
     let mut reader = reader;
     let mut writer = Counted::new(Vec::new(alloc));
-    let ended = serve_behind(alloc, Mode::Run, &bytes, &mut reader, &mut writer, station);
+    let ended = serve_behind(alloc, Mode::Run, &bytes, &mut reader, &mut writer, building_session);
     Output {
         text: writer.into_inner(),
         ended: kept_end(ended),
@@ -122,7 +122,7 @@ fn serve_beside<
         bytes,
         reader,
     } = desk;
-    let (crew, workshop) = match Crew::new(alloc, rounds, team) {
+    let (pool, pool_thread) = match WorkerPool::new(alloc, rounds, team) {
         Ok(made) => made,
         Err(team) => {
             return Left {
@@ -136,18 +136,18 @@ fn serve_beside<
         thread::scope_env(),
         rt,
         move |scope| -> Left<S, Q>
-            ensures { Outputs S.called S.met S.stopped (store, crew.entry.team.has_met_memory)
+            ensures { Outputs S.called S.met S.stopped (store, pool.entry.team.has_met_memory)
                 (result.store, result.team.has_met_memory)
                 (prepend_known bytes.items (I.remaining reader)) result.output }
         {
-            start_building(rt, alloc, scope, workshop);
-            let mut station = Station { rt, store, crew };
-            let output = serve_lines(alloc, bytes, reader, &mut station);
-            let Station { store, crew, .. } = station;
+            start_building(rt, alloc, scope, pool_thread);
+            let mut building_session = BuildingSession { rt, store, pool };
+            let output = serve_lines(alloc, bytes, reader, &mut building_session);
+            let BuildingSession { store, pool, .. } = building_session;
             Left {
                 output,
                 store,
-                team: crew.into_team(),
+                team: pool.into_team(),
             }
         },
     )

@@ -7,7 +7,7 @@ ghost use Rattle.workers.specs.Working.{Call};
 ghost use Rattle.events.specs.declared.reply.Reply.TheVariants.{Refused};
 ghost use Rattle.running.specs.Sessions.{AsksStatus, Calls, GivesUp, HasTold};
 
-use crate::crews::Crew;
+use crate::pools::WorkerPool;
 use crate::meeting::Meet;
 use events::{Event, Reply, Request, State};
 use model::Refusal;
@@ -19,22 +19,22 @@ use workers::Runner;
 
 /// A store that answers the events of a session, and the workers that build its goals.
 #[derive(Drop)]
-pub(crate) struct Station<'a, S: Meet + Drop, Q: Runner + Drop, R> {
+pub(crate) struct BuildingSession<'a, S: Meet + Drop, Q: Runner + Drop, R> {
     /// What waits.
     pub(crate) rt: &'a R,
     /// What answers.
     pub(crate) store: S,
     /// Who builds.
-    pub(crate) crew: Crew<'a, S, Q>,
+    pub(crate) pool: WorkerPool<'a, S, Q>,
 }
 
 /// Contracts see it as its store, and whether a round of its workers was answered 90.
-impl<'a, S: Meet + Drop, Q: Runner + Drop, R> Model for Station<'a, S, Q, R> {
+impl<'a, S: Meet + Drop, Q: Runner + Drop, R> Model for BuildingSession<'a, S, Q, R> {
     ghost use Rattle.std.specs.Prelude.{Bool};
 
     ghost Value = { S × Bool };
 
-    ghost view = { λ s. (s.store, s.crew.team.has_met_memory) };
+    ghost view = { λ s. (s.store, s.pool.team.has_met_memory) };
 }
 
 /// Why a status cannot be told, if it cannot.
@@ -119,17 +119,17 @@ fn build<S: Meet + Drop, Q: Runner + Drop, R: Wait>(
     rt: &R,
     alloc: Global,
     store: &mut S,
-    crew: &mut Crew<'_, S, Q>,
+    pool: &mut WorkerPool<'_, S, Q>,
     goals: Vec<Job>,
 ) -> Result<(), Refusal>
     ensures met { S.met store.old store.new }
-    ensures knows { All (λ w. S.knows store.new w.store) crew.new.team.workers }
+    ensures knows { All (λ w. S.knows store.new w.store) pool.new.team.workers }
     ensures why { IfErr result GivesUp }
     ensures stopped { result ≡ Err Stopped → S.stopped store.new ≡ true }
-    ensures told { HasTold crew.old.team crew.new.team result }
+    ensures told { HasTold pool.old.team pool.new.team result }
 {
-    let answer = crew.build(rt, alloc, goals);
-    let is_stopped = crew.team.meet(store);
+    let answer = pool.build(rt, alloc, goals);
+    let is_stopped = pool.team.meet(store);
     store.sweep(alloc);
     match answer {
         Err(Refusal::Stopped) if !is_stopped => Err(Refusal::Memory),
@@ -144,15 +144,15 @@ fn build_waiting<S: Meet + Drop, Q: Runner + Drop, R: Wait>(
     rt: &R,
     alloc: Global,
     store: &mut S,
-    crew: &mut Crew<'_, S, Q>,
+    pool: &mut WorkerPool<'_, S, Q>,
     goals: &[Job],
 ) -> Result<usize, Refusal>
     ensures calls { (calls : List Call) × AsksStatus goals.now calls
         × Calls S.called S.met store.old calls store.new }
-    ensures knows { (crew.new ≡ crew.old) ⊎ All (λ w. S.knows store.new w.store) crew.new.team.workers }
+    ensures knows { (pool.new ≡ pool.old) ⊎ All (λ w. S.knows store.new w.store) pool.new.team.workers }
     ensures why { IfErr result GivesUp }
     ensures stopped { result ≡ Err Stopped → S.stopped store.new ≡ true }
-    ensures told { HasTold crew.old.team crew.new.team result }
+    ensures told { HasTold pool.old.team pool.new.team result }
 {
     let mut left = look(alloc, store, goals)?;
     for _ in rt.forever() {
@@ -160,7 +160,7 @@ fn build_waiting<S: Meet + Drop, Q: Runner + Drop, R: Wait>(
         if found == 0 {
             return Ok(left.building);
         }
-        build(rt, alloc, store, crew, left.waiting)?;
+        build(rt, alloc, store, pool, left.waiting)?;
         left = look(alloc, store, goals)?;
         if left.waiting.len() >= found {
             return Ok(left.building);
@@ -175,31 +175,31 @@ fn build_all<S: Meet + Drop, Q: Runner + Drop, R: Wait>(
     rt: &R,
     alloc: Global,
     store: &mut S,
-    crew: &mut Crew<'_, S, Q>,
+    pool: &mut WorkerPool<'_, S, Q>,
     goals: &[Job],
 ) -> Result<(), Refusal>
     ensures calls { (calls : List Call) × AsksStatus goals.now calls
         × Calls S.called S.met store.old calls store.new }
-    ensures knows { (crew.new ≡ crew.old) ⊎ All (λ w. S.knows store.new w.store) crew.new.team.workers }
+    ensures knows { (pool.new ≡ pool.old) ⊎ All (λ w. S.knows store.new w.store) pool.new.team.workers }
     ensures why { IfErr result GivesUp }
     ensures stopped { result ≡ Err Stopped → S.stopped store.new ≡ true }
-    ensures told { HasTold crew.old.team crew.new.team result }
+    ensures told { HasTold pool.old.team pool.new.team result }
 {
     let mut before = usize::MAX;
     for _ in rt.forever() {
-        let building = build_waiting(rt, alloc, store, crew, goals)?;
+        let building = build_waiting(rt, alloc, store, pool, goals)?;
         if building == 0 || building >= before {
             return Ok(());
         }
         before = building;
-        crew.wait_for_others(rt);
+        pool.wait_for_others(rt);
     }
     Ok(())
 }
 
 /// Each event is handed to the store. In a wait it is asked how far goals are and meets those of workers,
 /// and nothing else.
-impl<S: Meet + Drop, Q: Runner + Drop, R: Wait> Answer for Station<'_, S, Q, R> {
+impl<S: Meet + Drop, Q: Runner + Drop, R: Wait> Answer for BuildingSession<'_, S, Q, R> {
     ghost use Rattle.running.specs.Sessions.{Answers, Waits};
 
     ghost answers = { Answers S.called };
@@ -211,7 +211,7 @@ impl<S: Meet + Drop, Q: Runner + Drop, R: Wait> Answer for Station<'_, S, Q, R> 
     }
 
     fn wait(&mut self, alloc: Global, goals: &[Job]) -> Reply {
-        match build_all(self.rt, alloc, &mut self.store, &mut self.crew, goals) {
+        match build_all(self.rt, alloc, &mut self.store, &mut self.pool, goals) {
             Ok(()) => Reply::Done,
             Err(why) => Reply::Refused(why),
         }

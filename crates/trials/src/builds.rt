@@ -11,7 +11,7 @@ use crate::turns::is_set_in_time;
 use jobs::RunningJob;
 use model::Refusal;
 use nar::{Tree, encode};
-use running::{Opening, Output, Part, look_ahead};
+use running::{InputHead, Output, Part, look_ahead};
 use schedule::Limits;
 use std::alloc::{AllocError, Global};
 use std::hash::RandomState;
@@ -109,7 +109,7 @@ impl Runner for Counting<'_> {
 }
 
 /// `CALLS INPUT`: what these calls read of the input up to its users, and what gives the rest of it.
-fn opened(alloc: Global, argument: &str) -> Result<(Opening, Source), Refusal> {
+fn opened(alloc: Global, argument: &str) -> Result<(InputHead, Source), Refusal> {
     let (reads, rest) = calls_of(argument)?;
     let mut reader = Source::new(with_newlines(alloc, rest)?, reads);
     let opening = look_ahead(alloc, &mut reader)?;
@@ -135,7 +135,7 @@ pub(crate) fn gate_two_workers<R: Threads + Wait + Sync>(
     out: &mut Answer,
 ) -> Result<(), Refusal> {
     let (opening, reader) = opened(alloc, argument)?;
-    let Opening { bytes, users } = opening;
+    let InputHead { bytes, users } = opening;
     let gate = Gate {
         begun: AtomicU32::new(0),
         is_open: AtomicBool::new(false),
@@ -163,7 +163,7 @@ pub(crate) fn built_once<R: Threads + Wait + Sync>(
     out: &mut Answer,
 ) -> Result<(), Refusal> {
     let (opening, reader) = opened(alloc, argument)?;
-    let Opening { bytes, users } = opening;
+    let InputHead { bytes, users } = opening;
     let runs = AtomicU32::new(0);
     let runner = Counting { runs: &runs };
     let runners = vec![in alloc; runner]?;

@@ -4,7 +4,7 @@ use Rattle.std.proofs.lemmas.List.{append_assoc, map-append}
 use Rattle.history.specs.Callers.{Known}
 use Rattle.running.specs.declared.sessions.Output.{Output}
 use Rattle.running.specs.Desks.{passes_left, all_passes, numbers_in, all_numbers}
-use Rattle.running.proofs.DeskLemmas.{all_push, numbers_push, crews_push}
+use Rattle.running.proofs.DeskLemmas.{all_push, numbers_push, pools_push}
 use Rattle.running.proofs.pass_lists.end_sessions.Goals as goal
 
 pub loop-left-preserved : goal.loop-left-preserved
@@ -21,5 +21,5 @@ loop-left-preserved g c =
       c.in_ok-end_session.ensures.outputs ∙ ap (λ (os : List Output). os ++ left.output ∷ []) c.loop-left.invariant.2
           ∙ append_assoc back.outputs.items (map (λ l. l.output) ys) (left.output ∷ [])
           ∙ ap (λ (os : List Output). back.outputs.items ++ os) (sym (map-append (λ l. l.output) ys (left ∷ []))),
-      crews_push g.J.Naming.setup g.Q.Runner.gives ys left c.loop-left.invariant.3 c.in_ok-end_session.ensures.crew,
+      pools_push g.J.Naming.setup g.Q.Runner.gives ys left c.loop-left.invariant.3 c.in_ok-end_session.ensures.pool,
     )

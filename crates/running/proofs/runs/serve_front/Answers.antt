@@ -11,7 +11,7 @@ returns-clause-served g c =
     let lefts = c.in_ok-lefts.lefts.items in
     all_served g.J.Naming.setup g.Q.Runner.gives g.I.Read.remaining (session_passes (length c.args.passes.items) c.args.parts.items) c.args.parts.items
     c.in-Ok.desks.items lefts c.in_ok-sessions.sessions.items c.end_sessions.new.back.workers.items c.end_sessions.new.back.passes.items
-    c.end_sessions.new.back.outputs.items c.in-Ok.ensures.desks c.in_ok-lefts.ensures.outputs c.in_ok-end_sessions.ensures.crews
+    c.end_sessions.new.back.outputs.items c.in-Ok.ensures.desks c.in_ok-lefts.ensures.outputs c.in_ok-end_sessions.ensures.pools
     (c.in_ok-sessions.ensures ∙ ap (map (λ d. d.store.caller.number)) c.deref.ensures.value)
     (c.in_ok-end_sessions.ensures.numbers ∙ ap (λ (ns : List ℕ). ns ++ all_numbers lefts) c.in_ok-back.ensures.workers)
     (c.in_ok-end_sessions.ensures.passes ∙ ap (λ (ps : List Known). ps ++ all_passes lefts) c.in_ok-back.ensures.passes)

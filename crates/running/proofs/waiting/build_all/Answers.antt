@@ -10,7 +10,7 @@ returns-in_err-building-clause-calls g c =
 pub returns-in_err-building-clause-knows : goal.returns-in_err-building-clause-knows
 returns-in_err-building-clause-knows g c =
     knows_again g.S.Store.called g.S.Meet.met g.S.Meet.knows g.met.S.Meet.met_more g.met.S.Meet.knows_met g.met.S.Meet.knows_called
-    (λ crew. crew.team.workers) c.args.goals.now c.args.crew.now c.loop.crew c.build_waiting.new.crew c.loop.store
+    (λ pool. pool.team.workers) c.args.goals.now c.args.pool.now c.loop.pool c.build_waiting.new.pool c.loop.store
     c.build_waiting.new.store c.loop.invariant.1 c.build_waiting.ensures.calls c.build_waiting.ensures.knows
 
 pub returns-then-building-eq0-clause-calls : goal.returns-then-building-eq0-clause-calls
@@ -21,7 +21,7 @@ returns-then-building-eq0-clause-calls g c =
 pub returns-then-building-eq0-clause-knows : goal.returns-then-building-eq0-clause-knows
 returns-then-building-eq0-clause-knows g c =
     knows_again g.S.Store.called g.S.Meet.met g.S.Meet.knows g.met.S.Meet.met_more g.met.S.Meet.knows_met g.met.S.Meet.knows_called
-    (λ crew. crew.team.workers) c.args.goals.now c.args.crew.now c.loop.crew c.build_waiting.new.crew c.loop.store
+    (λ pool. pool.team.workers) c.args.goals.now c.args.pool.now c.loop.pool c.build_waiting.new.pool c.loop.store
     c.build_waiting.new.store c.loop.invariant.1 c.build_waiting.ensures.calls c.build_waiting.ensures.knows
 
 pub loop-preserved : goal.loop-preserved
@@ -29,8 +29,8 @@ loop-preserved g c = (
   asked_again g.S.Store.called g.S.Meet.met g.S.Meet.knows g.met.S.Meet.met_more g.met.S.Meet.knows_met g.met.S.Meet.knows_called c.args.goals.now
       c.args.store.now c.loop.store c.build_waiting.new.store c.loop.invariant.0 c.build_waiting.ensures.calls,
   knows_again g.S.Store.called g.S.Meet.met g.S.Meet.knows g.met.S.Meet.met_more g.met.S.Meet.knows_met g.met.S.Meet.knows_called
-      (λ crew. crew.team.workers) c.args.goals.now c.args.crew.now c.loop.crew c.build_waiting.new.crew c.loop.store
+      (λ pool. pool.team.workers) c.args.goals.now c.args.pool.now c.loop.pool c.build_waiting.new.pool c.loop.store
       c.build_waiting.new.store c.loop.invariant.1 c.build_waiting.ensures.calls c.build_waiting.ensures.knows,
-  told_more c.args.crew.now.team c.loop.crew.team c.build_waiting.new.crew.team c.build_waiting.result c.loop.invariant.2 c.build_waiting.ensures.told
+  told_more c.args.pool.now.team c.loop.pool.team c.build_waiting.new.pool.team c.build_waiting.result c.loop.invariant.2 c.build_waiting.ensures.told
       (λ is. let was = c.in_ok-building.was in absurd (cc)),
 )

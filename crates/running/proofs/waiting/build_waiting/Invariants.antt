@@ -6,5 +6,5 @@ use Rattle.running.proofs.waiting.build_waiting.Given as goal
 abbrev pub invariant-loop : goal.invariant-loop
 invariant-loop g l =
     Asked g.S.Store.called g.S.Meet.met l.goals l.fn.store l.store
-    × ((l.crew ≡ l.fn.crew) ⊎ All (λ w. g.S.Meet.knows l.store w.store) l.crew.team.workers)
-    × (l.crew.team.has_met_memory ≡ true → l.fn.crew.team.has_met_memory ≡ true)
+    × ((l.pool ≡ l.fn.pool) ⊎ All (λ w. g.S.Meet.knows l.store w.store) l.pool.team.workers)
+    × (l.pool.team.has_met_memory ≡ true → l.fn.pool.team.has_met_memory ≡ true)

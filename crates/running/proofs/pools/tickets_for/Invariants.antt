@@ -1,6 +1,6 @@
 use Rattle.std.specs.Prelude.{◌≡◌, map, take}
 use Rattle.running.specs.Sessions.{ticket_for}
-use Rattle.running.proofs.crews.tickets_for.Given as goal
+use Rattle.running.proofs.pools.tickets_for.Given as goal
 
 -- so many goals have their tickets
 abbrev pub invariant-loop-goal : goal.invariant-loop-goal

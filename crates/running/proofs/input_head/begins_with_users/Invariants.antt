@@ -2,8 +2,8 @@ use Rattle.std.specs.Prelude.{◌≡◌, false, length}
 use Rattle.model.specs.declared.mode.Mode.TheVariants.{Run}
 use Rattle.model.specs.Lines.{split}
 use Rattle.model.specs.Talk.{fresh}
-use Rattle.running.specs.Openings.{FirstNames}
-use Rattle.running.proofs.openings.begins_with_users.Given as goal
+use Rattle.running.specs.InputHeads.{FirstNames}
+use Rattle.running.proofs.input_head.begins_with_users.Given as goal
 
 -- no line so far got a reply
 abbrev pub invariant-loop-line : goal.invariant-loop-line

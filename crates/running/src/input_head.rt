@@ -5,7 +5,7 @@ ghost use Rattle.std.specs.Io.KnownBytes.{Consumes};
 ghost use Rattle.model.specs.declared.mode.Mode.TheVariants.{Run};
 ghost use Rattle.model.specs.declared.refusal.Refusal.TheVariants.{Memory, BadUsers, InputFault};
 ghost use Rattle.session.specs.Ahead.{LooksAhead};
-ghost use Rattle.running.specs.Openings.{BeginsWithUsers};
+ghost use Rattle.running.specs.InputHeads.{BeginsWithUsers};
 ghost use Rattle.session.specs.Serving.{HasFailed, MayBeFault};
 
 use lines::cut;
@@ -18,7 +18,7 @@ use trust::User;
 
 /// What was read of a file whose lines may be run.
 #[derive(Drop)]
-pub struct Opening {
+pub struct InputHead {
     /// All bytes that were read.
     pub bytes: Vec<u8>,
     /// The users whom its first line that gets a reply names.
@@ -66,7 +66,7 @@ fn no_users<R: Faults>(reader: &R, before: u64) -> Refusal
 /// - `BadUsers` where the first line that gets a reply is no line of users, where it is one that is
 ///   refused, and where there is none.
 /// - `Memory` only where memory was refused.
-pub fn look_ahead<R: Read + Faults>(alloc: Global, reader: &mut R) -> Result<Opening, Refusal>
+pub fn look_ahead<R: Read + Faults>(alloc: Global, reader: &mut R) -> Result<InputHead, Refusal>
     ensures read { IfOk result (λ opening.
         Consumes (R.remaining reader.old) (R.remaining reader.new) opening.bytes.items) }
     // Whatever comes after what was read, these are the users that a session of it names.
@@ -91,5 +91,5 @@ pub fn look_ahead<R: Read + Faults>(alloc: Global, reader: &mut R) -> Result<Ope
     if !begins_with_users(alloc, bytes.as_slice())? {
         return Err(no_users(reader, before));
     }
-    Ok(Opening { bytes, users })
+    Ok(InputHead { bytes, users })
 }

@@ -1,6 +1,6 @@
 use Rattle.std.proofs.Common.{rules, ◌≡◌, true, length, sym, ◌∙◌}
-use Rattle.running.proofs.OpeningLemmas.{empty_text, next_silent, next_names, last_names}
-use Rattle.running.proofs.openings.begins_with_users.Goals as goal
+use Rattle.running.proofs.InputHeadLemmas.{empty_text, next_silent, next_names, last_names}
+use Rattle.running.proofs.input_head.begins_with_users.Goals as goal
 
 pub returns-then-not-is_empty-clause-first : goal.returns-then-not-is_empty-clause-first
 returns-then-not-is_empty-clause-first c = λ is.

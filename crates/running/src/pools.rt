@@ -34,7 +34,7 @@ struct Outcome<S: Meet + Drop, Q: Runner + Drop> {
 /// The workers of a session, who are with it between its rounds, and the channels by which they leave for
 /// a round and come back.
 #[derive(Drop)]
-pub(crate) struct Crew<'a, S: Meet + Drop, Q: Runner + Drop> {
+pub(crate) struct WorkerPool<'a, S: Meet + Drop, Q: Runner + Drop> {
     /// Who builds.
     pub(crate) team: Team<S, Q>,
     rounds: &'a Rounds,
@@ -42,15 +42,15 @@ pub(crate) struct Crew<'a, S: Meet + Drop, Q: Runner + Drop> {
     outcomes: Receiver<Outcome<S, Q>>,
 }
 
-/// Where a crew builds: the other ends of its channels.
+/// Where a pool builds: the other ends of its channels.
 #[derive(Drop)]
-pub(crate) struct Workshop<S: Meet + Drop, Q: Runner + Drop> {
+pub(crate) struct PoolThread<S: Meet + Drop, Q: Runner + Drop> {
     orders: Receiver<Order<S, Q>>,
     outcomes: Sender<Outcome<S, Q>>,
 }
 
-impl<'a, S: Meet + Drop, Q: Runner + Drop> Crew<'a, S, Q> {
-    /// A crew of these workers, and where it builds.
+impl<'a, S: Meet + Drop, Q: Runner + Drop> WorkerPool<'a, S, Q> {
+    /// A pool of these workers, and where it builds.
     ///
     /// # Errors
     ///
@@ -59,7 +59,7 @@ impl<'a, S: Meet + Drop, Q: Runner + Drop> Crew<'a, S, Q> {
         alloc: Global,
         rounds: &'a Rounds,
         team: Team<S, Q>,
-    ) -> Result<(Crew<'a, S, Q>, Workshop<S, Q>), Team<S, Q>>
+    ) -> Result<(WorkerPool<'a, S, Q>, PoolThread<S, Q>), Team<S, Q>>
         ensures { MatchResult result (λ made. made.0.team ≡ team) (λ left. left ≡ team) }
     {
         let Ok((send_order, receive_order)) = bounded(alloc, 1) else {
@@ -68,17 +68,17 @@ impl<'a, S: Meet + Drop, Q: Runner + Drop> Crew<'a, S, Q> {
         let Ok((send_outcome, receive_outcome)) = bounded(alloc, 1) else {
             return Err(team);
         };
-        let crew = Crew {
+        let pool = WorkerPool {
             team,
             rounds,
             orders: send_order,
             outcomes: receive_outcome,
         };
-        let workshop = Workshop {
+        let pool_thread = PoolThread {
             orders: receive_order,
             outcomes: send_outcome,
         };
-        Ok((crew, workshop))
+        Ok((pool, pool_thread))
     }
 
     /// Has goals built in one round, after which the workers are back. Where nobody is there to build, they
@@ -141,7 +141,7 @@ impl<'a, S: Meet + Drop, Q: Runner + Drop> Crew<'a, S, Q> {
     pub(crate) fn into_team(self) -> Team<S, Q>
         ensures { result ≡ self.entry.team }
     {
-        let Crew {
+        let WorkerPool {
             team,
             rounds: _,
             orders: _orders,
@@ -184,9 +184,9 @@ fn build_order<S: Meet + Send + Drop, Q: Runner + Send + Drop, R: Threads + Wait
 fn build<S: Meet + Send + Drop, Q: Runner + Send + Drop, R: Threads + Wait + Sync>(
     rt: &R,
     alloc: Global,
-    workshop: Workshop<S, Q>,
+    pool_thread: PoolThread<S, Q>,
 ) {
-    let Workshop { orders, outcomes } = workshop;
+    let PoolThread { orders, outcomes } = pool_thread;
     for _ in rt.forever() {
         let Ok(order) = orders.recv(rt) else {
             return;
@@ -197,14 +197,14 @@ fn build<S: Meet + Send + Drop, Q: Runner + Send + Drop, R: Threads + Wait + Syn
     }
 }
 
-/// Has a crew build in a thread of its own. Where none can be made, its workshop is let go, and whoever
-/// hands goals to the crew is told so.
+/// Has a pool build in a thread of its own. Where none can be made, its pool_thread is let go, and whoever
+/// hands goals to the pool is told so.
 pub(crate) fn start_building<
     's,
     E,
     S: Meet + Send + Drop + 's,
     Q: Runner + Send + Drop + 's,
     R: Threads + Wait + Sync,
->(rt: &'s R, alloc: Global, scope: &Scope<'s, E>, workshop: Workshop<S, Q>) {
-    let _ = scope.spawn(move || build(rt, alloc, workshop));
+>(rt: &'s R, alloc: Global, scope: &Scope<'s, E>, pool_thread: PoolThread<S, Q>) {
+    let _ = scope.spawn(move || build(rt, alloc, pool_thread));
 }

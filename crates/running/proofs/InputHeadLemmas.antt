@@ -5,7 +5,7 @@ use Rattle.model.specs.Lines.{split, cut_at}
 use Rattle.model.specs.Talk.{Seen, Row, Silent, Names, Refuses, Asks, Waits, GetsNext, after, answer_text, reply_text, row_text}
 use Rattle.model.specs.Events.{Reply, Done, Refused}
 use Rattle.lines.proofs.CutLemmas.{split-one, split-more}
-use Rattle.running.specs.Openings.{FirstNames}
+use Rattle.running.specs.InputHeads.{FirstNames}
 
 -- a text that ends in a byte is not empty
 some_text : (front : List ℕ) (last : ℕ) → front ++ last ∷ [] ≡ [] → ⊥
