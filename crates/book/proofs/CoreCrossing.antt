@@ -45,7 +45,7 @@ use Rattle.schedule.specs.contracts.state.Core as Core
 use Rattle.schedule.specs.contracts.work.Work as Work
 use Rattle.schedule.specs.contracts.work.Ready as Ready
 use Rattle.history.specs.contracts.row.Row as Row
-use Rattle.history.proofs.beginning.Beginning.TheSendSync as beginnings
+use Rattle.history.proofs.history_prefix.HistoryPrefix.TheSendSync as beginnings
 use Rattle.left_right.specs.contracts.reader.Reader as Reader
 use Rattle.left_right.proofs.reader.Reader.TheSendSync as readers
 use Rattle.left_right.proofs.writer.Writer.TheSendSync as writers

@@ -6,7 +6,7 @@ use Rattle.history.specs.Histories.{IsLegal}
 use Rattle.history.proofs.HistoryLemmas.{legal_none}
 use Rattle.history.specs.declared.law.Shown.{Shown}
 use Rattle.history.specs.declared.law.View.{View}
-use Rattle.history.specs.Naming.{setup_in}
+use Rattle.history.specs.FrontId.{setup_in}
 use Rattle.history.specs.Tied.{stranger, Tied}
 
 -- where nothing is shown yet, and nobody knows anything, the rule holds

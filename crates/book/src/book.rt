@@ -22,7 +22,7 @@ use crate::history::History;
 use crate::pass::Pass as Seer;
 use crate::publisher::Publisher;
 use crate::steps::step;
-use history::{Beginning, Log, Naming, Pass, Row, StopCount};
+use history::{HistoryPrefix, Log, FrontId, Pass, Row, StopCount};
 use laws::{isolation, timed_isolation};
 use model::Refusal;
 use schedule::{Core, Event, Ready, Reply, RunningJob, User};
@@ -37,7 +37,7 @@ use std::sync::{Wait, ledger};
 /// those of private desks, and the core stands for the desks that the events reach. Each row is
 /// published before it is told. If memory is refused for that, once the core has taken the event, the
 /// book is stopped: the core is not used any more, and what was published before stays to be read.
-pub struct Book<J: Naming> {
+pub struct Book<J: FrontId> {
     core: Core,
     history: Vec<Row>,
     calls: ledger::Book<J>,
@@ -48,7 +48,7 @@ pub struct Book<J: Naming> {
     stopped: bool,
 }
 
-impl<J: Naming> Drop for Book<J> {
+impl<J: FrontId> Drop for Book<J> {
     fn drop(self) {
         let Book {
             core: _,
@@ -63,7 +63,7 @@ impl<J: Naming> Drop for Book<J> {
     }
 }
 
-impl<J: Naming> Model for Book<J> {
+impl<J: FrontId> Model for Book<J> {
     ghost use Rattle.std.specs.Prelude.{◌≡◌, true, false, length};
     ghost use Rattle.history.specs.Callers.{stops_of};
     ghost use Rattle.book.specs.Keeping.{Contents, Kept};
@@ -111,7 +111,7 @@ pub(crate) fn refuse(why: Refusal, _event: Event) -> Reply
     Reply::Refused(why)
 }
 
-impl<J: Naming> Book<J> {
+impl<J: FrontId> Book<J> {
     /// A book of a new core, with an empty history.
     pub(crate) fn new(
         alloc: Global,
@@ -369,7 +369,7 @@ impl<J: Naming> Book<J> {
     }
 
     /// All rows, as a pass may have seen them.
-    pub(crate) fn seen(&self) -> Beginning
+    pub(crate) fn seen(&self) -> HistoryPrefix
         ensures { (result.seen.log ≡ self.now.rows) × (result.seen.book ≡ J.book) }
     {
         self.publisher.seen()
@@ -421,12 +421,12 @@ impl<J: Naming> Book<J> {
 
 /// The parts of all passes, and those of a share that has none. What each pass knows is compared
 /// with what is recorded, and what it has seen with all rows.
-fn merged<J: Naming, R: Wait>(
+fn merged<J: FrontId, R: Wait>(
     rt: &R,
     mut all: Counts<J>,
     mut passes: Vec<Seer<J>>,
     log: &mut Log<J>,
-    rows: &Beginning,
+    rows: &HistoryPrefix,
 ) -> Counts<J>
     requires all { (all.calls.parts ≡ 0) × (all.calls.amount ≡ 0) }
     requires stops { (all.stops.parts ≡ 0) × (all.stops.amount ≡ 0) }

@@ -8,7 +8,7 @@ ghost use Rattle.events.specs.declared.reply.Reply.TheVariants.{Refused};
 ghost use Rattle.history.specs.Callers.{told_stopped, knowing, stops_of, below, rows_of, new_pass, with_caller, seeing};
 ghost use Rattle.history.specs.Tokens.{nothing_recorded};
 ghost use Rattle.history.specs.Histories.{row, gave_up, IsLegal, IsAnswered};
-ghost use Rattle.history.specs.Naming.{name_of};
+ghost use Rattle.history.specs.FrontId.{name_of};
 ghost use Rattle.history.specs.Tied.{knower};
 ghost use Rattle.book.specs.Asking.{IsAskedAfter};
 ghost use Rattle.book.specs.Keeping.{IsNew};
@@ -19,7 +19,7 @@ use crate::history::History;
 use crate::pass::Pass;
 use crate::publisher::Publisher;
 use history::{
-    Beginning, Blank, Log, Naming, Pass as Caller, Snapshot, SnapshotWriter, StopCount, begin,
+    HistoryPrefix, FrontTokens, Log, FrontId, Pass as Caller, Snapshot, SnapshotWriter, StopCount, begin,
     reader_of,
 };
 use model::Refusal;
@@ -41,22 +41,22 @@ const MOST_REPAIRED_BYTES: u32 = 41_943_040;
 
 /// A core with the history of its calls, under a lock, and what is published of it. Threads share it by
 /// reference, and each calls it through a [`Pass`] of its own.
-pub struct Front<J: Naming> {
+pub struct Front<J: FrontId> {
     book: Mutex<Book<J>>,
 }
 
-impl<J: Naming> Drop for Front<J> {
+impl<J: FrontId> Drop for Front<J> {
     fn drop(self) {
         let Front { book: _ } = self;
     }
 }
 
 /// While it lasts, no call is answered. Reads are.
-pub struct Hold<'a, J: Naming> {
+pub struct Hold<'a, J: FrontId> {
     _book: MutexGuard<'a, Book<J>>,
 }
 
-impl<J: Naming> Drop for Hold<'_, J> {
+impl<J: FrontId> Drop for Hold<'_, J> {
     fn drop(self) {
         let Hold { _book: _ } = self;
     }
@@ -77,14 +77,14 @@ fn most_repaired_bytes(n: u64) -> u32
 }
 
 /// So many passes, each with a part of the count and a reader.
-fn passes_of<J: Naming>(
+fn passes_of<J: FrontId>(
     alloc: Global,
     core: &Core,
     n: u64,
     all: &mut Counts<J>,
     log: &mut Log<J>,
     writer: &mut SnapshotWriter,
-    none: &Beginning,
+    none: &HistoryPrefix,
 ) -> Result<Vec<Pass<J>>, Refusal>
     requires some { 0 < n }
     requires all { (all.old.calls.parts ≡ n) × (all.old.calls.amount ≡ 0) }
@@ -115,11 +115,11 @@ fn passes_of<J: Naming>(
 }
 
 /// A writer of two new copies of a core, which is new.
-fn writer_of<J: Naming, R: Wait>(
+fn writer_of<J: FrontId, R: Wait>(
     rt: &R,
     alloc: Global,
     core: &Core,
-    none: &Beginning,
+    none: &HistoryPrefix,
 ) -> Result<SnapshotWriter, Refusal>
     requires core { IsNew J.setup core.now }
     requires none { (none.now.seen.log ≡ []) × (none.now.seen.book ≡ J.book) }
@@ -142,7 +142,7 @@ fn writer_of<J: Naming, R: Wait>(
     Err(Refusal::Memory)
 }
 
-impl<J: Naming> Front<J> {
+impl<J: FrontId> Front<J> {
     /// A front over a new core, and its passes, of the numbers 0 to n - 1. It publishes two copies of the
     /// core, so it may wait.
     ///
@@ -155,7 +155,7 @@ impl<J: Naming> Front<J> {
     pub fn new<R: Wait>(
         rt: &R,
         alloc: Global,
-        blank: Blank,
+        blank: FrontTokens,
         core: Core,
         n: u64,
     ) -> Result<(Front<J>, Vec<Pass<J>>), Refusal>
@@ -169,7 +169,7 @@ impl<J: Naming> Front<J> {
         ensures passes { IfOk result (λ made. made.1.items ≡ map new_pass (below n)) }
         ensures memory { IfErr result (λ why. why ≡ Memory) }
     {
-        let Blank {
+        let FrontTokens {
             calls,
             stops,
             log,

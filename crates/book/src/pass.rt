@@ -10,7 +10,7 @@ ghost use Rattle.history.specs.Callers.{told_stopped, knowing, rows_of, seeing, 
 ghost use Rattle.history.specs.Histories.{row, gave_up, IsLegal, IsAnswered, IsReadAfter};
 ghost use Rattle.events.specs.Terms.{event_of};
 ghost use Rattle.history.specs.Following.{FindsRead, IsNeedAfter, IsPreparedAfter};
-ghost use Rattle.history.specs.Naming.{name_of, book_in, setup_in};
+ghost use Rattle.history.specs.FrontId.{name_of, book_in, setup_in};
 ghost use Rattle.history.specs.Tied.{knower};
 ghost use Rattle.book.specs.Asking.{IsAskedAfter};
 
@@ -18,7 +18,7 @@ use crate::book::Book;
 use crate::publisher::insist;
 use core::mem::replace_with;
 use history::{
-    Beginning, Naming, Pass as Caller, SnapshotReader, StopCount, computed, has_given_up, look,
+    HistoryPrefix, FrontId, Pass as Caller, SnapshotReader, StopCount, computed, has_given_up, look,
     need,
 };
 use laws::{isolation, kept_closures_are_good, timed_isolation};
@@ -30,20 +30,20 @@ use std::sync::Wait;
 use std::sync::ledger::Share;
 
 /// One caller of a front, with what it has seen of the history.
-pub struct Pass<J: Naming> {
+pub struct Pass<J: FrontId> {
     caller: Caller<J>,
     /// Its part of the count of stops.
     stops: Share<StopCount<J>>,
     /// How many rows it is sure of.
     sure: u64,
-    seen: Beginning,
+    seen: HistoryPrefix,
     reader: SnapshotReader,
     /// Records that were repaired for its closures.
     repaired: Cache,
     alloc: Global,
 }
 
-impl<J: Naming> Drop for Pass<J> {
+impl<J: FrontId> Drop for Pass<J> {
     fn drop(self) {
         let Pass {
             caller: _,
@@ -59,11 +59,11 @@ impl<J: Naming> Drop for Pass<J> {
 
 /// Contracts see a pass as what it knows of its calls, the rows that it has seen, which begin with
 /// those that it is sure of, and how many of its calls stopped the front.
-impl<J: Naming> Model for Pass<J> {
+impl<J: FrontId> Model for Pass<J> {
     ghost use Rattle.std.specs.Prelude.{◌≡◌, length};
     ghost use mathlib.Core.List.{IsPrefix};
     ghost use Rattle.history.specs.Callers.{Known};
-    ghost use Rattle.history.specs.Naming.{name_of};
+    ghost use Rattle.history.specs.FrontId.{name_of};
     ghost use Rattle.history.specs.Tied.{knower};
 
     ghost Value = { Known };
@@ -85,7 +85,7 @@ impl<J: Naming> Model for Pass<J> {
 }
 
 /// Looks for the answer to a query after the rows that are published, with these rows.
-fn look_by(reader: SnapshotReader, query: Query) -> (SnapshotReader, Option<(Finding, Beginning)>)
+fn look_by(reader: SnapshotReader, query: Query) -> (SnapshotReader, Option<(Finding, HistoryPrefix)>)
     requires { (view reader.place).knows ≡ true }
     ensures view { view result.0.place ≡ view reader.place }
     ensures rows { IfSome result.1 (λ t. t.1.seen.book ≡ book_in (view reader.place).name) }
@@ -101,7 +101,7 @@ fn look_by(reader: SnapshotReader, query: Query) -> (SnapshotReader, Option<(Fin
 fn need_by(
     reader: SnapshotReader,
     event: &Event,
-) -> (SnapshotReader, Option<(Result<Need, Refusal>, Beginning)>)
+) -> (SnapshotReader, Option<(Result<Need, Refusal>, HistoryPrefix)>)
     requires { (view reader.place).knows ≡ true }
     ensures view { view result.0.place ≡ view reader.place }
     ensures rows { IfSome result.1 (λ t. t.1.seen.book ≡ book_in (view reader.place).name) }
@@ -134,12 +134,12 @@ fn let_go_after(repaired: &mut Cache, reply: &Reply) {
     }
 }
 
-impl<J: Naming> Pass<J> {
+impl<J: FrontId> Pass<J> {
     /// A pass that has made no call, and seen nothing.
     pub(crate) fn new(
         caller: Caller<J>,
         stops: Share<StopCount<J>>,
-        seen: Beginning,
+        seen: HistoryPrefix,
         reader: SnapshotReader,
         repaired: Cache,
         alloc: Global,
@@ -191,7 +191,7 @@ impl<J: Naming> Pass<J> {
     }
 
     /// Sees rows, if they begin with all that it had seen, and says whether it does.
-    fn see(&mut self, rows: Beginning) -> bool
+    fn see(&mut self, rows: HistoryPrefix) -> bool
         requires { rows.seen.book ≡ J.book }
         ensures { MatchBool result (IsPrefix self.old.seen rows.seen.log
             × (self.new ≡ seeing self.old rows.seen.log)) (self.new ≡ self.old) }
@@ -391,7 +391,7 @@ impl<J: Naming> Pass<J> {
     pub(crate) fn into_caller<R: Wait>(
         self,
         rt: &R,
-        rows: &Beginning,
+        rows: &HistoryPrefix,
     ) -> (Caller<J>, Share<StopCount<J>>)
         requires { rows.now.seen.book ≡ J.book }
         ensures caller { result.0 ≡ self.caller }

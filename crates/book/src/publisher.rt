@@ -3,12 +3,12 @@
 ghost use Rattle.std.specs.Prelude.{◌≡◌, ◌+◌, ◌<◌, ◌^◌, ◌++◌, ◌∷◌, [], drop, length, true, false, MatchBool};
 ghost use Rattle.std.specs.Arc.{arc_value};
 ghost use Rattle.history.specs.Histories.{IsLegal};
-ghost use Rattle.history.specs.Naming.{name_of, book_in, setup_in};
+ghost use Rattle.history.specs.FrontId.{name_of, book_in, setup_in};
 ghost use Rattle.history.specs.Tied.{IsQuiet};
 ghost use Rattle.book.specs.Publishing.{Published};
 
 use core::mem::replace_with;
-use history::{Beginning, End, Head, Naming, NewRow, Row, SnapshotWriter, publish, sweep};
+use history::{HistoryPrefix, End, HistoryLength, FrontId, NewRow, Row, SnapshotWriter, publish, sweep};
 use schedule::Ready;
 use std::marker::Model;
 use std::sync::{Arc, Wait};
@@ -18,14 +18,14 @@ const MOST_ROWS: u64 = 1 << 61;
 
 /// The writer of the snapshot, with the history as those see it who do not take the lock. Contracts see
 /// the rows that are published, and whether another can be: none can after one was refused.
-pub(crate) struct Publisher<J: Naming> {
-    head: Head<J>,
-    rows: Beginning,
+pub(crate) struct Publisher<J: FrontId> {
+    head: HistoryLength<J>,
+    rows: HistoryPrefix,
     end: End,
     whole: bool,
 }
 
-impl<J: Naming> Drop for Publisher<J> {
+impl<J: FrontId> Drop for Publisher<J> {
     fn drop(self) {
         let Publisher {
             head: _,
@@ -36,10 +36,10 @@ impl<J: Naming> Drop for Publisher<J> {
     }
 }
 
-impl<J: Naming> Model for Publisher<J> {
+impl<J: FrontId> Model for Publisher<J> {
     ghost use Rattle.std.specs.Prelude.{◌≡◌, drop, true};
     ghost use Rattle.book.specs.Publishing.{Published};
-    ghost use Rattle.history.specs.Naming.{name_of};
+    ghost use Rattle.history.specs.FrontId.{name_of};
     ghost use Rattle.history.specs.Tied.{IsQuiet};
 
     ghost Value = { Published };
@@ -103,9 +103,9 @@ fn sweep_next<R: Wait>(writer: SnapshotWriter, rt: &R) -> (SnapshotWriter, bool)
     sweep(rt, writer)
 }
 
-impl<J: Naming> Publisher<J> {
+impl<J: FrontId> Publisher<J> {
     /// A publisher of a writer of no rows.
-    pub(crate) fn new(head: Head<J>, rows: Beginning, writer: SnapshotWriter) -> Publisher<J>
+    pub(crate) fn new(head: HistoryLength<J>, rows: HistoryPrefix, writer: SnapshotWriter) -> Publisher<J>
         requires rows { (rows.seen.log ≡ []) × (rows.seen.book ≡ J.book) }
         requires writer { (writer.desk.shown.value.rows ≡ [])
             × (writer.desk.shown.value.name ≡ name_of J.book J.setup)
@@ -161,7 +161,7 @@ impl<J: Naming> Publisher<J> {
     }
 
     /// All rows that are published.
-    pub(crate) fn seen(&self) -> Beginning
+    pub(crate) fn seen(&self) -> HistoryPrefix
         ensures { (result.seen.log ≡ self.now.rows) × (result.seen.book ≡ J.book) }
     {
         self.rows.again()

@@ -8,7 +8,7 @@ ghost use Rattle.history.specs.Histories.{row, gave_up, IsLegal};
 ghost use Rattle.book.specs.Keeping.{Kept, Steps, TookEvent};
 
 use crate::publisher::Publisher;
-use history::{Naming, Row};
+use history::{FrontId, Row};
 use laws::{isolation, timed_isolation};
 use model::Refusal;
 use schedule::{Core, Event, Ready, Reply};
@@ -57,7 +57,7 @@ fn row_again(row: &Row) -> Result<Row, AllocError>
 }
 
 /// Publishes a copy of a row, with the values that were made for its event, and says whether it did.
-fn show<J: Naming, R: Wait>(
+fn show<J: FrontId, R: Wait>(
     rt: &R,
     alloc: Global,
     publisher: &mut Publisher<J>,
@@ -83,7 +83,7 @@ fn show<J: Naming, R: Wait>(
 /// where the core has taken the event, and memory is refused for publishing the row. The error is the
 /// core's own want of memory, at which the core is as it was.
 #[tactic(auto, using(crate::proofs::ReplyLemmas::wants_memory))]
-pub(crate) fn step<J: Naming, R: Wait>(
+pub(crate) fn step<J: FrontId, R: Wait>(
     rt: &R,
     alloc: Global,
     core: &mut Core,

@@ -6,8 +6,8 @@ use mathlib.Core.List.{IsPrefix}
 use prog.Atomic.{either}
 use Rattle.logbook.specs.Pages.{Cell, cell, keeps, no_nib, step, Moves, Goes}
 use Rattle.history.specs.declared.row.Row.{Row}
-use Rattle.history.specs.Beginnings.{IsCounted, Adds}
-use Rattle.history.proofs.BeginningLemmas.{prefix_all}
+use Rattle.history.specs.HistoryPrefixes.{IsCounted, Adds}
+use Rattle.history.proofs.PrefixLemmas.{prefix_all}
 
 abbrev pub shown : List Row → List Row
 shown log = []

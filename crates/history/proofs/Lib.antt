@@ -4,6 +4,6 @@ pub mod LegalLemmas
 pub mod Prefixes
 pub mod TokenLemmas
 pub mod RowLemmas
-pub mod BeginningLemmas
+pub mod PrefixLemmas
 pub mod AddingLemmas
 pub mod HistoryLemmas

@@ -15,7 +15,7 @@ use Rattle.std.specs.Arc.{arc_value}
 use Rattle.history.specs.declared.snapshot.NewRow.{NewRow}
 use Rattle.history.specs.declared.snapshot.Operation.{Operation}
 use Rattle.history.specs.declared.snapshot.Operation.TheVariants.{Add, Sweep}
-use Rattle.history.specs.Naming.{name_of, book_in, setup_in}
+use Rattle.history.specs.FrontId.{name_of, book_in, setup_in}
 use Rattle.history.specs.Tied.{knower, stranger, added, absorbed, IsQuiet, Tied, Sees}
 
 abbrev Fits : Name → View → Type 0

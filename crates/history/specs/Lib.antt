@@ -1,7 +1,7 @@
-pub mod Naming
+pub mod FrontId
 pub mod Following
 pub mod Tied
 pub mod Callers
 pub mod Tokens
-pub mod Beginnings
+pub mod HistoryPrefixes
 pub mod Histories

@@ -12,7 +12,7 @@ use Rattle.history.specs.Histories.{IsLegal}
 use Rattle.history.specs.declared.snapshot.NewRow.{NewRow}
 use Rattle.history.specs.declared.snapshot.Operation.{Operation}
 use Rattle.history.specs.declared.snapshot.Operation.TheVariants.{Add, Sweep}
-use Rattle.history.specs.Naming.{name_of, setup_in}
+use Rattle.history.specs.FrontId.{name_of, setup_in}
 
 abbrev pub no_name : Name
 no_name = record { number = 0; log_name = 0; cells_name = 0; users = []; charge = 0 }

@@ -8,12 +8,12 @@ ghost use Rattle.history.specs.Histories.{IsLegal};
 ghost use Rattle.model.specs.declared.refusal.Refusal.TheVariants.{Memory};
 ghost use Rattle.events.specs.Terms.{event_of};
 ghost use Rattle.history.specs.Following.{FindsRead, IsNeedAfter};
-ghost use Rattle.history.specs.Naming.{book_in, setup_in};
+ghost use Rattle.history.specs.FrontId.{book_in, setup_in};
 ghost use Rattle.crossbeam_utils.specs.Register.{TurnsAt};
 ghost use Rattle.history.specs.declared.law.Shown.{Shown};
 ghost use Rattle.history.specs.Tied.{knower, absorbed, added, IsQuiet, Tied, Sees};
 
-use crate::beginning::Beginning;
+use crate::history_prefix::HistoryPrefix;
 use crate::law::{Looks, SnapshotReader, SnapshotWriter, Tells};
 use crate::snapshot::{NewRow, Operation};
 use model::Refusal;
@@ -24,7 +24,7 @@ use std::sync::Wait;
 /// Looks for what is only read after the rows that are published, with these rows, which are a legal
 /// history. It waits for nobody, and what it finds is served once the snapshot is left. Nothing is found
 /// where the writer is gone.
-pub fn look(reader: SnapshotReader, query: Query) -> (SnapshotReader, Option<(Finding, Beginning)>)
+pub fn look(reader: SnapshotReader, query: Query) -> (SnapshotReader, Option<(Finding, HistoryPrefix)>)
     requires { (view reader.place).knows ≡ true }
     ensures view { view result.0.place ≡ view reader.place }
     ensures rows { IfSome result.1 (λ t. t.1.seen.book ≡ book_in (view reader.place).name) }
@@ -49,7 +49,7 @@ pub fn look(reader: SnapshotReader, query: Query) -> (SnapshotReader, Option<(Fi
 pub fn need(
     reader: SnapshotReader,
     event: &Event,
-) -> (SnapshotReader, Option<(Result<Need, Refusal>, Beginning)>)
+) -> (SnapshotReader, Option<(Result<Need, Refusal>, HistoryPrefix)>)
     requires { (view reader.place).knows ≡ true }
     ensures view { view result.0.place ≡ view reader.place }
     ensures rows { IfSome result.1 (λ t. t.1.seen.book ≡ book_in (view reader.place).name) }

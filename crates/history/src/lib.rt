@@ -9,20 +9,20 @@
 //! published and waits for nobody.
 #![tactic(auto)]
 
-mod beginning;
+mod history_prefix;
 mod ends;
 mod law;
 mod log;
-mod naming;
+mod front_id;
 mod pass;
 mod row;
 mod snapshot;
 
-pub use beginning::{Beginning, Empty, Head, Lengths};
+pub use history_prefix::{HistoryPrefix, EmptyHistory, HistoryLength, Lengths};
 pub use ends::{begin, computed, look, need, publish, reader_of, sweep};
 pub use law::{End, Law, Looks, Name, Shown, SnapshotReader, SnapshotWriter, Tells, View};
-pub use log::{Blank, Claim, Log, Opened};
-pub use naming::{Naming, StopCount};
+pub use log::{FrontTokens, Claim, Log, LogTable};
+pub use front_id::{FrontId, StopCount};
 pub use pass::Pass;
 pub use row::{Row, has_given_up};
 pub use snapshot::{NewRow, Operation, Snapshot};

@@ -7,8 +7,8 @@
 ghost use Rattle.std.specs.Prelude.{◌≡◌, ◌++◌, ◌∷◌, [], IfOk};
 ghost use Rattle.history.specs.Tokens.{nothing_recorded, keeper, with_rows, with_pass, stopped_book, first_claim, claim_of, told, Agrees};
 
-use crate::beginning::Empty;
-use crate::naming::Naming;
+use crate::history_prefix::EmptyHistory;
+use crate::front_id::FrontId;
 use crate::row::Row;
 use atomic_table::{Join, Play, Seat, Split, Table, TableRule};
 use std::alloc::{AllocError, Global};
@@ -137,7 +137,7 @@ impl Join<View> for AddClaim {
 }
 
 /// The tokens of a new front, which has no name yet.
-pub struct Opened {
+pub struct LogTable {
     /// The table of the tokens.
     pub table: Table<(), View, (), Law, Global>,
     seat: Seat<(), View>,
@@ -146,25 +146,25 @@ pub struct Opened {
     ghost empty: { seat.me ≡ (keeper nothing_recorded, []) },
 }
 
-impl Drop for Opened {
+impl Drop for LogTable {
     fn drop(self) {
-        let Opened { table: _, seat: _ } = self;
+        let LogTable { table: _, seat: _ } = self;
     }
 }
 
-impl Opened {
+impl LogTable {
     /// Those of a book that has recorded nothing.
-    pub(crate) fn new(alloc: Global) -> Result<Opened, AllocError> {
+    pub(crate) fn new(alloc: Global) -> Result<LogTable, AllocError> {
         let (table, seat) = Table::of_words(alloc, &[0], &())?;
-        Ok(Opened { table, seat })
+        Ok(LogTable { table, seat })
     }
 
     /// The log, under a name.
-    pub fn named<J: Naming>(self) -> Log<J>
+    pub fn named<J: FrontId>(self) -> Log<J>
         requires { self.table.shared.table_id ≡ J.table }
         ensures { result ≡ nothing_recorded }
     {
-        let Opened { table, seat } = self;
+        let LogTable { table, seat } = self;
         Log {
             table,
             seat,
@@ -175,45 +175,45 @@ impl Opened {
 
 /// What a new front needs, under no name yet: its ledgers, and its tokens.
 #[derive(Drop)]
-pub struct Blank {
+pub struct FrontTokens {
     /// The ledger that counts its calls.
-    pub calls: ledger::Blank,
+    pub calls: ledger::FrontTokens,
     /// The ledger that counts its stops.
-    pub stops: ledger::Blank,
+    pub stops: ledger::FrontTokens,
     /// Its tokens.
-    pub log: Opened,
+    pub log: LogTable,
     /// Its history as those see it who do not take the lock.
-    pub rows: Empty,
+    pub rows: EmptyHistory,
     ghost same_parts: { stops.parts ≡ calls.parts },
 }
 
-impl Blank {
+impl FrontTokens {
     /// A blank for so many passes, of which a front takes 1 to 64.
     ///
     /// # Errors
     ///
     /// - `AllocError` only where memory was refused.
-    pub fn new(alloc: Global, passes: u64) -> Result<Blank, AllocError>
+    pub fn new(alloc: Global, passes: u64) -> Result<FrontTokens, AllocError>
         ensures { IfOk result (λ blank. blank.calls.parts ≡ passes) }
     {
-        let log = Opened::new(alloc)?;
-        Ok(Blank {
-            calls: ledger::Blank::new(passes),
-            stops: ledger::Blank::new(passes),
+        let log = LogTable::new(alloc)?;
+        Ok(FrontTokens {
+            calls: ledger::FrontTokens::new(passes),
+            stops: ledger::FrontTokens::new(passes),
             log,
-            rows: Empty::new(),
+            rows: EmptyHistory::new(),
         })
     }
 }
 
 /// The one token that knows all that is recorded. Contracts see it as that.
-pub struct Log<J: Naming> {
+pub struct Log<J: FrontId> {
     table: Table<(), View, (), Law, Global>,
     seat: Seat<(), View>,
     of: PhantomData<J>,
 }
 
-impl<J: Naming> Drop for Log<J> {
+impl<J: FrontId> Drop for Log<J> {
     fn drop(self) {
         let Log {
             table: _,
@@ -223,7 +223,7 @@ impl<J: Naming> Drop for Log<J> {
     }
 }
 
-impl<J: Naming> Model for Log<J> {
+impl<J: FrontId> Model for Log<J> {
     ghost use Rattle.std.specs.Prelude.{◌≡◌, []};
     ghost use Rattle.history.specs.declared.log.Recorded.{Recorded};
     ghost use Rattle.history.specs.Tokens.{keeper};
@@ -243,18 +243,18 @@ impl<J: Naming> Model for Log<J> {
 }
 
 /// The one token of a pass. Contracts see it as what the pass knows.
-pub struct Claim<J: Naming> {
+pub struct Claim<J: FrontId> {
     seat: Seat<(), View>,
     of: PhantomData<J>,
 }
 
-impl<J: Naming> Drop for Claim<J> {
+impl<J: FrontId> Drop for Claim<J> {
     fn drop(self) {
         let Claim { seat: _, of: _ } = self;
     }
 }
 
-impl<J: Naming> Model for Claim<J> {
+impl<J: FrontId> Model for Claim<J> {
     ghost use Rattle.std.specs.Prelude.{◌≡◌, []};
     ghost use Rattle.history.specs.declared.log.Claimed.{Claimed};
     ghost use Rattle.history.specs.Tokens.{holder};
@@ -272,7 +272,7 @@ impl<J: Naming> Model for Claim<J> {
         × (c.seat.me ≡ (holder c.seat.me.0.claimed, [])) };
 }
 
-impl<J: Naming> Log<J> {
+impl<J: FrontId> Log<J> {
     /// The claim of the next pass.
     pub fn next_claim(&mut self) -> Claim<J>
         ensures claim { result ≡ first_claim self.old }

@@ -5,7 +5,7 @@ ghost use Rattle.history.specs.Callers.{newcomer, answered, told_stopped, knowin
 ghost use Rattle.history.specs.Tokens.{with_rows};
 
 use crate::log::{Claim, Log};
-use crate::naming::Naming;
+use crate::front_id::FrontId;
 use crate::row::Row;
 use std::marker::Model;
 use std::sync::ledger;
@@ -13,13 +13,13 @@ use std::sync::ledger::Share;
 
 /// One caller of a front. It has a number of its own, its part of the count of all calls, and a
 /// claim of what it knows of the history.
-pub struct Pass<J: Naming> {
+pub struct Pass<J: FrontId> {
     number: u64,
     calls: Share<J>,
     claim: Claim<J>,
 }
 
-impl<J: Naming> Drop for Pass<J> {
+impl<J: FrontId> Drop for Pass<J> {
     fn drop(self) {
         let Pass {
             number: _,
@@ -31,7 +31,7 @@ impl<J: Naming> Drop for Pass<J> {
 
 /// Contracts see a pass as its number, how many of its calls have a row, its sure rows, which are
 /// the history right after the last of these, and whether it was told that the front is stopped.
-impl<J: Naming> Model for Pass<J> {
+impl<J: FrontId> Model for Pass<J> {
     ghost use Rattle.std.specs.Prelude.{◌≡◌, length};
     ghost use Rattle.history.specs.Callers.{Caller, rows_of};
 
@@ -54,7 +54,7 @@ impl<J: Naming> Model for Pass<J> {
         × (J.parts ≡ 1 → length p.claim.rows ≡ p.calls.amount) };
 }
 
-impl<J: Naming> Pass<J> {
+impl<J: FrontId> Pass<J> {
     /// A pass that has made no call.
     pub fn new(number: u64, calls: Share<J>, claim: Claim<J>) -> Pass<J>
         requires calls { (calls.parts ≡ 1) × (calls.amount ≡ 0) }

@@ -11,10 +11,10 @@ ghost use Rattle.events.specs.declared.reply.Reply.{Reply as GivenReply};
 ghost use Rattle.history.specs.Histories.{gave_up, event_in};
 ghost use Rattle.model.specs.declared.refusal.Refusal.TheVariants.{Memory};
 ghost use Rattle.history.specs.Following.{IsFresh, FindsRead, IsNeedAfter, Takes};
-ghost use Rattle.history.specs.Naming.{name_of, setup_in};
+ghost use Rattle.history.specs.FrontId.{name_of, setup_in};
 ghost use Rattle.history.specs.Tied.{absorbed, added};
 
-use crate::beginning::Beginning;
+use crate::history_prefix::HistoryPrefix;
 use crate::law::Shown;
 use crate::row::{Row, has_given_up};
 use left_right::Absorb;
@@ -29,7 +29,7 @@ use std::sync::Arc;
 pub struct Snapshot {
     core: Core,
     rows: Vec<Arc<Row>>,
-    seen: Beginning,
+    seen: HistoryPrefix,
     alloc: Global,
 }
 
@@ -49,7 +49,7 @@ impl Model for Snapshot {
     ghost use Rattle.std.specs.Arc.{arc_value};
     ghost use Rattle.schedule.specs.Standing.{setup_of};
     ghost use Rattle.history.specs.declared.law.Shown.{Shown};
-    ghost use Rattle.history.specs.Naming.{name_of};
+    ghost use Rattle.history.specs.FrontId.{name_of};
     ghost use Rattle.history.specs.Following.{Follows};
 
     ghost Value = { Shown };
@@ -75,7 +75,7 @@ pub struct NewRow {
     /// What the first core that took the event made, so that no other has to make it.
     pub ready: Ready,
     /// All rows of the history, this one the last.
-    pub after: Beginning,
+    pub after: HistoryPrefix,
 }
 
 impl Drop for NewRow {
@@ -138,7 +138,7 @@ impl Absorb<Operation> for Snapshot {
 
 impl Snapshot {
     /// A snapshot of a new core, which has no rows.
-    pub fn new(alloc: Global, core: Core, seen: Beginning) -> Snapshot
+    pub fn new(alloc: Global, core: Core, seen: HistoryPrefix) -> Snapshot
         requires { IsFresh core }
         ensures { result ≡ record {
           rows = [];
@@ -206,7 +206,7 @@ impl Snapshot {
     }
 
     /// The rows of the history that were published with it.
-    pub fn seen(&self) -> Beginning
+    pub fn seen(&self) -> HistoryPrefix
         ensures log { result.seen.log ≡ self.now.seen }
         ensures book { (result.seen.book.number ≡ self.now.name.number)
             × (result.seen.book.log_name ≡ self.now.name.log_name)

@@ -14,7 +14,7 @@ use crate::numbers::{FirstRun, Line, Named, Notes, Numbers};
 use crate::one_pass::OnePass;
 use crate::recorder::Recorder;
 use crate::settings::Settings;
-use book::{Blank, Front, Naming};
+use book::{FrontTokens, Front, FrontId};
 use model::Refusal;
 use schedule::{Core, Event, User};
 use session::{Session, next_line};
@@ -31,7 +31,7 @@ fn is_next_of(events: &[Event], before: usize, user: &User) -> bool
 }
 
 /// Runs a line, and tells what it was. The line is let go before its event is answered.
-fn ask_line<J: Naming, H: Wait>(
+fn ask_line<J: FrontId, H: Wait>(
     alloc: Global,
     session: &mut Session,
     recorder: &mut Recorder<'_, J, H>,
@@ -81,7 +81,7 @@ fn add_numbers(numbers: &mut Numbers, line: Line, number: usize) -> Result<(), A
 
 /// Runs a line, and adds its number to those of the user's where it makes an event of his, and to those that are
 /// refused with 25 where it is.
-fn ask_numbered<J: Naming, H: Wait>(
+fn ask_numbered<J: FrontId, H: Wait>(
     alloc: Global,
     notes: &mut Notes,
     recorder: &mut Recorder<'_, J, H>,
@@ -99,7 +99,7 @@ fn ask_numbered<J: Naming, H: Wait>(
 }
 
 /// Runs the lines of an input that are left.
-fn ask_lines<J: Naming, H: Wait, R: BufRead>(
+fn ask_lines<J: FrontId, H: Wait, R: BufRead>(
     alloc: Global,
     notes: &mut Notes,
     recorder: &mut Recorder<'_, J, H>,
@@ -121,10 +121,10 @@ fn ask_lines<J: Naming, H: Wait, R: BufRead>(
 
 /// Runs the lines of an input that are left by a new core, behind a lock that one pass takes. Gives the events
 /// that they make.
-fn ask_core<J: Naming, H: Wait, R: BufRead>(
+fn ask_core<J: FrontId, H: Wait, R: BufRead>(
     rt: &H,
     alloc: Global,
-    blank: Blank,
+    blank: FrontTokens,
     core: Core,
     notes: &mut Notes,
     input: &mut R,
@@ -188,7 +188,7 @@ pub(crate) fn first_run<H: Wait, R: BufRead>(
     let user = user_among(alloc, users.as_slice(), name)?;
     let copied = users.clone()?;
     let core = Core::new(alloc, hashing, copied, limits)?;
-    let blank = Blank::new(alloc, 1)?;
+    let blank = FrontTokens::new(alloc, 1)?;
     let numbers = Numbers {
         his: Vec::new(alloc),
         bad,

@@ -13,7 +13,7 @@ ghost use Rattle.replaying.specs.Replaying.{Replayed, ReplayedInPart};
 
 use crate::one_pass::OnePass;
 use crate::settings::Settings;
-use book::{Blank, Front, Naming};
+use book::{FrontTokens, Front, FrontId};
 use model::Refusal;
 use schedule::{Core, User};
 use session::{Begun, Faults, Head, Mode, flush_after, serve_head, serve_on};
@@ -26,10 +26,10 @@ use std::sync::Wait;
 /// Answers the lines behind the first ones, of what was read behind those and of the reader, by a new core,
 /// behind a lock that one pass takes. The store is not taken apart at the end: the program ends with it, and
 /// its memory is given back at once.
-fn serve_core<J: Naming, H: Wait, R: Read + Faults, W: Write + Faults>(
+fn serve_core<J: FrontId, H: Wait, R: Read + Faults, W: Write + Faults>(
     rt: &H,
     alloc: Global,
-    blank: Blank,
+    blank: FrontTokens,
     core: Core,
     sweeps: bool,
     begun: &mut Begun,
@@ -89,7 +89,7 @@ fn serve_users<H: Wait, R: Read + Faults, W: Write + Faults>(
     ensures output_fault { IfErr result (MayBeFault OutputFault begun.old.writer_failures (W.failed writer.new)) }
 {
     let core = Core::new(alloc, settings.hashing, users, settings.limits)?;
-    let blank = Blank::new(alloc, 1)?;
+    let blank = FrontTokens::new(alloc, 1)?;
     serve_core::<Brand, _, _, _>(rt, alloc, blank, core, sweeps, begun, reader, writer)
 }
 

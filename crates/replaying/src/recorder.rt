@@ -4,7 +4,7 @@ ghost use Rattle.std.specs.Prelude.{◌≡◌, ◌∷◌, ◌++◌, [], map, OnO
 ghost use Rattle.events.specs.Terms.{event_of};
 
 use crate::one_pass::OnePass;
-use book::Naming;
+use book::FrontId;
 use model::Refusal;
 use schedule::{Event, Reply};
 use session::{Answer, Job};
@@ -13,7 +13,7 @@ use std::sync::Wait;
 
 /// A store behind its one pass, and the events that it was asked.
 #[derive(Drop)]
-pub(crate) struct Recorder<'a, J: Naming, R: Wait> {
+pub(crate) struct Recorder<'a, J: FrontId, R: Wait> {
     pub(crate) store: OnePass<'a, J, R>,
     pub(crate) events: Vec<Event>,
     /// Whether memory was refused for one of them, so that it is not among them.
@@ -30,7 +30,7 @@ fn keep(events: &mut Vec<Event>, event: &Event) -> Result<(), AllocError>
 
 /// It answers as its store does, but that an event that cannot be kept is answered 90. No line of the
 /// service waits.
-impl<J: Naming, R: Wait> Answer for Recorder<'_, J, R> {
+impl<J: FrontId, R: Wait> Answer for Recorder<'_, J, R> {
     ghost use Rattle.std.specs.Prelude.{◌≡◌, map};
     ghost use Rattle.events.specs.Terms.{event_of};
     ghost use Rattle.model.specs.Events.{Done};

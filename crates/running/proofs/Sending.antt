@@ -5,13 +5,13 @@ use denote.Struct.Field.{shr_ref_field}
 use denote.Param.Send.{IsSend, IsSync, sendable, shr_send, view_send}
 use denote.Param.SendFields.{declared_send, as_row_send}
 use Rattle.std.specs.declared.sync.ledger.Ledger as Ledger
-use Rattle.history.specs.declared.naming.Naming as Naming
+use Rattle.history.specs.declared.front_id.FrontId as FrontId
 use Rattle.book.specs.contracts.front.Front as Front
 use Rattle.running.specs.contracts.shared.SharedStore as SharedStore
 use Rattle.running.specs.contracts.shared.SharedStore.TheInside as SharedInside
 use Rattle.book.proofs.Crossing.{front_sync, pass_send}
 
-module _ (a : NamedLft) (J R : RattleType) (n : Naming.Ghosts J.Denot) (l : Ledger.Ghosts J.Denot) where
+module _ (a : NamedLft) (J R : RattleType) (n : FrontId.Ghosts J.Denot) (l : Ledger.Ghosts J.Denot) where
   inside_send : IsSync R → IsSend (SharedInside.the_row a J R n l)
   inside_send y =
       let front : IsSync (Front.the_row J n l) = front_sync J n l in

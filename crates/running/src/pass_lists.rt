@@ -11,7 +11,7 @@ ghost use Rattle.running.specs.Desks.{AreFirst, IsDeskOf, AreDesksOf, IsPool, Ar
 use crate::sessions::{Desk, Left, Output, Part};
 use crate::shared::SharedStore;
 use crate::teams::Team;
-use book::{Front, Naming, Pass};
+use book::{Front, FrontId, Pass};
 use model::Refusal;
 use std::alloc::{AllocError, Global};
 use std::sync::Wait;
@@ -27,7 +27,7 @@ pub(crate) type SharedDesk<'a, J, R, Q, I> = Desk<SharedStore<'a, J, R>, Q, I>;
 pub(crate) type SharedLeft<'a, J, R, Q> = Left<SharedStore<'a, J, R>, Q>;
 
 /// The last of some passes.
-fn next_pass<J: Naming>(passes: &mut Vec<Pass<J>>) -> Result<Pass<J>, Refusal>
+fn next_pass<J: FrontId>(passes: &mut Vec<Pass<J>>) -> Result<Pass<J>, Refusal>
     requires { AreFirst passes.old.items }
     ensures pass { IfOk result (λ pass. pass ≡ new_pass (length passes.new.items)) }
     ensures count { IfOk result (λ _. length passes.old.items ≡ length passes.new.items + 1) }
@@ -41,7 +41,7 @@ fn next_pass<J: Naming>(passes: &mut Vec<Pass<J>>) -> Result<Pass<J>, Refusal>
 }
 
 /// Workers with these runners, each with a pass of its own.
-fn workers_with<'a, J: Naming, R: Wait, Q: Runner + Drop>(
+fn workers_with<'a, J: FrontId, R: Wait, Q: Runner + Drop>(
     rt: &'a R,
     alloc: Global,
     front: &'a Front<J>,
@@ -71,7 +71,7 @@ fn workers_with<'a, J: Naming, R: Wait, Q: Runner + Drop>(
 
 /// The desk of a file: the last passes are those of its workers, and the one before them is that of its
 /// session.
-fn desk_for<'a, J: Naming, R: Wait, Q: Runner + Drop, I: Drop>(
+fn desk_for<'a, J: FrontId, R: Wait, Q: Runner + Drop, I: Drop>(
     rt: &'a R,
     alloc: Global,
     front: &'a Front<J>,
@@ -107,7 +107,7 @@ fn desk_for<'a, J: Naming, R: Wait, Q: Runner + Drop, I: Drop>(
 }
 
 /// The desks of files.
-pub(crate) fn desks_for<'a, J: Naming, R: Wait, Q: Runner + Drop, I: Drop>(
+pub(crate) fn desks_for<'a, J: FrontId, R: Wait, Q: Runner + Drop, I: Drop>(
     rt: &'a R,
     alloc: Global,
     front: &'a Front<J>,
@@ -129,7 +129,7 @@ pub(crate) fn desks_for<'a, J: Naming, R: Wait, Q: Runner + Drop, I: Drop>(
 
 /// What sessions give back as they end.
 #[derive(Drop)]
-pub(crate) struct Back<J: Naming> {
+pub(crate) struct Back<J: FrontId> {
     /// What each file gave, in their order.
     pub(crate) outputs: Vec<Output>,
     /// The passes of the sessions and of their workers.
@@ -139,7 +139,7 @@ pub(crate) struct Back<J: Naming> {
 }
 
 /// Takes the passes of workers back.
-fn take_back<J: Naming, R: Wait, Q: Drop>(
+fn take_back<J: FrontId, R: Wait, Q: Drop>(
     workers: Vec<SharedWorker<'_, J, R, Q>>,
     back: &mut Back<J>,
 ) -> Result<(), AllocError>
@@ -158,7 +158,7 @@ fn take_back<J: Naming, R: Wait, Q: Drop>(
 }
 
 /// Takes back the passes of a session and of its workers, and its output.
-fn end_session<J: Naming, R: Wait, Q: Runner + Drop>(
+fn end_session<J: FrontId, R: Wait, Q: Runner + Drop>(
     left: SharedLeft<'_, J, R, Q>,
     back: &mut Back<J>,
 ) -> Result<(), AllocError>
@@ -182,7 +182,7 @@ fn end_session<J: Naming, R: Wait, Q: Runner + Drop>(
 }
 
 /// Takes back the passes of sessions and of their workers, and their outputs.
-pub(crate) fn end_sessions<J: Naming, R: Wait, Q: Runner + Drop>(
+pub(crate) fn end_sessions<J: FrontId, R: Wait, Q: Runner + Drop>(
     lefts: Vec<SharedLeft<'_, J, R, Q>>,
     back: &mut Back<J>,
 ) -> Result<(), AllocError>
@@ -199,7 +199,7 @@ pub(crate) fn end_sessions<J: Naming, R: Wait, Q: Runner + Drop>(
 }
 
 /// The numbers of the passes of sessions.
-pub(crate) fn numbers_of<J: Naming, R: Wait, Q: Runner + Drop, I: Drop>(
+pub(crate) fn numbers_of<J: FrontId, R: Wait, Q: Runner + Drop, I: Drop>(
     alloc: Global,
     desks: &[SharedDesk<'_, J, R, Q, I>],
 ) -> Result<Vec<u64>, AllocError>

@@ -15,7 +15,7 @@ ghost use Rattle.running.specs.Runs.{AreServed, IsClosed, AreResults, are_accoun
 use crate::pass_lists::{Back, SharedDesk, SharedLeft, desks_for, end_sessions, numbers_of};
 use crate::rounds::Rounds;
 use crate::sessions::{Output, Part, all_at_once};
-use book::{Blank, Front, History, Naming, Pass, Row};
+use book::{FrontTokens, Front, History, FrontId, Pass, Row};
 use model::Refusal;
 use schedule::{Core, Limits, User};
 use session::Faults;
@@ -64,7 +64,7 @@ fn are_accounted(sessions: &[u64], workers: &[u64], rows: &[Row]) -> bool
 /// Serves sessions that share a store, and the rounds that they have going.
 fn serve_all<
     'a,
-    J: Naming + Send + Sync,
+    J: FrontId + Send + Sync,
     R: Threads + Wait + Sync,
     Q: Runner + Send + Drop,
     I: Read + Faults + Send + Drop,
@@ -82,7 +82,7 @@ fn serve_all<
 
 /// Room for what sessions give back, taken before they begin: for so many passes, and for the outputs of so
 /// many files.
-fn room_for<J: Naming>(alloc: Global, passes: usize, files: usize) -> Result<Back<J>, AllocError>
+fn room_for<J: FrontId>(alloc: Global, passes: usize, files: usize) -> Result<Back<J>, AllocError>
     ensures passes { IfOk result (λ back. back.passes.items ≡ []) }
     ensures outputs { IfOk result (λ back. back.outputs.items ≡ []) }
     ensures workers { IfOk result (λ back. back.workers.items ≡ []) }
@@ -96,7 +96,7 @@ fn room_for<J: Naming>(alloc: Global, passes: usize, files: usize) -> Result<Bac
 
 /// What the sessions of files leave.
 #[derive(Drop)]
-struct Ended<J: Naming> {
+struct Ended<J: FrontId> {
     /// What they gave back.
     back: Back<J>,
     /// The numbers of the passes of the sessions.
@@ -105,7 +105,7 @@ struct Ended<J: Naming> {
 
 /// Runs the lines of files as sessions that share a front, with these passes.
 fn serve_front<
-    J: Naming + Send + Sync,
+    J: FrontId + Send + Sync,
     R: Threads + Wait + Sync,
     Q: Runner + Send + Drop,
     I: Read + Faults + Send + Drop,
@@ -138,7 +138,7 @@ fn serve_front<
 ///
 /// - `Memory` where a pass has not come back, and where a row is of no session and of no worker: neither
 ///   comes.
-fn close_front<J: Naming, R: Wait>(
+fn close_front<J: FrontId, R: Wait>(
     rt: &R,
     front: Front<J>,
     count: u64,
@@ -167,14 +167,14 @@ fn close_front<J: Naming, R: Wait>(
 
 /// Runs the lines of files by a new core, behind a lock that their passes take, and closes it.
 fn run_core<
-    J: Naming + Send + Sync,
+    J: FrontId + Send + Sync,
     R: Threads + Wait + Sync,
     Q: Runner + Send + Drop,
     I: Read + Faults + Send + Drop,
 >(
     rt: &R,
     alloc: Global,
-    blank: Blank,
+    blank: FrontTokens,
     core: Core,
     count: u64,
     parts: Vec<Part<I, Q>>,
@@ -244,6 +244,6 @@ pub fn run<R: Threads + Wait + Sync, Q: Runner + Send + Drop, I: Read + Faults +
             },
         });
     }
-    let blank = Blank::new(alloc, count)?;
+    let blank = FrontTokens::new(alloc, count)?;
     run_core::<Brand, _, _, _>(rt, alloc, blank, core, count, parts)
 }

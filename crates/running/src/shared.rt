@@ -5,7 +5,7 @@ ghost use Rattle.schedule.specs.Queries.{event_for};
 ghost use Rattle.running.specs.Calling.{is_read, IsTold};
 
 use crate::meeting::Meet;
-use book::{Front, Naming, Pass};
+use book::{Front, FrontId, Pass};
 use jobs::RunningJob;
 use model::Refusal;
 use schedule::{Event, Query, Reply, User};
@@ -17,7 +17,7 @@ use workers::Store;
 /// A front that threads share, and a pass of one's own to call it through. What is only read is answered
 /// from what is published, and waits for nobody.
 #[derive(Drop)]
-pub(crate) struct SharedStore<'a, J: Naming, R: Wait> {
+pub(crate) struct SharedStore<'a, J: FrontId, R: Wait> {
     /// What waits for the lock.
     pub(crate) rt: &'a R,
     /// What is shared.
@@ -29,7 +29,7 @@ pub(crate) struct SharedStore<'a, J: Naming, R: Wait> {
 }
 
 /// Contracts see it as its pass.
-impl<'a, J: Naming, R: Wait> Model for SharedStore<'a, J, R> {
+impl<'a, J: FrontId, R: Wait> Model for SharedStore<'a, J, R> {
     ghost use Rattle.std.specs.Coded.{codes};
     ghost use Rattle.model.specs.TreeCode.{tree_code};
     ghost use Rattle.history.specs.Callers.{Known};
@@ -42,7 +42,7 @@ impl<'a, J: Naming, R: Wait> Model for SharedStore<'a, J, R> {
 }
 
 /// Answers a query from what is published.
-fn read<J: Naming>(pass: &mut Pass<J>, query: Query) -> Reply
+fn read<J: FrontId>(pass: &mut Pass<J>, query: Query) -> Reply
     ensures { IsTold J.setup pass.old (event_for query) result pass.new }
 {
     pass.sure_rows_are_seen();
@@ -54,7 +54,7 @@ fn read<J: Naming>(pass: &mut Pass<J>, query: Query) -> Reply
 }
 
 /// Hands an event that is no query to a front.
-fn call<J: Naming, R: Wait>(
+fn call<J: FrontId, R: Wait>(
     rt: &R,
     alloc: Global,
     front: &Front<J>,
@@ -74,7 +74,7 @@ fn call<J: Naming, R: Wait>(
 
 /// What is only read is so after rows that the pass has seen then, and each other event that is answered
 /// has a row of the pass in the history.
-impl<J: Naming, R: Wait> Store for SharedStore<'_, J, R> {
+impl<J: FrontId, R: Wait> Store for SharedStore<'_, J, R> {
     ghost use Rattle.running.specs.Calling.{IsTold, IsAskedBy};
 
     ghost called = { λ old event reply new. IsTold J.setup old event reply new };
@@ -95,7 +95,7 @@ impl<J: Naming, R: Wait> Store for SharedStore<'_, J, R> {
 
 /// After it the pass has seen all rows that the other one's is sure of, and knows whether the front is
 /// stopped.
-impl<J: Naming, R: Wait> Meet for SharedStore<'_, J, R> {
+impl<J: FrontId, R: Wait> Meet for SharedStore<'_, J, R> {
     ghost use Rattle.running.specs.Meeting.{HasMet, HasSeen, IsNew, is_stopped, stops_by, met_none, met_more, met_asking, stopped_met, stopped_told, stopped_called, stops_new, stops_met, stops_called, seen_met, seen_told};
 
     ghost met = { HasMet };

@@ -12,7 +12,7 @@ use crate::reads::{Scripts, answered_at_once};
 use crate::stores::store_of;
 use crate::traces::{Entry, unmatched, wrong_rows};
 use crate::turns::closed;
-use book::{Blank, Front, History, Naming};
+use book::{FrontTokens, Front, History, FrontId};
 use model::Refusal;
 use schedule::{Core, User};
 use std::alloc::Global;
@@ -64,10 +64,10 @@ fn count_answers(traces: &[Vec<Entry>]) -> usize {
 }
 
 /// What the threads of a front were answered, and its history.
-fn crowded<J: Naming + Send + Sync, R: Threads + Wait + Sync>(
+fn crowded<J: FrontId + Send + Sync, R: Threads + Wait + Sync>(
     rt: &R,
     alloc: Global,
-    blank: Blank,
+    blank: FrontTokens,
     core: Core,
     argument: &String,
 ) -> Result<(History, Vec<Vec<Entry>>), Refusal>
@@ -100,7 +100,7 @@ pub(crate) fn crowd<R: Threads + Wait + Sync>(
     let first = Scripts::new(argument).first;
     let users = users_in(alloc, &with_newlines(alloc, first)?)?;
     let core = new_store(alloc, hashing, &users)?;
-    let blank = Blank::new(alloc, 10)?;
+    let blank = FrontTokens::new(alloc, 10)?;
     let lines = String::from_str(alloc, argument)?;
     let (history, traces) = crowded::<Brand, _>(rt, alloc, blank, core, &lines)?;
     out.add(&count_answers(&traces));

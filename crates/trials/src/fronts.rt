@@ -6,7 +6,7 @@ ghost use Rattle.book.specs.Keeping.{IsNew};
 use crate::answer::Answer;
 use crate::stores::{adding, fetching, new_core};
 use crate::turns::{Member, Task, all_at_once, closed};
-use book::{Blank, Front, Naming, Pass, Row};
+use book::{FrontTokens, Front, FrontId, Pass, Row};
 use model::Refusal;
 use schedule::{Core, Event, Reply};
 use session::Job;
@@ -18,14 +18,14 @@ use std::thread::Threads;
 
 /// A front and its one pass, which calls it.
 #[derive(Drop)]
-pub(crate) struct Called<'a, J: Naming, R> {
+pub(crate) struct Called<'a, J: FrontId, R> {
     pub(crate) rt: &'a R,
     pub(crate) front: Front<J>,
     pub(crate) pass: Pass<J>,
 }
 
 /// No line of the service waits.
-impl<J: Naming, R: Wait> session::Answer for Called<'_, J, R> {
+impl<J: FrontId, R: Wait> session::Answer for Called<'_, J, R> {
     ghost answers = { λ old event reply new. Unit {0} };
 
     ghost waited = { λ old goals reply new. Unit {0} };
@@ -55,7 +55,7 @@ fn call_of(alloc: Global, user: &[u8], number: u32) -> Result<Event, Refusal> {
 }
 
 /// Makes the call of a number.
-fn call_once<J: Naming, R: Wait>(
+fn call_once<J: FrontId, R: Wait>(
     rt: &R,
     alloc: Global,
     front: &Front<J>,
@@ -74,7 +74,7 @@ fn call_once<J: Naming, R: Wait>(
 
 /// Each second call fetches.
 impl Task for Repeated {
-    fn run<J: Naming, R: Wait>(member: &mut Member<'_, J, R, Repeated>) -> Result<(), Refusal> {
+    fn run<J: FrontId, R: Wait>(member: &mut Member<'_, J, R, Repeated>) -> Result<(), Refusal> {
         let rt = member.rt;
         let alloc = member.alloc;
         let front = member.front;
@@ -92,10 +92,10 @@ fn counted(rows: &[Row]) -> (usize, usize) {
 }
 
 /// How many rows the history of two such threads has, and how many of them are of the second pass.
-fn rows_of_two<J: Naming + Send + Sync, R: Threads + Wait + Sync>(
+fn rows_of_two<J: FrontId + Send + Sync, R: Threads + Wait + Sync>(
     rt: &R,
     alloc: Global,
-    blank: Blank,
+    blank: FrontTokens,
     core: Core,
 ) -> Result<(usize, usize), Refusal>
     requires blank { (blank.calls.name ≡ J.name) × (blank.calls.parts ≡ J.parts) }
@@ -119,7 +119,7 @@ pub(crate) fn threads<R: Threads + Wait + Sync>(
     hashing: RandomState,
     out: &mut Answer,
 ) -> Result<(), Refusal> {
-    let blank = Blank::new(alloc, 2)?;
+    let blank = FrontTokens::new(alloc, 2)?;
     let (all, ones) = rows_of_two::<Brand, _>(rt, alloc, blank, new_core(alloc, hashing)?)?;
     out.add(&all);
     out.add_text(" rows, ");
@@ -129,7 +129,7 @@ pub(crate) fn threads<R: Threads + Wait + Sync>(
 }
 
 /// Whether passes have the numbers from 0 on.
-fn are_in_order<J: Naming>(passes: &[Pass<J>]) -> bool {
+fn are_in_order<J: FrontId>(passes: &[Pass<J>]) -> bool {
     let mut are_in_order = true;
     let mut number = 0u64;
     for pass in passes {
@@ -141,10 +141,10 @@ fn are_in_order<J: Naming>(passes: &[Pass<J>]) -> bool {
 
 /// Whether the passes of a front have the numbers from 0 on, and how many rows it has when it is closed
 /// with no call made.
-fn closed_at_once<J: Naming, R: Wait>(
+fn closed_at_once<J: FrontId, R: Wait>(
     rt: &R,
     alloc: Global,
-    blank: Blank,
+    blank: FrontTokens,
     core: Core,
 ) -> Result<(bool, usize), Refusal>
     requires blank { (blank.calls.name ≡ J.name) × (blank.calls.parts ≡ J.parts) }
@@ -166,7 +166,7 @@ pub(crate) fn passes<R: Wait>(
     hashing: RandomState,
     out: &mut Answer,
 ) -> Result<(), Refusal> {
-    let blank = Blank::new(alloc, 3)?;
+    let blank = FrontTokens::new(alloc, 3)?;
     let core = new_core(alloc, hashing)?;
     let (in_order, rows) = closed_at_once::<Brand, _>(rt, alloc, blank, core)?;
     let order = if in_order { "in order" } else { "out of order" };

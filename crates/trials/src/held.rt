@@ -11,7 +11,7 @@ use crate::reads::{Scripts, answered_at_once};
 use crate::stores::{adding, fetching, new_core, tell};
 use crate::traces::{Entry, text_of};
 use crate::turns::{Member, Task, all_at_once, closed, is_set_in_time};
-use book::{Blank, Front, History, Naming, Pass, Row};
+use book::{FrontTokens, Front, History, FrontId, Pass, Row};
 use model::Refusal;
 use schedule::{Core, Query, Ready};
 use session::{Mode, Session, answer_text};
@@ -30,7 +30,7 @@ const TREE: &[u8] = b"1 alice tree f:\n";
 const NOT_HELD: &[u8] = b"1 alice refused 53 NotHeld\n";
 
 /// What two threads read of a path while the lock is held.
-fn read_while_held<J: Naming + Send + Sync, R: Threads + Wait + Sync>(
+fn read_while_held<J: FrontId + Send + Sync, R: Threads + Wait + Sync>(
     rt: &R,
     alloc: Global,
     front: &Front<J>,
@@ -62,7 +62,7 @@ fn tell_entry(out: &mut Answer, pass: u64, text: &[u8]) {
 }
 
 /// How often a pass reads the tree at the path, of so many times.
-fn count_trees<J: Naming>(alloc: Global, pass: &mut Pass<J>) -> Result<u32, Refusal> {
+fn count_trees<J: FrontId>(alloc: Global, pass: &mut Pass<J>) -> Result<u32, Refusal> {
     let mut trees = 0u32;
     for _ in 0..TIMES {
         let Ok(query) = Query::of(fetching(alloc, b"alice")?) else {
@@ -78,7 +78,7 @@ fn count_trees<J: Naming>(alloc: Global, pass: &mut Pass<J>) -> Result<u32, Refu
 
 /// Lets the second pass meet the first, and adds how often it reads the tree then, and which of them is
 /// sure of all that it has seen.
-fn tell_met<J: Naming, R: Wait>(
+fn tell_met<J: FrontId, R: Wait>(
     rt: &R,
     alloc: Global,
     front: &Front<J>,
@@ -104,10 +104,10 @@ fn tell_met<J: Naming, R: Wait>(
 }
 
 /// Two passes, of which the first adds a path: what both read while the lock is held and afterwards.
-fn read_by_two<J: Naming + Send + Sync, R: Threads + Wait + Sync>(
+fn read_by_two<J: FrontId + Send + Sync, R: Threads + Wait + Sync>(
     rt: &R,
     alloc: Global,
-    blank: Blank,
+    blank: FrontTokens,
     core: Core,
     argument: &String,
     out: &mut Answer,
@@ -143,14 +143,14 @@ pub(crate) fn held<R: Threads + Wait + Sync>(
     argument: &str,
     out: &mut Answer,
 ) -> Result<(), Refusal> {
-    let blank = Blank::new(alloc, 2)?;
+    let blank = FrontTokens::new(alloc, 2)?;
     let core = new_core(alloc, hashing)?;
     let lines = String::from_str(alloc, argument)?;
     read_by_two::<Brand, _>(rt, alloc, blank, core, &lines, out)
 }
 
 /// Calls a front with the events of lines.
-fn call_lines<J: Naming, R: Wait>(
+fn call_lines<J: FrontId, R: Wait>(
     alloc: Global,
     called: &mut Called<'_, J, R>,
     lines: &str,
@@ -163,10 +163,10 @@ fn call_lines<J: Naming, R: Wait>(
 }
 
 /// The rows of a new front that is called with the events of lines.
-fn rows_of<J: Naming, R: Wait>(
+fn rows_of<J: FrontId, R: Wait>(
     rt: &R,
     alloc: Global,
-    blank: Blank,
+    blank: FrontTokens,
     core: Core,
     lines: &String,
 ) -> Result<Vec<Row>, Refusal>
@@ -227,7 +227,7 @@ fn tasks_of<'a>(
 }
 
 /// Holds the lock until the other thread has prepared its events.
-fn hold<J: Naming, R: Wait>(member: &mut Member<'_, J, R, Preparing<'_>>) -> Result<(), Refusal> {
+fn hold<J: FrontId, R: Wait>(member: &mut Member<'_, J, R, Preparing<'_>>) -> Result<(), Refusal> {
     let stage = member.task.stage;
     let _hold = member.front.hold(member.rt);
     stage.is_held.store(true, Ordering::SeqCst);
@@ -239,7 +239,7 @@ fn hold<J: Naming, R: Wait>(member: &mut Member<'_, J, R, Preparing<'_>>) -> Res
 }
 
 /// Prepares the events of rows.
-fn prepare_each<J: Naming>(
+fn prepare_each<J: FrontId>(
     alloc: Global,
     pass: &mut Pass<J>,
     rows: &[Row],
@@ -252,7 +252,7 @@ fn prepare_each<J: Naming>(
 }
 
 /// Commits the events of rows with the values that were made for them, and gives the texts of the replies.
-fn commit_each<J: Naming, R: Wait>(
+fn commit_each<J: FrontId, R: Wait>(
     rt: &R,
     alloc: Global,
     front: &Front<J>,
@@ -269,7 +269,7 @@ fn commit_each<J: Naming, R: Wait>(
 }
 
 /// Prepares its events while the other thread holds the lock, and commits them.
-fn prepare<J: Naming, R: Wait>(
+fn prepare<J: FrontId, R: Wait>(
     member: &mut Member<'_, J, R, Preparing<'_>>,
 ) -> Result<(), Refusal> {
     let (rt, alloc, front) = (member.rt, member.alloc, member.front);
@@ -286,7 +286,7 @@ fn prepare<J: Naming, R: Wait>(
 
 /// The first of two threads holds the lock, and the second prepares.
 impl Task for Preparing<'_> {
-    fn run<J: Naming, R: Wait>(member: &mut Member<'_, J, R, Self>) -> Result<(), Refusal> {
+    fn run<J: FrontId, R: Wait>(member: &mut Member<'_, J, R, Self>) -> Result<(), Refusal> {
         if member.pass.number() == 0 {
             hold(member)
         } else {
@@ -296,7 +296,7 @@ impl Task for Preparing<'_> {
 }
 
 /// Lets two threads do these.
-fn at_once<'a, J: Naming + Send + Sync, R: Threads + Wait + Sync>(
+fn at_once<'a, J: FrontId + Send + Sync, R: Threads + Wait + Sync>(
     rt: &R,
     alloc: Global,
     front: &Front<J>,
@@ -319,7 +319,7 @@ fn tell_prepared(alloc: Global, task: &Preparing<'_>, out: &mut Answer) -> Resul
 }
 
 /// Calls a front with the events of rows.
-fn call_each<J: Naming, R: Wait>(
+fn call_each<J: FrontId, R: Wait>(
     rt: &R,
     alloc: Global,
     front: &Front<J>,
@@ -333,10 +333,10 @@ fn call_each<J: Naming, R: Wait>(
 }
 
 /// Calls a new front with the events of rows, of which the last so many are prepared while the lock is held.
-fn prepare_last<J: Naming + Send + Sync, R: Threads + Wait + Sync>(
+fn prepare_last<J: FrontId + Send + Sync, R: Threads + Wait + Sync>(
     rt: &R,
     alloc: Global,
-    blank: Blank,
+    blank: FrontTokens,
     core: Core,
     rows: Vec<Row>,
     last: usize,
@@ -380,7 +380,7 @@ pub(crate) fn prepared_while_held<R: Threads + Wait + Sync>(
     let core = core_for(alloc, hashing, input)?;
     let another = core.another(alloc)?;
     let lines = String::from_str(alloc, input)?;
-    let rows = rows_of::<Brand, _>(rt, alloc, Blank::new(alloc, 1)?, core, &lines)?;
-    let blank = Blank::new(alloc, 2)?;
+    let rows = rows_of::<Brand, _>(rt, alloc, FrontTokens::new(alloc, 1)?, core, &lines)?;
+    let blank = FrontTokens::new(alloc, 2)?;
     prepare_last::<Brand, _>(rt, alloc, blank, another, rows, count, out)
 }

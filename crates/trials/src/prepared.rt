@@ -9,7 +9,7 @@ use crate::answer::Answer;
 use crate::calls::with_newlines;
 use crate::faults::users_in;
 use crate::stores::store_of;
-use book::{Blank, Front, Naming, Pass};
+use book::{FrontTokens, Front, FrontId, Pass};
 use model::Refusal;
 use schedule::{Core, Event, Ready, Reply};
 use session::{Job, Mode, Session};
@@ -46,7 +46,7 @@ impl session::Answer for Prepared {
 /// A front and its one pass, with a core that takes the same events, and what was prepared for the event
 /// before.
 #[derive(Drop)]
-struct Exchanged<'a, J: Naming, R> {
+struct Exchanged<'a, J: FrontId, R> {
     rt: &'a R,
     front: Front<J>,
     pass: Pass<J>,
@@ -54,7 +54,7 @@ struct Exchanged<'a, J: Naming, R> {
     ready: Ready,
 }
 
-impl<J: Naming, R: Wait> Exchanged<'_, J, R> {
+impl<J: FrontId, R: Wait> Exchanged<'_, J, R> {
     /// Commits an event with what was prepared for the one before.
     fn commit(&mut self, alloc: Global, event: Event) -> Result<Reply, Refusal> {
         let own = self.core.prepare(alloc, &event)?;
@@ -66,7 +66,7 @@ impl<J: Naming, R: Wait> Exchanged<'_, J, R> {
 }
 
 /// No line of the service waits.
-impl<J: Naming, R: Wait> session::Answer for Exchanged<'_, J, R> {
+impl<J: FrontId, R: Wait> session::Answer for Exchanged<'_, J, R> {
     ghost answers = { λ old event reply new. Unit {0} };
 
     ghost waited = { λ old goals reply new. Unit {0} };
@@ -195,10 +195,10 @@ pub(crate) fn followed(
 }
 
 /// Answers the lines by a new front.
-fn answer_by_front<J: Naming, R: Wait>(
+fn answer_by_front<J: FrontId, R: Wait>(
     rt: &R,
     alloc: Global,
-    blank: Blank,
+    blank: FrontTokens,
     core: Core,
     beside: Core,
     lines: &String,
@@ -234,7 +234,7 @@ pub(crate) fn exchange_each<R: Wait>(
 ) -> Result<(), Refusal> {
     let core = core_for(alloc, hashing, input)?;
     let beside = core_for(alloc, hashing, input)?;
-    let blank = Blank::new(alloc, 1)?;
+    let blank = FrontTokens::new(alloc, 1)?;
     let lines = String::from_str(alloc, input)?;
     answer_by_front::<Brand, _>(rt, alloc, blank, core, beside, &lines, out)
 }

@@ -10,7 +10,7 @@ use crate::faults::users_in;
 use crate::stores::store_of;
 use crate::traces::Entry;
 use crate::turns::{Member, Task, all_at_once, closed};
-use book::{Blank, Front, Naming, Pass, Row};
+use book::{FrontTokens, Front, FrontId, Pass, Row};
 use model::Refusal;
 use schedule::{Core, Event, Query, Reply};
 use session::{Job, Mode, Session};
@@ -38,7 +38,7 @@ impl<'a> Lines<'a> {
 }
 
 /// Reads what is a question, and commits each other event. What came is kept.
-fn answered<J: Naming, R: Wait>(
+fn answered<J: FrontId, R: Wait>(
     member: &mut Member<'_, J, R, Lines<'_>>,
     alloc: Global,
     event: Event,
@@ -53,7 +53,7 @@ fn answered<J: Naming, R: Wait>(
 }
 
 /// Commits an event with values that were made for it by what is published.
-fn commit<J: Naming, R: Wait>(
+fn commit<J: FrontId, R: Wait>(
     member: &mut Member<'_, J, R, Lines<'_>>,
     alloc: Global,
     event: Event,
@@ -68,7 +68,7 @@ fn commit<J: Naming, R: Wait>(
 }
 
 /// Keeps what was asked and answered.
-fn keep<J: Naming, R: Wait>(
+fn keep<J: FrontId, R: Wait>(
     member: &mut Member<'_, J, R, Lines<'_>>,
     event: Event,
     reply: &Reply,
@@ -84,7 +84,7 @@ fn keep<J: Naming, R: Wait>(
 }
 
 /// No line of the service waits.
-impl<J: Naming, R: Wait> session::Answer for Member<'_, J, R, Lines<'_>> {
+impl<J: FrontId, R: Wait> session::Answer for Member<'_, J, R, Lines<'_>> {
     ghost answers = { λ old event reply new. Unit {0} };
 
     ghost waited = { λ old goals reply new. Unit {0} };
@@ -103,7 +103,7 @@ impl<J: Naming, R: Wait> session::Answer for Member<'_, J, R, Lines<'_>> {
 
 /// It answers its lines.
 impl Task for Lines<'_> {
-    fn run<J: Naming, R: Wait>(member: &mut Member<'_, J, R, Self>) -> Result<(), Refusal> {
+    fn run<J: FrontId, R: Wait>(member: &mut Member<'_, J, R, Self>) -> Result<(), Refusal> {
         let alloc = member.alloc;
         let text = member.task.text;
         let mut session = Session::new(alloc, Mode::Service);
@@ -165,7 +165,7 @@ fn traces_of(alloc: Global, tasks: Vec<Lines<'_>>) -> Result<Vec<Vec<Entry>>, Al
 }
 
 /// Lets a thread for each pass answer its lines.
-fn at_once<'a, J: Naming + Send + Sync, R: Threads + Wait + Sync>(
+fn at_once<'a, J: FrontId + Send + Sync, R: Threads + Wait + Sync>(
     rt: &R,
     alloc: Global,
     front: &Front<J>,
@@ -176,7 +176,7 @@ fn at_once<'a, J: Naming + Send + Sync, R: Threads + Wait + Sync>(
 }
 
 /// Lets a thread for each pass answer its lines, and gives the passes, and what each was answered.
-pub(crate) fn answered_at_once<J: Naming + Send + Sync, R: Threads + Wait + Sync>(
+pub(crate) fn answered_at_once<J: FrontId + Send + Sync, R: Threads + Wait + Sync>(
     rt: &R,
     alloc: Global,
     front: &Front<J>,
@@ -189,7 +189,7 @@ pub(crate) fn answered_at_once<J: Naming + Send + Sync, R: Threads + Wait + Sync
 }
 
 /// Adds what each line gets, and sweeps the front behind it.
-fn tell_lines<J: Naming, R: Wait>(
+fn tell_lines<J: FrontId, R: Wait>(
     alloc: Global,
     member: &mut Member<'_, J, R, Lines<'_>>,
     out: &mut Answer,
@@ -204,7 +204,7 @@ fn tell_lines<J: Naming, R: Wait>(
 }
 
 /// Answers the lines by a pass of a new front, and gives it back, and how many of them were read.
-fn tell_lines_of_one<J: Naming, R: Wait>(
+fn tell_lines_of_one<J: FrontId, R: Wait>(
     rt: &R,
     alloc: Global,
     front: &Front<J>,
@@ -228,10 +228,10 @@ fn tell_lines_of_one<J: Naming, R: Wait>(
 
 /// Answers the lines by a new front, swept after each of them, and adds how many were read, and how many
 /// rows there are.
-fn read_by_one<J: Naming, R: Wait>(
+fn read_by_one<J: FrontId, R: Wait>(
     rt: &R,
     alloc: Global,
-    blank: Blank,
+    blank: FrontTokens,
     core: Core,
     lines: &String,
     out: &mut Answer,
@@ -267,7 +267,7 @@ pub(crate) fn reads<R: Wait>(
 ) -> Result<(), Refusal> {
     let users = users_in(alloc, &with_newlines(alloc, input)?)?;
     let core = store_of(alloc, hashing, users)?;
-    let blank = Blank::new(alloc, 1)?;
+    let blank = FrontTokens::new(alloc, 1)?;
     let lines = String::from_str(alloc, input)?;
     read_by_one::<Brand, _>(rt, alloc, blank, core, &lines, out)
 }

@@ -8,7 +8,7 @@ use crate::calls::with_newlines;
 use crate::faults::users_in;
 use crate::fronts::Called;
 use crate::stores::store_of;
-use book::{Blank, Front, Naming};
+use book::{FrontTokens, Front, FrontId};
 use model::Refusal;
 use schedule::Core;
 use session::{Mode, Session};
@@ -18,7 +18,7 @@ use std::marker::Brand;
 use std::sync::Wait;
 
 /// Adds how many paths are stored, before a sweep and after it.
-fn sweep_once<J: Naming, R: Wait>(
+fn sweep_once<J: FrontId, R: Wait>(
     alloc: Global,
     store: &mut Called<'_, J, R>,
     out: &mut Answer,
@@ -33,7 +33,7 @@ fn sweep_once<J: Naming, R: Wait>(
 }
 
 /// Adds what each line of an input gets, and what is stored then.
-fn tell_lines<J: Naming, R: Wait>(
+fn tell_lines<J: FrontId, R: Wait>(
     alloc: Global,
     store: &mut Called<'_, J, R>,
     lines: &str,
@@ -48,10 +48,10 @@ fn tell_lines<J: Naming, R: Wait>(
 }
 
 /// Answers the lines by a new front.
-fn answer_by_front<J: Naming, R: Wait>(
+fn answer_by_front<J: FrontId, R: Wait>(
     rt: &R,
     alloc: Global,
-    blank: Blank,
+    blank: FrontTokens,
     core: Core,
     lines: &String,
     out: &mut Answer,
@@ -80,7 +80,7 @@ pub(crate) fn sweeps<R: Wait>(
 ) -> Result<(), Refusal> {
     let users = users_in(alloc, &with_newlines(alloc, input)?)?;
     let core = store_of(alloc, hashing, users)?;
-    let blank = Blank::new(alloc, 1)?;
+    let blank = FrontTokens::new(alloc, 1)?;
     let lines = String::from_str(alloc, input)?;
     answer_by_front::<Brand, _>(rt, alloc, blank, core, &lines, out)
 }

@@ -2,7 +2,7 @@
 
 ghost use Rattle.std.specs.Prelude.{◌≡◌};
 
-use book::{Front, History, Naming, Pass};
+use book::{Front, History, FrontId, Pass};
 use model::Refusal;
 use std::alloc::Global;
 use std::marker::Model;
@@ -27,12 +27,12 @@ pub(crate) fn is_set_in_time(flag: &AtomicBool) -> bool {
 /// What a thread does with its pass.
 pub(crate) trait Task: Sized {
     /// Does it.
-    fn run<J: Naming, R: Wait>(member: &mut Member<'_, J, R, Self>) -> Result<(), Refusal>;
+    fn run<J: FrontId, R: Wait>(member: &mut Member<'_, J, R, Self>) -> Result<(), Refusal>;
 }
 
 /// One thread: its pass of a front, what it does, and how that ended.
 #[derive(Drop)]
-pub(crate) struct Member<'a, J: Naming, R, T> {
+pub(crate) struct Member<'a, J: FrontId, R, T> {
     pub(crate) rt: &'a R,
     pub(crate) alloc: Global,
     pub(crate) front: &'a Front<J>,
@@ -42,7 +42,7 @@ pub(crate) struct Member<'a, J: Naming, R, T> {
 }
 
 /// Contracts see it as its pass.
-impl<'a, J: Naming, R, T> Model for Member<'a, J, R, T> {
+impl<'a, J: FrontId, R, T> Model for Member<'a, J, R, T> {
     ghost use Rattle.std.specs.Coded.{codes};
     ghost use Rattle.model.specs.TreeCode.{tree_code};
     ghost use Rattle.history.specs.Callers.{Known};
@@ -61,7 +61,7 @@ trait Turn {
 }
 
 /// It does its task.
-impl<J: Naming, R: Wait, T: Task> Turn for Member<'_, J, R, T> {
+impl<J: FrontId, R: Wait, T: Task> Turn for Member<'_, J, R, T> {
     fn take(&mut self) {
         self.ended = T::run(self);
     }
@@ -84,7 +84,7 @@ fn each_at_once<S: Turn + Send + Drop, R: Threads + Wait + Sync>(
 }
 
 /// Lets threads do their tasks at once.
-fn at_once<'a, J: Naming + Send + Sync, R: Threads + Wait + Sync, T: Task + Send + Drop>(
+fn at_once<'a, J: FrontId + Send + Sync, R: Threads + Wait + Sync, T: Task + Send + Drop>(
     rt: &R,
     members: Vec<Member<'a, J, R, T>>,
 ) -> Result<Vec<Member<'a, J, R, T>>, Refusal> {
@@ -92,7 +92,7 @@ fn at_once<'a, J: Naming + Send + Sync, R: Threads + Wait + Sync, T: Task + Send
 }
 
 /// A thread for each pass, with a task.
-fn members_of<'a, J: Naming, R, T: Drop>(
+fn members_of<'a, J: FrontId, R, T: Drop>(
     rt: &'a R,
     alloc: Global,
     front: &'a Front<J>,
@@ -114,7 +114,7 @@ fn members_of<'a, J: Naming, R, T: Drop>(
 }
 
 /// The passes of threads that have ended well, and their tasks.
-fn parted<J: Naming, R, T: Drop>(
+fn parted<J: FrontId, R, T: Drop>(
     alloc: Global,
     members: Vec<Member<'_, J, R, T>>,
 ) -> Result<(Vec<Pass<J>>, Vec<T>), Refusal> {
@@ -135,7 +135,7 @@ fn parted<J: Naming, R, T: Drop>(
 }
 
 /// Lets a thread for each pass do its task, and gives the passes and the tasks back.
-pub(crate) fn all_at_once<J: Naming + Send + Sync, R: Threads + Wait + Sync, T: Task + Send + Drop>(
+pub(crate) fn all_at_once<J: FrontId + Send + Sync, R: Threads + Wait + Sync, T: Task + Send + Drop>(
     rt: &R,
     alloc: Global,
     front: &Front<J>,
@@ -148,7 +148,7 @@ pub(crate) fn all_at_once<J: Naming + Send + Sync, R: Threads + Wait + Sync, T: 
 }
 
 /// The history of a front, if as many passes come back as there are.
-pub(crate) fn closed<J: Naming, R: Wait>(
+pub(crate) fn closed<J: FrontId, R: Wait>(
     rt: &R,
     front: Front<J>,
     passes: Vec<Pass<J>>,

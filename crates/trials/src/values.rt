@@ -5,7 +5,7 @@ ghost use Rattle.book.specs.Keeping.{IsNew};
 
 use crate::answer::Answer;
 use crate::prepared::{core_for, tell_lines};
-use book::{Blank, Front, Naming, Pass};
+use book::{FrontTokens, Front, FrontId, Pass};
 use model::Refusal;
 use schedule::{Core, Event, Query, Ready, Reply};
 use session::Job;
@@ -37,14 +37,14 @@ impl session::Answer for Stepping {
 
 /// A front and its one pass, which reads what is asked, and prepares the other events or does not.
 #[derive(Drop)]
-struct Committing<'a, J: Naming, R> {
+struct Committing<'a, J: FrontId, R> {
     rt: &'a R,
     front: Front<J>,
     pass: Pass<J>,
     prepares: bool,
 }
 
-impl<J: Naming, R: Wait> Committing<'_, J, R> {
+impl<J: FrontId, R: Wait> Committing<'_, J, R> {
     /// What is made for an event before it is committed.
     fn ready_for(&mut self, alloc: Global, event: &Event) -> Result<Ready, Refusal> {
         if self.prepares {
@@ -66,7 +66,7 @@ impl<J: Naming, R: Wait> Committing<'_, J, R> {
 }
 
 /// No line of the service waits.
-impl<J: Naming, R: Wait> session::Answer for Committing<'_, J, R> {
+impl<J: FrontId, R: Wait> session::Answer for Committing<'_, J, R> {
     ghost answers = { λ old event reply new. Unit {0} };
 
     ghost waited = { λ old goals reply new. Unit {0} };
@@ -103,10 +103,10 @@ pub(crate) fn alone(
 }
 
 /// Answers the lines by a new front, and adds how many values were made, and were at hand.
-fn answer_by_front<J: Naming, R: Wait>(
+fn answer_by_front<J: FrontId, R: Wait>(
     rt: &R,
     alloc: Global,
-    blank: Blank,
+    blank: FrontTokens,
     core: Core,
     prepares: bool,
     lines: &String,
@@ -147,7 +147,7 @@ fn by_front<R: Wait>(
     out: &mut Answer,
 ) -> Result<(), Refusal> {
     let core = core_for(alloc, hashing, input)?;
-    let blank = Blank::new(alloc, 1)?;
+    let blank = FrontTokens::new(alloc, 1)?;
     let lines = String::from_str(alloc, input)?;
     answer_by_front::<Brand, _>(rt, alloc, blank, core, prepares, &lines, out)
 }

@@ -1,7 +1,7 @@
 use Rattle.std.specs.Prelude.{◌≡◌, ◌+◌, map, [], false}
 use Rattle.history.specs.Callers.{below}
 use Rattle.left_right.specs.Sides.{view}
-use Rattle.history.specs.Naming.{name_of}
+use Rattle.history.specs.FrontId.{name_of}
 use Rattle.history.specs.Tied.{knower}
 use Rattle.history.specs.Callers.{new_pass}
 use Rattle.book.proofs.front.passes_of.Given as goal
@@ -9,6 +9,6 @@ use Rattle.book.proofs.front.passes_of.Given as goal
 abbrev pub invariant-loop-number : goal.invariant-loop-number
 invariant-loop-number g l =
     (l.all.calls.parts + l.number ≡ l.n) × (l.all.calls.amount ≡ 0) × (l.passes.items ≡ map new_pass (below l.number))
-    × (view l.writer.desk.place ≡ knower (name_of g.J.Naming.book g.J.Naming.setup)) × (l.writer.desk.shown ≡ l.fn.writer.desk.shown) × (l.writer.log ≡ l.fn.writer.log) × (l.writer.behind ≡ l.fn.writer.behind)
+    × (view l.writer.desk.place ≡ knower (name_of g.J.FrontId.book g.J.FrontId.setup)) × (l.writer.desk.shown ≡ l.fn.writer.desk.shown) × (l.writer.log ≡ l.fn.writer.log) × (l.writer.behind ≡ l.fn.writer.behind)
     × (l.log.rows ≡ []) × (l.log.next ≡ l.number) × (l.log.stopped ≡ false)
     × (l.all.stops.parts + l.number ≡ l.n) × (l.all.stops.amount ≡ 0)

@@ -1,6 +1,6 @@
 use Rattle.std.proofs.Common.{◌≡◌, [], ap, sym, ◌∙◌}
 use Rattle.history.specs.declared.law.Shown.{Shown}
-use Rattle.history.specs.Naming.{name_of}
+use Rattle.history.specs.FrontId.{name_of}
 use Rattle.history.specs.Tied.{knower}
 use Rattle.book.proofs.PublisherLemmas.{tied_first}
 use Rattle.book.proofs.front.writer_of.Goals as goal

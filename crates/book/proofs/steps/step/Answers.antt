@@ -15,5 +15,5 @@ show-requires-clause-legal g c =
     let some : gave_up r.reply ≡ false = ap gave_up (both.copy ∙ sym both.reply) ∙ c.in_default.ensures.none in
     let steps : Steps c.args.core.now r.event r.reply new =
     subst (λ (x : Event × Reply). Steps c.args.core.now x.0 x.1 new) (λ i. (sym c.requires.asked i, sym both.copy i)) c.step_ready_with_copy.ensures.step in
-    is_legal g.J.Naming.setup new false (c.args.publisher.now.rows ++ r ∷ [])
-    (goes_on g.J.Naming.setup c.args.core.now new c.args.publisher.now.rows r c.requires.kept some steps) c.isolation.ensures c.timed_isolation.ensures
+    is_legal g.J.FrontId.setup new false (c.args.publisher.now.rows ++ r ∷ [])
+    (goes_on g.J.FrontId.setup c.args.core.now new c.args.publisher.now.rows r c.requires.kept some steps) c.isolation.ensures c.timed_isolation.ensures

@@ -5,7 +5,7 @@ use Rattle.history.specs.Histories.{IsLegal}
 use Rattle.schedule.specs.Queries.{event_for}
 use Rattle.history.specs.declared.law.Name.{Name}
 use Rattle.history.specs.declared.law.Shown.{Shown}
-use Rattle.history.specs.Naming.{setup_in}
+use Rattle.history.specs.FrontId.{setup_in}
 use Rattle.history.specs.Following.{FindsRead}
 use Rattle.history.proofs.Ties.{turns_still, name_seen, rows_seen}
 use Rattle.history.proofs.ends.look.Goals as goal

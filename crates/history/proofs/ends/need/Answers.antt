@@ -3,7 +3,7 @@ use Rattle.std.specs.Prelude.{IfOk}
 use Rattle.history.specs.declared.row.Row.{Row}
 use Rattle.events.specs.Terms.{event_of}
 use Rattle.history.specs.declared.law.Name.{Name}
-use Rattle.history.specs.Naming.{setup_in}
+use Rattle.history.specs.FrontId.{setup_in}
 use Rattle.history.specs.Following.{IsNeedAfter}
 use Rattle.history.proofs.Ties.{turns_still, name_seen, rows_seen}
 use Rattle.history.proofs.ends.need.Goals as goal

@@ -2,7 +2,7 @@ use Rattle.std.proofs.Common.{◌≡◌, ◌∷◌, ◌++◌, [], sym, ap, drop,
 use Rattle.std.specs.Arc.{arc_value}
 use Rattle.history.specs.Histories.{IsLegal}
 use Rattle.history.specs.declared.law.Shown.{Shown}
-use Rattle.history.specs.Naming.{book_in, setup_in}
+use Rattle.history.specs.FrontId.{book_in, setup_in}
 use Rattle.history.specs.Tied.{IsQuiet}
 use Rattle.history.proofs.Ties.{turns_added, value_added, is_added}
 use Rattle.history.proofs.ends.publish.Goals as goal

@@ -5,4 +5,4 @@ use Rattle.replaying.proofs.first_run.ask_core.Goals as goal
 pub returns : goal.returns
 returns g c =
     let out = rw (← c.recorder.view_is) at c.in_ok-ask_lines.ensures in
-    asked_new g.J.Naming.setup _ _ _ _ _ _ _ (search rules) (search rules) out
+    asked_new g.J.FrontId.setup _ _ _ _ _ _ _ (search rules) (search rules) out

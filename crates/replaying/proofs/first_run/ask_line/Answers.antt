@@ -7,7 +7,7 @@ use Rattle.replaying.proofs.first_run.ask_line.Goals as goal
 pub returns-clause-asked : goal.returns-clause-asked
 returns-clause-asked g c =
     let h = c.in_ok-answer.ensures.ok in
-    let k = link_at c.args.recorder.now c.answer.new.answer g.J.Naming.setup (λ r. r.store) (λ r. map event_of r.events.items) (λ r. r.has_lost)
+    let k = link_at c.args.recorder.now c.answer.new.answer g.J.FrontId.setup (λ r. r.store) (λ r. map event_of r.events.items) (λ r. r.has_lost)
     h.0 h.4 c.if-recorder.false in
     record {
       row = h.0;

@@ -12,7 +12,7 @@ pub returns-in_default : goal.returns-in_default
 returns-in_default g c = λ user all rest known s.
     let i = c.loop.invariant.1 user all rest known s in
     let none = rw c.in_default.is at (c.in_ok-line.ensures.line i.0 i.1) in
-    subst (λ t. RunSoFar g.J.Naming.setup user all t c.loop.notes c.loop.recorder.store (map event_of c.loop.recorder.events.items)) (ap lines_of none) i.2
+    subst (λ t. RunSoFar g.J.FrontId.setup user all t c.loop.notes c.loop.recorder.store (map event_of c.loop.recorder.events.items)) (ap lines_of none) i.2
 
 pub loop-preserved : goal.loop-preserved
 loop-preserved g c = (
@@ -20,5 +20,5 @@ loop-preserved g c = (
   λ user all rest known s.
       let i = c.loop.invariant.1 user all rest known s in
       let cut = rw c.in-Some.is at (c.in_ok-line.ensures.line i.0 i.1) in
-      runs_on g.J.Naming.setup user all i.0 c.in-Some.line.items _ _ _ _ _ _ _ cut i.2 c.in_ok-ask_numbered.ensures.asked,
+      runs_on g.J.FrontId.setup user all i.0 c.in-Some.line.items _ _ _ _ _ _ _ cut i.2 c.in_ok-ask_numbered.ensures.asked,
 )

@@ -4,5 +4,5 @@ use Rattle.replaying.proofs.input.serve_users.Given as goal
 abbrev pub ghosts-serve_core-J-Ledger : goal.ghosts-serve_core-J-Ledger
 ghosts-serve_core-J-Ledger g a = record { name = a.blank.calls.name; parts = a.blank.calls.parts }
 
-abbrev pub ghosts-serve_core-J-Naming : goal.ghosts-serve_core-J-Naming
-ghosts-serve_core-J-Naming g a = record { stops = a.blank.stops.name; setup = setup_of a.core; table = a.blank.log.table.shared.table_id; book = a.blank.rows.seen.book }
+abbrev pub ghosts-serve_core-J-FrontId : goal.ghosts-serve_core-J-FrontId
+ghosts-serve_core-J-FrontId g a = record { stops = a.blank.stops.name; setup = setup_of a.core; table = a.blank.log.table.shared.table_id; book = a.blank.rows.seen.book }

@@ -21,5 +21,5 @@ loop-left-preserved g c =
       c.in_ok-end_session.ensures.outputs ∙ ap (λ (os : List Output). os ++ left.output ∷ []) c.loop-left.invariant.2
           ∙ append_assoc back.outputs.items (map (λ l. l.output) ys) (left.output ∷ [])
           ∙ ap (λ (os : List Output). back.outputs.items ++ os) (sym (map-append (λ l. l.output) ys (left ∷ []))),
-      pools_push g.J.Naming.setup g.Q.Runner.gives ys left c.loop-left.invariant.3 c.in_ok-end_session.ensures.pool,
+      pools_push g.J.FrontId.setup g.Q.Runner.gives ys left c.loop-left.invariant.3 c.in_ok-end_session.ensures.pool,
     )

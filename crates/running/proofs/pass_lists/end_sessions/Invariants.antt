@@ -8,4 +8,4 @@ invariant-loop-left g l =
     (l.back.passes.items ≡ l.fn.back.passes.items ++ all_passes l.yielded)
     × (l.back.workers.items ≡ l.fn.back.workers.items ++ all_numbers l.yielded)
     × (l.back.outputs.items ≡ l.fn.back.outputs.items ++ map (λ left. left.output) l.yielded)
-    × ArePools g.J.Naming.setup g.Q.Runner.gives l.yielded
+    × ArePools g.J.FrontId.setup g.Q.Runner.gives l.yielded

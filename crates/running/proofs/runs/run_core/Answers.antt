@@ -7,7 +7,7 @@ serve_front-requires-after_bounds g c κs within = (new_first c.in_ok-front.pass
 
 pub returns-clause-results : goal.returns-clause-results
 returns-clause-results g c =
-    if_results g.J.Naming.setup g.Q.Runner.gives g.I.Read.remaining c.args.parts.items (length c.in_ok-front.passes.items)
+    if_results g.J.FrontId.setup g.Q.Runner.gives g.I.Read.remaining c.args.parts.items (length c.in_ok-front.passes.items)
     c.in_ok-ended.ended.sessions.items c.in_ok-ended.ended.back.workers.items c.in_ok-ended.ended.back.passes.items c.in_ok-ended.ended.back.outputs
     ((new_first c.in_ok-front.passes.items c.args.count c.in_ok-front.ensures.passes).0 ∙ c.requires.needed) c.in_ok-ended.ensures.served
     c.close_front.result c.close_front.ensures.closed

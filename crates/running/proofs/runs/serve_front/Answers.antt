@@ -9,7 +9,7 @@ use Rattle.running.proofs.runs.serve_front.Goals as goal
 pub returns-clause-served : goal.returns-clause-served
 returns-clause-served g c =
     let lefts = c.in_ok-lefts.lefts.items in
-    all_served g.J.Naming.setup g.Q.Runner.gives g.I.Read.remaining (session_passes (length c.args.passes.items) c.args.parts.items) c.args.parts.items
+    all_served g.J.FrontId.setup g.Q.Runner.gives g.I.Read.remaining (session_passes (length c.args.passes.items) c.args.parts.items) c.args.parts.items
     c.in-Ok.desks.items lefts c.in_ok-sessions.sessions.items c.end_sessions.new.back.workers.items c.end_sessions.new.back.passes.items
     c.end_sessions.new.back.outputs.items c.in-Ok.ensures.desks c.in_ok-lefts.ensures.outputs c.in_ok-end_sessions.ensures.pools
     (c.in_ok-sessions.ensures ∙ ap (map (λ d. d.store.caller.number)) c.deref.ensures.value)

@@ -3,7 +3,7 @@ use Rattle.running.proofs.shared.call.Goals as goal
 
 pub returns : goal.returns
 returns g c =
-    told_called g.J.Naming.setup c.args.pass.now c.call-reply.new.pass c.args.event c.call-reply.result c.requires c.call-reply.ensures.answered
+    told_called g.J.FrontId.setup c.args.pass.now c.call-reply.new.pass c.args.event c.call-reply.result c.requires c.call-reply.ensures.answered
     c.call-reply.ensures.memory c.call-reply.ensures.stopped c.call-reply.ensures.remains c.call-reply.ensures.no_stop
     c.call-reply.ensures.seen
     (record { seen = c.sure_rows_are_seen.ensures; rows = c.rows_are_counted.ensures })

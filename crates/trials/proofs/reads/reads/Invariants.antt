@@ -4,5 +4,5 @@ use Rattle.trials.proofs.reads.reads.Given as goal
 abbrev pub ghosts-read_by_one-J-Ledger : goal.ghosts-read_by_one-J-Ledger
 ghosts-read_by_one-J-Ledger g a = record { name = a.blank.calls.name; parts = a.blank.calls.parts }
 
-abbrev pub ghosts-read_by_one-J-Naming : goal.ghosts-read_by_one-J-Naming
-ghosts-read_by_one-J-Naming g a = record { stops = a.blank.stops.name; setup = setup_of a.core; table = a.blank.log.table.shared.table_id; book = a.blank.rows.seen.book }
+abbrev pub ghosts-read_by_one-J-FrontId : goal.ghosts-read_by_one-J-FrontId
+ghosts-read_by_one-J-FrontId g a = record { stops = a.blank.stops.name; setup = setup_of a.core; table = a.blank.log.table.shared.table_id; book = a.blank.rows.seen.book }

@@ -56,10 +56,10 @@ only_pass g c one =
 stop_counted : (g : Over) (c : After-audit-2 g) → g.J.Ledger.parts ≡ 1 → c.args.part.now.amount ≡ stops_of c.args.self.now.stopped
 stop_counted g c one = c.audit-2.ensures.whole (c.requires.part ∙ sym one) ∙ (c.self.invariant.8 ∙ ap stops_of (stopped_then g c))
 
-legal_then : (g : Over) (c : After-audit-2 g) → IsLegal g.J.Naming.setup c.self.inside.history.items
+legal_then : (g : Over) (c : After-audit-2 g) → IsLegal g.J.FrontId.setup c.self.inside.history.items
 legal_then g c =
     let inside = c.self.inside in
-    is_legal g.J.Naming.setup inside.core inside.stopped inside.history.items c.self.invariant.0 c.isolation.ensures c.timed_isolation.ensures
+    is_legal g.J.FrontId.setup inside.core inside.stopped inside.history.items c.self.invariant.0 c.isolation.ensures c.timed_isolation.ensures
 
 -- ---- where the book was stopped before
 
@@ -108,7 +108,7 @@ pass_then g c going = c.audit.ensures.same.0 ∙ c.compare.ensures.going (c.self
 pub invariant_of-self-in_default : goal.invariant_of-self-in_default
 invariant_of-self-in_default g c =
     let old = c.self.inside in (
-      rw c.hold.ensures.rows (stays g.J.Naming.setup old.core c.empty_cache.new.self old.stopped old.history.items c.self.invariant.0 c.empty_cache.ensures),
+      rw c.hold.ensures.rows (stays g.J.FrontId.setup old.core c.empty_cache.new.self old.stopped old.history.items c.self.invariant.0 c.empty_cache.ensures),
       ap (λ (rows : List Row). length rows) c.hold.ensures.rows ∙ (c.self.invariant.1 ∙ sym c.audit.ensures.same.1),
       c.self.invariant.2,
       c.self.invariant.3,
@@ -154,7 +154,7 @@ returns-in_default g c =
 pub invariant_of-self-in-Err : goal.invariant_of-self-in-Err
 invariant_of-self-in-Err g c =
     let old = c.self.inside in (
-      rw c.hold.ensures.rows (stays g.J.Naming.setup old.core c.step.new.core old.stopped old.history.items c.self.invariant.0 c.in-Err.ensures.refused),
+      rw c.hold.ensures.rows (stays g.J.FrontId.setup old.core c.step.new.core old.stopped old.history.items c.self.invariant.0 c.in-Err.ensures.refused),
       ap (λ (rows : List Row). length rows) c.hold.ensures.rows ∙ (c.self.invariant.1 ∙ sym c.audit.ensures.same.1),
       c.self.invariant.2,
       c.self.invariant.3,
@@ -201,7 +201,7 @@ returns-in-Err g c =
 pub invariant_of-self-in_default-answered : goal.invariant_of-self-in_default-answered
 invariant_of-self-in_default-answered g c =
     let old = c.self.inside in (
-      rw c.hold.ensures.rows (stops g.J.Naming.setup old.core c.step.new.core old.stopped old.history.items c.self.invariant.0 c.step.ensures.given),
+      rw c.hold.ensures.rows (stops g.J.FrontId.setup old.core c.step.new.core old.stopped old.history.items c.self.invariant.0 c.step.ensures.given),
       ap (λ (rows : List Row). length rows) c.hold.ensures.rows ∙ (c.self.invariant.1 ∙ sym c.audit.ensures.same.1),
       c.self.invariant.2,
       c.self.invariant.3,
@@ -259,7 +259,7 @@ add_row-requires g c =
       alone = λ one. rows ∙ (sym (c.audit.ensures.alone one).1 ∙ ap (λ (p : Caller). p.calls) (sym c.audit.ensures.same.0));
     }
 
-going : (g : Over) (c : goal.After-push g) → Kept g.J.Naming.setup c.self.inside.core false c.self.inside.history.items
+going : (g : Over) (c : goal.After-push g) → Kept g.J.FrontId.setup c.self.inside.core false c.self.inside.history.items
 going g c = rw c.if-stopped.false at c.self.invariant.0
 
 last_row : (g : Over) (c : goal.After-push g) → c.in-Some.row ≡ row c.number-number.result c.args.event c.in-Some.reply
@@ -274,8 +274,8 @@ step_of g c = subst (λ (r : Row). Steps c.self.inside.core r.event r.reply c.st
 rows_now : (g : Over) (c : goal.After-push g) → c.push.new.history.items ≡ c.self.inside.history.items ++ c.in-Some.row ∷ []
 rows_now g c = c.push.ensures ∙ ap (λ (rows : List Row). rows ++ c.in-Some.row ∷ []) c.hold.ensures.rows
 
-kept_now : (g : Over) (c : goal.After-push g) → Kept g.J.Naming.setup c.step.new.core false (c.self.inside.history.items ++ c.in-Some.row ∷ [])
-kept_now g c = goes_on g.J.Naming.setup c.self.inside.core c.step.new.core c.self.inside.history.items c.in-Some.row (going g c) (some_row g c) (step_of g c)
+kept_now : (g : Over) (c : goal.After-push g) → Kept g.J.FrontId.setup c.step.new.core false (c.self.inside.history.items ++ c.in-Some.row ∷ [])
+kept_now g c = goes_on g.J.FrontId.setup c.self.inside.core c.step.new.core c.self.inside.history.items c.in-Some.row (going g c) (some_row g c) (step_of g c)
 
 shown_now : (g : Over) (c : goal.After-push g) → c.step.new.publisher ≡ record { rows = c.self.inside.publisher.rows ++ c.in-Some.row ∷ []; whole = true }
 shown_now g c = rw c.in-Some.is at c.in-Ok-step.ensures.shown
@@ -285,7 +285,7 @@ step-requires-clause-whole g c = c.self.invariant.7 c.if-stopped.false
 
 pub step-requires-clause-kept : goal.step-requires-clause-kept
 step-requires-clause-kept g c =
-    subst (λ (rows : List Row). Kept g.J.Naming.setup c.self.inside.core false rows) (sym c.self.invariant.6) (rw c.if-stopped.false at c.self.invariant.0)
+    subst (λ (rows : List Row). Kept g.J.FrontId.setup c.self.inside.core false rows) (sym c.self.invariant.6) (rw c.if-stopped.false at c.self.invariant.0)
 
 pub invariant_of-self-2 : goal.invariant_of-self-2
 invariant_of-self-2 g c =
@@ -321,8 +321,8 @@ returns g c =
       row = λ _. rows_now g c ∙ (λ i. rows_then g then i ++ (last_row g c ∙ ap (λ n. row n c.args.event c.in-Some.reply) number) i ∷ []);
       step = λ _. subst (λ (core : Core). Steps core c.args.event c.in-Some.reply c.step.new.core) (core_then g then) stepped;
       reply = λ _.
-          subst (λ (x : List Row × Row). IsModelReply g.J.Naming.setup x.0 x.1.event x.1.reply) (λ i. (rows_then g then i, last_row g c i))
-          (replied g.J.Naming.setup old.core c.step.new.core old.history.items c.in-Some.row (going g c) (some_row g c) (step_of g c));
+          subst (λ (x : List Row × Row). IsModelReply g.J.FrontId.setup x.0 x.1.event x.1.reply) (λ i. (rows_then g then i, last_row g c i))
+          (replied g.J.FrontId.setup old.core c.step.new.core old.history.items c.in-Some.row (going g c) (some_row g c) (step_of g c));
       counted = λ _. c.add_row.ensures.pass ∙ (λ i. answered (pass i) ((ap (λ (rows : List Row). rows ++ c.in-Some.row ∷ []) log ∙ sym (rows_now g c)) i));
       matches = matching g then;
       alone = only_pass g then;
@@ -339,5 +339,5 @@ returns g c =
       no_stop = λ _. c.audit-2.ensures.amount;
       stops_alone = stop_counted g then;
       part = c.audit-2.ensures.parts ∙ c.requires.part;
-      legal = rw (rows_now g c) (is_legal g.J.Naming.setup c.step.new.core false _ (kept_now g c) c.isolation.ensures c.timed_isolation.ensures);
+      legal = rw (rows_now g c) (is_legal g.J.FrontId.setup c.step.new.core false _ (kept_now g c) c.isolation.ensures c.timed_isolation.ensures);
     }

@@ -34,7 +34,7 @@ returns-clause-answered g c = rw (← c.self.view_is) (λ some. record {
   longer = begins g (goal.at.returns-clause-answered g c).After-sure_after;
   sure = c.apply_ready-reply.ensures.counted some ∙ ap (λ (rows : List Row). answered c.self.inside.caller rows) (c.apply_ready-reply.ensures.row some);
   seen = c.seen-2.ensures.0 ∙ c.apply_ready-reply.ensures.row some;
-  legal = subst (λ (rows : List Row). IsLegal g.J.Naming.setup rows) (c.apply_ready-reply.ensures.row some) c.apply_ready-reply.ensures.legal;
+  legal = subst (λ (rows : List Row). IsLegal g.J.FrontId.setup rows) (c.apply_ready-reply.ensures.row some) c.apply_ready-reply.ensures.legal;
 })
 
 pub returns-clause-alone : goal.returns-clause-alone

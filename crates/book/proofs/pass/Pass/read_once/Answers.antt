@@ -4,7 +4,7 @@ use Rattle.history.specs.declared.row.Row.{Row}
 use Rattle.history.specs.Callers.{Known}
 use Rattle.history.specs.Histories.{row, IsLegal}
 use Rattle.schedule.specs.Queries.{event_for}
-use Rattle.history.specs.Naming.{setup_in}
+use Rattle.history.specs.FrontId.{setup_in}
 use Rattle.history.specs.Following.{FindsRead}
 use Rattle.history.proofs.LegalLemmas.{legal_with}
 use Rattle.book.proofs.pass.Pass.read_once.Goals as goal
@@ -20,8 +20,8 @@ returns-then-see-clause-read g c some =
     let finds = subst (λ (s : Setup). FindsRead s rows event c.in-Some.found) setup (rw c.in-Some.is at c.replace_with.ensures.1.1.1) in
     let told = finds reply c.serve.ensures in
     let seen = ap (λ (k : Known). k.seen) (c.self-2.view_is ∙ (rw c.if-see.true at c.see.ensures).1) in
-    subst (λ (all : List Row). IsLegal g.J.Naming.setup (all ++ r ∷ [])) (sym seen)
-    (legal_with g.J.Naming.setup rows r legal (told.told some) c.isolation.ensures c.timed_isolation.ensures some)
+    subst (λ (all : List Row). IsLegal g.J.FrontId.setup (all ++ r ∷ [])) (sym seen)
+    (legal_with g.J.FrontId.setup rows r legal (told.told some) c.isolation.ensures c.timed_isolation.ensures some)
 
 pub returns-then-see-clause-going : goal.returns-then-see-clause-going
 returns-then-see-clause-going g c =

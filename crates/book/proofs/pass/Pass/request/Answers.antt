@@ -11,12 +11,12 @@ use Rattle.book.proofs.pass.Pass.request.Goals as goal
 pub returns-clause-asked : goal.returns-clause-asked
 returns-clause-asked g c going =
     let rows = c.seen-2.ensures.0 ∙ ap (λ (b : Contents). b.rows) c.request-told.ensures.stays in
-    subst (λ (all : List Row). IsAskedAfter g.J.Naming.setup all c.args.user.now c.args.number c.request-told.result) (sym rows)
-    (after_all g.J.Naming.setup c.args.book.now c.args.user.now c.args.number c.request-told.result c.kept_closures_are_good.ensures
+    subst (λ (all : List Row). IsAskedAfter g.J.FrontId.setup all c.args.user.now c.args.number c.request-told.result) (sym rows)
+    (after_all g.J.FrontId.setup c.args.book.now c.args.user.now c.args.number c.request-told.result c.kept_closures_are_good.ensures
     c.request-told.ensures.legal c.request-told.ensures.given c.request-told.ensures.reached c.request-told.ensures.value c.request-told.ensures.stopped going)
 
 pub returns-clause-alone : goal.returns-clause-alone
-returns-clause-alone g c = rw (← c.self.view_is) (is_asked_alone g.J.Naming.setup c.args.book.now c.args.user.now c.args.number c.request-told.result c.kept_closures_are_good.ensures
+returns-clause-alone g c = rw (← c.self.view_is) (is_asked_alone g.J.FrontId.setup c.args.book.now c.args.user.now c.args.number c.request-told.result c.kept_closures_are_good.ensures
     c.request-told.ensures.legal c.request-told.ensures.given c.request-told.ensures.reached c.request-told.ensures.value c.request-told.ensures.stopped c.self.inside.caller.sure _ c.request-told.ensures.alone)
 
 pub returns-clause-seen : goal.returns-clause-seen

@@ -3,7 +3,7 @@ use Rattle.std.specs.Arc.{arc_value}
 use Rattle.model.specs.Worlds.{Setup}
 use Rattle.history.specs.declared.row.Row.{Row}
 use Rattle.history.specs.Histories.{IsLegal}
-use Rattle.history.specs.Naming.{book_in, setup_in}
+use Rattle.history.specs.FrontId.{book_in, setup_in}
 use Rattle.book.specs.Publishing.{Published}
 use Rattle.book.proofs.publisher.Publisher.put.Goals as goal
 

@@ -2,8 +2,8 @@ use Rattle.std.proofs.Common.{ap, subst, List, refl}
 use Rattle.std.specs.Prelude.{nat_le}
 use mathlib.Core.List.{IsPrefix}
 use Rattle.history.specs.declared.row.Row.{Row}
-use Rattle.history.proofs.BeginningLemmas.{compared}
-use Rattle.history.proofs.beginning.Beginning.begins.Goals as goal
+use Rattle.history.proofs.PrefixLemmas.{compared}
+use Rattle.history.proofs.history_prefix.HistoryPrefix.begins.Goals as goal
 
 pub returns : goal.returns
 returns c =

@@ -1,6 +1,6 @@
 use Rattle.std.proofs.Common.{sym, ◌∙◌, ap}
 use Rattle.history.proofs.AddingLemmas.{adds_moves}
-use Rattle.history.proofs.beginning.Beginning.add.Goals as goal
+use Rattle.history.proofs.history_prefix.HistoryPrefix.add.Goals as goal
 
 pub compare_exchange-found-requires : goal.compare_exchange-found-requires
 compare_exchange-found-requires g c =

@@ -1,10 +1,10 @@
-//! Beginnings of the history that were seen, by whoever saw them.
+//! HistoryPrefixes of the history that were seen, by whoever saw them.
 
 ghost use Rattle.std.specs.Prelude.{◌≡◌, ◌+◌, ◌<◌, ◌≤◌, ◌^◌, ◌++◌, ◌∷◌, [], length, true, MatchBool};
 ghost use mathlib.Core.List.{IsPrefix};
-ghost use Rattle.history.specs.Beginnings.{head_of, IsLonger};
+ghost use Rattle.history.specs.HistoryPrefixes.{head_of, IsLonger};
 
-use crate::naming::Naming;
+use crate::front_id::FrontId;
 use crate::row::Row;
 use logbook::{Gain, Offer, Plain, Play, Rule, Seen, Start, Word};
 use std::marker::PhantomData;
@@ -15,7 +15,7 @@ pub struct Lengths;
 impl Rule<Row, u64> for Lengths {
     ghost use Rattle.std.specs.Prelude.{[]};
     ghost use base.Fml.{ftrue};
-    ghost use Rattle.history.specs.Beginnings.{IsCounted};
+    ghost use Rattle.history.specs.HistoryPrefixes.{IsCounted};
 
     ghost holds = { λ cells log. IsCounted cells log };
 
@@ -43,7 +43,7 @@ impl Gain<Row, u64> for Nothing {
 pub struct Add;
 
 impl Play<Row, u64> for Add {
-    ghost use Rattle.history.specs.Beginnings.{Adds};
+    ghost use Rattle.history.specs.HistoryPrefixes.{Adds};
 
     ghost then = { Adds };
 }
@@ -58,70 +58,70 @@ impl Plain<Row, Row, u64> for Add {
 }
 
 /// The history of a new front, which has no name yet.
-pub struct Empty {
+pub struct EmptyHistory {
     head: Word<Row, u64, Lengths>,
     pub seen: Seen<Row, u64, Lengths>,
     ghost none: { seen.log ≡ [] },
     ghost head_is: { head ≡ head_of seen.book },
 }
 
-impl Drop for Empty {
+impl Drop for EmptyHistory {
     fn drop(self) {
-        let Empty { head: _, seen: _ } = self;
+        let EmptyHistory { head: _, seen: _ } = self;
     }
 }
 
-impl Empty {
+impl EmptyHistory {
     /// That of no rows.
-    pub(crate) fn new() -> Empty {
+    pub(crate) fn new() -> EmptyHistory {
         let (seen, mut first, _second) = Seen::open(Start::alone(), 0, 0);
-        Empty {
+        EmptyHistory {
             head: Word::tracked(0, &mut first),
             seen,
         }
     }
 
     /// Its length under a name, and the beginning that has no rows.
-    pub fn named<J: Naming>(self) -> (Head<J>, Beginning)
+    pub fn named<J: FrontId>(self) -> (HistoryLength<J>, HistoryPrefix)
         requires { self.seen.book ≡ J.book }
         ensures { (result.1.seen.log ≡ []) × (result.1.seen.book ≡ J.book) }
     {
-        let Empty { head, seen } = self;
-        let head = Head {
+        let EmptyHistory { head, seen } = self;
+        let head = HistoryLength {
             head,
             of: PhantomData,
         };
-        (head, Beginning { rows: 0, seen })
+        (head, HistoryPrefix { rows: 0, seen })
     }
 }
 
 /// The length of the history.
-pub struct Head<J: Naming> {
+pub struct HistoryLength<J: FrontId> {
     head: Word<Row, u64, Lengths>,
     of: PhantomData<J>,
     ghost head_is: { head ≡ head_of J.book },
 }
 
-impl<J: Naming> Drop for Head<J> {
+impl<J: FrontId> Drop for HistoryLength<J> {
     fn drop(self) {
-        let Head { head: _, of: _ } = self;
+        let HistoryLength { head: _, of: _ } = self;
     }
 }
 
 /// A beginning of the history that was seen. Of its rows it keeps the number alone.
-pub struct Beginning {
+pub struct HistoryPrefix {
     rows: u64,
     pub seen: Seen<Row, u64, Lengths>,
     ghost counted: { rows ≡ length seen.log },
 }
 
-impl Drop for Beginning {
+impl Drop for HistoryPrefix {
     fn drop(self) {
-        let Beginning { rows: _, seen: _ } = self;
+        let HistoryPrefix { rows: _, seen: _ } = self;
     }
 }
 
-impl Beginning {
+impl HistoryPrefix {
     /// How many rows it has.
     pub fn len(&self) -> u64
         ensures { result ≡ length self.now.seen.log }
@@ -130,10 +130,10 @@ impl Beginning {
     }
 
     /// A copy.
-    pub fn again(&self) -> Beginning
+    pub fn again(&self) -> HistoryPrefix
         ensures { result.seen ≡ self.now.seen }
     {
-        Beginning {
+        HistoryPrefix {
             rows: self.rows,
             seen: self.seen.again(),
         }
@@ -141,7 +141,7 @@ impl Beginning {
 
     /// Whether the other one begins with it. Of two beginnings of one history the shorter begins the
     /// longer.
-    pub fn begins(&self, other: &Beginning) -> bool
+    pub fn begins(&self, other: &HistoryPrefix) -> bool
         requires { other.now.seen.book ≡ self.now.seen.book }
         ensures { MatchBool result (IsPrefix self.now.seen.log other.now.seen.log) (IsLonger other.now.seen.log self.now.seen.log) }
     {
@@ -151,7 +151,7 @@ impl Beginning {
     }
 
     /// Adds a row to all that was seen, and says whether it did. It did not where the history is longer.
-    pub fn add<J: Naming>(&mut self, head: &Head<J>, row: &Row) -> bool
+    pub fn add<J: FrontId>(&mut self, head: &HistoryLength<J>, row: &Row) -> bool
         requires book { self.old.seen.book ≡ J.book }
         requires room { length self.old.seen.log < 2 ^ 62 }
         ensures book { self.new.seen.book ≡ J.book }
