@@ -8,22 +8,22 @@ use lib.ListN.{get_elem?}
 use Rattle.crossbeam_channel.specs.Fifo.{Pushes, Pops, Forks, Merges, Learns}
 use Rattle.atomic_table.proofs.Lists.{at_set}
 use Rattle.workers.specs.declared.ticket.Ticket.{Ticket}
-use Rattle.workers.specs.declared.queue.Hand.{Hand}
-use Rattle.workers.specs.Queue.{keeper, taker, idle, Puts, Takes, Taken, tickets_in, own, owns, AreOf, Fits, HandsOn, Told}
+use Rattle.workers.specs.declared.queue.QueueEnd.{QueueEnd}
+use Rattle.workers.specs.Queue.{producer, consumer, idle, Puts, Takes, Taken, tickets_in, own, owns, AreOf, Fits, HandsOn, Told}
 
 off : false ≡ true → ⊥
 off e = true≢false (sym e)
 
 -- ---- lists
 
-at_push : (views : List Hand) (a b : Hand) (j : ℕ) → get_elem? (views ++ a ∷ []) j ≡ some b → (get_elem? views j ≡ some b) ⊎ ((j ≡ length views) × (a ≡ b))
+at_push : (views : List QueueEnd) (a b : QueueEnd) (j : ℕ) → get_elem? (views ++ a ∷ []) j ≡ some b → (get_elem? views j ≡ some b) ⊎ ((j ≡ length views) × (a ≡ b))
 at_push [] a b zero e = inr (refl, some-injective a b e)
 at_push [] a b (suc j) e = absurd (some-ne-none b (sym e))
 at_push (v ∷ views) a b zero e = inl e
 at_push (v ∷ views) a b (suc j) e = ⊎_elim (λ t. inl t) (λ (t : (j ≡ length views) × (a ≡ b)). inr (ap suc t.0 ∙ omega arith, t.1)) (at_push views a b j e)
 
 -- no element stands behind the last
-past_end : (views : List Hand) (b : Hand) (j : ℕ) → get_elem? views j ≡ some b → j ≢ length views
+past_end : (views : List QueueEnd) (b : QueueEnd) (j : ℕ) → get_elem? views j ≡ some b → j ≢ length views
 past_end [] b j e same = absurd (some-ne-none b (sym e))
 past_end (v ∷ views) b zero e same = omega (arith, same)
 past_end (v ∷ views) b (suc j) e same = past_end views b j e (omega (arith, same))
@@ -85,7 +85,7 @@ owns_other log k (suc m) n x low =
 
 -- ---- the rule
 
-pub begins : HandsOn [] (keeper [] 0 [] ∷ [])
+pub begins : HandsOn [] (producer [] 0 [] ∷ [])
 begins = record {
   keeps_at = 0;
   put = [];
@@ -99,24 +99,24 @@ begins = record {
   fits = one;
 }
   where
-    one : (j : ℕ) (v : Hand) → get_elem? (keeper [] 0 [] ∷ []) j ≡ some v → Fits 0 [] 0 [] [] (λ n. 0) j v
-    one zero v e = subst (λ u. Fits 0 [] 0 [] [] (λ n. 0) 0 u) (some-injective (keeper [] 0 []) v e) (record { keeps = λ _. (refl, refl, refl, refl); takes = λ p. absurd (off p) })
+    one : (j : ℕ) (v : QueueEnd) → get_elem? (producer [] 0 [] ∷ []) j ≡ some v → Fits 0 [] 0 [] [] (λ n. 0) j v
+    one zero v e = subst (λ u. Fits 0 [] 0 [] [] (λ n. 0) 0 u) (some-injective (producer [] 0 []) v e) (record { keeps = λ _. (refl, refl, refl, refl); takes = λ p. absurd (off p) })
     one (suc j) v e = absurd (some-ne-none v (sym e))
 
 -- all hands fit where one was set
-fits_set : (F : ℕ → Hand → Type 0) (views : List Hand) (place : ℕ) (w : Hand)
-    → ((j : ℕ) (u : Hand) → j ≢ place → get_elem? views j ≡ some u → F j u) → F place w
-    → (j : ℕ) (u : Hand) → get_elem? (set views place w) j ≡ some u → F j u
+fits_set : (F : ℕ → QueueEnd → Type 0) (views : List QueueEnd) (place : ℕ) (w : QueueEnd)
+    → ((j : ℕ) (u : QueueEnd) → j ≢ place → get_elem? views j ≡ some u → F j u) → F place w
+    → (j : ℕ) (u : QueueEnd) → get_elem? (set views place w) j ≡ some u → F j u
 fits_set F views place w others mine j u e =
     ⊎_elim
-    (λ (x : (j ≡ place) × (w ≡ u)). subst (λ (y : ℕ × Hand). F y.0 y.1) (λ i. (sym x.0 i, x.1 i)) mine)
+    (λ (x : (j ≡ place) × (w ≡ u)). subst (λ (y : ℕ × QueueEnd). F y.0 y.1) (λ i. (sym x.0 i, x.1 i)) mine)
     (λ (x : (j ≢ place) × (get_elem? views j ≡ some u)). others j u x.0 x.1)
     (at_set views place j w u e)
 
-pub puts : (n place : ℕ) (v : Hand) (x : Ticket) → v.keeps ≡ true → Pushes HandsOn n place v x (Puts v x)
+pub puts : (n place : ℕ) (v : QueueEnd) (x : Ticket) → v.keeps ≡ true → Pushes HandsOn n place v x (Puts v x)
 puts n place v x keeps items views room h at =
     let mine = (h.fits place v at).keeps keeps in
-    let w : Hand = keeper (v.put ++ x ∷ []) v.out v.back in (
+    let w : QueueEnd = producer (v.put ++ x ∷ []) v.out v.back in (
       w,
       record {
         keeps_at = h.keeps_at;
@@ -138,11 +138,11 @@ puts n place v x keeps items views room h at =
       refl,
     )
 
-pub takes : (place : ℕ) (v : Hand) → v.takes ≡ true → Pops HandsOn place v (Takes v)
+pub takes : (place : ℕ) (v : QueueEnd) → v.takes ≡ true → Pops HandsOn place v (Takes v)
 takes place v may x items views h at =
     let mine = (h.fits place v at).takes may in
     let k = v.number in
-    let w : Hand = taker k (v.taken ++ x ∷ []) in
+    let w : QueueEnd = consumer k (v.taken ++ x ∷ []) in
     let log = h.log ++ (k, x) ∷ [] in (
       w,
       record {
@@ -179,18 +179,18 @@ moved_here owner number place = ap (λ b. if b then place else owner number) (eq
 moved_else : (owner : ℕ → ℕ) (number place n : ℕ) → n ≢ number → moved owner number place n ≡ owner n
 moved_else owner number place n apart = ap (λ b. if b then place else owner n) (neq n number apart)
 
-pub gives : (place : ℕ) (v : Hand) → v.keeps ≡ true → v.back ≡ [] → Forks HandsOn place v (keeper v.put (v.out + 1) v.back) (taker v.out [])
+pub gives : (place : ℕ) (v : QueueEnd) → v.keeps ≡ true → v.back ≡ [] → Forks HandsOn place v (producer v.put (v.out + 1) v.back) (consumer v.out [])
 gives place v keeps none items views h at =
     let mine = (h.fits place v at).keeps keeps in
-    let l : Hand = keeper v.put (v.out + 1) v.back in
-    let r : Hand = taker v.out [] in
-    let vs : List Hand = set views place l in
+    let l : QueueEnd = producer v.put (v.out + 1) v.back in
+    let r : QueueEnd = consumer v.out [] in
+    let vs : List QueueEnd = set views place l in
     let at_place = length vs in
     let owner : ℕ → ℕ = moved h.owner h.out at_place in
     let is_none : h.back ≡ [] = sym mine.3 ∙ none in
-    let F : ℕ → Hand → Type 0 = Fits h.keeps_at h.put (h.out + 1) h.back h.log owner in
+    let F : ℕ → QueueEnd → Type 0 = Fits h.keeps_at h.put (h.out + 1) h.back h.log owner in
     let low : AreOf h.out h.log = of_more (h.out + length h.back) h.out h.log (λ k p. let z : length h.back ≡ 0 = ap length is_none in omega (arith, p, z)) h.of_hands in
-    let old : (j : ℕ) (u : Hand) → get_elem? vs j ≡ some u → F j u = fits_set F views place l
+    let old : (j : ℕ) (u : QueueEnd) → get_elem? vs j ≡ some u → F j u = fits_set F views place l
     (λ j u apart e. let f = h.fits j u e in record {
       keeps = λ k. absurd (apart ((f.keeps k).0 ∙ sym mine.0));
       takes = λ t. let theirs = f.takes t in let below = theirs.1 in (
@@ -211,7 +211,7 @@ gives place v keeps none items views h at =
       came_back = is_none ∙ sym (ap (λ b. owns (h.out + 1) (length b) h.log) is_none);
       of_hands = of_more (h.out + length h.back) (h.out + 1 + length h.back) h.log (λ k p. omega (arith, p)) h.of_hands;
       fits = λ j u e. ⊎_elim (λ x. old j u x)
-          (λ (x : (j ≡ at_place) × (r ≡ u)). subst (λ (y : ℕ × Hand). F y.0 y.1) (λ i. (sym x.0 i, x.1 i))
+          (λ (x : (j ≡ at_place) × (r ≡ u)). subst (λ (y : ℕ × QueueEnd). F y.0 y.1) (λ i. (sym x.0 i, x.1 i))
           (record {
             keeps = λ p. absurd (off p);
             takes = λ _. (
@@ -223,18 +223,18 @@ gives place v keeps none items views h at =
           (at_push vs r u j e);
     }
 
-pub merges : (place : ℕ) (v : Hand) (other : ℕ) (u : Hand) → v.keeps ≡ true → u.takes ≡ true → u.number + 1 ≡ v.out
-    → Merges HandsOn place v other u (keeper v.put u.number (u.taken ∷ v.back)) idle
+pub merges : (place : ℕ) (v : QueueEnd) (other : ℕ) (u : QueueEnd) → v.keeps ≡ true → u.takes ≡ true → u.number + 1 ≡ v.out
+    → Merges HandsOn place v other u (producer v.put u.number (u.taken ∷ v.back)) idle
 merges place v other u keeps may last items views h at two at' =
-    let both : Hand = keeper v.put u.number (u.taken ∷ v.back) in
+    let both : QueueEnd = producer v.put u.number (u.taken ∷ v.back) in
     let mine = (h.fits place v at).keeps keeps in
-    let vs : List Hand = set views place both in
+    let vs : List QueueEnd = set views place both in
     let was : get_elem? views other ≡ some u = ⊎_elim (λ x. absurd (two x.0)) (λ x. x.1) (at_set views place other both u at') in
     let theirs = (h.fits other u was).takes may in
     let back = u.taken ∷ h.back in
     let is_out : h.out ≡ u.number + 1 = sym mine.2 ∙ sym last in
-    let F : ℕ → Hand → Type 0 = Fits h.keeps_at h.put u.number back h.log h.owner in
-    let now : (j : ℕ) (y : Hand) → get_elem? vs j ≡ some y → j ≢ other → F j y = fits_set (λ j y. j ≢ other → F j y) views place both
+    let F : ℕ → QueueEnd → Type 0 = Fits h.keeps_at h.put u.number back h.log h.owner in
+    let now : (j : ℕ) (y : QueueEnd) → get_elem? vs j ≡ some y → j ≢ other → F j y = fits_set (λ j y. j ≢ other → F j y) views place both
     (λ j y apart e far. let f = h.fits j y e in record {
       keeps = λ k. absurd (apart ((f.keeps k).0 ∙ sym mine.0));
       takes = λ t. let its = f.takes t in let below = its.1 in (
@@ -257,7 +257,7 @@ merges place v other u keeps may last items views h at two at' =
       fits = fits_set F vs other idle (λ j y far e. now j y e far) (record { keeps = λ p. absurd (off p); takes = λ p. absurd (off p) });
     }
 
-pub learns : (place : ℕ) (v : Hand) → v.keeps ≡ true → Learns HandsOn place v (Told v)
+pub learns : (place : ℕ) (v : QueueEnd) → v.keeps ≡ true → Learns HandsOn place v (Told v)
 learns place v keeps items views h at =
     let mine = (h.fits place v at).keeps keeps in record {
       log = h.log;

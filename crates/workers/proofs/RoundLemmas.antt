@@ -10,33 +10,33 @@ use Rattle.events.specs.declared.reply.Reply.{Reply}
 use Rattle.crossbeam_channel.specs.Claims.{Pass, view}
 use Rattle.workers.specs.declared.ticket.Ticket.{Ticket}
 use Rattle.workers.specs.declared.ticket.Ticket.TheVariants.{Stop}
-use Rattle.workers.specs.declared.queue.Hand.{Hand}
+use Rattle.workers.specs.declared.queue.QueueEnd.{QueueEnd}
 use Rattle.workers.specs.declared.runner.RunFault.{RunFault}
 use Rattle.workers.specs.declared.tally.Tally.{Tally}
 use Rattle.workers.specs.declared.worker.Worker.{Worker}
-use Rattle.workers.specs.Queue.{keeper, taker, Puts}
+use Rattle.workers.specs.Queue.{producer, consumer, Puts}
 use Rattle.workers.specs.Tickets.{AreStops, has_stop}
-use Rattle.workers.specs.Rounds.{IsKeeper, PutFrom, PutStops, IsPut, Shift, backwards, tickets_of, all_stopped, is_memory, is_stopped, one_met, tally_of, WorksShift, AllWork, Returned, Serves}
+use Rattle.workers.specs.Rounds.{IsProducer, PutFrom, PutStops, IsPut, Shift, backwards, tickets_of, all_stopped, is_memory, is_stopped, one_met, tally_of, WorksShift, AllWork, Returned, Serves}
 
 -- ---- what is put
 
-pub keeps : (v : Hand) → IsKeeper v → v.keeps ≡ true
-keeps v is = ap (λ (h : Hand). h.keeps) is
+pub keeps : (v : QueueEnd) → IsProducer v → v.keeps ≡ true
+keeps v is = ap (λ (h : QueueEnd). h.keeps) is
 
-pub put_none : (v : Hand) → IsKeeper v → PutFrom [] true v v
-put_none v is = record { some = []; begins = ([], refl); put = is ∙ ap (λ (ts : List Ticket). keeper ts v.out v.back) (sym (append-nil v.put)); whole = λ _. refl }
+pub put_none : (v : QueueEnd) → IsProducer v → PutFrom [] true v v
+put_none v is = record { some = []; begins = ([], refl); put = is ∙ ap (λ (ts : List Ticket). producer ts v.out v.back) (sym (append-nil v.put)); whole = λ _. refl }
 
 -- a beginning of a list is one of a longer list
 longer : (xs ys : List Ticket) (y : Ticket) → IsPrefix xs ys → IsPrefix xs (ys ++ y ∷ [])
 longer xs ys y p = (p.0 ++ y ∷ [], sym (append_assoc xs p.0 (y ∷ [])) ∙ ap (λ l. l ++ y ∷ []) p.1)
 
-next_put : (old v w : Hand) (some : List Ticket) (t : Ticket) → v ≡ keeper (old.put ++ some) old.out old.back → Puts v t w → w ≡ keeper (old.put ++ (some ++ t ∷ [])) old.out old.back
+next_put : (old v w : QueueEnd) (some : List Ticket) (t : Ticket) → v ≡ producer (old.put ++ some) old.out old.back → Puts v t w → w ≡ producer (old.put ++ (some ++ t ∷ [])) old.out old.back
 next_put old v w some t was puts =
     puts
-    ∙ ap (λ (h : Hand). keeper (h.put ++ t ∷ []) h.out h.back) was
-    ∙ ap (λ (ts : List Ticket). keeper ts old.out old.back) (append_assoc old.put some (t ∷ []))
+    ∙ ap (λ (h : QueueEnd). producer (h.put ++ t ∷ []) h.out h.back) was
+    ∙ ap (λ (ts : List Ticket). producer ts old.out old.back) (append_assoc old.put some (t ∷ []))
 
-pub put_more : (ys : List Ticket) (t : Ticket) (going done : Bool) (old v w : Hand) → PutFrom ys going old v
+pub put_more : (ys : List Ticket) (t : Ticket) (going done : Bool) (old v w : QueueEnd) → PutFrom ys going old v
     → (done ≡ true → (going ≡ true) × Puts v t w) → (done ≡ false → w ≡ v) → PutFrom (ys ++ t ∷ []) done old w
 put_more ys t going true old v w h puts none = record {
   some = h.some ++ t ∷ [];
@@ -51,14 +51,14 @@ put_more ys t going false old v w h puts none = record {
   whole = λ yes. absurd (true≢false (sym yes));
 }
 
-pub stops_none : (v : Hand) → IsKeeper v → PutStops 0 true v v
-stops_none v is = record { stops = []; are = tt; put = is ∙ ap (λ (ts : List Ticket). keeper ts v.out v.back) (sym (append-nil v.put)); whole = λ _. refl }
+pub stops_none : (v : QueueEnd) → IsProducer v → PutStops 0 true v v
+stops_none v is = record { stops = []; are = tt; put = is ∙ ap (λ (ts : List Ticket). producer ts v.out v.back) (sym (append-nil v.put)); whole = λ _. refl }
 
 stops_push : (ts : List Ticket) → AreStops ts → AreStops (ts ++ Stop ∷ [])
 stops_push [] are = (refl, tt)
 stops_push (t ∷ ts) are = (are.0, stops_push ts are.1)
 
-pub stops_more : (n : ℕ) (going done : Bool) (old v w : Hand) → PutStops n going old v → (done ≡ true → (going ≡ true) × Puts v Stop w) → (done ≡ false → w ≡ v) → PutStops (n + 1) done old w
+pub stops_more : (n : ℕ) (going done : Bool) (old v w : QueueEnd) → PutStops n going old v → (done ≡ true → (going ≡ true) × Puts v Stop w) → (done ≡ false → w ≡ v) → PutStops (n + 1) done old w
 stops_more n going true old v w h puts none = record {
   stops = h.stops ++ Stop ∷ [];
   are = stops_push h.stops h.are;
@@ -68,11 +68,11 @@ stops_more n going true old v w h puts none = record {
 stops_more n going false old v w h puts none = record { stops = h.stops; are = h.are; put = none refl ∙ h.put; whole = λ yes. absurd (true≢false (sym yes)) }
 
 -- the hand keeps the queue afterwards
-pub from_keeps : (ys : List Ticket) (all : Bool) (old v : Hand) → PutFrom ys all old v → IsKeeper v
-from_keeps ys all old v h = h.put ∙ (λ i. keeper ((sym (ap (λ (x : Hand). x.put) h.put)) i) ((sym (ap (λ (x : Hand). x.out) h.put)) i) ((sym (ap (λ (x : Hand). x.back) h.put)) i))
+pub from_keeps : (ys : List Ticket) (all : Bool) (old v : QueueEnd) → PutFrom ys all old v → IsProducer v
+from_keeps ys all old v h = h.put ∙ (λ i. producer ((sym (ap (λ (x : QueueEnd). x.put) h.put)) i) ((sym (ap (λ (x : QueueEnd). x.out) h.put)) i) ((sym (ap (λ (x : QueueEnd). x.back) h.put)) i))
 
-pub stops_keeps : (n : ℕ) (all : Bool) (old v : Hand) → PutStops n all old v → IsKeeper v
-stops_keeps n all old v h = h.put ∙ (λ i. keeper ((sym (ap (λ (x : Hand). x.put) h.put)) i) ((sym (ap (λ (x : Hand). x.out) h.put)) i) ((sym (ap (λ (x : Hand). x.back) h.put)) i))
+pub stops_keeps : (n : ℕ) (all : Bool) (old v : QueueEnd) → PutStops n all old v → IsProducer v
+stops_keeps n all old v h = h.put ∙ (λ i. producer ((sym (ap (λ (x : QueueEnd). x.put) h.put)) i) ((sym (ap (λ (x : QueueEnd). x.out) h.put)) i) ((sym (ap (λ (x : QueueEnd). x.back) h.put)) i))
 
 -- ---- all workers
 
@@ -149,7 +149,7 @@ module _ {S Q : Type 0} (called : S → Event → Reply → S → Type 0) (asked
   work_push (a ∷ ws) [] vs w s v all works = absurd all
   work_push (a ∷ ws) (b ∷ bs) [] w s v all works = absurd all
 
-  pub serves_none : (tickets : List Ticket) (count : ℕ) (left old : List (Worker S Q)) (k k' : Hand) (all_put : Bool) (tally : Tally) → left ≡ [] → k ≡ keeper [] k.out [] → IsPut tickets count all_put k k'
+  pub serves_none : (tickets : List Ticket) (count : ℕ) (left old : List (Worker S Q)) (k k' : QueueEnd) (all_put : Bool) (tally : Tally) → left ≡ [] → k ≡ producer [] k.out [] → IsPut tickets count all_put k k'
       → tally ≡ tally_of all_put [] → Serves called asked gives tickets count left old old k k' tally
   serves_none tickets count left old k k' all_put tally none new put counts = record {
     after = [];
@@ -159,22 +159,22 @@ module _ {S Q : Type 0} (called : S → Event → Reply → S → Type 0) (asked
     done = sym (append-nil old);
     works = subst (λ (ws : List (Worker S Q)). AllWork called asked gives ws [] []) (sym none) tt;
     put = put;
-    keeps = put.put ∙ (λ i. keeper ((sym (ap (λ (x : Hand). x.put) put.put)) i) k.out ((ap (λ (x : Hand). x.back) new) i));
+    keeps = put.put ∙ (λ i. producer ((sym (ap (λ (x : QueueEnd). x.put) put.put)) i) k.out ((ap (λ (x : QueueEnd). x.back) new) i));
     counts = counts;
   }
 
-  pub serves_more : (tickets : List Ticket) (count : ℕ) (left rest old mid new : List (Worker S Q)) (w v : Worker S Q) (k k1 k2 k3 : Hand) (hand hand' : Pass Ticket Hand) (met : Option Refusal) (started took_stop : Bool) (inner_tally tally : Tally)
-      → left ≡ rest ++ w ∷ [] → k ≡ keeper [] k.out [] → k1 ≡ keeper k.put (k.out + 1) k.back → Serves called asked gives tickets count rest old mid k1 k2 inner_tally
-      → view hand ≡ taker k.out [] → Returned called asked gives w hand v hand' met took_stop → k3 ≡ keeper k2.put (view hand').number ((view hand').taken ∷ k2.back) → new ≡ mid ++ v ∷ []
+  pub serves_more : (tickets : List Ticket) (count : ℕ) (left rest old mid new : List (Worker S Q)) (w v : Worker S Q) (k k1 k2 k3 : QueueEnd) (hand hand' : Pass Ticket QueueEnd) (met : Option Refusal) (started took_stop : Bool) (inner_tally tally : Tally)
+      → left ≡ rest ++ w ∷ [] → k ≡ producer [] k.out [] → k1 ≡ producer k.put (k.out + 1) k.back → Serves called asked gives tickets count rest old mid k1 k2 inner_tally
+      → view hand ≡ consumer k.out [] → Returned called asked gives w hand v hand' met took_stop → k3 ≡ producer k2.put (view hand').number ((view hand').taken ∷ k2.back) → new ≡ mid ++ v ∷ []
       → tally.whole ≡ (inner_tally.whole && (started && took_stop)) → tally.memory ≡ (inner_tally.memory || is_memory met) → tally.stopped ≡ (inner_tally.stopped || is_stopped met)
       → Serves called asked gives tickets count left old new k k3 tally
   serves_more tickets count left rest old mid new w v k k1 k2 k3 hand hand' met started took_stop inner_tally tally popped fresh out inner is_hand returned back pushed whole memory stopped =
       let shift : Shift = record { took = (view hand').taken; calls = returned.calls; met = met } in
-      let number : (view hand').number ≡ k.out = ap (λ (h : Hand). h.number) returned.took ∙ ap (λ (h : Hand). h.number) is_hand in record {
+      let number : (view hand').number ≡ k.out = ap (λ (h : QueueEnd). h.number) returned.took ∙ ap (λ (h : QueueEnd). h.number) is_hand in record {
         after = inner.after ++ v ∷ [];
         shifts = inner.shifts ++ shift ∷ [];
         ready = inner.ready && started;
-        between = keeper inner.between.put k.out k.back;
+        between = producer inner.between.put k.out k.back;
         done = pushed ∙ ap (λ (l : List (Worker S Q)). l ++ v ∷ []) inner.done ∙ append_assoc old inner.after (v ∷ []);
         works = subst (λ (ws : List (Worker S Q)). AllWork called asked gives ws (inner.shifts ++ shift ∷ []) (inner.after ++ v ∷ [])) (sym popped)
             (work_push rest inner.shifts inner.after w shift v inner.works (record { works = returned.works; last = returned.last }));
@@ -183,12 +183,12 @@ module _ {S Q : Type 0} (called : S → Event → Reply → S → Type 0) (asked
           stops = inner.put.stops;
           begins = inner.put.begins;
           are = inner.put.are;
-          put = ap (λ (h : Hand). keeper h.put k.out k.back) inner.put.put;
+          put = ap (λ (h : QueueEnd). producer h.put k.out k.back) inner.put.put;
           whole = λ both. inner.put.whole (first_true inner.ready started both);
           each = λ both. inner.put.each (first_true inner.ready started both);
         };
         keeps = back
-            ∙ ap (λ (h : Hand). keeper h.put (view hand').number (shift.took ∷ h.back)) inner.keeps
-            ∙ (λ i. keeper inner.between.put (number i) (sym (ap backwards (tickets_of_push inner.shifts shift) ∙ backwards_push (tickets_of inner.shifts) shift.took) i));
+            ∙ ap (λ (h : QueueEnd). producer h.put (view hand').number (shift.took ∷ h.back)) inner.keeps
+            ∙ (λ i. producer inner.between.put (number i) (sym (ap backwards (tickets_of_push inner.shifts shift) ∙ backwards_push (tickets_of inner.shifts) shift.took) i));
         counts = tally_push inner.ready started took_stop inner.shifts shift inner_tally tally inner.counts returned.stop whole memory stopped;
       }

@@ -10,11 +10,11 @@ use Rattle.events.specs.declared.event.Event.{Event}
 use Rattle.events.specs.declared.reply.Reply.{Reply}
 use Rattle.workers.specs.declared.ticket.Ticket.{Ticket}
 use Rattle.workers.specs.declared.ticket.Ticket.TheVariants.{Goal, Stop}
-use Rattle.workers.specs.declared.queue.Hand.{Hand}
+use Rattle.workers.specs.declared.queue.QueueEnd.{QueueEnd}
 use Rattle.workers.specs.declared.runner.RunFault.{RunFault}
 use Rattle.workers.specs.declared.tally.Tally.{Tally}
 use Rattle.workers.specs.declared.worker.Worker.{Worker}
-use Rattle.workers.specs.Queue.{keeper, Taken, tickets_in, own, owns, AreOf, Told}
+use Rattle.workers.specs.Queue.{producer, Taken, tickets_in, own, owns, AreOf, Told}
 use Rattle.workers.specs.Tickets.{goals_in, IsGoal, AreGoals, AreStops, has_stop}
 use Rattle.workers.specs.Rounds.{Shift, backwards, tickets_of, all_stopped, is_memory, is_stopped, one_met, NoneMet, answer_by, AllWork, Serves, IsRound}
 use Rattle.workers.proofs.AlongLemmas.{is_known, works_known}
@@ -174,13 +174,13 @@ module _ {S Q : Type 0} (called : S → Event → Reply → S → Type 0) (asked
     none_met = λ _. tt;
   }
 
-  pub is_round : (tickets items : List Ticket) (count : ℕ) (before after : List (Worker S Q)) (k k' : Hand) (tally : Tally) → AreGoals tickets → k ≡ keeper [] 0 []
+  pub is_round : (tickets items : List Ticket) (count : ℕ) (before after : List (Worker S Q)) (k k' : QueueEnd) (tally : Tally) → AreGoals tickets → k ≡ producer [] 0 []
       → Serves called asked gives tickets count before [] after k k' tally → Told k' items → IsRound called asked gives tickets before after (answer_by tally)
   is_round tickets items count before after k k' tally goals new s told =
       let back = backwards (tickets_of s.shifts) in
-      let is_back : k'.back ≡ back = ap (λ (h : Hand). h.back) s.keeps in
-      let is_out : k'.out ≡ 0 = ap (λ (h : Hand). h.out) s.keeps ∙ ap (λ (h : Hand). h.out) new in
-      let is_put : tickets_in told.log ++ items ≡ s.put.some ++ s.put.stops = sym told.all ∙ ap (λ (h : Hand). h.put) s.keeps ∙ ap (λ (h : Hand). h.put) s.put.put in
+      let is_back : k'.back ≡ back = ap (λ (h : QueueEnd). h.back) s.keeps in
+      let is_out : k'.out ≡ 0 = ap (λ (h : QueueEnd). h.out) s.keeps ∙ ap (λ (h : QueueEnd). h.out) new in
+      let is_put : tickets_in told.log ++ items ≡ s.put.some ++ s.put.stops = sym told.all ∙ ap (λ (h : QueueEnd). h.put) s.keeps ∙ ap (λ (h : QueueEnd). h.put) s.put.put in
       let some_goals : AreGoals s.put.some = goals_first s.put.some s.put.begins.0 (subst (λ (l : List Ticket). AreGoals l) (sym s.put.begins.1) goals) in
       let apart : goals_in (tickets_in told.log) ++ goals_in items ≡ s.put.some =
       sym (goals_append (tickets_in told.log) items) ∙ ap goals_in is_put ∙ goals_append s.put.some s.put.stops

@@ -10,10 +10,10 @@ use Rattle.events.specs.declared.event.Event.{Event}
 use Rattle.events.specs.declared.reply.Reply.{Reply}
 use Rattle.workers.specs.declared.ticket.Ticket.{Ticket}
 use Rattle.workers.specs.declared.ticket.Ticket.TheVariants.{Goal, Stop}
-use Rattle.workers.specs.declared.queue.Hand.{Hand}
+use Rattle.workers.specs.declared.queue.QueueEnd.{QueueEnd}
 use Rattle.workers.specs.declared.runner.RunFault.{RunFault}
 use Rattle.workers.specs.declared.worker.Worker.{Worker}
-use Rattle.workers.specs.Queue.{taker, Takes}
+use Rattle.workers.specs.Queue.{consumer, Takes}
 use Rattle.workers.specs.Tickets.{has_stop, StopsLast}
 use Rattle.workers.specs.Working.{Call, asking, is_planned, leads_own, met_by, Ends, Asks, GoesOn, Starts, WorksOn, Deals, Works}
 
@@ -122,10 +122,10 @@ last_none (Goal u n ∷ ts) none = last_none ts none
 -- ---- hands
 
 -- a hand that took a ticket more
-pub took_still : (h i j : Hand) (t : Ticket) → i ≡ taker h.number i.taken → Takes i t j → j ≡ taker h.number j.taken
+pub took_still : (h i j : QueueEnd) (t : Ticket) → i ≡ consumer h.number i.taken → Takes i t j → j ≡ consumer h.number j.taken
 took_still h i j t was took =
-    took ∙ ap (λ (n : ℕ). taker n (i.taken ++ t ∷ [])) (ap (λ (k : Hand). k.number) was)
-    ∙ ap (λ (ts : List Ticket). taker h.number ts) (sym (ap (λ (k : Hand). k.taken) took))
+    took ∙ ap (λ (n : ℕ). consumer n (i.taken ++ t ∷ [])) (ap (λ (k : QueueEnd). k.number) was)
+    ∙ ap (λ (ts : List Ticket). consumer h.number ts) (sym (ap (λ (k : QueueEnd). k.taken) took))
 
-pub took_taken : (i j : Hand) (t u : Ticket) → t ≡ u → Takes i t j → i.taken ++ u ∷ [] ≡ j.taken
-took_taken i j t u same took = sym (ap (λ (k : Hand). k.taken) took ∙ ap (λ (x : Ticket). i.taken ++ x ∷ []) same)
+pub took_taken : (i j : QueueEnd) (t u : Ticket) → t ≡ u → Takes i t j → i.taken ++ u ∷ [] ≡ j.taken
+took_taken i j t u same took = sym (ap (λ (k : QueueEnd). k.taken) took ∙ ap (λ (x : Ticket). i.taken ++ x ∷ []) same)

@@ -3,29 +3,29 @@ use Rattle.std.specs.Prelude.{◌≡◌, ℕ, zero, suc, ◌+◌, ◌<◌, ◌==
 use mathlib.Core.Option.{some}
 use lib.ListN.{get_elem?}
 use Rattle.workers.specs.declared.ticket.Ticket.{Ticket}
-use Rattle.workers.specs.declared.queue.Hand.{Hand}
+use Rattle.workers.specs.declared.queue.QueueEnd.{QueueEnd}
 
 -- ---- hands
 
 -- the hand that keeps the queue: what was put, how many hands are out, and what those that came back took
-abbrev pub keeper : List Ticket → ℕ → List (List Ticket) → Hand
-keeper put out back = record { keeps = true; put = put; out = out; back = back; takes = false; number = 0; taken = [] }
+abbrev pub producer : List Ticket → ℕ → List (List Ticket) → QueueEnd
+producer put out back = record { keeps = true; put = put; out = out; back = back; takes = false; number = 0; taken = [] }
 
 -- the hand of a number, which took these tickets
-abbrev pub taker : ℕ → List Ticket → Hand
-taker number taken = record { keeps = false; put = []; out = 0; back = []; takes = true; number = number; taken = taken }
+abbrev pub consumer : ℕ → List Ticket → QueueEnd
+consumer number taken = record { keeps = false; put = []; out = 0; back = []; takes = true; number = number; taken = taken }
 
 -- a hand that came back
-abbrev pub idle : Hand
+abbrev pub idle : QueueEnd
 idle = record { keeps = false; put = []; out = 0; back = []; takes = false; number = 0; taken = [] }
 
--- the keeper puts a ticket
-abbrev pub Puts : Hand → Ticket → Hand → Type 0
-Puts v ticket w = w ≡ keeper (v.put ++ ticket ∷ []) v.out v.back
+-- the producer puts a ticket
+abbrev pub Puts : QueueEnd → Ticket → QueueEnd → Type 0
+Puts v ticket w = w ≡ producer (v.put ++ ticket ∷ []) v.out v.back
 
 -- a hand takes a ticket
-abbrev pub Takes : Hand → Ticket → Hand → Type 0
-Takes v ticket w = w ≡ taker v.number (v.taken ++ ticket ∷ [])
+abbrev pub Takes : QueueEnd → Ticket → QueueEnd → Type 0
+Takes v ticket w = w ≡ consumer v.number (v.taken ++ ticket ∷ [])
 
 -- ---- the tickets taken
 
@@ -55,12 +55,12 @@ AreOf n (e ∷ es) = (e.0 < n) × AreOf n es
 -- ---- the rule
 
 -- what a hand knows is so
-pub record Fits (keeps_at : ℕ) (put : List Ticket) (out : ℕ) (back : List (List Ticket)) (log : List Taken) (owner : ℕ → ℕ) (place : ℕ) (v : Hand) : Type 0 where
+pub record Fits (keeps_at : ℕ) (put : List Ticket) (out : ℕ) (back : List (List Ticket)) (log : List Taken) (owner : ℕ → ℕ) (place : ℕ) (v : QueueEnd) : Type 0 where
   pub keeps : v.keeps ≡ true → (place ≡ keeps_at) × (v.put ≡ put) × (v.out ≡ out) × (v.back ≡ back)
   pub takes : v.takes ≡ true → (place ≡ owner v.number) × (v.number < out) × (v.taken ≡ own v.number log)
 
 -- the tickets taken and then those in the queue are those put, and each hand took those that are its own
-pub record HandsOn (items : List Ticket) (views : List Hand) : Type 0 where
+pub record HandsOn (items : List Ticket) (views : List QueueEnd) : Type 0 where
   pub keeps_at : ℕ
   pub put : List Ticket
   pub out : ℕ
@@ -70,10 +70,10 @@ pub record HandsOn (items : List Ticket) (views : List Hand) : Type 0 where
   pub all : put ≡ tickets_in log ++ items
   pub came_back : back ≡ owns out (length back) log
   pub of_hands : AreOf (out + length back) log
-  pub fits : (place : ℕ) (v : Hand) → get_elem? views place ≡ some v → Fits keeps_at put out back log owner place v
+  pub fits : (place : ℕ) (v : QueueEnd) → get_elem? views place ≡ some v → Fits keeps_at put out back log owner place v
 
--- what the keeper knows of the tickets that were taken, with these in the queue
-pub record Told (v : Hand) (items : List Ticket) : Type 0 where
+-- what the producer knows of the tickets that were taken, with these in the queue
+pub record Told (v : QueueEnd) (items : List Ticket) : Type 0 where
   pub log : List Taken
   pub all : v.put ≡ tickets_in log ++ items
   pub came_back : v.back ≡ owns v.out (length v.back) log

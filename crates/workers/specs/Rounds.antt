@@ -8,45 +8,45 @@ use Rattle.events.specs.declared.event.Event.{Event}
 use Rattle.events.specs.declared.reply.Reply.{Reply}
 use Rattle.crossbeam_channel.specs.Claims.{Pass, view}
 use Rattle.workers.specs.declared.ticket.Ticket.{Ticket}
-use Rattle.workers.specs.declared.queue.Hand.{Hand}
+use Rattle.workers.specs.declared.queue.QueueEnd.{QueueEnd}
 use Rattle.workers.specs.declared.runner.RunFault.{RunFault}
 use Rattle.workers.specs.declared.tally.Tally.{Tally}
 use Rattle.workers.specs.declared.worker.Worker.{Worker}
-use Rattle.workers.specs.Queue.{keeper, taker, Taken, tickets_in, owns, AreOf}
+use Rattle.workers.specs.Queue.{producer, consumer, Taken, tickets_in, owns, AreOf}
 use Rattle.workers.specs.Tickets.{goals_in, AreStops, has_stop, StopsLast}
 use Rattle.workers.specs.Working.{Call, Works}
 
 -- a token of the queue, at the same place of the same queue
-abbrev pub IsSameSeat : Pass Ticket Hand → Pass Ticket Hand → Type 0
+abbrev pub IsSameSeat : Pass Ticket QueueEnd → Pass Ticket QueueEnd → Type 0
 IsSameSeat old new = (new.table_id ≡ old.table_id) × (new.me.0.of ≡ old.me.0.of) × (new.me.1 ≡ [])
 
 -- ---- what is put
 
 -- a hand that keeps the queue
-abbrev pub IsKeeper : Hand → Type 0
-IsKeeper v = v ≡ keeper v.put v.out v.back
+abbrev pub IsProducer : QueueEnd → Type 0
+IsProducer v = v ≡ producer v.put v.out v.back
 
 -- the tickets were put, up to one, and all if it says so
-pub record PutFrom (tickets : List Ticket) (all : Bool) (old new : Hand) : Type 0 where
+pub record PutFrom (tickets : List Ticket) (all : Bool) (old new : QueueEnd) : Type 0 where
   pub some : List Ticket
   pub begins : IsPrefix some tickets
-  pub put : new ≡ keeper (old.put ++ some) old.out old.back
+  pub put : new ≡ producer (old.put ++ some) old.out old.back
   pub whole : all ≡ true → some ≡ tickets
 
 -- Stops were put, and so many if it says so
-pub record PutStops (count : ℕ) (all : Bool) (old new : Hand) : Type 0 where
+pub record PutStops (count : ℕ) (all : Bool) (old new : QueueEnd) : Type 0 where
   pub stops : List Ticket
   pub are : AreStops stops
-  pub put : new ≡ keeper (old.put ++ stops) old.out old.back
+  pub put : new ≡ producer (old.put ++ stops) old.out old.back
   pub whole : all ≡ true → length stops ≡ count
 
 -- what was put begins as the tickets do, and then come Stops; these are all tickets and so many Stops if it says so
-pub record IsPut (tickets : List Ticket) (count : ℕ) (all : Bool) (old new : Hand) : Type 0 where
+pub record IsPut (tickets : List Ticket) (count : ℕ) (all : Bool) (old new : QueueEnd) : Type 0 where
   pub some : List Ticket
   pub stops : List Ticket
   pub begins : IsPrefix some tickets
   pub are : AreStops stops
-  pub put : new ≡ keeper (some ++ stops) old.out old.back
+  pub put : new ≡ producer (some ++ stops) old.out old.back
   pub whole : all ≡ true → some ≡ tickets
   pub each : all ≡ true → length stops ≡ count
 
@@ -116,24 +116,24 @@ module _ {S Q : Type 0} (called : S → Event → Reply → S → Type 0) (asked
   AllWork ws ss vs = ⊥
 
   -- a thread gives back its worker, which worked on what its hand took, and that hand
-  pub record Returned (w : Worker S Q) (hand : Pass Ticket Hand) (w' : Worker S Q) (hand' : Pass Ticket Hand) (met : Option Refusal) (took_stop : Bool) : Type 0 where
+  pub record Returned (w : Worker S Q) (hand : Pass Ticket QueueEnd) (w' : Worker S Q) (hand' : Pass Ticket QueueEnd) (met : Option Refusal) (took_stop : Bool) : Type 0 where
     pub seat : IsSameSeat hand hand'
-    pub took : view hand' ≡ taker (view hand).number (view hand').taken
+    pub took : view hand' ≡ consumer (view hand).number (view hand').taken
     pub calls : List Call
     pub works : Works called asked gives (view hand').taken None calls w met w'
     pub last : StopsLast (view hand').taken
     pub stop : took_stop ≡ has_stop (view hand').taken
 
   -- the workers that are left worked, each on what its hand took, and their hands came back
-  pub record Serves (tickets : List Ticket) (count : ℕ) (left old new : List (Worker S Q)) (keeper_old keeper_new : Hand) (tally : Tally) : Type 0 where
+  pub record Serves (tickets : List Ticket) (count : ℕ) (left old new : List (Worker S Q)) (producer_old producer_new : QueueEnd) (tally : Tally) : Type 0 where
     pub after : List (Worker S Q)
     pub shifts : List Shift
     pub ready : Bool
-    pub between : Hand
+    pub between : QueueEnd
     pub done : new ≡ old ++ after
     pub works : AllWork left shifts after
-    pub put : IsPut tickets count ready keeper_old between
-    pub keeps : keeper_new ≡ keeper between.put keeper_old.out (backwards (tickets_of shifts))
+    pub put : IsPut tickets count ready producer_old between
+    pub keeps : producer_new ≡ producer between.put producer_old.out (backwards (tickets_of shifts))
     pub counts : tally ≡ tally_of ready shifts
 
   -- Each worker had a shift. What they took, each what is its own in one log of all, is a beginning of the tickets, Stops

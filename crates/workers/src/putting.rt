@@ -3,10 +3,10 @@
 ghost use Rattle.std.specs.Prelude.{◌≡◌, [], true, false};
 ghost use Rattle.crossbeam_channel.specs.Claims.{view, IsSeatAt};
 ghost use Rattle.crossbeam_channel.specs.Ends.{sends_on};
-ghost use Rattle.workers.specs.Queue.{keeper as keeping, Puts};
-ghost use Rattle.workers.specs.Rounds.{IsKeeper, PutFrom, PutStops, IsPut};
+ghost use Rattle.workers.specs.Queue.{producer as keeping, Puts};
+ghost use Rattle.workers.specs.Rounds.{IsProducer, PutFrom, PutStops, IsPut};
 
-use crate::queue::{Keeper, Sender, put};
+use crate::queue::{Producer, Sender, put};
 use crate::ticket::Ticket;
 use std::sync::Wait;
 
@@ -14,47 +14,47 @@ use std::sync::Wait;
 fn put_next<R: Wait>(
     rt: &R,
     sender: &Sender,
-    keeper: &mut Keeper,
+    producer: &mut Producer,
     going: bool,
     ticket: Ticket,
 ) -> bool
-    requires seat { IsSeatAt (sends_on sender.now) keeper.old }
-    requires keeps { (view keeper.old).keeps ≡ true }
-    ensures seat { IsSeatAt (sends_on sender.now) keeper.new }
-    ensures put { result ≡ true → (going ≡ true) × Puts (view keeper.old) ticket (view keeper.new) }
-    ensures none { result ≡ false → view keeper.new ≡ view keeper.old }
+    requires seat { IsSeatAt (sends_on sender.now) producer.old }
+    requires keeps { (view producer.old).keeps ≡ true }
+    ensures seat { IsSeatAt (sends_on sender.now) producer.new }
+    ensures put { result ≡ true → (going ≡ true) × Puts (view producer.old) ticket (view producer.new) }
+    ensures none { result ≡ false → view producer.new ≡ view producer.old }
 {
     if !going {
         return false;
     }
-    put(rt, sender, keeper, ticket).is_ok()
+    put(rt, sender, producer, ticket).is_ok()
 }
 
 /// Puts tickets, up to the first that the queue hands back. Whether it took all.
-fn put_tickets<R: Wait>(rt: &R, sender: &Sender, keeper: &mut Keeper, tickets: Vec<Ticket>) -> bool
-    requires seat { IsSeatAt (sends_on sender.now) keeper.old }
-    requires keeper { IsKeeper (view keeper.old) }
-    ensures seat { IsSeatAt (sends_on sender.now) keeper.new }
-    ensures put { PutFrom tickets.items result (view keeper.old) (view keeper.new) }
+fn put_tickets<R: Wait>(rt: &R, sender: &Sender, producer: &mut Producer, tickets: Vec<Ticket>) -> bool
+    requires seat { IsSeatAt (sends_on sender.now) producer.old }
+    requires producer { IsProducer (view producer.old) }
+    ensures seat { IsSeatAt (sends_on sender.now) producer.new }
+    ensures put { PutFrom tickets.items result (view producer.old) (view producer.new) }
 {
     let mut all = true;
     for ticket in tickets {
-        all = put_next(rt, sender, keeper, all, ticket);
+        all = put_next(rt, sender, producer, all, ticket);
     }
     all
 }
 
 /// Puts so many Stops, up to the first that the queue hands back. Whether it took all.
-fn put_stops<R: Wait>(rt: &R, sender: &Sender, keeper: &mut Keeper, stops: usize) -> bool
-    requires seat { IsSeatAt (sends_on sender.now) keeper.old }
-    requires keeper { IsKeeper (view keeper.old) }
-    ensures seat { IsSeatAt (sends_on sender.now) keeper.new }
-    ensures put { PutStops stops result (view keeper.old) (view keeper.new) }
+fn put_stops<R: Wait>(rt: &R, sender: &Sender, producer: &mut Producer, stops: usize) -> bool
+    requires seat { IsSeatAt (sends_on sender.now) producer.old }
+    requires producer { IsProducer (view producer.old) }
+    ensures seat { IsSeatAt (sends_on sender.now) producer.new }
+    ensures put { PutStops stops result (view producer.old) (view producer.new) }
 {
     let mut all = true;
     for stop in 0..stops {
         let _stop = stop;
-        all = put_next(rt, sender, keeper, all, Ticket::Stop);
+        all = put_next(rt, sender, producer, all, Ticket::Stop);
     }
     all
 }
@@ -64,21 +64,21 @@ fn put_stops<R: Wait>(rt: &R, sender: &Sender, keeper: &mut Keeper, stops: usize
 pub(crate) fn put_all<R: Wait>(
     rt: &R,
     sender: &Sender,
-    keeper: &mut Keeper,
+    producer: &mut Producer,
     given_up: bool,
     tickets: Vec<Ticket>,
     stops: usize,
 ) -> bool
-    requires seat { IsSeatAt (sends_on sender.now) keeper.old }
-    requires keeper { view keeper.old ≡ keeping [] (view keeper.old).out (view keeper.old).back }
-    ensures seat { IsSeatAt (sends_on sender.now) keeper.new }
-    ensures put { IsPut tickets.items stops result (view keeper.old) (view keeper.new) }
+    requires seat { IsSeatAt (sends_on sender.now) producer.old }
+    requires producer { view producer.old ≡ keeping [] (view producer.old).out (view producer.old).back }
+    ensures seat { IsSeatAt (sends_on sender.now) producer.new }
+    ensures put { IsPut tickets.items stops result (view producer.old) (view producer.new) }
 {
     if given_up {
-        let _stops_put = put_stops(rt, sender, keeper, stops);
+        let _stops_put = put_stops(rt, sender, producer, stops);
         return false;
     }
-    let tickets_put = put_tickets(rt, sender, keeper, tickets);
-    let stops_put = put_stops(rt, sender, keeper, stops);
+    let tickets_put = put_tickets(rt, sender, producer, tickets);
+    let stops_put = put_stops(rt, sender, producer, stops);
     tickets_put && stops_put
 }

@@ -7,7 +7,7 @@
 ghost use Rattle.std.specs.Prelude.{◌≡◌, ◌+◌, ◌++◌, ◌∷◌, [], true, List, IfOk, MatchResult, MatchOption};
 ghost use Rattle.crossbeam_channel.specs.Claims.{view, IsSeatAt};
 ghost use Rattle.crossbeam_channel.specs.Ends.{sends_on, receives_on, ruled_capacity};
-ghost use Rattle.workers.specs.Queue.{keeper as keeping, taker as taking, Puts, Takes, Told};
+ghost use Rattle.workers.specs.Queue.{producer as keeping, consumer as taking, Puts, Takes, Told};
 ghost use Rattle.workers.specs.declared.ticket.Ticket.{Ticket};
 
 use crate::ticket::Ticket;
@@ -21,7 +21,7 @@ use std::sync::Wait;
 const PLACES: usize = 64;
 
 /// What a hand knows. It is part of what a token knows, and no value of it is made.
-pub(crate) struct Hand {
+pub(crate) struct QueueEnd {
     /// Whether it keeps the queue.
     pub keeps: bool,
     /// The tickets that were put, if it does.
@@ -41,93 +41,93 @@ pub(crate) struct Hand {
 /// The rule of the queue.
 pub(crate) struct InOrder;
 
-impl Protocol<Ticket, Hand> for InOrder {
+impl Protocol<Ticket, QueueEnd> for InOrder {
     ghost use Rattle.std.specs.Prelude.{[]};
-    ghost use Rattle.workers.specs.Queue.{keeper, HandsOn};
+    ghost use Rattle.workers.specs.Queue.{producer, HandsOn};
 
     ghost holds = { HandsOn };
 
-    ghost first = { keeper [] 0 [] };
+    ghost first = { producer [] 0 [] };
 }
 
-/// The keeper puts a ticket.
+/// The producer puts a ticket.
 struct OnePut;
 
-impl Outcome<Ticket, Hand> for OnePut {
+impl Outcome<Ticket, QueueEnd> for OnePut {
     ghost use Rattle.workers.specs.Queue.{Puts};
 
     ghost then = { Puts };
 }
 
-impl Lesson<Ticket, Hand> for OnePut {
+impl Lesson<Ticket, QueueEnd> for OnePut {
     ghost fact = { λ v items. Unit {0} };
 }
 
 /// A hand takes a ticket.
 struct OneTaken;
 
-impl Outcome<Ticket, Hand> for OneTaken {
+impl Outcome<Ticket, QueueEnd> for OneTaken {
     ghost use Rattle.workers.specs.Queue.{Takes};
 
     ghost then = { Takes };
 }
 
-impl Lesson<Ticket, Hand> for OneTaken {
+impl Lesson<Ticket, QueueEnd> for OneTaken {
     ghost fact = { λ v items. Unit {0} };
 }
 
-/// The keeper gives out a hand.
+/// The producer gives out a hand.
 struct GivenOut;
 
-impl Split<Hand> for GivenOut {
+impl Split<QueueEnd> for GivenOut {
     ghost use Rattle.std.specs.Prelude.{◌+◌, []};
-    ghost use Rattle.workers.specs.Queue.{keeper, taker};
+    ghost use Rattle.workers.specs.Queue.{producer, consumer};
 
-    ghost left = { λ v. keeper v.put (v.out + 1) v.back };
+    ghost left = { λ v. producer v.put (v.out + 1) v.back };
 
-    ghost right = { λ v. taker v.out [] };
+    ghost right = { λ v. consumer v.out [] };
 }
 
-/// A hand comes back to the keeper.
+/// A hand comes back to the producer.
 struct ComesBack;
 
-impl Join<Hand> for ComesBack {
+impl Join<QueueEnd> for ComesBack {
     ghost use Rattle.std.specs.Prelude.{◌∷◌};
-    ghost use Rattle.workers.specs.Queue.{keeper, idle};
+    ghost use Rattle.workers.specs.Queue.{producer, idle};
 
-    ghost both = { λ v w. keeper v.put w.number (w.taken ∷ v.back) };
+    ghost both = { λ v w. producer v.put w.number (w.taken ∷ v.back) };
 
     ghost spent = { idle };
 }
 
-/// What the keeper knows of the tickets that were taken.
+/// What the producer knows of the tickets that were taken.
 struct Counting;
 
-impl Lesson<Ticket, Hand> for Counting {
+impl Lesson<Ticket, QueueEnd> for Counting {
     ghost use Rattle.workers.specs.Queue.{Told};
 
     ghost fact = { Told };
 }
 
 /// Where tickets are put.
-pub(crate) type Sender = RuledSender<Ticket, Hand, InOrder>;
+pub(crate) type Sender = RuledSender<Ticket, QueueEnd, InOrder>;
 
 /// Where tickets are taken.
-pub(crate) type Receiver = RuledReceiver<Ticket, Hand, InOrder>;
+pub(crate) type Receiver = RuledReceiver<Ticket, QueueEnd, InOrder>;
 
-/// The token of the keeper.
-pub(crate) type Keeper = Pass<Ticket, Hand>;
+/// The token of the producer.
+pub(crate) type Producer = Pass<Ticket, QueueEnd>;
 
 /// The token of a hand that takes tickets.
-pub(crate) type Taker = Pass<Ticket, Hand>;
+pub(crate) type Consumer = Pass<Ticket, QueueEnd>;
 
-/// A queue of 64 places in which no ticket was put, and its keeper. The one error is memory.
-pub(crate) fn ticket_queue(alloc: Global) -> Result<(Sender, Receiver, Keeper), AllocError>
+/// A queue of 64 places in which no ticket was put, and its producer. The one error is memory.
+pub(crate) fn ticket_queue(alloc: Global) -> Result<(Sender, Receiver, Producer), AllocError>
     ensures ends { IfOk result (λ r. receives_on r.1 ≡ sends_on r.0) }
     ensures places { IfOk result (λ r. ruled_capacity (sends_on r.0) ≡ 64) }
-    ensures keeper { IfOk result (λ r. IsSeatAt (sends_on r.0) r.2 × (view r.2 ≡ keeping [] 0 [])) }
+    ensures producer { IfOk result (λ r. IsSeatAt (sends_on r.0) r.2 × (view r.2 ≡ keeping [] 0 [])) }
 {
-    bounded_with::<Ticket, Hand, InOrder, Global>(alloc, PLACES)
+    bounded_with::<Ticket, QueueEnd, InOrder, Global>(alloc, PLACES)
 }
 
 /// Puts a ticket. It waits while the queue is full.
@@ -138,66 +138,66 @@ pub(crate) fn ticket_queue(alloc: Global) -> Result<(Sender, Receiver, Keeper), 
 pub(crate) fn put<R: Wait>(
     rt: &R,
     sender: &Sender,
-    keeper: &mut Keeper,
+    producer: &mut Producer,
     ticket: Ticket,
 ) -> Result<(), Ticket>
-    requires seat { IsSeatAt (sends_on sender.now) keeper.old }
-    requires keeps { (view keeper.old).keeps ≡ true }
-    ensures seat { IsSeatAt (sends_on sender.now) keeper.new }
-    ensures put { MatchResult result (λ _. Puts (view keeper.old) ticket (view keeper.new))
-        (λ back. (back ≡ ticket) × (view keeper.new ≡ view keeper.old)) }
+    requires seat { IsSeatAt (sends_on sender.now) producer.old }
+    requires keeps { (view producer.old).keeps ≡ true }
+    ensures seat { IsSeatAt (sends_on sender.now) producer.new }
+    ensures put { MatchResult result (λ _. Puts (view producer.old) ticket (view producer.new))
+        (λ back. (back ≡ ticket) × (view producer.new ≡ view producer.old)) }
 {
-    match sender.send_as::<OnePut, R>(rt, keeper, ticket) {
+    match sender.send_as::<OnePut, R>(rt, producer, ticket) {
         Ok(()) => Ok(()),
         Err(e) => Err(e.into_inner()),
     }
 }
 
 /// Takes a ticket. It waits while the queue is empty. There is none where the queue is closed.
-pub(crate) fn take<R: Wait>(rt: &R, receiver: &Receiver, taker: &mut Taker) -> Option<Ticket>
-    requires seat { IsSeatAt (receives_on receiver.now) taker.old }
-    requires takes { (view taker.old).takes ≡ true }
-    ensures seat { IsSeatAt (receives_on receiver.now) taker.new }
-    ensures took { MatchOption result (view taker.new ≡ view taker.old)
-        (λ ticket. Takes (view taker.old) ticket (view taker.new)) }
+pub(crate) fn take<R: Wait>(rt: &R, receiver: &Receiver, consumer: &mut Consumer) -> Option<Ticket>
+    requires seat { IsSeatAt (receives_on receiver.now) consumer.old }
+    requires takes { (view consumer.old).takes ≡ true }
+    ensures seat { IsSeatAt (receives_on receiver.now) consumer.new }
+    ensures took { MatchOption result (view consumer.new ≡ view consumer.old)
+        (λ ticket. Takes (view consumer.old) ticket (view consumer.new)) }
 {
-    match receiver.recv_as::<OneTaken, R>(rt, taker) {
+    match receiver.recv_as::<OneTaken, R>(rt, consumer) {
         Ok(ticket) => Some(ticket),
         Err(_) => None,
     }
 }
 
 /// Gives out a hand. None has come back yet.
-pub(crate) fn give_out(sender: &Sender, keeper: &mut Keeper) -> Taker
-    requires seat { IsSeatAt (sends_on sender.now) keeper.old }
-    requires keeps { (view keeper.old).keeps ≡ true }
-    requires none { (view keeper.old).back ≡ [] }
-    ensures seat { IsSeatAt (sends_on sender.now) keeper.new × IsSeatAt (sends_on sender.now) result }
-    ensures out { view keeper.new ≡ keeping (view keeper.old).put ((view keeper.old).out + 1) (view keeper.old).back }
-    ensures taker { view result ≡ taking (view keeper.old).out [] }
+pub(crate) fn give_out(sender: &Sender, producer: &mut Producer) -> Consumer
+    requires seat { IsSeatAt (sends_on sender.now) producer.old }
+    requires keeps { (view producer.old).keeps ≡ true }
+    requires none { (view producer.old).back ≡ [] }
+    ensures seat { IsSeatAt (sends_on sender.now) producer.new × IsSeatAt (sends_on sender.now) result }
+    ensures out { view producer.new ≡ keeping (view producer.old).put ((view producer.old).out + 1) (view producer.old).back }
+    ensures consumer { view result ≡ taking (view producer.old).out [] }
 {
-    sender.another::<GivenOut>(keeper)
+    sender.another::<GivenOut>(producer)
 }
 
 /// Takes back the hand that was given out last among those that are out.
-pub(crate) fn take_back(sender: &Sender, keeper: &mut Keeper, taker: Taker)
-    requires seats { IsSeatAt (sends_on sender.now) keeper.old × IsSeatAt (sends_on sender.now) taker }
-    requires keeps { (view keeper.old).keeps ≡ true }
-    requires takes { (view taker).takes ≡ true }
-    requires last { (view taker).number + 1 ≡ (view keeper.old).out }
-    ensures seat { IsSeatAt (sends_on sender.now) keeper.new }
-    ensures back { view keeper.new ≡ keeping (view keeper.old).put (view taker).number
-        ((view taker).taken ∷ (view keeper.old).back) }
+pub(crate) fn take_back(sender: &Sender, producer: &mut Producer, consumer: Consumer)
+    requires seats { IsSeatAt (sends_on sender.now) producer.old × IsSeatAt (sends_on sender.now) consumer }
+    requires keeps { (view producer.old).keeps ≡ true }
+    requires takes { (view consumer).takes ≡ true }
+    requires last { (view consumer).number + 1 ≡ (view producer.old).out }
+    ensures seat { IsSeatAt (sends_on sender.now) producer.new }
+    ensures back { view producer.new ≡ keeping (view producer.old).put (view consumer).number
+        ((view consumer).taken ∷ (view producer.old).back) }
 {
-    sender.absorb::<ComesBack>(keeper, taker);
+    sender.absorb::<ComesBack>(producer, consumer);
 }
 
 /// The tickets that were taken, by the hands that took them, are a beginning of those put.
-pub(crate) fn count(sender: &Sender, keeper: &mut Keeper)
-    requires seat { IsSeatAt (sends_on sender.now) keeper.old }
-    requires keeps { (view keeper.old).keeps ≡ true }
-    ensures seat { IsSeatAt (sends_on sender.now) keeper.new × (view keeper.new ≡ view keeper.old) }
-    ensures told { (items : List Ticket) × Told (view keeper.new) items }
+pub(crate) fn count(sender: &Sender, producer: &mut Producer)
+    requires seat { IsSeatAt (sends_on sender.now) producer.old }
+    requires keeps { (view producer.old).keeps ≡ true }
+    ensures seat { IsSeatAt (sends_on sender.now) producer.new × (view producer.new ≡ view producer.old) }
+    ensures told { (items : List Ticket) × Told (view producer.new) items }
 {
-    sender.learn_as::<Counting>(keeper);
+    sender.learn_as::<Counting>(producer);
 }

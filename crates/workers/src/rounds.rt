@@ -5,11 +5,11 @@ ghost use Rattle.std.specs.Vec.{vec_capacity};
 ghost use Rattle.model.specs.declared.refusal.Refusal.TheVariants.{Memory};
 ghost use Rattle.crossbeam_channel.specs.Claims.{view, IsSeatAt};
 ghost use Rattle.crossbeam_channel.specs.Ends.{sends_on, receives_on};
-ghost use Rattle.workers.specs.Queue.{keeper as keeping};
+ghost use Rattle.workers.specs.Queue.{producer as keeping};
 ghost use Rattle.workers.specs.Tickets.{AreGoals};
 ghost use Rattle.workers.specs.Rounds.{Serves, IsRound};
 
-use crate::queue::{Keeper, count, ticket_queue};
+use crate::queue::{Producer, count, ticket_queue};
 use crate::runner::Runner;
 use crate::serving::{Orders, Shared, serve};
 use crate::store::Store;
@@ -23,11 +23,11 @@ use std::sync::atomic::AtomicBool;
 use std::thread;
 use std::thread::Threads;
 
-/// What the threads of a round leave: what the workers met, the workers, and the keeper of the queue.
+/// What the threads of a round leave: what the workers met, the workers, and the producer of the queue.
 struct Served<S, Q> {
     tally: Tally,
     done: Vec<Worker<S, Q>>,
-    keeper: Keeper,
+    producer: Producer,
 }
 
 /// Serves by threads that borrow.
@@ -35,34 +35,34 @@ fn in_scope<S: Store + Send + Drop, Q: Runner + Send + Drop, R: Threads + Wait +
     rt: &R,
     alloc: Global,
     shared: Shared<'_>,
-    keeper: Keeper,
+    producer: Producer,
     workers: Vec<Worker<S, Q>>,
     tickets: Vec<Ticket>,
     done: Vec<Worker<S, Q>>,
 ) -> Served<S, Q>
     requires queue { receives_on shared.receiver.now ≡ sends_on shared.sender.now }
-    requires seat { IsSeatAt (sends_on shared.sender.now) keeper }
-    requires keeper { view keeper ≡ keeping [] 0 [] }
+    requires seat { IsSeatAt (sends_on shared.sender.now) producer }
+    requires producer { view producer ≡ keeping [] 0 [] }
     requires room { vec_len workers ≤ vec_capacity done }
     requires none { done.items ≡ [] }
-    ensures seat { IsSeatAt (sends_on shared.entry.sender.now) result.keeper }
+    ensures seat { IsSeatAt (sends_on shared.entry.sender.now) result.producer }
     ensures serves { Serves S.called S.asked Q.gives tickets.items (vec_len workers) workers.items []
-        result.done.items (view keeper) (view result.keeper) result.tally }
+        result.done.items (view producer) (view result.producer) result.tally }
 {
     thread::scope(
         thread::scope_env(),
         rt,
         move |scope| -> Served<S, Q>
             requires queue { receives_on shared.receiver.now ≡ sends_on shared.sender.now }
-            requires seat { IsSeatAt (sends_on shared.sender.now) keeper }
-            requires keeper { view keeper ≡ keeping [] 0 [] }
+            requires seat { IsSeatAt (sends_on shared.sender.now) producer }
+            requires producer { view producer ≡ keeping [] 0 [] }
             requires room { vec_len workers ≤ vec_capacity done }
             requires none { done.items ≡ [] }
-            ensures seat { IsSeatAt (sends_on shared.entry.sender.now) result.keeper }
+            ensures seat { IsSeatAt (sends_on shared.entry.sender.now) result.producer }
             ensures serves { Serves S.called S.asked Q.gives tickets.items (vec_len workers) workers.items []
-                result.done.items (view keeper) (view result.keeper) result.tally }
+                result.done.items (view producer) (view result.producer) result.tally }
         {
-            let mut keeper = keeper;
+            let mut producer = producer;
             let mut workers = workers;
             let mut done = done;
             let stops = workers.len();
@@ -72,7 +72,7 @@ fn in_scope<S: Store + Send + Drop, Q: Runner + Send + Drop, R: Threads + Wait +
                 alloc,
                 scope,
                 &shared,
-                &mut keeper,
+                &mut producer,
                 &mut workers,
                 orders,
                 &mut done,
@@ -80,7 +80,7 @@ fn in_scope<S: Store + Send + Drop, Q: Runner + Send + Drop, R: Threads + Wait +
             Served {
                 tally,
                 done,
-                keeper,
+                producer,
             }
         },
     )
@@ -118,7 +118,7 @@ pub fn round<S: Store + Send + Drop, Q: Runner + Send + Drop, R: Threads + Wait 
     let Ok(done) = Vec::with_capacity(alloc, workers.len()) else {
         return (Err(Refusal::Memory), workers);
     };
-    let Ok((sender, receiver, keeper)) = ticket_queue(alloc) else {
+    let Ok((sender, receiver, producer)) = ticket_queue(alloc) else {
         return (Err(Refusal::Memory), workers);
     };
     let given_up = AtomicBool::new(false);
@@ -130,8 +130,8 @@ pub fn round<S: Store + Send + Drop, Q: Runner + Send + Drop, R: Threads + Wait 
     let Served {
         tally,
         done,
-        mut keeper,
-    } = in_scope(rt, alloc, shared, keeper, workers, tickets, done);
-    count(&sender, &mut keeper);
+        mut producer,
+    } = in_scope(rt, alloc, shared, producer, workers, tickets, done);
+    count(&sender, &mut producer);
     (tally.answer(), done)
 }

@@ -4,11 +4,11 @@ ghost use Rattle.std.specs.Prelude.{◌≡◌, ◌+◌, ◌≤◌, [], vec_len};
 ghost use Rattle.std.specs.Vec.{vec_capacity};
 ghost use Rattle.crossbeam_channel.specs.Claims.{view, IsSeatAt};
 ghost use Rattle.crossbeam_channel.specs.Ends.{sends_on, receives_on};
-ghost use Rattle.workers.specs.Queue.{keeper as keeping};
+ghost use Rattle.workers.specs.Queue.{producer as keeping};
 ghost use Rattle.workers.specs.Rounds.{Serves};
 
 use crate::putting::put_all;
-use crate::queue::{Keeper, Receiver, Sender, give_out, take_back};
+use crate::queue::{Producer, Receiver, Sender, give_out, take_back};
 use crate::runner::Runner;
 use crate::store::Store;
 use crate::tally::Tally;
@@ -53,28 +53,28 @@ pub(crate) fn serve<
     alloc: Global,
     scope: &Scope<'s, E>,
     shared: &Shared<'s>,
-    keeper: &mut Keeper,
+    producer: &mut Producer,
     left: &mut Vec<Worker<S, Q>>,
     orders: Orders,
     done: &mut Vec<Worker<S, Q>>,
 ) -> Tally
     requires queue { receives_on shared.now.receiver.now ≡ sends_on shared.now.sender.now }
-    requires seat { IsSeatAt (sends_on shared.now.sender.now) keeper.old }
-    requires keeper { view keeper.old ≡ keeping [] (view keeper.old).out [] }
+    requires seat { IsSeatAt (sends_on shared.now.sender.now) producer.old }
+    requires producer { view producer.old ≡ keeping [] (view producer.old).out [] }
     requires room { vec_len done.old + vec_len left.old ≤ vec_capacity done.old }
-    ensures seat { IsSeatAt (sends_on shared.now.sender.now) keeper.new }
+    ensures seat { IsSeatAt (sends_on shared.now.sender.now) producer.new }
     ensures capacity { vec_capacity done.new ≡ vec_capacity done.old }
     ensures len { vec_len done.new ≡ vec_len done.old + vec_len left.old }
     ensures serves { Serves S.called S.asked Q.gives orders.tickets.items orders.stops left.old.items
-        done.old.items done.new.items (view keeper.old) (view keeper.new) result }
+        done.old.items done.new.items (view producer.old) (view producer.new) result }
 {
     let Some(worker) = left.pop() else {
         let Orders { tickets, stops } = orders;
         let given_up = shared.given_up.load(Ordering::SeqCst);
-        let all_put = put_all(rt, shared.sender, keeper, given_up, tickets, stops);
+        let all_put = put_all(rt, shared.sender, producer, given_up, tickets, stops);
         return Tally::new(all_put);
     };
-    let taker = give_out(shared.sender, keeper);
+    let consumer = give_out(shared.sender, producer);
     let started = start(
         rt,
         alloc,
@@ -82,12 +82,12 @@ pub(crate) fn serve<
         shared.receiver,
         shared.given_up,
         worker,
-        taker,
+        consumer,
     );
-    let tally = serve(rt, alloc, scope, shared, keeper, left, orders, done);
+    let tally = serve(rt, alloc, scope, shared, producer, left, orders, done);
     let (back, tally) = finish(rt, started, tally);
-    let Back { worker, taker, .. } = back;
-    take_back(shared.sender, keeper, taker);
+    let Back { worker, consumer, .. } = back;
+    take_back(shared.sender, producer, consumer);
     done.push_reserved(worker);
     tally
 }

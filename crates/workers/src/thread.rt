@@ -3,10 +3,10 @@
 ghost use Rattle.std.specs.Prelude.{◌≡◌, ◌&&◌, ◌||◌, [], true, is_ok, IfOk, IfErr, MatchResult};
 ghost use Rattle.crossbeam_channel.specs.Claims.{view, IsSeatAt};
 ghost use Rattle.crossbeam_channel.specs.Ends.{receives_on};
-ghost use Rattle.workers.specs.Queue.{taker as taking};
+ghost use Rattle.workers.specs.Queue.{consumer as taking};
 ghost use Rattle.workers.specs.Rounds.{Returned, is_memory, is_stopped};
 
-use crate::queue::{Receiver, Taker};
+use crate::queue::{Receiver, Consumer};
 use crate::runner::Runner;
 use crate::store::Store;
 use crate::tally::Tally;
@@ -24,7 +24,7 @@ pub(crate) struct Back<S, Q> {
     /// The worker.
     pub(crate) worker: Worker<S, Q>,
     /// Its hand.
-    pub(crate) taker: Taker,
+    pub(crate) consumer: Consumer,
     /// 90 or 92, where the worker met that.
     pub(crate) met: Option<Refusal>,
     /// Whether it took its Stop.
@@ -35,24 +35,24 @@ pub(crate) struct Back<S, Q> {
 #[derive(Drop)]
 pub(crate) struct Handed<S, Q> {
     worker: Snapshot<Worker<S, Q>>,
-    taker: Snapshot<Taker>,
+    consumer: Snapshot<Consumer>,
 }
 
 impl<S: Store, Q: Runner> Promise<Back<S, Q>> for Handed<S, Q> {
     ghost use Rattle.workers.specs.Rounds.{Returned};
 
-    ghost kept_by = { λ p r. Returned S.called S.asked Q.gives p.worker.value p.taker.value
-        r.worker r.taker r.met r.took_stop };
+    ghost kept_by = { λ p r. Returned S.called S.asked Q.gives p.worker.value p.consumer.value
+        r.worker r.consumer r.met r.took_stop };
 }
 
 /// What a thread is handed.
-fn hand_to<S, Q>(worker: &Worker<S, Q>, taker: &Taker) -> Handed<S, Q>
+fn hand_to<S, Q>(worker: &Worker<S, Q>, consumer: &Consumer) -> Handed<S, Q>
     ensures worker { result.worker.value ≡ worker.now }
-    ensures taker { result.taker.value ≡ taker.now }
+    ensures consumer { result.consumer.value ≡ consumer.now }
 {
     Handed {
         worker: Snapshot::of(worker),
-        taker: Snapshot::of(taker),
+        consumer: Snapshot::of(consumer),
     }
 }
 
@@ -63,26 +63,26 @@ fn run<S: Store, Q: Runner, R: Wait>(
     receiver: &Receiver,
     given_up: &AtomicBool,
     mut worker: Worker<S, Q>,
-    mut taker: Taker,
+    mut consumer: Consumer,
 ) -> Back<S, Q>
-    requires seat { IsSeatAt (receives_on receiver.now) taker }
-    requires takes { (view taker).takes ≡ true }
-    requires none { view taker ≡ taking (view taker).number [] }
-    ensures { Returned S.called S.asked Q.gives worker taker result.worker result.taker result.met
+    requires seat { IsSeatAt (receives_on receiver.now) consumer }
+    requires takes { (view consumer).takes ≡ true }
+    requires none { view consumer ≡ taking (view consumer).number [] }
+    ensures { Returned S.called S.asked Q.gives worker consumer result.worker result.consumer result.met
         result.took_stop }
 {
     if given_up.load(Ordering::SeqCst) {
         return Back {
             worker,
-            taker,
+            consumer,
             met: None,
             took_stop: false,
         };
     }
-    let Worked { met, took_stop } = work(rt, alloc, receiver, &mut worker, &mut taker);
+    let Worked { met, took_stop } = work(rt, alloc, receiver, &mut worker, &mut consumer);
     Back {
         worker,
-        taker,
+        consumer,
         met,
         took_stop,
     }
@@ -102,24 +102,24 @@ pub(crate) fn start<
     receiver: &'s Receiver,
     given_up: &'s AtomicBool,
     worker: Worker<S, Q>,
-    taker: Taker,
+    consumer: Consumer,
 ) -> Result<PromisedHandle<Back<S, Q>, Handed<S, Q>>, Back<S, Q>>
-    requires seat { IsSeatAt (receives_on receiver.now) taker }
-    requires takes { (view taker).takes ≡ true }
-    requires none { view taker ≡ taking (view taker).number [] }
+    requires seat { IsSeatAt (receives_on receiver.now) consumer }
+    requires takes { (view consumer).takes ≡ true }
+    requires none { view consumer ≡ taking (view consumer).number [] }
     ensures worker { IfOk result (λ h. h.promise.worker.value ≡ worker) }
-    ensures taker { IfOk result (λ h. h.promise.taker.value ≡ taker) }
-    ensures back { IfErr result (λ b. Returned S.called S.asked Q.gives worker taker b.worker b.taker
+    ensures consumer { IfOk result (λ h. h.promise.consumer.value ≡ consumer) }
+    ensures back { IfErr result (λ b. Returned S.called S.asked Q.gives worker consumer b.worker b.consumer
         b.met b.took_stop) }
 {
-    let promise = hand_to(&worker, &taker);
+    let promise = hand_to(&worker, &consumer);
     let job = move || -> Back<S, Q>
-        requires seat { IsSeatAt (receives_on receiver.now) taker }
-        requires takes { (view taker).takes ≡ true }
-        requires none { view taker ≡ taking (view taker).number [] }
-        ensures { Returned S.called S.asked Q.gives worker taker result.worker result.taker
+        requires seat { IsSeatAt (receives_on receiver.now) consumer }
+        requires takes { (view consumer).takes ≡ true }
+        requires none { view consumer ≡ taking (view consumer).number [] }
+        ensures { Returned S.called S.asked Q.gives worker consumer result.worker result.consumer
             result.met result.took_stop }
-    { run(rt, alloc, receiver, given_up, worker, taker) };
+    { run(rt, alloc, receiver, given_up, worker, consumer) };
     match scope.spawn_with(promise, job) {
         Ok(handle) => Ok(handle),
         Err(refused) => {
@@ -137,8 +137,8 @@ pub(crate) fn finish<S: Store, Q: Runner, R: Threads>(
     tally: Tally,
 ) -> (Back<S, Q>, Tally)
     ensures back { MatchResult started
-        (λ h. Returned S.called S.asked Q.gives h.promise.worker.value h.promise.taker.value
-        result.0.worker result.0.taker result.0.met result.0.took_stop)
+        (λ h. Returned S.called S.asked Q.gives h.promise.worker.value h.promise.consumer.value
+        result.0.worker result.0.consumer result.0.met result.0.took_stop)
         (λ b. result.0 ≡ b) }
     ensures whole { result.1.whole ≡ (tally.whole && (is_ok started && result.0.took_stop)) }
     ensures memory { result.1.memory ≡ (tally.memory || is_memory result.0.met) }

@@ -3,12 +3,12 @@
 ghost use Rattle.std.specs.Prelude.{◌≡◌, [], true, None, List};
 ghost use Rattle.crossbeam_channel.specs.Claims.{view, IsSeatAt};
 ghost use Rattle.crossbeam_channel.specs.Ends.{receives_on};
-ghost use Rattle.workers.specs.Queue.{taker as taking};
+ghost use Rattle.workers.specs.Queue.{consumer as taking};
 ghost use Rattle.workers.specs.Tickets.{has_stop, StopsLast};
 ghost use Rattle.workers.specs.declared.ticket.Ticket.TheVariants.{Goal};
 ghost use Rattle.workers.specs.Working.{Call, Deals, Works};
 
-use crate::queue::{Receiver, Taker, take};
+use crate::queue::{Receiver, Consumer, take};
 use crate::runner::Runner;
 use crate::store::Store;
 use crate::tasks::work_on;
@@ -59,21 +59,21 @@ pub(crate) fn work<S: Store, Q: Runner, R: Wait>(
     alloc: Global,
     receiver: &Receiver,
     worker: &mut Worker<S, Q>,
-    taker: &mut Taker,
+    consumer: &mut Consumer,
 ) -> Worked
-    requires seat { IsSeatAt (receives_on receiver.now) taker.old }
-    requires takes { (view taker.old).takes ≡ true }
-    requires none { view taker.old ≡ taking (view taker.old).number [] }
-    ensures seat { IsSeatAt (receives_on receiver.now) taker.new }
-    ensures took { view taker.new ≡ taking (view taker.old).number (view taker.new).taken }
-    ensures works { (calls : List Call) × Works S.called S.asked Q.gives (view taker.new).taken None
+    requires seat { IsSeatAt (receives_on receiver.now) consumer.old }
+    requires takes { (view consumer.old).takes ≡ true }
+    requires none { view consumer.old ≡ taking (view consumer.old).number [] }
+    ensures seat { IsSeatAt (receives_on receiver.now) consumer.new }
+    ensures took { view consumer.new ≡ taking (view consumer.old).number (view consumer.new).taken }
+    ensures works { (calls : List Call) × Works S.called S.asked Q.gives (view consumer.new).taken None
         calls worker.old result.met worker.new }
-    ensures stop { result.took_stop ≡ has_stop (view taker.new).taken }
-    ensures last { StopsLast (view taker.new).taken }
+    ensures stop { result.took_stop ≡ has_stop (view consumer.new).taken }
+    ensures last { StopsLast (view consumer.new).taken }
 {
     let mut met = None;
     for _ in rt.forever() {
-        match take(rt, receiver, taker) {
+        match take(rt, receiver, consumer) {
             Some(Ticket::Stop) => {
                 return Worked {
                     met,

@@ -2,7 +2,7 @@ use Rattle.workers.proofs.RoundLemmas.{keeps, stops_keeps, stops_none, stops_mor
 use Rattle.workers.proofs.putting.put_stops.Goals as goal
 
 pub loop-stop-init : goal.loop-stop-init
-loop-stop-init g c = (c.requires.seat, stops_none _ c.requires.keeper)
+loop-stop-init g c = (c.requires.seat, stops_none _ c.requires.producer)
 
 pub put_next-all-requires-clause-keeps : goal.put_next-all-requires-clause-keeps
 put_next-all-requires-clause-keeps g c = keeps _ (stops_keeps _ _ _ _ c.loop-stop.invariant.1)

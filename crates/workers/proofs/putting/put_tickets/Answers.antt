@@ -2,7 +2,7 @@ use Rattle.workers.proofs.RoundLemmas.{keeps, from_keeps, put_none, put_more}
 use Rattle.workers.proofs.putting.put_tickets.Goals as goal
 
 pub loop-ticket-init : goal.loop-ticket-init
-loop-ticket-init g c = (c.requires.seat, put_none _ c.requires.keeper)
+loop-ticket-init g c = (c.requires.seat, put_none _ c.requires.producer)
 
 pub put_next-all-requires-clause-keeps : goal.put_next-all-requires-clause-keeps
 put_next-all-requires-clause-keeps g c = keeps _ (from_keeps _ _ _ _ c.loop-ticket.invariant.1)

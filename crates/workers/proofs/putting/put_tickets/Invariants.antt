@@ -4,4 +4,4 @@ use Rattle.workers.specs.Rounds.{PutFrom}
 use Rattle.workers.proofs.putting.put_tickets.Given as goal
 
 abbrev pub invariant-loop-ticket : goal.invariant-loop-ticket
-invariant-loop-ticket g l = IsSeatAt (sends_on l.sender) l.keeper × PutFrom l.yielded l.all (view l.initial.keeper) (view l.keeper)
+invariant-loop-ticket g l = IsSeatAt (sends_on l.sender) l.producer × PutFrom l.yielded l.all (view l.initial.producer) (view l.producer)

@@ -2,7 +2,7 @@ use Rattle.std.proofs.Common.{rules, sym, subst, inl}
 use Rattle.std.specs.Prelude.{Result, vec_len}
 use Rattle.model.specs.declared.refusal.Refusal.{Refusal}
 use Rattle.crossbeam_channel.specs.Claims.{view}
-use Rattle.workers.specs.declared.queue.Hand.{Hand}
+use Rattle.workers.specs.declared.queue.QueueEnd.{QueueEnd}
 use Rattle.workers.specs.Queue.{Told}
 use Rattle.workers.specs.Rounds.{IsRound}
 use Rattle.workers.proofs.TakenLemmas.{is_nil, no_round, is_round}
@@ -18,5 +18,5 @@ returns-clause-round g c =
     let told = c.count.ensures.told in
     inl (subst (λ (answer : Result (Unit {0}) Refusal). IsRound g.S.Store.called g.S.Store.asked g.Q.Runner.gives c.args.tickets.items c.args.workers.items served.done.items answer) (sym c.answer.ensures)
     (is_round g.S.Store.called g.S.Store.asked g.Q.Runner.gives c.args.tickets.items told.0 _ c.args.workers.items served.done.items
-    _ (view served.keeper) served.tally c.requires c.in-Ok-ticket_queue.ensures.keeper.1 c.in_scope-done.ensures.serves
-    (subst (λ (h : Hand). Told h told.0) c.count.ensures.seat.1 told.1)))
+    _ (view served.producer) served.tally c.requires c.in-Ok-ticket_queue.ensures.producer.1 c.in_scope-done.ensures.serves
+    (subst (λ (h : QueueEnd). Told h told.0) c.count.ensures.seat.1 told.1)))
