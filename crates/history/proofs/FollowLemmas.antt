@@ -23,10 +23,10 @@ use Rattle.history.specs.declared.row.Row.{Row}
 use Rattle.history.specs.Histories.{event_in, events_of}
 use Rattle.history.proofs.HistoryLemmas.{all_front, hashed_push, events_push, some_memory}
 use Rattle.schedule.specs.declared.work.Ready.{Ready}
-use Rattle.schedule.specs.declared.preparing.Need.{Need}
+use Rattle.schedule.specs.declared.preparing.PrepareInput.{PrepareInput}
 use Rattle.schedule.specs.Preparing.{HasOutcome, IsPrepared, IsMade}
-use Rattle.schedule.specs.declared.finding.Finding.{Finding}
-use Rattle.schedule.specs.Findings.{IsServedFrom}
+use Rattle.schedule.specs.declared.finding.ReadResult.{ReadResult}
+use Rattle.schedule.specs.ReadResults.{IsServedFrom}
 use Rattle.history.specs.Following.{HasReached, Follows, Takes, IsModelRead, FindsRead, IsPreparedAfter, IsNeedAfter}
 
 -- a new core follows no rows
@@ -109,7 +109,7 @@ reads core rows e reply f steps = record {
 }
 
 -- so does what is served of what it finds
-pub finds : (core : Core) (rows : List Row) (e : Event) (found : Finding) → Follows (setup_of core) core rows
+pub finds : (core : Core) (rows : List Row) (e : Event) (found : ReadResult) → Follows (setup_of core) core rows
     → ((reply : Reply) → IsServedFrom found reply → IsCoreStep core (event_of e) (reply_of reply) core) → FindsRead (setup_of core) rows e found
 finds core rows e found f steps = λ reply from. reads core rows e reply f (steps reply from)
 
@@ -124,7 +124,7 @@ prepares core rows e ready f prepared = record {
       (prepared.outcome known);
 }
 
-pub needs : (core : Core) (rows : List Row) (e : events.Event) (result : Result Need Refusal) → Follows (setup_of core) core rows
+pub needs : (core : Core) (rows : List Row) (e : events.Event) (result : Result PrepareInput Refusal) → Follows (setup_of core) core rows
     → IfOk result (λ need. (ready : Ready) → IsMade need e.request ready → IsPrepared core e ready) → IfOk result (IsNeedAfter (setup_of core) rows e)
 needs core rows e (Ok need) f made = λ ready is. prepares core rows e ready f (made ready is)
 needs core rows e (Err why) f made = tt

@@ -11,10 +11,10 @@ use Rattle.schedule.specs.declared.state.Core.{Core}
 use Rattle.schedule.specs.Standing.{world_of, setup_of, stored_in, HasHashed}
 use Rattle.schedule.specs.Stepping.{IsCoreStep}
 use Rattle.schedule.specs.declared.work.Ready.{Ready}
-use Rattle.schedule.specs.declared.preparing.Need.{Need}
+use Rattle.schedule.specs.declared.preparing.PrepareInput.{PrepareInput}
 use Rattle.schedule.specs.Preparing.{HasPath, HasOutcome, IsMade}
-use Rattle.schedule.specs.declared.finding.Finding.{Finding}
-use Rattle.schedule.specs.Findings.{IsServedFrom}
+use Rattle.schedule.specs.declared.finding.ReadResult.{ReadResult}
+use Rattle.schedule.specs.ReadResults.{IsServedFrom}
 use Rattle.events.specs.declared.event.Event.{Event}
 use Rattle.events.specs.declared.reply.Reply.{Reply}
 use Rattle.events.specs.declared.reply.Reply.TheVariants.{Refused}
@@ -47,7 +47,7 @@ pub record IsModelRead (setup : Setup) (rows : List Row) (event : Event) (reply 
   pub going : reply ≢ Refused Stopped
 
 -- whatever reply is served of a finding is one to an event that is read after these rows
-abbrev pub FindsRead : Setup → List Row → Event → Finding → Type 0
+abbrev pub FindsRead : Setup → List Row → Event → ReadResult → Type 0
 FindsRead setup rows event found = (reply : Reply) → IsServedFrom found reply → IsModelRead setup rows event reply
 
 -- the values that an event needs after these rows are there: the path of a source; and, where no two texts that the rows' events hash have
@@ -58,5 +58,5 @@ pub record IsPreparedAfter (setup : Setup) (rows : List Row) (e : events.Event) 
       → HasOutcome (world_after setup nothing (events_of rows) e.actor) e.actor e.request ready.work.settlements
 
 -- whatever is made of a need are the values that an event needs after these rows
-abbrev pub IsNeedAfter : Setup → List Row → events.Event → Need → Type 0
+abbrev pub IsNeedAfter : Setup → List Row → events.Event → PrepareInput → Type 0
 IsNeedAfter setup rows e need = (ready : Ready) → IsMade need e.request ready → IsPreparedAfter setup rows e ready

@@ -19,7 +19,7 @@ use crate::law::Shown;
 use crate::row::{Row, has_given_up};
 use left_right::Absorb;
 use model::Refusal;
-use schedule::{Core, Event, Finding, Need, Query, Ready};
+use schedule::{Core, Event, ReadResult, PrepareInput, Query, Ready};
 use std::alloc::{AllocError, Global};
 use std::marker::Model;
 use std::sync::Arc;
@@ -185,14 +185,14 @@ impl Snapshot {
     }
 
     /// Looks for what is only read after the rows. Whatever reply is served of it is one to the query then.
-    pub fn look(&self, query: &Query) -> Finding
+    pub fn look(&self, query: &Query) -> ReadResult
         ensures { FindsRead (setup_in self.now.name) self.now.rows (event_for query.now) result }
     {
         self.core.look(self.alloc, query)
     }
 
     /// What an event needs to be made after the rows. The one error is memory.
-    pub fn need(&self, event: &Event) -> Result<Need, Refusal>
+    pub fn need(&self, event: &Event) -> Result<PrepareInput, Refusal>
         ensures need { IfOk result
             (IsNeedAfter (setup_in self.now.name) self.now.rows (event_of event.now)) }
         ensures memory { IfErr result (λ why. why ≡ Memory) }

@@ -15,7 +15,7 @@ use Rattle.outputs.specs.declared.settlements.Settlements.{Settlements}
 use Rattle.outputs.specs.declared.sources.Sources.{Sources}
 use Rattle.building.specs.Built.{HasBuilt}
 use Rattle.schedule.specs.declared.state.Core.{Core}
-use Rattle.schedule.specs.declared.preparing.Need.{Need}
+use Rattle.schedule.specs.declared.preparing.PrepareInput.{PrepareInput}
 use Rattle.schedule.specs.declared.work.Ready.{Ready}
 use Rattle.schedule.specs.Standing.{world_of, setup_of}
 
@@ -44,7 +44,7 @@ abbrev pub HasInput : Request → Option Input → Settlements → Type 0
 HasInput request input settlements = (tree : Tree) → output_of request ≡ Some tree → HasNeeded settlements.settled.items input tree
 
 -- what a request needs was made
-pub record IsMade (need : Need) (request : Request) (ready : Ready) : Type 0 where
+pub record IsMade (need : PrepareInput) (request : Request) (ready : Ready) : Type 0 where
   pub path : HasPath request ready.work.sources
   pub output : HasInput request need.input ready.work.settlements
 

@@ -4,7 +4,7 @@
 //! both promise is said in the terms of the crate `model`: the store is as good as private desks.
 #![tactic(auto)]
 
-mod finding;
+mod read_result;
 mod holding;
 mod preparing;
 mod query;
@@ -20,10 +20,10 @@ mod undoing;
 mod work;
 
 pub use events::{CopiedReply, Event, Output, Reply, Request};
-pub use finding::Finding;
+pub use read_result::ReadResult;
 pub use jobs::RunningJob;
 pub use moving::Cache;
-pub use preparing::Need;
+pub use preparing::PrepareInput;
 pub use query::{Query, Question};
 pub use realise::{LARGEST_CHARGE, Limits};
 pub use runs::run;

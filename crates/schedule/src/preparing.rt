@@ -21,14 +21,14 @@ use outputs::{Input, Settlements};
 use std::alloc::Global;
 
 /// What an event needs to be made before a step, as far as a core has to tell it.
-pub struct Need {
+pub struct PrepareInput {
     /// What its output is settled by, if it has one that is.
     input: Option<Input>,
 }
 
-impl Drop for Need {
+impl Drop for PrepareInput {
     fn drop(self) {
-        let Need { input: _ } = self;
+        let PrepareInput { input: _ } = self;
     }
 }
 
@@ -75,7 +75,7 @@ fn prepare_output(
     Ok(())
 }
 
-impl Need {
+impl PrepareInput {
     /// Makes the values that the event needs. That takes long: the path of a source, and what comes of a tree
     /// that is offered or built, are hashed.
     ///
@@ -86,7 +86,7 @@ impl Need {
         ensures made { IfOk result (IsMade self (event_of event.now).request) }
         ensures memory { IfErr result (λ why. why ≡ Memory) }
     {
-        let Need { input } = self;
+        let PrepareInput { input } = self;
         let mut work = Work::none(alloc);
         prepare_source(alloc, &mut work, &event.request)?;
         prepare_output(alloc, &mut work.settlements, input, &event.request)?;
@@ -125,22 +125,22 @@ impl Core {
         }
     }
 
-    /// What an event needs to be made before a step. Whatever [`Need::make`] makes of that are the values that
+    /// What an event needs to be made before a step. Whatever [`PrepareInput::make`] makes of that are the values that
     /// a step by this core needs. The core stays as it is, and may have taken other events when they are used.
     ///
     /// # Errors
     ///
     /// - `Memory` only where memory was refused.
-    pub fn need(&self, alloc: Global, event: &Event) -> Result<Need, Refusal>
+    pub fn need(&self, alloc: Global, event: &Event) -> Result<PrepareInput, Refusal>
         ensures need { IfOk result (λ need. (ready : ReadyValue)
             → IsMade need (event_of event.now).request ready → IsPrepared self.now (event_of event.now) ready) }
         ensures memory { IfErr result (λ why. why ≡ Memory) }
     {
         let Some(place) = place_of(self.users.as_slice(), &event.actor) else {
-            return Ok(Need { input: None });
+            return Ok(PrepareInput { input: None });
         };
         let input = self.input_for(alloc, place, &event.request)?;
-        Ok(Need { input })
+        Ok(PrepareInput { input })
     }
 
     /// Makes values that a step needs for an event, so that [`Core::step_ready`] need not make them: the path

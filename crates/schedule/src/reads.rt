@@ -13,10 +13,10 @@ ghost use Rattle.events.specs.declared.reply.Reply.{Reply as ReplyValue};
 ghost use Rattle.handlers.specs.Serving.{MayServe};
 ghost use Rattle.schedule.specs.Standing.{parts_of};
 ghost use Rattle.schedule.specs.Queries.{request_in, event_for};
-ghost use Rattle.schedule.specs.Findings.{MayGive, IsServedFrom};
+ghost use Rattle.schedule.specs.ReadResults.{MayGive, IsServedFrom};
 ghost use Rattle.schedule.specs.Stepping.{IsCoreStep};
 
-use crate::finding::Finding;
+use crate::read_result::ReadResult;
 use crate::query::{Query, Question};
 use crate::state::Core;
 use choose::Plan;
@@ -34,17 +34,17 @@ use store::Table;
 use trust::{Trust, User};
 
 /// What is found where a reply is made.
-fn told(reply: Result<CopiedReply, Refusal>) -> Result<Finding, Refusal>
+fn told(reply: Result<CopiedReply, Refusal>) -> Result<ReadResult, Refusal>
     ensures { (given : Result ReplyValue RefusalValue) → MayGive result given → given ≡ reply }
 {
-    Ok(Finding::Told(reply?.into_reply()))
+    Ok(ReadResult::Told(reply?.into_reply()))
 }
 
 /// What is found where a closure is planned.
-fn planned(plan: Result<Plan, Refusal>) -> Result<Finding, Refusal>
+fn planned(plan: Result<Plan, Refusal>) -> Result<ReadResult, Refusal>
     ensures { (given : Result ReplyValue RefusalValue) → MayGive result given → MayServe plan given }
 {
-    Ok(Finding::Planned(plan?))
+    Ok(ReadResult::Planned(plan?))
 }
 
 /// What is found for what the user at a place asks.
@@ -58,7 +58,7 @@ fn find_at(
     limits: Limits,
     place: usize,
     question: &Question,
-) -> Result<Finding, Refusal>
+) -> Result<ReadResult, Refusal>
     requires listed { are_users users.now ≡ true }
     requires within { IsWithin (length users.now) (trusts trust.now) }
     requires paired { length desks.now ≡ length users.now }
@@ -81,7 +81,7 @@ fn find_at(
 
 impl Core {
     /// Looks for the answer to a query in the parts of the core.
-    fn find(&self, alloc: Global, query: &Query) -> Result<Finding, Refusal>
+    fn find(&self, alloc: Global, query: &Query) -> Result<ReadResult, Refusal>
         ensures { (given : Result ReplyValue RefusalValue) → MayGive result given
             → IsHandled (parts_of self.now) (event_of (event_for query.now)) given (parts_of self.now) }
     {
@@ -102,17 +102,17 @@ impl Core {
         )
     }
 
-    /// Looks for the answer to a query. Whatever reply [`Finding::serve`] gives of what is found, it is one
+    /// Looks for the answer to a query. Whatever reply [`ReadResult::serve`] gives of what is found, it is one
     /// that [`Core::step`] may give to the event that the query is. The core stays as it is.
-    pub fn look(&self, alloc: Global, query: &Query) -> Finding
+    pub fn look(&self, alloc: Global, query: &Query) -> ReadResult
         ensures { (reply : ReplyValue) → IsServedFrom result reply
             → IsCoreStep self.now (event_of (event_for query.now)) (reply_of reply) self.now }
     {
         one_tree_at_a_path();
         never_fails();
         match self.find(alloc, query) {
-            Ok(finding) => finding,
-            Err(refusal) => Finding::Told(Reply::Refused(refusal)),
+            Ok(read_result) => read_result,
+            Err(refusal) => ReadResult::Told(Reply::Refused(refusal)),
         }
     }
 }

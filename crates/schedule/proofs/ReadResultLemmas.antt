@@ -9,11 +9,11 @@ use Rattle.events.specs.declared.reply.Reply.{Reply}
 use Rattle.events.specs.declared.reply.Reply.TheVariants.{Refused}
 use Rattle.events.specs.Terms.{reply_of}
 use Rattle.schedule.specs.declared.state.Core.{Core}
-use Rattle.schedule.specs.declared.finding.Finding.{Finding}
-use Rattle.schedule.specs.declared.finding.Finding.TheVariants.{Told}
+use Rattle.schedule.specs.declared.read_result.ReadResult.{ReadResult}
+use Rattle.schedule.specs.declared.read_result.ReadResult.TheVariants.{Told}
 use Rattle.schedule.specs.Standing.{parts_of}
 use Rattle.schedule.specs.Stepping.{IsCoreStep}
-use Rattle.schedule.specs.Findings.{Gives, told, IsServedFrom}
+use Rattle.schedule.specs.ReadResults.{Gives, told, IsServedFrom}
 use Rattle.schedule.proofs.StepLemmas.{served_step, refused_step}
 
 handled_step : OneTreeAtAPath → NeverFails → (core : Core) (e : events.Event) (given : Result Reply Refusal) → IsHandled (parts_of core) e given (parts_of core)
@@ -21,10 +21,10 @@ handled_step : OneTreeAtAPath → NeverFails → (core : Core) (e : events.Event
 handled_step one never core e (Ok reply) handled = served_step core core e reply handled core.sound
 handled_step one never core e (Err why) handled = refused_step one never core core e why handled
 
-pub found_step : OneTreeAtAPath → NeverFails → (core : Core) (e : events.Event) (finding : Finding)
-    → ((given : Result Reply Refusal) → Gives finding given → IsHandled (parts_of core) e given (parts_of core))
-    → (reply : Reply) → IsServedFrom finding reply → IsCoreStep core e (reply_of reply) core
-found_step one never core e finding handled reply from =
+pub found_step : OneTreeAtAPath → NeverFails → (core : Core) (e : events.Event) (read_result : ReadResult)
+    → ((given : Result Reply Refusal) → Gives read_result given → IsHandled (parts_of core) e given (parts_of core))
+    → (reply : Reply) → IsServedFrom read_result reply → IsCoreStep core e (reply_of reply) core
+found_step one never core e read_result handled reply from =
     subst (λ (r : Reply). IsCoreStep core e (reply_of r) core) (sym from.is) (handled_step one never core e from.given (handled from.given from.gives))
 
 -- where nothing is found, that is told

@@ -1,8 +1,8 @@
 //! What is found for a query, and told without the core.
 
 ghost use Rattle.std.specs.Prelude.{◌≡◌};
-ghost use Rattle.schedule.specs.Findings.{IsServedFrom};
-ghost use Rattle.schedule.specs.declared.finding.Finding.TheVariants.{Planned};
+ghost use Rattle.schedule.specs.ReadResults.{IsServedFrom};
+ghost use Rattle.schedule.specs.declared.read_result.ReadResult.TheVariants.{Planned};
 
 use choose::Plan;
 use events::Reply;
@@ -11,10 +11,10 @@ use model::Refusal;
 use moving::Cache;
 use std::alloc::Global;
 
-/// What a core finds for a query. What takes long of a closure, its repairs, is left to [`Finding::serve`],
+/// What a core finds for a query. What takes long of a closure, its repairs, is left to [`ReadResult::serve`],
 /// which needs no core.
 #[derive(Drop)]
-pub enum Finding {
+pub enum ReadResult {
     /// The reply.
     Told(Reply),
     /// What the closure needs that is asked for.
@@ -31,7 +31,7 @@ fn serve_once(alloc: Global, plan: &Plan, cache: &mut Cache) -> Reply
     }
 }
 
-impl Finding {
+impl ReadResult {
     /// The reply. Records of a closure that are to be repaired are taken from the cache, where it has them,
     /// and kept in it; whatever it has, the reply is the same. Where memory is refused, the cache is emptied, and
     /// the closure is served once more.
@@ -39,8 +39,8 @@ impl Finding {
         ensures { IsServedFrom self result }
     {
         let plan = match self {
-            Finding::Told(reply) => return reply,
-            Finding::Planned(plan) => plan,
+            ReadResult::Told(reply) => return reply,
+            ReadResult::Planned(plan) => plan,
         };
         let reply = serve_once(alloc, &plan, cache);
         if !matches!(&reply, Reply::Refused(Refusal::Memory)) {

@@ -1,5 +1,5 @@
 use Rattle.std.proofs.Common.{refl, Ok, Err}
-use Rattle.schedule.proofs.finding.serve_once.Goals as goal
+use Rattle.schedule.proofs.read_result.serve_once.Goals as goal
 
 pub returns-in-Ok : goal.returns-in-Ok
 returns-in-Ok c = record { given = Ok c.in-Ok.reply; gives = c.in-Ok.ensures; is = refl }
