@@ -12,7 +12,7 @@ use Rattle.schedule.specs.Standing.{world_of, setup_of, stored_in, IsUnchanged}
 use Rattle.events.specs.Terms.{event_of, reply_of}
 use Rattle.schedule.specs.Stepping.{IsCoreStep}
 use Rattle.history.specs.declared.row.Row.{Row}
-use Rattle.history.specs.Histories.{events_of, answers_of, gave_up}
+use Rattle.history.specs.Histories.{events_of, answers_of, unrecorded}
 use Rattle.history.specs.Following.{HasReached}
 
 -- a book as contracts see it: its core, its rows, and whether it is stopped
@@ -38,7 +38,7 @@ pub record TookEvent (old : Core) (event : Event) (new : Core) : Type 0 where
 -- that the events hash is among them; and unless the book is stopped, the core is that of the world reached
 pub record Kept (setup : Setup) (core : Core) (stopped : Bool) (rows : List Row) : Type 0 where
   pub given : setup_of core ≡ setup
-  pub answered : All (λ r. gave_up r.reply ≡ false) rows
+  pub answered : All (λ r. unrecorded r.reply ≡ false) rows
   pub told : (texts : List (List ℕ)) → NoClash texts → All (Contains texts) (hashed setup nothing (events_of rows))
       → answers_of rows ≡ answers setup nothing (events_of rows)
   pub good : (texts : List (List ℕ)) → NoClash texts → All (Contains texts) (hashed setup nothing (events_of rows))

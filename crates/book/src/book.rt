@@ -14,7 +14,7 @@ ghost use Rattle.schedule.specs.Sweeping.{is_held};
 ghost use Rattle.store.specs.Stored.{kept_at};
 ghost use Rattle.events.specs.declared.reply.Reply.TheVariants.{Refused};
 ghost use Rattle.history.specs.Callers.{answered, told_stopped, knowing, stops_of, Matches};
-ghost use Rattle.history.specs.Histories.{row, gave_up, IsLegal};
+ghost use Rattle.history.specs.Histories.{row, unrecorded, IsLegal};
 ghost use Rattle.book.specs.Keeping.{IsNew, Steps, TookEvent, Stops, KeepsCore, IsModelReply, StandsFor};
 
 use crate::counts::Counts;
@@ -156,17 +156,17 @@ impl<J: FrontId> Book<J> {
         event: Event,
     ) -> Reply
         requires part { part.old.parts ≡ 1 }
-        ensures row { gave_up result ≡ false
+        ensures row { unrecorded result ≡ false
             → self.new.rows ≡ self.old.rows ++ row pass.old.number event result ∷ [] }
-        ensures step { gave_up result ≡ false → Steps self.old.core event result self.new.core }
-        ensures reply { gave_up result ≡ false → IsModelReply J.setup self.old.rows event result }
-        ensures counted { gave_up result ≡ false → pass.new ≡ answered pass.old self.new.rows }
+        ensures step { unrecorded result ≡ false → Steps self.old.core event result self.new.core }
+        ensures reply { unrecorded result ≡ false → IsModelReply J.setup self.old.rows event result }
+        ensures counted { unrecorded result ≡ false → pass.new ≡ answered pass.old self.new.rows }
         ensures matches { Matches self.old.rows self.old.stopped pass.old }
         // The only pass knows all rows.
         ensures alone { J.parts ≡ 1 → pass.old.sure ≡ self.old.rows }
-        ensures no_row { gave_up result ≡ true → self.new.rows ≡ self.old.rows }
+        ensures no_row { unrecorded result ≡ true → self.new.rows ≡ self.old.rows }
         ensures memory { result ≡ Refused Memory → pass.new ≡ pass.old }
-        ensures unchanged { gave_up result ≡ true → KeepsCore self.old self.new }
+        ensures unchanged { unrecorded result ≡ true → KeepsCore self.old self.new }
         ensures stopped { self.old.stopped ≡ true → result ≡ Refused Stopped }
         ensures stays { self.old.stopped ≡ true → self.new ≡ self.old }
         ensures only_then { result ≡ Refused Stopped → self.old.stopped ≡ true }
@@ -195,17 +195,17 @@ impl<J: FrontId> Book<J> {
         ready: Ready,
     ) -> Reply
         requires part { part.old.parts ≡ 1 }
-        ensures row { gave_up result ≡ false
+        ensures row { unrecorded result ≡ false
             → self.new.rows ≡ self.old.rows ++ row pass.old.number event result ∷ [] }
-        ensures step { gave_up result ≡ false → Steps self.old.core event result self.new.core }
-        ensures reply { gave_up result ≡ false → IsModelReply J.setup self.old.rows event result }
-        ensures counted { gave_up result ≡ false → pass.new ≡ answered pass.old self.new.rows }
+        ensures step { unrecorded result ≡ false → Steps self.old.core event result self.new.core }
+        ensures reply { unrecorded result ≡ false → IsModelReply J.setup self.old.rows event result }
+        ensures counted { unrecorded result ≡ false → pass.new ≡ answered pass.old self.new.rows }
         ensures matches { Matches self.old.rows self.old.stopped pass.old }
         // The only pass knows all rows.
         ensures alone { J.parts ≡ 1 → pass.old.sure ≡ self.old.rows }
-        ensures no_row { gave_up result ≡ true → self.new.rows ≡ self.old.rows }
+        ensures no_row { unrecorded result ≡ true → self.new.rows ≡ self.old.rows }
         ensures memory { result ≡ Refused Memory → pass.new ≡ pass.old }
-        ensures unchanged { gave_up result ≡ true → KeepsCore self.old self.new }
+        ensures unchanged { unrecorded result ≡ true → KeepsCore self.old self.new }
         ensures stopped { self.old.stopped ≡ true → result ≡ Refused Stopped }
         ensures stays { self.old.stopped ≡ true → self.new ≡ self.old }
         ensures only_then { result ≡ Refused Stopped → self.old.stopped ≡ true }

@@ -7,7 +7,7 @@ ghost use Rattle.model.specs.declared.refusal.Refusal.TheVariants.{Memory, Stopp
 ghost use Rattle.events.specs.declared.reply.Reply.TheVariants.{Refused};
 ghost use Rattle.history.specs.Callers.{told_stopped, knowing, stops_of, below, rows_of, new_pass, with_caller, seeing};
 ghost use Rattle.history.specs.Tokens.{nothing_recorded};
-ghost use Rattle.history.specs.Histories.{row, gave_up, IsLegal, IsAnswered};
+ghost use Rattle.history.specs.Histories.{row, unrecorded, IsLegal, IsAnswered};
 ghost use Rattle.history.specs.FrontId.{name_of};
 ghost use Rattle.history.specs.Tied.{knower};
 ghost use Rattle.book.specs.Asking.{IsAskedAfter};
@@ -210,9 +210,9 @@ impl<J: FrontId> Front<J> {
     /// stopped: each later call of it is answered 92, or 90 where memory is refused before the lock is
     /// taken. Only a call that is answered 90 stops the front. What the pass has seen is only lengthened.
     pub fn call<R: Wait>(&self, rt: &R, alloc: Global, pass: &mut Pass<J>, event: Event) -> Reply
-        ensures answered { gave_up result ≡ false
+        ensures answered { unrecorded result ≡ false
             → IsAnswered J.setup pass.old event result pass.new }
-        ensures alone { gave_up result ≡ false → J.parts ≡ 1 → pass.new.caller.sure
+        ensures alone { unrecorded result ≡ false → J.parts ≡ 1 → pass.new.caller.sure
             ≡ pass.old.caller.sure ++ row pass.old.caller.number event result ∷ [] }
         ensures memory { result ≡ Refused Memory → pass.new.caller ≡ pass.old.caller }
         ensures stopped { result ≡ Refused Stopped
@@ -240,9 +240,9 @@ impl<J: FrontId> Front<J> {
         event: Event,
         ready: Ready,
     ) -> Reply
-        ensures answered { gave_up result ≡ false
+        ensures answered { unrecorded result ≡ false
             → IsAnswered J.setup pass.old event result pass.new }
-        ensures alone { gave_up result ≡ false → J.parts ≡ 1 → pass.new.caller.sure
+        ensures alone { unrecorded result ≡ false → J.parts ≡ 1 → pass.new.caller.sure
             ≡ pass.old.caller.sure ++ row pass.old.caller.number event result ∷ [] }
         ensures memory { result ≡ Refused Memory → pass.new.caller ≡ pass.old.caller }
         ensures stopped { result ≡ Refused Stopped

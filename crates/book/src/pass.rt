@@ -7,7 +7,7 @@ ghost use Rattle.model.specs.declared.refusal.Refusal.TheVariants.{Memory, Stopp
 ghost use Rattle.events.specs.declared.reply.Reply.TheVariants.{Refused};
 ghost use Rattle.schedule.specs.Queries.{event_for};
 ghost use Rattle.history.specs.Callers.{told_stopped, knowing, rows_of, seeing, with_caller};
-ghost use Rattle.history.specs.Histories.{row, gave_up, IsLegal, IsAnswered, IsReadAfter};
+ghost use Rattle.history.specs.Histories.{row, unrecorded, IsLegal, IsAnswered, IsReadAfter};
 ghost use Rattle.events.specs.Terms.{event_of};
 ghost use Rattle.history.specs.Following.{FindsRead, IsNeedAfter, IsPreparedAfter};
 ghost use Rattle.history.specs.FrontId.{name_of, book_in, setup_in};
@@ -18,7 +18,7 @@ use crate::book::Book;
 use crate::publisher::insist;
 use core::mem::replace_with;
 use history::{
-    HistoryPrefix, FrontId, Pass as Caller, SnapshotReader, StopCount, computed, has_given_up, look,
+    HistoryPrefix, FrontId, Pass as Caller, SnapshotReader, StopCount, computed, is_unrecorded, look,
     need,
 };
 use laws::{isolation, kept_closures_are_good, timed_isolation};
@@ -122,14 +122,14 @@ fn computed_by(reader: SnapshotReader, _nothing: ()) -> (SnapshotReader, Option<
 
 /// How many rows a pass is sure of after a reply: as many as before it, or where it has a row all.
 fn sure_after(reply: &Reply, before: u64, all: u64) -> u64
-    ensures { MatchBool (gave_up reply.now) (result ≡ before) (result ≡ all) }
+    ensures { MatchBool (unrecorded reply.now) (result ≡ before) (result ≡ all) }
 {
-    if has_given_up(reply) { before } else { all }
+    if is_unrecorded(reply) { before } else { all }
 }
 
 /// Lets repaired records go where a reply tells that memory was refused, so that their memory is there for others.
 fn let_go_after(repaired: &mut Cache, reply: &Reply) {
-    if has_given_up(reply) {
+    if is_unrecorded(reply) {
         repaired.empty();
     }
 }
@@ -205,7 +205,7 @@ impl<J: FrontId> Pass<J> {
 
     /// Answers a query as [`Pass::read`] does, and leaves the records that it repaired.
     fn read_once(&mut self, query: Query) -> Reply
-        ensures read { gave_up result ≡ false
+        ensures read { unrecorded result ≡ false
             → IsReadAfter J.setup self.old.caller.number self.new.seen (event_for query) result }
         ensures seen { IsPrefix self.old.seen self.new.seen }
         ensures same { self.new ≡ seeing self.old self.new.seen }
@@ -229,7 +229,7 @@ impl<J: FrontId> Pass<J> {
     /// a closure are repaired. Those that it repaired last are kept, for as long as the pass lives and memory is
     /// not refused to it. The reply is 90 `Memory` where memory was refused, and never 92 `Stopped`.
     pub fn read(&mut self, query: Query) -> Reply
-        ensures read { gave_up result ≡ false
+        ensures read { unrecorded result ≡ false
             → IsReadAfter J.setup self.old.caller.number self.new.seen (event_for query) result }
         ensures seen { IsPrefix self.old.seen self.new.seen }
         ensures same { self.new ≡ seeing self.old self.new.seen }
@@ -307,9 +307,9 @@ impl<J: FrontId> Pass<J> {
         event: Event,
         ready: Ready,
     ) -> Reply
-        ensures answered { gave_up result ≡ false
+        ensures answered { unrecorded result ≡ false
             → IsAnswered J.setup self.old event result self.new }
-        ensures alone { gave_up result ≡ false → J.parts ≡ 1 → self.new.caller.sure
+        ensures alone { unrecorded result ≡ false → J.parts ≡ 1 → self.new.caller.sure
             ≡ self.old.caller.sure ++ row self.old.caller.number event result ∷ [] }
         ensures memory { result ≡ Refused Memory → self.new.caller ≡ self.old.caller }
         ensures stopped { result ≡ Refused Stopped

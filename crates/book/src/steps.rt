@@ -4,7 +4,7 @@ ghost use Rattle.std.specs.Prelude.{◌≡◌, ◌++◌, ◌∷◌, [], true, fa
 ghost use Rattle.model.specs.declared.refusal.Refusal.TheVariants.{Memory};
 ghost use Rattle.schedule.specs.Standing.{setup_of, IsUnchanged};
 ghost use Rattle.events.specs.declared.reply.Reply.TheVariants.{Refused};
-ghost use Rattle.history.specs.Histories.{row, gave_up, IsLegal};
+ghost use Rattle.history.specs.Histories.{row, unrecorded, IsLegal};
 ghost use Rattle.book.specs.Keeping.{Kept, Steps, TookEvent};
 
 use crate::publisher::Publisher;
@@ -17,8 +17,8 @@ use std::sync::{Arc, Wait};
 
 /// Why a reply has no row, if it has none.
 fn want_in(reply: &Reply) -> Option<Refusal>
-    ensures want { IfSome result (λ why. (reply.now ≡ Refused why) × (gave_up reply.now ≡ true)) }
-    ensures none { IfNone result (gave_up reply.now ≡ false) }
+    ensures want { IfSome result (λ why. (reply.now ≡ Refused why) × (unrecorded reply.now ≡ true)) }
+    ensures none { IfNone result (unrecorded reply.now ≡ false) }
 {
     match reply {
         Reply::Refused(why) => match why {
@@ -97,7 +97,7 @@ pub(crate) fn step<J: FrontId, R: Wait>(
     requires whole { publisher.old.whole ≡ true }
     requires kept { Kept J.setup core.old false publisher.old.rows }
     ensures row { IfOk result (λ found. IfSome found (λ p. p.1 ≡ row pass event p.0)) }
-    ensures some { IfOk result (λ found. IfSome found (λ p. gave_up p.0 ≡ false)) }
+    ensures some { IfOk result (λ found. IfSome found (λ p. unrecorded p.0 ≡ false)) }
     ensures step { IfOk result (λ found. IfSome found (λ p. Steps core.old event p.0 core.new)) }
     ensures shown { IfOk result (λ found. IfSome found (λ p.
         publisher.new ≡ record { rows = publisher.old.rows ++ p.1 ∷ []; whole = true })) }

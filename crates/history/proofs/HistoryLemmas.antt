@@ -14,7 +14,7 @@ use Rattle.events.specs.declared.reply.Reply.{Reply}
 use Rattle.events.specs.declared.reply.Reply.TheVariants.{Refused}
 use Rattle.events.specs.Terms.{reply_of}
 use Rattle.history.specs.declared.row.Row.{Row}
-use Rattle.history.specs.Histories.{event_in, answer_in, events_of, answers_of, gave_up, IsLegal}
+use Rattle.history.specs.Histories.{event_in, answer_in, events_of, answers_of, unrecorded, IsLegal}
 
 pub all_front : (P : List ℕ → Type 0) (xs ys : List (List ℕ)) → All P (xs ++ ys) → All P xs
 all_front P [] ys h = All-nil P
@@ -27,7 +27,7 @@ or_front true b h = cc
 or_front false b h = refl
 
 -- a reply that has a row is no want of memory
-pub some_memory : (reply : Reply) → gave_up reply ≡ false → is_memory (reply_of reply) ≡ false
+pub some_memory : (reply : Reply) → unrecorded reply ≡ false → is_memory (reply_of reply) ≡ false
 some_memory (Refused why) h = or_front (is_memory_refusal why) (is_stopped_refusal why) h
 some_memory reply h = refl
 
@@ -58,4 +58,4 @@ rows_push rows r = map_push answer_in rows r
 
 pub legal_none : (setup : Setup) → IsLegal setup []
 unfolding answers replies_to kept_from GiveGoodClosures
-legal_none setup = record { answered = All-nil (λ (r : Row). gave_up r.reply ≡ false); same = λ _. refl; isolated = λ _ u. refl; timed = λ _ u. refl; good = λ _. tt }
+legal_none setup = record { answered = All-nil (λ (r : Row). unrecorded r.reply ≡ false); same = λ _. refl; isolated = λ _ u. refl; timed = λ _ u. refl; good = λ _. tt }

@@ -10,7 +10,7 @@ use Rattle.model.specs.Laws.{IsIsolated, IsTimelyIsolated}
 use Rattle.events.specs.Terms.{reply_of}
 use Rattle.schedule.proofs.RunLemmas.{good_push}
 use Rattle.history.specs.declared.row.Row.{Row}
-use Rattle.history.specs.Histories.{event_in, events_of, answers_of, gave_up, IsLegal, IsToldAfter}
+use Rattle.history.specs.Histories.{event_in, events_of, answers_of, unrecorded, IsLegal, IsToldAfter}
 use Rattle.history.proofs.HistoryLemmas.{answers_push, hashed_push, events_push, rows_push}
 
 -- where no two of some texts clash, no two of the first of them do
@@ -36,9 +36,9 @@ module _ (setup : Setup) (rows : List Row) (r : Row) where
         (legal.same (clean_before (clean_with clean))))
 
     -- a legal history is so with a row more, whose reply is the model's after it
-    pub legal_with : IsIsolated → IsTimelyIsolated → gave_up r.reply ≡ false → IsLegal setup (rows ++ r ∷ [])
+    pub legal_with : IsIsolated → IsTimelyIsolated → unrecorded r.reply ≡ false → IsLegal setup (rows ++ r ∷ [])
     legal_with isolated timed some = record {
-      answered = All-push (λ (one : Row). gave_up one.reply ≡ false) rows r legal.answered some;
+      answered = All-push (λ (one : Row). unrecorded one.reply ≡ false) rows r legal.answered some;
       same = same_with;
       isolated = λ clean u. ap (replies_to u) (same_with clean) ∙ isolated setup (events_of (rows ++ r ∷ [])) u;
       timed = λ clean u. ap (replies_to u) (same_with clean) ∙ (timed setup u).replies (events_of (rows ++ r ∷ []));

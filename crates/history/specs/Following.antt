@@ -20,7 +20,7 @@ use Rattle.events.specs.declared.reply.Reply.{Reply}
 use Rattle.events.specs.declared.reply.Reply.TheVariants.{Refused}
 use Rattle.events.specs.Terms.{event_of, reply_of}
 use Rattle.history.specs.declared.row.Row.{Row}
-use Rattle.history.specs.Histories.{event_in, events_of, gave_up, IsToldAfter}
+use Rattle.history.specs.Histories.{event_in, events_of, unrecorded, IsToldAfter}
 
 -- a core that has taken no event
 abbrev pub IsFresh : Core → Type 0
@@ -38,12 +38,12 @@ pub record Follows (setup : Setup) (core : Core) (rows : List Row) : Type 0 wher
 -- a core takes the event of a row, whatever it replies
 pub record Takes (old : Core) (row : Row) (new : Core) : Type 0 where
   pub reply : Reply
-  pub some : gave_up reply ≡ false
+  pub some : unrecorded reply ≡ false
   pub step : IsCoreStep old (event_in row) (reply_of reply) new
 
 -- a reply to an event that is read after these rows: it is the model's, or that memory was refused
 pub record IsModelRead (setup : Setup) (rows : List Row) (event : Event) (reply : Reply) : Type 0 where
-  pub told : gave_up reply ≡ false → IsToldAfter setup rows (event_of event) (reply_of reply)
+  pub told : unrecorded reply ≡ false → IsToldAfter setup rows (event_of event) (reply_of reply)
   pub going : reply ≢ Refused Stopped
 
 -- whatever reply is served of a finding is one to an event that is read after these rows

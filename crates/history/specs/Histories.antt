@@ -36,8 +36,8 @@ answers_of rows = map answer_in rows
 -- ---- replies that have no row
 
 -- whether a reply is that memory was refused, or that an earlier want of memory stopped the writer
-abbrev pub gave_up : Reply → Bool
-gave_up reply = is_unrecorded (reply_of reply)
+abbrev pub unrecorded : Reply → Bool
+unrecorded reply = is_unrecorded (reply_of reply)
 
 -- ---- what a history says
 
@@ -45,7 +45,7 @@ gave_up reply = is_unrecorded (reply_of reply)
 -- digest, the replies are the model's, each user's are those to the events that can reach him, also by trust that is held
 -- at the times concerned, and the closures that are given are good
 pub record IsLegal (setup : Setup) (rows : List Row) : Type 0 where
-  pub answered : All (λ r. gave_up r.reply ≡ false) rows
+  pub answered : All (λ r. unrecorded r.reply ≡ false) rows
   pub same : NoClash (hashed setup nothing (events_of rows)) → answers_of rows ≡ answers setup nothing (events_of rows)
   pub isolated : NoClash (hashed setup nothing (events_of rows)) → (u : List ℕ) → replies_to u (answers_of rows) ≡ replies setup u (strike setup u (events_of rows))
   pub timed : NoClash (hashed setup nothing (events_of rows)) → (u : List ℕ) → replies_to u (answers_of rows) ≡ replies setup u (strike_timed setup u (events_of rows))

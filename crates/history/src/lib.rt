@@ -24,5 +24,5 @@ pub use law::{End, Law, Looks, Name, Shown, SnapshotReader, SnapshotWriter, Tell
 pub use log::{FrontTokens, Claim, Log, LogTable};
 pub use front_id::{FrontId, StopCount};
 pub use pass::Pass;
-pub use row::{Row, has_given_up};
+pub use row::{Row, is_unrecorded};
 pub use snapshot::{NewRow, Operation, Snapshot};

@@ -1,7 +1,7 @@
 //! What was asked and answered.
 
 ghost use Rattle.std.specs.Prelude.{◌≡◌};
-ghost use Rattle.history.specs.Histories.{gave_up};
+ghost use Rattle.history.specs.Histories.{unrecorded};
 
 use events::{Event, Reply};
 use model::Refusal;
@@ -18,8 +18,8 @@ pub struct Row {
 }
 
 /// Whether a reply is 90 `Memory` or 92 `Stopped`: a call that is answered so has no row.
-pub fn has_given_up(reply: &Reply) -> bool
-    ensures { result ≡ gave_up reply.now }
+pub fn is_unrecorded(reply: &Reply) -> bool
+    ensures { result ≡ unrecorded reply.now }
 {
     match reply {
         Reply::Refused(why) => matches!(why, Refusal::Memory | Refusal::Stopped),

@@ -8,7 +8,7 @@ ghost use Rattle.schedule.specs.Queries.{event_for};
 ghost use Rattle.schedule.specs.Stepping.{IsCoreStep};
 ghost use Rattle.events.specs.Terms.{event_of, reply_of};
 ghost use Rattle.events.specs.declared.reply.Reply.{Reply as GivenReply};
-ghost use Rattle.history.specs.Histories.{gave_up, event_in};
+ghost use Rattle.history.specs.Histories.{unrecorded, event_in};
 ghost use Rattle.model.specs.declared.refusal.Refusal.TheVariants.{Memory};
 ghost use Rattle.history.specs.Following.{IsFresh, FindsRead, IsNeedAfter, Takes};
 ghost use Rattle.history.specs.FrontId.{name_of, setup_in};
@@ -16,7 +16,7 @@ ghost use Rattle.history.specs.Tied.{absorbed, added};
 
 use crate::history_prefix::HistoryPrefix;
 use crate::law::Shown;
-use crate::row::{Row, has_given_up};
+use crate::row::{Row, is_unrecorded};
 use left_right::Absorb;
 use model::Refusal;
 use schedule::{Core, Event, ReadResult, PrepareInput, Query, Ready};
@@ -113,7 +113,7 @@ fn follow(alloc: Global, core: &mut Core, new: &NewRow) -> Result<(), AllocError
     let event = event_again(row)?;
     let ready = new.ready.again(alloc)?;
     let reply = core.step_ready(alloc, event, ready);
-    if has_given_up(&reply) {
+    if is_unrecorded(&reply) {
         return Err(AllocError);
     }
     Ok(())

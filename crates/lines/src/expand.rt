@@ -5,7 +5,7 @@ ghost use Rattle.model.specs.Lines.{named_line, is_letter, expansion_in, nothing
 
 use crate::cutting::cut;
 use crate::numbers::numeral_up_to;
-use crate::told::LineResult;
+use crate::line_result::LineResult;
 use std::alloc::{AllocError, Global};
 use std::marker::Model;
 use storepath::StorePath;

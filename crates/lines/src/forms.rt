@@ -10,7 +10,7 @@ ghost use Rattle.lines.specs.Reading.{Becomes, BecomesOfCommand};
 use crate::cutting::{Word, cut, first_words, has_empty_word};
 use crate::expand::fill;
 use crate::line::Reading;
-use crate::told::LineResult;
+use crate::line_result::LineResult;
 use crate::commands::{read_event, command_in};
 use crate::words::read_users;
 use events::Event;

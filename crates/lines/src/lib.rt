@@ -12,7 +12,7 @@ mod line;
 mod numbers;
 mod pieces;
 mod texts;
-mod told;
+mod line_result;
 mod commands;
 mod words;
 
@@ -20,4 +20,4 @@ pub use cutting::cut;
 pub use forms::{LONGEST_LINE, read_line};
 pub use line::Reading;
 pub use texts::answer_text;
-pub use told::{LineResult, told_in};
+pub use line_result::{LineResult, told_in};

@@ -16,7 +16,7 @@ use Rattle.schedule.specs.declared.query.Question.TheVariants.{Status, Closure, 
 use Rattle.schedule.specs.declared.query.Query.{Query}
 use Rattle.schedule.specs.Queries.{request_in, event_for}
 use Rattle.history.specs.Callers.{Caller, Known, told_stopped, seeing}
-use Rattle.history.specs.Histories.{row, gave_up, IsAnswered, IsReadAfter, IsLegal}
+use Rattle.history.specs.Histories.{row, unrecorded, IsAnswered, IsReadAfter, IsLegal}
 use Rattle.history.proofs.HistoryLemmas.{some_memory}
 use Rattle.replaying.specs.OnlyPass.{known_by, says_stopped, IsOnlyAnswer}
 
@@ -53,7 +53,7 @@ module _ (setup : Setup) (old new : Known) (lacked : Bool) (query : Query) (same
   still_stopped was = (ap (λ (c : Caller). c.stopped) same_caller ∙ was, λ other. true≢false (sym is_asked ∙ other))
 
   -- what a pass reads that is sure of all that it has seen
-  pub only_read : (reply : Reply) → (gave_up reply ≡ false → IsReadAfter setup old.caller.number new.seen event reply) → reply ≢ Refused Stopped
+  pub only_read : (reply : Reply) → (unrecorded reply ≡ false → IsReadAfter setup old.caller.number new.seen event reply) → reply ≢ Refused Stopped
       → new.seen ≡ new.caller.sure → IsOnlyAnswer setup (known_by old lacked) (event_of event) (reply_of reply) (known_by new lacked)
   only_read reply read going all = record {
     row = λ some. (
@@ -83,13 +83,13 @@ module _ (setup : Setup) (old new : Known) (lacked : Bool) (query : Query) (same
 
 -- what a call of the only pass of a front promises
 pub record IsCalled (setup : Setup) (old new : Known) (event : Event) (reply : Reply) : Type 0 where
-  pub answered : gave_up reply ≡ false → IsAnswered setup old event reply new
-  pub alone : gave_up reply ≡ false → new.caller.sure ≡ old.caller.sure ++ row old.caller.number event reply ∷ []
+  pub answered : unrecorded reply ≡ false → IsAnswered setup old event reply new
+  pub alone : unrecorded reply ≡ false → new.caller.sure ≡ old.caller.sure ++ row old.caller.number event reply ∷ []
   pub memory : reply ≡ Refused Memory → new.caller ≡ old.caller
   pub stopped : reply ≡ Refused Stopped → new.caller ≡ told_stopped old.caller
   pub remains : old.caller.stopped ≡ true → (reply ≡ Refused Stopped) ⊎ (reply ≡ Refused Memory)
 
-kept : (old new : Caller) (reply : Reply) → gave_up reply ≡ true → (reply ≡ Refused Memory → new ≡ old) → (reply ≡ Refused Stopped → new ≡ told_stopped old)
+kept : (old new : Caller) (reply : Reply) → unrecorded reply ≡ true → (reply ≡ Refused Memory → new ≡ old) → (reply ≡ Refused Stopped → new ≡ told_stopped old)
     → new.sure ≡ old.sure
 kept old new (Refused Memory) none memory stopped = ap (λ (c : Caller). c.sure) (memory refl)
 kept old new (Refused Stopped) none memory stopped = ap (λ (c : Caller). c.sure) (stopped refl)
@@ -107,7 +107,7 @@ still_lacked false other memory none = rw (none refl) (sym (and_not other))
 module _ (setup : Setup) (old new : Known) (lacked : Bool) (event : Event) (reply : Reply) (called : IsCalled setup old new event reply)
     (before : old.caller.stopped ≡ true → lacked ≡ true) where
   -- a reply that is no first want of memory is told as it is
-  pub only_answer : is_query (request_of event.request) ≡ false → (gave_up reply ≡ true → lacked ≡ true)
+  pub only_answer : is_query (request_of event.request) ≡ false → (unrecorded reply ≡ true → lacked ≡ true)
       → IsOnlyAnswer setup (known_by old lacked) (event_of event) (reply_of reply) (known_by new lacked)
   only_answer other was_told = record {
     row = λ some.
@@ -119,15 +119,15 @@ module _ (setup : Setup) (old new : Known) (lacked : Bool) (event : Event) (repl
     lacked = still_lacked lacked (not (is_query (request_of event.request))) (is_memory (reply_of reply)) (λ none. some_memory reply (not_gave none));
     stopped = λ says.
         let is : reply ≡ Refused Stopped = stopped_so reply says in
-        (other, was_told (ap gave_up is), ap (λ (c : Caller). c.stopped) (called.stopped is));
+        (other, was_told (ap unrecorded is), ap (λ (c : Caller). c.stopped) (called.stopped is));
     remains = λ was. elim (called.remains was) [
-      | inl is ↦ (ap (λ (c : Caller). c.stopped) (called.stopped is), λ _. ap gave_up is)
-      | inr is ↦ (ap (λ (c : Caller). c.stopped) (called.memory is) ∙ was, λ _. ap gave_up is)
+      | inl is ↦ (ap (λ (c : Caller). c.stopped) (called.stopped is), λ _. ap unrecorded is)
+      | inr is ↦ (ap (λ (c : Caller). c.stopped) (called.memory is) ∙ was, λ _. ap unrecorded is)
     ];
   }
     where
-      not_gave : lacked ≡ false → gave_up reply ≡ false
-      not_gave none = elim (either (gave_up reply)) [
+      not_gave : lacked ≡ false → unrecorded reply ≡ false
+      not_gave none = elim (either (unrecorded reply)) [
         | inl gave ↦ let bad : false ≡ true = sym none ∙ was_told gave in cc
         | inr some ↦ some
       ]

@@ -15,7 +15,7 @@ use Rattle.laws.proofs.StrikeLemmas.{isolated}
 use Rattle.laws.proofs.TimedLemmas.{timed}
 use Rattle.events.specs.Terms.{reply_of}
 use Rattle.history.specs.declared.row.Row.{Row}
-use Rattle.history.specs.Histories.{event_in, events_of, answers_of, gave_up, IsLegal, IsToldAfter}
+use Rattle.history.specs.Histories.{event_in, events_of, answers_of, unrecorded, IsLegal, IsToldAfter}
 use Rattle.history.proofs.HistoryLemmas.{answers_push, hashed_push, events_push, rows_push, legal_none}
 use Rattle.history.proofs.LegalLemmas.{legal_with}
 
@@ -95,11 +95,11 @@ module _ (setup : Setup) where
         }
 
     -- so it is legal there
-    pub legal_behind : gave_up r.reply ≡ false → IsLegal setup (all ++ r ∷ [])
+    pub legal_behind : unrecorded r.reply ≡ false → IsLegal setup (all ++ r ∷ [])
     legal_behind some = legal_with setup all r before.legal told_with isolated timed some
 
     -- a row that both have
-    pub row_more : gave_up r.reply ≡ false → WithReads (rows ++ r ∷ []) (all ++ r ∷ [])
+    pub row_more : unrecorded r.reply ≡ false → WithReads (rows ++ r ∷ []) (all ++ r ∷ [])
     row_more some = record {
       legal = legal_behind some;
       world =
@@ -110,7 +110,7 @@ module _ (setup : Setup) where
     }
 
     -- a query is a row of all alone
-    pub query_more : is_query (event_in r).request ≡ true → gave_up r.reply ≡ false → WithReads rows (all ++ r ∷ [])
+    pub query_more : is_query (event_in r).request ≡ true → unrecorded r.reply ≡ false → WithReads rows (all ++ r ∷ [])
     query_more asks some = record {
       legal = legal_behind some;
       world =

@@ -11,7 +11,7 @@ use Rattle.model.specs.Talk as talk
 use Rattle.model.specs.Talk.{Silent, Names, Refuses, Asks, Waits, asked_in}
 use Rattle.session.specs.Serving.{Chain}
 use Rattle.history.specs.declared.row.Row.{Row}
-use Rattle.history.specs.Histories.{event_in, gave_up, IsLegal}
+use Rattle.history.specs.Histories.{event_in, unrecorded, IsLegal}
 use Rattle.replaying.specs.OnlyPass.{Only, unasked, lacks_memory, says_stopped, history_after, IsOnlyAnswer}
 use Rattle.replaying.specs.Replaying.{pair_of, AreOfOneStore, LinksOnly}
 use Rattle.replaying.proofs.ReadRowLemmas.{WithReads, no_reads, row_more, query_more}
@@ -59,7 +59,7 @@ module _ (setup : Setup) where
     legal : IsLegal setup history
 
   -- the row of an event goes into the history, or is put in beside it
-  with_row : (rows all : List Row) (event : Event) (r : Row) (b : Bool) → is_query event.request ≡ b → event_in r ≡ event → gave_up r.reply ≡ false
+  with_row : (rows all : List Row) (event : Event) (r : Row) (b : Bool) → is_query event.request ≡ b → event_in r ≡ event → unrecorded r.reply ≡ false
       → WithReads setup rows all → IsLegal setup (rows ++ r ∷ []) → WithReads setup (history_after rows event r) (all ++ r ∷ [])
   with_row rows all event r true is of_event some before legal =
       rw is (query_more setup rows all r before legal (ap (λ (e : Event). is_query e.request) of_event ∙ is) some)

@@ -15,10 +15,10 @@ use Rattle.history.specs.declared.row.Row.{Row}
 use Rattle.history.specs.Callers.{Caller, Known, answered, told_stopped, knowing, rows_of}
 use Rattle.history.proofs.Prefixes.{prefix_self, prefix_push, prefix_trans}
 use Rattle.history.proofs.RowLemmas.{rows_of-append, one_more}
-use Rattle.history.specs.Histories.{row, gave_up, IsReadAfter}
+use Rattle.history.specs.Histories.{row, unrecorded, IsReadAfter}
 use Rattle.workers.specs.Working.{Call}
 use Rattle.running.specs.Calling.{is_read, has_row, IsTold, own_rows, rows_for, IsAnsweredBy, AnsweredInOrder}
-use Rattle.running.specs.Meeting.{HasMet, gave_up_cases, is_stopped, stopped_met, stopped_called}
+use Rattle.running.specs.Meeting.{HasMet, unrecorded_cases, is_stopped, stopped_met, stopped_called}
 use Rattle.running.specs.Sessions.{Calls}
 
 -- ---- rows of one pass
@@ -78,8 +78,8 @@ module _ (setup : Setup) where
   -- a call that has no row leaves what the pass knows of its calls, but that the front may be stopped
   told_same : (old new : Known) (e : Event) (r : Reply) → IsTold setup old e r new → has_row (e, r) ≡ false
       → (new.caller ≡ old.caller) ⊎ (new.caller ≡ told_stopped old.caller)
-  told_same old new e r told none = elim (either (gave_up r)) [
-    | inl gave ↦ elim (gave_up_cases r gave) [
+  told_same old new e r told none = elim (either (unrecorded r)) [
+    | inl gave ↦ elim (unrecorded_cases r gave) [
       | inl memory ↦ inl (told.memory memory)
       | inr stopped ↦ inr (told.stopped stopped)
     ]
@@ -175,7 +175,7 @@ module _ (setup : Setup) where
       let knows_ready : IsPrefix known ready.seen = prefix_trans known old.seen ready.seen knows chain.2.seen in
       let knows_then : IsPrefix known between.seen = prefix_trans known ready.seen between.seen knows_ready told.seen in
       let within_then : IsPrefix between.seen history = prefix_trans between.seen new.seen history (chain_seen between cs new chain.4) within in
-      elim (either (gave_up c.1)) [
+      elim (either (unrecorded c.1)) [
         | inl gave ↦ rw gave (chain_order history n known between cs new behind knows_then within chain.4)
         | inr some ↦ rw some (
           between.seen,

@@ -15,7 +15,7 @@ use Rattle.schedule.specs.declared.query.Question.{Question}
 use Rattle.schedule.specs.declared.query.Question.TheVariants.{Status, Closure, Fetch}
 use Rattle.schedule.specs.Queries.{request_in, event_for}
 use Rattle.history.specs.Callers.{Caller, Known, seeing, told_stopped}
-use Rattle.history.specs.Histories.{gave_up, IsAnswered, IsReadAfter}
+use Rattle.history.specs.Histories.{unrecorded, IsAnswered, IsReadAfter}
 use Rattle.running.specs.Calling.{is_read, has_row, IsCounted, IsTold}
 
 -- neither of two
@@ -34,11 +34,11 @@ is_asked q = asked q.question
 
 -- a query was read
 pub told_read : (setup : Setup) (old new : Known) (q : Query) (reply : Reply)
-    → (gave_up reply ≡ false → IsReadAfter setup old.caller.number new.seen (event_for q) reply)
+    → (unrecorded reply ≡ false → IsReadAfter setup old.caller.number new.seen (event_for q) reply)
     → IsPrefix old.seen new.seen → new ≡ seeing old new.seen → reply ≢ Refused Stopped → IsCounted old → IsCounted new
     → IsTold setup old (event_for q) reply new
 told_read setup old new q reply read longer same going before after = record {
-  answered = λ some. absurd (false≢true (sym (neither (gave_up reply) (is_read (event_for q)) some).1 ∙ is_asked q));
+  answered = λ some. absurd (false≢true (sym (neither (unrecorded reply) (is_read (event_for q)) some).1 ∙ is_asked q));
   read = λ asks some. read some;
   only_read = λ asks. (same, going);
   memory = λ none. ap (λ (k : Known). k.caller) same;
@@ -52,12 +52,12 @@ told_read setup old new q reply read longer same going before after = record {
 
 -- any other event was handed to the front
 pub told_called : (setup : Setup) (old new : Known) (e : Event) (reply : Reply) → is_read e ≡ false
-    → (gave_up reply ≡ false → IsAnswered setup old e reply new) → (reply ≡ Refused Memory → new.caller ≡ old.caller)
+    → (unrecorded reply ≡ false → IsAnswered setup old e reply new) → (reply ≡ Refused Memory → new.caller ≡ old.caller)
     → (reply ≡ Refused Stopped → new.caller ≡ told_stopped old.caller)
     → (old.caller.stopped ≡ true → (reply ≡ Refused Stopped) ⊎ (reply ≡ Refused Memory))
     → (reply ≢ Refused Memory → new.stops ≡ old.stops) → IsPrefix old.seen new.seen → IsCounted old → IsCounted new → IsTold setup old e reply new
 told_called setup old new e reply other answered memory stopped remains no_stop longer before after = record {
-  answered = λ some. answered (neither (gave_up reply) (is_read e) some).0;
+  answered = λ some. answered (neither (unrecorded reply) (is_read e) some).0;
   read = λ asks some. absurd (false≢true (sym other ∙ asks));
   only_read = λ asks. absurd (false≢true (sym other ∙ asks));
   memory = memory;

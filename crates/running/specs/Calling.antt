@@ -13,7 +13,7 @@ use Rattle.events.specs.declared.reply.Reply.TheVariants.{Refused}
 use Rattle.history.specs.declared.row.Row.{Row}
 use Rattle.history.specs.Callers.{Known, told_stopped, seeing, with_caller, rows_of}
 use Rattle.workers.specs.Working.{Call}
-use Rattle.history.specs.Histories.{row, gave_up, IsAnswered, IsReadAfter}
+use Rattle.history.specs.Histories.{row, unrecorded, IsAnswered, IsReadAfter}
 use Rattle.book.specs.Asking.{IsAskedAfter}
 
 -- ---- one call
@@ -24,7 +24,7 @@ is_read event = is_query (request_of event.request)
 
 -- whether a call has a row: it was answered otherwise than with 90 and 92, and is not only read
 abbrev pub has_row : Call → Bool
-has_row c = not (gave_up c.1) && not (is_read c.0)
+has_row c = not (unrecorded c.1) && not (is_read c.0)
 
 -- a pass has seen what it is sure of, and its calls are counted
 pub record IsCounted (p : Known) : Type 0 where
@@ -36,7 +36,7 @@ pub record IsCounted (p : Known) : Type 0 where
 -- but 90 and 92: at 90 the pass is as it was, but that it may have stopped the front, and at 92 it knows that the front is stopped
 pub record IsTold (setup : Setup) (old : Known) (event : Event) (reply : Reply) (new : Known) : Type 0 where
   pub answered : has_row (event, reply) ≡ true → IsAnswered setup old event reply new
-  pub read : is_read event ≡ true → gave_up reply ≡ false → IsReadAfter setup old.caller.number new.seen event reply
+  pub read : is_read event ≡ true → unrecorded reply ≡ false → IsReadAfter setup old.caller.number new.seen event reply
   pub only_read : is_read event ≡ true → (new ≡ seeing old new.seen) × (reply ≢ Refused Stopped)
   pub memory : reply ≡ Refused Memory → new.caller ≡ old.caller
   pub stopped : reply ≡ Refused Stopped → new.caller ≡ told_stopped old.caller
@@ -74,7 +74,7 @@ IsAnsweredBy setup number known c rows = MatchBool (is_read c.0)
 -- calls were answered one after another by beginnings of a history, each of which begins with the one before
 abbrev pub AnsweredInOrder : Setup → List Row → ℕ → List Row → List Call → Type 0
 AnsweredInOrder setup history number known [] = Unit {0}
-AnsweredInOrder setup history number known (c ∷ cs) = MatchBool (gave_up c.1)
+AnsweredInOrder setup history number known (c ∷ cs) = MatchBool (unrecorded c.1)
     (AnsweredInOrder setup history number known cs)
     ((rows : List Row) × IsPrefix rows history × IsAnsweredBy setup number known c rows × AnsweredInOrder setup history number rows cs)
 

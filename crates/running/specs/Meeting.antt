@@ -12,7 +12,7 @@ use Rattle.events.specs.declared.event.Event.{Event}
 use Rattle.events.specs.declared.reply.Reply.{Reply}
 use Rattle.events.specs.declared.reply.Reply.TheVariants.{Refused}
 use Rattle.history.specs.Callers.{Caller, Known, knowing, told_stopped, new_pass}
-use Rattle.history.specs.Histories.{gave_up}
+use Rattle.history.specs.Histories.{unrecorded}
 use Rattle.history.proofs.Prefixes.{prefix_self, prefix_trans}
 use Rattle.running.specs.Calling.{is_read, IsTold, IsAskedBy}
 
@@ -89,14 +89,14 @@ seen_told setup p q other event reply told has = prefix_trans other.caller.sure 
 -- ---- where the front was stopped
 
 -- a reply that has no row is 90 or 92
-pub gave_up_cases : (reply : Reply) → gave_up reply ≡ true → (reply ≡ Refused Memory) ⊎ (reply ≡ Refused Stopped)
-gave_up_cases (Refused why) gave = refusal_cases why gave
+pub unrecorded_cases : (reply : Reply) → unrecorded reply ≡ true → (reply ≡ Refused Memory) ⊎ (reply ≡ Refused Stopped)
+unrecorded_cases (Refused why) gave = refusal_cases why gave
   where
     refusal_cases : (why : Refusal) → (is_memory_refusal why || is_stopped_refusal why) ≡ true → (Refused why ≡ Refused Memory) ⊎ (Refused why ≡ Refused Stopped)
     refusal_cases Memory gave = inl refl
     refusal_cases Stopped gave = inr refl
     refusal_cases why gave = absurd (cc)
-gave_up_cases reply gave = absurd (cc)
+unrecorded_cases reply gave = absurd (cc)
 
 -- whether a pass was told that the front is stopped
 abbrev pub is_stopped : Known → Bool
@@ -109,8 +109,8 @@ pub stopped_told : (setup : Setup) (p q : Known) (event : Event) → IsTold setu
 stopped_told setup p q event told = ap (λ (c : Caller). c.stopped) (told.stopped refl)
 
 pub stopped_called : (setup : Setup) (p q : Known) (event : Event) (reply : Reply) → IsTold setup p event reply q → is_stopped p ≡ true → is_stopped q ≡ true
-stopped_called setup p q event reply told is = elim (either (gave_up reply)) [
-  | inl gave ↦ elim (gave_up_cases reply gave) [
+stopped_called setup p q event reply told is = elim (either (unrecorded reply)) [
+  | inl gave ↦ elim (unrecorded_cases reply gave) [
     | inl memory ↦ ap (λ (c : Caller). c.stopped) (told.memory memory) ∙ is
     | inr stopped ↦ ap (λ (c : Caller). c.stopped) (told.stopped stopped)
   ]

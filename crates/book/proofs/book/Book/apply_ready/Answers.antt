@@ -9,7 +9,7 @@ use Rattle.schedule.specs.Standing.{world_of, setup_of, stored_in, IsUnchanged}
 use Rattle.history.specs.declared.row.Row.{Row}
 use Rattle.history.specs.declared.log.Recorded.{Recorded}
 use Rattle.history.specs.Callers.{Caller, answered, stops_of, Matches}
-use Rattle.history.specs.Histories.{row, gave_up, IsLegal}
+use Rattle.history.specs.Histories.{row, unrecorded, IsLegal}
 use Rattle.book.specs.Publishing.{Published}
 use Rattle.book.specs.Keeping.{Contents, Kept, Steps, IsModelReply, TookEvent}
 use Rattle.book.proofs.KeepingLemmas.{goes_on, stops, stays, replied, is_legal, sure_of_all}
@@ -20,8 +20,8 @@ use Rattle.book.proofs.book.Book.apply_ready.Goals as goal
 -- ---- replies
 
 -- a refusal that has no row
-has_none : (reply : Reply) (why : Refusal) → reply ≡ Refused why → gave_up (Refused why) ≡ true → gave_up reply ≡ false → ⊥
-has_none reply why is gave some = true≢false (sym gave ∙ (sym (ap gave_up is) ∙ some))
+has_none : (reply : Reply) (why : Refusal) → reply ≡ Refused why → unrecorded (Refused why) ≡ true → unrecorded reply ≡ false → ⊥
+has_none reply why is gave some = true≢false (sym gave ∙ (sym (ap unrecorded is) ∙ some))
 
 not_both : (reply : Reply) → reply ≡ Refused Memory → reply ≡ Refused Stopped → ⊥
 not_both reply memory stopped = cc
@@ -67,7 +67,7 @@ pub returns-then-stopped : goal.returns-then-stopped
 returns-then-stopped g c =
     let then = (goal.at.returns-then-stopped g c).After-audit-2 in
     let was : c.args.self.now.stopped ≡ true = sym (stopped_then g then) ∙ c.if-stopped.true in
-    let none : gave_up c.refuse.result ≡ false → ⊥ = has_none _ Stopped c.refuse.ensures refl in
+    let none : unrecorded c.refuse.result ≡ false → ⊥ = has_none _ Stopped c.refuse.ensures refl in
     record {
       row = λ some. absurd (none some);
       step = λ some. absurd (none some);
@@ -124,7 +124,7 @@ invariant_of-self-in_default g c =
 pub returns-in_default : goal.returns-in_default
 returns-in_default g c =
     let then = (goal.at.returns-in_default g c).After-audit-2 in
-    let none : gave_up c.refuse-in_default.result ≡ false → ⊥ = has_none _ Memory c.refuse-in_default.ensures refl in
+    let none : unrecorded c.refuse-in_default.result ≡ false → ⊥ = has_none _ Memory c.refuse-in_default.ensures refl in
     let goes : c.args.self.now.stopped ≡ true → ⊥ = not_stopped g then c.if-stopped.false in
     record {
       row = λ some. absurd (none some);
@@ -171,7 +171,7 @@ pub returns-in-Err : goal.returns-in-Err
 returns-in-Err g c =
     let then = (goal.at.returns-in-Err g c).After-audit-2 in
     let memory : Refused c.in-Err.why ≡ Refused Memory = ap (λ (why : Refusal). Refused why) c.in-Err.ensures.memory in
-    let none : gave_up (Refused c.in-Err.why) ≡ false → ⊥ = has_none (Refused c.in-Err.why) Memory memory refl in
+    let none : unrecorded (Refused c.in-Err.why) ≡ false → ⊥ = has_none (Refused c.in-Err.why) Memory memory refl in
     let goes : c.args.self.now.stopped ≡ true → ⊥ = not_stopped g then c.if-stopped.false in
     record {
       row = λ some. absurd (none some);
@@ -265,8 +265,8 @@ going g c = rw c.if-stopped.false at c.self.invariant.0
 last_row : (g : Over) (c : goal.After-push g) → c.in-Some.row ≡ row c.number-number.result c.args.event c.in-Some.reply
 last_row g c = rw c.in-Some.is at c.in-Ok-step.ensures.row
 
-some_row : (g : Over) (c : goal.After-push g) → gave_up c.in-Some.row.reply ≡ false
-some_row g c = subst (λ (r : Row). gave_up r.reply ≡ false) (sym (last_row g c)) (rw c.in-Some.is at c.in-Ok-step.ensures.some)
+some_row : (g : Over) (c : goal.After-push g) → unrecorded c.in-Some.row.reply ≡ false
+some_row g c = subst (λ (r : Row). unrecorded r.reply ≡ false) (sym (last_row g c)) (rw c.in-Some.is at c.in-Ok-step.ensures.some)
 
 step_of : (g : Over) (c : goal.After-push g) → Steps c.self.inside.core c.in-Some.row.event c.in-Some.row.reply c.step.new.core
 step_of g c = subst (λ (r : Row). Steps c.self.inside.core r.event r.reply c.step.new.core) (sym (last_row g c)) (rw c.in-Some.is at c.in-Ok-step.ensures.step)
@@ -310,8 +310,8 @@ pub returns : goal.returns
 returns g c =
     let then = (goal.at.returns g c).After-audit-2 in
     let old = c.self.inside in
-    let some : gave_up c.in-Some.reply ≡ false = rw c.in-Some.is at c.in-Ok-step.ensures.some in
-    let none : gave_up c.in-Some.reply ≡ true → ⊥ = not_true some in
+    let some : unrecorded c.in-Some.reply ≡ false = rw c.in-Some.is at c.in-Ok-step.ensures.some in
+    let none : unrecorded c.in-Some.reply ≡ true → ⊥ = not_true some in
     let stepped : Steps old.core c.args.event c.in-Some.reply c.step.new.core = rw c.in-Some.is at c.in-Ok-step.ensures.step in
     let goes : c.args.self.now.stopped ≡ true → ⊥ = not_stopped g then c.if-stopped.false in
     let pass : c.audit.new.self ≡ c.args.pass.now = pass_then g then c.if-stopped.false in

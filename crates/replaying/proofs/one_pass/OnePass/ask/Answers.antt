@@ -1,7 +1,7 @@
 use Rattle.std.proofs.Common.{sym, ◌∙◌}
 use Rattle.std.proofs.lemmas.Bool.{true≢false}
 use Rattle.replaying.proofs.OnlyPassLemmas.{IsCalled, only_answer}
-use Rattle.replaying.proofs.one_pass.OnePass.ask.Goals.{else-has_given_up-via-then-has_given_up+else-not-self, else-has_given_up-via-else-has_given_up}
+use Rattle.replaying.proofs.one_pass.OnePass.ask.Goals.{else-is_unrecorded-via-then-is_unrecorded+else-not-self, else-is_unrecorded-via-else-is_unrecorded}
 use Rattle.replaying.proofs.one_pass.OnePass.ask.Goals as goal
 
 pub returns : goal.returns
@@ -13,12 +13,12 @@ returns g c =
       stopped = c.call-reply.ensures.stopped;
       remains = c.call-reply.ensures.remains;
     } in
-    elim c.else-has_given_up.branch [
-      | else-has_given_up-via-then-has_given_up+else-not-self w ↦
+    elim c.else-is_unrecorded.branch [
+      | else-is_unrecorded-via-then-is_unrecorded+else-not-self w ↦
           rw (← c.self.view_is, w.self-is)
           (only_answer _ _ _ _ c.args.event c.call-reply.result called c.self.invariant.1 c.requires (λ gave. w.if-not-self.false))
-      | else-has_given_up-via-else-has_given_up w ↦
+      | else-is_unrecorded-via-else-is_unrecorded w ↦
           rw (← c.self.view_is, w.self-is)
           (only_answer _ _ _ _ c.args.event c.call-reply.result called c.self.invariant.1 c.requires
-          (λ gave. absurd (true≢false (sym gave ∙ (sym c.has_given_up.ensures ∙ w.if-has_given_up.false)))))
+          (λ gave. absurd (true≢false (sym gave ∙ (sym c.is_unrecorded.ensures ∙ w.if-is_unrecorded.false)))))
     ]
