@@ -19,10 +19,10 @@ ghost use Rattle.book.specs.Keeping.{IsNew, Steps, TookEvent, Stops, KeepsCore, 
 
 use crate::counts::Counts;
 use crate::history::History;
-use crate::pass::Pass as Seer;
+use crate::pass::Caller;
 use crate::publisher::Publisher;
 use crate::steps::step;
-use history::{HistoryPrefix, Log, FrontId, Pass, Row, StopCount};
+use history::{FrontId, HistoryPrefix, Log, Pass, Row, StopCount};
 use laws::{isolation, timed_isolation};
 use model::Refusal;
 use schedule::{Core, Event, Ready, Reply, RunningJob, User};
@@ -385,7 +385,7 @@ impl<J: FrontId> Book<J> {
     }
 
     /// The history. The passes are all that there are. It waits for readers of what was published.
-    pub(crate) fn end<R: Wait>(self, rt: &R, passes: Vec<Seer<J>>) -> History
+    pub(crate) fn end<R: Wait>(self, rt: &R, passes: Vec<Caller<J>>) -> History
         requires { length passes.items ≡ J.parts }
         ensures rows { result.rows.items ≡ self.rows }
         ensures legal { IsLegal J.setup result.rows.items }
@@ -424,7 +424,7 @@ impl<J: FrontId> Book<J> {
 fn merged<J: FrontId, R: Wait>(
     rt: &R,
     mut all: Counts<J>,
-    mut passes: Vec<Seer<J>>,
+    mut passes: Vec<Caller<J>>,
     log: &mut Log<J>,
     rows: &HistoryPrefix,
 ) -> Counts<J>

@@ -19,7 +19,7 @@ use crate::history::History;
 use crate::pass::Pass;
 use crate::publisher::Publisher;
 use history::{
-    HistoryPrefix, FrontTokens, Log, FrontId, Pass as Caller, Snapshot, SnapshotWriter, StopCount, begin,
+    Caller, FrontId, FrontTokens, HistoryPrefix, Log, Snapshot, SnapshotWriter, StopCount, begin,
     reader_of,
 };
 use model::Refusal;

@@ -18,12 +18,11 @@ use crate::book::Book;
 use crate::publisher::insist;
 use core::mem::replace_with;
 use history::{
-    HistoryPrefix, FrontId, Pass as Caller, SnapshotReader, StopCount, computed, is_unrecorded, look,
-    need,
+    Caller, FrontId, HistoryPrefix, SnapshotReader, StopCount, computed, is_unrecorded, look, need,
 };
 use laws::{isolation, kept_closures_are_good, timed_isolation};
 use model::Refusal;
-use schedule::{Cache, Event, ReadResult, PrepareInput, Query, Ready, Reply, RunningJob, User};
+use schedule::{Cache, Event, PrepareInput, Query, ReadResult, Ready, Reply, RunningJob, User};
 use std::alloc::Global;
 use std::marker::Model;
 use std::sync::Wait;
@@ -85,7 +84,10 @@ impl<J: FrontId> Model for Pass<J> {
 }
 
 /// Looks for the answer to a query after the rows that are published, with these rows.
-fn look_by(reader: SnapshotReader, query: Query) -> (SnapshotReader, Option<(ReadResult, HistoryPrefix)>)
+fn look_by(
+    reader: SnapshotReader,
+    query: Query,
+) -> (SnapshotReader, Option<(ReadResult, HistoryPrefix)>)
     requires { (view reader.place).knows ≡ true }
     ensures view { view result.0.place ≡ view reader.place }
     ensures rows { IfSome result.1 (λ t. t.1.seen.book ≡ book_in (view reader.place).name) }
@@ -101,7 +103,10 @@ fn look_by(reader: SnapshotReader, query: Query) -> (SnapshotReader, Option<(Rea
 fn need_by(
     reader: SnapshotReader,
     event: &Event,
-) -> (SnapshotReader, Option<(Result<PrepareInput, Refusal>, HistoryPrefix)>)
+) -> (
+    SnapshotReader,
+    Option<(Result<PrepareInput, Refusal>, HistoryPrefix)>,
+)
     requires { (view reader.place).knows ≡ true }
     ensures view { view result.0.place ≡ view reader.place }
     ensures rows { IfSome result.1 (λ t. t.1.seen.book ≡ book_in (view reader.place).name) }

@@ -8,7 +8,9 @@ ghost use Rattle.history.specs.Tied.{IsQuiet};
 ghost use Rattle.book.specs.Publishing.{Published};
 
 use core::mem::replace_with;
-use history::{HistoryPrefix, End, HistoryLength, FrontId, NewRow, Row, SnapshotWriter, publish, sweep};
+use history::{
+    End, FrontId, HistoryLength, HistoryPrefix, NewRow, Row, SnapshotWriter, publish, sweep,
+};
 use schedule::Ready;
 use std::marker::Model;
 use std::sync::{Arc, Wait};
@@ -105,7 +107,11 @@ fn sweep_next<R: Wait>(writer: SnapshotWriter, rt: &R) -> (SnapshotWriter, bool)
 
 impl<J: FrontId> Publisher<J> {
     /// A publisher of a writer of no rows.
-    pub(crate) fn new(head: HistoryLength<J>, rows: HistoryPrefix, writer: SnapshotWriter) -> Publisher<J>
+    pub(crate) fn new(
+        head: HistoryLength<J>,
+        rows: HistoryPrefix,
+        writer: SnapshotWriter,
+    ) -> Publisher<J>
         requires rows { (rows.seen.log ≡ []) × (rows.seen.book ≡ J.book) }
         requires writer { (writer.desk.shown.value.rows ≡ [])
             × (writer.desk.shown.value.name ≡ name_of J.book J.setup)

@@ -17,14 +17,17 @@ use crate::history_prefix::HistoryPrefix;
 use crate::law::{Looks, SnapshotReader, SnapshotWriter, Tells};
 use crate::snapshot::{NewRow, Operation};
 use model::Refusal;
-use schedule::{Event, ReadResult, PrepareInput, Query};
+use schedule::{Event, PrepareInput, Query, ReadResult};
 use std::alloc::AllocError;
 use std::sync::Wait;
 
 /// Looks for what is only read after the rows that are published, with these rows, which are a legal
 /// history. It waits for nobody, and what it finds is served once the snapshot is left. Nothing is found
 /// where the writer is gone.
-pub fn look(reader: SnapshotReader, query: Query) -> (SnapshotReader, Option<(ReadResult, HistoryPrefix)>)
+pub fn look(
+    reader: SnapshotReader,
+    query: Query,
+) -> (SnapshotReader, Option<(ReadResult, HistoryPrefix)>)
     requires { (view reader.place).knows ≡ true }
     ensures view { view result.0.place ≡ view reader.place }
     ensures rows { IfSome result.1 (λ t. t.1.seen.book ≡ book_in (view reader.place).name) }
@@ -49,7 +52,10 @@ pub fn look(reader: SnapshotReader, query: Query) -> (SnapshotReader, Option<(Re
 pub fn need(
     reader: SnapshotReader,
     event: &Event,
-) -> (SnapshotReader, Option<(Result<PrepareInput, Refusal>, HistoryPrefix)>)
+) -> (
+    SnapshotReader,
+    Option<(Result<PrepareInput, Refusal>, HistoryPrefix)>,
+)
     requires { (view reader.place).knows ≡ true }
     ensures view { view result.0.place ≡ view reader.place }
     ensures rows { IfSome result.1 (λ t. t.1.seen.book ≡ book_in (view reader.place).name) }

@@ -1,7 +1,7 @@
 //! The history of a front: its callers, what they know of it, and what is published of it and read
 //! without the front's lock.
 //!
-//! A [`Pass`] is one caller. What it knows of the history, and what is recorded there, are tokens,
+//! A [`Caller`] is one caller. What it knows of the history, and what is recorded there, are tokens,
 //! which have no bytes: the [`Log`] lies under the lock, and each pass has a claim.
 //!
 //! A [`Snapshot`] is a core that has taken the events of all rows up to a moment, with these rows. Its
@@ -9,20 +9,20 @@
 //! published and waits for nobody.
 #![tactic(auto)]
 
-mod history_prefix;
+mod caller;
 mod ends;
+mod front_id;
+mod history_prefix;
 mod law;
 mod log;
-mod front_id;
-mod pass;
 mod row;
 mod snapshot;
 
-pub use history_prefix::{HistoryPrefix, EmptyHistory, HistoryLength, Lengths};
+pub use caller::Caller;
 pub use ends::{begin, computed, look, need, publish, reader_of, sweep};
-pub use law::{End, Law, Looks, Name, Shown, SnapshotReader, SnapshotWriter, Tells, View};
-pub use log::{FrontTokens, Claim, Log, LogTable};
 pub use front_id::{FrontId, StopCount};
-pub use pass::Pass;
+pub use history_prefix::{EmptyHistory, HistoryLength, HistoryPrefix, Lengths};
+pub use law::{End, Law, Looks, Name, Shown, SnapshotReader, SnapshotWriter, Tells, View};
+pub use log::{Claim, FrontTokens, Log, LogTable};
 pub use row::{Row, is_unrecorded};
 pub use snapshot::{NewRow, Operation, Snapshot};

@@ -7,8 +7,8 @@
 ghost use Rattle.std.specs.Prelude.{◌≡◌, ◌++◌, ◌∷◌, [], IfOk};
 ghost use Rattle.history.specs.Tokens.{nothing_recorded, keeper, with_rows, with_pass, stopped_book, first_claim, claim_of, told, Agrees};
 
-use crate::history_prefix::EmptyHistory;
 use crate::front_id::FrontId;
+use crate::history_prefix::EmptyHistory;
 use crate::row::Row;
 use atomic_table::{Join, Play, Seat, Split, Table, TableRule};
 use std::alloc::{AllocError, Global};

@@ -19,7 +19,7 @@ use crate::law::Shown;
 use crate::row::{Row, is_unrecorded};
 use left_right::Absorb;
 use model::Refusal;
-use schedule::{Core, Event, ReadResult, PrepareInput, Query, Ready};
+use schedule::{Core, Event, PrepareInput, Query, ReadResult, Ready};
 use std::alloc::{AllocError, Global};
 use std::marker::Model;
 use std::sync::Arc;

@@ -223,7 +223,11 @@ fn request_of(alloc: Global, command: &Command<'_>) -> Result<Request, Refusal>
 }
 
 /// The event of a user's command.
-pub(crate) fn read_event(alloc: Global, user: &[u8], command: &Command<'_>) -> Result<Event, Refusal>
+pub(crate) fn read_event(
+    alloc: Global,
+    user: &[u8],
+    command: &Command<'_>,
+) -> Result<Event, Refusal>
     ensures { MatchResult result (IsEventOfCommand user.now command.now) (IsNoEvent user.now command.now) }
 {
     let actor = read_user(alloc, user)?;

@@ -4,8 +4,8 @@ ghost use Rattle.std.specs.Prelude.{◌≡◌, ◌∷◌, ◌++◌, [], IfOk, On
 ghost use Rattle.model.specs.Lines.{named_line, is_letter, expansion_in, nothing_told, told_by, part_by, expanded, piece_text, joined, filled};
 
 use crate::cutting::cut;
-use crate::numbers::numeral_up_to;
 use crate::line_result::LineResult;
+use crate::numbers::numeral_up_to;
 use std::alloc::{AllocError, Global};
 use std::marker::Model;
 use storepath::StorePath;
@@ -124,7 +124,11 @@ fn add_piece(
 }
 
 /// A line with its expansions made, or nothing where one names what its reply has not.
-pub(crate) fn fill(alloc: Global, told: &[LineResult], line: &[u8]) -> Result<Option<Vec<u8>>, AllocError>
+pub(crate) fn fill(
+    alloc: Global,
+    told: &[LineResult],
+    line: &[u8],
+) -> Result<Option<Vec<u8>>, AllocError>
     ensures { IfOk result (λ text. option_map (λ t. t.items) text ≡ filled told.now line.now) }
 {
     let Some((first, pieces)) = cut(b'{', line) else {

@@ -7,11 +7,11 @@ ghost use Rattle.model.specs.Lines.{split, cut_at};
 ghost use Rattle.model.specs.Forms.{is_quiet, is_printable, names_form, users_form, first_form, word_form, later_form, text_form, line_form};
 ghost use Rattle.lines.specs.Reading.{Becomes, BecomesOfCommand};
 
+use crate::commands::{command_in, read_event};
 use crate::cutting::{Word, cut, first_words, has_empty_word};
 use crate::expand::fill;
 use crate::line::Reading;
 use crate::line_result::LineResult;
-use crate::commands::{read_event, command_in};
 use crate::words::read_users;
 use events::Event;
 use model::{Mode, Refusal};

@@ -4,20 +4,20 @@
 //! of the crate `model`.
 #![tactic(auto)]
 
+mod commands;
 mod cutting;
 mod entries;
 mod expand;
 mod forms;
 mod line;
+mod line_result;
 mod numbers;
 mod pieces;
 mod texts;
-mod line_result;
-mod commands;
 mod words;
 
 pub use cutting::cut;
 pub use forms::{LONGEST_LINE, read_line};
 pub use line::Reading;
-pub use texts::answer_text;
 pub use line_result::{LineResult, told_in};
+pub use texts::answer_text;

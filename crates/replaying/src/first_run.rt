@@ -14,7 +14,7 @@ use crate::numbers::{FirstRun, Line, Named, Notes, Numbers};
 use crate::one_pass::OnePass;
 use crate::recorder::Recorder;
 use crate::settings::Settings;
-use book::{FrontTokens, Front, FrontId};
+use book::{Front, FrontId, FrontTokens};
 use model::Refusal;
 use schedule::{Core, Event, User};
 use session::{Session, next_line};

@@ -13,7 +13,7 @@ ghost use Rattle.replaying.specs.Replaying.{Replayed, ReplayedInPart};
 
 use crate::one_pass::OnePass;
 use crate::settings::Settings;
-use book::{FrontTokens, Front, FrontId};
+use book::{Front, FrontId, FrontTokens};
 use model::Refusal;
 use schedule::{Core, User};
 use session::{Begun, Faults, Head, Mode, flush_after, serve_head, serve_on};

@@ -6,10 +6,10 @@
 //! | [`run`] | runs the lines of files, each in a thread of its own, with workers that build |
 #![tactic(auto)]
 
-mod pools;
-mod meeting;
 mod input_head;
+mod meeting;
 mod pass_lists;
+mod pools;
 mod rounds;
 mod runs;
 mod sessions;

@@ -15,7 +15,7 @@ ghost use Rattle.running.specs.Runs.{AreServed, IsClosed, AreResults, are_accoun
 use crate::pass_lists::{Back, SharedDesk, SharedLeft, desks_for, end_sessions, numbers_of};
 use crate::rounds::Rounds;
 use crate::sessions::{Output, Part, all_at_once};
-use book::{FrontTokens, Front, History, FrontId, Pass, Row};
+use book::{Front, FrontId, FrontTokens, History, Pass, Row};
 use model::Refusal;
 use schedule::{Core, Limits, User};
 use session::Faults;

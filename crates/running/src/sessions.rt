@@ -6,8 +6,8 @@ ghost use Rattle.model.specs.declared.refusal.Refusal.TheVariants.{Memory};
 ghost use Rattle.running.specs.Sessions.{Outputs, kept_fault};
 ghost use Rattle.running.specs.Desks.{OutputOf, AllOutputs};
 
-use crate::pools::{WorkerPool, start_building};
 use crate::meeting::Meet;
+use crate::pools::{WorkerPool, start_building};
 use crate::rounds::Rounds;
 use crate::teams::Team;
 use crate::waiting::BuildingSession;
@@ -90,7 +90,14 @@ fn serve_lines<S: Meet + Drop, Q: Runner + Drop, I: Read + Faults + Drop, R: Wai
 {
     let mut reader = reader;
     let mut writer = Counted::new(Vec::new(alloc));
-    let ended = serve_behind(alloc, Mode::Run, &bytes, &mut reader, &mut writer, building_session);
+    let ended = serve_behind(
+        alloc,
+        Mode::Run,
+        &bytes,
+        &mut reader,
+        &mut writer,
+        building_session,
+    );
     Output {
         text: writer.into_inner(),
         ended: kept_end(ended),

@@ -7,8 +7,8 @@ ghost use Rattle.workers.specs.Working.{Call};
 ghost use Rattle.events.specs.declared.reply.Reply.TheVariants.{Refused};
 ghost use Rattle.running.specs.Sessions.{AsksStatus, Calls, GivesUp, HasTold};
 
-use crate::pools::WorkerPool;
 use crate::meeting::Meet;
+use crate::pools::WorkerPool;
 use events::{Event, Reply, Request, State};
 use model::Refusal;
 use session::{Answer, Job};

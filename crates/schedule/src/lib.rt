@@ -4,10 +4,10 @@
 //! both promise is said in the terms of the crate `model`: the store is as good as private desks.
 #![tactic(auto)]
 
-mod read_result;
 mod holding;
 mod preparing;
 mod query;
+mod read_result;
 mod reads;
 mod requests;
 mod running;
@@ -20,11 +20,11 @@ mod undoing;
 mod work;
 
 pub use events::{CopiedReply, Event, Output, Reply, Request};
-pub use read_result::ReadResult;
 pub use jobs::RunningJob;
 pub use moving::Cache;
 pub use preparing::PrepareInput;
 pub use query::{Query, Question};
+pub use read_result::ReadResult;
 pub use realise::{LARGEST_CHARGE, Limits};
 pub use runs::run;
 pub use state::Core;

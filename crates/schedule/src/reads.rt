@@ -16,8 +16,8 @@ ghost use Rattle.schedule.specs.Queries.{request_in, event_for};
 ghost use Rattle.schedule.specs.ReadResults.{MayGive, IsServedFrom};
 ghost use Rattle.schedule.specs.Stepping.{IsCoreStep};
 
-use crate::read_result::ReadResult;
 use crate::query::{Query, Question};
+use crate::read_result::ReadResult;
 use crate::state::Core;
 use choose::Plan;
 use events::{CopiedReply, Reply};

@@ -10,7 +10,7 @@ ghost use Rattle.session.specs.Serving.{Link, Gives, GivesRow, StopsAt};
 use crate::answer::Answer;
 use crate::asking::{ask, wait};
 use events::{Event, Job, Reply};
-use lines::{Reading, LineResult, answer_text, read_line};
+use lines::{LineResult, Reading, answer_text, read_line};
 use model::{Mode, Refusal};
 use std::alloc::{AllocError, Global};
 use std::marker::Model;

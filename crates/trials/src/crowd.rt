@@ -12,7 +12,7 @@ use crate::reads::{Scripts, answered_at_once};
 use crate::stores::store_of;
 use crate::traces::{Entry, unmatched, wrong_rows};
 use crate::turns::closed;
-use book::{FrontTokens, Front, History, FrontId};
+use book::{Front, FrontId, FrontTokens, History};
 use model::Refusal;
 use schedule::{Core, User};
 use std::alloc::Global;

@@ -6,7 +6,7 @@ ghost use Rattle.book.specs.Keeping.{IsNew};
 use crate::answer::Answer;
 use crate::stores::{adding, fetching, new_core};
 use crate::turns::{Member, Task, all_at_once, closed};
-use book::{FrontTokens, Front, FrontId, Pass, Row};
+use book::{Front, FrontId, FrontTokens, Pass, Row};
 use model::Refusal;
 use schedule::{Core, Event, Reply};
 use session::Job;

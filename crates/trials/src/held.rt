@@ -11,7 +11,7 @@ use crate::reads::{Scripts, answered_at_once};
 use crate::stores::{adding, fetching, new_core, tell};
 use crate::traces::{Entry, text_of};
 use crate::turns::{Member, Task, all_at_once, closed, is_set_in_time};
-use book::{FrontTokens, Front, History, FrontId, Pass, Row};
+use book::{Front, FrontId, FrontTokens, History, Pass, Row};
 use model::Refusal;
 use schedule::{Core, Query, Ready};
 use session::{Mode, Session, answer_text};

@@ -9,7 +9,7 @@ use crate::answer::Answer;
 use crate::calls::with_newlines;
 use crate::faults::users_in;
 use crate::stores::store_of;
-use book::{FrontTokens, Front, FrontId, Pass};
+use book::{Front, FrontId, FrontTokens, Pass};
 use model::Refusal;
 use schedule::{Core, Event, Ready, Reply};
 use session::{Job, Mode, Session};

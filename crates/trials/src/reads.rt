@@ -10,7 +10,7 @@ use crate::faults::users_in;
 use crate::stores::store_of;
 use crate::traces::Entry;
 use crate::turns::{Member, Task, all_at_once, closed};
-use book::{FrontTokens, Front, FrontId, Pass, Row};
+use book::{Front, FrontId, FrontTokens, Pass, Row};
 use model::Refusal;
 use schedule::{Core, Event, Query, Reply};
 use session::{Job, Mode, Session};

@@ -8,7 +8,7 @@ use crate::calls::with_newlines;
 use crate::faults::users_in;
 use crate::fronts::Called;
 use crate::stores::store_of;
-use book::{FrontTokens, Front, FrontId};
+use book::{Front, FrontId, FrontTokens};
 use model::Refusal;
 use schedule::Core;
 use session::{Mode, Session};

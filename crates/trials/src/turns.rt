@@ -2,7 +2,7 @@
 
 ghost use Rattle.std.specs.Prelude.{◌≡◌};
 
-use book::{Front, History, FrontId, Pass};
+use book::{Front, FrontId, History, Pass};
 use model::Refusal;
 use std::alloc::Global;
 use std::marker::Model;
@@ -135,7 +135,11 @@ fn parted<J: FrontId, R, T: Drop>(
 }
 
 /// Lets a thread for each pass do its task, and gives the passes and the tasks back.
-pub(crate) fn all_at_once<J: FrontId + Send + Sync, R: Threads + Wait + Sync, T: Task + Send + Drop>(
+pub(crate) fn all_at_once<
+    J: FrontId + Send + Sync,
+    R: Threads + Wait + Sync,
+    T: Task + Send + Drop,
+>(
     rt: &R,
     alloc: Global,
     front: &Front<J>,

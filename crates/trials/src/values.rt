@@ -5,7 +5,7 @@ ghost use Rattle.book.specs.Keeping.{IsNew};
 
 use crate::answer::Answer;
 use crate::prepared::{core_for, tell_lines};
-use book::{FrontTokens, Front, FrontId, Pass};
+use book::{Front, FrontId, FrontTokens, Pass};
 use model::Refusal;
 use schedule::{Core, Event, Query, Ready, Reply};
 use session::Job;

@@ -31,7 +31,12 @@ fn put_next<R: Wait>(
 }
 
 /// Puts tickets, up to the first that the queue hands back. Whether it took all.
-fn put_tickets<R: Wait>(rt: &R, sender: &Sender, producer: &mut Producer, tickets: Vec<Ticket>) -> bool
+fn put_tickets<R: Wait>(
+    rt: &R,
+    sender: &Sender,
+    producer: &mut Producer,
+    tickets: Vec<Ticket>,
+) -> bool
     requires seat { IsSeatAt (sends_on sender.now) producer.old }
     requires producer { IsProducer (view producer.old) }
     ensures seat { IsSeatAt (sends_on sender.now) producer.new }

@@ -86,7 +86,11 @@ pub(crate) fn serve<
     );
     let tally = serve(rt, alloc, scope, shared, producer, left, orders, done);
     let (back, tally) = finish(rt, started, tally);
-    let Back { worker, consumer, .. } = back;
+    let Back {
+        worker,
+        consumer,
+        ..
+    } = back;
     take_back(shared.sender, producer, consumer);
     done.push_reserved(worker);
     tally

@@ -6,7 +6,7 @@ ghost use Rattle.crossbeam_channel.specs.Ends.{receives_on};
 ghost use Rattle.workers.specs.Queue.{consumer as taking};
 ghost use Rattle.workers.specs.Rounds.{Returned, is_memory, is_stopped};
 
-use crate::queue::{Receiver, Consumer};
+use crate::queue::{Consumer, Receiver};
 use crate::runner::Runner;
 use crate::store::Store;
 use crate::tally::Tally;

@@ -8,7 +8,7 @@ ghost use Rattle.workers.specs.Tickets.{has_stop, StopsLast};
 ghost use Rattle.workers.specs.declared.ticket.Ticket.TheVariants.{Goal};
 ghost use Rattle.workers.specs.Working.{Call, Deals, Works};
 
-use crate::queue::{Receiver, Consumer, take};
+use crate::queue::{Consumer, Receiver, take};
 use crate::runner::Runner;
 use crate::store::Store;
 use crate::tasks::work_on;

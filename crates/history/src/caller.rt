@@ -4,8 +4,8 @@ ghost use Rattle.std.specs.Prelude.{◌≡◌, ◌+◌, ◌++◌, ◌∷◌, [],
 ghost use Rattle.history.specs.Callers.{newcomer, answered, told_stopped, knowing, rows_of, Matches};
 ghost use Rattle.history.specs.Tokens.{with_rows};
 
-use crate::log::{Claim, Log};
 use crate::front_id::FrontId;
+use crate::log::{Claim, Log};
 use crate::row::Row;
 use std::marker::Model;
 use std::sync::ledger;
@@ -13,15 +13,15 @@ use std::sync::ledger::Share;
 
 /// One caller of a front. It has a number of its own, its part of the count of all calls, and a
 /// claim of what it knows of the history.
-pub struct Pass<J: FrontId> {
+pub struct Caller<J: FrontId> {
     number: u64,
     calls: Share<J>,
     claim: Claim<J>,
 }
 
-impl<J: FrontId> Drop for Pass<J> {
+impl<J: FrontId> Drop for Caller<J> {
     fn drop(self) {
-        let Pass {
+        let Caller {
             number: _,
             calls: _,
             claim: _,
@@ -31,11 +31,11 @@ impl<J: FrontId> Drop for Pass<J> {
 
 /// Contracts see a pass as its number, how many of its calls have a row, its sure rows, which are
 /// the history right after the last of these, and whether it was told that the front is stopped.
-impl<J: FrontId> Model for Pass<J> {
+impl<J: FrontId> Model for Caller<J> {
     ghost use Rattle.std.specs.Prelude.{◌≡◌, length};
-    ghost use Rattle.history.specs.Callers.{Caller, rows_of};
+    ghost use Rattle.history.specs.Callers.{Caller as CallerValue, rows_of};
 
-    ghost Value = { Caller };
+    ghost Value = { CallerValue };
 
     ghost use Rattle.std.specs.Coded.{codes};
     ghost use Rattle.model.specs.TreeCode.{tree_code};
@@ -54,14 +54,14 @@ impl<J: FrontId> Model for Pass<J> {
         × (J.parts ≡ 1 → length p.claim.rows ≡ p.calls.amount) };
 }
 
-impl<J: FrontId> Pass<J> {
+impl<J: FrontId> Caller<J> {
     /// A pass that has made no call.
-    pub fn new(number: u64, calls: Share<J>, claim: Claim<J>) -> Pass<J>
+    pub fn new(number: u64, calls: Share<J>, claim: Claim<J>) -> Caller<J>
         requires calls { (calls.parts ≡ 1) × (calls.amount ≡ 0) }
         requires claim { (claim.number ≡ number) × (claim.rows ≡ []) × (claim.stopped ≡ false) }
         ensures { result ≡ newcomer number }
     {
-        Pass {
+        Caller {
             number,
             calls,
             claim,
@@ -121,7 +121,7 @@ impl<J: FrontId> Pass<J> {
     pub fn into_calls(self) -> Share<J>
         ensures { (result.parts ≡ 1) × (result.amount ≡ self.calls) }
     {
-        let Pass {
+        let Caller {
             number: _,
             calls,
             claim: _claim,

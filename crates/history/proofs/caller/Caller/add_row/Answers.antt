@@ -3,7 +3,7 @@ use Rattle.std.proofs.lemmas.List.{length_push}
 use Rattle.history.specs.declared.log.Claimed.{Claimed}
 use Rattle.history.specs.Callers.{Caller, rows_of}
 use Rattle.history.proofs.RowLemmas.{one_more}
-use Rattle.history.proofs.pass.Pass.add_row.Goals as goal
+use Rattle.history.proofs.caller.Caller.add_row.Goals as goal
 
 pub invariant_of-self : goal.invariant_of-self
 invariant_of-self g c =
