@@ -19,10 +19,10 @@ ghost use Rattle.book.specs.Keeping.{IsNew, Steps, TookEvent, Stops, KeepsCore, 
 
 use crate::counts::Counts;
 use crate::history::History;
-use crate::pass::Caller;
+use crate::pass::Pass;
 use crate::publisher::Publisher;
 use crate::steps::step;
-use history::{FrontId, HistoryPrefix, Log, Pass, Row, StopCount};
+use history::{Caller, FrontId, HistoryPrefix, Log, Row, StopCount};
 use laws::{isolation, timed_isolation};
 use model::Refusal;
 use schedule::{Core, Event, Ready, Reply, RunningJob, User};
@@ -151,7 +151,7 @@ impl<J: FrontId> Book<J> {
         &mut self,
         rt: &R,
         alloc: Global,
-        pass: &mut Pass<J>,
+        pass: &mut Caller<J>,
         part: &mut Share<StopCount<J>>,
         event: Event,
     ) -> Reply
@@ -189,7 +189,7 @@ impl<J: FrontId> Book<J> {
         &mut self,
         rt: &R,
         alloc: Global,
-        pass: &mut Pass<J>,
+        pass: &mut Caller<J>,
         part: &mut Share<StopCount<J>>,
         event: Event,
         ready: Ready,
@@ -266,7 +266,7 @@ impl<J: FrontId> Book<J> {
     /// - Else those of [`Core::request`].
     pub fn request(
         &mut self,
-        pass: &mut Pass<J>,
+        pass: &mut Caller<J>,
         part: &mut Share<StopCount<J>>,
         user: &User,
         number: u16,
@@ -376,7 +376,7 @@ impl<J: FrontId> Book<J> {
     }
 
     /// Compares what a pass knows, and tells it whether the book is stopped.
-    pub(crate) fn compare(&mut self, pass: &mut Pass<J>)
+    pub(crate) fn compare(&mut self, pass: &mut Caller<J>)
         ensures matches { Matches self.old.rows self.old.stopped pass.old }
         ensures knows { pass.new ≡ knowing self.old.stopped pass.old }
         ensures same { self.new ≡ self.old }
@@ -385,7 +385,7 @@ impl<J: FrontId> Book<J> {
     }
 
     /// The history. The passes are all that there are. It waits for readers of what was published.
-    pub(crate) fn end<R: Wait>(self, rt: &R, passes: Vec<Caller<J>>) -> History
+    pub(crate) fn end<R: Wait>(self, rt: &R, passes: Vec<Pass<J>>) -> History
         requires { length passes.items ≡ J.parts }
         ensures rows { result.rows.items ≡ self.rows }
         ensures legal { IsLegal J.setup result.rows.items }
@@ -424,7 +424,7 @@ impl<J: FrontId> Book<J> {
 fn merged<J: FrontId, R: Wait>(
     rt: &R,
     mut all: Counts<J>,
-    mut passes: Vec<Caller<J>>,
+    mut passes: Vec<Pass<J>>,
     log: &mut Log<J>,
     rows: &HistoryPrefix,
 ) -> Counts<J>
