@@ -2,22 +2,18 @@
 
 ghost use Rattle.std.specs.Prelude.{◌≡◌, ◌⊎◌, ◌++◌, ◌∷◌, [], List, None, IfOk, MatchResult, Ok, Err, bytes_eq};
 ghost use Rattle.std.specs.Map.{lookup};
-ghost use Rattle.model.specs.Worlds.{Desk as DeskValue};
-ghost use Rattle.model.specs.Choices.{Plan as PlanValue, plan};
 ghost use Rattle.model.specs.Repairs.{serve_all};
-ghost use Rattle.model.specs.Closures.{served_plan, closure};
+ghost use Rattle.model.specs.Closures.{served_plan};
 ghost use Rattle.model.specs.declared.refusal.Refusal.TheVariants.{Memory};
 ghost use Rattle.choose.specs.Gathering.{IsInOrder};
-ghost use Rattle.choose.specs.Visible.{visible_on};
 ghost use Rattle.repair.specs.Serving.{AreServed};
 ghost use Rattle.records.specs.Sound.{IsSoundPlan};
 
 use crate::entries::entries_with;
-use choose::{Plan, View, plan};
+use choose::Plan;
 use indexmap::IndexMap;
 use model::Refusal;
 use moving::{Cache, serve};
-use realise::Pins;
 use records::{Entry, Realisation};
 use std::alloc::Global;
 use storepath::StorePath;
@@ -95,31 +91,4 @@ pub fn served_closure(alloc: Global, plan: &Plan) -> Result<Vec<Entry>, Refusal>
     ensures sound { IfOk result (λ _. IsSoundPlan plan.now) }
 {
     served_closure_with(alloc, plan, &mut Cache::none(alloc))
-}
-
-/// The closure of classes and sources for one who has this view and these pins: [`plan`], and then
-/// [`served_closure`].
-///
-/// # Errors
-///
-/// Those of [`plan`], and else those of [`served_closure`].
-pub fn closure(
-    alloc: Global,
-    view: &View,
-    pins: &Pins,
-    classes: &[StorePath],
-    sources: &[StorePath],
-    cache: &mut Cache,
-) -> Result<Vec<Entry>, Refusal>
-    ensures served { (desks : List DeskValue) → visible_on desks ≡ view.now
-        → let answer = closure desks pins.now classes.now sources.now in
-        MatchResult result
-        (λ entries. answer ≡ Ok entries.items)
-        (λ e. (e ≡ Memory) ⊎ (answer ≡ Err e)) }
-    ensures sound { (desks : List DeskValue) (p : PlanValue) → visible_on desks ≡ view.now
-        → plan desks pins.now classes.now sources.now ≡ Ok p
-        → IfOk result (λ _. IsSoundPlan p) }
-{
-    let planned = plan(alloc, view, pins, classes, sources)?;
-    served_closure_with(alloc, &planned, cache)
 }

@@ -1,14 +1,11 @@
 //! One session, served again and again: each of its reads fails in turn, and each of its writes.
 
-use crate::answer::Answer;
-use crate::calls::{number, with_newlines};
-use crate::devices::{Calls, Sink, Source};
-use crate::stores::store_of;
 use model::Refusal;
 use schedule::{Core, Event, Reply, Request, User};
 use session::{Ahead, Job, Mode, answer_text, read_ahead, serve};
 use std::alloc::{AllocError, Global};
 use std::hash::RandomState;
+use trial_lines::{Answer, Calls, Sink, Source, number, store_of, with_newlines};
 
 /// A store that answers each event by a step, and keeps a copy of it.
 #[derive(Drop)]
@@ -53,16 +50,6 @@ struct Trial {
     users: Vec<User>,
     input: Vec<u8>,
     step: usize,
-}
-
-/// The users whom an input names.
-pub(crate) fn users_in(alloc: Global, input: &[u8]) -> Result<Vec<User>, Refusal> {
-    let mut rest = input;
-    let Ahead { users, .. } = read_ahead(alloc, Mode::Service, &mut rest)?;
-    match users {
-        Some(users) => Ok(users),
-        None => Err(Refusal::BadUsers),
-    }
 }
 
 /// The trial of `STEP INPUT`.

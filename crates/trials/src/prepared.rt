@@ -1,23 +1,11 @@
-//! Sessions whose events are prepared: for their own step, or for that of another event.
+//! Sessions whose events are prepared, each for its own step.
 
-ghost use Rattle.std.specs.Prelude.{◌≡◌, [], IfOk};
-ghost use Rattle.model.specs.Worlds.{nothing};
-ghost use Rattle.schedule.specs.Standing.{world_of, stored_in};
-ghost use Rattle.book.specs.Keeping.{IsNew};
-
-use crate::answer::Answer;
-use crate::calls::with_newlines;
-use crate::faults::users_in;
-use crate::stores::store_of;
-use book::{Front, FrontId, FrontTokens, Pass};
 use model::Refusal;
 use schedule::{Core, Event, Ready, Reply};
-use session::{Job, Mode, Session};
+use session::Job;
 use std::alloc::Global;
 use std::hash::RandomState;
-use std::marker::Brand;
-use std::mem;
-use std::sync::Wait;
+use trial_lines::{Answer, core_for, tell_lines};
 
 /// A store that prepares each event for its step.
 #[derive(Drop)]
@@ -41,60 +29,6 @@ impl session::Answer for Prepared {
     fn wait(&mut self, _alloc: Global, _goals: &[Job]) -> Reply {
         Reply::Done
     }
-}
-
-/// A front and its one pass, with a core that takes the same events, and what was prepared for the event
-/// before.
-#[derive(Drop)]
-struct Exchanged<'a, J: FrontId, R> {
-    rt: &'a R,
-    front: Front<J>,
-    pass: Pass<J>,
-    core: Core,
-    ready: Ready,
-}
-
-impl<J: FrontId, R: Wait> Exchanged<'_, J, R> {
-    /// Commits an event with what was prepared for the one before.
-    fn commit(&mut self, alloc: Global, event: Event) -> Result<Reply, Refusal> {
-        let own = self.core.prepare(alloc, &event)?;
-        let other = mem::replace(&mut self.ready, own);
-        let _same = self.core.step(alloc, event.clone()?);
-        let pass = &mut self.pass;
-        Ok(self.front.commit(self.rt, alloc, pass, event, other))
-    }
-}
-
-/// No line of the service waits.
-impl<J: FrontId, R: Wait> session::Answer for Exchanged<'_, J, R> {
-    ghost answers = { λ old event reply new. Unit {0} };
-
-    ghost waited = { λ old goals reply new. Unit {0} };
-
-    fn call(&mut self, alloc: Global, event: Event) -> Reply {
-        match self.commit(alloc, event) {
-            Ok(reply) => reply,
-            Err(why) => Reply::Refused(why),
-        }
-    }
-
-    fn wait(&mut self, _alloc: Global, _goals: &[Job]) -> Reply {
-        Reply::Done
-    }
-}
-
-/// Adds what each line of an input gets.
-pub(crate) fn tell_lines<A: session::Answer>(
-    alloc: Global,
-    store: &mut A,
-    lines: &str,
-    out: &mut Answer,
-) -> Result<(), Refusal> {
-    let mut session = Session::new(alloc, Mode::Service);
-    for line in lines.split(';') {
-        out.add_bytes(&session.line(alloc, line.as_bytes(), store)?);
-    }
-    Ok(())
 }
 
 /// A core, and another one that takes each event after it, with a copy of the values that the first one made.
@@ -131,14 +65,6 @@ impl session::Answer for Followers {
     fn wait(&mut self, _alloc: Global, _goals: &[Job]) -> Reply {
         Reply::Done
     }
-}
-
-/// A core for the users whom an input names.
-pub(crate) fn core_for(alloc: Global, hashing: RandomState, input: &str) -> Result<Core, Refusal>
-    ensures { IfOk result (λ core. (world_of core ≡ nothing) × (stored_in core ≡ [])) }
-{
-    let users = users_in(alloc, &with_newlines(alloc, input)?)?;
-    store_of(alloc, hashing, users)
 }
 
 /// `INPUT`: answers the lines of the input, to the users whom it names, and prepares each event for its
@@ -192,49 +118,4 @@ pub(crate) fn followed(
     out.add(&store.behind.computed());
     out.add_text(" made in steps");
     Ok(())
-}
-
-/// Answers the lines by a new front.
-fn answer_by_front<J: FrontId, R: Wait>(
-    rt: &R,
-    alloc: Global,
-    blank: FrontTokens,
-    core: Core,
-    beside: Core,
-    lines: &String,
-    out: &mut Answer,
-) -> Result<(), Refusal>
-    requires blank { (blank.calls.name ≡ J.name) × (blank.calls.parts ≡ J.parts) }
-    requires stops { blank.stops.name ≡ J.stops }
-    requires parts { blank.calls.parts ≡ 1 }
-    requires log { blank.log.table.shared.table_id ≡ J.table }
-    requires rows { blank.rows.seen.book ≡ J.book }
-    requires core { IsNew J.setup core }
-{
-    let (front, mut passes) = Front::<J>::new(rt, alloc, blank, core, 1)?;
-    let pass = passes.pop().unwrap();
-    let mut store = Exchanged {
-        rt,
-        front,
-        pass,
-        core: beside,
-        ready: Ready::none(alloc),
-    };
-    tell_lines(alloc, &mut store, lines.as_str(), out)
-}
-
-/// `INPUT`: answers the lines of the input, to the users whom it names, and commits each event with what
-/// was prepared for the one before. Prints what each line gets.
-pub(crate) fn exchange_each<R: Wait>(
-    rt: &R,
-    alloc: Global,
-    hashing: RandomState,
-    input: &str,
-    out: &mut Answer,
-) -> Result<(), Refusal> {
-    let core = core_for(alloc, hashing, input)?;
-    let beside = core_for(alloc, hashing, input)?;
-    let blank = FrontTokens::new(alloc, 1)?;
-    let lines = String::from_str(alloc, input)?;
-    answer_by_front::<Brand, _>(rt, alloc, blank, core, beside, &lines, out)
 }

@@ -1,7 +1,5 @@
 //! Records that are repaired, with what a cache keeps of them.
 
-use crate::answer::Answer;
-use crate::calls::number;
 use classes::Class;
 use indexmap::IndexMap;
 use model::Refusal;
@@ -12,6 +10,7 @@ use std::alloc::Global;
 use std::hash::RandomState;
 use std::num::NonZeroUsize;
 use storepath::{StorePath, read_path};
+use trial_lines::{Answer, number};
 
 /// The number of the path that records name, and of that by which what they name is served.
 const OLD: usize = 1_000_000_001;

@@ -1,9 +1,5 @@
 //! Sessions in pieces, over a reader and a writer that may fail.
 
-use crate::answer::Answer;
-use crate::calls::with_newlines;
-use crate::devices::{Calls, Sink, Source, calls_of};
-use crate::stores::{new_core, store_of};
 use model::Refusal;
 use schedule::{Core, Event, Reply, User};
 use session::{
@@ -11,6 +7,7 @@ use session::{
 };
 use std::alloc::Global;
 use std::hash::RandomState;
+use trial_lines::{Answer, Calls, Sink, Source, calls_of, new_core, store_of, with_newlines};
 
 /// A store that answers each event by a step, and builds nothing: a wait has ended at once.
 #[derive(Drop)]

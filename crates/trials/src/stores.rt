@@ -1,72 +1,11 @@
 //! Stores of users, and whole runs of them.
 
-ghost use Rattle.std.specs.Prelude.{◌≡◌, [], IfOk};
-ghost use Rattle.model.specs.Worlds.{nothing};
-ghost use Rattle.schedule.specs.Standing.{world_of, stored_in};
-
-use crate::answer::Answer;
-use crate::calls::number;
 use aterm::Text;
 use model::Refusal;
-use nar::{Tree, tree_text};
-use schedule::{Core, Event, LARGEST_CHARGE, Limits, Reply, Request, User};
+use schedule::{Event, Limits, Reply, Request, User};
 use std::alloc::Global;
 use std::hash::RandomState;
-use storepath::{Name, read_path};
-
-/// The path of an empty file named `a`.
-const PATH: &[u8] = b"/nix/store/w996igw5fhzp5pmk8g9bfv99is99b0ap-a";
-
-/// The event by which a user adds that file.
-pub(crate) fn adding(alloc: Global, user: &[u8]) -> Result<Event, Refusal> {
-    Ok(Event {
-        actor: User::new(alloc, user)?,
-        request: Request::AddSource(Name::new(alloc, b"a")?, Tree::file(false, Vec::new(alloc))?),
-    })
-}
-
-/// The event by which a user fetches its path.
-pub(crate) fn fetching(alloc: Global, user: &[u8]) -> Result<Event, Refusal> {
-    Ok(Event {
-        actor: User::new(alloc, user)?,
-        request: Request::Fetch(read_path(alloc, PATH)?),
-    })
-}
-
-/// A store of these users, with the largest charge.
-pub(crate) fn store_of(
-    alloc: Global,
-    hashing: RandomState,
-    users: Vec<User>,
-) -> Result<Core, Refusal>
-    ensures { IfOk result (λ core. (world_of core ≡ nothing) × (stored_in core ≡ [])) }
-{
-    let limits = Limits {
-        charge: LARGEST_CHARGE,
-    };
-    Core::new(alloc, hashing, users, limits)
-}
-
-/// Users of these names, each as a copy.
-fn users_of(alloc: Global, names: &str) -> Result<Vec<User>, Refusal> {
-    let mut users = Vec::new(alloc);
-    for name in names.split_whitespace() {
-        users.push(copied_user(alloc, name)?)?;
-    }
-    Ok(users)
-}
-
-/// A copy of a user of this name.
-fn copied_user(alloc: Global, name: &str) -> Result<User, Refusal> {
-    Ok(User::new(alloc, name.as_bytes())?.clone()?)
-}
-
-/// A store of alice and bob.
-pub(crate) fn new_core(alloc: Global, hashing: RandomState) -> Result<Core, Refusal>
-    ensures { IfOk result (λ core. (world_of core ≡ nothing) × (stored_in core ≡ [])) }
-{
-    store_of(alloc, hashing, users_of(alloc, "alice bob")?)
-}
+use trial_lines::{Answer, adding, fetching, new_core, number, store_of, tell, users_of};
 
 /// `NAME..`: how many of the names are well-formed, and whether there is a store of such users.
 pub(crate) fn users(
@@ -82,17 +21,6 @@ pub(crate) fn users(
     match store_of(alloc, hashing, users) {
         Ok(_) => out.add_text("a store"),
         Err(refusal) => out.add(&refusal),
-    }
-    Ok(())
-}
-
-/// Adds what a reply says, in the words of its line.
-pub(crate) fn tell(alloc: Global, reply: &Reply, out: &mut Answer) -> Result<(), Refusal> {
-    match reply {
-        Reply::Path(path) => out.add(path),
-        Reply::Content(tree) => out.add_bytes(&tree_text(alloc, tree)?),
-        Reply::Refused(refusal) => out.add(refusal),
-        _ => return Err(Refusal::BadLine),
     }
     Ok(())
 }

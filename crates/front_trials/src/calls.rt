@@ -1,0 +1,43 @@
+//! Lines, and the calls that they name.
+//!
+//! - `# TEXT` is printed as it is.
+//! - `CALL ARGUMENT` runs a call.
+
+use crate::{builds, crowd, exchanged, fronts, held, reads, sweeps, values};
+use model::Refusal;
+use std::alloc::Global;
+use std::hash::RandomState;
+use std::sync::Wait;
+use std::thread::Threads;
+use trial_lines::{Answer, cut};
+
+/// Adds what a line gives. The one error is a line that is not understood.
+pub(crate) fn answer_line<R: Threads + Wait + Sync>(
+    rt: &R,
+    alloc: Global,
+    hashing: RandomState,
+    line: &str,
+    out: &mut Answer,
+) -> Result<(), Refusal> {
+    let (call, argument) = cut(line);
+    match call {
+        "#" => {
+            out.add_text(line);
+            Ok(())
+        }
+        "threads" => fronts::threads(rt, alloc, hashing, out),
+        "gate_two_workers" => builds::gate_two_workers(rt, alloc, hashing, argument, out),
+        "built_once" => builds::built_once(rt, alloc, hashing, argument, out),
+        "passes" => fronts::passes(rt, alloc, hashing, out),
+        "held" => held::held(rt, alloc, hashing, argument, out),
+        "prepared_while_held" => held::prepared_while_held(rt, alloc, hashing, argument, out),
+        "crowd" => crowd::crowd(rt, alloc, hashing, argument, out),
+        "reads" => reads::reads(rt, alloc, hashing, argument, out),
+        "sweeps" => sweeps::sweeps(rt, alloc, hashing, argument, out),
+        "exchanged" => exchanged::exchange_each(rt, alloc, hashing, argument, out),
+        "made_alone" => values::alone(alloc, hashing, argument, out),
+        "made_unprepared" => values::committed(rt, alloc, hashing, argument, out),
+        "made_prepared" => values::prepared(rt, alloc, hashing, argument, out),
+        _ => Err(Refusal::BadLine),
+    }
+}

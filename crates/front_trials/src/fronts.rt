@@ -1,0 +1,177 @@
+//! A front that is called through its one pass, threads that share one, and one that is closed at once.
+
+ghost use Rattle.std.specs.Prelude.{◌≡◌};
+ghost use Rattle.book.specs.Keeping.{IsNew};
+
+use crate::turns::{Member, Task, all_at_once, closed};
+use book::{Front, FrontId, FrontTokens, Pass, Row};
+use model::Refusal;
+use schedule::{Core, Event, Reply};
+use session::Job;
+use std::alloc::Global;
+use std::hash::RandomState;
+use std::marker::Brand;
+use std::sync::Wait;
+use std::thread::Threads;
+use trial_lines::{Answer, adding, fetching, new_core};
+
+/// A front and its one pass, which calls it.
+#[derive(Drop)]
+pub(crate) struct Called<'a, J: FrontId, R> {
+    pub(crate) rt: &'a R,
+    pub(crate) front: Front<J>,
+    pub(crate) pass: Pass<J>,
+}
+
+/// No line of the service waits.
+impl<J: FrontId, R: Wait> session::Answer for Called<'_, J, R> {
+    ghost answers = { λ old event reply new. Unit {0} };
+
+    ghost waited = { λ old goals reply new. Unit {0} };
+
+    fn call(&mut self, alloc: Global, event: Event) -> Reply {
+        self.front.call(self.rt, alloc, &mut self.pass, event)
+    }
+
+    fn wait(&mut self, _alloc: Global, _goals: &[Job]) -> Reply {
+        Reply::Done
+    }
+}
+
+/// Makes so many calls.
+#[derive(Clone, Copy)]
+struct Repeated {
+    calls: u32,
+}
+
+/// The call of a number: those of even numbers add a source, the others fetch it.
+fn call_of(alloc: Global, user: &[u8], number: u32) -> Result<Event, Refusal> {
+    if number % 2 == 0 {
+        adding(alloc, user)
+    } else {
+        fetching(alloc, user)
+    }
+}
+
+/// Makes the call of a number.
+fn call_once<J: FrontId, R: Wait>(
+    rt: &R,
+    alloc: Global,
+    front: &Front<J>,
+    pass: &mut Pass<J>,
+    number: u32,
+) -> Result<(), Refusal> {
+    let user = if pass.number() == 0 {
+        b"alice".as_slice()
+    } else {
+        b"bob".as_slice()
+    };
+    let event = call_of(alloc, user, number)?;
+    let _reply = front.call(rt, alloc, pass, event);
+    Ok(())
+}
+
+/// Each second call fetches.
+impl Task for Repeated {
+    fn run<J: FrontId, R: Wait>(member: &mut Member<'_, J, R, Repeated>) -> Result<(), Refusal> {
+        let rt = member.rt;
+        let alloc = member.alloc;
+        let front = member.front;
+        for number in 0..member.task.calls {
+            call_once(rt, alloc, front, &mut member.pass, number)?;
+        }
+        Ok(())
+    }
+}
+
+/// How many rows there are, and how many of them are of the second pass.
+fn counted(rows: &[Row]) -> (usize, usize) {
+    let ones = rows.iter().filter(|row| row.pass == 1).count();
+    (rows.len(), ones)
+}
+
+/// How many rows the history of two such threads has, and how many of them are of the second pass.
+fn rows_of_two<J: FrontId + Send + Sync, R: Threads + Wait + Sync>(
+    rt: &R,
+    alloc: Global,
+    blank: FrontTokens,
+    core: Core,
+) -> Result<(usize, usize), Refusal>
+    requires blank { (blank.calls.name ≡ J.name) × (blank.calls.parts ≡ J.parts) }
+    requires stops { blank.stops.name ≡ J.stops }
+    requires parts { blank.calls.parts ≡ 2 }
+    requires log { blank.log.table.shared.table_id ≡ J.table }
+    requires rows { blank.rows.seen.book ≡ J.book }
+    requires core { IsNew J.setup core }
+{
+    let (front, passes) = Front::<J>::new(rt, alloc, blank, core, 2)?;
+    let tasks = vec![in alloc; Repeated { calls: 100 }; 2]?;
+    let (passes, _tasks) = all_at_once(rt, alloc, &front, passes, tasks)?;
+    let history = closed(rt, front, passes, 2)?;
+    Ok(counted(&history.rows))
+}
+
+/// Two threads make a hundred calls each: how many rows there are, and how many of the second pass.
+pub(crate) fn threads<R: Threads + Wait + Sync>(
+    rt: &R,
+    alloc: Global,
+    hashing: RandomState,
+    out: &mut Answer,
+) -> Result<(), Refusal> {
+    let blank = FrontTokens::new(alloc, 2)?;
+    let (all, ones) = rows_of_two::<Brand, _>(rt, alloc, blank, new_core(alloc, hashing)?)?;
+    out.add(&all);
+    out.add_text(" rows, ");
+    out.add(&ones);
+    out.add_text(" of the second pass");
+    Ok(())
+}
+
+/// Whether passes have the numbers from 0 on.
+fn are_in_order<J: FrontId>(passes: &[Pass<J>]) -> bool {
+    let mut are_in_order = true;
+    let mut number = 0u64;
+    for pass in passes {
+        are_in_order = are_in_order & (pass.number() == number);
+        number = number.saturating_add(1);
+    }
+    are_in_order
+}
+
+/// Whether the passes of a front have the numbers from 0 on, and how many rows it has when it is closed
+/// with no call made.
+fn closed_at_once<J: FrontId, R: Wait>(
+    rt: &R,
+    alloc: Global,
+    blank: FrontTokens,
+    core: Core,
+) -> Result<(bool, usize), Refusal>
+    requires blank { (blank.calls.name ≡ J.name) × (blank.calls.parts ≡ J.parts) }
+    requires stops { blank.stops.name ≡ J.stops }
+    requires parts { blank.calls.parts ≡ 3 }
+    requires log { blank.log.table.shared.table_id ≡ J.table }
+    requires rows { blank.rows.seen.book ≡ J.book }
+    requires core { IsNew J.setup core }
+{
+    let (front, passes) = Front::<J>::new(rt, alloc, blank, core, 3)?;
+    let in_order = are_in_order(&passes);
+    Ok((in_order, front.close(rt, passes).rows.len()))
+}
+
+/// Three passes that make no call: whether their numbers are 0, 1 and 2, and how many rows there are.
+pub(crate) fn passes<R: Wait>(
+    rt: &R,
+    alloc: Global,
+    hashing: RandomState,
+    out: &mut Answer,
+) -> Result<(), Refusal> {
+    let blank = FrontTokens::new(alloc, 3)?;
+    let core = new_core(alloc, hashing)?;
+    let (in_order, rows) = closed_at_once::<Brand, _>(rt, alloc, blank, core)?;
+    let order = if in_order { "in order" } else { "out of order" };
+    out.add_text(order);
+    out.add_text(", ");
+    out.add(&rows);
+    out.add_text(" rows");
+    Ok(())
+}

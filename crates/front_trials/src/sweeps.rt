@@ -1,0 +1,83 @@
+//! A front that is swept after each line of a session.
+
+ghost use Rattle.std.specs.Prelude.{◌≡◌};
+ghost use Rattle.book.specs.Keeping.{IsNew};
+
+use crate::fronts::Called;
+use book::{Front, FrontId, FrontTokens};
+use model::Refusal;
+use schedule::Core;
+use session::{Mode, Session};
+use std::alloc::Global;
+use std::hash::RandomState;
+use std::marker::Brand;
+use std::sync::Wait;
+use trial_lines::{Answer, store_of, users_in, with_newlines};
+
+/// Adds how many paths are stored, before a sweep and after it.
+fn sweep_once<J: FrontId, R: Wait>(
+    alloc: Global,
+    store: &mut Called<'_, J, R>,
+    out: &mut Answer,
+) -> Result<(), Refusal> {
+    out.add_text("stored ");
+    out.add(&store.front.stored(store.rt));
+    store.front.sweep(store.rt, alloc)?;
+    out.add_text(", ");
+    out.add(&store.front.stored(store.rt));
+    out.add_text(";");
+    Ok(())
+}
+
+/// Adds what each line of an input gets, and what is stored then.
+fn tell_lines<J: FrontId, R: Wait>(
+    alloc: Global,
+    store: &mut Called<'_, J, R>,
+    lines: &str,
+    out: &mut Answer,
+) -> Result<(), Refusal> {
+    let mut session = Session::new(alloc, Mode::Service);
+    for line in lines.split(';') {
+        out.add_bytes(&session.line(alloc, line.as_bytes(), store)?);
+        sweep_once(alloc, store, out)?;
+    }
+    Ok(())
+}
+
+/// Answers the lines by a new front.
+fn answer_by_front<J: FrontId, R: Wait>(
+    rt: &R,
+    alloc: Global,
+    blank: FrontTokens,
+    core: Core,
+    lines: &String,
+    out: &mut Answer,
+) -> Result<(), Refusal>
+    requires blank { (blank.calls.name ≡ J.name) × (blank.calls.parts ≡ J.parts) }
+    requires stops { blank.stops.name ≡ J.stops }
+    requires parts { blank.calls.parts ≡ 1 }
+    requires log { blank.log.table.shared.table_id ≡ J.table }
+    requires rows { blank.rows.seen.book ≡ J.book }
+    requires core { IsNew J.setup core }
+{
+    let (front, mut passes) = Front::<J>::new(rt, alloc, blank, core, 1)?;
+    let pass = passes.pop().unwrap();
+    let mut store = Called { rt, front, pass };
+    tell_lines(alloc, &mut store, lines.as_str(), out)
+}
+
+/// `INPUT`: answers the lines of the input, to the users whom it names, and sweeps the front after each.
+/// Prints what each line gets, and how many paths are stored before the sweep and after it.
+pub(crate) fn sweeps<R: Wait>(
+    rt: &R,
+    alloc: Global,
+    hashing: RandomState,
+    input: &str,
+    out: &mut Answer,
+) -> Result<(), Refusal> {
+    let users = users_in(alloc, &with_newlines(alloc, input)?)?;
+    let core = store_of(alloc, hashing, users)?;
+    let blank = FrontTokens::new(alloc, 1)?;
+    let lines = String::from_str(alloc, input)?;
+    answer_by_front::<Brand, _>(rt, alloc, blank, core, &lines, out)
+}

@@ -1,0 +1,14 @@
+//! What the trials share: the words of their lines, what a line prints, stores, and a reader and a writer that fail.
+#![tactic(auto)]
+
+mod answer;
+mod devices;
+mod lines;
+mod stores;
+mod text;
+
+pub use answer::{Answer, print_answer};
+pub use devices::{Calls, Count, Sink, Source, calls_of};
+pub use lines::tell_lines;
+pub use stores::{adding, core_for, fetching, new_core, store_of, tell, users_in, users_of};
+pub use text::{cut, number, with_newlines};
