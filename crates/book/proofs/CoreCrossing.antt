@@ -22,8 +22,8 @@ use Rattle.rewrite.proofs.named.Named.TheSendSync as nameds
 use Rattle.store.specs.contracts.table.Table as Table
 use Rattle.records.specs.contracts.realisation.Realisation as Realisation
 use Rattle.records.specs.contracts.realisation.Source as Source
-use Rattle.records.specs.contracts.entry.Entry as Entry
-use Rattle.records.specs.contracts.entry.Closure as Closure
+use Rattle.records.specs.contracts.entries.Entry as Entry
+use Rattle.records.specs.contracts.entries.Closure as Closure
 use Rattle.records.specs.contracts.resolved.Resolved as Resolved
 use Rattle.moving.specs.contracts.repair.Repair as Repair
 use Rattle.moving.specs.contracts.moves.Move as Move

@@ -1,6 +1,8 @@
 -- What a pass is told of the job that a goal leads.
-use Rattle.std.specs.Prelude.{◌≡◌, ℕ, List, Result, Ok}
+use Rattle.std.specs.Prelude.{◌≡◌, ◌≢◌, ℕ, true, List, Result, Ok, Err}
+use mathlib.Core.List.{IsPrefix}
 use Rattle.model.specs.declared.refusal.Refusal.{Refusal}
+use Rattle.model.specs.declared.refusal.Refusal.TheVariants.{Stopped}
 use Rattle.model.specs.Paths.{NoClash}
 use Rattle.model.specs.Worlds.{Setup, nothing}
 use Rattle.model.specs.Goals.{Running}
@@ -10,6 +12,7 @@ use Rattle.model.specs.Steps.{world_after}
 use Rattle.model.specs.HashedTexts.{hashed}
 use Rattle.jobs.specs.Asking.{IsAnswerTo}
 use Rattle.history.specs.declared.row.Row.{Row}
+use Rattle.history.specs.Callers.{Known, told_stopped, seeing, with_caller}
 use Rattle.history.specs.Histories.{events_of, IsLegal}
 
 -- what is told is so after these rows, which are a legal history: where no two texts that their events hash have one folded digest, it is
@@ -19,3 +22,14 @@ pub record IsAskedAfter (setup : Setup) (rows : List Row) (user : List ℕ) (num
   pub legal : IsLegal setup rows
   pub same : NoClash (hashed setup nothing (events_of rows)) → IsAnswerTo (job_led_by setup (world_after setup nothing (events_of rows)) user number) told
   pub kept : NoClash (hashed setup nothing (events_of rows)) → (job : Running) → told ≡ Ok job → IsWellKept setup (events_of rows) user number job.resolved
+
+-- a pass has asked the front, of so many passes, for the job that a user's goal leads
+pub record HasAsked (setup : Setup) (parts : ℕ) (old : Known) (user : List ℕ) (number : ℕ) (told : Result Running Refusal) (new : Known) : Type 0 where
+  pub asked : told ≢ Err Stopped → IsAskedAfter setup new.seen user number told
+  -- the only pass is told what is so after the rows that it is sure of
+  pub alone : told ≢ Err Stopped → parts ≡ 1 → IsAskedAfter setup old.caller.sure user number told
+  pub going : told ≢ Err Stopped → new ≡ seeing old new.seen
+  pub stopped : told ≡ Err Stopped → new ≡ seeing (with_caller old (told_stopped old.caller)) new.seen
+  pub remains : old.caller.stopped ≡ true → told ≡ Err Stopped
+  pub seen : IsPrefix old.seen new.seen
+  pub stopped_alone : parts ≡ 1 → told ≡ Err Stopped → old.stops ≡ 1

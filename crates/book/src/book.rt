@@ -13,12 +13,13 @@ ghost use Rattle.schedule.specs.Asking.{job_asked_for};
 ghost use Rattle.schedule.specs.Sweeping.{is_held};
 ghost use Rattle.store.specs.Stored.{kept_at};
 ghost use Rattle.events.specs.declared.reply.Reply.TheVariants.{Refused};
-ghost use Rattle.history.specs.Callers.{answered, told_stopped, knowing, stops_of, Matches};
-ghost use Rattle.history.specs.Histories.{row, unrecorded, IsLegal};
-ghost use Rattle.book.specs.Keeping.{IsNew, Steps, TookEvent, Stops, KeepsCore, IsModelReply, StandsFor};
+ghost use Rattle.history.specs.Callers.{told_stopped, knowing, stops_of, Matches};
+ghost use Rattle.history.specs.Histories.{IsLegal};
+ghost use Rattle.book.specs.Applying.{IsApplied};
+ghost use Rattle.book.specs.Keeping.{IsNew, StandsFor};
 
+use crate::closed_history::History;
 use crate::counts::Counts;
-use crate::history::History;
 use crate::pass::Pass;
 use crate::publisher::Publisher;
 use crate::steps::step;
@@ -156,29 +157,9 @@ impl<J: FrontId> Book<J> {
         event: Event,
     ) -> Reply
         requires part { part.old.parts ≡ 1 }
-        ensures row { unrecorded result ≡ false
-            → self.new.rows ≡ self.old.rows ++ row pass.old.number event result ∷ [] }
-        ensures step { unrecorded result ≡ false → Steps self.old.core event result self.new.core }
-        ensures reply { unrecorded result ≡ false → IsModelReply J.setup self.old.rows event result }
-        ensures counted { unrecorded result ≡ false → pass.new ≡ answered pass.old self.new.rows }
-        ensures matches { Matches self.old.rows self.old.stopped pass.old }
-        // The only pass knows all rows.
-        ensures alone { J.parts ≡ 1 → pass.old.sure ≡ self.old.rows }
-        ensures no_row { unrecorded result ≡ true → self.new.rows ≡ self.old.rows }
-        ensures memory { result ≡ Refused Memory → pass.new ≡ pass.old }
-        ensures unchanged { unrecorded result ≡ true → KeepsCore self.old self.new }
-        ensures stopped { self.old.stopped ≡ true → result ≡ Refused Stopped }
-        ensures stays { self.old.stopped ≡ true → self.new ≡ self.old }
-        ensures only_then { result ≡ Refused Stopped → self.old.stopped ≡ true }
-        ensures told { result ≡ Refused Stopped → pass.new ≡ told_stopped pass.old }
-        ensures stops { Stops self.old self.new → result ≡ Refused Memory }
-        ensures taken { Stops self.old self.new → TookEvent self.old.core event self.new.core }
-        ensures counted_stop { Stops self.old self.new → part.new.amount ≡ part.old.amount + 1 }
-        ensures no_stop { result ≢ Refused Memory → part.new.amount ≡ part.old.amount }
-        // The only pass knows whether the book is stopped: a call of its own stopped it.
-        ensures stops_alone { J.parts ≡ 1 → part.old.amount ≡ stops_of self.old.stopped }
+        ensures applied { IsApplied J.setup J.parts event result
+            self.old pass.old part.old.amount self.new pass.new part.new.amount }
         ensures part { part.new.parts ≡ 1 }
-        ensures legal { IsLegal J.setup self.new.rows }
     {
         self.apply_ready(rt, alloc, pass, part, event, Ready::none(alloc))
     }
@@ -195,29 +176,9 @@ impl<J: FrontId> Book<J> {
         ready: Ready,
     ) -> Reply
         requires part { part.old.parts ≡ 1 }
-        ensures row { unrecorded result ≡ false
-            → self.new.rows ≡ self.old.rows ++ row pass.old.number event result ∷ [] }
-        ensures step { unrecorded result ≡ false → Steps self.old.core event result self.new.core }
-        ensures reply { unrecorded result ≡ false → IsModelReply J.setup self.old.rows event result }
-        ensures counted { unrecorded result ≡ false → pass.new ≡ answered pass.old self.new.rows }
-        ensures matches { Matches self.old.rows self.old.stopped pass.old }
-        // The only pass knows all rows.
-        ensures alone { J.parts ≡ 1 → pass.old.sure ≡ self.old.rows }
-        ensures no_row { unrecorded result ≡ true → self.new.rows ≡ self.old.rows }
-        ensures memory { result ≡ Refused Memory → pass.new ≡ pass.old }
-        ensures unchanged { unrecorded result ≡ true → KeepsCore self.old self.new }
-        ensures stopped { self.old.stopped ≡ true → result ≡ Refused Stopped }
-        ensures stays { self.old.stopped ≡ true → self.new ≡ self.old }
-        ensures only_then { result ≡ Refused Stopped → self.old.stopped ≡ true }
-        ensures told { result ≡ Refused Stopped → pass.new ≡ told_stopped pass.old }
-        ensures stops { Stops self.old self.new → result ≡ Refused Memory }
-        ensures taken { Stops self.old self.new → TookEvent self.old.core event self.new.core }
-        ensures counted_stop { Stops self.old self.new → part.new.amount ≡ part.old.amount + 1 }
-        ensures no_stop { result ≢ Refused Memory → part.new.amount ≡ part.old.amount }
-        // The only pass knows whether the book is stopped: a call of its own stopped it.
-        ensures stops_alone { J.parts ≡ 1 → part.old.amount ≡ stops_of self.old.stopped }
+        ensures applied { IsApplied J.setup J.parts event result
+            self.old pass.old part.old.amount self.new pass.new part.new.amount }
         ensures part { part.new.parts ≡ 1 }
-        ensures legal { IsLegal J.setup self.new.rows }
     {
         isolation();
         timed_isolation();

@@ -7,15 +7,16 @@ ghost use Rattle.model.specs.declared.refusal.Refusal.TheVariants.{Memory, Stopp
 ghost use Rattle.events.specs.declared.reply.Reply.TheVariants.{Refused};
 ghost use Rattle.history.specs.Callers.{told_stopped, knowing, stops_of, below, rows_of, new_pass, with_caller, seeing};
 ghost use Rattle.history.specs.Tokens.{nothing_recorded};
-ghost use Rattle.history.specs.Histories.{row, unrecorded, IsLegal, IsAnswered};
+ghost use Rattle.history.specs.Histories.{IsLegal};
 ghost use Rattle.history.specs.FrontId.{name_of};
 ghost use Rattle.history.specs.Tied.{knower};
-ghost use Rattle.book.specs.Asking.{IsAskedAfter};
+ghost use Rattle.book.specs.Applying.{HasCalled};
+ghost use Rattle.book.specs.Asking.{HasAsked};
 ghost use Rattle.book.specs.Keeping.{IsNew};
 
 use crate::book::{Book, refuse};
+use crate::closed_history::History;
 use crate::counts::Counts;
-use crate::history::History;
 use crate::pass::Pass;
 use crate::publisher::Publisher;
 use history::{
@@ -210,18 +211,9 @@ impl<J: FrontId> Front<J> {
     /// stopped: each later call of it is answered 92, or 90 where memory is refused before the lock is
     /// taken. Only a call that is answered 90 stops the front. What the pass has seen is only lengthened.
     pub fn call<R: Wait>(&self, rt: &R, alloc: Global, pass: &mut Pass<J>, event: Event) -> Reply
-        ensures answered { unrecorded result ≡ false
-            → IsAnswered J.setup pass.old event result pass.new }
-        ensures alone { unrecorded result ≡ false → J.parts ≡ 1 → pass.new.caller.sure
-            ≡ pass.old.caller.sure ++ row pass.old.caller.number event result ∷ [] }
-        ensures memory { result ≡ Refused Memory → pass.new.caller ≡ pass.old.caller }
-        ensures stopped { result ≡ Refused Stopped
-            → pass.new.caller ≡ told_stopped pass.old.caller }
+        ensures called { HasCalled J.setup J.parts pass.old event result pass.new }
         ensures remains { pass.old.caller.stopped ≡ true
             → (result ≡ Refused Stopped) ⊎ (result ≡ Refused Memory) }
-        ensures seen { IsPrefix pass.old.seen pass.new.seen }
-        ensures no_stop { result ≢ Refused Memory → pass.new.stops ≡ pass.old.stops }
-        ensures stopped_alone { J.parts ≡ 1 → result ≡ Refused Stopped → pass.old.stops ≡ 1 }
     {
         match pass.prepare(&event) {
             Ok(ready) => self.commit(rt, alloc, pass, event, ready),
@@ -240,17 +232,8 @@ impl<J: FrontId> Front<J> {
         event: Event,
         ready: Ready,
     ) -> Reply
-        ensures answered { unrecorded result ≡ false
-            → IsAnswered J.setup pass.old event result pass.new }
-        ensures alone { unrecorded result ≡ false → J.parts ≡ 1 → pass.new.caller.sure
-            ≡ pass.old.caller.sure ++ row pass.old.caller.number event result ∷ [] }
-        ensures memory { result ≡ Refused Memory → pass.new.caller ≡ pass.old.caller }
-        ensures stopped { result ≡ Refused Stopped
-            → pass.new.caller ≡ told_stopped pass.old.caller }
+        ensures called { HasCalled J.setup J.parts pass.old event result pass.new }
         ensures remains { pass.old.caller.stopped ≡ true → result ≡ Refused Stopped }
-        ensures seen { IsPrefix pass.old.seen pass.new.seen }
-        ensures no_stop { result ≢ Refused Memory → pass.new.stops ≡ pass.old.stops }
-        ensures stopped_alone { J.parts ≡ 1 → result ≡ Refused Stopped → pass.old.stops ≡ 1 }
     {
         pass.call(rt, alloc, &mut *self.book.lock(rt), event, ready)
     }
@@ -281,16 +264,7 @@ impl<J: FrontId> Front<J> {
         user: &User,
         number: u16,
     ) -> Result<RunningJob, Refusal>
-        ensures asked { result ≢ Err Stopped
-            → IsAskedAfter J.setup pass.new.seen user.now number result }
-        ensures alone { result ≢ Err Stopped → J.parts ≡ 1
-            → IsAskedAfter J.setup pass.old.caller.sure user.now number result }
-        ensures going { result ≢ Err Stopped → pass.new ≡ seeing pass.old pass.new.seen }
-        ensures stopped { result ≡ Err Stopped → pass.new
-            ≡ seeing (with_caller pass.old (told_stopped pass.old.caller)) pass.new.seen }
-        ensures remains { pass.old.caller.stopped ≡ true → result ≡ Err Stopped }
-        ensures seen { IsPrefix pass.old.seen pass.new.seen }
-        ensures stopped_alone { J.parts ≡ 1 → result ≡ Err Stopped → pass.old.stops ≡ 1 }
+        ensures { HasAsked J.setup J.parts pass.old user.now number result pass.new }
     {
         pass.request(rt, &mut *self.book.lock(rt), user, number)
     }

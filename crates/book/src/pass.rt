@@ -12,7 +12,8 @@ ghost use Rattle.events.specs.Terms.{event_of};
 ghost use Rattle.history.specs.Following.{FindsRead, IsNeedAfter, IsPreparedAfter};
 ghost use Rattle.history.specs.FrontId.{name_of, book_in, setup_in};
 ghost use Rattle.history.specs.Tied.{knower};
-ghost use Rattle.book.specs.Asking.{IsAskedAfter};
+ghost use Rattle.book.specs.Applying.{HasCalled};
+ghost use Rattle.book.specs.Asking.{HasAsked};
 
 use crate::book::Book;
 use crate::publisher::insist;
@@ -312,17 +313,8 @@ impl<J: FrontId> Pass<J> {
         event: Event,
         ready: Ready,
     ) -> Reply
-        ensures answered { unrecorded result ≡ false
-            → IsAnswered J.setup self.old event result self.new }
-        ensures alone { unrecorded result ≡ false → J.parts ≡ 1 → self.new.caller.sure
-            ≡ self.old.caller.sure ++ row self.old.caller.number event result ∷ [] }
-        ensures memory { result ≡ Refused Memory → self.new.caller ≡ self.old.caller }
-        ensures stopped { result ≡ Refused Stopped
-            → self.new.caller ≡ told_stopped self.old.caller }
+        ensures called { HasCalled J.setup J.parts self.old event result self.new }
         ensures remains { self.old.caller.stopped ≡ true → result ≡ Refused Stopped }
-        ensures seen { IsPrefix self.old.seen self.new.seen }
-        ensures no_stop { result ≢ Refused Memory → self.new.stops ≡ self.old.stops }
-        ensures stopped_alone { J.parts ≡ 1 → result ≡ Refused Stopped → self.old.stops ≡ 1 }
     {
         let Pass {
             caller,
@@ -348,16 +340,7 @@ impl<J: FrontId> Pass<J> {
         user: &User,
         number: u16,
     ) -> Result<RunningJob, Refusal>
-        ensures asked { result ≢ Err Stopped
-            → IsAskedAfter J.setup self.new.seen user.now number result }
-        ensures alone { result ≢ Err Stopped → J.parts ≡ 1
-            → IsAskedAfter J.setup self.old.caller.sure user.now number result }
-        ensures going { result ≢ Err Stopped → self.new ≡ seeing self.old self.new.seen }
-        ensures stopped { result ≡ Err Stopped → self.new
-            ≡ seeing (with_caller self.old (told_stopped self.old.caller)) self.new.seen }
-        ensures remains { self.old.caller.stopped ≡ true → result ≡ Err Stopped }
-        ensures seen { IsPrefix self.old.seen self.new.seen }
-        ensures stopped_alone { J.parts ≡ 1 → result ≡ Err Stopped → self.old.stops ≡ 1 }
+        ensures { HasAsked J.setup J.parts self.old user.now number result self.new }
     {
         kept_closures_are_good();
         let Pass {

@@ -25,7 +25,7 @@ use Rattle.history.proofs.HistoryLemmas.{all_front, hashed_push, events_push, so
 use Rattle.schedule.specs.declared.work.Ready.{Ready}
 use Rattle.schedule.specs.declared.preparing.PrepareInput.{PrepareInput}
 use Rattle.schedule.specs.Preparing.{HasOutcome, IsPrepared, IsMade}
-use Rattle.schedule.specs.declared.finding.ReadResult.{ReadResult}
+use Rattle.schedule.specs.declared.read_result.ReadResult.{ReadResult}
 use Rattle.schedule.specs.ReadResults.{IsServedFrom}
 use Rattle.history.specs.Following.{HasReached, Follows, Takes, IsModelRead, FindsRead, IsPreparedAfter, IsNeedAfter}
 

@@ -13,7 +13,7 @@ use Rattle.schedule.specs.Stepping.{IsCoreStep}
 use Rattle.schedule.specs.declared.work.Ready.{Ready}
 use Rattle.schedule.specs.declared.preparing.PrepareInput.{PrepareInput}
 use Rattle.schedule.specs.Preparing.{HasPath, HasOutcome, IsMade}
-use Rattle.schedule.specs.declared.finding.ReadResult.{ReadResult}
+use Rattle.schedule.specs.declared.read_result.ReadResult.{ReadResult}
 use Rattle.schedule.specs.ReadResults.{IsServedFrom}
 use Rattle.events.specs.declared.event.Event.{Event}
 use Rattle.events.specs.declared.reply.Reply.{Reply}

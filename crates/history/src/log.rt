@@ -177,9 +177,9 @@ impl LogTable {
 #[derive(Drop)]
 pub struct FrontTokens {
     /// The ledger that counts its calls.
-    pub calls: ledger::FrontTokens,
+    pub calls: ledger::Blank,
     /// The ledger that counts its stops.
-    pub stops: ledger::FrontTokens,
+    pub stops: ledger::Blank,
     /// Its tokens.
     pub log: LogTable,
     /// Its history as those see it who do not take the lock.
@@ -198,8 +198,8 @@ impl FrontTokens {
     {
         let log = LogTable::new(alloc)?;
         Ok(FrontTokens {
-            calls: ledger::FrontTokens::new(passes),
-            stops: ledger::FrontTokens::new(passes),
+            calls: ledger::Blank::new(passes),
+            stops: ledger::Blank::new(passes),
             log,
             rows: EmptyHistory::new(),
         })

@@ -15,7 +15,7 @@ use Rattle.model.specs.Goals.{Running}
 use Rattle.events.specs.declared.event.Event.{Event}
 use Rattle.events.specs.declared.reply.Reply.{Reply}
 use Rattle.history.specs.Callers.{Known, new_pass, below, rows_of, stops_of}
-use Rattle.book.specs.declared.history.History.{History}
+use Rattle.book.specs.declared.closed_history.History.{History}
 use Rattle.running.specs.declared.sessions.Desk.{Desk}
 use Rattle.running.specs.declared.sessions.Left.{Left}
 use Rattle.running.specs.declared.sessions.Output.{Output}

@@ -18,7 +18,7 @@ use Rattle.events.specs.declared.reply.Reply.TheVariants.{Refused}
 use Rattle.events.specs.Terms.{reply_of}
 use Rattle.history.specs.declared.row.Row.{Row}
 use Rattle.history.specs.Callers.{Known, new_pass, rows_of}
-use Rattle.book.specs.declared.history.History.{History}
+use Rattle.book.specs.declared.closed_history.History.{History}
 use Rattle.workers.specs.declared.runner.RunFault.{RunFault}
 use Rattle.workers.specs.declared.worker.Worker.{Worker}
 use Rattle.workers.specs.Working.{Call, asking}

@@ -18,7 +18,7 @@ use Rattle.events.specs.Terms.{event_of, reply_of}
 use Rattle.history.specs.declared.row.Row.{Row}
 use Rattle.history.specs.Callers.{Known, new_pass, rows_of, stops_of}
 use Rattle.history.specs.Histories.{IsLegal}
-use Rattle.book.specs.declared.history.History.{History}
+use Rattle.book.specs.declared.closed_history.History.{History}
 use Rattle.workers.specs.declared.runner.RunFault.{RunFault}
 use Rattle.workers.specs.declared.ticket.Ticket.{Ticket}
 use Rattle.workers.specs.declared.worker.Worker.{Worker}

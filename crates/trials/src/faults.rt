@@ -5,7 +5,7 @@ use schedule::{Core, Event, Reply, Request, User};
 use session::{Ahead, Job, Mode, answer_text, read_ahead, serve};
 use std::alloc::{AllocError, Global};
 use std::hash::RandomState;
-use trial_lines::{Answer, Calls, Sink, Source, number, store_of, with_newlines};
+use trial_lines::{Answer, Calls, Sink, Source, number, store_of, users_in, with_newlines};
 
 /// A store that answers each event by a step, and keeps a copy of it.
 #[derive(Drop)]

@@ -8,7 +8,7 @@ use denote.Struct.Field.{shr_ref_field, row_field}
 use mir.Syntax.{named}
 use Rattle.std.proofs.Crossing.{send, crosses}
 use Rattle.std.specs.declared.sync.ledger.Ledger as Ledger
-use Rattle.history.specs.declared.naming.FrontId as FrontId
+use Rattle.history.specs.declared.front_id.FrontId as FrontId
 use Rattle.book.specs.contracts.front.Front as Front
 use Rattle.front_trials.specs.contracts.turns.Member as Member
 use Rattle.front_trials.specs.contracts.turns.Member.TheInside as Inside

@@ -69,26 +69,28 @@ returns-then-stopped g c =
     let was : c.args.self.now.stopped ≡ true = sym (stopped_then g then) ∙ c.if-stopped.true in
     let none : unrecorded c.refuse.result ≡ false → ⊥ = has_none _ Stopped c.refuse.ensures refl in
     record {
-      row = λ some. absurd (none some);
-      step = λ some. absurd (none some);
-      reply = λ some. absurd (none some);
-      counted = λ some. absurd (none some);
-      matches = matching g then;
-      alone = only_pass g then;
-      no_row = λ _. rows_then g then;
-      memory = λ memory. absurd (not_both _ memory c.refuse.ensures);
-      unchanged = λ _ _. is_unchanged _ _ (core_then g then);
-      stopped = λ _. c.refuse.ensures;
-      stays = λ _. c.self.view_is;
-      only_then = λ _. was;
-      told = λ _. c.audit.ensures.same.0 ∙ c.compare.ensures.stopped (c.self.invariant.5 ∙ c.if-stopped.true);
-      stops = λ stops. absurd (true≢false (sym was ∙ stops.0));
-      taken = λ stops. absurd (true≢false (sym was ∙ stops.0));
-      counted_stop = λ stops. absurd (true≢false (sym was ∙ stops.0));
-      no_stop = λ _. c.audit-2.ensures.amount;
-      stops_alone = stop_counted g then;
+      applied = record {
+        row = λ some. absurd (none some);
+        step = λ some. absurd (none some);
+        reply = λ some. absurd (none some);
+        counted = λ some. absurd (none some);
+        matches = matching g then;
+        alone = only_pass g then;
+        no_row = λ _. rows_then g then;
+        memory = λ memory. absurd (not_both _ memory c.refuse.ensures);
+        unchanged = λ _ _. is_unchanged _ _ (core_then g then);
+        stopped = λ _. c.refuse.ensures;
+        stays = λ _. c.self.view_is;
+        only_then = λ _. was;
+        told = λ _. c.audit.ensures.same.0 ∙ c.compare.ensures.stopped (c.self.invariant.5 ∙ c.if-stopped.true);
+        stops = λ stops. absurd (true≢false (sym was ∙ stops.0));
+        taken = λ stops. absurd (true≢false (sym was ∙ stops.0));
+        counted_stop = λ stops. absurd (true≢false (sym was ∙ stops.0));
+        no_stop = λ _. c.audit-2.ensures.amount;
+        stops_alone = stop_counted g then;
+        legal = legal_then g then;
+      };
       part = c.audit-2.ensures.parts ∙ c.requires.part;
-      legal = legal_then g then;
     }
 
 -- ---- where it went on
@@ -127,26 +129,28 @@ returns-in_default g c =
     let none : unrecorded c.refuse-in_default.result ≡ false → ⊥ = has_none _ Memory c.refuse-in_default.ensures refl in
     let goes : c.args.self.now.stopped ≡ true → ⊥ = not_stopped g then c.if-stopped.false in
     record {
-      row = λ some. absurd (none some);
-      step = λ some. absurd (none some);
-      reply = λ some. absurd (none some);
-      counted = λ some. absurd (none some);
-      matches = matching g then;
-      alone = only_pass g then;
-      no_row = λ _. c.hold.ensures.rows ∙ rows_then g then;
-      memory = λ _. pass_then g then c.if-stopped.false;
-      unchanged = λ _ _. subst (λ (core : Core). IsUnchanged core c.empty_cache.new.self) (core_then g then) c.empty_cache.ensures;
-      stopped = λ stopped. absurd (goes stopped);
-      stays = λ stopped. absurd (goes stopped);
-      only_then = λ stopped. absurd (not_both _ c.refuse-in_default.ensures stopped);
-      told = λ stopped. absurd (not_both _ c.refuse-in_default.ensures stopped);
-      stops = λ _. c.refuse-in_default.ensures;
-      taken = λ stops. absurd (not_true c.if-stopped.false stops.1);
-      counted_stop = λ stops. absurd (not_true c.if-stopped.false stops.1);
-      no_stop = λ _. c.audit-2.ensures.amount;
-      stops_alone = stop_counted g then;
+      applied = record {
+        row = λ some. absurd (none some);
+        step = λ some. absurd (none some);
+        reply = λ some. absurd (none some);
+        counted = λ some. absurd (none some);
+        matches = matching g then;
+        alone = only_pass g then;
+        no_row = λ _. c.hold.ensures.rows ∙ rows_then g then;
+        memory = λ _. pass_then g then c.if-stopped.false;
+        unchanged = λ _ _. subst (λ (core : Core). IsUnchanged core c.empty_cache.new.self) (core_then g then) c.empty_cache.ensures;
+        stopped = λ stopped. absurd (goes stopped);
+        stays = λ stopped. absurd (goes stopped);
+        only_then = λ stopped. absurd (not_both _ c.refuse-in_default.ensures stopped);
+        told = λ stopped. absurd (not_both _ c.refuse-in_default.ensures stopped);
+        stops = λ _. c.refuse-in_default.ensures;
+        taken = λ stops. absurd (not_true c.if-stopped.false stops.1);
+        counted_stop = λ stops. absurd (not_true c.if-stopped.false stops.1);
+        no_stop = λ _. c.audit-2.ensures.amount;
+        stops_alone = stop_counted g then;
+        legal = rw c.hold.ensures.rows (legal_then g then);
+      };
       part = c.audit-2.ensures.parts ∙ c.requires.part;
-      legal = rw c.hold.ensures.rows (legal_then g then);
     }
 
 -- ---- where memory is refused before the core takes the event
@@ -174,26 +178,28 @@ returns-in-Err g c =
     let none : unrecorded (Refused c.in-Err.why) ≡ false → ⊥ = has_none (Refused c.in-Err.why) Memory memory refl in
     let goes : c.args.self.now.stopped ≡ true → ⊥ = not_stopped g then c.if-stopped.false in
     record {
-      row = λ some. absurd (none some);
-      step = λ some. absurd (none some);
-      reply = λ some. absurd (none some);
-      counted = λ some. absurd (none some);
-      matches = matching g then;
-      alone = only_pass g then;
-      no_row = λ _. c.hold.ensures.rows ∙ rows_then g then;
-      memory = λ _. pass_then g then c.if-stopped.false;
-      unchanged = λ _ _. subst (λ (core : Core). IsUnchanged core c.step.new.core) (core_then g then) c.in-Err.ensures.refused;
-      stopped = λ stopped. absurd (goes stopped);
-      stays = λ stopped. absurd (goes stopped);
-      only_then = λ stopped. absurd (not_both _ memory stopped);
-      told = λ stopped. absurd (not_both _ memory stopped);
-      stops = λ _. memory;
-      taken = λ stops. absurd (not_true c.if-stopped.false stops.1);
-      counted_stop = λ stops. absurd (not_true c.if-stopped.false stops.1);
-      no_stop = λ _. c.audit-2.ensures.amount;
-      stops_alone = stop_counted g then;
+      applied = record {
+        row = λ some. absurd (none some);
+        step = λ some. absurd (none some);
+        reply = λ some. absurd (none some);
+        counted = λ some. absurd (none some);
+        matches = matching g then;
+        alone = only_pass g then;
+        no_row = λ _. c.hold.ensures.rows ∙ rows_then g then;
+        memory = λ _. pass_then g then c.if-stopped.false;
+        unchanged = λ _ _. subst (λ (core : Core). IsUnchanged core c.step.new.core) (core_then g then) c.in-Err.ensures.refused;
+        stopped = λ stopped. absurd (goes stopped);
+        stays = λ stopped. absurd (goes stopped);
+        only_then = λ stopped. absurd (not_both _ memory stopped);
+        told = λ stopped. absurd (not_both _ memory stopped);
+        stops = λ _. memory;
+        taken = λ stops. absurd (not_true c.if-stopped.false stops.1);
+        counted_stop = λ stops. absurd (not_true c.if-stopped.false stops.1);
+        no_stop = λ _. c.audit-2.ensures.amount;
+        stops_alone = stop_counted g then;
+        legal = rw c.hold.ensures.rows (legal_then g then);
+      };
       part = c.audit-2.ensures.parts ∙ c.requires.part;
-      legal = rw c.hold.ensures.rows (legal_then g then);
     }
 
 -- ---- where memory is refused after that
@@ -221,26 +227,28 @@ returns-in_default-answered g c =
     let taken : TookEvent c.self.inside.core c.args.event c.step.new.core = rw c.in_default-answered.is at c.in-Ok-step.ensures.lost in
     let goes : c.args.self.now.stopped ≡ true → ⊥ = not_stopped g then c.if-stopped.false in
     record {
-      row = λ some. absurd (true≢false some);
-      step = λ some. absurd (true≢false some);
-      reply = λ some. absurd (true≢false some);
-      counted = λ some. absurd (true≢false some);
-      matches = matching g then;
-      alone = only_pass g then;
-      no_row = λ _. c.hold.ensures.rows ∙ rows_then g then;
-      memory = λ _. pass_then g then c.if-stopped.false;
-      unchanged = λ _ same. absurd (goes (sym same));
-      stopped = λ stopped. absurd (goes stopped);
-      stays = λ stopped. absurd (goes stopped);
-      only_then = λ stopped. absurd (not_both _ refl stopped);
-      told = λ stopped. absurd (not_both _ refl stopped);
-      stops = λ _. refl;
-      taken = λ _. subst (λ (core : Core). TookEvent core c.args.event c.step.new.core) (core_then g then) taken;
-      counted_stop = λ _. omega (arith, c.add.ensures.amount, c.audit-2.ensures.amount);
-      no_stop = λ other. absurd (other refl);
-      stops_alone = stop_counted g then;
+      applied = record {
+        row = λ some. absurd (true≢false some);
+        step = λ some. absurd (true≢false some);
+        reply = λ some. absurd (true≢false some);
+        counted = λ some. absurd (true≢false some);
+        matches = matching g then;
+        alone = only_pass g then;
+        no_row = λ _. c.hold.ensures.rows ∙ rows_then g then;
+        memory = λ _. pass_then g then c.if-stopped.false;
+        unchanged = λ _ same. absurd (goes (sym same));
+        stopped = λ stopped. absurd (goes stopped);
+        stays = λ stopped. absurd (goes stopped);
+        only_then = λ stopped. absurd (not_both _ refl stopped);
+        told = λ stopped. absurd (not_both _ refl stopped);
+        stops = λ _. refl;
+        taken = λ _. subst (λ (core : Core). TookEvent core c.args.event c.step.new.core) (core_then g then) taken;
+        counted_stop = λ _. omega (arith, c.add.ensures.amount, c.audit-2.ensures.amount);
+        no_stop = λ other. absurd (other refl);
+        stops_alone = stop_counted g then;
+        legal = rw c.hold.ensures.rows (legal_then g then);
+      };
       part = c.add.ensures.parts ∙ (c.audit-2.ensures.parts ∙ c.requires.part);
-      legal = rw c.hold.ensures.rows (legal_then g then);
     }
 
 -- ---- where the call has a row
@@ -318,26 +326,28 @@ returns g c =
     let number : c.number-number.result ≡ c.args.pass.now.number = c.number-number.ensures ∙ ap (λ (p : Caller). p.number) pass in
     let log : c.compare.new.log.rows ≡ old.history.items = ap (λ (l : Recorded). l.rows) c.compare.ensures.same ∙ c.self.invariant.4 in
     record {
-      row = λ _. rows_now g c ∙ (λ i. rows_then g then i ++ (last_row g c ∙ ap (λ n. row n c.args.event c.in-Some.reply) number) i ∷ []);
-      step = λ _. subst (λ (core : Core). Steps core c.args.event c.in-Some.reply c.step.new.core) (core_then g then) stepped;
-      reply = λ _.
-          subst (λ (x : List Row × Row). IsModelReply g.J.FrontId.setup x.0 x.1.event x.1.reply) (λ i. (rows_then g then i, last_row g c i))
-          (replied g.J.FrontId.setup old.core c.step.new.core old.history.items c.in-Some.row (going g c) (some_row g c) (step_of g c));
-      counted = λ _. c.add_row.ensures.pass ∙ (λ i. answered (pass i) ((ap (λ (rows : List Row). rows ++ c.in-Some.row ∷ []) log ∙ sym (rows_now g c)) i));
-      matches = matching g then;
-      alone = only_pass g then;
-      no_row = λ gave. absurd (none gave);
-      memory = λ memory. absurd (has_none _ Memory memory refl some);
-      unchanged = λ gave. absurd (none gave);
-      stopped = λ stopped. absurd (goes stopped);
-      stays = λ stopped. absurd (goes stopped);
-      only_then = λ stopped. absurd (has_none _ Stopped stopped refl some);
-      told = λ stopped. absurd (has_none _ Stopped stopped refl some);
-      stops = λ stops. absurd (not_true c.if-stopped.false stops.1);
-      taken = λ stops. absurd (not_true c.if-stopped.false stops.1);
-      counted_stop = λ stops. absurd (not_true c.if-stopped.false stops.1);
-      no_stop = λ _. c.audit-2.ensures.amount;
-      stops_alone = stop_counted g then;
+      applied = record {
+        row = λ _. rows_now g c ∙ (λ i. rows_then g then i ++ (last_row g c ∙ ap (λ n. row n c.args.event c.in-Some.reply) number) i ∷ []);
+        step = λ _. subst (λ (core : Core). Steps core c.args.event c.in-Some.reply c.step.new.core) (core_then g then) stepped;
+        reply = λ _.
+            subst (λ (x : List Row × Row). IsModelReply g.J.FrontId.setup x.0 x.1.event x.1.reply) (λ i. (rows_then g then i, last_row g c i))
+            (replied g.J.FrontId.setup old.core c.step.new.core old.history.items c.in-Some.row (going g c) (some_row g c) (step_of g c));
+        counted = λ _. c.add_row.ensures.pass ∙ (λ i. answered (pass i) ((ap (λ (rows : List Row). rows ++ c.in-Some.row ∷ []) log ∙ sym (rows_now g c)) i));
+        matches = matching g then;
+        alone = only_pass g then;
+        no_row = λ gave. absurd (none gave);
+        memory = λ memory. absurd (has_none _ Memory memory refl some);
+        unchanged = λ gave. absurd (none gave);
+        stopped = λ stopped. absurd (goes stopped);
+        stays = λ stopped. absurd (goes stopped);
+        only_then = λ stopped. absurd (has_none _ Stopped stopped refl some);
+        told = λ stopped. absurd (has_none _ Stopped stopped refl some);
+        stops = λ stops. absurd (not_true c.if-stopped.false stops.1);
+        taken = λ stops. absurd (not_true c.if-stopped.false stops.1);
+        counted_stop = λ stops. absurd (not_true c.if-stopped.false stops.1);
+        no_stop = λ _. c.audit-2.ensures.amount;
+        stops_alone = stop_counted g then;
+        legal = rw (rows_now g c) (is_legal g.J.FrontId.setup c.step.new.core false _ (kept_now g c) c.isolation.ensures c.timed_isolation.ensures);
+      };
       part = c.audit-2.ensures.parts ∙ c.requires.part;
-      legal = rw (rows_now g c) (is_legal g.J.FrontId.setup c.step.new.core false _ (kept_now g c) c.isolation.ensures c.timed_isolation.ensures);
     }

@@ -20,39 +20,35 @@ invariant_of-self g c =
     let reply = c.apply_ready-reply.result in
     let rows : List Row = c.apply_ready-reply.new.self.rows in (
       subst (λ (all : List Row). IsPrefix new.sure all) (sym c.seen-2.ensures.0)
-          (sure_seen old.caller new reply c.args.book.now.rows rows told.counted told.memory told.told told.no_row told.matches.sure),
+          (sure_seen old.caller new reply c.args.book.now.rows rows told.applied.counted told.applied.memory told.applied.told told.applied.no_row told.applied.matches.sure),
       c.seen-2.ensures.1,
       c.self.invariant.2,
-      sure_counted old.caller new reply c.args.book.now.rows rows told.counted told.memory told.told old.sure c.len.result c.sure_after.result c.self.invariant.3
+      sure_counted old.caller new reply c.args.book.now.rows rows told.applied.counted told.applied.memory told.applied.told old.sure c.len.result c.sure_after.result c.self.invariant.3
           (c.len.ensures ∙ ap length c.seen-2.ensures.0) c.sure_after.ensures,
       told.part,
     )
 
-pub returns-clause-answered : goal.returns-clause-answered
-returns-clause-answered g c = rw (← c.self.view_is) (λ some. record {
-  before = c.args.book.now.rows;
-  longer = begins g (goal.at.returns-clause-answered g c).After-sure_after;
-  sure = c.apply_ready-reply.ensures.counted some ∙ ap (λ (rows : List Row). answered c.self.inside.caller rows) (c.apply_ready-reply.ensures.row some);
-  seen = c.seen-2.ensures.0 ∙ c.apply_ready-reply.ensures.row some;
-  legal = subst (λ (rows : List Row). IsLegal g.J.FrontId.setup rows) (c.apply_ready-reply.ensures.row some) c.apply_ready-reply.ensures.legal;
-})
-
-pub returns-clause-alone : goal.returns-clause-alone
-returns-clause-alone g c = rw (← c.self.view_is) (λ some only.
-    ap (λ (p : Caller). p.sure) (c.apply_ready-reply.ensures.counted some)
-    ∙ (c.apply_ready-reply.ensures.row some
-    ∙ ap (λ (rows : List Row). rows ++ row c.self.inside.caller.number c.args.event c.apply_ready-reply.result ∷ []) (sym (c.apply_ready-reply.ensures.alone only))))
-
-pub returns-clause-no_stop : goal.returns-clause-no_stop
-returns-clause-no_stop g c = rw (← c.self.view_is) c.apply_ready-reply.ensures.no_stop
-
-pub returns-clause-stopped_alone : goal.returns-clause-stopped_alone
-returns-clause-stopped_alone g c = rw (← c.self.view_is) (λ only told.
-    c.apply_ready-reply.ensures.stops_alone only ∙ ap stops_of (c.apply_ready-reply.ensures.only_then told))
-
-pub returns-clause-seen : goal.returns-clause-seen
-returns-clause-seen g c = rw (← c.self.view_is)
-    (subst (λ (rows : List Row). IsPrefix c.self.inside.seen.seen.log rows) (sym c.seen-2.ensures.0)
-    (seen_grows c.apply_ready-reply.result c.self.inside.seen.seen.log c.args.book.now.rows c.apply_ready-reply.new.self.rows
-    (row c.self.inside.caller.number c.args.event c.apply_ready-reply.result) c.apply_ready-reply.ensures.row c.apply_ready-reply.ensures.no_row
-    (begins g (goal.at.returns-clause-seen g c).After-sure_after)))
+pub returns-clause-called : goal.returns-clause-called
+returns-clause-called g c =
+    let applied = c.apply_ready-reply.ensures.applied in
+    let then = (goal.at.returns-clause-called g c).After-sure_after in
+    let event_row : Row = row c.self.inside.caller.number c.args.event c.apply_ready-reply.result in
+    rw (← c.self.view_is) (record {
+      answered = λ some. record {
+        before = c.args.book.now.rows;
+        longer = begins g then;
+        sure = applied.counted some ∙ ap (λ (rows : List Row). answered c.self.inside.caller rows) (applied.row some);
+        seen = c.seen-2.ensures.0 ∙ applied.row some;
+        legal = subst (λ (rows : List Row). IsLegal g.J.FrontId.setup rows) (applied.row some) applied.legal;
+      };
+      alone = λ some only.
+          ap (λ (p : Caller). p.sure) (applied.counted some)
+          ∙ (applied.row some ∙ ap (λ (rows : List Row). rows ++ event_row ∷ []) (sym (applied.alone only)));
+      memory = applied.memory;
+      stopped = applied.told;
+      seen = subst (λ (rows : List Row). IsPrefix c.self.inside.seen.seen.log rows) (sym c.seen-2.ensures.0)
+          (seen_grows c.apply_ready-reply.result c.self.inside.seen.seen.log c.args.book.now.rows c.apply_ready-reply.new.self.rows event_row
+          applied.row applied.no_row (begins g then));
+      no_stop = applied.no_stop;
+      stopped_alone = λ only told. applied.stops_alone only ∙ ap stops_of (applied.only_then told);
+    })

@@ -1,33 +1,31 @@
 use Rattle.std.proofs.Common.{List, length, ap, sym, ◌∙◌, subst}
 use mathlib.Core.List.{IsPrefix}
 use Rattle.history.specs.declared.row.Row.{Row}
-use Rattle.history.specs.Callers.{stops_of}
+use Rattle.history.specs.Callers.{Caller, stops_of}
 use Rattle.book.specs.Keeping.{Contents}
 use Rattle.book.specs.Asking.{IsAskedAfter}
 use Rattle.book.proofs.CallLemmas.{sure_asked}
 use Rattle.book.proofs.AskingLemmas.{after_all, is_asked_alone}
 use Rattle.book.proofs.pass.Pass.request.Goals as goal
 
-pub returns-clause-asked : goal.returns-clause-asked
-returns-clause-asked g c going =
-    let rows = c.seen-2.ensures.0 ∙ ap (λ (b : Contents). b.rows) c.request-told.ensures.stays in
-    subst (λ (all : List Row). IsAskedAfter g.J.FrontId.setup all c.args.user.now c.args.number c.request-told.result) (sym rows)
-    (after_all g.J.FrontId.setup c.args.book.now c.args.user.now c.args.number c.request-told.result c.kept_closures_are_good.ensures
-    c.request-told.ensures.legal c.request-told.ensures.given c.request-told.ensures.reached c.request-told.ensures.value c.request-told.ensures.stopped going)
-
-pub returns-clause-alone : goal.returns-clause-alone
-returns-clause-alone g c = rw (← c.self.view_is) (is_asked_alone g.J.FrontId.setup c.args.book.now c.args.user.now c.args.number c.request-told.result c.kept_closures_are_good.ensures
-    c.request-told.ensures.legal c.request-told.ensures.given c.request-told.ensures.reached c.request-told.ensures.value c.request-told.ensures.stopped c.self.inside.caller.sure _ c.request-told.ensures.alone)
-
-pub returns-clause-seen : goal.returns-clause-seen
-returns-clause-seen g c =
-    let rows = c.seen-2.ensures.0 ∙ ap (λ (b : Contents). b.rows) c.request-told.ensures.stays in
-    rw (← c.self.view_is) (subst (λ (all : List Row). IsPrefix c.self.inside.seen.seen.log all) (sym rows)
-    (subst (λ (all : List Row). IsPrefix c.self.inside.seen.seen.log all) c.seen.ensures.0 (rw c.insist.ensures at c.begins.ensures)))
-
-pub returns-clause-stopped_alone : goal.returns-clause-stopped_alone
-returns-clause-stopped_alone g c = rw (← c.self.view_is) (λ only told.
-    c.request-told.ensures.stops_alone only ∙ ap stops_of (c.request-told.ensures.only_then told))
+pub returns : goal.returns
+returns g c =
+    let asked = c.request-told.ensures in
+    let rows = c.seen-2.ensures.0 ∙ ap (λ (b : Contents). b.rows) asked.stays in
+    rw (← c.self.view_is) (record {
+      asked = λ going.
+          subst (λ (all : List Row). IsAskedAfter g.J.FrontId.setup all c.args.user.now c.args.number c.request-told.result) (sym rows)
+          (after_all g.J.FrontId.setup c.args.book.now c.args.user.now c.args.number c.request-told.result c.kept_closures_are_good.ensures
+          asked.legal asked.given asked.reached asked.value asked.stopped going);
+      alone = is_asked_alone g.J.FrontId.setup c.args.book.now c.args.user.now c.args.number c.request-told.result c.kept_closures_are_good.ensures
+          asked.legal asked.given asked.reached asked.value asked.stopped c.self.inside.caller.sure _ asked.alone;
+      going = λ going. ap (λ (caller : Caller). record { caller = caller; seen = c.seen-2.result.seen.log; stops = c.self.inside.stops.amount }) (asked.going going);
+      stopped = λ told. ap (λ (caller : Caller). record { caller = caller; seen = c.seen-2.result.seen.log; stops = c.self.inside.stops.amount }) (asked.told told);
+      remains = λ was. asked.stopped (asked.matches.stopped_too was);
+      seen = subst (λ (all : List Row). IsPrefix c.self.inside.seen.seen.log all) (sym rows)
+          (subst (λ (all : List Row). IsPrefix c.self.inside.seen.seen.log all) c.seen.ensures.0 (rw c.insist.ensures at c.begins.ensures));
+      stopped_alone = λ only told. asked.stops_alone only ∙ ap stops_of (asked.only_then told);
+    })
 
 pub invariant_of-self : goal.invariant_of-self
 invariant_of-self g c =

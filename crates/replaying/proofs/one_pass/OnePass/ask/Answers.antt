@@ -7,10 +7,10 @@ use Rattle.replaying.proofs.one_pass.OnePass.ask.Goals as goal
 pub returns : goal.returns
 returns g c =
     let called : IsCalled g.J.FrontId.setup c.self.inside.pass c.call-reply.new.pass c.args.event c.call-reply.result = record {
-      answered = c.call-reply.ensures.answered;
-      alone = λ some. c.call-reply.ensures.alone some c.self.invariant.0;
-      memory = c.call-reply.ensures.memory;
-      stopped = c.call-reply.ensures.stopped;
+      answered = c.call-reply.ensures.called.answered;
+      alone = λ some. c.call-reply.ensures.called.alone some c.self.invariant.0;
+      memory = c.call-reply.ensures.called.memory;
+      stopped = c.call-reply.ensures.called.stopped;
       remains = c.call-reply.ensures.remains;
     } in
     elim c.else-is_unrecorded.branch [
