@@ -23,13 +23,16 @@ pub record IsAskedAfter (setup : Setup) (rows : List Row) (user : List ℕ) (num
   pub same : NoClash (hashed setup nothing (events_of rows)) → IsAnswerTo (job_led_by setup (world_after setup nothing (events_of rows)) user number) told
   pub kept : NoClash (hashed setup nothing (events_of rows)) → (job : Running) → told ≡ Ok job → IsWellKept setup (events_of rows) user number job.resolved
 
--- a pass has asked the front, of so many passes, for the job that a user's goal leads
-pub record HasAsked (setup : Setup) (parts : ℕ) (old : Known) (user : List ℕ) (number : ℕ) (told : Result Running Refusal) (new : Known) : Type 0 where
+-- the front was asked through a pass for the job that a user's goal leads: what is told is so after the rows that the pass has seen then
+pub record IsAskedBy (setup : Setup) (old : Known) (user : List ℕ) (number : ℕ) (told : Result Running Refusal) (new : Known) : Type 0 where
   pub asked : told ≢ Err Stopped → IsAskedAfter setup new.seen user number told
-  -- the only pass is told what is so after the rows that it is sure of
-  pub alone : told ≢ Err Stopped → parts ≡ 1 → IsAskedAfter setup old.caller.sure user number told
+  pub seen : IsPrefix old.seen new.seen
   pub going : told ≢ Err Stopped → new ≡ seeing old new.seen
   pub stopped : told ≡ Err Stopped → new ≡ seeing (with_caller old (told_stopped old.caller)) new.seen
   pub remains : old.caller.stopped ≡ true → told ≡ Err Stopped
-  pub seen : IsPrefix old.seen new.seen
+
+-- the front was asked so through one of so many passes: the only pass is told what is so after the rows that it is sure of
+pub record HasAsked (setup : Setup) (parts : ℕ) (old : Known) (user : List ℕ) (number : ℕ) (told : Result Running Refusal) (new : Known) : Type 0 where
+  pub by : IsAskedBy setup old user number told new
+  pub alone : told ≢ Err Stopped → parts ≡ 1 → IsAskedAfter setup old.caller.sure user number told
   pub stopped_alone : parts ≡ 1 → told ≡ Err Stopped → old.stops ≡ 1

@@ -23,7 +23,8 @@ use Rattle.workers.specs.declared.runner.RunFault.{RunFault}
 use Rattle.workers.specs.declared.worker.Worker.{Worker}
 use Rattle.workers.specs.Working.{Call, asking}
 use Rattle.session.specs.Serving.{Link, Chain}
-use Rattle.running.specs.Calling.{IsTold, IsAskedBy, Stand, is_read, own_rows, rows_for}
+use Rattle.book.specs.Asking.{IsAskedBy}
+use Rattle.running.specs.Calling.{IsTold, Stand, is_read, own_rows, rows_for}
 use Rattle.running.specs.Meeting.{HasMet, IsNew, is_stopped, met_none, met_more, met_asking, stopped_told, stops_by}
 use Rattle.running.specs.Sessions.{Answers, Waits, IsStatusOf, AsksStatus, Calls, Served, ServedInPart}
 use Rattle.running.specs.Teams.{HasWorked, AllWorked, stops_in}

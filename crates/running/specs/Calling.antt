@@ -1,20 +1,17 @@
 -- What calls through a pass leave in the history of a front.
-use Rattle.std.specs.Prelude.{◌≡◌, ◌≢◌, ◌⊎◌, ℕ, ◌==◌, Bool, true, false, not, ◌&&◌, if◌then◌else◌, List, [], ◌∷◌, ◌++◌, filter, Result, Err, MatchBool}
+use Rattle.std.specs.Prelude.{◌≡◌, ◌≢◌, ◌⊎◌, ℕ, ◌==◌, Bool, true, false, not, ◌&&◌, if◌then◌else◌, List, [], ◌∷◌, ◌++◌, filter, MatchBool}
 use mathlib.Core.List.{IsPrefix}
-use Rattle.model.specs.declared.refusal.Refusal.{Refusal}
 use Rattle.model.specs.declared.refusal.Refusal.TheVariants.{Memory, Stopped}
 use Rattle.model.specs.Worlds.{Setup}
-use Rattle.model.specs.Goals.{Running}
 use Rattle.model.specs.Events.{is_query}
 use Rattle.events.specs.Terms.{request_of}
 use Rattle.events.specs.declared.event.Event.{Event}
 use Rattle.events.specs.declared.reply.Reply.{Reply}
 use Rattle.events.specs.declared.reply.Reply.TheVariants.{Refused}
 use Rattle.history.specs.declared.row.Row.{Row}
-use Rattle.history.specs.Callers.{Known, told_stopped, seeing, with_caller, rows_of}
+use Rattle.history.specs.Callers.{Known, told_stopped, seeing, rows_of}
 use Rattle.workers.specs.Working.{Call}
 use Rattle.history.specs.Histories.{row, unrecorded, IsAnswered, IsReadAfter}
-use Rattle.book.specs.Asking.{IsAskedAfter}
 
 -- ---- one call
 
@@ -45,14 +42,6 @@ pub record IsTold (setup : Setup) (old : Known) (event : Event) (reply : Reply) 
   pub seen : IsPrefix old.seen new.seen
   pub before : IsCounted old
   pub after : IsCounted new
-
--- a front was asked through a pass for the job that a user's goal leads: what is told is so after the rows that the pass has seen then
-pub record IsAskedBy (setup : Setup) (old : Known) (user : List ℕ) (number : ℕ) (told : Result Running Refusal) (new : Known) : Type 0 where
-  pub asked : told ≢ Err Stopped → IsAskedAfter setup new.seen user number told
-  pub seen : IsPrefix old.seen new.seen
-  pub going : told ≢ Err Stopped → new ≡ seeing old new.seen
-  pub stopped : told ≡ Err Stopped → new ≡ seeing (with_caller old (told_stopped old.caller)) new.seen
-  pub remains : old.caller.stopped ≡ true → told ≡ Err Stopped
 
 -- ---- all calls of a pass, in a history
 

@@ -8,7 +8,8 @@ use Rattle.events.specs.declared.reply.Reply.{Reply}
 use Rattle.history.specs.Callers.{Known, new_pass, below}
 use Rattle.workers.specs.declared.runner.RunFault.{RunFault}
 use Rattle.workers.specs.declared.worker.Worker.{Worker}
-use Rattle.running.specs.Calling.{IsTold, IsAskedBy}
+use Rattle.book.specs.Asking.{IsAskedBy}
+use Rattle.running.specs.Calling.{IsTold}
 use Rattle.running.specs.Meeting.{HasMet, IsNew, stops_by}
 use Rattle.running.specs.Teams.{TeamView, IsTeam, stops_in}
 use Rattle.running.specs.declared.sessions.Desk.{Desk}

@@ -14,7 +14,8 @@ use Rattle.events.specs.declared.reply.Reply.TheVariants.{Refused}
 use Rattle.history.specs.Callers.{Caller, Known, knowing, told_stopped, new_pass}
 use Rattle.history.specs.Histories.{unrecorded}
 use Rattle.history.proofs.Prefixes.{prefix_self, prefix_trans}
-use Rattle.running.specs.Calling.{is_read, IsTold, IsAskedBy}
+use Rattle.book.specs.Asking.{IsAskedBy}
+use Rattle.running.specs.Calling.{is_read, IsTold}
 
 -- a pass met others, or none: of its own calls it knows what it knew, but that the front may be stopped, and it has seen what it had seen
 pub record HasMet (old new : Known) : Type 0 where

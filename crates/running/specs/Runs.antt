@@ -26,7 +26,8 @@ use Rattle.workers.specs.Working.{Call}
 use Rattle.session.specs.Serving.{HasRefused}
 use Rattle.running.specs.declared.sessions.Output.{Output}
 use Rattle.running.specs.declared.sessions.Part.{Part}
-use Rattle.running.specs.Calling.{Stand, IsTold, IsAskedBy}
+use Rattle.book.specs.Asking.{IsAskedBy}
+use Rattle.running.specs.Calling.{Stand, IsTold}
 use Rattle.running.specs.Meeting.{HasMet, stops_by}
 use Rattle.running.specs.Teams.{WorksInRounds}
 use Rattle.running.specs.Sessions.{AsksStatus, EndsBy}

@@ -75,7 +75,8 @@ fn call<J: FrontId, R: Wait>(
 /// What is only read is so after rows that the pass has seen then, and each other event that is answered
 /// has a row of the pass in the history.
 impl<J: FrontId, R: Wait> Store for SharedStore<'_, J, R> {
-    ghost use Rattle.running.specs.Calling.{IsTold, IsAskedBy};
+    ghost use Rattle.book.specs.Asking.{IsAskedBy};
+    ghost use Rattle.running.specs.Calling.{IsTold};
 
     ghost called = { λ old event reply new. IsTold J.setup old event reply new };
 

@@ -13,17 +13,19 @@ returns g c =
     let asked = c.request-told.ensures in
     let rows = c.seen-2.ensures.0 ∙ ap (λ (b : Contents). b.rows) asked.stays in
     rw (← c.self.view_is) (record {
-      asked = λ going.
-          subst (λ (all : List Row). IsAskedAfter g.J.FrontId.setup all c.args.user.now c.args.number c.request-told.result) (sym rows)
-          (after_all g.J.FrontId.setup c.args.book.now c.args.user.now c.args.number c.request-told.result c.kept_closures_are_good.ensures
-          asked.legal asked.given asked.reached asked.value asked.stopped going);
+      by = record {
+        asked = λ going.
+            subst (λ (all : List Row). IsAskedAfter g.J.FrontId.setup all c.args.user.now c.args.number c.request-told.result) (sym rows)
+            (after_all g.J.FrontId.setup c.args.book.now c.args.user.now c.args.number c.request-told.result c.kept_closures_are_good.ensures
+            asked.legal asked.given asked.reached asked.value asked.stopped going);
+        seen = subst (λ (all : List Row). IsPrefix c.self.inside.seen.seen.log all) (sym rows)
+            (subst (λ (all : List Row). IsPrefix c.self.inside.seen.seen.log all) c.seen.ensures.0 (rw c.insist.ensures at c.begins.ensures));
+        going = λ going. ap (λ (caller : Caller). record { caller = caller; seen = c.seen-2.result.seen.log; stops = c.self.inside.stops.amount }) (asked.going going);
+        stopped = λ told. ap (λ (caller : Caller). record { caller = caller; seen = c.seen-2.result.seen.log; stops = c.self.inside.stops.amount }) (asked.told told);
+        remains = λ was. asked.stopped (asked.matches.stopped_too was);
+      };
       alone = is_asked_alone g.J.FrontId.setup c.args.book.now c.args.user.now c.args.number c.request-told.result c.kept_closures_are_good.ensures
           asked.legal asked.given asked.reached asked.value asked.stopped c.self.inside.caller.sure _ asked.alone;
-      going = λ going. ap (λ (caller : Caller). record { caller = caller; seen = c.seen-2.result.seen.log; stops = c.self.inside.stops.amount }) (asked.going going);
-      stopped = λ told. ap (λ (caller : Caller). record { caller = caller; seen = c.seen-2.result.seen.log; stops = c.self.inside.stops.amount }) (asked.told told);
-      remains = λ was. asked.stopped (asked.matches.stopped_too was);
-      seen = subst (λ (all : List Row). IsPrefix c.self.inside.seen.seen.log all) (sym rows)
-          (subst (λ (all : List Row). IsPrefix c.self.inside.seen.seen.log all) c.seen.ensures.0 (rw c.insist.ensures at c.begins.ensures));
       stopped_alone = λ only told. asked.stops_alone only ∙ ap stops_of (asked.only_then told);
     })
 
