@@ -15,7 +15,7 @@ ghost use Rattle.handling.specs.Stored.{source_of_entry};
 ghost use Rattle.handling.specs.Sound.{IsSound, IsClosure, IsStored, AreGoalsSound};
 ghost use Rattle.handling.specs.Viewing.{desk_at};
 ghost use Rattle.handling.specs.Handling.{IsHandledAtPlace};
-ghost use Rattle.goals.specs.Planning.{IsResolvedAt, TellsToPlan, fails, IsNotKept};
+ghost use Rattle.goals.specs.Planning.{IsResolvedAt, TellsToPlan, fails, IsNotKept, EqualsAllLike};
 
 use aterm::Derivation;
 use choose::View;
@@ -112,8 +112,23 @@ pub(crate) fn fails(why: Refusal) -> bool
     }
 }
 
+/// The same, which shares its closure and its text with what another goal of the user at a place is
+/// built from, where that is found, and is equal. It takes no memory.
+fn shared(jobs: &Jobs, place: usize, resolved: Resolved) -> Resolved
+    requires of_run { place < length jobs.now.goals }
+    requires equal { EqualsAllLike (goals_at place jobs.now) resolved }
+    ensures { result ≡ resolved }
+{
+    match jobs.planned_like(place, &resolved) {
+        Some(other) => other.clone().unwrap_or(resolved),
+        None => resolved,
+    }
+}
+
 /// A goal is planned, and the trees of the closure that it is built from are put into the table,
 /// where their paths are new there. All that needs memory comes before the first change.
+/// Another goal of the user that is planned has its trees there, so that where it is built from the same
+/// but for the trees, the trees are the same too.
 fn keep(
     alloc: Global,
     jobs: &mut Jobs,
@@ -124,6 +139,7 @@ fn keep(
 ) -> Result<(), Refusal>
     requires of_run { place < length jobs.old.goals }
     requires there { is_some (goal_at number (goals_at place jobs.old)) ≡ true }
+    requires sound { AreGoalsSound table.old.sources (goals_at place jobs.old) }
     ensures planned { (g : GoalValue) → goal_at number (goals_at place jobs.old) ≡ Some g
         → OnOk result (jobs.new ≡ with_goals_at place
         (with_goal_at number (planned_with resolved g) (goals_at place jobs.old)) jobs.old) }
@@ -137,6 +153,7 @@ fn keep(
     let count = trees.len();
     let trees = table.missing(alloc, trees)?;
     table.reserve(count)?;
+    let resolved = shared(jobs, place, resolved);
     jobs.keep(alloc, place, number, resolved)?;
     table.put_all_reserved(trees);
     Ok(())

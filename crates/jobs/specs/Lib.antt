@@ -8,3 +8,4 @@ pub mod Joining
 pub mod Leading
 pub mod RunningCodes
 pub mod Asking
+pub mod Shared

@@ -5,12 +5,22 @@ ghost use Rattle.model.specs.Goals.{in_state, new_goal, job_in};
 ghost use Rattle.events.specs.States.{state_of};
 ghost use Rattle.jobs.specs.States.{path_in, is_alike, planned_with};
 ghost use Rattle.jobs.specs.Joining.{same_as};
+ghost use Rattle.jobs.specs.Shared.{planned_like};
+ghost use Rattle.model.specs.KeptClosures.{is_planned};
 
 use crate::same::same_resolved;
+use crate::shared::equal_but_trees;
 use events::{Job, State};
 use records::Resolved;
 use std::marker::Model;
 use storepath::StorePath;
+
+/// Whether a goal is planned, or is built in a job.
+fn is_planned(state: &State) -> bool
+    ensures { result ≡ is_planned (state_of state.now) }
+{
+    matches!(state, State::Planned | State::Building(_))
+}
 
 /// One request to build.
 pub struct Goal {
@@ -76,6 +86,17 @@ impl Goal {
         match &self.resolved {
             Some(own) => same_resolved(own, resolved),
             None => false,
+        }
+    }
+
+    /// What it is built from, if it is planned, or built in a job, and that is equal to `resolved` but
+    /// for the trees.
+    pub(crate) fn planned_like(&self, resolved: &Resolved) -> Option<&Resolved>
+        ensures { option_copied result ≡ planned_like resolved.now self.now }
+    {
+        match &self.resolved {
+            Some(own) if is_planned(&self.state) && equal_but_trees(own, resolved) => Some(own),
+            _ => None,
         }
     }
 

@@ -1,12 +1,13 @@
 //! The goals of one user.
 
-ghost use Rattle.std.specs.Prelude.{◌≡◌, ◌≤◌, ◌+◌, ◌⊎◌, ◌↔◌, true, false, [], ◌∷◌, ◌++◌, length, Some, Err, IfErr, IfOk, OnOk, OnErr, is_some, option_copied};
+ghost use Rattle.std.specs.Prelude.{◌≡◌, ◌≤◌, ◌+◌, ◌⊎◌, ◌↔◌, true, false, [], ◌∷◌, ◌++◌, length, Some, Err, IfErr, IfOk, IfSome, OnOk, OnErr, is_some, option_copied};
 ghost use Rattle.model.specs.declared.refusal.Refusal.TheVariants.{Memory, Quota};
 ghost use Rattle.model.specs.Limits.{most_goals};
 ghost use Rattle.model.specs.Worlds.{Building};
 ghost use Rattle.model.specs.Goals.{goal_at, in_state, new_goal, members, led_by, is_building};
 ghost use Rattle.jobs.specs.Joining.{job_with, least_with, lesser_of};
 ghost use Rattle.jobs.specs.Owned.{with_goals, ChangesOwn};
+ghost use Rattle.jobs.specs.Shared.{IsPlannedLike};
 ghost use Rattle.jobs.specs.Numbers.{numbers, leads_at, finished, first_built};
 ghost use Rattle.events.specs.States.{state_of};
 ghost use Rattle.jobs.specs.States.{planned_with, IsIdle};
@@ -122,6 +123,27 @@ impl Goals {
         ensures { option_copied result ≡ goal_at number self.now.goals }
     {
         goal_of(self.goals.as_slice(), number)
+    }
+
+    // What the goal of a number is built from, if it is planned, or built in a job, and that is equal to
+    // `resolved` but for the trees.
+    fn like_at(&self, number: Option<&u16>, resolved: &Resolved) -> Option<&Resolved>
+        ensures { IfSome (option_copied result) (IsPlannedLike self.now.goals resolved.now) }
+    {
+        self.get(*number?)?.planned_like(resolved)
+    }
+
+    /// What one of the goals is built from that is planned, or built in a job, where that is equal to
+    /// `resolved` but for the trees. Of the goals that are built under the same path it looks at the last
+    /// and at the first.
+    pub(crate) fn planned_like(&self, resolved: &Resolved) -> Option<&Resolved>
+        ensures { IfSome (option_copied result) (IsPlannedLike self.now.goals resolved.now) }
+    {
+        let numbers = self.indexes.built_under(resolved.scratch());
+        match self.like_at(numbers.last(), resolved) {
+            Some(found) => Some(found),
+            None => self.like_at(numbers.first(), resolved),
+        }
     }
 
     /// What the first of those goals is built from that are built under a path. It is found at once.

@@ -14,6 +14,7 @@ mod members;
 mod planners;
 mod running;
 mod same;
+mod shared;
 mod users;
 
 pub use events::{Job, State};

@@ -1,6 +1,6 @@
 //! The goals of all users of a run.
 
-ghost use Rattle.std.specs.Prelude.{◌≡◌, ◌≤◌, ◌<◌, ◌+◌, ◌⊎◌, ◌↔◌, true, false, [], ◌∷◌, ◌++◌, length, map, None, Some, Err, IfErr, IfOk, OnOk, OnErr, is_some, option_copied};
+ghost use Rattle.std.specs.Prelude.{◌≡◌, ◌≤◌, ◌<◌, ◌+◌, ◌⊎◌, ◌↔◌, true, false, [], ◌∷◌, ◌++◌, length, map, None, Some, Err, IfErr, IfOk, IfSome, OnOk, OnErr, is_some, option_copied};
 ghost use Rattle.model.specs.declared.refusal.Refusal.TheVariants.{Memory, Quota};
 ghost use Rattle.model.specs.Limits.{most_goals};
 ghost use Rattle.model.specs.Worlds.{Building};
@@ -15,6 +15,7 @@ ghost use Rattle.jobs.specs.States.{planned_with, IsIdle};
 ghost use Rattle.jobs.specs.Joining.{running_at, least_with};
 ghost use Rattle.jobs.specs.Numbers.{finished};
 ghost use Rattle.jobs.specs.Planners.{HasPlanners};
+ghost use Rattle.jobs.specs.Shared.{IsPlannedLike};
 
 use crate::goal::Goal;
 use crate::goals::Goals;
@@ -125,6 +126,17 @@ impl Jobs {
         ensures { option_copied result ≡ goal_of place number self.now }
     {
         self.all[place].get(number)
+    }
+
+    /// What a goal of the user at a place is built from that is planned, or built in a job, where that is
+    /// equal to `resolved` but for the trees. Of his goals that are built under the same path it looks at
+    /// the last and at the first.
+    pub fn planned_like(&self, place: usize, resolved: &Resolved) -> Option<&Resolved>
+        requires { place < length self.now.goals }
+        ensures { IfSome (option_copied result)
+            (IsPlannedLike (goals_at place self.now) resolved.now) }
+    {
+        self.all[place].planned_like(resolved)
     }
 
     /// A goal is planned, and from now on built from that. Where it was built in a job, it leaves
