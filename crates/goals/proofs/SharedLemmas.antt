@@ -12,7 +12,7 @@ use Rattle.store.specs.Stored.{Extends}
 use Rattle.jobs.specs.Shared.{equal_class, equal_class_of, equal_label, equal_but_tree, equal_but_trees, IsPlannedLike}
 use Rattle.handling.specs.Sound.{IsStored, AreGoalsSound}
 use Rattle.handling.proofs.GoalLemmas.{goals_kept, goal_stored}
-use Rattle.goals.specs.Planning.{EqualsAllLike}
+use Rattle.goals.specs.Sharing.{EqualsAllLike}
 
 same_number : (m n : ℕ) → (m == n) ≡ true → m ≡ n
 same_number m n t = grind arith

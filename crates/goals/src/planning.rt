@@ -15,7 +15,8 @@ ghost use Rattle.handling.specs.Stored.{source_of_entry};
 ghost use Rattle.handling.specs.Sound.{IsSound, IsClosure, IsStored, AreGoalsSound};
 ghost use Rattle.handling.specs.Viewing.{desk_at};
 ghost use Rattle.handling.specs.Handling.{IsHandledAtPlace};
-ghost use Rattle.goals.specs.Planning.{IsResolvedAt, TellsToPlan, fails, IsNotKept, EqualsAllLike};
+ghost use Rattle.goals.specs.Planning.{IsResolvedAt, TellsToPlan, fails, IsNotKept};
+ghost use Rattle.goals.specs.Sharing.{EqualsAllLike};
 
 use aterm::Derivation;
 use choose::View;
