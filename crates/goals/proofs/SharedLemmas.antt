@@ -1,12 +1,12 @@
 -- What goals are built from, of which a table has the trees.
-use Rattle.std.proofs.Common.{◌≡◌, ℕ, Bool, true, false, List, [], ◌∷◌, refl, sym, ◌∙◌, ap, Option, Some, None}
+use Rattle.std.proofs.Common.{◌≡◌, ℕ, true, List, [], ◌∷◌, refl, sym, ◌∙◌, ap, arith, Option, Some, None}
+use Rattle.std.proofs.lemmas.Bool.Decides.{nat_tests}
 use Rattle.std.specs.Prelude.{◌&&◌, ◌==◌, bytes_eq, All}
 use Rattle.std.specs.Cmp.Lexicographic.{pointwise}
 use Rattle.std.proofs.lemmas.List.Elements.{All-head, All-tail}
 use Rattle.model.specs.Archives.{Tree}
 use Rattle.model.specs.Classes.{Class}
-use Rattle.model.specs.Worlds.{Source, Label, Record, Entry, OfSource, OfRecord, path_of_entry, Resolved, Goal, tree_at}
-use Rattle.model.specs.Closures.{tree_of_entry}
+use Rattle.model.specs.Worlds.{Source, Label, Record, Entry, OfSource, OfRecord, Resolved, Goal, tree_at}
 use Rattle.model.proofs.BoolLemmas.{both_parts, same_bytes}
 use Rattle.store.specs.Stored.{Extends}
 use Rattle.jobs.specs.Shared.{equal_class, equal_class_of, equal_label, equal_but_tree, equal_but_trees, IsPlannedLike}
@@ -15,7 +15,7 @@ use Rattle.handling.proofs.GoalLemmas.{goals_kept, goal_stored}
 use Rattle.goals.specs.Sharing.{EqualsAllLike}
 
 same_number : (m n : ℕ) → (m == n) ≡ true → m ≡ n
-same_number m n t = grind arith
+same_number m n t = grind (arith, nat_tests)
 
 some_is : {X : Type 0} (x y : X) → Some x ≡ Some y → x ≡ y
 some_is x y same = cc
