@@ -4,7 +4,7 @@ ghost use Rattle.std.specs.Prelude.{◌≡◌, ◌<◌, ◌⊎◌, [], true, fal
 ghost use Rattle.model.specs.Lines.{lines_of};
 ghost use Rattle.model.specs.Worlds.{are_users};
 ghost use Rattle.model.specs.declared.refusal.Refusal.TheVariants.{BadUsers, Quota, InputFault, OutputFault};
-ghost use Rattle.session.specs.Serving.{IsNoFault, IsOwn, MayBeFault};
+ghost use Rattle.session.specs.Serving.{EndsByCounts, IsOwn};
 ghost use Rattle.replaying.specs.Replaying.{Replayed, ReplayedInPart};
 ghost use Rattle.replaying.specs.WholeLines.{ReplayedSoFar};
 ghost use Rattle.replaying.specs.Striking.{Struck, StruckEarly};
@@ -77,11 +77,8 @@ pub(crate) fn run_lines<H: Wait, R: Read + Faults, W: Write + Faults>(
     ensures struck_in_part { WhereStrikes options.now.action (λ user timed. IfErr result (λ why.
         (all : List ℕ) → R.remaining reader.old ≡ Some all
         → StruckEarly options.now.charge user timed (W.contents writer.old) (W.contents writer.new) (lines_of all) why)) }
-    ensures input_fault { IfErr result
-        (MayBeFault InputFault (R.failed reader.old) (R.failed reader.new)) }
-    ensures output_fault { IfErr result
-        (MayBeFault OutputFault (W.failed writer.old) (W.failed writer.new)) }
-    ensures memory { IfErr result (IsNoFault (W.failed writer.old) (W.failed writer.new)) }
+    ensures counts { EndsByCounts result (R.failed reader.old) (R.failed reader.new)
+        (W.failed writer.old) (W.failed writer.new) }
 {
     let limits = limits_of(options);
     let settings = Settings { hashing, limits };

@@ -160,13 +160,8 @@ pub fn replay<H: Wait, R: Read + Faults, W: Write + Faults>(
     ensures failed { IfErr result (λ why. why ≡ InputFault → (all : List ℕ) → R.remaining reader.old ≡ Some all
         → ReplayedSoFar settings.limits.charge (W.contents writer.old) (W.contents writer.new) all (R.remaining reader.new)) }
     ensures errors { IfErr result (λ why. (why ≡ InputFault) ⊎ IsOwn why) }
-    // It ends well only where the reader's count shows no failure.
-    ensures whole { OnOk result (¬ HasFailed (R.failed reader.old) (R.failed reader.new)) }
-    ensures input_fault { IfErr result
-        (MayBeFault InputFault (R.failed reader.old) (R.failed reader.new)) }
-    ensures output_fault { IfErr result
-        (MayBeFault OutputFault (W.failed writer.old) (W.failed writer.new)) }
-    ensures memory { IfErr result (IsNoFault (W.failed writer.old) (W.failed writer.new)) }
+    ensures counts { EndsByCounts result (R.failed reader.old) (R.failed reader.new)
+        (W.failed writer.old) (W.failed writer.new) }
 {
     let reader_before = reader.failures();
     let writer_before = writer.failures();

@@ -222,13 +222,8 @@ pub fn strike<H: Wait, R: Read + Faults, W: Write + Faults>(
     ensures err { IfErr result (λ why. (all : List ℕ) → R.remaining reader.old ≡ Some all
         → StruckEarly settings.limits.charge observer.entry.name.now observer.entry.timed
         (W.contents writer.old) (W.contents writer.new) (lines_of all) why) }
-    // It ends well only where the reader's count shows no failure.
-    ensures whole { OnOk result (¬ HasFailed (R.failed reader.old) (R.failed reader.new)) }
-    ensures input_fault { IfErr result
-        (MayBeFault InputFault (R.failed reader.old) (R.failed reader.new)) }
-    ensures output_fault { IfErr result
-        (MayBeFault OutputFault (W.failed writer.old) (W.failed writer.new)) }
-    ensures memory { IfErr result (IsNoFault (W.failed writer.old) (W.failed writer.new)) }
+    ensures counts { EndsByCounts result (R.failed reader.old) (R.failed reader.new)
+        (W.failed writer.old) (W.failed writer.new) }
 {
     let reader_before = reader.failures();
     let writer_before = writer.failures();

@@ -421,6 +421,13 @@ counted-err (Ok u) e old new Q is q f = tt
 counted-err (Err why) e old new Q (inl same) q f = rw same at q
 counted-err (Err why) e old new Q (inr other) q f = subst Q (sym other.1.0) (f (rw other.0 at q))
 
+pub counted-output : (r e : Result (Unit {0}) Refusal) (old new : ℕ)
+    → IfErr r (λ why. (e ≡ Err why) ⊎ ((e ≡ Err Memory) × IsFault OutputFault old new why)) → IfErr e (MayBeFault OutputFault old new)
+    → IfErr r (MayBeFault OutputFault old new)
+counted-output (Ok u) e old new is q = tt
+counted-output (Err why) e old new (inl same) q = rw same at q
+counted-output (Err why) e old new (inr other) q = λ _. other.1.1
+
 -- ---- one piece after another
 
 module _ {A : Type 0} (L : A → Row → A → Type 0) where

@@ -1,5 +1,5 @@
 -- What a session did with its lines: the answers and waits that it had, and what it wrote.
-use Rattle.std.specs.Prelude.{◌≡◌, ◌⊎◌, ◌≤◌, ◌==◌, ⊤, true, false, ℕ, ◌+◌, List, [], ◌∷◌, ◌++◌, length, take, Option, Some, None}
+use Rattle.std.specs.Prelude.{◌≡◌, ◌⊎◌, ◌≤◌, ◌==◌, ⊤, true, false, ℕ, ◌+◌, List, [], ◌∷◌, ◌++◌, length, take, Option, Some, None, Result, OnOk, IfErr}
 use mathlib.Core.List.{IsPrefix}
 use Rattle.std.specs.Io.KnownBytes.{Appends, Consumes, IsAtEnd}
 use Rattle.model.specs.declared.mode.Mode.{Mode}
@@ -159,6 +159,14 @@ StopsAt Is link old new = (new ≡ old) ⊎ ((row : Row) × Is row × link old r
 -- where it is 90, the count shows no failure
 abbrev pub IsNoFault : (old new : ℕ) → Refusal → Type 0
 IsNoFault old new why = why ≡ Memory → ¬ HasFailed old new
+
+-- how lines ended, by how often reader and writer had failed before and have failed now: all is answered only where the reader's count
+-- shows no failure, a fault comes of a failure that its count shows, and memory is told only where the writer's count shows none
+pub record EndsByCounts {T : Type 0} (result : Result T Refusal) (reads reads_now writes writes_now : ℕ) : Type 0 where
+  pub whole : OnOk result (¬ HasFailed reads reads_now)
+  pub input_fault : IfErr result (MayBeFault InputFault reads reads_now)
+  pub output_fault : IfErr result (MayBeFault OutputFault writes writes_now)
+  pub memory : IfErr result (IsNoFault writes writes_now)
 
 -- it is 72 where the writer's count shows a failure, and else 90
 abbrev pub IsWant : (output : Type 0) → Refusal → Type 0

@@ -6,7 +6,7 @@ ghost use Rattle.model.specs.declared.refusal.Refusal.TheVariants.{InputFault, M
 ghost use Rattle.model.specs.Lines.{lines_of};
 ghost use Rattle.model.specs.Talk.{fresh};
 ghost use Rattle.session.specs.Serving.{Link, GoesOn, EndsIn, Finishes, EndsAtLast, AnsweredSoFar, EndedEarly};
-ghost use Rattle.session.specs.Serving.{EndsBehind, FinishesBehind, HasFailed, StopsBehind};
+ghost use Rattle.session.specs.Serving.{EndsBehind, EndsByCounts, FinishesBehind, HasFailed, StopsBehind};
 ghost use Rattle.session.specs.Serving.{Finished, HoldsMore, IsFault, IsNoFault, IsOwn, MayBeFault, NotShown};
 
 use crate::answer::Answer;
@@ -217,14 +217,9 @@ pub fn serve_on<R: Read + Faults, W: Write + Faults, A: Answer>(
         × Consumes (R.remaining reader.old) (R.remaining reader.new) input
         × StopsBehind (Link A.answers A.waited) answer.old answer.new
         (W.contents writer.old) (W.contents writer.new) begun.old.session [] (begun.old.rest.items ++ input)) }
-    // It ends so only where the reader's count shows no failure.
-    ensures whole { OnOk result (¬ HasFailed begun.old.reader_failures (R.failed reader.new)) }
     ensures errors { IfErr result (λ why. (why ≡ InputFault) ⊎ IsOwn why) }
-    ensures input_fault { IfErr result
-        (MayBeFault InputFault begun.old.reader_failures (R.failed reader.new)) }
-    ensures output_fault { IfErr result
-        (MayBeFault OutputFault begun.old.writer_failures (W.failed writer.new)) }
-    ensures memory { IfErr result (IsNoFault begun.old.writer_failures (W.failed writer.new)) }
+    ensures counts { EndsByCounts result begun.old.reader_failures (R.failed reader.new)
+        begun.old.writer_failures (W.failed writer.new) }
 {
     let before = begun.writer_failures;
     let mut held = Vec::new(alloc);
@@ -283,14 +278,9 @@ pub fn serve_behind<R: Read + Faults, W: Write + Faults, A: Answer>(
         × Consumes (R.remaining reader.old) (R.remaining reader.new) input
         × AnsweredSoFar mode (Link A.answers A.waited) answer.old answer.new
         (W.contents writer.old) (W.contents writer.new) (bytes.now ++ input)) }
-    // It ends so only where the reader's count shows no failure.
-    ensures whole { OnOk result (¬ HasFailed (R.failed reader.old) (R.failed reader.new)) }
     ensures errors { IfErr result (λ why. (why ≡ InputFault) ⊎ IsOwn why) }
-    ensures input_fault { IfErr result
-        (MayBeFault InputFault (R.failed reader.old) (R.failed reader.new)) }
-    ensures output_fault { IfErr result
-        (MayBeFault OutputFault (W.failed writer.old) (W.failed writer.new)) }
-    ensures memory { IfErr result (IsNoFault (W.failed writer.old) (W.failed writer.new)) }
+    ensures counts { EndsByCounts result (R.failed reader.old) (R.failed reader.new)
+        (W.failed writer.old) (W.failed writer.new) }
 {
     let reader_before = reader.failures();
     let before = writer.failures();
@@ -344,14 +334,9 @@ pub fn serve<R: Read + Faults, W: Write + Faults, A: Answer>(
         × Consumes (R.remaining reader.old) (R.remaining reader.new) input
         × AnsweredSoFar mode (Link A.answers A.waited) answer.old answer.new
         (W.contents writer.old) (W.contents writer.new) input) }
-    // It ends so only where the reader's count shows no failure.
-    ensures whole { OnOk result (¬ HasFailed (R.failed reader.old) (R.failed reader.new)) }
     ensures errors { IfErr result (λ why. (why ≡ InputFault) ⊎ IsOwn why) }
-    ensures input_fault { IfErr result
-        (MayBeFault InputFault (R.failed reader.old) (R.failed reader.new)) }
-    ensures output_fault { IfErr result
-        (MayBeFault OutputFault (W.failed writer.old) (W.failed writer.new)) }
-    ensures memory { IfErr result (IsNoFault (W.failed writer.old) (W.failed writer.new)) }
+    ensures counts { EndsByCounts result (R.failed reader.old) (R.failed reader.new)
+        (W.failed writer.old) (W.failed writer.new) }
 {
     let before = writer.failures();
     let ended = serve_behind(alloc, mode, b"", reader, writer, answer);

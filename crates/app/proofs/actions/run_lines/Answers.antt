@@ -2,7 +2,7 @@ use Rattle.std.proofs.Common.{◌≡◌, subst, ℕ, List, Some}
 use Rattle.std.specs.Prelude.{IfErr}
 use Rattle.model.specs.declared.refusal.Refusal.TheVariants.{InputFault}
 use Rattle.replaying.specs.WholeLines.{ReplayedSoFar}
-use Rattle.app.proofs.ToldLemmas.{told_ok, told_err}
+use Rattle.app.proofs.ToldLemmas.{told_ok, told_err, told_counts}
 use Rattle.app.proofs.actions.run_lines.Goals as goal
 
 pub returns-in-Replay-clause-failed : goal.returns-in-Replay-clause-failed
@@ -11,3 +11,6 @@ returns-in-Replay-clause-failed g c = λ _.
     (subst (λ (charge : ℕ). IfErr c.replay.result (λ why. why ≡ InputFault → (all : List ℕ) → g.R.Read.remaining c.args.reader.now ≡ Some all
     → ReplayedSoFar charge (g.W.Write.contents c.args.writer.now) (g.W.Write.contents c.replay.new.writer) all (g.R.Read.remaining c.replay.new.reader)))
     c.limits_of-limits.ensures c.replay.ensures.failed)
+
+pub returns-in-Replay-clause-counts : goal.returns-in-Replay-clause-counts
+returns-in-Replay-clause-counts g c = told_counts c.replay.result c.nothing_told.result _ _ _ _ c.nothing_told.ensures c.replay.ensures.counts

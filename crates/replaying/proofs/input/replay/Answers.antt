@@ -21,5 +21,12 @@ pub returns-clause-failed : goal.returns-clause-failed
 returns-clause-failed g c = after_failed _ _ _ _ c.flush_after.result c.answer_input-ended.result _ _ c.flush_after.ensures.err c.answer_input-ended.ensures.failed
     (λ h all known. so_far_flushed _ _ _ _ _ _ (h all known) c.flush_after.ensures.kept)
 
-pub returns-clause-whole : goal.returns-clause-whole
-returns-clause-whole g c = after_ok c.flush_after.result c.answer_input-ended.result _ _ c.flush_after.ensures.ok c.answer_input-ended.ensures.whole (λ whole. whole)
+pub returns-clause-counts : goal.returns-clause-counts
+returns-clause-counts g c =
+    let flushed = c.flush_after.ensures in
+    rw (← c.failures-reader_before.ensures, ← c.failures-writer_before.ensures) (record {
+      whole = after_ok c.flush_after.result c.answer_input-ended.result _ _ flushed.ok (rw c.failures-reader_before.ensures c.answer_input-ended.ensures.whole) (λ whole. whole);
+      input_fault = flushed.input_fault;
+      output_fault = flushed.output_fault;
+      memory = flushed.memory;
+    })

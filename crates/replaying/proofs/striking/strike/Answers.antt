@@ -19,10 +19,16 @@ returns-clause-err g c =
     (λ h all known. not_flushed _ _ _ _ _ _ _ c.flush_after-shown.ensures.kept h.0 (h.1 all known))
     (λ first why told h all known. early_told _ _ _ _ _ _ _ c.flush_after-shown.ensures.kept first why told (h all known)))
 
-pub returns-clause-whole : goal.returns-clause-whole
-returns-clause-whole g c =
+pub returns-clause-counts : goal.returns-clause-counts
+returns-clause-counts g c =
     let told = c.strike_lines-told.result in
     let ended = c.end_of-ended.result in
     let shown = c.flush_after-shown.result in
-    with_ok c.ended_with.result shown told _ c.ended_with.ensures
-    (after_ok shown ended _ _ c.flush_after-shown.ensures.ok (end_ok told ended _ c.end_of-ended.ensures c.strike_lines-told.ensures.whole) (λ whole. whole))
+    let flushed = c.flush_after-shown.ensures in
+    rw (← c.failures-reader_before.ensures, ← c.failures-writer_before.ensures) (record {
+      whole = with_ok c.ended_with.result shown told _ c.ended_with.ensures
+          (after_ok shown ended _ _ flushed.ok (end_ok told ended _ c.end_of-ended.ensures (rw c.failures-reader_before.ensures c.strike_lines-told.ensures.whole)) (λ whole. whole));
+      input_fault = with_err c.ended_with.result shown told _ c.ended_with.ensures flushed.input_fault;
+      output_fault = with_err c.ended_with.result shown told _ c.ended_with.ensures flushed.output_fault;
+      memory = with_err c.ended_with.result shown told _ c.ended_with.ensures flushed.memory;
+    })

@@ -1,6 +1,6 @@
 use Rattle.std.proofs.Common.{[]}
 use Rattle.session.specs.Serving.{Link, Progress}
-use Rattle.session.proofs.ProgressLemmas.{progress-none, early-other, by_output_fault, counted-ok, counted-err}
+use Rattle.session.proofs.ProgressLemmas.{progress-none, early-other, by_output_fault, counted-ok, counted-err, counted-output}
 use Rattle.session.proofs.RowLemmas.{on_ok, if_err}
 use Rattle.session.proofs.serving.serve_behind.Goals as goal
 
@@ -30,6 +30,14 @@ returns-clause-failed g c =
     (if_err c.serve_by-ended.result (λ why f is. let h = f is in (h.0, h.1, h.2 c.args.mode c.args.answer.now blank [] begun)) c.serve_by-ended.ensures.failed)
     (λ h is. cc)
 
-pub returns-clause-whole : goal.returns-clause-whole
-returns-clause-whole g c = counted-ok c.as_counted.result c.serve_by-ended.result _ c.as_counted.ensures.ok
-    (rw (← c.failures-reader_before.ensures) c.serve_by-ended.ensures.whole)
+pub returns-clause-counts : goal.returns-clause-counts
+returns-clause-counts g c =
+    let told = c.as_counted.result in
+    let ended = c.serve_by-ended.result in
+    let served = c.serve_by-ended.ensures in
+    rw (← c.failures-reader_before.ensures, ← c.failures-before.ensures) (record {
+      whole = counted-ok told ended _ c.as_counted.ensures.ok served.whole;
+      input_fault = counted-err told ended _ _ _ c.as_counted.ensures.err served.input_fault (λ h is. cc);
+      output_fault = counted-output told ended _ _ c.as_counted.ensures.err served.output_fault;
+      memory = c.as_counted.ensures.memory;
+    })
