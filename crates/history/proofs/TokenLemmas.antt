@@ -87,7 +87,7 @@ fits_set keeper book owner views place w others mine j u e =
     (λ (x : (j ≢ place) × (get_elem? views j ≡ some u)). others j u x.0 x.1)
     (at_set views place j w u e)
 
--- the keeper records another book, with which all claims agree
+-- the log records another book, with which all claims agree
 keeper_steps : (views : List View) (h : HaveOneBook views) (place : ℕ) (v w : View) → get_elem? views place ≡ some v → v.keeps ≡ true → w.recorded.next ≡ v.recorded.next
     → ((claim : Claimed) → place ≢ h.owner claim.number → Agrees v.recorded claim → Agrees w.recorded claim)
     → (w.claims ≡ true → (place ≡ h.owner w.claimed.number) × (w.claimed.number < v.recorded.next) × Agrees w.recorded w.claimed) → HaveOneBook (set views place w)
@@ -125,7 +125,7 @@ module _ {S : Type 0} where
   abbrev rule : State S View → Type 0
   rule s = HaveOneBook s.views
 
-  -- the keeper records a row of the pass whose claim it has beside it
+  -- the log records a row of the pass whose claim it has beside it
   grows : (slots place : ℕ) (book : Recorded) (claim : Claimed) (r : Row) → r.pass ≡ claim.number
       → Allows rule slots place (both book claim, []) 0 (λ n. n) (λ n me. me ≡ (both (with_rows book (book.rows ++ r ∷ [])) (claim_of claim (book.rows ++ r ∷ [])), []))
   grows slots place book claim r is s h len at lt =
@@ -141,14 +141,14 @@ module _ {S : Type 0} where
         refl,
       )
 
-  -- the same, of a token that is such a keeper
+  -- the same, of a token that is such a log
   pub grows_as : (slots place : ℕ) (me : Me S View) (book : Recorded) (claim : Claimed) (rows : List Row) (r : Row) → me ≡ (both book claim, []) → rows ≡ book.rows ++ r ∷ [] → r.pass ≡ claim.number
       → Allows rule slots place me 0 (λ n. n) (λ n w. w ≡ (both (with_rows me.0.recorded rows) (claim_of me.0.claimed rows), []))
   grows_as slots place me book claim rows r is all mine =
       subst (λ (m : Me S View). Allows rule slots place m 0 (λ n. n) (λ n w. w ≡ (both (with_rows m.0.recorded rows) (claim_of m.0.claimed rows), []))) (sym is)
       (subst (λ l. Allows rule slots place (both book claim, []) 0 (λ n. n) (λ n w. w ≡ (both (with_rows book l) (claim_of claim l), []))) (sym all) (grows slots place book claim r mine))
 
-  -- the keeper compares the claim that it has beside it
+  -- the log compares the claim that it has beside it
   compares : (slots place : ℕ) (book : Recorded) (claim : Claimed)
       → Allows rule slots place (both book claim, []) 0 (λ n. n) (λ n me. (me ≡ (both book (told book.stopped claim), [])) × Agrees book claim)
   compares slots place book claim s h len at lt =
@@ -164,14 +164,14 @@ module _ {S : Type 0} where
         (refl, agrees),
       )
 
-  -- the same, of a token that is such a keeper
+  -- the same, of a token that is such a log
   pub compares_as : (slots place : ℕ) (me : Me S View) (book : Recorded) (claim : Claimed) → me ≡ (both book claim, [])
       → Allows rule slots place me 0 (λ n. n) (λ n w. (w ≡ (both me.0.recorded (told me.0.recorded.stopped me.0.claimed), [])) × Agrees me.0.recorded me.0.claimed)
   compares_as slots place me book claim is =
       subst (λ (m : Me S View). Allows rule slots place m 0 (λ n. n) (λ n w. (w ≡ (both m.0.recorded (told m.0.recorded.stopped m.0.claimed), [])) × Agrees m.0.recorded m.0.claimed)) (sym is)
       (compares slots place book claim)
 
-  -- the keeper records that the book is stopped
+  -- the log records that the book is stopped
   stops : (slots place : ℕ) (book : Recorded) → Allows rule slots place (keeper book, []) 0 (λ n. n) (λ n me. me ≡ (keeper (stopped_book book), []))
   stops slots place book s h len at lt = (
     keeper (stopped_book book),
@@ -181,7 +181,7 @@ module _ {S : Type 0} where
     refl,
   )
 
-  -- the same, of a token that is such a keeper
+  -- the same, of a token that is such a log
   pub stops_as : (slots place : ℕ) (me : Me S View) (book : Recorded) → me ≡ (keeper book, []) → Allows rule slots place me 0 (λ n. n) (λ n w. w ≡ (keeper (stopped_book me.0.recorded), []))
   stops_as slots place me book is = subst (λ (m : Me S View). Allows rule slots place m 0 (λ n. n) (λ n w. w ≡ (keeper (stopped_book m.0.recorded), []))) (sym is) (stops slots place book)
 
@@ -212,7 +212,7 @@ module _ {S : Type 0} where
             (at_push left (holder v.claimed) u j e);
       }
 
-  -- the keeper makes the claim of the next pass
+  -- the log makes the claim of the next pass
   deals : (place : ℕ) (book : Recorded) → Splits rule place (keeper book) (keeper (with_pass book)) (holder (first_claim book))
   deals place book s h at =
       let mine = (h.fits place (keeper book) at).keeps refl in
@@ -243,11 +243,11 @@ module _ {S : Type 0} where
             (at_push left (holder (first_claim book)) u j e);
       }
 
-  -- the same, of a token that is the keeper
+  -- the same, of a token that is the log
   pub deals_as : (place : ℕ) (v : View) (book : Recorded) → v ≡ keeper book → Splits rule place v (keeper (with_pass v.recorded)) (holder (first_claim v.recorded))
   deals_as place v book is = subst (λ (u : View). Splits rule place u (keeper (with_pass u.recorded)) (holder (first_claim u.recorded))) (sym is) (deals place book)
 
-  -- the keeper takes in a claim
+  -- the log takes in a claim
   joins : (place : ℕ) (book : Recorded) (other : ℕ) (claim : Claimed) → Joins rule place (keeper book) other (holder claim) (both book claim) (without_claim (holder nothing_claimed))
   joins place book other claim s h at apart there =
       let w : View = both book claim in
@@ -277,7 +277,7 @@ module _ {S : Type 0} where
             (record { keeps = λ k. absurd (off k); claims = λ k. absurd (off k) });
       }
 
-  -- the same, of tokens that are the keeper and the claim's
+  -- the same, of tokens that are the log and the claim's
   pub joins_as : (place : ℕ) (v : View) (book : Recorded) (other : ℕ) (u : View) (claim : Claimed) → v ≡ keeper book → u ≡ holder claim
       → Joins rule place v other u (both v.recorded u.claimed) (without_claim (holder nothing_claimed))
   joins_as place v book other u claim is held =

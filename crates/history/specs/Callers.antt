@@ -1,9 +1,9 @@
--- Passes as contracts see them.
+-- Callers as contracts see them.
 use Rattle.std.specs.Prelude.{◌≡◌, ℕ, zero, suc, ◌+◌, ◌==◌, Bool, true, false, List, [], ◌∷◌, ◌++◌, if◌then◌else◌}
 use mathlib.Core.List.{IsPrefix}
 use Rattle.history.specs.declared.row.Row.{Row}
 
--- the number of a pass, how many of its calls have a row, its sure rows, which are the history right after the last of
+-- the number of a caller, how many of its calls have a row, its sure rows, which are the history right after the last of
 -- these, and whether it was told that the book is stopped
 pub record Caller : Type 0 where
   pub number : ℕ
@@ -11,7 +11,7 @@ pub record Caller : Type 0 where
   pub sure : List Row
   pub stopped : Bool
 
--- a pass of this number that has made no call
+-- a caller of this number that has made no call
 abbrev pub newcomer : ℕ → Caller
 newcomer number = record { number = number; calls = 0; sure = []; stopped = false }
 
@@ -27,12 +27,12 @@ told_stopped p = record { number = p.number; calls = p.calls; sure = p.sure; sto
 abbrev pub knowing : Bool → Caller → Caller
 knowing stopped p = record { number = p.number; calls = p.calls; sure = p.sure; stopped = stopped }
 
--- how many rows are of the pass of this number
+-- how many rows are of the caller of this number
 abbrev pub rows_of : ℕ → List Row → ℕ
 rows_of number [] = 0
 rows_of number (r ∷ rows) = (if r.pass == number then 1 else 0) + rows_of number rows
 
--- what a pass knows is so: the rows begin with its sure rows, each of its calls has its row among them, and no other row
+-- what a caller knows is so: the rows begin with its sure rows, each of its calls has its row among them, and no other row
 -- is of its number; and the book is stopped if it was told so
 pub record Matches (rows : List Row) (stopped : Bool) (p : Caller) : Type 0 where
   pub sure : IsPrefix p.sure rows

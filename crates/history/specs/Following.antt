@@ -46,7 +46,7 @@ pub record IsModelRead (setup : Setup) (rows : List Row) (event : Event) (reply 
   pub told : unrecorded reply ≡ false → IsToldAfter setup rows (event_of event) (reply_of reply)
   pub going : reply ≢ Refused Stopped
 
--- whatever reply is served of a finding is one to an event that is read after these rows
+-- whatever reply is served of what was found for a read is one to an event that is read after these rows
 abbrev pub FindsRead : Setup → List Row → Event → ReadResult → Type 0
 FindsRead setup rows event found = (reply : Reply) → IsServedFrom found reply → IsModelRead setup rows event reply
 
@@ -57,6 +57,6 @@ pub record IsPreparedAfter (setup : Setup) (rows : List Row) (e : events.Event) 
   pub outcome : NoClash (hashed setup nothing (events_of rows)) → is_among e.actor setup.users ≡ true
       → HasOutcome (world_after setup nothing (events_of rows) e.actor) e.actor e.request ready.work.settlements
 
--- whatever is made of a need are the values that an event needs after these rows
+-- whatever is made of what an event is prepared from are the values that an event needs after these rows
 abbrev pub IsNeedAfter : Setup → List Row → events.Event → PrepareInput → Type 0
 IsNeedAfter setup rows e need = (ready : Ready) → IsMade need e.request ready → IsPreparedAfter setup rows e ready

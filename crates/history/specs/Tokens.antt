@@ -17,7 +17,7 @@ no_table = record { words = 0; slots = 0; views_name = 0; atom = 0; block = 0; o
 
 -- ---- what tokens know
 
--- a book without rows and passes
+-- a book without rows and callers
 abbrev pub nothing_recorded : Recorded
 nothing_recorded = record { rows = []; next = 0; stopped = false }
 
@@ -28,15 +28,15 @@ nothing_claimed = record { number = 0; rows = []; stopped = false }
 abbrev pub keeper : Recorded → View
 keeper book = record { keeps = true; recorded = book; claims = false; claimed = nothing_claimed }
 
--- the token of a pass
+-- the token of a caller
 abbrev pub holder : Claimed → View
 holder claim = record { keeps = false; recorded = nothing_recorded; claims = true; claimed = claim }
 
--- the token that keeps the book and has that of a pass beside it
+-- the token that keeps the book and has that of a caller beside it
 abbrev pub both : Recorded → Claimed → View
 both book claim = record { keeps = true; recorded = book; claims = true; claimed = claim }
 
--- the same token without what a pass claims
+-- the same token without what a caller claims
 abbrev pub without_claim : View → View
 without_claim v = record { keeps = v.keeps; recorded = v.recorded; claims = false; claimed = nothing_claimed }
 
@@ -51,28 +51,28 @@ with_pass book = record { rows = book.rows; next = book.next + 1; stopped = book
 abbrev pub stopped_book : Recorded → Recorded
 stopped_book book = record { rows = book.rows; next = book.next; stopped = true }
 
--- what a new pass knows
+-- what a new caller knows
 abbrev pub first_claim : Recorded → Claimed
 first_claim book = record { number = book.next; rows = book.rows; stopped = false }
 
--- a pass knows these rows now
+-- a caller knows these rows now
 abbrev pub claim_of : Claimed → List Row → Claimed
 claim_of claim rows = record { number = claim.number; rows = rows; stopped = claim.stopped }
 
--- a pass is told whether the book is stopped
+-- a caller is told whether the book is stopped
 abbrev pub told : Bool → Claimed → Claimed
 told stopped claim = record { number = claim.number; rows = claim.rows; stopped = stopped }
 
 -- ---- the rule
 
--- what a pass knows is so: its rows are the first of all, none of the others is of its number, and the book is stopped if
+-- what a caller knows is so: its rows are the first of all, none of the others is of its number, and the book is stopped if
 -- it was told so
 pub record Agrees (book : Recorded) (claim : Claimed) : Type 0 where
   pub begins : IsPrefix claim.rows book.rows
   pub no_more : rows_of claim.number book.rows ≡ rows_of claim.number claim.rows
   pub stopped : claim.stopped ≡ true → book.stopped ≡ true
 
--- a token keeps the book only at the place of the keeper, and claims a number only at that of the number's owner
+-- a token keeps the book only at the place of the log, and claims a number only at that of the number's owner
 pub record Fits (keeper : ℕ) (book : Recorded) (owner : ℕ → ℕ) (place : ℕ) (v : View) : Type 0 where
   pub keeps : v.keeps ≡ true → (place ≡ keeper) × (v.recorded ≡ book)
   pub claims : v.claims ≡ true → (place ≡ owner v.claimed.number) × (v.claimed.number < book.next) × Agrees book v.claimed
@@ -84,13 +84,13 @@ pub record HaveOneBook (views : List View) : Type 0 where
   pub owner : ℕ → ℕ
   pub fits : (place : ℕ) (v : View) → get_elem? views place ≡ some v → Fits keeper book owner place v
 
--- ---- the steps of the keeper
+-- ---- the steps of the log
 
--- with the token of a pass beside it, it compares what that pass knows, and tells whether the book is stopped
+-- with the token of a caller beside it, it compares what that caller knows, and tells whether the book is stopped
 abbrev pub Compares : {S : Type 0} → Step S → Me S View → ℕ → Me S View → Type 0
 Compares s v n w = (w ≡ (both v.0.recorded (told v.0.recorded.stopped v.0.claimed), [])) × Agrees v.0.recorded v.0.claimed
 
--- with the token of a pass beside it, it records these rows, which that pass knows now
+-- with the token of a caller beside it, it records these rows, which that caller knows now
 abbrev pub Grows : {S : Type 0} → List Row → Step S → Me S View → ℕ → Me S View → Type 0
 Grows rows s v n w = w ≡ (both (with_rows v.0.recorded rows) (claim_of v.0.claimed rows), [])
 

@@ -29,7 +29,7 @@ impl<J: FrontId> Drop for Caller<J> {
     }
 }
 
-/// Contracts see a pass as its number, how many of its calls have a row, its sure rows, which are
+/// Contracts see a caller as its number, how many of its calls have a row, its sure rows, which are
 /// the history right after the last of these, and whether it was told that the front is stopped.
 impl<J: FrontId> Model for Caller<J> {
     ghost use Rattle.std.specs.Prelude.{◌≡◌, length};
@@ -55,7 +55,7 @@ impl<J: FrontId> Model for Caller<J> {
 }
 
 impl<J: FrontId> Caller<J> {
-    /// A pass that has made no call.
+    /// A caller that has made no call.
     pub fn new(number: u64, calls: Share<J>, claim: Claim<J>) -> Caller<J>
         requires calls { (calls.parts ≡ 1) × (calls.amount ≡ 0) }
         requires claim { (claim.number ≡ number) × (claim.rows ≡ []) × (claim.stopped ≡ false) }
@@ -68,7 +68,7 @@ impl<J: FrontId> Caller<J> {
         }
     }
 
-    /// The number of the pass, from 0 on. It stands in the rows of its calls.
+    /// The number of the caller, from 0 on. It stands in the rows of its calls.
     pub fn number(&self) -> u64
         ensures { result ≡ self.now.number }
     {
@@ -95,7 +95,7 @@ impl<J: FrontId> Caller<J> {
         log.compare(&mut self.claim);
     }
 
-    /// Where it is the only pass, all calls are its own.
+    /// Where it is the only caller, all calls are its own.
     pub fn audit(&mut self, calls: &mut ledger::Book<J>)
         ensures alone { J.parts ≡ 1
             → (length self.old.sure ≡ calls.old.total) × (self.old.calls ≡ calls.old.total) }
@@ -104,7 +104,7 @@ impl<J: FrontId> Caller<J> {
         calls.audit(&mut self.calls);
     }
 
-    /// Records the row of one more call of the pass, and counts it.
+    /// Records the row of one more call of the caller, and counts it.
     pub fn add_row(&mut self, calls: &mut ledger::Book<J>, log: &mut Log<J>, row: &Row)
         requires mine { row.now.pass ≡ self.old.number }
         requires matches { Matches log.old.rows log.old.stopped self.old }

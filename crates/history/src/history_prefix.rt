@@ -1,4 +1,4 @@
-//! HistoryPrefixes of the history that were seen, by whoever saw them.
+//! Prefixes of the history that were seen, by whoever saw them.
 
 ghost use Rattle.std.specs.Prelude.{◌≡◌, ◌+◌, ◌<◌, ◌≤◌, ◌^◌, ◌++◌, ◌∷◌, [], length, true, MatchBool};
 ghost use mathlib.Core.List.{IsPrefix};

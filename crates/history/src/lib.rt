@@ -2,7 +2,7 @@
 //! without the front's lock.
 //!
 //! A [`Caller`] is one caller. What it knows of the history, and what is recorded there, are tokens,
-//! which have no bytes: the [`Log`] lies under the lock, and each pass has a claim.
+//! which have no bytes: the [`Log`] lies under the lock, and each caller has a claim.
 //!
 //! A [`Snapshot`] is a core that has taken the events of all rows up to a moment, with these rows. Its
 //! writer, an [`End`], publishes each row behind the others, and each sweep; a reader looks at what is

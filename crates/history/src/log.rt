@@ -1,7 +1,7 @@
-//! What passes know of a book outside its lock.
+//! What callers know of a book outside its lock.
 //!
 //! The knowledge lies in tokens, which have no bytes. One of them, the [`Log`], knows all that the
-//! book has recorded, and it lies under the lock with the book. Each pass has a [`Claim`], which is
+//! book has recorded, and it lies under the lock with the book. Each caller has a [`Claim`], which is
 //! compared with the log at each call, and at the end. No comparison reads anything when it runs.
 
 ghost use Rattle.std.specs.Prelude.{◌≡◌, ◌++◌, ◌∷◌, [], IfOk};
@@ -20,15 +20,15 @@ use std::sync::ledger;
 pub struct Recorded {
     /// All rows.
     pub rows: LinkedList<Row>,
-    /// The number of the next pass.
+    /// The number of the next caller.
     pub next: u64,
     /// Whether the book is stopped.
     pub stopped: bool,
 }
 
-/// What a pass knows of a book. It is part of what a token knows, and no value of it is made.
+/// What a caller knows of a book. It is part of what a token knows, and no value of it is made.
 pub struct Claimed {
-    /// The number of the pass.
+    /// The number of the caller.
     pub number: u64,
     /// The rows right after its last call that has one.
     pub rows: LinkedList<Row>,
@@ -42,9 +42,9 @@ pub struct View {
     pub keeps: bool,
     /// All that is recorded, if it does.
     pub recorded: Recorded,
-    /// Whether it knows what a pass knows.
+    /// Whether it knows what a caller knows.
     pub claims: bool,
-    /// All that the pass knows, if it does.
+    /// All that the caller knows, if it does.
     pub claimed: Claimed,
 }
 
@@ -114,7 +114,7 @@ impl Split<View> for TakeClaim {
     ghost right = { λ v. holder v.claimed };
 }
 
-/// The log makes the claim of the next pass.
+/// The log makes the claim of the next caller.
 pub struct NextClaim;
 
 impl Split<View> for NextClaim {
@@ -188,7 +188,7 @@ pub struct FrontTokens {
 }
 
 impl FrontTokens {
-    /// A blank for so many passes, of which a front takes 1 to 64.
+    /// The tokens of a front for so many callers, of which a front takes 1 to 64.
     ///
     /// # Errors
     ///
@@ -242,7 +242,7 @@ impl<J: FrontId> Model for Log<J> {
         × (l.seat.me ≡ (keeper l.seat.me.0.recorded, [])) };
 }
 
-/// The one token of a pass. Contracts see it as what the pass knows.
+/// The one token of a caller. Contracts see it as what the caller knows.
 pub struct Claim<J: FrontId> {
     seat: Seat<(), View>,
     of: PhantomData<J>,
@@ -273,7 +273,7 @@ impl<J: FrontId> Model for Claim<J> {
 }
 
 impl<J: FrontId> Log<J> {
-    /// The claim of the next pass.
+    /// The claim of the next caller.
     pub fn next_claim(&mut self) -> Claim<J>
         ensures claim { result ≡ first_claim self.old }
         ensures log { self.new ≡ with_pass self.old }
@@ -317,7 +317,7 @@ impl<J: FrontId> Log<J> {
         claim.seat = shared.split_seat::<TakeClaim>(seat);
     }
 
-    /// Records a row more, of a call of the pass that has this claim. The claim has all rows then.
+    /// Records a row more, of a call of the caller that has this claim. The claim has all rows then.
     pub fn grow(&mut self, claim: &mut Claim<J>, row: &Row)
         requires { row.now.pass ≡ claim.old.number }
         ensures log { self.new ≡ with_rows self.old (self.old.rows ++ row.now ∷ []) }

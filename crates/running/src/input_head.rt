@@ -67,13 +67,13 @@ fn no_users<R: Faults>(reader: &R, before: u64) -> Refusal
 ///   refused, and where there is none.
 /// - `Memory` only where memory was refused.
 pub fn look_ahead<R: Read + Faults>(alloc: Global, reader: &mut R) -> Result<InputHead, Refusal>
-    ensures read { IfOk result (λ opening.
-        Consumes (R.remaining reader.old) (R.remaining reader.new) opening.bytes.items) }
+    ensures read { IfOk result (λ head.
+        Consumes (R.remaining reader.old) (R.remaining reader.new) head.bytes.items) }
     // Whatever comes after what was read, these are the users that a session of it names.
-    ensures users { IfOk result (λ opening. (all left : List ℕ) → R.remaining reader.new ≡ Some left
-        → LooksAhead Run (opening.bytes.items ++ left) (Some opening.users.items)) }
+    ensures users { IfOk result (λ head. (all left : List ℕ) → R.remaining reader.new ≡ Some left
+        → LooksAhead Run (head.bytes.items ++ left) (Some head.users.items)) }
     // Nothing before its users gets a reply.
-    ensures first { IfOk result (λ opening. BeginsWithUsers opening.bytes.items) }
+    ensures first { IfOk result (λ head. BeginsWithUsers head.bytes.items) }
     // A file that could not be read is not told as one that names no users.
     ensures bad_users { IfErr result (λ why. why ≡ BadUsers → ¬ HasFailed (R.failed reader.old) (R.failed reader.new)) }
     ensures why { IfErr result (λ why. (why ≡ InputFault) ⊎ (why ≡ BadUsers) ⊎ (why ≡ Memory)) }

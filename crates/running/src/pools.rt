@@ -197,7 +197,7 @@ fn build<S: Meet + Send + Drop, Q: Runner + Send + Drop, R: Threads + Wait + Syn
     }
 }
 
-/// Has a pool build in a thread of its own. Where none can be made, its pool_thread is let go, and whoever
+/// Has a pool build in a thread of its own. Where none can be made, its [`PoolThread`] is let go, and whoever
 /// hands goals to the pool is told so.
 pub(crate) fn start_building<
     's,

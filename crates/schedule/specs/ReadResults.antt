@@ -7,7 +7,7 @@ use Rattle.handlers.specs.Serving.{IsServedOf}
 use Rattle.schedule.specs.declared.read_result.ReadResult.{ReadResult}
 use Rattle.schedule.specs.declared.read_result.ReadResult.TheVariants.{Told, Planned}
 
--- a result that may come of a read_result: its reply, or what is served of its plan
+-- a result that may come of what was found for a query: its reply, or what is served of its plan
 abbrev pub Gives : ReadResult → Result Reply Refusal → Type 0
 Gives (Told reply) given = given ≡ Ok reply
 Gives (Planned plan) given = IsServedOf plan given
@@ -22,7 +22,7 @@ abbrev pub told : Result Reply Refusal → Reply
 told (Ok reply) = reply
 told (Err why) = Refused why
 
--- a reply that serving a read_result may give
+-- a reply that serving what was found for a query may give
 pub record IsServedFrom (read_result : ReadResult) (reply : Reply) : Type 0 where
   pub given : Result Reply Refusal
   pub gives : Gives read_result given
