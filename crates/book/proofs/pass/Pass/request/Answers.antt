@@ -1,7 +1,7 @@
 use Rattle.std.proofs.Common.{List, length, ap, sym, ◌∙◌, subst}
 use mathlib.Core.List.{IsPrefix}
 use Rattle.history.specs.declared.row.Row.{Row}
-use Rattle.history.specs.Callers.{Caller, stops_of}
+use Rattle.history.specs.Callers.{stops_of}
 use Rattle.book.specs.Keeping.{Contents}
 use Rattle.book.specs.Asking.{IsAskedAfter}
 use Rattle.book.proofs.CallLemmas.{sure_asked}
@@ -20,8 +20,8 @@ returns g c =
             asked.legal asked.given asked.reached asked.value asked.stopped going);
         seen = subst (λ (all : List Row). IsPrefix c.self.inside.seen.seen.log all) (sym rows)
             (subst (λ (all : List Row). IsPrefix c.self.inside.seen.seen.log all) c.seen.ensures.0 (rw c.insist.ensures at c.begins.ensures));
-        going = λ going. ap (λ (caller : Caller). record { caller = caller; seen = c.seen-2.result.seen.log; stops = c.self.inside.stops.amount }) (asked.going going);
-        stopped = λ told. ap (λ (caller : Caller). record { caller = caller; seen = c.seen-2.result.seen.log; stops = c.self.inside.stops.amount }) (asked.told told);
+        going = λ going i. record { caller = asked.going going i; seen = c.seen-2.result.seen.log; stops = asked.part.1 i };
+        stopped = λ told i. record { caller = asked.told told i; seen = c.seen-2.result.seen.log; stops = asked.part.1 i };
         remains = λ was. asked.stopped (asked.matches.stopped_too was);
       };
       alone = is_asked_alone g.J.FrontId.setup c.args.book.now c.args.user.now c.args.number c.request-told.result c.kept_closures_are_good.ensures
