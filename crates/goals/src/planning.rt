@@ -113,14 +113,14 @@ pub(crate) fn fails(why: Refusal) -> bool
     }
 }
 
-/// The same, which shares its closure and its text with what another goal of the user at a place is
-/// built from, where that is found, and is equal. It takes no memory.
+/// The same, which shares its closure and its text with what a goal of the user at a place is built
+/// from, where that is found, and is equal. It takes no memory.
 fn shared(jobs: &Jobs, place: usize, resolved: Resolved) -> Resolved
     requires of_run { place < length jobs.now.goals }
     requires equal { EqualsAllLike (goals_at place jobs.now) resolved }
     ensures { result ≡ resolved }
 {
-    match jobs.planned_like(place, &resolved) {
+    match jobs.built_like(place, &resolved) {
         Some(other) => other.clone().unwrap_or(resolved),
         None => resolved,
     }
@@ -129,7 +129,7 @@ fn shared(jobs: &Jobs, place: usize, resolved: Resolved) -> Resolved
 /// A goal is planned, and the trees of the closure that it is built from are put into the table,
 /// where their paths are new there. All that needs memory comes before the first change.
 /// Another goal of the user that is planned has its trees there, so that where it is built from the same
-/// but for the trees, the trees are the same too.
+/// but for the trees, the trees are the same too. Those of a goal that is not planned are compared.
 fn keep(
     alloc: Global,
     jobs: &mut Jobs,

@@ -1,5 +1,5 @@
 -- Goals that are let go, one after another.
-use Rattle.std.proofs.Common.{◌≡◌, ℕ, zero, suc, ◌<◌, arith, List, [], ◌∷◌, length, map, refl, sym, ap, Option, Some}
+use Rattle.std.proofs.Common.{◌≡◌, ℕ, zero, suc, ◌<◌, arith, List, [], ◌∷◌, length, map, refl, sym, ap, Some}
 use Rattle.std.specs.Prelude.{slice_get, slice_set}
 use Rattle.model.specs.Worlds.{Goal}
 use Rattle.model.specs.Goals.{goal_at, with_goal_at}

@@ -1,7 +1,9 @@
--- What goals are built from, where it may be shared: it is equal but for the trees, and the table has them.
-use Rattle.std.specs.Prelude.{◌≡◌, ℕ, ◌==◌, Bool, true, false, ◌&&◌, if◌then◌else◌, List, bytes_eq, Option, None, Some}
+-- What goals are built from, where it may be shared: it is equal, or it is equal but for the trees and the table has them.
+use Rattle.std.specs.Prelude.{◌≡◌, ℕ, ◌==◌, Bool, true, false, ◌&&◌, ◌⊎◌, List, map, bytes_eq, Option, None, Some}
 use Rattle.std.specs.Cmp.Lexicographic.{pointwise}
+use Rattle.model.specs.Archives.{Tree}
 use Rattle.model.specs.Classes.{Class}
+use Rattle.model.specs.Closures.{tree_of_entry}
 use Rattle.model.specs.Worlds.{Label, Entry, OfSource, OfRecord, Resolved, Goal}
 use Rattle.model.specs.KeptClosures.{is_planned}
 use Rattle.model.specs.Goals.{goal_at}
@@ -29,21 +31,22 @@ equal_but_tree (OfRecord q) (OfRecord r) = equal_class q.class r.class && (bytes
 abbrev pub equal_but_trees : Resolved → Resolved → Bool
 equal_but_trees a b = bytes_eq a.scratch b.scratch && (bytes_eq a.text b.text && pointwise equal_but_tree a.closure b.closure)
 
--- ---- of goals that are planned, or built
+-- ---- what may be shared
 
-abbrev pub like : Resolved → Option Resolved → Option Resolved
-like r None = None
-like r (Some q) = if equal_but_trees q r then Some q else None
+-- the trees of a closure, in the order of its entries
+abbrev pub trees : List Entry → List Tree
+trees entries = map tree_of_entry entries
 
--- what a goal is built from, if it is planned, or built, and that is equal to this but for the trees
-abbrev pub planned_like : Resolved → Goal → Option Resolved
-planned_like r g = if is_planned g.state then like r g.resolved else None
+-- a goal is built from q, which is equal to r but for the trees; and the goal is planned, or built, so that the table has its trees, or
+-- the trees are equal too
+pub record IsLike (goal : Goal) (r q : Resolved) : Type 0 where
+  pub built_from : goal.resolved ≡ Some q
+  pub equal : equal_but_trees q r ≡ true
+  pub safe : (is_planned goal.state ≡ true) ⊎ (trees q.closure ≡ trees r.closure)
 
--- it is what one of the goals is built from, which is planned, or built; and it is equal to this but for the trees
-pub record IsPlannedLike (goals : List Goal) (r q : Resolved) : Type 0 where
+-- one of the goals is such a goal
+pub record IsBuiltLike (goals : List Goal) (r q : Resolved) : Type 0 where
   pub number : ℕ
   pub goal : Goal
   pub there : goal_at number goals ≡ Some goal
-  pub planned : is_planned goal.state ≡ true
-  pub built_from : goal.resolved ≡ Some q
-  pub equal : equal_but_trees q r ≡ true
+  pub like : IsLike goal r q

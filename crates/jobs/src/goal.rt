@@ -1,15 +1,16 @@
 //! One goal.
 
-ghost use Rattle.std.specs.Prelude.{◌≡◌, None, Some, option_copied};
+ghost use Rattle.std.specs.Prelude.{◌≡◌, None, Some, IfNone, IfSome, option_copied};
+ghost use Rattle.model.specs.Worlds.{Resolved as ResolvedValue};
 ghost use Rattle.model.specs.Goals.{in_state, new_goal, job_in};
 ghost use Rattle.events.specs.States.{state_of};
 ghost use Rattle.jobs.specs.States.{path_in, is_alike, planned_with};
 ghost use Rattle.jobs.specs.Joining.{same_as};
-ghost use Rattle.jobs.specs.Shared.{planned_like};
+ghost use Rattle.jobs.specs.Shared.{IsLike};
 ghost use Rattle.model.specs.KeptClosures.{is_planned};
 
 use crate::same::same_resolved;
-use crate::shared::equal_but_trees;
+use crate::shared::{equal_but_trees, equal_trees};
 use events::{Job, State};
 use records::Resolved;
 use std::marker::Model;
@@ -89,15 +90,16 @@ impl Goal {
         }
     }
 
-    /// What it is built from, if it is planned, or built in a job, and that is equal to `resolved` but
-    /// for the trees.
-    pub(crate) fn planned_like(&self, resolved: &Resolved) -> Option<&Resolved>
-        ensures { option_copied result ≡ planned_like resolved.now self.now }
+    /// What it is built from, if that is equal to `resolved` but for the trees, and the goal is planned,
+    /// or built in a job, or the trees are equal too. Trees are compared only where it is neither.
+    pub(crate) fn built_like(&self, resolved: &Resolved) -> Option<&Resolved>
+        ensures found { IfSome (option_copied result) (IsLike self.now resolved.now) }
+        ensures none { IfNone result ((q : ResolvedValue) → IsLike self.now resolved.now q → ⊥) }
     {
-        match &self.resolved {
-            Some(own) if is_planned(&self.state) && equal_but_trees(own, resolved) => Some(own),
-            _ => None,
-        }
+        let own = self.resolved.as_ref()?;
+        let is_like = equal_but_trees(own, resolved)
+            && (is_planned(&self.state) || equal_trees(own.closure(), resolved.closure()));
+        if is_like { Some(own) } else { None }
     }
 
     /// How far it is.

@@ -7,7 +7,7 @@ ghost use Rattle.model.specs.Worlds.{Building};
 ghost use Rattle.model.specs.Goals.{goal_at, in_state, new_goal, members, led_by, is_building};
 ghost use Rattle.jobs.specs.Joining.{job_with, least_with, lesser_of};
 ghost use Rattle.jobs.specs.Owned.{with_goals, ChangesOwn};
-ghost use Rattle.jobs.specs.Shared.{IsPlannedLike};
+ghost use Rattle.jobs.specs.Shared.{IsBuiltLike};
 ghost use Rattle.jobs.specs.Numbers.{numbers, leads_at, finished, first_built};
 ghost use Rattle.events.specs.States.{state_of};
 ghost use Rattle.jobs.specs.States.{planned_with, IsIdle};
@@ -125,19 +125,21 @@ impl Goals {
         goal_of(self.goals.as_slice(), number)
     }
 
-    // What the goal of a number is built from, if it is planned, or built in a job, and that is equal to
-    // `resolved` but for the trees.
+    // What the goal of a number is built from, where that may be shared with `resolved`.
     fn like_at(&self, number: Option<&u16>, resolved: &Resolved) -> Option<&Resolved>
-        ensures { IfSome (option_copied result) (IsPlannedLike self.now.goals resolved.now) }
+        ensures { IfSome (option_copied result) (IsBuiltLike self.now.goals resolved.now) }
     {
-        self.get(*number?)?.planned_like(resolved)
+        self.get(*number?)?.built_like(resolved)
     }
 
-    /// What one of the goals is built from that is planned, or built in a job, where that is equal to
-    /// `resolved` but for the trees. Of the goals that are built under the same path it looks at the last
-    /// and at the first.
-    pub(crate) fn planned_like(&self, resolved: &Resolved) -> Option<&Resolved>
-        ensures { IfSome (option_copied result) (IsPlannedLike self.now.goals resolved.now) }
+    /// What one of the goals is built from, where that is equal to `resolved` but for the trees, and the
+    /// goal is planned, or built in a job, or the trees are equal too.
+    ///
+    /// Of the goals that are built under the same path it looks at the last and at the first, whatever
+    /// their state. So where all of them are built from the same, they share it, and those between the
+    /// two need not be looked at.
+    pub(crate) fn built_like(&self, resolved: &Resolved) -> Option<&Resolved>
+        ensures { IfSome (option_copied result) (IsBuiltLike self.now.goals resolved.now) }
     {
         let numbers = self.indexes.built_under(resolved.scratch());
         match self.like_at(numbers.last(), resolved) {

@@ -1,8 +1,8 @@
-//! Whether what is built may be shared: it is equal but for the trees.
+//! Whether what is built may be shared: it is equal, or equal but for the trees.
 
-ghost use Rattle.std.specs.Prelude.{◌≡◌, option_copied};
+ghost use Rattle.std.specs.Prelude.{◌≡◌, ◌↔◌, IsTrue, option_copied};
 ghost use Rattle.std.specs.Cmp.Lexicographic.{pointwise};
-ghost use Rattle.jobs.specs.Shared.{equal_class, equal_class_of, equal_label, equal_but_tree, equal_but_trees};
+ghost use Rattle.jobs.specs.Shared.{equal_class, equal_class_of, equal_label, equal_but_tree, equal_but_trees, trees};
 
 use classes::Class;
 use records::{Entry, Label, Resolved};
@@ -84,4 +84,19 @@ pub(crate) fn equal_but_trees(one: &Resolved, other: &Resolved) -> bool
     one.scratch() == other.scratch()
         && one.text() == other.text()
         && equal_entries(one.closure(), other.closure())
+}
+
+/// Whether two closures have equal trees, one after another.
+pub(crate) fn equal_trees(these: &[Entry], others: &[Entry]) -> bool
+    ensures { IsTrue result ↔ (trees these.now ≡ trees others.now) }
+{
+    if these.len() != others.len() {
+        return false;
+    }
+    for i in 0..these.len() {
+        if !these[i].tree().same(others[i].tree()) {
+            return false;
+        }
+    }
+    true
 }

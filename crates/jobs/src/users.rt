@@ -15,7 +15,7 @@ ghost use Rattle.jobs.specs.States.{planned_with, IsIdle};
 ghost use Rattle.jobs.specs.Joining.{running_at, least_with};
 ghost use Rattle.jobs.specs.Numbers.{finished};
 ghost use Rattle.jobs.specs.Planners.{HasPlanners};
-ghost use Rattle.jobs.specs.Shared.{IsPlannedLike};
+ghost use Rattle.jobs.specs.Shared.{IsBuiltLike};
 
 use crate::goal::Goal;
 use crate::goals::Goals;
@@ -128,15 +128,15 @@ impl Jobs {
         self.all[place].get(number)
     }
 
-    /// What a goal of the user at a place is built from that is planned, or built in a job, where that is
-    /// equal to `resolved` but for the trees. Of his goals that are built under the same path it looks at
-    /// the last and at the first.
-    pub fn planned_like(&self, place: usize, resolved: &Resolved) -> Option<&Resolved>
+    /// What a goal of the user at a place is built from, where that is equal to `resolved` but for the
+    /// trees, and the goal is planned, or built in a job, or the trees are equal too. Of his goals that
+    /// are built under the same path it looks at the last and at the first.
+    pub fn built_like(&self, place: usize, resolved: &Resolved) -> Option<&Resolved>
         requires { place < length self.now.goals }
         ensures { IfSome (option_copied result)
-            (IsPlannedLike (goals_at place self.now) resolved.now) }
+            (IsBuiltLike (goals_at place self.now) resolved.now) }
     {
-        self.all[place].planned_like(resolved)
+        self.all[place].built_like(resolved)
     }
 
     /// A goal is planned, and from now on built from that. Where it was built in a job, it leaves
