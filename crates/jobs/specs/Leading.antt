@@ -1,4 +1,4 @@
--- Who ends a job, and whose goals in it hear of its output.
+-- Who ends a job, and whose goals in it receive its output.
 use Rattle.std.specs.Prelude.{◌≡◌, ℕ, Bool, true, false, if◌then◌else◌, List, [], Option, Some, None, Result, Ok, Err}
 use Rattle.model.specs.declared.refusal.Refusal.{Refusal}
 use Rattle.model.specs.declared.refusal.Refusal.TheVariants.{UnknownGoal, WrongState}

@@ -1,4 +1,4 @@
--- Each step of the hands keeps the rule of the queue.
+-- Each step of the ends keeps the rule of the queue.
 use Rattle.std.proofs.Common.{◌≡◌, ◌≢◌, ℕ, zero, suc, ◌+◌, ◌<◌, Bool, true, false, true≢false, List, [], ◌∷◌, ◌++◌, length, set, refl, sym, ap, ◌∙◌, subst, ⊎_elim, ◌⊎◌, inl, inr, arith, append_assoc}
 use Rattle.std.specs.Prelude.{◌==◌, if◌then◌else◌}
 use Rattle.std.proofs.lemmas.Bool.{eq-eqb}
@@ -42,7 +42,7 @@ tickets_push : (log : List Taken) (k : ℕ) (x : Ticket) → tickets_in (log ++ 
 tickets_push [] k x = refl
 tickets_push (e ∷ es) k x = ap (λ l. e.1 ∷ l) (tickets_push es k x)
 
--- the hand's own
+-- the end's own
 own_mine : (log : List Taken) (k : ℕ) (x : Ticket) → own k (log ++ (k, x) ∷ []) ≡ own k log ++ x ∷ []
 own_mine [] k x = ap (λ b. if b then x ∷ [] else []) (eq-eqb k k refl)
 own_mine (e ∷ es) k x = pick (e.0 == k) refl (own_mine es k x)
@@ -64,19 +64,19 @@ neq n k apart = pick (n == k) refl
     pick true is = let e : n ≡ k = grind (arith, nat_tests) in absurd (apart e)
     pick false is = is
 
--- another hand's
+-- another end's
 own_other : (log : List Taken) (k n : ℕ) (x : Ticket) → n ≢ k → own k (log ++ (n, x) ∷ []) ≡ own k log
 own_other [] k n x apart = ap (λ b. if b then x ∷ [] else []) (neq n k apart)
 own_other (e ∷ es) k n x apart = ap (λ l. if e.0 == k then e.1 ∷ l else l) (own_other es k n x apart)
 
--- a number that no hand has took nothing
+-- a number that no end has took nothing
 own_none : (log : List Taken) (k : ℕ) → AreOf k log → own k log ≡ []
 own_none [] k all = refl
 own_none (e ∷ es) k all =
     ap (λ b. if b then e.1 ∷ own k es else own k es) (neq e.0 k (λ same. let low = all.0 in omega (arith, low, same)))
     ∙ own_none es k all.1
 
--- hands of greater numbers
+-- ends of greater numbers
 owns_other : (log : List Taken) (k m n : ℕ) (x : Ticket) → n < k → owns k m (log ++ (n, x) ∷ []) ≡ owns k m log
 owns_other log k zero n x low = refl
 owns_other log k (suc m) n x low =
@@ -103,7 +103,7 @@ begins = record {
     one zero v e = subst (λ u. Fits 0 [] 0 [] [] (λ n. 0) 0 u) (some-injective (producer [] 0 []) v e) (record { keeps = λ _. (refl, refl, refl, refl); takes = λ p. absurd (off p) })
     one (suc j) v e = absurd (some-ne-none v (sym e))
 
--- all hands fit where one was set
+-- all ends fit where one was set
 fits_set : (F : ℕ → QueueEnd → Type 0) (views : List QueueEnd) (place : ℕ) (w : QueueEnd)
     → ((j : ℕ) (u : QueueEnd) → j ≢ place → get_elem? views j ≡ some u → F j u) → F place w
     → (j : ℕ) (u : QueueEnd) → get_elem? (set views place w) j ≡ some u → F j u

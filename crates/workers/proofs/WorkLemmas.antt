@@ -119,9 +119,9 @@ last_none [] none = tt
 last_none (Stop ∷ ts) none = absurd (true≢false none)
 last_none (Goal u n ∷ ts) none = last_none ts none
 
--- ---- hands
+-- ---- ends of the queue
 
--- a hand that took a ticket more
+-- an end that took a ticket more
 pub took_still : (h i j : QueueEnd) (t : Ticket) → i ≡ consumer h.number i.taken → Takes i t j → j ≡ consumer h.number j.taken
 took_still h i j t was took =
     took ∙ ap (λ (n : ℕ). consumer n (i.taken ++ t ∷ [])) (ap (λ (k : QueueEnd). k.number) was)

@@ -22,7 +22,7 @@ IsSameSeat old new = (new.table_id ≡ old.table_id) × (new.me.0.of ≡ old.me.
 
 -- ---- what is put
 
--- a hand that keeps the queue
+-- the end that keeps the queue
 abbrev pub IsProducer : QueueEnd → Type 0
 IsProducer v = v ≡ producer v.put v.out v.back
 
@@ -115,7 +115,7 @@ module _ {S Q : Type 0} (called : S → Event → Reply → S → Type 0) (asked
   AllWork (w ∷ ws) (s ∷ ss) (v ∷ vs) = WorksShift w s v × AllWork ws ss vs
   AllWork ws ss vs = ⊥
 
-  -- a thread gives back its worker, which worked on what its hand took, and that hand
+  -- a thread gives back its worker, which worked on what its end took, and that end
   pub record Returned (w : Worker S Q) (hand : Pass Ticket QueueEnd) (w' : Worker S Q) (hand' : Pass Ticket QueueEnd) (met : Option Refusal) (took_stop : Bool) : Type 0 where
     pub seat : IsSameSeat hand hand'
     pub took : view hand' ≡ consumer (view hand).number (view hand').taken
@@ -124,7 +124,7 @@ module _ {S Q : Type 0} (called : S → Event → Reply → S → Type 0) (asked
     pub last : StopsLast (view hand').taken
     pub stop : took_stop ≡ has_stop (view hand').taken
 
-  -- the workers that are left worked, each on what its hand took, and their hands came back
+  -- the workers that are left worked, each on what its end took, and their ends came back
   pub record Serves (tickets : List Ticket) (count : ℕ) (left old new : List (Worker S Q)) (producer_old producer_new : QueueEnd) (tally : Tally) : Type 0 where
     pub after : List (Worker S Q)
     pub shifts : List Shift

@@ -1,8 +1,8 @@
-//! The queue of tickets, and the hands that put and take them.
+//! The queue of tickets, and its ends: the producer, who puts them, and the consumers, who take them.
 //!
-//! One hand keeps the queue: it puts tickets, and gives out other hands, which take them. The rule of
-//! the queue says that the tickets taken, in the order in which they were taken, and then those in the
-//! queue are those put; and what each hand took are those of the tickets taken that are its own.
+//! The producer keeps the queue: he puts tickets, and gives out the consumers' ends. The rule of the
+//! queue says that the tickets taken, in the order in which they were taken, and then those in the
+//! queue are those put; and what each consumer took are those of the tickets taken that are his own.
 
 ghost use Rattle.std.specs.Prelude.{◌≡◌, ◌+◌, ◌++◌, ◌∷◌, [], true, List, IfOk, MatchResult, MatchOption};
 ghost use Rattle.crossbeam_channel.specs.Claims.{view, IsSeatAt};
@@ -20,15 +20,15 @@ use std::sync::Wait;
 /// The places of the queue.
 const PLACES: usize = 64;
 
-/// What a hand knows. It is part of what a token knows, and no value of it is made.
+/// What an end of the queue knows. It is part of what a token knows, and no value of it is made.
 pub(crate) struct QueueEnd {
     /// Whether it keeps the queue.
     pub keeps: bool,
     /// The tickets that were put, if it does.
     pub put: LinkedList<Ticket>,
-    /// How many hands are out, if it does.
+    /// How many ends are out, if it does.
     pub out: u64,
-    /// What the hands that came back took, if it does: the last given out stands last.
+    /// What the ends that came back took, if it does: the last given out stands last.
     pub back: LinkedList<LinkedList<Ticket>>,
     /// Whether it takes tickets.
     pub takes: bool,
@@ -63,7 +63,7 @@ impl Lesson<Ticket, QueueEnd> for OnePut {
     ghost fact = { λ v items. Unit {0} };
 }
 
-/// A hand takes a ticket.
+/// A consumer takes a ticket.
 struct OneTaken;
 
 impl Outcome<Ticket, QueueEnd> for OneTaken {
@@ -76,7 +76,7 @@ impl Lesson<Ticket, QueueEnd> for OneTaken {
     ghost fact = { λ v items. Unit {0} };
 }
 
-/// The producer gives out a hand.
+/// The producer gives out a consumer's end.
 struct GivenOut;
 
 impl Split<QueueEnd> for GivenOut {
@@ -88,7 +88,7 @@ impl Split<QueueEnd> for GivenOut {
     ghost right = { λ v. consumer v.out [] };
 }
 
-/// A hand comes back to the producer.
+/// A consumer's end comes back to the producer.
 struct ComesBack;
 
 impl Join<QueueEnd> for ComesBack {
@@ -118,7 +118,7 @@ pub(crate) type Receiver = RuledReceiver<Ticket, QueueEnd, InOrder>;
 /// The token of the producer.
 pub(crate) type Producer = Pass<Ticket, QueueEnd>;
 
-/// The token of a hand that takes tickets.
+/// The token of an end that takes tickets.
 pub(crate) type Consumer = Pass<Ticket, QueueEnd>;
 
 /// A queue of 64 places in which no ticket was put, and its producer. The one error is memory.
@@ -167,7 +167,7 @@ pub(crate) fn take<R: Wait>(rt: &R, receiver: &Receiver, consumer: &mut Consumer
     }
 }
 
-/// Gives out a hand. None has come back yet.
+/// Gives out a consumer's end. None has come back yet.
 pub(crate) fn give_out(sender: &Sender, producer: &mut Producer) -> Consumer
     requires seat { IsSeatAt (sends_on sender.now) producer.old }
     requires keeps { (view producer.old).keeps ≡ true }
@@ -179,7 +179,7 @@ pub(crate) fn give_out(sender: &Sender, producer: &mut Producer) -> Consumer
     sender.another::<GivenOut>(producer)
 }
 
-/// Takes back the hand that was given out last among those that are out.
+/// Takes back the end that was given out last among those that are out.
 pub(crate) fn take_back(sender: &Sender, producer: &mut Producer, consumer: Consumer)
     requires seats { IsSeatAt (sends_on sender.now) producer.old × IsSeatAt (sends_on sender.now) consumer }
     requires keeps { (view producer.old).keeps ≡ true }
@@ -192,7 +192,7 @@ pub(crate) fn take_back(sender: &Sender, producer: &mut Producer, consumer: Cons
     sender.absorb::<ComesBack>(producer, consumer);
 }
 
-/// The tickets that were taken, by the hands that took them, are a beginning of those put.
+/// The tickets that were taken, by the ends that took them, are a beginning of those put.
 pub(crate) fn count(sender: &Sender, producer: &mut Producer)
     requires seat { IsSeatAt (sends_on sender.now) producer.old }
     requires keeps { (view producer.old).keeps ≡ true }

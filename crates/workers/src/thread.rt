@@ -23,7 +23,7 @@ use std::thread::{Promise, PromisedHandle, Scope, Threads};
 pub(crate) struct Back<S, Q> {
     /// The worker.
     pub(crate) worker: Worker<S, Q>,
-    /// Its hand.
+    /// Its end of the queue.
     pub(crate) consumer: Consumer,
     /// 90 or 92, where the worker met that.
     pub(crate) met: Option<Refusal>,
