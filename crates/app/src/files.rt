@@ -2,6 +2,7 @@
 
 use crate::explaining::{Explained, Lines};
 use crate::fault::Fault;
+use crate::opening::Opens;
 use command_line::Run;
 use session::Counted;
 use std::alloc::AllocError;
@@ -62,11 +63,27 @@ pub(crate) fn tell_missing_folders(rt: &HostRuntime, run: &Run) {
 }
 
 /// A file that is to be read, or nothing where it cannot be opened.
-pub(crate) fn open(rt: &HostRuntime, name: &str) -> io::Result<Option<Counted<File>>> {
+pub(crate) fn open(rt: &HostRuntime, name: &str) -> Result<Option<Counted<File>>, AllocError> {
     match fs::open(rt, name) {
         Ok(file) => Ok(Some(Counted::new(file))),
-        Err(error) if error.kind() == ErrorKind::OutOfMemory => Err(error),
+        Err(error) if error.kind() == ErrorKind::OutOfMemory => Err(AllocError),
         Err(_) => Ok(None),
+    }
+}
+
+/// The files of the machine.
+#[derive(Drop)]
+pub(crate) struct Disk<'a>(pub(crate) &'a HostRuntime);
+
+// No contract can say what a file system has under a name, so nothing is known of a file that it opened. What is
+// proved of the files of a run is proved of any `Opens`, which knows that.
+impl Opens for Disk<'_> {
+    type File = Counted<File>;
+
+    ghost opened = { λ _ _. Unit {0} };
+
+    fn open(&self, name: &str) -> Result<Option<Counted<File>>, AllocError> {
+        open(self.0, name)
     }
 }
 

@@ -6,9 +6,14 @@ mod columns;
 mod explaining;
 mod fault;
 mod files;
+mod heard;
+mod inputs;
 mod meanings;
 mod narrator;
+mod opening;
+mod parts;
 mod runs;
+mod waiting;
 
 use crate::fault::{
     CANNOT_READ_OR_WRITE, COMMAND_LINE_FAULT, Fault, OUT_OF_MEMORY, report, tell_bad_lines,
@@ -114,9 +119,9 @@ fn main(rt: HostRuntime) -> ExitCode {
             Action::Strike { file, .. } => run_file(&rt, &rt, &options, file.as_str()),
             Action::Run(run) => {
                 files::tell_missing_folders(&rt, run);
-                match runs::runners_for(&rt, &rt, run) {
-                    Ok(runners) => runs::run_files(&rt, &rt, &options, run, runners),
-                    Err(error) => Err(io::Error::from(error)),
+                match opening::open_all(rt.alloc(), &files::Disk(&rt), &rt, run) {
+                    Ok(files) => runs::run_files(&rt, &rt, &options, run, files),
+                    Err(refused) => Ok(runs::report_refused(&rt, refused)),
                 }
             }
         },

@@ -66,7 +66,7 @@ fn has_failed(reply: &Reply) -> bool {
 }
 
 /// The bytes of a name, as a text.
-fn text_of(bytes: &[u8]) -> &str {
+pub(crate) fn text_of(bytes: &[u8]) -> &str {
     str::from_utf8(bytes).unwrap_or("?")
 }
 
@@ -114,7 +114,10 @@ pub(crate) struct Narrator<'a, H, Q: Drop> {
 
 impl<'a, H: Clock + Eprint, Q: Runner + Explains + Drop> Narrator<'a, H, Q> {
     /// One that builds by this runner.
-    pub(crate) fn new(host: &'a H, is_verbose: bool, runner: Q) -> Narrator<'a, H, Q> {
+    pub(crate) fn new(host: &'a H, is_verbose: bool, runner: Q) -> Narrator<'a, H, Q>
+        ensures verbose { result.is_verbose ≡ is_verbose }
+        ensures runner { result.runner ≡ runner }
+    {
         Narrator {
             host,
             is_verbose,

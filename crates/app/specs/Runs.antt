@@ -1,0 +1,67 @@
+-- What comes of files whose lines are run, and what is printed of it.
+use Rattle.std.specs.Prelude.{◌≡◌, ◌⊎◌, ◌+◌, ℕ, List, [], ◌∷◌, flat_map, take, Option, None, Some, Result, Ok, Err, slice_index_or}
+use Rattle.std.specs.Io.KnownBytes.{Appends}
+use Rattle.model.specs.declared.refusal.Refusal.{Refusal}
+use Rattle.model.specs.Goals.{Running}
+use Rattle.model.specs.Worlds.{are_users}
+use Rattle.workers.specs.declared.runner.RunFault.{RunFault}
+use Rattle.running.specs.declared.sessions.Output.{Output}
+use Rattle.running.specs.declared.sessions.Part.{Part}
+use Rattle.running.specs.declared.runs.Results.{Results}
+use Rattle.running.specs.Runs.{AreResults}
+use Rattle.running.specs.Sessions.{CannotBegin}
+use Rattle.app.specs.declared.opening.Opened.{Opened}
+use Rattle.app.specs.declared.opening.Refused.{Refused}
+use Rattle.app.specs.Parts.{AreParts, AreNamed, IsRefusedAmong}
+
+-- ---- what is run
+
+module _ {I Q : Type 0} (charge : ℕ) (gives : Q → Running → Result (List ℕ) RunFault → Q → Type 0) (remaining : I → Option (List ℕ)) where
+  -- these are the results of the sessions of one store, under that charge, whose users the first file names: each file has the session
+  -- in its place, with its own bytes and its own runners
+  pub record RunsFiles (files : List (Opened I Q)) (results : Results) : Type 0 where
+    pub users : List (List ℕ)
+    pub parts : List (Part I Q)
+    pub parts_are : AreParts remaining files parts
+    pub named : AreNamed remaining parts users
+    pub users_are : are_users users ≡ true
+    pub results_are : AreResults (record { users = users; charge = charge }) gives remaining parts results
+
+-- no line was run: a file is refused, or no session can begin
+abbrev pub HasNotRun : {I Q : Type 0} → (I → ℕ) → List (Opened I Q) → Refused → Type 0
+HasNotRun failed files refused = CannotBegin refused.why ⊎ IsRefusedAmong failed files refused
+
+-- ---- what is printed
+
+-- the texts of outputs, one after another
+abbrev pub texts_of : List Output → List ℕ
+texts_of outputs = flat_map (λ output. output.text.items) outputs
+
+-- a beginning of a text was written
+abbrev pub AppendsFront : Option (List ℕ) → Option (List ℕ) → List ℕ → Type 0
+AppendsFront blank written text = (count : ℕ) × Appends blank written (take count text)
+
+-- the files were run, and a beginning of what they gave is written
+pub record HasNotPrinted {I Q : Type 0} (charge : ℕ) (gives : Q → Running → Result (List ℕ) RunFault → Q → Type 0)
+    (remaining : I → Option (List ℕ)) (files : List (Opened I Q)) (blank written : Option (List ℕ)) : Type 0 where
+  pub results : Results
+  pub ran : RunsFiles charge gives remaining files results
+  pub front : AppendsFront blank written (texts_of results.outputs.items)
+
+-- ---- how they ended
+
+-- the first end that is none of all lines
+abbrev pub first_end : List Output → Result (Unit {0}) Refusal
+first_end [] = Ok tt
+first_end (output ∷ outputs) = elim output.ended [ Ok done ↦ first_end outputs | Err why ↦ Err why ]
+
+-- how many outputs are before it
+abbrev pub first_place : List Output → ℕ
+first_place [] = 0
+first_place (output ∷ outputs) = elim output.ended [ Ok done ↦ first_place outputs + 1 | Err why ↦ 0 ]
+
+-- an end of files of these names: there is none, or it has the name of the file whose output has it
+abbrev pub IsFirstFault : List (List ℕ) → List Output → Option Refused → Type 0
+IsFirstFault names outputs None = first_end outputs ≡ Ok tt
+IsFirstFault names outputs (Some refused) =
+    (first_end outputs ≡ Err refused.why) × (refused.name.now ≡ slice_index_or names (first_place outputs) [])

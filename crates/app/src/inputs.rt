@@ -1,0 +1,233 @@
+//! What was heard of the output classes of derivations, which goals wait for as their inputs.
+
+use indexmap::IndexMap;
+use model::Refusal;
+use std::alloc::Global;
+use std::fmt;
+use std::fmt::{Display, Formatter};
+use std::hash::RandomState;
+use storepath::StorePath;
+use trust::has_place;
+
+/// The most users of a store.
+pub(crate) const MOST_USERS: usize = 64;
+
+/// What a user has of a class.
+#[derive(Clone, Copy)]
+pub(crate) enum News {
+    /// An output that he offered, or a goal for it that is done.
+    There,
+    /// A goal for it that is being built.
+    Built,
+    /// A goal for it that waits.
+    Waits,
+    /// A goal for it that failed, with the number of a refusal.
+    Failed(u8),
+}
+
+/// Why no output of a class is there.
+#[derive(Clone, Copy)]
+pub(crate) enum Absence {
+    /// A goal for it failed, with the number of a refusal.
+    Failed(u8),
+    /// A goal for it waits.
+    Waits,
+    /// A goal for it is being built.
+    Built,
+    /// Nobody was asked for it.
+    Unasked,
+}
+
+impl Display for Absence {
+    fn fmt<W: fmt::Write>(&self, f: &mut Formatter<W>) -> fmt::Result {
+        match self {
+            Absence::Failed(number) => write!(f, "it failed {number}"),
+            Absence::Waits => f.write_str("it waits"),
+            Absence::Built => f.write_str("it is being built"),
+            Absence::Unasked => f.write_str("nobody was asked for it"),
+        }
+    }
+}
+
+/// Whether a place is in a word of the places of users.
+pub(crate) fn is_at(word: u64, place: usize) -> bool {
+    place < MOST_USERS && has_place(word, place)
+}
+
+/// A word of places with one more.
+fn with_place(word: u64, place: usize) -> u64 {
+    if place < MOST_USERS {
+        word | 1 << place
+    } else {
+        word
+    }
+}
+
+/// The first failure of the goals of the user at a place.
+#[derive(Clone, Copy)]
+struct Failure {
+    user: usize,
+    number: u8,
+}
+
+/// What was heard of a class: the places of the users who have something of it.
+#[derive(Drop)]
+struct Class {
+    there: u64,
+    built: u64,
+    waiting: u64,
+    failed: u64,
+    failures: Vec<Failure>,
+}
+
+impl Class {
+    /// Nothing was heard of it.
+    fn new(alloc: Global) -> Class {
+        Class {
+            there: 0,
+            built: 0,
+            waiting: 0,
+            failed: 0,
+            failures: Vec::new(alloc),
+        }
+    }
+
+    /// From now on it is known what the user at a place has.
+    fn add(&mut self, user: usize, news: News) -> Result<(), Refusal> {
+        match news {
+            News::There => self.there = with_place(self.there, user),
+            News::Built => self.built = with_place(self.built, user),
+            News::Waits => self.waiting = with_place(self.waiting, user),
+            News::Failed(number) => {
+                if !is_at(self.failed, user) {
+                    self.failures.push(Failure { user, number })?;
+                    self.failed = with_place(self.failed, user);
+                }
+            }
+        }
+        Ok(())
+    }
+
+    /// The number of a failure of those at some places, if they had one.
+    fn failure_of(&self, users: u64) -> Option<u8> {
+        for failure in self.failures.as_slice() {
+            if is_at(users, failure.user) {
+                return Some(failure.number);
+            }
+        }
+        None
+    }
+
+    /// Why no output is there for those at some places, or nothing where one is.
+    fn absence_for(&self, users: u64) -> Option<Absence> {
+        if self.there & users != 0 {
+            return None;
+        }
+        if let Some(number) = self.failure_of(users) {
+            return Some(Absence::Failed(number));
+        }
+        if self.waiting & users != 0 {
+            return Some(Absence::Waits);
+        }
+        if self.built & users != 0 {
+            return Some(Absence::Built);
+        }
+        Some(Absence::Unasked)
+    }
+}
+
+/// A derivation that is on a desk: the place of the row of the history that has its text, and the path of its output
+/// class.
+#[derive(Drop)]
+struct Derived {
+    row: usize,
+    class: StorePath,
+}
+
+/// An input that is not there: the path of its class, and why.
+#[derive(Drop)]
+pub(crate) struct Lack<'a> {
+    /// The path of its class.
+    pub(crate) class: &'a StorePath,
+    /// Why it is not there.
+    pub(crate) absence: Absence,
+}
+
+/// The derivations that were heard of, by their paths, and what was heard of their classes, by theirs.
+#[derive(Drop)]
+pub(crate) struct Inputs {
+    alloc: Global,
+    derivations: IndexMap<StorePath, Derived, RandomState>,
+    classes: IndexMap<StorePath, Class, RandomState>,
+}
+
+impl Inputs {
+    /// Nothing was heard of any.
+    pub(crate) fn new(alloc: Global, hashing: RandomState) -> Inputs {
+        Inputs {
+            alloc,
+            derivations: IndexMap::with_hasher(alloc, hashing),
+            classes: IndexMap::with_hasher(alloc, hashing),
+        }
+    }
+
+    /// Hears of the derivation at a path, with its class and the place of the row that has its text.
+    ///
+    /// # Errors
+    ///
+    /// - `Memory` where memory was refused.
+    pub(crate) fn hear(
+        &mut self,
+        path: &StorePath,
+        class: &StorePath,
+        row: usize,
+    ) -> Result<(), Refusal> {
+        if self.derivations.contains_key(path) {
+            return Ok(());
+        }
+        if !self.classes.contains_key(class) {
+            let news = Class::new(self.alloc);
+            let _none = self.classes.insert(class.clone()?, news)?;
+        }
+        let derived = Derived {
+            row,
+            class: class.clone()?,
+        };
+        let _none = self.derivations.insert(path.clone()?, derived)?;
+        Ok(())
+    }
+
+    /// Hears what the user at a place has of the class of the derivation at a path.
+    ///
+    /// # Errors
+    ///
+    /// - `Memory` where memory was refused.
+    pub(crate) fn add(&mut self, path: &StorePath, user: usize, news: News) -> Result<(), Refusal> {
+        let Some(derived) = self.derivations.get(path) else {
+            return Ok(());
+        };
+        match self.classes.get_mut(&derived.class) {
+            Some(class) => class.add(user, news),
+            None => Ok(()),
+        }
+    }
+
+    /// The place of the row that has the text of the derivation at a path, if one has.
+    pub(crate) fn row_of(&self, path: &StorePath) -> Option<usize> {
+        match self.derivations.get(path) {
+            Some(derived) => Some(derived.row),
+            None => None,
+        }
+    }
+
+    /// What the users at some places lack where the derivation at a path is an input, if anything.
+    pub(crate) fn lack_of(&self, path: &StorePath, users: u64) -> Option<Lack<'_>> {
+        let derived = self.derivations.get(path)?;
+        let class = self.classes.get(&derived.class)?;
+        let absence = class.absence_for(users)?;
+        Some(Lack {
+            class: &derived.class,
+            absence,
+        })
+    }
+}

@@ -1,0 +1,203 @@
+//! The files of a run as they are opened, each with what builds for it.
+
+ghost use Rattle.std.specs.Prelude.{◌≡◌, length, map, option_map, All, IfOk, IfErr, string_bytes};
+ghost use Rattle.std.specs.Path.{path_buf_bytes};
+ghost use Rattle.app.specs.Opening.{AreFoldersOf, AreOpened, BuildsIn, IsOpened, IsUnopened, CannotOpen};
+
+use crate::narrator::Narrator;
+use builder::{Folders, ProcessRunner, System};
+use command_line::Run;
+use model::Refusal;
+use session::Faults;
+use std::alloc::{AllocError, AllocFailed, Global};
+use std::fs::Files;
+use std::io::{Eprint, Read};
+use std::path::PathBuf;
+use std::process::{Processes, SystemProcess};
+use std::time::Clock;
+
+/// What builds: a process for each job, of which something may be said.
+pub(crate) type HostRunner<'a, H> = Narrator<'a, H, ProcessRunner<System<'a, H>>>;
+
+/// A file that is open, and what builds for it.
+#[derive(Drop)]
+pub(crate) struct Opened<'a, I: Drop, Q: Drop> {
+    /// Its name.
+    pub(crate) name: &'a str,
+    /// What reads it.
+    pub(crate) reader: I,
+    /// What builds the goals of its lines: a worker has each.
+    pub(crate) runners: Vec<Q>,
+    /// Whether the store gives back what nobody holds after each round of builds.
+    pub(crate) sweeps: bool,
+}
+
+/// Why files are not run, and the name of the file of which this comes. There is no name where it comes of none.
+#[derive(Drop)]
+pub(crate) struct Refused<'a> {
+    /// The name, or nothing.
+    pub(crate) name: &'a str,
+    /// Why they are not run.
+    pub(crate) why: Refusal,
+}
+
+impl Refused<'_> {
+    /// A refusal that comes of no file.
+    pub(crate) fn of_none(why: Refusal) -> Self
+        ensures { result.why ≡ why }
+    {
+        Refused { name: "", why }
+    }
+}
+
+impl From<AllocError> for Refused<'_> {
+    ghost use Rattle.std.specs.Prelude.{◌≡◌};
+    ghost use Rattle.model.specs.declared.refusal.Refusal.TheVariants.{Memory};
+
+    ghost from_gives = { λ _ refused. refused.why ≡ Memory };
+
+    fn from(_error: AllocError) -> Self {
+        Refused::of_none(Refusal::Memory)
+    }
+}
+
+impl<T: Drop> From<AllocFailed<T>> for Refused<'_> {
+    ghost use Rattle.std.specs.Prelude.{◌≡◌};
+    ghost use Rattle.model.specs.declared.refusal.Refusal.TheVariants.{Memory};
+
+    ghost from_gives = { λ _ refused. refused.why ≡ Memory };
+
+    fn from(_error: AllocFailed<T>) -> Self {
+        Refused::of_none(Refusal::Memory)
+    }
+}
+
+/// What opens files for reading.
+pub(crate) trait Opens {
+    /// A file that is open.
+    type File: Read + Faults + Drop;
+
+    /// What is known of a file that was opened under a name.
+    ghost opened: { List ℕ → Self.File → Type 0 };
+
+    /// Opens the file of a name. There is none where it cannot be opened.
+    ///
+    /// # Errors
+    ///
+    /// It fails only where memory was refused.
+    fn open(&self, name: &str) -> Result<Option<Self::File>, AllocError>
+        ensures { IfOk result (λ file. IfSome file (opened name.now)) };
+}
+
+/// The path of an option.
+fn path_of(alloc: Global, option: &String) -> Result<PathBuf, AllocError>
+    ensures { IfOk result (λ path. path_buf_bytes path ≡ string_bytes option.now) }
+{
+    PathBuf::from_str(alloc, option.as_str())
+}
+
+/// The path of an option that may be left out.
+fn path_if_any(alloc: Global, option: &Option<String>) -> Result<Option<PathBuf>, AllocError>
+    ensures { IfOk result (λ path. option_map path_buf_bytes path ≡ option_map string_bytes option.now) }
+{
+    match option {
+        Some(option) => Ok(Some(path_of(alloc, option)?)),
+        None => Ok(None),
+    }
+}
+
+/// The folders that the options name.
+fn folders_of(alloc: Global, run: &Run) -> Result<Folders, AllocError>
+    ensures { IfOk result (AreFoldersOf run.now) }
+{
+    Ok(Folders {
+        builders: path_of(alloc, &run.builders)?,
+        work: path_of(alloc, &run.work)?,
+        logs: path_if_any(alloc, &run.logs)?,
+    })
+}
+
+/// What builds as the options ask.
+fn runner_for<'a, H: Files + Processes<Started = SystemProcess> + Clock + Eprint>(
+    alloc: Global,
+    host: &'a H,
+    run: &Run,
+) -> Result<HostRunner<'a, H>, AllocError>
+    ensures { IfOk result (BuildsIn run.now) }
+{
+    let runner = ProcessRunner::new(System::new(host), folders_of(alloc, run)?);
+    Ok(Narrator::new(host, run.verbose, runner))
+}
+
+/// What builds for a file: a runner for each of its workers.
+fn runners_for<'a, H: Files + Processes<Started = SystemProcess> + Clock + Eprint>(
+    alloc: Global,
+    host: &'a H,
+    run: &Run,
+) -> Result<Vec<HostRunner<'a, H>>, AllocError>
+    ensures each { IfOk result (λ runners. All (BuildsIn run.now) runners.items) }
+    ensures count { IfOk result (λ runners. length runners.items ≡ run.now.workers) }
+{
+    let mut runners = Vec::new(alloc);
+    for worker in 0..run.workers {
+        let _worker = worker;
+        runners.push(runner_for(alloc, host, run)?)?;
+    }
+    Ok(runners)
+}
+
+/// Opens a file, and makes what builds for it.
+fn open_one<'a, 'h, O: Opens, H: Files + Processes<Started = SystemProcess> + Clock + Eprint>(
+    alloc: Global,
+    opener: &O,
+    host: &'h H,
+    run: &Run,
+    name: &'a str,
+) -> Result<Opened<'a, O::File, HostRunner<'h, H>>, Refused<'a>>
+    ensures opened { IfOk result (IsOpened O.opened run.now name.now) }
+    ensures refused { IfErr result (CannotOpen name.now) }
+{
+    match opener.open(name)? {
+        Some(reader) => Ok(Opened {
+            name,
+            reader,
+            runners: runners_for(alloc, host, run)?,
+            sweeps: run.sweep,
+        }),
+        None => Err(Refused {
+            name,
+            why: Refusal::InputFault,
+        }),
+    }
+}
+
+/// Opens all files of a run in their order, and makes what builds for each.
+///
+/// # Errors
+///
+/// - `InputFault`, with the name of the first file that cannot be opened.
+/// - `Memory` where memory was refused.
+pub(crate) fn open_all<
+    'a,
+    'h,
+    O: Opens,
+    H: Files + Processes<Started = SystemProcess> + Clock + Eprint,
+>(
+    alloc: Global,
+    opener: &O,
+    host: &'h H,
+    run: &'a Run,
+) -> Result<Vec<Opened<'a, O::File, HostRunner<'h, H>>>, Refused<'a>>
+    ensures opened { IfOk result (λ files.
+        AreOpened O.opened run.now (map string_bytes run.now.files.items) files.items) }
+    ensures refused { IfErr result (IsUnopened (map string_bytes run.now.files.items)) }
+{
+    let mut files = Vec::new(alloc);
+    for name in run.files.as_slice() {
+        match open_one(alloc, opener, host, run, name.as_str()) {
+            Ok(file) => files.push(file)?,
+            Err(refused) => return Err(refused),
+        }
+    }
+    Ok(files)
+}
