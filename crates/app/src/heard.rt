@@ -1,6 +1,6 @@
 //! What the history of a run says of goals: how far each of them is.
 
-use crate::inputs::{Inputs, Lack, MOST_USERS, News, is_at};
+use crate::inputs::{Inputs, MOST_USERS, News, is_at};
 use book::Row;
 use events::{Job, Reply, Request, State};
 use model::Refusal;
@@ -142,8 +142,8 @@ impl Heard {
             trust: Trust::new(),
             inputs: Inputs::new(alloc, hashing),
         };
-        for (place, row) in rows.iter().enumerate() {
-            heard.hear(place, row)?;
+        for row in rows {
+            heard.hear(row)?;
         }
         heard.add_all_goals()?;
         Ok(heard)
@@ -159,14 +159,9 @@ impl Heard {
         reach_in(&self.trust, user)
     }
 
-    /// The place of the row that has the text of the derivation at a path, if one has.
-    pub(crate) fn row_of(&self, path: &StorePath) -> Option<usize> {
-        self.inputs.row_of(path)
-    }
-
-    /// What the users at some places lack where the derivation at a path is an input, if anything.
-    pub(crate) fn lack_of(&self, path: &StorePath, users: u64) -> Option<Lack<'_>> {
-        self.inputs.lack_of(path, users)
+    /// The derivations and their classes.
+    pub(crate) fn inputs(&self) -> &Inputs {
+        &self.inputs
     }
 
     /// Adds what each user has by his goals.
@@ -206,13 +201,13 @@ impl Heard {
         }
     }
 
-    /// Hears of the row at a place of the history.
-    fn hear(&mut self, place: usize, row: &Row) -> Result<(), Refusal> {
+    /// Hears of a row.
+    fn hear(&mut self, row: &Row) -> Result<(), Refusal> {
         let Some(user) = self.place_of(&row.event.actor)? else {
             return Ok(());
         };
         match &row.event.request {
-            Request::AddDerivation(_) => self.hear_derivation(place, &row.reply),
+            Request::AddDerivation(text) => self.hear_derivation(text.bytes(), &row.reply),
             Request::Offer(path, _) => self.hear_offer(user, path, &row.reply),
             Request::Trust(other) => self.hear_trust(user, other, true, &row.reply),
             Request::Distrust(other) => self.hear_trust(user, other, false, &row.reply),
@@ -228,10 +223,10 @@ impl Heard {
         }
     }
 
-    /// Hears what was answered to a derivation, whose text is in the row at a place.
-    fn hear_derivation(&mut self, row: usize, reply: &Reply) -> Result<(), Refusal> {
+    /// Hears what was answered to the derivation of a text.
+    fn hear_derivation(&mut self, text: &[u8], reply: &Reply) -> Result<(), Refusal> {
         match reply {
-            Reply::Derivation { path, class } => self.inputs.hear(path, class, row),
+            Reply::Derivation { path, class } => self.inputs.hear(text, path, class),
             _ => Ok(()),
         }
     }

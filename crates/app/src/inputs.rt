@@ -1,8 +1,9 @@
 //! What was heard of the output classes of derivations, which goals wait for as their inputs.
 
+use aterm::parse;
 use indexmap::IndexMap;
 use model::Refusal;
-use std::alloc::Global;
+use std::alloc::{AllocError, Global};
 use std::fmt;
 use std::fmt::{Display, Formatter};
 use std::hash::RandomState;
@@ -136,19 +137,22 @@ impl Class {
     }
 }
 
-/// A derivation that is on a desk: the place of the row of the history that has its text, and the path of its output
-/// class.
+/// A derivation that is on a desk.
 #[derive(Drop)]
-struct Derived {
-    row: usize,
+pub(crate) struct Derived {
+    /// Its name.
+    pub(crate) name: Vec<u8>,
+    /// The paths of the derivations that are its inputs.
+    inputs: Vec<StorePath>,
+    /// The path of its output class.
     class: StorePath,
 }
 
-/// An input that is not there: the path of its class, and why.
+/// An input that is not there.
 #[derive(Drop)]
-pub(crate) struct Lack<'a> {
+pub(crate) struct Lack {
     /// The path of its class.
-    pub(crate) class: &'a StorePath,
+    pub(crate) class: StorePath,
     /// Why it is not there.
     pub(crate) absence: Absence,
 }
@@ -171,16 +175,17 @@ impl Inputs {
         }
     }
 
-    /// Hears of the derivation at a path, with its class and the place of the row that has its text.
+    /// Hears of the derivation of a text, with its path and that of its class. The text is read where the path is new.
     ///
     /// # Errors
     ///
     /// - `Memory` where memory was refused.
+    /// - `BadDerivation` where no derivation has that text.
     pub(crate) fn hear(
         &mut self,
+        text: &[u8],
         path: &StorePath,
         class: &StorePath,
-        row: usize,
     ) -> Result<(), Refusal> {
         if self.derivations.contains_key(path) {
             return Ok(());
@@ -189,8 +194,10 @@ impl Inputs {
             let news = Class::new(self.alloc);
             let _none = self.classes.insert(class.clone()?, news)?;
         }
+        let derivation = parse(self.alloc, text)?;
         let derived = Derived {
-            row,
+            name: derivation.name().to_vec(self.alloc)?,
+            inputs: derivation.parts().inputs.to_vec(self.alloc)?,
             class: class.clone()?,
         };
         let _none = self.derivations.insert(path.clone()?, derived)?;
@@ -212,22 +219,41 @@ impl Inputs {
         }
     }
 
-    /// The place of the row that has the text of the derivation at a path, if one has.
-    pub(crate) fn row_of(&self, path: &StorePath) -> Option<usize> {
-        match self.derivations.get(path) {
-            Some(derived) => Some(derived.row),
-            None => None,
+    /// The derivation at a path, if it was heard of.
+    pub(crate) fn at(&self, path: &StorePath) -> Option<&Derived> {
+        self.derivations.get(path)
+    }
+
+    /// What the users at some places lack where the derivation at a path is an input, if anything. The one error is
+    /// memory.
+    fn lack_of(&self, path: &StorePath, users: u64) -> Result<Option<Lack>, AllocError> {
+        let Some(derived) = self.derivations.get(path) else {
+            return Ok(None);
+        };
+        let Some(class) = self.classes.get(&derived.class) else {
+            return Ok(None);
+        };
+        match class.absence_for(users) {
+            Some(absence) => Ok(Some(Lack {
+                class: derived.class.clone()?,
+                absence,
+            })),
+            None => Ok(None),
         }
     }
 
-    /// What the users at some places lack where the derivation at a path is an input, if anything.
-    pub(crate) fn lack_of(&self, path: &StorePath, users: u64) -> Option<Lack<'_>> {
-        let derived = self.derivations.get(path)?;
-        let class = self.classes.get(&derived.class)?;
-        let absence = class.absence_for(users)?;
-        Some(Lack {
-            class: &derived.class,
-            absence,
-        })
+    /// The inputs of a derivation that the users at some places lack.
+    ///
+    /// # Errors
+    ///
+    /// - `Memory` where memory was refused.
+    pub(crate) fn lacks_of(&self, derived: &Derived, users: u64) -> Result<Vec<Lack>, Refusal> {
+        let mut lacks = Vec::new(self.alloc);
+        for input in derived.inputs.as_slice() {
+            if let Some(lack) = self.lack_of(input, users)? {
+                lacks.push(lack)?;
+            }
+        }
+        Ok(lacks)
     }
 }
