@@ -1,1 +1,3 @@
 mod ToldLemmas
+mod FileLemmas
+mod OutputLemmas

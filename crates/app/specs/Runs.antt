@@ -1,5 +1,5 @@
 -- What comes of files whose lines are run, and what is printed of it.
-use Rattle.std.specs.Prelude.{◌≡◌, ◌⊎◌, ◌+◌, ℕ, List, [], ◌∷◌, flat_map, take, Option, None, Some, Result, Ok, Err, slice_index_or}
+use Rattle.std.specs.Prelude.{◌≡◌, ◌⊎◌, ◌+◌, true, ℕ, List, [], ◌∷◌, flat_map, take, Option, None, Some, Result, Ok, Err, slice_index_or}
 use Rattle.std.specs.Io.KnownBytes.{Appends}
 use Rattle.model.specs.declared.refusal.Refusal.{Refusal}
 use Rattle.model.specs.Goals.{Running}
@@ -50,15 +50,25 @@ pub record HasNotPrinted {I Q : Type 0} (charge : ℕ) (gives : Q → Running �
 
 -- ---- how they ended
 
+-- an end, or where that is of all lines another
+abbrev pub end_or : Result (Unit {0}) Refusal → Result (Unit {0}) Refusal → Result (Unit {0}) Refusal
+end_or (Ok done) other = other
+end_or (Err why) other = Err why
+
 -- the first end that is none of all lines
 abbrev pub first_end : List Output → Result (Unit {0}) Refusal
 first_end [] = Ok tt
-first_end (output ∷ outputs) = elim output.ended [ Ok done ↦ first_end outputs | Err why ↦ Err why ]
+first_end (output ∷ outputs) = end_or output.ended (first_end outputs)
 
--- how many outputs are before it
+-- no place, or where an end is of all lines one more than another
+abbrev pub place_or : Result (Unit {0}) Refusal → ℕ → ℕ
+place_or (Ok done) other = other + 1
+place_or (Err why) other = 0
+
+-- how many outputs stand before it
 abbrev pub first_place : List Output → ℕ
 first_place [] = 0
-first_place (output ∷ outputs) = elim output.ended [ Ok done ↦ first_place outputs + 1 | Err why ↦ 0 ]
+first_place (output ∷ outputs) = place_or output.ended (first_place outputs)
 
 -- an end of files of these names: there is none, or it has the name of the file whose output has it
 abbrev pub IsFirstFault : List (List ℕ) → List Output → Option Refused → Type 0

@@ -6,7 +6,7 @@ use crate::opening::Opens;
 use command_line::Run;
 use session::Counted;
 use std::alloc::AllocError;
-use std::fs::File;
+use std::fs::{File, Files};
 use std::io::{BufReader, BufWriter, ErrorKind, Printer};
 use std::os::fd::{AsRawFd, RawFd};
 use std::{fs, io};
@@ -63,7 +63,7 @@ pub(crate) fn tell_missing_folders(rt: &HostRuntime, run: &Run) {
 }
 
 /// A file that is to be read, or nothing where it cannot be opened.
-pub(crate) fn open(rt: &HostRuntime, name: &str) -> Result<Option<Counted<File>>, AllocError> {
+pub(crate) fn open<R: Files>(rt: &R, name: &str) -> Result<Option<Counted<R::File>>, AllocError> {
     match fs::open(rt, name) {
         Ok(file) => Ok(Some(Counted::new(file))),
         Err(error) if error.kind() == ErrorKind::OutOfMemory => Err(AllocError),
@@ -71,18 +71,16 @@ pub(crate) fn open(rt: &HostRuntime, name: &str) -> Result<Option<Counted<File>>
     }
 }
 
-/// The files of the machine.
+/// The files of the machine, through the runtime.
 #[derive(Drop)]
-pub(crate) struct Disk<'a>(pub(crate) &'a HostRuntime);
+pub(crate) struct Disk<'a, R>(pub(crate) &'a R);
 
 // No contract can say what a file system has under a name, so nothing is known of a file that it opened. What is
-// proved of the files of a run is proved of any `Opens`, which knows that.
-impl Opens for Disk<'_> {
-    type File = Counted<File>;
+// proved of the files of a run is proved of any `Opens`, whatever that knows of them.
+impl<R: Files> Opens<Counted<R::File>> for Disk<'_, R> {
+    ghost opened = { λ name file. Unit {0} };
 
-    ghost opened = { λ _ _. Unit {0} };
-
-    fn open(&self, name: &str) -> Result<Option<Counted<File>>, AllocError> {
+    fn open(&self, name: &str) -> Result<Option<Counted<R::File>>, AllocError> {
         open(self.0, name)
     }
 }

@@ -1,6 +1,6 @@
 //! The files of a run as they are opened, each with what builds for it.
 
-ghost use Rattle.std.specs.Prelude.{◌≡◌, length, map, option_map, All, IfOk, IfErr, string_bytes};
+ghost use Rattle.std.specs.Prelude.{◌≡◌, ℕ, List, length, map, option_map, All, IfOk, IfErr, IfSome, string_bytes};
 ghost use Rattle.std.specs.Path.{path_buf_bytes};
 ghost use Rattle.app.specs.Opening.{AreFoldersOf, AreOpened, BuildsIn, IsOpened, IsUnopened, CannotOpen};
 
@@ -8,10 +8,9 @@ use crate::narrator::Narrator;
 use builder::{Folders, ProcessRunner, System};
 use command_line::Run;
 use model::Refusal;
-use session::Faults;
 use std::alloc::{AllocError, AllocFailed, Global};
 use std::fs::Files;
-use std::io::{Eprint, Read};
+use std::io::Eprint;
 use std::path::PathBuf;
 use std::process::{Processes, SystemProcess};
 use std::time::Clock;
@@ -73,19 +72,16 @@ impl<T: Drop> From<AllocFailed<T>> for Refused<'_> {
 }
 
 /// What opens files for reading.
-pub(crate) trait Opens {
-    /// A file that is open.
-    type File: Read + Faults + Drop;
-
+pub(crate) trait Opens<I> {
     /// What is known of a file that was opened under a name.
-    ghost opened: { List ℕ → Self.File → Type 0 };
+    ghost opened: { List ℕ → I → Type 0 };
 
     /// Opens the file of a name. There is none where it cannot be opened.
     ///
     /// # Errors
     ///
     /// It fails only where memory was refused.
-    fn open(&self, name: &str) -> Result<Option<Self::File>, AllocError>
+    fn open(&self, name: &str) -> Result<Option<I>, AllocError>
         ensures { IfOk result (λ file. IfSome file (opened name.now)) };
 }
 
@@ -147,13 +143,18 @@ fn runners_for<'a, H: Files + Processes<Started = SystemProcess> + Clock + Eprin
 }
 
 /// Opens a file, and makes what builds for it.
-fn open_one<'a, 'h, O: Opens, H: Files + Processes<Started = SystemProcess> + Clock + Eprint>(
+fn open_one<
+    'a,
+    I: Drop,
+    O: Opens<I>,
+    H: Files + Processes<Started = SystemProcess> + Clock + Eprint,
+>(
     alloc: Global,
     opener: &O,
-    host: &'h H,
+    host: &'a H,
     run: &Run,
     name: &'a str,
-) -> Result<Opened<'a, O::File, HostRunner<'h, H>>, Refused<'a>>
+) -> Result<Opened<'a, I, HostRunner<'a, H>>, Refused<'a>>
     ensures opened { IfOk result (IsOpened O.opened run.now name.now) }
     ensures refused { IfErr result (CannotOpen name.now) }
 {
@@ -179,15 +180,15 @@ fn open_one<'a, 'h, O: Opens, H: Files + Processes<Started = SystemProcess> + Cl
 /// - `Memory` where memory was refused.
 pub(crate) fn open_all<
     'a,
-    'h,
-    O: Opens,
+    I: Drop,
+    O: Opens<I>,
     H: Files + Processes<Started = SystemProcess> + Clock + Eprint,
 >(
     alloc: Global,
     opener: &O,
-    host: &'h H,
+    host: &'a H,
     run: &'a Run,
-) -> Result<Vec<Opened<'a, O::File, HostRunner<'h, H>>>, Refused<'a>>
+) -> Result<Vec<Opened<'a, I, HostRunner<'a, H>>>, Refused<'a>>
     ensures opened { IfOk result (λ files.
         AreOpened O.opened run.now (map string_bytes run.now.files.items) files.items) }
     ensures refused { IfErr result (IsUnopened (map string_bytes run.now.files.items)) }

@@ -76,9 +76,7 @@ pub(crate) fn parts_of<'a, I: Read + Faults + Drop, Q: Drop>(
     for file in files {
         let Headed { part, users } = part_of(alloc, file)?;
         parts.push(part)?;
-        if named.is_none() {
-            named = Some(users);
-        }
+        named = Some(named.unwrap_or(users));
     }
     let users = named.unwrap_or(Vec::new(alloc));
     Ok(Parts { users, parts })

@@ -50,7 +50,7 @@ impl Display for Left<'_> {
 }
 
 /// Says what the goal of a number waits for: in a line for each input that it lacks, or in one where it lacks none.
-fn tell_goal(host: &impl Eprint, user: &User, number: usize, wanted: &Wanted) {
+fn tell_goal<'a>(host: &impl Eprint, user: &'a User, number: usize, wanted: &'a Wanted) {
     let name = wanted.name.as_slice();
     let lacks = wanted.lacks.as_slice();
     if lacks.is_empty() {

@@ -1,0 +1,20 @@
+use Rattle.std.proofs.Common.{◌≡◌, sym, subst, ℕ, List, ◌+◌}
+use Rattle.std.specs.Prelude.{map, take, string_bytes}
+use Rattle.app.specs.Opening.{AreOpened, IsOpened, CannotOpen, IsUnopened}
+use Rattle.app.proofs.FileLemmas.{opened_more, unopened_at}
+use Rattle.app.proofs.opening.open_all.Goals as goal
+
+pub returns-in-Err-clause-refused : goal.returns-in-Err-clause-refused
+returns-in-Err-clause-refused g c =
+    subst (λ names. IsUnopened (map string_bytes names) c.in-Err.refused) c.as_slice-name-items.ensures.value
+    (unopened_at string_bytes c.as_slice-name-items.result.now c.loop-name.name-index c.name-item.result c.in-Err.refused
+    c.loop-name-test.true c.name-item.is
+    (subst (λ (name : List ℕ). CannotOpen name c.in-Err.refused) c.as_str.ensures.value c.in-Err.ensures.refused))
+
+pub loop-name-preserved : goal.loop-name-preserved
+loop-name-preserved g c =
+    let names = c.as_slice-name-items.result.now in
+    subst (AreOpened g.O.Opens.opened c.args.run.now (map string_bytes (take (c.loop-name.name-index + 1) names))) (sym c.in_ok-push-in-Ok.ensures.items)
+    (opened_more g.O.Opens.opened c.args.run.now string_bytes names c.loop-name.name-index c.name-item.result c.loop-name.files.items c.in-Ok.file
+    c.loop-name-test.true c.name-item.is c.loop-name.invariant
+    (subst (λ (name : List ℕ). IsOpened g.O.Opens.opened c.args.run.now name c.in-Ok.file) c.as_str.ensures.value c.in-Ok.ensures.opened))

@@ -1,0 +1,9 @@
+use Rattle.app.specs.Runs.{texts_of}
+use Rattle.app.proofs.OutputLemmas.{on_any, flushed_front}
+use Rattle.app.proofs.runs.print_all.Goals as goal
+
+pub returns-clause-err : goal.returns-clause-err
+returns-clause-err g c =
+    on_any c.flush_after.result
+    (flushed_front (g.W.Write.contents c.args.writer.now) (g.W.Write.contents c.write_texts-ended.new.writer) (g.W.Write.contents c.flush_after.new.writer)
+    (texts_of c.args.outputs.now) c.write_texts-ended.result c.write_texts-ended.ensures.ok c.write_texts-ended.ensures.err c.flush_after.ensures.kept)

@@ -1,0 +1,17 @@
+use Rattle.std.proofs.Common.{◌≡◌, sym, ◌∙◌, subst, List, inr}
+use Rattle.running.specs.declared.sessions.Output.{Output}
+use Rattle.app.specs.Runs.{AppendsFront, texts_of}
+use Rattle.app.proofs.runs.run_and_print.Goals as goal
+
+pub returns-clause-refused : goal.returns-clause-refused
+returns-clause-refused g c =
+    inr (
+      record {
+        results = c.in-Ok.results;
+        ran = c.in-Ok.ensures.ran;
+        front =
+            subst (λ (outputs : List Output). AppendsFront (g.W.Write.contents c.args.writer.now) (g.W.Write.contents c.print_all.new.writer) (texts_of outputs))
+            c.as_slice.ensures.value c.in-Err-print_all.ensures.err;
+      },
+      λ same. c.in-Err-print_all.ensures.fault (sym c.of_none.ensures ∙ same),
+    )
