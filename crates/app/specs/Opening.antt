@@ -19,17 +19,20 @@ AreFoldersOf run folders =
 abbrev pub BuildsIn : {H O : Type 0} → Run → Narrator H (ProcessRunner O) → Type 0
 BuildsIn run runner = AreFoldersOf run runner.runner.folders × (runner.is_verbose ≡ run.verbose)
 
-module _ {I H O : Type 0} (opened : List ℕ → I → Type 0) (run : Run) where
-  -- the file of that name is open, with a runner for each worker that the options ask for
-  pub record IsOpened (name : List ℕ) (file : Opened I (Narrator H (ProcessRunner O))) : Type 0 where
+-- there is one for each worker that the options ask for, and each does
+abbrev pub AreRunners : {H O : Type 0} → Run → List (Narrator H (ProcessRunner O)) → Type 0
+AreRunners run runners = All (BuildsIn run) runners × (length runners ≡ run.workers)
+
+module _ {I Q : Type 0} (opened : List ℕ → I → Type 0) (made : Run → List Q → Type 0) (run : Run) where
+  -- the file of that name is open, with runners as the options ask
+  pub record IsOpened (name : List ℕ) (file : Opened I Q) : Type 0 where
     pub name_is : file.name.now ≡ name
     pub reader : opened name file.reader
-    pub each : All (BuildsIn run) file.runners.items
-    pub count : length file.runners.items ≡ run.workers
+    pub runners : made run file.runners.items
     pub sweeps : file.sweeps ≡ run.sweep
 
   -- the files of these names are, in their order
-  abbrev pub AreOpened : List (List ℕ) → List (Opened I (Narrator H (ProcessRunner O))) → Type 0
+  abbrev pub AreOpened : List (List ℕ) → List (Opened I Q) → Type 0
   AreOpened [] [] = Unit {0}
   AreOpened (name ∷ names) (file ∷ files) = IsOpened name file × AreOpened names files
   AreOpened names files = ⊥

@@ -2,7 +2,6 @@
 
 use crate::explaining::{Explained, Lines};
 use crate::fault::Fault;
-use crate::opening::Opens;
 use command_line::Run;
 use session::Counted;
 use std::alloc::AllocError;
@@ -68,20 +67,6 @@ pub(crate) fn open<R: Files>(rt: &R, name: &str) -> Result<Option<Counted<R::Fil
         Ok(file) => Ok(Some(Counted::new(file))),
         Err(error) if error.kind() == ErrorKind::OutOfMemory => Err(AllocError),
         Err(_) => Ok(None),
-    }
-}
-
-/// The files of the machine, through the runtime.
-#[derive(Drop)]
-pub(crate) struct Disk<'a, R>(pub(crate) &'a R);
-
-// No contract can say what a file system has under a name, so nothing is known of a file that it opened. What is
-// proved of the files of a run is proved of any `Opens`, whatever that knows of them.
-impl<R: Files> Opens<Counted<R::File>> for Disk<'_, R> {
-    ghost opened = { λ name file. Unit {0} };
-
-    fn open(&self, name: &str) -> Result<Option<Counted<R::File>>, AllocError> {
-        open(self.0, name)
     }
 }
 

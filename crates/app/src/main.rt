@@ -18,6 +18,7 @@ mod waiting;
 use crate::fault::{
     CANNOT_READ_OR_WRITE, COMMAND_LINE_FAULT, Fault, OUT_OF_MEMORY, report, tell_bad_lines,
 };
+use crate::opening::Machine;
 use command_line::{Action, Options, options};
 use model::Refusal;
 use replaying::BadLines;
@@ -119,7 +120,7 @@ fn main(rt: HostRuntime) -> ExitCode {
             Action::Strike { file, .. } => run_file(&rt, &rt, &options, file.as_str()),
             Action::Run(run) => {
                 files::tell_missing_folders(&rt, run);
-                match opening::open_all(rt.alloc(), &files::Disk(&rt), &rt, run) {
+                match opening::open_all(rt.alloc(), &Machine(&rt), run) {
                     Ok(files) => runs::run_files(&rt, &rt, &options, run, files),
                     Err(refused) => Ok(runs::report_refused(&rt, refused)),
                 }

@@ -1,13 +1,16 @@
 //! The files of a run as they are opened, each with what builds for it.
 
-ghost use Rattle.std.specs.Prelude.{◌≡◌, ℕ, List, length, map, option_map, All, IfOk, IfErr, IfSome, string_bytes};
+ghost use Rattle.std.specs.Prelude.{◌≡◌, ℕ, List, map, option_map, IfOk, IfErr, IfSome, string_bytes};
 ghost use Rattle.std.specs.Path.{path_buf_bytes};
-ghost use Rattle.app.specs.Opening.{AreFoldersOf, AreOpened, BuildsIn, IsOpened, IsUnopened, CannotOpen};
+ghost use Rattle.command_line.specs.declared.settings.Run.{Run};
+ghost use Rattle.app.specs.Opening.{AreFoldersOf, AreOpened, AreRunners, BuildsIn, IsOpened, IsUnopened, CannotOpen};
 
+use crate::files;
 use crate::narrator::Narrator;
 use builder::{Folders, ProcessRunner, System};
 use command_line::Run;
 use model::Refusal;
+use session::Counted;
 use std::alloc::{AllocError, AllocFailed, Global};
 use std::fs::Files;
 use std::io::Eprint;
@@ -71,10 +74,13 @@ impl<T: Drop> From<AllocFailed<T>> for Refused<'_> {
     }
 }
 
-/// What opens files for reading.
-pub(crate) trait Opens<I> {
+/// What opens files for reading, and makes what builds for them.
+pub(crate) trait Provides<I, Q> {
     /// What is known of a file that was opened under a name.
     ghost opened: { List ℕ → I → Type 0 };
+
+    /// What is known of runners that were made as the options ask.
+    ghost made: { Run → List Q → Type 0 };
 
     /// Opens the file of a name. There is none where it cannot be opened.
     ///
@@ -83,6 +89,14 @@ pub(crate) trait Opens<I> {
     /// It fails only where memory was refused.
     fn open(&self, name: &str) -> Result<Option<I>, AllocError>
         ensures { IfOk result (λ file. IfSome file (opened name.now)) };
+
+    /// Makes what builds for a file: a runner for each of its workers.
+    ///
+    /// # Errors
+    ///
+    /// It fails only where memory was refused.
+    fn runners(&self, alloc: Global, run: &Run) -> Result<Vec<Q>, AllocError>
+        ensures { IfOk result (λ runners. made run.now runners.items) };
 }
 
 /// The path of an option.
@@ -131,8 +145,7 @@ fn runners_for<'a, H: Files + Processes<Started = SystemProcess> + Clock + Eprin
     host: &'a H,
     run: &Run,
 ) -> Result<Vec<HostRunner<'a, H>>, AllocError>
-    ensures each { IfOk result (λ runners. All (BuildsIn run.now) runners.items) }
-    ensures count { IfOk result (λ runners. length runners.items ≡ run.now.workers) }
+    ensures { IfOk result (λ runners. AreRunners run.now runners.items) }
 {
     let mut runners = Vec::new(alloc);
     for worker in 0..run.workers {
@@ -142,27 +155,46 @@ fn runners_for<'a, H: Files + Processes<Started = SystemProcess> + Clock + Eprin
     Ok(runners)
 }
 
+/// The machine, through the runtime.
+#[derive(Drop)]
+pub(crate) struct Machine<'a, H>(pub(crate) &'a H);
+
+// No contract can say what a file system has under a name, so nothing is known of a file that was opened there. What
+// is proved of the files of a run is proved of all that provides them, whatever it knows of them.
+impl<'a, H: Files + Processes<Started = SystemProcess> + Clock + Eprint> Provides<
+    Counted<H::File>,
+    HostRunner<'a, H>,
+> for Machine<'a, H> {
+    ghost use Rattle.app.specs.Opening.{AreRunners};
+
+    ghost opened = { λ name file. Unit {0} };
+
+    ghost made = { AreRunners };
+
+    fn open(&self, name: &str) -> Result<Option<Counted<H::File>>, AllocError> {
+        files::open(self.0, name)
+    }
+
+    fn runners(&self, alloc: Global, run: &Run) -> Result<Vec<HostRunner<'a, H>>, AllocError> {
+        runners_for(alloc, self.0, run)
+    }
+}
+
 /// Opens a file, and makes what builds for it.
-fn open_one<
-    'a,
-    I: Drop,
-    O: Opens<I>,
-    H: Files + Processes<Started = SystemProcess> + Clock + Eprint,
->(
+fn open_one<'a, I: Drop, Q: Drop, P: Provides<I, Q>>(
     alloc: Global,
-    opener: &O,
-    host: &'a H,
+    provider: &P,
     run: &Run,
     name: &'a str,
-) -> Result<Opened<'a, I, HostRunner<'a, H>>, Refused<'a>>
-    ensures opened { IfOk result (IsOpened O.opened run.now name.now) }
+) -> Result<Opened<'a, I, Q>, Refused<'a>>
+    ensures opened { IfOk result (IsOpened P.opened P.made run.now name.now) }
     ensures refused { IfErr result (CannotOpen name.now) }
 {
-    match opener.open(name)? {
+    match provider.open(name)? {
         Some(reader) => Ok(Opened {
             name,
             reader,
-            runners: runners_for(alloc, host, run)?,
+            runners: provider.runners(alloc, run)?,
             sweeps: run.sweep,
         }),
         None => Err(Refused {
@@ -178,24 +210,18 @@ fn open_one<
 ///
 /// - `InputFault`, with the name of the first file that cannot be opened.
 /// - `Memory` where memory was refused.
-pub(crate) fn open_all<
-    'a,
-    I: Drop,
-    O: Opens<I>,
-    H: Files + Processes<Started = SystemProcess> + Clock + Eprint,
->(
+pub(crate) fn open_all<'a, I: Drop, Q: Drop, P: Provides<I, Q>>(
     alloc: Global,
-    opener: &O,
-    host: &'a H,
+    provider: &P,
     run: &'a Run,
-) -> Result<Vec<Opened<'a, I, HostRunner<'a, H>>>, Refused<'a>>
+) -> Result<Vec<Opened<'a, I, Q>>, Refused<'a>>
     ensures opened { IfOk result (λ files.
-        AreOpened O.opened run.now (map string_bytes run.now.files.items) files.items) }
+        AreOpened P.opened P.made run.now (map string_bytes run.now.files.items) files.items) }
     ensures refused { IfErr result (IsUnopened (map string_bytes run.now.files.items)) }
 {
     let mut files = Vec::new(alloc);
     for name in run.files.as_slice() {
-        match open_one(alloc, opener, host, run, name.as_str()) {
+        match open_one(alloc, provider, run, name.as_str()) {
             Ok(file) => files.push(file)?,
             Err(refused) => return Err(refused),
         }
