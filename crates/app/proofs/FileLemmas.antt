@@ -32,13 +32,17 @@ module _ {I Q : Type 0} (opened : List ℕ → I → Type 0) (made : Run → Lis
       (opened_push (map text (take i items)) (text item) files file all one)
 
 -- one of some names cannot be opened
-pub unopened_at : {S : Type 0} (text : S → List ℕ) (items : List S) (i : ℕ) (item : S) (refused : Refused)
-    → i < length items → item ≡ get_or items i item → CannotOpen (text item) refused → IsUnopened (map text items) refused
-unopened_at text items i item refused inside here (inl memory) = inl memory
-unopened_at {S} text items i item refused inside here (inr one) =
+pub unopened_at : {S : Type 0} (missing : List ℕ → Type 0) (text : S → List ℕ) (items : List S) (i : ℕ) (item : S) (refused : Refused)
+    → i < length items → item ≡ get_or items i item → CannotOpen missing (text item) refused → IsUnopened missing (map text items) refused
+unopened_at missing text items i item refused inside here (inl memory) = inl memory
+unopened_at {S} missing text items i item refused inside here (inr one) =
     let long : length (map text items) ≡ length items = length-map items text in
     let found : get_or (map text items) i (text item) ≡ text item = get_or-map text items i item ∙ ap text (sym here) in
-    inr (one.0, subst (Contains (map text items)) (sym one.1) (i, (omega (arith, long, inside)), found))
+    inr (
+      one.0,
+      subst (Contains (map text items)) (sym one.1) (i, (omega (arith, long, inside)), found),
+      subst missing (sym one.1) one.2,
+    )
 
 -- ---- what is run for them
 

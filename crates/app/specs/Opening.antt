@@ -37,10 +37,13 @@ module _ {I Q : Type 0} (opened : List ℕ → I → Type 0) (made : Run → Lis
   AreOpened (name ∷ names) (file ∷ files) = IsOpened name file × AreOpened names files
   AreOpened names files = ⊥
 
--- the file of that name cannot be opened, or memory was refused
-abbrev pub CannotOpen : List ℕ → Refused → Type 0
-CannotOpen name refused = (refused.why ≡ Memory) ⊎ ((refused.why ≡ InputFault) × (refused.name.now ≡ name))
+-- the file of that name could not be opened, or memory was refused
+abbrev pub CannotOpen : (List ℕ → Type 0) → List ℕ → Refused → Type 0
+CannotOpen missing name refused =
+    (refused.why ≡ Memory) ⊎ ((refused.why ≡ InputFault) × (refused.name.now ≡ name) × missing name)
 
 -- that is so of one of these files
-abbrev pub IsUnopened : List (List ℕ) → Refused → Type 0
-IsUnopened names refused = (refused.why ≡ Memory) ⊎ ((refused.why ≡ InputFault) × Contains names refused.name.now)
+abbrev pub IsUnopened : (List ℕ → Type 0) → List (List ℕ) → Refused → Type 0
+IsUnopened missing names refused =
+    (refused.why ≡ Memory)
+    ⊎ ((refused.why ≡ InputFault) × Contains names refused.name.now × missing refused.name.now)

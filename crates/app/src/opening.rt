@@ -1,6 +1,6 @@
 //! The files of a run as they are opened, each with what builds for it.
 
-ghost use Rattle.std.specs.Prelude.{◌≡◌, ℕ, List, map, option_map, IfOk, IfErr, IfSome, string_bytes};
+ghost use Rattle.std.specs.Prelude.{◌≡◌, ℕ, List, map, option_map, IfOk, IfErr, MatchOption, string_bytes};
 ghost use Rattle.std.specs.Path.{path_buf_bytes};
 ghost use Rattle.command_line.specs.declared.settings.Run.{Run};
 ghost use Rattle.app.specs.Opening.{AreFoldersOf, AreOpened, AreRunners, BuildsIn, IsOpened, IsUnopened, CannotOpen};
@@ -79,6 +79,9 @@ pub(crate) trait Provides<I, Q> {
     /// What is known of a file that was opened under a name.
     ghost opened: { List ℕ → I → Type 0 };
 
+    /// What is known of a name under which no file could be opened.
+    ghost missing: { List ℕ → Type 0 };
+
     /// What is known of runners that were made as the options ask.
     ghost made: { Run → List Q → Type 0 };
 
@@ -88,7 +91,7 @@ pub(crate) trait Provides<I, Q> {
     ///
     /// It fails only where memory was refused.
     fn open(&self, name: &str) -> Result<Option<I>, AllocError>
-        ensures { IfOk result (λ file. IfSome file (opened name.now)) };
+        ensures { IfOk result (λ file. MatchOption file (missing name.now) (opened name.now)) };
 
     /// Makes what builds for a file: a runner for each of its workers.
     ///
@@ -169,6 +172,8 @@ impl<'a, H: Files + Processes<Started = SystemProcess> + Clock + Eprint> Provide
 
     ghost opened = { λ name file. Unit {0} };
 
+    ghost missing = { λ name. Unit {0} };
+
     ghost made = { AreRunners };
 
     fn open(&self, name: &str) -> Result<Option<Counted<H::File>>, AllocError> {
@@ -188,7 +193,7 @@ fn open_one<'a, I: Drop, Q: Drop, P: Provides<I, Q>>(
     name: &'a str,
 ) -> Result<Opened<'a, I, Q>, Refused<'a>>
     ensures opened { IfOk result (IsOpened P.opened P.made run.now name.now) }
-    ensures refused { IfErr result (CannotOpen name.now) }
+    ensures refused { IfErr result (CannotOpen P.missing name.now) }
 {
     match provider.open(name)? {
         Some(reader) => Ok(Opened {
@@ -217,7 +222,7 @@ pub(crate) fn open_all<'a, I: Drop, Q: Drop, P: Provides<I, Q>>(
 ) -> Result<Vec<Opened<'a, I, Q>>, Refused<'a>>
     ensures opened { IfOk result (λ files.
         AreOpened P.opened P.made run.now (map string_bytes run.now.files.items) files.items) }
-    ensures refused { IfErr result (IsUnopened (map string_bytes run.now.files.items)) }
+    ensures refused { IfErr result (IsUnopened P.missing (map string_bytes run.now.files.items)) }
 {
     let mut files = Vec::new(alloc);
     for name in run.files.as_slice() {

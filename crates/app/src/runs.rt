@@ -170,6 +170,8 @@ fn report_all(rt: &impl Eprint, names: &[String], outputs: &[Output]) -> u8
 /// standard error what went wrong, and gives the exit status.
 ///
 /// Files whose first line that gets a reply names no users are told, the first of them, before any line is run.
+// No contract can say what standard output and standard error take: what is proved of what is printed is proved of any
+// writer, by `run_and_print`.
 pub(crate) fn run_files<
     H: Threads + Wait + Sync,
     Q: Runner + Send + Drop,

@@ -6,10 +6,10 @@ use Rattle.app.proofs.opening.open_all.Goals as goal
 
 pub returns-in-Err-clause-refused : goal.returns-in-Err-clause-refused
 returns-in-Err-clause-refused g c =
-    subst (λ names. IsUnopened (map string_bytes names) c.in-Err.refused) c.as_slice-name-items.ensures.value
-    (unopened_at string_bytes c.as_slice-name-items.result.now c.loop-name.name-index c.name-item.result c.in-Err.refused
+    subst (λ names. IsUnopened g.P.Provides.missing (map string_bytes names) c.in-Err.refused) c.as_slice-name-items.ensures.value
+    (unopened_at g.P.Provides.missing string_bytes c.as_slice-name-items.result.now c.loop-name.name-index c.name-item.result c.in-Err.refused
     c.loop-name-test.true c.name-item.is
-    (subst (λ (name : List ℕ). CannotOpen name c.in-Err.refused) c.as_str.ensures.value c.in-Err.ensures.refused))
+    (subst (λ (name : List ℕ). CannotOpen g.P.Provides.missing name c.in-Err.refused) c.as_str.ensures.value c.in-Err.ensures.refused))
 
 pub loop-name-preserved : goal.loop-name-preserved
 loop-name-preserved g c =
