@@ -6,7 +6,7 @@ ghost use Rattle.model.specs.Limits.{most_charge};
 ghost use Rattle.model.specs.Worlds.{are_users, nothing};
 ghost use Rattle.schedule.specs.Standing.{setup_for, setup_of, world_of, stored_in};
 ghost use Rattle.model.specs.declared.refusal.Refusal.TheVariants.{InputFault, OutputFault};
-ghost use Rattle.session.specs.Serving.{HasFailed, IsNoFault, IsOwn, MayBeFault};
+ghost use Rattle.session.specs.Serving.{EndsByCounts, HasFailed, IsOwn, MayBeFault};
 ghost use Rattle.replaying.specs.WholeLines.{ReplayedSoFar};
 ghost use Rattle.replaying.specs.ServingOn.{ServesOn, ServesOnInPart, ServesOnSoFar};
 ghost use Rattle.replaying.specs.Replaying.{Replayed, ReplayedInPart};

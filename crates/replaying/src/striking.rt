@@ -9,7 +9,7 @@ ghost use Rattle.model.specs.declared.refusal.Refusal.TheVariants.{InputFault, O
 ghost use Rattle.events.specs.Terms.{event_of, answer_of};
 ghost use Rattle.schedule.specs.Ever.{run_of};
 ghost use Rattle.schedule.specs.Standing.{setup_for};
-ghost use Rattle.session.specs.Serving.{HasFailed, IsNoFault, IsUnwritten, MayBeFault};
+ghost use Rattle.session.specs.Serving.{EndsByCounts, HasFailed, IsUnwritten};
 ghost use Rattle.replaying.specs.BadLines.{end_of, ended_with};
 ghost use Rattle.replaying.specs.Recording.{IsFirstRun};
 ghost use Rattle.replaying.specs.Striking.{Rerun, Struck, StruckEarly, lines_under, struck};
