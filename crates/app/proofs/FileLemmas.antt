@@ -1,10 +1,9 @@
 -- Files of a run, one more at a time: as they are opened, and what is run for them.
-use Rattle.std.proofs.Common.{◌≡◌, refl, sym, ap, ◌∙◌, subst, ◌⊎◌, inl, inr, ℕ, zero, suc, ◌+◌, ◌<◌, arith, List, [], ◌∷◌, ◌++◌, length, get_or, take}
+use Rattle.std.proofs.Common.{◌≡◌, sym, ap, ◌∙◌, subst, inl, inr, ℕ, zero, suc, ◌+◌, ◌<◌, arith, List, [], ◌∷◌, ◌++◌, length, get_or, take}
 use Rattle.std.specs.Prelude.{map, Option, None, Some, Contains, unwrap_or}
 use Rattle.std.specs.Global.{Vec}
 use Rattle.std.proofs.lemmas.List.{length-map, map-append, take_more}
 use Rattle.std.proofs.Math.ListN.{get_or-map}
-use Rattle.model.specs.declared.refusal.Refusal.TheVariants.{InputFault, Memory}
 use Rattle.command_line.specs.declared.settings.Run.{Run}
 use Rattle.running.specs.declared.sessions.Part.{Part}
 use Rattle.app.specs.declared.opening.Opened.{Opened}

@@ -1,4 +1,4 @@
-use Rattle.std.proofs.Common.{◌≡◌, sym, subst, ℕ, List, ◌+◌}
+use Rattle.std.proofs.Common.{sym, subst, ℕ, List, ◌+◌}
 use Rattle.std.specs.Prelude.{map, take, string_bytes}
 use Rattle.app.specs.Opening.{AreOpened, IsOpened, CannotOpen, IsUnopened}
 use Rattle.app.proofs.FileLemmas.{opened_more, unopened_at}

@@ -1,4 +1,4 @@
-use Rattle.std.proofs.Common.{◌≡◌, sym, ap, ◌∙◌, ℕ, []}
+use Rattle.std.proofs.Common.{sym, ap, ◌∙◌, ℕ, []}
 use Rattle.std.specs.Prelude.{map, slice_index_or, string_bytes}
 use Rattle.app.proofs.OutputLemmas.{ended_at, ended_more}
 use Rattle.app.proofs.runs.first_fault.Goals as goal

@@ -1,4 +1,4 @@
-use Rattle.std.proofs.Common.{◌≡◌, sym, ◌∙◌, subst, List, inr}
+use Rattle.std.proofs.Common.{sym, ◌∙◌, subst, List, inr}
 use Rattle.running.specs.declared.sessions.Output.{Output}
 use Rattle.app.specs.Runs.{AppendsFront, texts_of}
 use Rattle.app.proofs.runs.run_and_print.Goals as goal
