@@ -3,12 +3,12 @@
 
 mod answer;
 mod devices;
-mod lines;
 mod stores;
 mod text;
+mod told;
 
 pub use answer::{Answer, print_answer};
 pub use devices::{Calls, Count, Sink, Source, calls_of};
-pub use lines::tell_lines;
 pub use stores::{adding, core_for, fetching, new_core, store_of, tell, users_in, users_of};
 pub use text::{cut, number, with_newlines};
+pub use told::tell_lines;
