@@ -148,7 +148,7 @@ impl<J: FrontId> Front<J> {
     /// core, so it may wait.
     ///
     /// The core is as [`Core::new`] gave it, and the front is named for its users and limits. There
-    /// are 1 to 64 passes, and the blank has as many parts.
+    /// are 1 to 64 passes, and the tokens have as many parts.
     ///
     /// # Errors
     ///

@@ -389,7 +389,7 @@ abbrev FollowsOrPlans : Setup → World → Event → List ℕ → Desk → Type
 FollowsOrPlans setup w e u later = Follows (w u).goals later.goals ⊎ ((u ≡ e.actor) × PlansGoal (observation_of setup w e.actor) e.request (outcome_of setup w e))
 
 module _ (setup : Setup) (w : World) (e : Event) (u : List ℕ) (reached : Bool) where
-  -- the actor's desk, or another, before notification are delivered
+  -- the actor's desk, or another, before a notification is delivered
   own_or_other : (c : Change) → Follows (w e.actor).goals c.desk.goals → Follows (w u).goals (if bytes_eq u e.actor then c.desk else w u).goals
   own_or_other c follows =
       cond_both (bytes_eq u e.actor) c.desk (w u) (λ (d : Desk). Follows (w u).goals d.goals)
