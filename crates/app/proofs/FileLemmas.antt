@@ -15,7 +15,8 @@ use Rattle.app.specs.Parts.{IsPartOf, AreParts, HeadNames, AreNamed, IsRefusedFo
 
 module _ {I Q : Type 0} (opened : List ℕ → I → Type 0) (made : Run → List Q → Type 0) (run : Run) where
   opened_push : (names : List (List ℕ)) (name : List ℕ) (files : List (Opened I Q)) (file : Opened I Q)
-      → AreOpened opened made run names files → IsOpened opened made run name file → AreOpened opened made run (names ++ name ∷ []) (files ++ file ∷ [])
+      → AreOpened opened made run names files → IsOpened opened made run name file
+      → AreOpened opened made run (names ++ name ∷ []) (files ++ file ∷ [])
   opened_push [] name [] file all one = (one, tt)
   opened_push (n ∷ ns) name (f ∷ fs) file all one = (all.0, opened_push ns name fs file all.1 one)
   opened_push [] name (f ∷ fs) file all one = absurd all
@@ -23,11 +24,13 @@ module _ {I Q : Type 0} (opened : List ℕ → I → Type 0) (made : Run → Lis
 
   -- one file more is open, whose name is that of an item at a place
   pub opened_more : {S : Type 0} (text : S → List ℕ) (items : List S) (i : ℕ) (item : S) (files : List (Opened I Q)) (file : Opened I Q)
-      → i < length items → item ≡ get_or items i item → AreOpened opened made run (map text (take i items)) files → IsOpened opened made run (text item) file
+      → i < length items → item ≡ get_or items i item → AreOpened opened made run (map text (take i items)) files
+      → IsOpened opened made run (text item) file
       → AreOpened opened made run (map text (take (i + 1) items)) (files ++ file ∷ [])
   opened_more {S} text items i item files file inside here all one =
       let more : take (i + 1) items ≡ take i items ++ item ∷ [] = take_more items i item inside ∙ ap (λ (s : S). take i items ++ s ∷ []) (sym here) in
-      subst (λ (names : List (List ℕ)). AreOpened opened made run names (files ++ file ∷ [])) (sym (ap (map text) more ∙ map-append text (take i items) (item ∷ [])))
+      subst (λ (names : List (List ℕ)). AreOpened opened made run names (files ++ file ∷ []))
+      (sym (ap (map text) more ∙ map-append text (take i items) (item ∷ [])))
       (opened_push (map text (take i items)) (text item) files file all one)
 
 -- one of some names cannot be opened

@@ -16,21 +16,25 @@ use Rattle.app.specs.Runs.{texts_of, AppendsFront, end_or, place_or, first_end, 
 pub written_more : (a b c : Option (List ℕ)) (outputs : List Output) (i : ℕ) (output : Output) → i < length outputs → output ≡ get_or outputs i output
     → Appends a b (texts_of (take i outputs)) → Appends b c output.text.items → Appends a c (texts_of (take (i + 1) outputs))
 written_more a b c outputs i output inside here before own =
-    let more : take (i + 1) outputs ≡ take i outputs ++ output ∷ [] = take_more outputs i output inside ∙ ap (λ (o : Output). take i outputs ++ o ∷ []) (sym here) in
+    let more : take (i + 1) outputs ≡ take i outputs ++ output ∷ [] =
+    take_more outputs i output inside ∙ ap (λ (o : Output). take i outputs ++ o ∷ []) (sym here) in
     let text : texts_of (take (i + 1) outputs) ≡ texts_of (take i outputs) ++ output.text.items =
     ap texts_of more ∙ flat_map-append (λ (o : Output). o.text.items) (take i outputs) (output ∷ [])
     ∙ ap (λ (bytes : List ℕ). texts_of (take i outputs) ++ bytes) (append-nil output.text.items) in
     subst (Appends a c) (sym text) (Appends-trans a b c (texts_of (take i outputs)) output.text.items before own)
 
 -- a beginning of one text more
-pub written_front : (a b c : Option (List ℕ)) (outputs : List Output) (i : ℕ) (output : Output) → i < length outputs → output ≡ get_or outputs i output
-    → Appends a b (texts_of (take i outputs)) → ((n : ℕ) × (n < length output.text.items) × Appends b c (take n output.text.items)) → AppendsFront a c (texts_of outputs)
+pub written_front : (a b c : Option (List ℕ)) (outputs : List Output) (i : ℕ) (output : Output) → i < length outputs
+    → output ≡ get_or outputs i output
+    → Appends a b (texts_of (take i outputs)) → ((n : ℕ) × (n < length output.text.items) × Appends b c (take n output.text.items))
+    → AppendsFront a c (texts_of outputs)
 written_front a b c outputs i output inside here before own =
     let n : ℕ = own.0 in
     let short : n < length output.text.items = own.1 in
     let front : List ℕ = texts_of (take i outputs) in
     let rest : List ℕ = texts_of (drop (i + 1) outputs) in
-    let behind : drop i outputs ≡ output ∷ drop (i + 1) outputs = rw add-one (drop-cons outputs i output inside ∙ ap (λ (o : Output). o ∷ drop (suc i) outputs) (sym here)) in
+    let behind : drop i outputs ≡ output ∷ drop (i + 1) outputs =
+    rw add-one (drop-cons outputs i output inside ∙ ap (λ (o : Output). o ∷ drop (suc i) outputs) (sym here)) in
     let whole : texts_of outputs ≡ front ++ (output.text.items ++ rest) =
     ap texts_of (sym (take-append-drop i outputs) ∙ ap (λ (os : List Output). take i outputs ++ os) behind)
     ∙ flat_map-append (λ (o : Output). o.text.items) (take i outputs) (output ∷ drop (i + 1) outputs) in
@@ -56,7 +60,8 @@ both_ok : (first rest : Result (Unit {0}) Refusal) → end_or first rest ≡ Ok 
 both_ok (Ok done) rest same = (refl, same)
 both_ok (Err why) rest same = cc
 
-ended_push : (outputs : List Output) (output : Output) → first_end outputs ≡ Ok tt → output.ended ≡ Ok tt → first_end (outputs ++ output ∷ []) ≡ Ok tt
+ended_push : (outputs : List Output) (output : Output) → first_end outputs ≡ Ok tt → output.ended ≡ Ok tt
+    → first_end (outputs ++ output ∷ []) ≡ Ok tt
 ended_push [] output before own = ap (λ (end : Result (Unit {0}) Refusal). end_or end (Ok tt)) own
 ended_push (o ∷ os) output before own =
     let both = both_ok o.ended (first_end os) before in
@@ -66,7 +71,8 @@ ended_push (o ∷ os) output before own =
 pub ended_more : (outputs : List Output) (i : ℕ) (output : Output) → i < length outputs → output ≡ get_or outputs i output
     → first_end (take i outputs) ≡ Ok tt → output.ended ≡ Ok tt → first_end (take (i + 1) outputs) ≡ Ok tt
 ended_more outputs i output inside here before own =
-    let more : take (i + 1) outputs ≡ take i outputs ++ output ∷ [] = take_more outputs i output inside ∙ ap (λ (o : Output). take i outputs ++ o ∷ []) (sym here) in
+    let more : take (i + 1) outputs ≡ take i outputs ++ output ∷ [] =
+    take_more outputs i output inside ∙ ap (λ (o : Output). take i outputs ++ o ∷ []) (sym here) in
     ap first_end more ∙ ended_push (take i outputs) output before own
 
 -- it is the first that is none

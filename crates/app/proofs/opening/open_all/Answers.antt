@@ -14,7 +14,10 @@ returns-in-Err-clause-refused g c =
 pub loop-name-preserved : goal.loop-name-preserved
 loop-name-preserved g c =
     let names = c.as_slice-name-items.result.now in
-    subst (AreOpened g.P.Provides.opened g.P.Provides.made c.args.run.now (map string_bytes (take (c.loop-name.name-index + 1) names))) (sym c.in_ok-push-in-Ok.ensures.items)
-    (opened_more g.P.Provides.opened g.P.Provides.made c.args.run.now string_bytes names c.loop-name.name-index c.name-item.result c.loop-name.files.items c.in-Ok.file
+    subst (AreOpened g.P.Provides.opened g.P.Provides.made c.args.run.now (map string_bytes (take (c.loop-name.name-index + 1) names)))
+    (sym c.in_ok-push-in-Ok.ensures.items)
+    (opened_more g.P.Provides.opened g.P.Provides.made c.args.run.now string_bytes names
+    c.loop-name.name-index c.name-item.result c.loop-name.files.items c.in-Ok.file
     c.loop-name-test.true c.name-item.is c.loop-name.invariant
-    (subst (λ (name : List ℕ). IsOpened g.P.Provides.opened g.P.Provides.made c.args.run.now name c.in-Ok.file) c.as_str.ensures.value c.in-Ok.ensures.opened))
+    (subst (λ (name : List ℕ). IsOpened g.P.Provides.opened g.P.Provides.made c.args.run.now name c.in-Ok.file)
+    c.as_str.ensures.value c.in-Ok.ensures.opened))

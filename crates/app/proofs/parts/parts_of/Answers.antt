@@ -11,10 +11,12 @@ pub returns-in_err-part-clause-refused : goal.returns-in_err-part-clause-refused
 returns-in_err-part-clause-refused g c =
     let given = c.into_iter-file-iterator.ensures.into_iter_gives in
     let list = YieldsList-from_vec {s = c.into_iter-file-iterator.result} c.args.files.items given.0 (given.1 ∙ c.args.files.ok.0) in
-    let turn = YieldsList-turn list c.loop-file.yielded c.loop-file.file-iterator c.loop-file.yielded_by c.next.result c.next.new.self c.in-Some.file c.in-Some.is c.next.ensures.steps in
+    let turn = YieldsList-turn list c.loop-file.yielded c.loop-file.file-iterator c.loop-file.yielded_by
+    c.next.result c.next.new.self c.in-Some.file c.in-Some.is c.next.ensures.steps in
     let told = err_from_is_err_and c.from_residual.result c.from_residual.ensures.1 in
     rw (told.1, told.2)
-    (inr (refused_at g.I.Faults.failed c.args.files.items (length c.loop-file.yielded) c.in-Some.file c.in_err-part.field-0.0 turn.0 turn.1 c.in_err-part.ensures.refused))
+    (inr (refused_at g.I.Faults.failed c.args.files.items (length c.loop-file.yielded) c.in-Some.file
+    c.in_err-part.field-0.0 turn.0 turn.1 c.in_err-part.ensures.refused))
 
 pub loop-file-preserved : goal.loop-file-preserved
 loop-file-preserved g c =

@@ -10,7 +10,8 @@ returns-clause-refused g c =
         results = c.in-Ok.results;
         ran = c.in-Ok.ensures.ran;
         front =
-            subst (λ (outputs : List Output). AppendsFront (g.W.Write.contents c.args.writer.now) (g.W.Write.contents c.print_all.new.writer) (texts_of outputs))
+            subst (λ (outputs : List Output). AppendsFront (g.W.Write.contents c.args.writer.now) (g.W.Write.contents c.print_all.new.writer)
+            (texts_of outputs))
             c.as_slice.ensures.value c.in-Err-print_all.ensures.err;
       },
       λ same. c.in-Err-print_all.ensures.fault (sym c.of_none.ensures ∙ same),

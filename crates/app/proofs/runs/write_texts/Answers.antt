@@ -10,4 +10,5 @@ returns-in_err-write_whole-clause-err g c =
     on_any c.from_residual.result
     (written_front (g.W.Write.contents c.args.writer.now) middle last c.args.outputs.now c.loop-output.output-index c.output-item.result
     c.loop-output-test.true c.output-item.is c.loop-output.invariant
-    (subst (λ (bytes : List ℕ). (n : ℕ) × (n < length bytes) × Appends middle last (take n bytes)) c.as_slice.ensures.value c.in_err-write_whole.ensures.err))
+    (subst (λ (bytes : List ℕ). (n : ℕ) × (n < length bytes) × Appends middle last (take n bytes))
+    c.as_slice.ensures.value c.in_err-write_whole.ensures.err))
