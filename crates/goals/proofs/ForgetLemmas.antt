@@ -33,7 +33,7 @@ use Rattle.handling.specs.Supported.{IsEntryOn, IsSupported, AreSupportedOn}
 use Rattle.handling.specs.Viewing.{desk_at}
 use Rattle.handling.specs.Handling.{Fits, RefusedAtOnce, IsHandledWithGoals, IsHandledAtPlace}
 use Rattle.handling.proofs.GoalLemmas.{goals_sound_at}
-use Rattle.handling.proofs.TrustLemmas.{distinct_users}
+use Rattle.trust.proofs.UsersLemmas.{distinct_users}
 use Rattle.handling.proofs.ForgettingLemmas.{sound_without, there_as, needed_as, desk_without}
 use Rattle.handling.proofs.ViewLemmas.{reach_of}
 use Rattle.handlers.proofs.ClosureLemmas.{world, his_desk, his_sound}

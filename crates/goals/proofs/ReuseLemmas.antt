@@ -36,7 +36,7 @@ use Rattle.handling.specs.Parts.{beside_at}
 use Rattle.handling.specs.Viewing.{places_of, desk_at}
 use Rattle.handling.specs.Supported.{goals_of}
 use Rattle.handling.proofs.DeskLemmas.{known_of-desk_of}
-use Rattle.handling.proofs.TrustLemmas.{distinct_users}
+use Rattle.trust.proofs.UsersLemmas.{distinct_users}
 use Rattle.handling.proofs.ViewLemmas.{view_is, places_in, places_out, places_below}
 use Rattle.handlers.specs.Taking.{IsLabelledBy}
 use Rattle.handlers.proofs.ClosureLemmas.{world, his_desk}

@@ -18,13 +18,13 @@ use jobs::Jobs;
 use model::Refusal;
 use realise::Desk;
 use storepath::StorePath;
-use trust::{Trust, User};
+use trust::{Trust, Users};
 
 /// Whether the outputs of a class at a path are needed on the desk of the user at a place, who reaches the
 /// users at the places of a word: another output there has a label of one, or a goal of his is built from
 /// one, in a job whose leader he reaches.
 fn is_in_use(
-    users: &[User],
+    users: &Users,
     reached: u64,
     jobs: &Jobs,
     desk: &Desk,
@@ -50,7 +50,7 @@ fn is_in_use(
 /// - `InUse` exactly where he has one, and another output on his desk has a label of it, or it is among
 ///   what a goal of his is built from, in a job whose leader he reaches.
 pub fn forget(
-    users: &[User],
+    users: &Users,
     trust: &Trust,
     jobs: &mut Jobs,
     desks: &mut [Desk],

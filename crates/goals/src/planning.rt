@@ -32,7 +32,7 @@ use records::Resolved;
 use repair::{Cache, resolve_with, served_are_made};
 use std::alloc::Global;
 use store::Table;
-use trust::{Trust, User, is_reached};
+use trust::{Trust, Users, is_reached};
 
 /// What a derivation is built from, for the user at a place, of all that he sees.
 fn resolved_for(
@@ -62,7 +62,7 @@ fn resolved_for(
 }
 
 /// Whether a goal waits, as one sees it who reaches the users at the places of a word.
-fn waits(users: &[User], reached: u64, state: &State) -> bool
+fn waits(users: &Users, reached: u64, state: &State) -> bool
     requires { length users.now ≤ 64 }
     ensures { result ≡ is_waiting (as_seen (names users.now (holds reached)) (state_of state.now)) }
 {
@@ -79,7 +79,7 @@ fn waits(users: &[User], reached: u64, state: &State) -> bool
 /// A number without a goal is refused with 42 `UnknownGoal`, a goal that does not wait with 43
 /// `WrongState`, and one whose derivation is not on the desk with 41 `UnknownDerivation`.
 fn derivation_to_plan<'a>(
-    users: &[User],
+    users: &Users,
     reached: u64,
     jobs: &Jobs,
     desk: &'a Desk,
@@ -172,7 +172,7 @@ fn keep(
 /// - `Memory` only where memory was refused; it may stand in the place of each answer but the first two.
 pub fn plan(
     alloc: Global,
-    users: &[User],
+    users: &Users,
     trust: &Trust,
     jobs: &mut Jobs,
     table: &mut Table,

@@ -14,6 +14,7 @@ use Rattle.model.proofs.BoolLemmas.{both_parts}
 use Rattle.trust.specs.Trusting.{with_pair, without_pair}
 use Rattle.trust.specs.Naming.{place_of, name_at, trusted_at, IsWithin}
 use Rattle.trust.proofs.PlaceLemmas.{name_found, same_place}
+use Rattle.trust.proofs.UsersLemmas.{distinct_users}
 use Rattle.trust.proofs.NameLemmas.{trusted_added, trusted_removed, trusted_elsewhere, within_added, within_removed}
 use Rattle.events.specs.declared.reply.Reply as reply
 use Rattle.events.specs.declared.reply.Reply.TheVariants as Rust
@@ -27,23 +28,6 @@ use Rattle.handling.specs.Handling.{IsHandled}
 use Rattle.handling.proofs.WorldLemmas.{IsPlace, place_found, place_is_among, no_place, desk_found}
 use Rattle.handling.proofs.StepLemmas.{step_done}
 use Rattle.handling.proofs.HandlingLemmas.{place_there, all_left}
-
--- a list of users has at most 64, and none of them twice
-pub few_users : (users : List (List ℕ)) → are_users users ≡ true → length users ≤ 64
-unfolding are_users
-few_users users listed =
-    let rest : Bool = list_all is_user_name users && are_distinct users in
-    let few : nat_le (length users) 64 ≡ true =
-    (both_parts (nat_le (length users) 64) rest (both_parts (nat_lt 0 (length users)) (nat_le (length users) 64 && rest) listed).1).0 in
-    grind (arith, nat_tests, few)
-
-pub distinct_users : (users : List (List ℕ)) → are_users users ≡ true → are_distinct users ≡ true
-unfolding are_users
-distinct_users users listed =
-    let rest : Bool = list_all is_user_name users && are_distinct users in
-    let named : rest ≡ true =
-    (both_parts (nat_le (length users) 64) rest (both_parts (nat_lt 0 (length users)) (nat_le (length users) 64 && rest) listed).1).1 in
-    (both_parts (list_all is_user_name users) (are_distinct users) named).1
 
 -- these goals, beside whom a user trusts
 abbrev trusting : List Goal → (List ℕ → Bool) → Beside

@@ -18,7 +18,7 @@ use Rattle.handling.specs.Parts.{beside_at, desk_among}
 use Rattle.handling.specs.Viewing.{places_of, bare, desk_at, IsView}
 use Rattle.handling.proofs.WorldLemmas.{place_found, desk_found}
 use Rattle.handling.proofs.HandlingLemmas.{place_there}
-use Rattle.handling.proofs.TrustLemmas.{distinct_users}
+use Rattle.trust.proofs.UsersLemmas.{distinct_users}
 
 -- ---- places
 

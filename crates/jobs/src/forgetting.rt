@@ -13,7 +13,7 @@ use crate::goals::Goals;
 use events::State;
 use records::Entry;
 use storepath::StorePath;
-use trust::{User, is_reached};
+use trust::{Users, is_reached};
 
 /// Whether an entry is the output of a class at a path.
 fn is_entry_at(class: &StorePath, path: &StorePath, entry: &Entry) -> bool
@@ -51,7 +51,7 @@ pub(crate) fn is_built_with(class: &StorePath, path: &StorePath, goal: &Goal) ->
 /// Whether a goal is built in a job whose leader is at one of the places of a word, and from the output
 /// of a class at a path.
 pub(crate) fn builds_with(
-    users: &[User],
+    users: &Users,
     reached: u64,
     class: &StorePath,
     path: &StorePath,
@@ -69,7 +69,7 @@ pub(crate) fn builds_with(
 
 /// Whether one of the goals is built so.
 fn any_builds_with(
-    users: &[User],
+    users: &Users,
     reached: u64,
     class: &StorePath,
     path: &StorePath,
@@ -92,7 +92,7 @@ impl Goals {
     /// the places of a word.
     pub(crate) fn build_with(
         &self,
-        users: &[User],
+        users: &Users,
         reached: u64,
         class: &StorePath,
         path: &StorePath,

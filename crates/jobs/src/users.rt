@@ -27,7 +27,7 @@ use std::alloc::Global;
 use std::hash::RandomState;
 use std::marker::Model;
 use storepath::StorePath;
-use trust::{User, has_place};
+use trust::{User, Users, has_place};
 
 /// The goals of the users of a run, who are at most 64. A user is named by his place among them,
 /// and a goal of his by its number, from 1 on.
@@ -228,7 +228,7 @@ impl Jobs {
     pub fn build_with(
         &self,
         place: usize,
-        users: &[User],
+        users: &Users,
         reached: u64,
         class: &StorePath,
         path: &StorePath,

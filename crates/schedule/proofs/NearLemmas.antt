@@ -22,7 +22,8 @@ use Rattle.handling.proofs.WorldLemmas as worlds
 use Rattle.schedule.specs.declared.undoing.Said.{Said}
 use Rattle.schedule.specs.Ever.{run_of}
 use Rattle.schedule.specs.Undoing.{said_of, said_in, said_by, trust_with}
-use Rattle.schedule.proofs.EverLemmas.{distinct_users, found_below}
+use Rattle.trust.proofs.UsersLemmas.{distinct_users}
+use Rattle.schedule.proofs.EverLemmas.{found_below}
 
 -- ---- what is said, and of whom
 
@@ -135,7 +136,7 @@ module _ (users : List (List ℕ)) (charge : ℕ) where
 
   module _ (listed : are_users users ≡ true) (trust : ℕ → ℕ → Bool) (w : World) (is : IsTrustOf trust w) (e : Event) where
     distinct : are_distinct users ≡ true
-    distinct = (distinct_users users listed).0
+    distinct = distinct_users users listed
 
     -- the user at the actor's place, of whom something is said, trusts as the event says
     said_linked : (said : Said) → IsSaid users e.actor e.request said → (v : List ℕ)
@@ -261,7 +262,7 @@ module _ (users : List (List ℕ)) (charge : ℕ) where
 
   module _ (listed : are_users users ≡ true) (trust : ℕ → ℕ → Bool) (w : World) (is : IsTrustOf trust w) where
     all_distinct : are_distinct users ≡ true
-    all_distinct = (distinct_users users listed).0
+    all_distinct = distinct_users users listed
 
     is_below : (p : ℕ) → p < length users → nat_lt p (length users) ≡ true
     is_below p below = grind (arith, nat_tests)

@@ -184,16 +184,16 @@ module _ (core : Core) (held : List ℕ → Bool) (same : (p : List ℕ) → hel
   core_goals = goals_swept core.table.sources held core.jobs.goals with_goal core.goals_sound
 
   pub core_world : (u : List ℕ)
-      → desk_among (beside_at core.users.items (trusts core.trust) core.jobs.goals) swept core.users.items core.desks.items u
-      ≡ desk_among (beside_at core.users.items (trusts core.trust) core.jobs.goals) core.table.sources core.users.items core.desks.items u
+      → desk_among (beside_at core.users (trusts core.trust) core.jobs.goals) swept core.users core.desks.items u
+      ≡ desk_among (beside_at core.users (trusts core.trust) core.jobs.goals) core.table.sources core.users core.desks.items u
   core_world u =
-      among_swept core.table.sources held (beside_at core.users.items (trusts core.trust) core.jobs.goals) core.users.items core.desks.items u on_desk
+      among_swept core.table.sources held (beside_at core.users (trusts core.trust) core.jobs.goals) core.users core.desks.items u on_desk
 
 -- every path that a desk holds is stored
 pub holds_stored : (core : Core) → HoldsStored core
 unfolding world_of stored_in
 holds_stored core u path h =
-    among_stored (beside_at core.users.items (trusts core.trust) core.jobs.goals) core.table.sources core.limits.charge core.users.items core.desks.items u path core.sound h
+    among_stored (beside_at core.users (trusts core.trust) core.jobs.goals) core.table.sources core.limits.charge core.users core.desks.items u path core.sound h
 
 -- what is left was made by texts that were hashed
 pub hashed_swept : (texts : List (List ℕ)) (old new : Core) (test : List ℕ → Bool) → stored_in new ≡ kept_at test (stored_in old) → HasHashed texts old → HasHashed texts new

@@ -14,7 +14,6 @@ use crate::work::{Ready, Work};
 use endings::{input_for_finish, tree_in};
 use events::{Event, Request};
 use handlers::input_for_offer;
-use handling::place_of;
 use model::Refusal;
 use nar::Tree;
 use outputs::{Input, Settlements};
@@ -103,8 +102,8 @@ impl Core {
         place: usize,
         request: &Request,
     ) -> Result<Option<Input>, Refusal>
-        requires of_run { place < length self.now.users.items }
-        ensures needed { (user : List ℕ) → place_of self.now.users.items user ≡ Some place
+        requires of_run { place < length self.now.users }
+        ensures needed { (user : List ℕ) → place_of self.now.users user ≡ Some place
             → IfOk result (λ input. (settlements : SettlementsValue)
             → HasInput (request_of request.now) input settlements
             → HasOutcome (world_of self.now user) user (request_of request.now) settlements) }
@@ -136,7 +135,7 @@ impl Core {
             → IsMade need (event_of event.now).request ready → IsPrepared self.now (event_of event.now) ready) }
         ensures memory { IfErr result (λ why. why ≡ Memory) }
     {
-        let Some(place) = place_of(self.users.as_slice(), &event.actor) else {
+        let Some(place) = self.users.place_of(&event.actor) else {
             return Ok(PrepareInput { input: None });
         };
         let input = self.input_for(alloc, place, &event.request)?;

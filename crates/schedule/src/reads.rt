@@ -23,7 +23,6 @@ use choose::Plan;
 use events::{CopiedReply, Reply};
 use goals::status;
 use handlers::{fetch, plan_for};
-use handling::place_of;
 use jobs::Jobs;
 use laws::never_fails;
 use model::Refusal;
@@ -31,7 +30,7 @@ use realise::{Desk, Limits};
 use rewrite::one_tree_at_a_path;
 use std::alloc::Global;
 use store::Table;
-use trust::{Trust, User};
+use trust::{Trust, Users};
 
 /// What is found where a reply is made.
 fn told(reply: Result<CopiedReply, Refusal>) -> Result<ReadResult, Refusal>
@@ -50,7 +49,7 @@ fn planned(plan: Result<Plan, Refusal>) -> Result<ReadResult, Refusal>
 /// What is found for what the user at a place asks.
 fn find_at(
     alloc: Global,
-    users: &[User],
+    users: &Users,
     trust: &Trust,
     jobs: &Jobs,
     table: &Table,
@@ -85,13 +84,12 @@ impl Core {
         ensures { (given : Result ReplyValue RefusalValue) → MayGive result given
             → IsHandled (parts_of self.now) (event_of (event_for query.now)) given (parts_of self.now) }
     {
-        let users = self.users.as_slice();
-        let Some(place) = place_of(users, &query.actor) else {
+        let Some(place) = self.users.place_of(&query.actor) else {
             return Err(Refusal::UnknownUser);
         };
         find_at(
             alloc,
-            users,
+            &self.users,
             &self.trust,
             &self.jobs,
             &self.table,

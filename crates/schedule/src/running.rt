@@ -7,7 +7,6 @@ ghost use Rattle.jobs.specs.Asking.{IsAnswerTo};
 ghost use Rattle.schedule.specs.Asking.{job_asked_for};
 
 use crate::state::Core;
-use handling::place_of;
 use jobs::{RunningJob, led_job};
 use model::Refusal;
 use trust::User;
@@ -33,7 +32,7 @@ impl Core {
         if self.stopped() {
             return Err(Refusal::Stopped);
         }
-        let Some(place) = place_of(self.users.as_slice(), user) else {
+        let Some(place) = self.users.place_of(user) else {
             return Err(Refusal::UnknownUser);
         };
         led_job(self.users.as_slice(), &self.jobs, place, number)

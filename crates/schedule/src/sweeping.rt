@@ -33,7 +33,7 @@ impl Core {
     {
         let mut held = IndexSet::with_hasher(alloc, self.table.hashing());
         hold_desks(&mut held, self.desks.as_slice())?;
-        hold_jobs(&mut held, &self.jobs, self.users.len())?;
+        hold_jobs(&mut held, &self.jobs, self.users.as_slice().len())?;
         Ok(held)
     }
 

@@ -9,8 +9,7 @@ ghost use Rattle.events.specs.Terms.{request_of, event_of};
 ghost use Rattle.schedule.specs.Undoing.{said_of, said_by, saying, trust_with, undoing};
 
 use events::{Event, Request};
-use handling::place_of;
-use trust::{Trust, User};
+use trust::{Trust, User, place_of};
 
 /// That the user at a place trusts the one at another from then on, or that he does not.
 #[derive(Clone, Copy)]

@@ -13,7 +13,7 @@ use Rattle.realise.specs.Held.{paths_held}
 use Rattle.realise.specs.Holdings.{Holdings, is_recorded_at, is_needed, without_records}
 use Rattle.handling.specs.Viewing.{bare, desk_at}
 use Rattle.handling.specs.Handling.{IsHandledWithGoals}
-use Rattle.handling.proofs.TrustLemmas.{few_users}
+use Rattle.trust.proofs.UsersLemmas.{few_users}
 use Rattle.handling.proofs.ViewLemmas.{any_default}
 use Rattle.goals.proofs.ForgetLemmas.{forget_absent, forget_used, forget_done}
 use Rattle.goals.proofs.forgetting.forget.Goals as goal

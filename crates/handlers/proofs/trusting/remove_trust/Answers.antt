@@ -6,7 +6,8 @@ use Rattle.trust.proofs.PlaceLemmas.{name_found}
 use Rattle.events.specs.declared.reply.Reply.TheVariants.{Done}
 use Rattle.handling.specs.Parts.{parts}
 use Rattle.handling.specs.Handling.{IsHandled}
-use Rattle.handling.proofs.TrustLemmas.{few_users, distrust_unknown, distrust_handled}
+use Rattle.trust.proofs.UsersLemmas.{few_users}
+use Rattle.handling.proofs.TrustLemmas.{distrust_unknown, distrust_handled}
 use Rattle.handlers.proofs.trusting.remove_trust.Goals as goal
 
 pub returns-in_default-clause-handled : goal.returns-in_default-clause-handled

@@ -5,7 +5,7 @@ use Rattle.realise.specs.Holdings.{Holdings}
 use Rattle.handling.specs.Parts.{Parts, parts}
 use Rattle.handling.specs.Viewing.{bare, desk_at}
 use Rattle.handling.specs.Handling.{IsHandled, IsHandledByDesk}
-use Rattle.handling.proofs.TrustLemmas.{few_users}
+use Rattle.trust.proofs.UsersLemmas.{few_users}
 use Rattle.model.specs.declared.refusal.Refusal.{Refusal}
 use Rattle.model.specs.Events.{Event}
 use Rattle.events.specs.declared.reply.Reply.{Reply}

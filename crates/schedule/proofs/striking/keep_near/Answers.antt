@@ -5,14 +5,14 @@ use Rattle.model.specs.Events.{Event}
 use Rattle.trust.specs.Trusting.{holds, trusts}
 use Rattle.trust.specs.Naming.{names}
 use Rattle.events.specs.Terms.{event_of}
-use Rattle.schedule.proofs.EverLemmas.{distinct_users}
+use Rattle.trust.proofs.UsersLemmas.{few_users}
 use Rattle.schedule.proofs.UndoingLemmas.{length-all_undoing}
 use Rattle.schedule.proofs.KeepingLemmas.{none_long, keeping_first, keeping_next, keeping_last, keeping_none}
 use Rattle.schedule.proofs.striking.keep_near.Goals as goal
 use Rattle.schedule.proofs.striking.keep_near.Goals.{then-is_in, else-is_in}
 
 pub closure-near-requires : goal.closure-near-requires
-closure-near-requires c = omega (arith, c.requires.of_run, (distinct_users c.args.users.now c.requires.listed).1)
+closure-near-requires c = omega (arith, c.requires.of_run, few_users c.args.users.now c.requires.listed)
 
 pub loop-turn-init : goal.loop-turn-init
 loop-turn-init c all charge undone =
@@ -20,7 +20,7 @@ loop-turn-init c all charge undone =
     (trusts c.args.trust.now) c.closure-near.result c.requires.of_run undone c.closure-near.ensures
 
 pub is_in-requires : goal.is_in-requires
-is_in-requires c = (distinct_users c.args.users.now c.requires.listed).1
+is_in-requires c = few_users c.args.users.now c.requires.listed
 
 pub returns-in_default : goal.returns-in_default
 returns-in_default c all charge undone =

@@ -11,5 +11,5 @@ pub returns-clause-setup : goal.returns-clause-setup
 unfolding setup_of
 returns-clause-setup c =
     let core = c.args.self.now in
-    let users : c.in_ok-users.users.items ≡ core.users.items = c.in_ok-users.ensures ∙ c.as_slice.ensures.value in
+    let users : c.in_ok-users.users.items ≡ core.users = c.in_ok-users.ensures ∙ c.as_slice.ensures.value in
     subst (λ (s : Setup). IfOk c.empty.result (λ made. setup_of made ≡ s)) (ap (λ (us : List (List ℕ)). record { users = us; charge = core.limits.charge }) users) c.empty.ensures.setup

@@ -12,7 +12,7 @@ use Rattle.jobs.specs.Owned.{OwnedByAll}
 use Rattle.handling.proofs.DeskLemmas.{empty_sound}
 use Rattle.handling.proofs.GoalLemmas.{none_of, no_goals, none_counted, none_sound}
 use Rattle.handling.proofs.SupportLemmas.{none_supported}
-use Rattle.handling.proofs.TrustLemmas.{few_users}
+use Rattle.trust.proofs.UsersLemmas.{few_users}
 use Rattle.handling.proofs.WorldLemmas.{empty_world, same_world}
 use Rattle.schedule.proofs.state.Core.empty.Goals as goal
 

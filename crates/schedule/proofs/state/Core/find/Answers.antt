@@ -19,7 +19,7 @@ find_at-requires c =
       sound = core.sound;
       with_goals = core.with_goals;
       goals_sound = core.goals_sound;
-      of_run = place_below core.users.items c.args.query.now.actor c.in-Some.place (rw c.as_slice-users.ensures.value at (sym c.place_of.ensures ∙ c.in-Some.is));
+      of_run = place_below core.users c.args.query.now.actor c.in-Some.place (rw c.as_slice-users.ensures.value at (sym c.place_of.ensures ∙ c.in-Some.is));
     })
 
 pub returns-in_default : goal.returns-in_default

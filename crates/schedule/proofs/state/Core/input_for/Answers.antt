@@ -32,7 +32,7 @@ returns-in-Offer-clause-needed c user found =
     let his = subst (λ (d : Holdings). IfOk result (λ input. (t : Tree) (settled : List Settlement) → HasNeeded settled input t → HasOffered d path t settled))
     desk c.input_for_offer.ensures.needed in
     subst (λ r. IfOk result (λ input. (made : Settlements) → HasInput r input made → HasOutcome (world_of core user) user r made)) (ap request_of (sym c.in-Offer.is))
-    (offered_by core.users.items core.limits.charge (trusts core.trust) core.jobs.goals core.table.sources core.desks.items user place
+    (offered_by core.users core.limits.charge (trusts core.trust) core.jobs.goals core.table.sources core.desks.items user place
     core.listed found core.paired core.within result path _ his)
 
 pub returns-in-Finish-clause-needed : goal.returns-in-Finish-clause-needed
@@ -50,5 +50,5 @@ returns-in-Finish-clause-needed c user found =
     → HasLedOutput (desk_at core.desks.items place) (record { leader = name_at us place; number = n }) goals bytes settled))
     c.as_slice.ensures.value led in
     subst (λ r. IfOk result (λ input. (made : Settlements) → HasInput r input made → HasOutcome (world_of core user) user r made)) (ap request_of (sym c.in-Finish.is))
-    (ended_by core.users.items core.limits.charge (trusts core.trust) core.jobs.goals core.table.sources core.desks.items user place
+    (ended_by core.users core.limits.charge (trusts core.trust) core.jobs.goals core.table.sources core.desks.items user place
     core.listed found core.paired core.within result n _ his)

@@ -34,8 +34,8 @@ pub returns-clause-world : goal.returns-clause-world
 unfolding world_of
 returns-clause-world c =
     let old = c.args.self.now in
-    let beside = beside_at old.users.items (trusts old.trust) old.jobs.goals in
-    (λ i. desk_among beside (c.sweep.ensures i) old.users.items old.desks.items)
+    let beside = beside_at old.users (trusts old.trust) old.jobs.goals in
+    (λ i. desk_among beside (c.sweep.ensures i) old.users old.desks.items)
     ∙ same_world (core_world old (contains bytes_eq c.args.held.now) c.requires.held)
 
 pub returns-clause-setup : goal.returns-clause-setup

@@ -13,7 +13,7 @@ returns-in-Ok c =
     record {
       step = served_step c.args.self.now core (event_of c.args.event) c.in-Ok.reply c.in-Ok.ensures c.args.self.now.sound;
       stored = λ answered. c.in-Ok.ensures.stored;
-      holds = λ u path h. among_stored (beside_at core.users.items (trusts core.trust) core.jobs.goals) core.table.sources core.limits.charge core.users.items
+      holds = λ u path h. among_stored (beside_at core.users (trusts core.trust) core.jobs.goals) core.table.sources core.limits.charge core.users
           core.desks.items u path core.sound h;
       keeps = keeps_stored core;
     }
@@ -25,7 +25,7 @@ returns-in-Err c =
     rw c.refused.ensures (record {
       step = refused_step c.one_tree_at_a_path.ensures c.never_fails.ensures c.args.self.now core (event_of c.args.event) c.in-Err.refusal c.in-Err.ensures;
       stored = λ answered. cc;
-      holds = λ u path h. among_stored (beside_at core.users.items (trusts core.trust) core.jobs.goals) core.table.sources core.limits.charge core.users.items
+      holds = λ u path h. among_stored (beside_at core.users (trusts core.trust) core.jobs.goals) core.table.sources core.limits.charge core.users
           core.desks.items u path core.sound h;
       keeps = keeps_stored core;
     })
