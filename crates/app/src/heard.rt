@@ -2,7 +2,7 @@
 
 use crate::inputs::{Inputs, MOST_USERS, News, is_at};
 use book::Row;
-use events::{Job, Reply, Request, State};
+use events::{Job, Reply, Request, Status};
 use model::Refusal;
 use std::alloc::Global;
 use std::hash::RandomState;
@@ -279,13 +279,13 @@ impl Heard {
     }
 
     /// How far a goal is of which this is told.
-    fn stage_of(&self, state: &State) -> Stage {
-        match state {
-            State::Waiting => Stage::Waits,
-            State::Planned => Stage::Planned,
-            State::Building(job) => self.stage_in(job),
-            State::Done(_) => Stage::Done,
-            State::Failed(why) => Stage::Failed(why.number()),
+    fn stage_of(&self, status: &Status) -> Stage {
+        match status {
+            Status::Waiting => Stage::Waits,
+            Status::Planned => Stage::Planned,
+            Status::Building(job) => self.stage_in(job),
+            Status::Done(_) => Stage::Done,
+            Status::Failed(why) => Stage::Failed(why.number()),
         }
     }
 
@@ -299,10 +299,10 @@ impl Heard {
 
     /// Hears how far the goal at a place is.
     fn hear_stage(&mut self, place: GoalPlace, reply: &Reply) -> Result<(), Refusal> {
-        let Reply::GoalState(state) = reply else {
+        let Reply::GoalStatus(status) = reply else {
             return Ok(());
         };
-        let stage = self.stage_of(state);
+        let stage = self.stage_of(status);
         self.set_stage(place, stage);
         match stage {
             Stage::Built(leader) => self.join(place, leader),
@@ -336,10 +336,10 @@ impl Heard {
 
     /// Hears how far the goal at a place is, whose job has ended: the goals in it end as that one does.
     fn hear_end(&mut self, leader: GoalPlace, reply: &Reply) {
-        let Reply::GoalState(state) = reply else {
+        let Reply::GoalStatus(status) = reply else {
             return;
         };
-        let ended = self.stage_of(state);
+        let ended = self.stage_of(status);
         for place in self.take_joined(leader) {
             self.end(place, leader, ended);
         }

@@ -5,7 +5,7 @@ ghost use Rattle.workers.specs.Outputs.{bytes_of, HasFailed};
 ghost use Rattle.workers.specs.declared.runner.RunFault.TheVariants.{Device};
 
 use builder::{Explains, Fault, Logged};
-use events::{Reply, State};
+use events::{Reply, Status};
 use jobs::RunningJob;
 use std::alloc::Global;
 use std::fmt::{Display, Formatter};
@@ -31,8 +31,8 @@ impl Display for Ended<'_> {
             write!(f, "{fault}, ")?;
         }
         match self.reply {
-            Reply::GoalState(State::Done(path)) => write!(f, "done {}", text_of(path.bytes())),
-            Reply::GoalState(State::Failed(why)) => write!(f, "failed {}", why.number()),
+            Reply::GoalStatus(Status::Done(path)) => write!(f, "done {}", text_of(path.bytes())),
+            Reply::GoalStatus(Status::Failed(why)) => write!(f, "failed {}", why.number()),
             Reply::Refused(why) => write!(f, "refused {}", why.number()),
             _ => f.write_str("its goal waits"),
         }?;
@@ -62,7 +62,7 @@ impl Display for Shown<'_> {
 
 /// Whether a reply says that a goal has failed.
 fn has_failed(reply: &Reply) -> bool {
-    matches!(reply, Reply::GoalState(State::Failed(_)))
+    matches!(reply, Reply::GoalStatus(Status::Failed(_)))
 }
 
 /// The bytes of a name, as a text.

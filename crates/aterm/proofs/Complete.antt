@@ -7,7 +7,7 @@ use Rattle.std.specs.List.{list_all, flat_map}
 use Rattle.model.proofs.BoolLemmas.{both_parts, bytes_same}
 use Rattle.model.specs.Derivations.{Derivation, has_texts, is_character, is_text, is_variable, character_text, derivation_text}
 use Rattle.aterm.proofs.Texts.{head, items_text, closed, closed_is, member_text, members_text, behind, variables_text, text_is, member_grouped, variable_grouped}
-use Rattle.model.specs.DerivationTexts.{Reader, ◌>>=◌, is_at, tag_at, in_front, items_at, escaped_at, character_at, string_at, member_at, members_at, variable_at, variables_at, derivation_at}
+use Rattle.model.specs.DerivationTexts.{Reader, ◌>>=◌, is_at, tag_at, with_item_first, items_at, escaped_at, character_at, quoted_at, member_at, members_at, variable_at, variables_at, derivation_at}
 
 -- ---- tags
 
@@ -35,7 +35,7 @@ items_again item text test closing next Used reads u (x ∷ xs) (suc n) separato
     let more = items_text text closing next next xs in
     let others = items_again item text test closing next Used reads u xs n next rest u passes.1 (omega (arith, lt)) in
     ap (items_at item closing next (suc n) separator) (append_assoc (text separator x) more rest)
-    ∙ rw (reads.apart separator x (more ++ rest) v passes.0, reads.again separator x (more ++ rest) v passes.0) (ap (in_front x) others)
+    ∙ rw (reads.apart separator x (more ++ rest) v passes.0, reads.again separator x (more ++ rest) v passes.0) (ap (with_item_first x) others)
 
 -- each item has some text
 pub count_le : {X : Type 0} (text : List ℕ → X → List ℕ) (closing next : List ℕ) → ((separator : List ℕ) (x : X) → 0 < length (text separator x)) → (separator : List ℕ) (xs : List X)
@@ -117,8 +117,8 @@ character_some c =
           ]
     ]
 
-pub string_again : (tag text rest : List ℕ) → is_text text ≡ true → string_at tag (tag ++ (closed text ++ rest)) ≡ Some (text, rest)
-unfolding string_at
+pub string_again : (tag text rest : List ℕ) → is_text text ≡ true → quoted_at tag (tag ++ (closed text ++ rest)) ≡ Some (text, rest)
+unfolding quoted_at
 string_again tag text rest h =
     let written : items_text (λ _ c. character_text c) (codes "\"") [] [] text ≡ closed text = closed_is [] text in
     let long : length text + 1 ≤ length (closed text) = omega (arith, count_le (λ _ c. character_text c) (codes "\"") [] (λ _ c. character_some c) [] text, ap length written) in
@@ -144,7 +144,7 @@ apart_from separator rest (inr e) h = subst (IsApart rest) (sym e) refl
 member_again : (opening closing : List ℕ) (separator text rest : List ℕ) → is_text text ≡ true → member_at opening closing separator (member_text opening closing separator text ++ rest) ≡ Some (text, rest)
 unfolding member_at
 member_again opening closing separator text rest h =
-    ap (λ s. tag_at separator s >>= λ r. string_at opening r >>= λ t. tag_at closing t.1 >>= λ e. Some (t.0, e)) (member_grouped separator opening (closed text) closing rest)
+    ap (λ s. tag_at separator s >>= λ r. quoted_at opening r >>= λ t. tag_at closing t.1 >>= λ e. Some (t.0, e)) (member_grouped separator opening (closed text) closing rest)
     ∙ rw (tag_again separator (opening ++ (closed text ++ (closing ++ rest))), string_again opening text (closing ++ rest) h, tag_again closing rest) refl
 
 -- a tag whose first byte opens a member
@@ -176,7 +176,7 @@ variable_again : (separator : List ℕ) (v : List ℕ × List ℕ) (rest : List 
 unfolding variable_at
 variable_again separator v rest h =
     let texts = both_parts (is_text v.0) (is_text v.1) h in
-    ap (λ s. tag_at separator s >>= λ r. string_at (codes "(\"") r >>= λ k. string_at (codes ",\"") k.1 >>= λ x. tag_at (codes ")") x.1 >>= λ e. Some ((k.0, x.0), e))
+    ap (λ s. tag_at separator s >>= λ r. quoted_at (codes "(\"") r >>= λ k. quoted_at (codes ",\"") k.1 >>= λ x. tag_at (codes ")") x.1 >>= λ e. Some ((k.0, x.0), e))
     (variable_grouped separator (codes "(\"") (closed v.0) (codes ",\"") (closed v.1) (codes ")") rest)
     ∙ rw (
       tag_again separator (codes "(\"" ++ (closed v.0 ++ (codes ",\"" ++ (closed v.1 ++ (codes ")" ++ rest))))),

@@ -1,7 +1,7 @@
 -- Reading items one after another: what one turn of the loop does.
 use Rattle.std.proofs.Common.{◌≡◌, ℕ, zero, suc, ◌+◌, ◌-◌, ◌<◌, true, false, List, [], ◌∷◌, ◌++◌, length, drop, refl, ap, sym, ◌∙◌, append_assoc, append-nil, arith}
 use Rattle.std.specs.Prelude.{Option, Some, None}
-use Rattle.model.specs.DerivationTexts.{Reader, ◌>>=◌, is_at, in_front, items_at}
+use Rattle.model.specs.DerivationTexts.{Reader, ◌>>=◌, is_at, with_item_first, items_at}
 use Rattle.reading.specs.Outcomes.{Fails}
 use Rattle.reading.specs.declared.steps.ReadError.{ReadError}
 use Rattle.reading.specs.declared.steps.ReadError.TheVariants.{Memory, Malformed}
@@ -14,7 +14,7 @@ pub onto-none : {X : Type 0} (read : Option (List X × List ℕ)) → read ≡ o
 onto-none None = refl
 onto-none (Some x) = refl
 
-pub onto-push : {X : Type 0} (xs : List X) (x : X) (read : Option (List X × List ℕ)) → onto (xs ++ x ∷ []) read ≡ onto xs (in_front x read)
+pub onto-push : {X : Type 0} (xs : List X) (x : X) (read : Option (List X × List ℕ)) → onto (xs ++ x ∷ []) read ≡ onto xs (with_item_first x read)
 onto-push xs x None = refl
 onto-push xs x (Some ys) = ap (λ zs. Some (zs, ys.1)) (append_assoc xs (x ∷ []) ys.0)
 
@@ -34,7 +34,7 @@ fails item closing next (suc n) separator rest e h = rw (e, h) refl
 
 -- one item, and then others
 pub one_more : {X : Type 0} (item : Reader X) (closing next : List ℕ) (n : ℕ) (separator rest : List ℕ) (x : X) (after : List ℕ) → is_at closing rest ≡ false → item separator rest ≡ Some (x, after)
-    → items_at item closing next (suc n) separator rest ≡ in_front x (items_at item closing next n next after)
+    → items_at item closing next (suc n) separator rest ≡ with_item_first x (items_at item closing next n next after)
 unfolding items_at
 one_more item closing next n separator rest x after e h = rw (e, h) refl
 

@@ -5,7 +5,7 @@ use Rattle.std.specs.Cmp.Lexicographic.{same_text}
 use Rattle.std.proofs.lemmas.Bool.Decides.{nat_tests}
 use Rattle.model.specs.Derivations.{character_text}
 use Rattle.aterm.proofs.Texts.{items_text, closed, closed_is, member_text, members_text, behind, variables_text, member_grouped, variable_grouped}
-use Rattle.model.specs.DerivationTexts.{Reader, ◌>>=◌, is_at, tag_at, in_front, items_at, escaped_at, plain_at, character_at, string_at, member_at, members_at, variable_at, variables_at}
+use Rattle.model.specs.DerivationTexts.{Reader, ◌>>=◌, is_at, tag_at, with_item_first, items_at, escaped_at, plain_at, character_at, quoted_at, member_at, members_at, variable_at, variables_at}
 use Rattle.reading.proofs.ReadingLemmas.{if_true, if_either, some_same}
 
 -- ---- steps
@@ -41,12 +41,12 @@ pub items_sound : {X : Type 0} (item : Reader X) (text : List ℕ → X → List
 unfolding items_at
 items_sound item text closing next each zero separator bytes rest xs h = cc
 items_sound item text closing next each (suc n) separator bytes rest xs h =
-    elim (if_either (is_at closing bytes) (Some ([], drop (length closing) bytes)) (item separator bytes >>= λ x. in_front x.0 (items_at item closing next n next x.1)) (xs, rest) h) [
+    elim (if_either (is_at closing bytes) (Some ([], drop (length closing) bytes)) (item separator bytes >>= λ x. with_item_first x.0 (items_at item closing next n next x.1)) (xs, rest) h) [
       | inl e ↦
           let both = some_both [] (drop (length closing) bytes) (xs, rest) e.1 in
           tag_here closing bytes rest e.0 both.1 ∙ ap (λ ys. items_text text closing next separator ys ++ rest) both.0
       | inr e ↦
-          let one = bind_some (item separator bytes) (λ x. in_front x.0 (items_at item closing next n next x.1)) (xs, rest) e.1 in
+          let one = bind_some (item separator bytes) (λ x. with_item_first x.0 (items_at item closing next n next x.1)) (xs, rest) e.1 in
           let others = bind_some (items_at item closing next n next one.0.1) (λ ys. Some (one.0.0 ∷ ys.0, ys.1)) (xs, rest) one.2 in
           let both = some_both (one.0.0 ∷ others.0.0) others.0.1 (xs, rest) others.2 in
           let more = items_sound item text closing next each n next one.0.1 others.0.1 others.0.0 others.1 in
@@ -74,8 +74,8 @@ character_sound separator (b ∷ bytes) rest c h =
       | inr e ↦ plain_sound b bytes rest c e.0 e.1
     ]
 
-pub string_sound : (tag bytes rest text : List ℕ) → string_at tag bytes ≡ Some (text, rest) → bytes ≡ tag ++ (closed text ++ rest)
-unfolding string_at
+pub string_sound : (tag bytes rest text : List ℕ) → quoted_at tag bytes ≡ Some (text, rest) → bytes ≡ tag ++ (closed text ++ rest)
+unfolding quoted_at
 string_sound tag bytes rest text h =
     let start = bind_some (tag_at tag bytes) (λ r. items_at character_at (codes "\"") [] (length r) [] r) (text, rest) h in
     let sound = items_sound character_at (λ _ c. character_text c) (codes "\"") [] character_sound (length start.0) [] start.0 rest text start.2 in
@@ -86,8 +86,8 @@ string_sound tag bytes rest text h =
 member_sound : (opening closing : List ℕ) → ReadsAs (member_at opening closing) (member_text opening closing)
 unfolding member_at
 member_sound opening closing separator bytes rest text h =
-    let start = bind_some (tag_at separator bytes) (λ r. string_at opening r >>= λ t. tag_at closing t.1 >>= λ e. Some (t.0, e)) (text, rest) h in
-    let inner = bind_some (string_at opening start.0) (λ t. tag_at closing t.1 >>= λ e. Some (t.0, e)) (text, rest) start.2 in
+    let start = bind_some (tag_at separator bytes) (λ r. quoted_at opening r >>= λ t. tag_at closing t.1 >>= λ e. Some (t.0, e)) (text, rest) h in
+    let inner = bind_some (quoted_at opening start.0) (λ t. tag_at closing t.1 >>= λ e. Some (t.0, e)) (text, rest) start.2 in
     let end = bind_some (tag_at closing inner.0.1) (λ e. Some (inner.0.0, e)) (text, rest) inner.2 in
     let both = some_both inner.0.0 end.0 (text, rest) end.2 in
     let string = string_sound opening start.0 inner.0.1 inner.0.0 inner.1 in
@@ -105,9 +105,9 @@ members_sound tag opening closing bytes rest texts h =
 variable_sound : ReadsAs variable_at behind
 unfolding variable_at
 variable_sound separator bytes rest v h =
-    let start = bind_some (tag_at separator bytes) (λ r. string_at (codes "(\"") r >>= λ k. string_at (codes ",\"") k.1 >>= λ x. tag_at (codes ")") x.1 >>= λ e. Some ((k.0, x.0), e)) (v, rest) h in
-    let key = bind_some (string_at (codes "(\"") start.0) (λ k. string_at (codes ",\"") k.1 >>= λ x. tag_at (codes ")") x.1 >>= λ e. Some ((k.0, x.0), e)) (v, rest) start.2 in
-    let value = bind_some (string_at (codes ",\"") key.0.1) (λ x. tag_at (codes ")") x.1 >>= λ e. Some ((key.0.0, x.0), e)) (v, rest) key.2 in
+    let start = bind_some (tag_at separator bytes) (λ r. quoted_at (codes "(\"") r >>= λ k. quoted_at (codes ",\"") k.1 >>= λ x. tag_at (codes ")") x.1 >>= λ e. Some ((k.0, x.0), e)) (v, rest) h in
+    let key = bind_some (quoted_at (codes "(\"") start.0) (λ k. quoted_at (codes ",\"") k.1 >>= λ x. tag_at (codes ")") x.1 >>= λ e. Some ((k.0, x.0), e)) (v, rest) start.2 in
+    let value = bind_some (quoted_at (codes ",\"") key.0.1) (λ x. tag_at (codes ")") x.1 >>= λ e. Some ((key.0.0, x.0), e)) (v, rest) key.2 in
     let end = bind_some (tag_at (codes ")") value.0.1) (λ e. Some ((key.0.0, value.0.0), e)) (v, rest) value.2 in
     let both = some_both (key.0.0, value.0.0) end.0 (v, rest) end.2 in
     let first = string_sound (codes "(\"") start.0 key.0.1 key.0.0 key.1 in

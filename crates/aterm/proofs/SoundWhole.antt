@@ -5,7 +5,7 @@ use Rattle.std.specs.Cmp.Lexicographic.{same_text}
 use Rattle.model.specs.Derivations.{Derivation, derivation_text}
 use Rattle.aterm.proofs.Texts.{head, closed, members_text, variables_text, text_is}
 use Rattle.aterm.proofs.Sound.{bind_some, string_sound, members_sound, variables_sound}
-use Rattle.model.specs.DerivationTexts.{◌>>=◌, string_at, members_at, variables_at, derivation_at}
+use Rattle.model.specs.DerivationTexts.{◌>>=◌, quoted_at, members_at, variables_at, derivation_at}
 use Rattle.reading.proofs.ReadingLemmas.{if_true, some_same}
 
 -- what is read, with what was read before it
@@ -23,10 +23,10 @@ abbrev arguments_at : List (List ℕ) → List (List ℕ) → List ℕ → List 
 arguments_at i s p b = members_at (codes ",[") (codes "\"") [] b.1 >>= environment_at i s p b.0
 
 abbrev builder_at : List (List ℕ) → List (List ℕ) → List ℕ × List ℕ → Option Derivation
-builder_at i s p = string_at (codes ",\"") p.1 >>= arguments_at i s p.0
+builder_at i s p = quoted_at (codes ",\"") p.1 >>= arguments_at i s p.0
 
 abbrev platform_at : List (List ℕ) → List (List ℕ) × List ℕ → Option Derivation
-platform_at i s = string_at (codes ",\"") s.1 >>= builder_at i s.0
+platform_at i s = quoted_at (codes ",\"") s.1 >>= builder_at i s.0
 
 abbrev sources_at : List (List ℕ) × List ℕ → Option Derivation
 sources_at i = members_at (codes ",[") (codes "\"") [] i.1 >>= platform_at i.0
@@ -36,8 +36,8 @@ unfolding derivation_at
 derivation_sound bytes d h =
     let i = bind_some (members_at head (codes "(\"") (codes ",[\"out\"])") bytes) sources_at d h in
     let s = bind_some (members_at (codes ",[") (codes "\"") [] i.0.1) (platform_at i.0.0) d i.2 in
-    let p = bind_some (string_at (codes ",\"") s.0.1) (builder_at i.0.0 s.0.0) d s.2 in
-    let b = bind_some (string_at (codes ",\"") p.0.1) (arguments_at i.0.0 s.0.0 p.0.0) d p.2 in
+    let p = bind_some (quoted_at (codes ",\"") s.0.1) (builder_at i.0.0 s.0.0) d s.2 in
+    let b = bind_some (quoted_at (codes ",\"") p.0.1) (arguments_at i.0.0 s.0.0 p.0.0) d p.2 in
     let a = bind_some (members_at (codes ",[") (codes "\"") [] b.0.1) (environment_at i.0.0 s.0.0 p.0.0 b.0.0) d b.2 in
     let v = bind_some (variables_at (codes ",[") a.0.1) (end_at i.0.0 s.0.0 p.0.0 b.0.0 a.0.0) d a.2 in
     let e = if_true (bytes_eq v.0.1 (codes ")")) (Some (made i.0.0 s.0.0 p.0.0 b.0.0 a.0.0 v.0.0)) d v.2 in

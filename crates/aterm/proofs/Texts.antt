@@ -1,7 +1,7 @@
 -- The text of a derivation, part behind part as it is read.
 use Rattle.std.proofs.Common.{◌≡◌, ℕ, List, [], ◌∷◌, ◌++◌, map, codes, refl, ap, sym, ◌∙◌, append_assoc, append-nil}
 use Rattle.std.specs.List.{flat_map}
-use Rattle.model.specs.Derivations.{Derivation, character_text, quoted, listed, list_text, input_text, variable_text, derivation_text}
+use Rattle.model.specs.Derivations.{Derivation, character_text, quoted, listed, list_text, derivation_input_text, variable_text, derivation_text}
 
 -- the text of items up to a closing mark, each written behind its separator
 abbrev pub items_text : {X : Type 0} → (List ℕ → X → List ℕ) → List ℕ → List ℕ → List ℕ → List X → List ℕ
@@ -36,8 +36,8 @@ members_text opening closing = items_text (member_text opening closing) (codes "
 abbrev pub variables_text : List ℕ → List (List ℕ × List ℕ) → List ℕ
 variables_text = items_text behind (codes "]") (codes ",")
 
-inputs_is : (separator : List ℕ) (paths : List (List ℕ)) → listed separator (map input_text paths) ≡ members_text (codes "(\"") (codes ",[\"out\"])") separator paths
-unfolding listed input_text quoted
+inputs_is : (separator : List ℕ) (paths : List (List ℕ)) → listed separator (map derivation_input_text paths) ≡ members_text (codes "(\"") (codes ",[\"out\"])") separator paths
+unfolding listed derivation_input_text quoted
 inputs_is separator [] = refl
 inputs_is separator (p ∷ ps) = rw (inputs_is (codes ",") ps) (simp append_assoc)
 
@@ -86,7 +86,7 @@ text_is d =
     let s = strings_is [] d.sources in
     let a = strings_is [] d.arguments in
     let v = variables_is [] d.environment in
-    all_regrouped (codes "Derive([(\"out\",\"\",\"\",\"\")],") (codes "[") (codes ",") (codes "\"") (codes ")") (listed [] (map input_text d.inputs)) (listed [] (map quoted d.sources))
+    all_regrouped (codes "Derive([(\"out\",\"\",\"\",\"\")],") (codes "[") (codes ",") (codes "\"") (codes ")") (listed [] (map derivation_input_text d.inputs)) (listed [] (map quoted d.sources))
     (flat_map character_text d.platform) (flat_map character_text d.builder) (listed [] (map quoted d.arguments)) (listed [] (map variable_text d.environment))
     ∙ joined i s a v (λ i s a v.
     head ++ (i ++ (codes ",[" ++ (s ++ (codes ",\"" ++ (closed d.platform ++ (codes ",\"" ++ (closed d.builder ++ (codes ",[" ++ (a ++ (codes ",[" ++ (v ++ codes ")"))))))))))))

@@ -1,6 +1,6 @@
 -- The parts of a derivation's text as they are written.
 use Rattle.std.proofs.Common.{◌≡◌, ℕ, List, [], ◌∷◌, ◌++◌, map, codes, refl, ap, ◌∙◌, append_assoc, append-nil}
-use Rattle.model.specs.Derivations.{Derivation, quoted, listed, list_text, input_text, variable_text, derivation_text}
+use Rattle.model.specs.Derivations.{Derivation, quoted, listed, list_text, derivation_input_text, variable_text, derivation_text}
 use Rattle.aterm.specs.Writing.{between, members, rest_text}
 
 -- strings between no tags
@@ -9,10 +9,10 @@ map-between [] = refl
 map-between (t ∷ ts) = λ i. append-nil (quoted t) i ∷ map-between ts i
 
 -- the inputs, between their tags
-map-input : (paths : List (List ℕ)) → map (between (codes "(") (codes ",[\"out\"])")) paths ≡ map input_text paths
-unfolding input_text
+map-input : (paths : List (List ℕ)) → map (between (codes "(") (codes ",[\"out\"])")) paths ≡ map derivation_input_text paths
+unfolding derivation_input_text
 map-input [] = refl
-map-input (p ∷ ps) = ap (λ ss. input_text p ∷ ss) (map-input ps)
+map-input (p ∷ ps) = ap (λ ss. derivation_input_text p ∷ ss) (map-input ps)
 
 -- the inputs and the rest are the text
 pub all_written : (d : Derivation) (inputs : List (List ℕ)) (out : List ℕ)
@@ -22,7 +22,7 @@ unfolding list_text derivation_text
 all_written d inputs out front =
     ap (λ o. o ++ rest_text d) front
     ∙ ap (λ i. codes "Derive([(\"out\",\"\",\"\",\"\")],[" ++ listed [] i ++ rest_text d) (map-input inputs)
-    ∙ joined (codes "Derive([(\"out\",\"\",\"\",\"\")],") (codes "[") (listed [] (map input_text inputs)) (codes ",") (list_text (map quoted d.sources))
+    ∙ joined (codes "Derive([(\"out\",\"\",\"\",\"\")],") (codes "[") (listed [] (map derivation_input_text inputs)) (codes ",") (list_text (map quoted d.sources))
     (quoted d.platform) (quoted d.builder) (list_text (map quoted d.arguments)) (list_text (map variable_text d.environment)) (codes ")")
   where
     joined : (h o i c s p b a v e : List ℕ)

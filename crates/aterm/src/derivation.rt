@@ -4,7 +4,7 @@ ghost use Rattle.std.specs.Prelude.{◌≡◌, MatchResult, All, IsTrue, is_ok, 
 ghost use Rattle.std.specs.List.{list_all};
 ghost use Rattle.model.specs.Archives.{bytes_before};
 ghost use Rattle.model.specs.Paths.{IsPath, is_name};
-ghost use Rattle.model.specs.Derivations.{is_text, is_variable, has_texts, ascend, is_derivation_path, has_sound_paths, has_sound_builder, is_key_character, is_key, keys_of, value_of, is_derivation_name, is_there, has_sound_environment, is_derivation, IsDerivation, name_of};
+ghost use Rattle.model.specs.Derivations.{is_text, is_variable, has_texts, ascend, is_derivation_path, has_sound_paths, has_sound_builder, is_key_character, is_key, variable_keys, value_of, is_derivation_name, is_there, has_sound_environment, is_derivation, IsDerivation, name_of};
 ghost use Rattle.model.specs.Characters.{is_digit};
 ghost use Rattle.model.specs.declared.refusal.Refusal.TheVariants.{BadDerivation};
 ghost use Rattle.aterm.specs.Parts.{derivation_of};
@@ -209,7 +209,7 @@ fn are_keys(environment: &[(Text, Text)]) -> bool
 
 // Whether the keys stand in the order of bytes, each once.
 fn keys_ascend(environment: &[(Text, Text)]) -> bool
-    ensures { result ≡ ascend [] (keys_of environment.now) }
+    ensures { result ≡ ascend [] (variable_keys environment.now) }
 {
     let mut last = b"".as_slice();
     for (key, _) in environment {

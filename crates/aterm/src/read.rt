@@ -2,7 +2,7 @@
 
 ghost use Rattle.std.specs.Prelude.{◌≡◌, IfOk, MatchResult, Some, []};
 ghost use Rattle.model.specs.Derivations.{derivation_text, IsDerivation, IsOnlyDerivation};
-ghost use Rattle.model.specs.DerivationTexts.{tag_at, escaped_at, character_at, string_at, member_at, members_at, variable_at, variables_at, derivation_at, derivation_of_text};
+ghost use Rattle.model.specs.DerivationTexts.{tag_at, escaped_at, character_at, quoted_at, member_at, members_at, variable_at, variables_at, derivation_at, derivation_of_text};
 ghost use Rattle.aterm.specs.Parts.{derivation_of};
 ghost use Rattle.aterm.specs.Strings.{derivation_read};
 ghost use Rattle.aterm.specs.Refused.{AreNoPaths, HasNoPaths, IsRefused, IsNotRead, IsUnread};
@@ -63,13 +63,13 @@ fn read_character(bytes: &[u8]) -> Result<(u8, &[u8]), ReadError>
 }
 
 // The string behind this tag.
-#[tactic(auto, unfolding(model::specs::DerivationTexts::string_at))]
+#[tactic(auto, unfolding(model::specs::DerivationTexts::quoted_at))]
 fn read_string<'a>(
     alloc: Global,
     bytes: &'a [u8],
     tag: &[u8],
 ) -> Result<(Text, &'a [u8]), ReadError>
-    ensures { Gives (λ r. (r.0, r.1.now)) result (string_at tag.now bytes.now) }
+    ensures { Gives (λ r. (r.0, r.1.now)) result (quoted_at tag.now bytes.now) }
 {
     let mut rest = expect(bytes, tag)?;
     let mut characters = Vec::new(alloc);

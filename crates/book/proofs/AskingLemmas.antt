@@ -36,7 +36,7 @@ kept_ok job (Some k) r e = ap (λ (q : Running). Some q.resolved) (same_job (wit
 
 led_ok : (job : Job) (o : Option Goal) (r : Running) → led_job job o ≡ Ok r → (g : Goal) × (o ≡ Some g) × (g.resolved ≡ Some r.resolved)
 led_ok job None r e = absurd (cc)
-led_ok job (Some g) r e = (g, refl, kept_ok job g.resolved r (if_ok (is_in job g.state) (with_kept job g.resolved) WrongState r e))
+led_ok job (Some g) r e = (g, refl, kept_ok job g.resolved r (if_ok (is_in job g.status) (with_kept job g.resolved) WrongState r e))
 
 leads_kept : (setup : Setup) (w : World) (u : List ℕ) (n : ℕ) (r : Running) → job_led_by setup w u n ≡ Ok r
     → (g : Goal) × (goal_at n (w u).goals ≡ Some g) × (g.resolved ≡ Some r.resolved)

@@ -5,7 +5,7 @@ ghost use Rattle.std.specs.List.{list_any};
 ghost use Rattle.std.specs.List.Sorted.{IsPermutation, IsSortedBy};
 ghost use Rattle.model.specs.Limits.{most_entries};
 ghost use Rattle.model.specs.Worlds.{Record as RecordValue, Desk as DeskValue};
-ghost use Rattle.model.specs.Choices.{rank_before, source_before, plan};
+ghost use Rattle.model.specs.Choices.{rank_before, source_before, closure_plan};
 ghost use Rattle.model.specs.declared.refusal.Refusal.TheVariants.{Memory, NotRealised, ClosureTooLarge};
 ghost use Rattle.laws.proofs.ClosureLemmas.{IsOfClass};
 ghost use Rattle.choose.specs.Visible.{visible_on, choose_in, SeesSourcesOf, SeesSourcesIn, LabelsAreVisible};
@@ -125,7 +125,7 @@ pub fn plan(
     sources: &[StorePath],
 ) -> Result<Plan, Refusal>
     ensures planned { (desks : List DeskValue) → visible_on desks ≡ view.now
-        → let answer = plan desks pins.now classes.now sources.now in
+        → let answer = closure_plan desks pins.now classes.now sources.now in
         MatchResult result
         (λ p. answer ≡ Ok p)
         (λ e. (e ≡ Memory) ⊎ (answer ≡ Err e)) }

@@ -5,7 +5,7 @@ ghost use Rattle.model.specs.declared.refusal.Refusal.TheVariants.{Memory, Clash
 ghost use Rattle.store.specs.Stored.{AreTaken, put_all, sources_of};
 ghost use Rattle.model.specs.Goals.{members};
 ghost use Rattle.model.specs.Limits.{most_records};
-ghost use Rattle.building.specs.DeskDeltas.{delta_in, state_at};
+ghost use Rattle.building.specs.DeskDeltas.{delta_in, status_at};
 ghost use Rattle.std.specs.Option.{option_copied};
 ghost use Rattle.jobs.specs.Owned.{goals_at};
 ghost use Rattle.trust.specs.Trusting.{trusts};
@@ -13,7 +13,7 @@ ghost use Rattle.building.specs.Built.{AreBuiltOn};
 ghost use Rattle.endings.specs.Delivery.{Receives, trees_built, tree_built, all_trees, AreStored, IsBuiltAtPlace, AreAllBuiltOn, AreBuiltFor, IsDeliveredAtPlace, AreDelivered, IsMadeBeside, IsNotMade};
 
 use building::{Built, DeskDelta, built_on, delta_for, waiting};
-use jobs::{Job, Jobs, State, members_reached};
+use jobs::{Job, Jobs, Status, members_reached};
 use model::Refusal;
 use nar::Tree;
 use outputs::Settlements;
@@ -155,20 +155,20 @@ fn receive(
     job: &Job,
     reached: bool,
     built: Vec<(u16, Built)>,
-) -> Result<(DeskDelta, Vec<(u16, State)>), Refusal>
+) -> Result<(DeskDelta, Vec<(u16, Status)>), Refusal>
     requires of_run { place < length jobs.now.goals }
     requires records { length desk.now.records ≤ most_records }
     requires charge { desk.now.charge ≤ limits.charge }
     ensures receives { IfOk result (λ r. Receives limits.charge desk.now (goals_at place jobs.now) job.now
-        reached built.items (delta_in r.0) (map state_at r.1.items)) }
+        reached built.items (delta_in r.0) (map status_at r.1.items)) }
     ensures charge { IfOk result (λ r. desk.now.charge + r.0.more ≤ limits.charge) }
     ensures memory { IfErr result (λ why. why ≡ Memory) }
 {
     if reached {
         return delta_for(alloc, desk, limits, built);
     }
-    let states = waiting(alloc, jobs.members(place, job))?;
-    Ok((DeskDelta::new(alloc), states))
+    let statuses = waiting(alloc, jobs.members(place, job))?;
+    Ok((DeskDelta::new(alloc), statuses))
 }
 
 /// What the user at a place receives of a job that ended with an output, of which this was built for his
@@ -183,14 +183,14 @@ fn receive_at(
     place: usize,
     job: &Job,
     built: Vec<(u16, Built)>,
-) -> Result<(DeskDelta, Vec<(u16, State)>), Refusal>
+) -> Result<(DeskDelta, Vec<(u16, Status)>), Refusal>
     requires leader { leader < 64 }
     requires place { place < 64 }
     requires of_run { place < length jobs.now.goals }
     requires records { length desk.now.records ≤ most_records }
     requires charge { desk.now.charge ≤ limits.charge }
     ensures delivered { IfOk result (λ r. IsDeliveredAtPlace (trusts trust.now) leader limits.charge job.now
-        desk.now (goals_at place jobs.now) place built.items (delta_in r.0) (map state_at r.1.items)) }
+        desk.now (goals_at place jobs.now) place built.items (delta_in r.0) (map status_at r.1.items)) }
     ensures memory { IfErr result (λ why. why ≡ Memory) }
 {
     let reached = has_place(trust.closure(place), leader);
@@ -209,7 +209,7 @@ pub(crate) fn receive_all(
     leader: usize,
     job: &Job,
     built: Vec<Vec<(u16, Built)>>,
-) -> Result<Vec<(DeskDelta, Vec<(u16, State)>)>, Refusal>
+) -> Result<Vec<(DeskDelta, Vec<(u16, Status)>)>, Refusal>
     requires few { length desks.now ≤ 64 }
     requires of_run { leader < length desks.now }
     requires with_goals { length jobs.now.goals ≡ length desks.now }
@@ -248,7 +248,7 @@ pub(crate) fn delivered_by_all(
     job: &Job,
     tree: Option<&Tree>,
     settlements: &mut Settlements,
-) -> Result<Vec<(DeskDelta, Vec<(u16, State)>)>, Refusal>
+) -> Result<Vec<(DeskDelta, Vec<(u16, Status)>)>, Refusal>
     requires few { length desks.now ≤ 64 }
     requires of_run { leader < length desks.now }
     requires with_goals { length jobs.now.goals ≡ length desks.now }

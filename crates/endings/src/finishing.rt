@@ -9,8 +9,8 @@ ghost use Rattle.model.specs.Limits.{most_records};
 ghost use Rattle.model.specs.Worlds.{are_users};
 ghost use Rattle.model.specs.Goals.{goal_at};
 ghost use Rattle.model.specs.Events.{Finish as FinishRequest};
-ghost use Rattle.events.specs.declared.reply.Reply.TheVariants.{GoalState};
-ghost use Rattle.events.specs.States.{state_of};
+ghost use Rattle.events.specs.declared.reply.Reply.TheVariants.{GoalStatus};
+ghost use Rattle.events.specs.Statuses.{status_of};
 ghost use Rattle.trust.specs.Trusting.{trusts};
 ghost use Rattle.trust.specs.Naming.{IsWithin, name_at};
 ghost use Rattle.store.specs.Stored.{AreNew, sources_of};
@@ -18,8 +18,8 @@ ghost use Rattle.handling.specs.Sound.{IsSound, AreGoalsSound};
 ghost use Rattle.handling.specs.Supported.{AreSupported};
 ghost use Rattle.handling.specs.Parts.{goals_of, parts};
 ghost use Rattle.handling.specs.Viewing.{desk_at};
-ghost use Rattle.building.specs.DeskDeltas.{last_state, state_at, with_delta, with_states, IsSettable};
-ghost use Rattle.endings.specs.Committing.{delta_at, states_for, AreToAdd, MayGain};
+ghost use Rattle.building.specs.DeskDeltas.{last_status, status_at, with_delta, with_statuses, IsSettable};
+ghost use Rattle.endings.specs.Committing.{delta_at, statuses_for, AreToAdd, MayGain};
 ghost use Rattle.endings.specs.Delivery.{AreAllBuiltOn, IsNotMade};
 ghost use Rattle.endings.specs.Finishing.{IsPrepared};
 ghost use Rattle.handling.specs.Handling.{IsHandledByAll};
@@ -28,7 +28,7 @@ use crate::committing::{additions_of, gained_by_all, set_all};
 use crate::delivery::delivered_by_all;
 use building::DeskDelta;
 use events::{CopiedReply, Reply};
-use jobs::{Job, Jobs, State, leads};
+use jobs::{Job, Jobs, Status, leads};
 use model::Refusal;
 use nar::{Tree, decode};
 use outputs::Settlements;
@@ -52,13 +52,13 @@ pub fn tree_in(alloc: Global, output: &[u8]) -> Result<Option<Tree>, Refusal>
 
 /// How far the goal of a number, which was this far, is once goals have got these states. The one error
 /// is memory.
-#[tactic(auto, unfolding(building::specs::DeskDeltas::last_state))]
-fn state_then(state: &State, number: u16, states: &[(u16, State)]) -> Result<State, AllocError>
-    ensures { IfOk result (λ then. state_of then
-        ≡ last_state number (state_of state.now) (map state_at states.now)) }
+#[tactic(auto, unfolding(building::specs::DeskDeltas::last_status))]
+fn status_then(status: &Status, number: u16, statuses: &[(u16, Status)]) -> Result<Status, AllocError>
+    ensures { IfOk result (λ then. status_of then
+        ≡ last_status number (status_of status.now) (map status_at statuses.now)) }
 {
-    let mut last = state;
-    for (other, told) in states {
+    let mut last = status;
+    for (other, told) in statuses {
         if *other == number {
             last = told;
         }
@@ -69,10 +69,10 @@ fn state_then(state: &State, number: u16, states: &[(u16, State)]) -> Result<Sta
 /// What the end of a job with an output changes.
 #[derive(Drop)]
 pub(crate) struct Ending {
-    delivered: Vec<(DeskDelta, Vec<(u16, State)>)>,
+    delivered: Vec<(DeskDelta, Vec<(u16, Status)>)>,
     additions: Vec<Addition>,
     trees: Vec<(StorePath, Tree)>,
-    told: State,
+    told: Status,
 }
 
 /// What a job changes that ends with an output, whose leader is the goal of a number of the user at a
@@ -123,7 +123,7 @@ fn prepare(
     let trees = table.missing(alloc, gained_by_all(alloc, &delivered)?)?;
     let additions = additions_of(alloc, &delivered)?;
     let goal = jobs.get(place, number).unwrap();
-    let told = state_then(goal.state(), number, delivered[place].1.as_slice())?;
+    let told = status_then(goal.status(), number, delivered[place].1.as_slice())?;
     Ok(Ending {
         delivered,
         additions,
@@ -202,16 +202,16 @@ fn put_in_place(
         → MayGain (desk_at desks.old place) (delta_at ending.delivered.items place) }
     requires count { length ending.delivered.items ≡ length jobs.old.goals }
     requires settable { (place : ℕ) → place < length jobs.old.goals
-        → All (IsSettable (goals_of jobs.old.goals place)) (states_for ending.delivered.items place) }
+        → All (IsSettable (goals_of jobs.old.goals place)) (statuses_for ending.delivered.items place) }
     requires new { AreNew table.old.sources (sources_of ending.trees.items) }
-    ensures told { IfOk result (λ reply. reply ≡ GoalState ending.told) }
+    ensures told { IfOk result (λ reply. reply ≡ GoalStatus ending.told) }
     ensures table { OnOk result
         (table.new.sources ≡ table.old.sources ++ sources_of ending.trees.items) }
     ensures gained { OnOk result ((place : ℕ) → place < length desks.old → desk_at desks.new place
         ≡ with_delta (delta_at ending.delivered.items place) (desk_at desks.old place)) }
-    ensures states { OnOk result ((place : ℕ) → place < length jobs.old.goals
+    ensures statuses { OnOk result ((place : ℕ) → place < length jobs.old.goals
         → goals_of jobs.new.goals place
-        ≡ with_states (states_for ending.delivered.items place) (goals_of jobs.old.goals place)) }
+        ≡ with_statuses (statuses_for ending.delivered.items place) (goals_of jobs.old.goals place)) }
     ensures with_desks { length desks.new ≡ length desks.old }
     ensures with_goals { length jobs.new.goals ≡ length jobs.old.goals }
     ensures users { jobs.new.users ≡ jobs.old.users }
@@ -221,7 +221,7 @@ fn put_in_place(
     ensures memory { IfErr result (λ why. why ≡ Memory) }
 {
     table.reserve(ending.trees.len())?;
-    let reply = CopiedReply::new(Reply::GoalState(ending.told))?;
+    let reply = CopiedReply::new(Reply::GoalStatus(ending.told))?;
     add_to_each(alloc, desks, ending.additions)?;
     set_all(jobs, ending.delivered);
     table.put_all_reserved(ending.trees);

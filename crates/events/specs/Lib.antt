@@ -1,3 +1,3 @@
 pub mod Terms
 pub mod Codes
-pub mod States
+pub mod Statuses

@@ -1,14 +1,14 @@
 -- Events and replies in the terms of the model.
 use Rattle.std.specs.Prelude.{Bool, true, false}
-use Rattle.model.specs.Worlds as states
+use Rattle.model.specs.Worlds as statuses
 use Rattle.model.specs.Events as events
 use Rattle.trust.specs.declared.user.User.{User}
 use Rattle.events.specs.declared.event.Request.{Request}
 use Rattle.events.specs.declared.event.Request.TheVariants.{AddSource, AddDerivation, Offer, Fetch, Trust, Distrust, Pin, Unpin, Closure, Take, Build, Status, Plan, Start, Finish, Fail, Forget}
 use Rattle.events.specs.declared.event.Event.{Event}
 use Rattle.events.specs.declared.reply.Reply.{Reply}
-use Rattle.events.specs.declared.reply.Reply.TheVariants.{Done, Path, Derivation, Content, Entries, GoalNumber, GoalState, Refused}
-use Rattle.events.specs.States.{state_of}
+use Rattle.events.specs.declared.reply.Reply.TheVariants.{Done, Path, Derivation, Content, Entries, GoalNumber, GoalStatus, Refused}
+use Rattle.events.specs.Statuses.{status_of}
 
 abbrev pub request_of : Request → events.Request
 request_of (AddSource name tree) = events.AddSource name tree
@@ -39,7 +39,7 @@ reply_of (Derivation path class) = events.Derivation path class
 reply_of (Content tree) = events.Content tree
 reply_of (Entries entries) = events.Entries entries
 reply_of (GoalNumber number) = events.GoalNumber number
-reply_of (GoalState state) = events.GoalState (state_of state)
+reply_of (GoalStatus status) = events.GoalStatus (status_of status)
 reply_of (Refused why) = events.Refused why
 
 -- a user with his reply
@@ -50,8 +50,8 @@ answer_of a = record { actor = a.0; reply = reply_of a.1 }
 abbrev pub shares_nothing : events.Reply → Bool
 shares_nothing events.Done = true
 shares_nothing (events.GoalNumber number) = true
-shares_nothing (events.GoalState states.Waiting) = true
-shares_nothing (events.GoalState states.Planned) = true
-shares_nothing (events.GoalState (states.Failed why)) = true
+shares_nothing (events.GoalStatus statuses.Waiting) = true
+shares_nothing (events.GoalStatus statuses.Planned) = true
+shares_nothing (events.GoalStatus (statuses.Failed why)) = true
 shares_nothing (events.Refused why) = true
 shares_nothing reply = false

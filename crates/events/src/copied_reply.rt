@@ -1,14 +1,14 @@
 //! Replies with their copies.
 
 ghost use Rattle.std.specs.Prelude.{◌≡◌, IfOk, IfErr, false};
-ghost use Rattle.model.specs.Events.{GoalState as GoalStateReply};
-ghost use Rattle.events.specs.States.{state_of};
+ghost use Rattle.model.specs.Events.{GoalStatus as GoalStatusReply};
+ghost use Rattle.events.specs.Statuses.{status_of};
 ghost use Rattle.events.specs.Terms.{reply_of, shares_nothing};
-ghost use Rattle.events.specs.declared.reply.Reply.TheVariants.{Done, GoalNumber, GoalState, Refused};
-ghost use Rattle.events.specs.declared.state.State.TheVariants.{Planned, Failed};
+ghost use Rattle.events.specs.declared.reply.Reply.TheVariants.{Done, GoalNumber, GoalStatus, Refused};
+ghost use Rattle.events.specs.declared.status.Status.TheVariants.{Planned, Failed};
 
 use crate::reply::Reply;
-use crate::state::State;
+use crate::status::Status;
 use model::Refusal;
 use std::alloc::AllocError;
 use std::marker::Model;
@@ -45,15 +45,15 @@ impl Model for CopiedReply {
 }
 
 /// A copy of how far a goal is.
-fn copy_of_state(state: &State) -> Result<State, AllocError>
-    ensures copy { IfOk result (λ copy. copy ≡ state.now) }
-    ensures shares { IfErr result (λ _. shares_nothing (GoalStateReply (state_of state.now)) ≡ false) }
+fn copy_of_status(status: &Status) -> Result<Status, AllocError>
+    ensures copy { IfOk result (λ copy. copy ≡ status.now) }
+    ensures shares { IfErr result (λ _. shares_nothing (GoalStatusReply (status_of status.now)) ≡ false) }
 {
-    match state {
-        State::Waiting => Ok(State::Waiting),
-        State::Planned => Ok(State::Planned),
-        State::Failed(why) => Ok(State::Failed(*why)),
-        State::Building(_) | State::Done(_) => state.clone(),
+    match status {
+        Status::Waiting => Ok(Status::Waiting),
+        Status::Planned => Ok(Status::Planned),
+        Status::Failed(why) => Ok(Status::Failed(*why)),
+        Status::Building(_) | Status::Done(_) => status.clone(),
     }
 }
 
@@ -65,7 +65,7 @@ fn copy_of(reply: &Reply) -> Result<Reply, AllocError>
     match reply {
         Reply::Done => Ok(Reply::Done),
         Reply::GoalNumber(number) => Ok(Reply::GoalNumber(*number)),
-        Reply::GoalState(state) => Ok(Reply::GoalState(copy_of_state(state)?)),
+        Reply::GoalStatus(status) => Ok(Reply::GoalStatus(copy_of_status(status)?)),
         Reply::Refused(why) => Ok(Reply::Refused(*why)),
         Reply::Path(_) | Reply::Derivation { .. } | Reply::Content(_) | Reply::Entries(_) => {
             reply.clone()
@@ -106,21 +106,21 @@ impl CopiedReply {
 
     /// That a goal can start.
     pub fn planned() -> CopiedReply
-        ensures { result ≡ GoalState Planned }
+        ensures { result ≡ GoalStatus Planned }
     {
         CopiedReply {
-            reply: Reply::GoalState(State::Planned),
-            copy: Reply::GoalState(State::Planned),
+            reply: Reply::GoalStatus(Status::Planned),
+            copy: Reply::GoalStatus(Status::Planned),
         }
     }
 
     /// That a goal came to nothing, and why.
     pub fn failed(why: Refusal) -> CopiedReply
-        ensures { result ≡ GoalState (Failed why) }
+        ensures { result ≡ GoalStatus (Failed why) }
     {
         CopiedReply {
-            reply: Reply::GoalState(State::Failed(why)),
-            copy: Reply::GoalState(State::Failed(why)),
+            reply: Reply::GoalStatus(Status::Failed(why)),
+            copy: Reply::GoalStatus(Status::Failed(why)),
         }
     }
 

@@ -6,11 +6,11 @@ mod event;
 mod job;
 mod output;
 mod reply;
-mod state;
+mod status;
 
 pub use copied_reply::CopiedReply;
 pub use event::{Event, Request};
 pub use job::Job;
 pub use output::Output;
 pub use reply::Reply;
-pub use state::State;
+pub use status::Status;

@@ -4,7 +4,7 @@ ghost use Rattle.std.specs.Prelude.{◌≡◌};
 ghost use Rattle.model.specs.Talk.{told_in};
 ghost use Rattle.events.specs.Terms.{reply_of};
 
-use crate::state::State;
+use crate::status::Status;
 use model::Refusal;
 use nar::Tree;
 use records::Closure;
@@ -31,7 +31,7 @@ pub enum Reply {
     /// The number of a new goal.
     GoalNumber(u16),
     /// How far a goal is.
-    GoalState(State),
+    GoalStatus(Status),
     /// Why nothing was done.
     Refused(Refusal),
 }
@@ -45,7 +45,7 @@ impl Drop for Reply {
             Reply::Content(_) => {}
             Reply::Entries(_) => {}
             Reply::GoalNumber(_) => {}
-            Reply::GoalState(_) => {}
+            Reply::GoalStatus(_) => {}
             Reply::Refused(_) => {}
         }
     }
@@ -57,13 +57,13 @@ impl Reply {
         ensures { record { path = result.0; class = result.1 } ≡ told_in (reply_of self) }
     {
         match self {
-            Reply::Path(path) | Reply::GoalState(State::Done(path)) => (Some(path), None),
+            Reply::Path(path) | Reply::GoalStatus(Status::Done(path)) => (Some(path), None),
             Reply::Derivation { path, class } => (Some(path), Some(class)),
             Reply::Done
             | Reply::Content(_)
             | Reply::Entries(_)
             | Reply::GoalNumber(_)
-            | Reply::GoalState(_)
+            | Reply::GoalStatus(_)
             | Reply::Refused(_) => (None, None),
         }
     }

@@ -11,7 +11,7 @@ use Rattle.laws.proofs.SetLemmas.{bytes_weak}
 use Rattle.records.specs.Recorded.{Recorded}
 use Rattle.realise.specs.Holdings.{Holdings}
 use Rattle.choose.proofs.ChoosingLemmas.{least_from_append}
-use Rattle.jobs.specs.States.{path_in, are_same, is_alike}
+use Rattle.jobs.specs.Statuses.{path_in, are_same, is_alike}
 use Rattle.jobs.specs.Joining.{same_as}
 use Rattle.jobs.specs.Numbers.{numbers, is_done_under, firsts, finished}
 use Rattle.jobs.proofs.FinishedLemmas.{resolved_per}
@@ -129,9 +129,9 @@ same_build r (Some q) (Some o) t = per_alike resolved_per q o r t
 same_found : (r : Resolved) (labels : List Label) (d : Holdings) (x z : Goal) → is_alike x z ≡ true → found_by r labels d x ≡ found_by r labels d z
 same_found r labels d x z alike =
     let one = both_parts (bytes_eq x.derivation z.derivation) _ alike in
-    let two = both_parts (are_same bytes_eq (path_in x.state) (path_in z.state)) (are_same same_resolved x.resolved z.resolved) one.1 in
+    let two = both_parts (are_same bytes_eq (path_in x.status) (path_in z.status)) (are_same same_resolved x.resolved z.resolved) one.1 in
     let derivation : x.derivation ≡ z.derivation = same_bytes x.derivation z.derivation one.0 in
-    let path : path_in x.state ≡ path_in z.state = same_there (path_in x.state) (path_in z.state) two.0 in
+    let path : path_in x.status ≡ path_in z.status = same_there (path_in x.status) (path_in z.status) two.0 in
     let from : same_as r x.resolved ≡ same_as r z.resolved = same_build r x.resolved z.resolved two.1 in
     λ i. found_at labels d (known_at d.known (derivation i)) (if from i then path i else None)
 

@@ -6,10 +6,10 @@ use Rattle.std.proofs.lemmas.Bool.{cond_both, or_parts}
 use Rattle.std.proofs.lemmas.List.Elements.{All-nil, All-cons, All-head, All-tail}
 use Rattle.model.specs.declared.refusal.Refusal.{Refusal}
 use Rattle.model.specs.declared.refusal.Refusal.TheVariants.{Memory, NotHeld, InUse}
-use Rattle.model.specs.Worlds.{Source, Setup, Desk, World, Entry, OfSource, OfRecord, Job, State, Waiting, Building, Resolved, Goal, are_users}
+use Rattle.model.specs.Worlds.{Source, Setup, Desk, World, Entry, OfSource, OfRecord, Job, Status, Waiting, Building, Resolved, Goal, are_users}
 use Rattle.model.specs.Closures.{class_of_entry}
 use Rattle.model.specs.Worlds as worlds
-use Rattle.model.specs.Goals.{in_state, as_seen, is_building}
+use Rattle.model.specs.Goals.{in_status, as_seen, is_building}
 use Rattle.model.specs.FinishedBuilds.{is_record_at}
 use Rattle.model.specs.KeptClosures.{is_planned}
 use Rattle.model.specs.ForgetRequests.{is_entry_at, is_built_from, builds_with, let_go, is_in_use, forget}
@@ -48,7 +48,7 @@ module _ (class path : List ℕ) where
   sound_let_go table (g ∷ goals) sound =
       let own : IsResolvedIn table g = All-head (IsResolvedIn table) g goals sound in
       All-cons (IsResolvedIn table) (let_go class path g) (map (let_go class path) goals)
-      (cond_both (is_building g.state && is_built_from class path g.resolved) (in_state Waiting g) g (IsResolvedIn table)
+      (cond_both (is_building g.status && is_built_from class path g.resolved) (in_status Waiting g) g (IsResolvedIn table)
       (λ waits r keeps. ((own r keeps).0, λ needs. absurd (let no : false ≡ true = needs in cc))) (λ stays. own))
       (sound_let_go table goals (All-tail (IsResolvedIn table) g goals sound))
 
@@ -67,11 +67,11 @@ module _ (class path : List ℕ) where
 
   -- a goal that is built still has what it is built from
   goal_supported : (d : Holdings) (g : Goal) → IsSupported d g → IsSupported (without_records class path d) (let_go class path g)
-  goal_supported d g supported = elim (either (is_building g.state && is_built_from class path g.resolved)) [
+  goal_supported d g supported = elim (either (is_building g.status && is_built_from class path g.resolved)) [
     | inl t ↦ rw t (λ job building r keeps. absurd (let no : Waiting ≡ Building job = building in cc))
     | inr f ↦ rw f (λ job building r keeps.
         let apart : is_built_from class path g.resolved ≡ false =
-        sym (ap (λ (s : State). is_building s && is_built_from class path g.resolved) building) ∙ f in
+        sym (ap (λ (s : Status). is_building s && is_built_from class path g.resolved) building) ∙ f in
         let none : list_any (is_entry_at class path) r.closure ≡ false = ap (is_built_from class path) (sym keeps) ∙ apart in
         entries_still d r.closure none (supported job building r keeps))
   ]

@@ -9,7 +9,7 @@ use Rattle.std.proofs.lemmas.List.Folds.{flat_map-map, Any-from_list_any}
 use Rattle.std.proofs.lemmas.Grind.{flat_map-append}
 use Rattle.model.specs.Archives.{bytes_before}
 use Rattle.model.specs.Classes.{Class, Admission, known_at}
-use Rattle.model.specs.Worlds.{Source, Setup, Label, same_label, same_class, Record, Entry, OfSource, OfRecord, path_of_entry, Resolved, State, Waiting, Planned, Building, Done, Failed, Goal, Desk, World, known_of, tree_at, are_users}
+use Rattle.model.specs.Worlds.{Source, Setup, Label, same_label, same_class, Record, Entry, OfSource, OfRecord, path_of_entry, Resolved, Status, Waiting, Planned, Building, Done, Failed, Goal, Desk, World, known_of, tree_at, are_users}
 use Rattle.model.specs.Orders.{lesser, least_from, least}
 use Rattle.model.specs.Closures.{class_of_entry, path_of_class}
 use Rattle.model.specs.Goals.{goal_at, same_resolved}
@@ -30,7 +30,7 @@ use Rattle.trust.specs.Naming.{place_of, IsWithin}
 use Rattle.trust.proofs.PlaceLemmas.{name_found}
 use Rattle.jobs.specs.Joining.{same_as}
 use Rattle.jobs.specs.Numbers.{numbers, has_scratch, is_done_under}
-use Rattle.jobs.specs.States.{is_done, path_in}
+use Rattle.jobs.specs.Statuses.{is_done, path_in}
 use Rattle.handling.specs.Sound.{Beside, desk_of, records_at}
 use Rattle.handling.specs.Parts.{beside_at}
 use Rattle.handling.specs.Viewing.{places_of, desk_at}
@@ -135,7 +135,7 @@ not_under r None f = refl
 not_under r (Some q) f = rw f refl
 
 -- those that are not done are done by no path
-not_done : (s : State) → is_done s ≡ false → path_in s ≡ None
+not_done : (s : Status) → is_done s ≡ false → path_in s ≡ None
 not_done Waiting f = refl
 not_done Planned f = refl
 not_done (Building job) f = refl
@@ -177,23 +177,23 @@ module _ (r : Resolved) (table : List Source) where
   none_found d k true = refl
   none_found d k false = refl
 
-  state_found : (d : Holdings) (beside : Beside) (g : Goal) (s : State)
+  status_found : (d : Holdings) (beside : Beside) (g : Goal) (s : Status)
       → filter (is_labelled_by r) (built_in r (desk_of beside table d) g s)
       ≡ map at (found_at L d (known_at d.known g.derivation) (if same_as r g.resolved then path_in s else None))
-  state_found d beside g Waiting = none_found d (known_at d.known g.derivation) (same_as r g.resolved)
-  state_found d beside g Planned = none_found d (known_at d.known g.derivation) (same_as r g.resolved)
-  state_found d beside g (Building job) = none_found d (known_at d.known g.derivation) (same_as r g.resolved)
-  state_found d beside g (Done path) =
+  status_found d beside g Waiting = none_found d (known_at d.known g.derivation) (same_as r g.resolved)
+  status_found d beside g Planned = none_found d (known_at d.known g.derivation) (same_as r g.resolved)
+  status_found d beside g (Building job) = none_found d (known_at d.known g.derivation) (same_as r g.resolved)
+  status_found d beside g (Done path) =
       ap (λ k. filter (is_labelled_by r) (built_at r (records_at table d.records) path g.resolved (known_at k g.derivation))) (known_of-desk_of beside table d)
       ∙ done_found d path g.resolved (known_at d.known g.derivation)
-  state_found d beside g (Failed why) = none_found d (known_at d.known g.derivation) (same_as r g.resolved)
+  status_found d beside g (Failed why) = none_found d (known_at d.known g.derivation) (same_as r g.resolved)
 
   goals_found : (d : Holdings) (beside : Beside) (gs : List Goal)
-      → filter (is_labelled_by r) (flat_map (λ g. built_in r (desk_of beside table d) g g.state) gs) ≡ map at (flat_map (found_by r L d) gs)
+      → filter (is_labelled_by r) (flat_map (λ g. built_in r (desk_of beside table d) g g.status) gs) ≡ map at (flat_map (found_by r L d) gs)
   goals_found d beside [] = refl
   goals_found d beside (g ∷ gs) =
-      filter-append (is_labelled_by r) (built_in r (desk_of beside table d) g g.state) (flat_map (λ x. built_in r (desk_of beside table d) x x.state) gs)
-      ∙ (λ i. state_found d beside g g.state i ++ goals_found d beside gs i)
+      filter-append (is_labelled_by r) (built_in r (desk_of beside table d) g g.status) (flat_map (λ x. built_in r (desk_of beside table d) x x.status) gs)
+      ∙ (λ i. status_found d beside g g.status i ++ goals_found d beside gs i)
       ∙ sym (map-append at (found_by r L d g) (flat_map (found_by r L d) gs))
 
   no_path : (d : Holdings) (k : Option Admission) (b : Bool) → found_at L d k (if b then None else None) ≡ []
@@ -201,12 +201,12 @@ module _ (r : Resolved) (table : List Source) where
   no_path d k false = refl
 
   -- goals that are not done, or not under the path, add nothing
-  not_found : (d : Holdings) (g : Goal) → (is_done g.state && has_scratch r.scratch g.resolved) ≡ false → found_by r L d g ≡ []
+  not_found : (d : Holdings) (g : Goal) → (is_done g.status && has_scratch r.scratch g.resolved) ≡ false → found_by r L d g ≡ []
   not_found d g f =
       let k : Option Admission = known_at d.known g.derivation in
-      elim (either (is_done g.state)) [
+      elim (either (is_done g.status)) [
         | inl t ↦ rw (not_under r g.resolved (rw t at f)) refl
-        | inr n ↦ ap (λ p. found_at L d k (if same_as r g.resolved then p else None)) (not_done g.state n) ∙ no_path d k (same_as r g.resolved)
+        | inr n ↦ ap (λ p. found_at L d k (if same_as r g.resolved then p else None)) (not_done g.status n) ∙ no_path d k (same_as r g.resolved)
       ]
 
   numbered : (d : Holdings) (f : ℕ → List Recorded) (k : ℕ) (gs : List Goal) → ((i : ℕ) (g : Goal) → slice_get gs i ≡ Some g → f (k + i) ≡ found_by r L d g)
@@ -218,7 +218,7 @@ module _ (r : Resolved) (table : List Source) where
       let next : (i : ℕ) → suc k + i ≡ k + suc i = λ i. (omega arith) in
       let here : f k ≡ found_by r L d g = rw none at (same zero g refl) in
       let rest = numbered d f (suc k) gs (λ i x there. ap f (next i) ∙ same (suc i) x there) in
-      elim (either (is_done g.state && has_scratch r.scratch g.resolved)) [
+      elim (either (is_done g.status && has_scratch r.scratch g.resolved)) [
         | inl t ↦ rw t (λ i. here i ++ rest i)
         | inr n ↦ rw n (rest ∙ ap (λ xs. xs ++ flat_map (found_by r L d) gs) (sym (not_found d g n)))
       ]

@@ -3,8 +3,8 @@ use Rattle.std.proofs.Common.{◌≡◌, ℕ, ◌<◌, Bool, true, ◌⊎◌, in
 use Rattle.std.specs.Prelude.{All}
 use Rattle.model.specs.declared.refusal.Refusal.{Refusal}
 use Rattle.model.specs.declared.refusal.Refusal.TheVariants.{Quota}
-use Rattle.model.specs.Worlds.{Source, Record, Entry, are_users, Resolved, Job, State, Building, Done, Failed, Goal}
-use Rattle.model.specs.Goals.{goal_at, with_goal_at, in_state, job_of}
+use Rattle.model.specs.Worlds.{Source, Record, Entry, are_users, Resolved, Job, Status, Building, Done, Failed, Goal}
+use Rattle.model.specs.Goals.{goal_at, with_goal_at, in_status, job_of}
 use Rattle.model.specs.Events as events
 use Rattle.trust.specs.Naming.{place_of, name_at, trusted_at, IsWithin}
 use Rattle.trust.proofs.PlaceLemmas.{name_found}
@@ -17,7 +17,7 @@ use Rattle.handling.specs.Handling.{IsHandledWithGoals, IsHandledAtPlace}
 use Rattle.handling.specs.Viewing.{desk_at}
 use Rattle.handling.proofs.GoalLemmas.{goals_sound_at}
 use Rattle.handlers.specs.Taking.{with_built, CopiesEntries}
-use Rattle.goals.specs.Starting.{IsToStart, uncopied_state, IsStarted, IsUncopied, IsLacking, StartsAnew, IsNotCopied, HasFailed, FailsForRoom, IsDone, HasNoRoom, StartsDone}
+use Rattle.goals.specs.Starting.{IsToStart, uncopied_status, IsStarted, IsUncopied, IsLacking, StartsAnew, IsNotCopied, HasFailed, FailsForRoom, IsDone, HasNoRoom, StartsDone}
 use Rattle.goals.specs.Reusing.{IsUsedAgain}
 use Rattle.goals.proofs.StoredLemmas.{put_stored, built_stored}
 use Rattle.goals.proofs.StartLemmas.{goal_closure, no_memory, entered, left, failed, done, full, lacking}
@@ -94,11 +94,11 @@ module _ (users : List (List ℕ)) (limit : ℕ) (trust : ℕ → ℕ → Bool) 
       let leader : name_at all.users place ≡ actor = ap (λ us. name_at us place) owned ∙ (name_found users actor place found).1 in
       let J : List ℕ → Job = λ u. record { leader = u; number = n } in
       let no_build = sym none ∙ again.is it.goal it.there users limit actor listed found paired within in
-      rw (s.is, its_goals (in_state (Building s.entered.job) it.goal) (s.entered.entered it.goal it.there))
+      rw (s.is, its_goals (in_status (Building s.entered.job) it.goal) (s.entered.entered it.goal it.there))
       (entered users limit trust all.goals old desks place n listed paired within sound goals_sound actor found r it stored after s.entered.job s.reply no_build
       s.copied (s.entered.joined.is ∙ (λ i. job_of (sym running i) (J (leader i)) r)) s.entered.told)
   anew_handled none (inr (inl u)) actor found =
-      rw (its_goals (in_state (uncopied_state u.why) it.goal) (u.left it.goal it.there))
+      rw (its_goals (in_status (uncopied_status u.why) it.goal) (u.left it.goal it.there))
       (left users limit trust all.goals old desks place n listed paired within sound goals_sound actor found r it stored after u.why result u.copied u.told)
   anew_handled none (inr (inr l)) actor found =
       rw (l.is, same_goals l.jobs_are, l.desk_is)
@@ -117,7 +117,7 @@ module _ (users : List (List ℕ)) (limit : ℕ) (trust : ℕ → ℕ → Bool) 
         → Handled (goals_at place new) old
     failed_handled over (inl f) actor found =
         let this = sym is ∙ again.is it.goal it.there users limit actor listed found paired within in
-        rw (f.is, its_goals (in_state (Failed Quota) it.goal) (f.failed it.goal it.there)) (elim f.copied [
+        rw (f.is, its_goals (in_status (Failed Quota) it.goal) (f.failed it.goal it.there)) (elim f.copied [
           | inl copies ↦
               full users limit trust all.goals old desks place n listed paired within sound goals_sound actor found r it stored after q this (again.stored q is)
               f.reply over copies f.told
@@ -129,7 +129,7 @@ module _ (users : List (List ℕ)) (limit : ℕ) (trust : ℕ → ℕ → Bool) 
     pub done_handled : StartsDone place n r q limit all old desk result new stored after → Handled (goals_at place new) old
     done_handled (inl d) actor found =
         let this = sym is ∙ again.is it.goal it.there users limit actor listed found paired within in
-        rw (d.is, its_goals (in_state (Done q.path) it.goal) (d.done it.goal it.there))
+        rw (d.is, its_goals (in_status (Done q.path) it.goal) (d.done it.goal it.there))
         (done users limit trust all.goals old desks place n listed paired within sound goals_sound actor found r it stored after q this (again.stored q is)
         d.reply d.copied d.told)
     done_handled (inr (inl f)) actor found = failed_handled f.over f.fails actor found

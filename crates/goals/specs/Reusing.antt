@@ -12,7 +12,7 @@ use Rattle.trust.specs.Naming.{place_of, IsWithin}
 use Rattle.records.specs.Recorded.{Recorded}
 use Rattle.records.specs.Trees.{record_at}
 use Rattle.realise.specs.Holdings.{Holdings, records_of}
-use Rattle.jobs.specs.States.{path_in}
+use Rattle.jobs.specs.Statuses.{path_in}
 use Rattle.jobs.specs.Joining.{same_as}
 use Rattle.jobs.specs.Numbers.{numbers, is_done_under}
 use Rattle.handling.specs.Parts.{parts, world_in}
@@ -31,7 +31,7 @@ is_found_at labels path r = bytes_eq r.path path && list_all (λ l. list_any (sa
 
 -- the path by which a goal is done, if it is built from that
 abbrev pub done_path : Resolved → Goal → Option (List ℕ)
-done_path r g = if same_as r g.resolved then path_in g.state else None
+done_path r g = if same_as r g.resolved then path_in g.status else None
 
 -- the records of a desk at a path, of the class of a derivation that it knows
 abbrev pub found_at : List Label → Holdings → Option Admission → Option (List ℕ) → List Recorded

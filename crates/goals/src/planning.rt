@@ -9,8 +9,8 @@ ghost use Rattle.trust.specs.Naming.{names, IsWithin};
 ghost use Rattle.choose.specs.Visible.{IsComplete};
 ghost use Rattle.store.specs.Stored.{put_all};
 ghost use Rattle.jobs.specs.Owned.{goals_at, with_goals_at};
-ghost use Rattle.events.specs.States.{state_of};
-ghost use Rattle.jobs.specs.States.{planned_with};
+ghost use Rattle.events.specs.Statuses.{status_of};
+ghost use Rattle.jobs.specs.Statuses.{planned_with};
 ghost use Rattle.handling.specs.Stored.{source_of_entry};
 ghost use Rattle.handling.specs.Sound.{IsSound, IsClosure, IsStored, AreGoalsSound};
 ghost use Rattle.handling.specs.Viewing.{desk_at};
@@ -24,7 +24,7 @@ use classes::input_classes;
 use events::CopiedReply;
 use handlers::trees_of;
 use handling::desks_in_view;
-use jobs::{Jobs, State};
+use jobs::{Jobs, Status};
 use laws::closures_are_whole;
 use model::Refusal;
 use realise::Desk;
@@ -62,13 +62,13 @@ fn resolved_for(
 }
 
 /// Whether a goal waits, as one sees it who reaches the users at the places of a word.
-fn waits(users: &Users, reached: u64, state: &State) -> bool
+fn waits(users: &Users, reached: u64, status: &Status) -> bool
     requires { length users.now ≤ 64 }
-    ensures { result ≡ is_waiting (as_seen (names users.now (holds reached)) (state_of state.now)) }
+    ensures { result ≡ is_waiting (as_seen (names users.now (holds reached)) (status_of status.now)) }
 {
-    match state {
-        State::Waiting => true,
-        State::Building(job) => !is_reached(users, reached, job.leader()),
+    match status {
+        Status::Waiting => true,
+        Status::Building(job) => !is_reached(users, reached, job.leader()),
         _ => false,
     }
 }
@@ -94,7 +94,7 @@ fn derivation_to_plan<'a>(
     let Some(goal) = jobs.get(place, number) else {
         return Err(Refusal::UnknownGoal);
     };
-    if !waits(users, reached, goal.state()) {
+    if !waits(users, reached, goal.status()) {
         return Err(Refusal::WrongState);
     }
     match desk.derivation(goal.derivation()) {
@@ -203,7 +203,7 @@ pub fn plan(
             Ok(CopiedReply::planned())
         }
         Err(why) if fails(why) => {
-            jobs.set_state(place, number, State::Failed(why));
+            jobs.set_status(place, number, Status::Failed(why));
             Ok(CopiedReply::failed(why))
         }
         Err(why) => Err(why),

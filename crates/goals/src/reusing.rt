@@ -16,7 +16,7 @@ ghost use Rattle.choose.specs.Visible.{AreStored};
 ghost use Rattle.goals.specs.Reusing.{path_before, is_found_at, done_path, found_by, found_on, found_in, class_for, IsFinishedBuild, IsHeldAmong, IsUsedAgain};
 
 use classes::Class;
-use jobs::{Goal, Jobs, State};
+use jobs::{Goal, Jobs, Status};
 use model::Refusal;
 use realise::Desk;
 use records::{Label, Realisation, Record, Resolved};
@@ -86,8 +86,8 @@ fn least_of<'a>(
 fn done_path<'a>(goal: &'a Goal, resolved: &Resolved) -> Option<&'a StorePath>
     ensures { option_copied result ≡ done_path resolved.now goal.now }
 {
-    match goal.state() {
-        State::Done(path) if goal.is_built_from(resolved) => Some(path),
+    match goal.status() {
+        Status::Done(path) if goal.is_built_from(resolved) => Some(path),
         _ => None,
     }
 }

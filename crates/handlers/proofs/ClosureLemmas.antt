@@ -15,7 +15,7 @@ use Rattle.model.specs.Worlds.{Source, Record, Setup, Desk, Pin, World, Goal, En
 use Rattle.model.specs.Events as events
 use Rattle.model.specs.Outcomes.{Observation, observation_of, view_of, becomes}
 use Rattle.model.specs.ClosureRequests.{closure}
-use Rattle.model.specs.Choices.{Plan, choose, small_plan, plan_by, plan}
+use Rattle.model.specs.Choices.{Plan, choose, small_plan, plan_by, closure_plan}
 use Rattle.model.specs.Repairs.{serve_all}
 use Rattle.model.specs.Replies.{is_refused, is_clash_refusal}
 use Rattle.model.specs.Steps.{outcome}
@@ -114,20 +114,20 @@ IsPlanFor result answer = MatchResult result (λ p. answer ≡ Ok p) (λ e. (e �
 -- what is planned for a view is planned for the user
 pub planned_at : (trust : ℕ → ℕ → Bool) (table : List Source) (desks view : List Holdings) (place : ℕ) (class : List ℕ) (result : Result Plan Refusal)
     → IsView trust place desks view
-    → ((s : List Desk) → visible_on s ≡ seen table view → IsPlanFor result (plan s (desk_at desks place).pins (class ∷ []) []))
+    → ((s : List Desk) → visible_on s ≡ seen table view → IsPlanFor result (closure_plan s (desk_at desks place).pins (class ∷ []) []))
     → IsPlannedAt trust table desks place class result
 planned_at trust table desks view place class (Ok p) are planned = λ users limit goals actor listed found paired within.
     let w : World = world users limit trust goals table desks actor place listed found paired within in
     let sees = visible users limit trust goals table desks actor place listed found paired within view are in
     let pins : (w actor).pins ≡ (desk_at desks place).pins = ap (λ (d : Desk). d.pins) (his_desk users limit trust goals table desks actor place listed found paired within) in
     let his = view_of (record { users = users; charge = limit }) w actor in
-    subst (λ ps. plan his ps (class ∷ []) [] ≡ Ok p) (sym pins) (planned his sees)
+    subst (λ ps. closure_plan his ps (class ∷ []) [] ≡ Ok p) (sym pins) (planned his sees)
 planned_at trust table desks view place class (Err why) are planned = λ users limit goals actor listed found paired within.
     let w : World = world users limit trust goals table desks actor place listed found paired within in
     let sees = visible users limit trust goals table desks actor place listed found paired within view are in
     let pins : (w actor).pins ≡ (desk_at desks place).pins = ap (λ (d : Desk). d.pins) (his_desk users limit trust goals table desks actor place listed found paired within) in
     let his = view_of (record { users = users; charge = limit }) w actor in
-    subst (λ ps. (why ≡ Memory) ⊎ (plan his ps (class ∷ []) [] ≡ Err why)) (sym pins) (planned his sees)
+    subst (λ ps. (why ≡ Memory) ⊎ (closure_plan his ps (class ∷ []) [] ≡ Err why)) (sym pins) (planned his sees)
 
 -- what is served of the plan of a class is what the user is served for it
 served_of_plan : (trust : ℕ → ℕ → Bool) (table : List Source) (desks : List Holdings) (place : ℕ) (class : List ℕ) (p : Plan) (entries : List Entry)
@@ -257,7 +257,7 @@ small_plan_few p q e = elim (either (nat_lt most_entries (length q.records + len
       subst (λ (z : Plan). length z.records + length z.sources ≤ most_entries) is few
 ]
 
-plan_few : (view : List Desk) (pins : List Pin) (classes sources : List (List ℕ)) (p : Plan) → plan view pins classes sources ≡ Ok p
+plan_few : (view : List Desk) (pins : List Pin) (classes sources : List (List ℕ)) (p : Plan) → closure_plan view pins classes sources ≡ Ok p
     → length p.records + length p.sources ≤ most_entries
 unfolding plan_by
 plan_few view pins classes sources p e = elim (either (list_any (λ c. is_none (choose view pins c)) classes)) [
@@ -279,7 +279,7 @@ pub is_closure : ClosuresAreWhole → (table : List Source) (view : List Holding
 is_closure law table view pins classes sources entries closed served =
     let s : List Desk = desk_with (seen table view) ∷ [] in
     let is : visible_on s ≡ seen table view = on_one_desk (seen table view) in
-    let planned = then_ok (plan s pins classes sources) served_plan entries (served s is) in
+    let planned = then_ok (closure_plan s pins classes sources) served_plan entries (served s is) in
     let parts = plan_parts planned.0 entries planned.2 in
     let members : List Entry = map OfRecord parts.0 ++ map OfSource planned.0.sources in
     let fewer = few_in_set entry_before members in
@@ -296,7 +296,7 @@ is_closure law table view pins classes sources entries closed served =
 
 pub closure_of_plan : ClosuresAreWhole
     → (table : List Source) (view : List Holdings) (pins : List Pin) (classes sources : List (List ℕ)) (result : Result Plan Refusal)
-    → All IsClosed view → ((s : List Desk) → visible_on s ≡ seen table view → IsPlanFor result (plan s pins classes sources))
+    → All IsClosed view → ((s : List Desk) → visible_on s ≡ seen table view → IsPlanFor result (closure_plan s pins classes sources))
     → IfOk result (λ p. (entries : List Entry) → served_plan p ≡ Ok entries → IsClosure entries)
 closure_of_plan law table view pins classes sources (Ok p) closed planned = λ entries served.
     is_closure law table view pins classes sources entries closed (λ s sees. ap (λ o. then_do o served_plan) (planned s sees) ∙ served)

@@ -10,7 +10,7 @@ use Rattle.model.specs.Archives.{Tree, Link}
 use Rattle.model.specs.Results.{then_do}
 use Rattle.model.specs.Worlds.{Source, Record, Setup, Desk, World, Goal, Pin, Entry, tree_at, with_entries}
 use Rattle.model.specs.Events as events
-use Rattle.model.specs.Choices.{Plan, choose, reached, most_steps, rank_before, source_before, source_among, needed_sources, small_plan, plan_by, plan, visible_sources}
+use Rattle.model.specs.Choices.{Plan, choose, reached, most_steps, rank_before, source_before, source_among, needed_sources, small_plan, plan_by, closure_plan, visible_sources}
 use Rattle.model.specs.Orders.{set_of}
 use Rattle.model.specs.Limits.{most_entries}
 use Rattle.model.specs.Closures.{served_plan, texts_of_plan, closure, closure_texts, path_for}
@@ -93,7 +93,7 @@ seen_on f x w users h =
     (b.0, subst (λ d. In x (f d)) (sym b.2) a.2)
 
 -- a source of a plan is visible
-planned_source : (view : List Desk) (pins : List Pin) (classes sources : List (List ℕ)) (p : Plan) → plan view pins classes sources ≡ Ok p
+planned_source : (view : List Desk) (pins : List Pin) (classes sources : List (List ℕ)) (p : Plan) → closure_plan view pins classes sources ≡ Ok p
     → (s : Source) → In s p.sources → In s (visible_sources view)
 unfolding plan_by
 planned_source view pins classes sources p e s h = elim (either (list_any (λ c. is_none (choose view pins c)) classes)) [
@@ -117,7 +117,7 @@ module _ (law : ServedAreMade) (users : List (List ℕ)) (limit : ℕ) (trust : 
   abbrev run : Setup
   run = record { users = users; charge = limit }
 
-  one_hashed : (texts : List (List ℕ)) (p : Plan) → All (IsHashed texts) table → plan (view_of run w u) (w u).pins classes sources ≡ Ok p → (e : Entry)
+  one_hashed : (texts : List (List ℕ)) (p : Plan) → All (IsHashed texts) table → closure_plan (view_of run w u) (w u).pins classes sources ≡ Ok p → (e : Entry)
       → IsServedEntry texts p e → IsHashed texts (source_of_entry e)
   one_hashed texts p hashed planned e (inl source) =
       let s : Source = source.0 in
@@ -133,7 +133,7 @@ module _ (law : ServedAreMade) (users : List (List ℕ)) (limit : ℕ) (trust : 
       subst (λ (s : Source). IsHashed texts s) (λ i. record { path = (sym kept.2) i; tree = (sym kept.3) i }) is
   one_hashed texts p hashed planned e (inr (inr made)) = record { named = made.0; path = made.2; tree = made.3; made = made.1 }
 
-  all_hashed : (texts : List (List ℕ)) (p : Plan) → All (IsHashed texts) table → plan (view_of run w u) (w u).pins classes sources ≡ Ok p → (es : List Entry)
+  all_hashed : (texts : List (List ℕ)) (p : Plan) → All (IsHashed texts) table → closure_plan (view_of run w u) (w u).pins classes sources ≡ Ok p → (es : List Entry)
       → ((e : Entry) → In e es → IsServedEntry texts p e) → All (IsHashed texts) (map source_of_entry es)
   all_hashed texts p hashed planned [] own = All-nil (IsHashed texts)
   all_hashed texts p hashed planned (e ∷ es) own =
@@ -144,7 +144,7 @@ module _ (law : ServedAreMade) (users : List (List ℕ)) (limit : ℕ) (trust : 
       → All (IsHashed texts) table → All (Contains texts) (closure_texts (view_of run w u) (w u).pins classes sources)
       → All (IsHashed texts) (map source_of_entry entries)
   entries_hashed served plans texts hashed inside =
-      let planned = then_ok (plan (view_of run w u) (w u).pins classes sources) served_plan entries served in
+      let planned = then_ok (closure_plan (view_of run w u) (w u).pins classes sources) served_plan entries served in
       let p : Plan = planned.0 in
       let here = subst (λ o. All (Contains texts) (texts_of_plan o)) planned.1 inside in
       all_hashed texts p hashed planned.1 entries (λ e h. law p entries texts (plans p planned.1) planned.2 here e (contains_of entries e h))

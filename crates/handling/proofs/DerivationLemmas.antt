@@ -10,7 +10,7 @@ use Rattle.model.specs.Limits.{most_derivations}
 use Rattle.model.specs.Worlds.{Source, Setup, Desk}
 use Rattle.model.specs.Limits.{most_derivation_bytes}
 use Rattle.model.specs.Outcomes.{Outcome, becomes}
-use Rattle.model.specs.DerivationRequests.{told_of, admitted, admit_new, add_derivation}
+use Rattle.model.specs.DerivationRequests.{told_of_derivation, admitted, admit_new, add_derivation}
 use Rattle.aterm.specs.Refused.{IsNotRead}
 use Rattle.realise.specs.Holdings.{Holdings, holds_derivation}
 use Rattle.handling.specs.Sound.{desk_of, IsSound, Beside}
@@ -48,7 +48,7 @@ module _ (users : List (List ℕ)) (beside : Beside) (table : List Source) (limi
   pub over_fits : (a : Admission) → IsSound table limit d → known_at d.known (derivation_path derivation) ≡ None → admit d.known derivation ≡ Ok a → nat_le (length d.known.derivations + 1) most_derivations ≡ false → new_outcome ≡ Err Quota
   over_fits a sound none ok over = is_new (Ok a) none ok ∙ rw (is_within-derivation users beside table limit d a sound, over) refl
 
-  pub added_fits : (a : Admission) → IsSound table limit d → known_at d.known (derivation_path derivation) ≡ None → admit d.known derivation ≡ Ok a → nat_le (length d.known.derivations + 1) most_derivations ≡ true → new_outcome ≡ becomes (desk_of beside table (holds_derivation a d)) (told_of a)
+  pub added_fits : (a : Admission) → IsSound table limit d → known_at d.known (derivation_path derivation) ≡ None → admit d.known derivation ≡ Ok a → nat_le (length d.known.derivations + 1) most_derivations ≡ true → new_outcome ≡ becomes (desk_of beside table (holds_derivation a d)) (told_of_derivation a)
   added_fits a sound none ok within = is_new (Ok a) none ok ∙ rw (is_within-derivation users beside table limit d a sound, within) refl
 
 -- ---- a text

@@ -40,13 +40,13 @@ goals_sound_at table (first ∷ rest) (suc i) sound = goals_sound_at table rest 
 
 -- what a goal may yet be built from is stored
 pub goal_stored : (table : List Source) (goals : List Goal) (n : ℕ) (g : Goal) (r : Resolved) → AreGoalsSound table goals → goal_at n goals ≡ Some g
-    → is_planned g.state ≡ true → g.resolved ≡ Some r → All (IsStored table) r.closure
+    → is_planned g.status ≡ true → g.resolved ≡ Some r → All (IsStored table) r.closure
 goal_stored table goals zero g r sound there needs resolved = cc
 goal_stored table goals (suc n) g r sound there needs resolved =
     let at : get_or goals n g ≡ g = get_or_from_slice_get goals n g g there in
     let own : IsResolvedIn table (get_or goals n g) =
     All-get_or (IsResolvedIn table) goals n g (slice_get_within goals n g there) sound in
-    (own r (ap (λ (x : Goal). x.resolved) at ∙ resolved)).1 (ap (λ (x : Goal). is_planned x.state) at ∙ needs)
+    (own r (ap (λ (x : Goal). x.resolved) at ∙ resolved)).1 (ap (λ (x : Goal). is_planned x.status) at ∙ needs)
 
 -- ---- users who have no goals yet
 

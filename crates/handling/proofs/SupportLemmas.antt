@@ -47,7 +47,7 @@ goal_supported d goals (suc n) g supported there =
     subst (IsSupported d) (get_or_from_slice_get goals n g g there) (All-get_or (IsSupported d) goals n g (slice_get_within goals n g there) supported)
 
 -- a goal that is not being built needs nothing
-pub idle_supported : (d : Holdings) (g : Goal) → ((job : Job) → g.state ≢ Building job) → IsSupported d g
+pub idle_supported : (d : Holdings) (g : Goal) → ((job : Job) → g.status ≢ Building job) → IsSupported d g
 idle_supported d g idle job building r resolved = absurd (idle job building)
 
 -- nor does a new one

@@ -12,7 +12,7 @@ use Rattle.records.specs.Sound.{IsSoundPlan}
 
 -- the plan of the closure of classes and sources for a user, if there is one, has sound records
 abbrev pub HasSoundPlanOf : Setup → World → List ℕ → List (List ℕ) → List (List ℕ) → Type 0
-HasSoundPlanOf setup w u classes sources = (p : choices.Plan) → choices.plan (view_of setup w u) (w u).pins classes sources ≡ Ok p → IsSoundPlan p
+HasSoundPlanOf setup w u classes sources = (p : choices.Plan) → choices.closure_plan (view_of setup w u) (w u).pins classes sources ≡ Ok p → IsSoundPlan p
 
 -- so has that of what a goal of his is to be built from, if there is such
 abbrev pub HasSoundGoalPlan : Setup → World → List ℕ → ℕ → Type 0

@@ -89,7 +89,7 @@ IsStored table e = tree_at (path_of_entry e) table ≡ Some (tree_of_entry e)
 
 -- what a goal is built from is the closure of its inputs, of which the table has all trees while the goal may yet be built from them
 abbrev pub IsResolvedIn : List Source → Goal → Type 0
-IsResolvedIn table g = (r : Resolved) → g.resolved ≡ Some r → ∥ IsClosure r.closure ∥₁ × (is_planned g.state ≡ true → All (IsStored table) r.closure)
+IsResolvedIn table g = (r : Resolved) → g.resolved ≡ Some r → ∥ IsClosure r.closure ∥₁ × (is_planned g.status ≡ true → All (IsStored table) r.closure)
 
 -- so it is with each of a user's goals
 abbrev pub AreGoalsSound : List Source → List Goal → Type 0

@@ -23,7 +23,7 @@ IsEntryOn d e = has_labelled d (path_of_entry e) (class_of_entry e) ≡ true
 
 -- a goal that is being built has all that it is built from on a desk
 abbrev pub IsSupported : Holdings → Goal → Type 0
-IsSupported d g = (job : Job) → g.state ≡ Building job → (r : Resolved) → g.resolved ≡ Some r → All (IsEntryOn d) r.closure
+IsSupported d g = (job : Job) → g.status ≡ Building job → (r : Resolved) → g.resolved ≡ Some r → All (IsEntryOn d) r.closure
 
 -- so it is with each of a user's goals
 abbrev pub AreSupportedOn : Holdings → List Goal → Type 0

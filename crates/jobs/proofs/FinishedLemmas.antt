@@ -10,10 +10,10 @@ use Rattle.std.specs.Cmp.Lexicographic.{lists_per}
 use Rattle.std.proofs.lemmas.Bool.Decides.{nat_tests}
 use Rattle.std.proofs.lemmas.List.{set-set}
 use Rattle.model.specs.Classes.{Class}
-use Rattle.model.specs.Worlds.{Entry, OfSource, OfRecord, Label, Record, same_class, same_label, same_record, Resolved, State, Waiting, Planned, Building, Done, Failed, Goal}
-use Rattle.model.specs.Goals.{goal_at, in_state, new_goal, same_entry, same_resolved}
+use Rattle.model.specs.Worlds.{Entry, OfSource, OfRecord, Label, Record, same_class, same_label, same_record, Resolved, Status, Waiting, Planned, Building, Done, Failed, Goal}
+use Rattle.model.specs.Goals.{goal_at, in_status, new_goal, same_entry, same_resolved}
 use Rattle.model.proofs.BoolLemmas.{either, both_parts, same_bytes, bytes_same, bytes_eq_sym}
-use Rattle.jobs.specs.States.{is_done, path_in, are_same, is_alike}
+use Rattle.jobs.specs.Statuses.{is_done, path_in, are_same, is_alike}
 use Rattle.jobs.specs.Rising.{with_number, without_number}
 use Rattle.jobs.specs.Numbers.{numbers, numbers_at, room_at, has_scratch, is_built_under, is_done_under, finished, path_of_done, scratch_of, is_other_alike, undone, undone_at, ChangesAt, Exchanges, Finds, FindsFinished, HasRoom}
 use Rattle.jobs.proofs.NumberLemmas.{set_kept, with_one}
@@ -91,7 +91,7 @@ there_per {X = X} {same = same} laws = record { symm = both_ways; trans = along 
 pub alike_per : IsPartialEquivalence is_alike
 alike_per =
     and_per (on_per (λ (g : Goal). g.derivation) bytes_per)
-    (and_per (on_per (λ (g : Goal). path_in g.state) (there_per bytes_per)) (on_per (λ (g : Goal). g.resolved) (there_per resolved_per)))
+    (and_per (on_per (λ (g : Goal). path_in g.status) (there_per bytes_per)) (on_per (λ (g : Goal). g.resolved) (there_per resolved_per)))
 
 -- ---- the first of a list that passes
 
@@ -113,7 +113,7 @@ find_past p ns i past = ap (find p) (drop_of_length-le ns past)
 abbrev came : List ℕ → Goal → Bool
 came path g = is_done_under path 0 g
 
-path_done : (s : State) (o : Option (List ℕ)) → are_same bytes_eq (path_in s) o ≡ true → is_done s ≡ true
+path_done : (s : Status) (o : Option (List ℕ)) → are_same bytes_eq (path_in s) o ≡ true → is_done s ≡ true
 path_done Waiting o t = cc
 path_done Planned o t = cc
 path_done (Building job) o t = cc
@@ -131,13 +131,13 @@ same_scratch path (Some q) (Some r) t h =
 alike_came : (path : List ℕ) (x y : Goal) → is_alike x y ≡ true → came path y ≡ true → came path x ≡ true
 alike_came path x y alike h =
     let rest = (both_parts (bytes_eq x.derivation y.derivation) _ alike).1 in
-    let parts = both_parts (are_same bytes_eq (path_in x.state) (path_in y.state)) (are_same same_resolved x.resolved y.resolved) rest in
-    let done : is_done x.state ≡ true = path_done x.state (path_in y.state) parts.0 in
+    let parts = both_parts (are_same bytes_eq (path_in x.status) (path_in y.status)) (are_same same_resolved x.resolved y.resolved) rest in
+    let done : is_done x.status ≡ true = path_done x.status (path_in y.status) parts.0 in
     let under : has_scratch path x.resolved ≡ true =
-    same_scratch path x.resolved y.resolved parts.1 (both_parts (is_done y.state) (has_scratch path y.resolved) h).1 in
+    same_scratch path x.resolved y.resolved parts.1 (both_parts (is_done y.status) (has_scratch path y.resolved) h).1 in
     rw (done, under) refl
 
-came_where : (s : State) (o : Option Resolved) (path p : List ℕ) → (if is_done s then scratch_of o else None) ≡ Some path
+came_where : (s : Status) (o : Option Resolved) (path p : List ℕ) → (if is_done s then scratch_of o else None) ≡ Some path
     → (is_done s && has_scratch p o) ≡ bytes_eq path p
 came_where Waiting o path p e = cc
 came_where Planned o path p e = cc
@@ -146,7 +146,7 @@ came_where (Done by) None path p e = cc
 came_where (Done by) (Some r) path p e = let same : r.scratch ≡ path = cc in ap (λ s. bytes_eq s p) same
 came_where (Failed why) o path p e = cc
 
-came_nowhere : (s : State) (o : Option Resolved) (p : List ℕ) → (if is_done s then scratch_of o else None) ≡ None
+came_nowhere : (s : Status) (o : Option Resolved) (p : List ℕ) → (if is_done s then scratch_of o else None) ≡ None
     → (is_done s && has_scratch p o) ≡ false
 came_nowhere Waiting o p e = refl
 came_nowhere Planned o p e = refl
@@ -189,31 +189,31 @@ no_both false = refl
 
 module _ (gs : List Goal) (i : ℕ) (y : Goal) (at : slice_get gs i ≡ Some y) where
   waiting : Goal
-  waiting = in_state Waiting y
+  waiting = in_status Waiting y
 
   abbrev before : List Goal
-  before = slice_set gs i (in_state Waiting y)
+  before = slice_set gs i (in_status Waiting y)
 
   abbrev another : ℕ → Bool
   another = is_other_alike (suc i) gs
 
-  at_before : slice_get before i ≡ Some (in_state Waiting y)
-  at_before = get_set gs i y (in_state Waiting y) at
+  at_before : slice_get before i ≡ Some (in_status Waiting y)
+  at_before = get_set gs i y (in_status Waiting y) at
 
   again : slice_set before i y ≡ gs
-  again = set_again gs i y (in_state Waiting y) at
+  again = set_again gs i y (in_status Waiting y) at
 
   another_at : (j : ℕ) (x : Goal) → slice_get before j ≡ Some x → j ≢ i → another (1 + j) ≡ is_alike x y
   another_at j x there other =
       let one : 1 + j ≡ suc j = omega arith in
-      let here : slice_get gs j ≡ Some x = sym (get_other gs i j (in_state Waiting y) other) ∙ there in
+      let here : slice_get gs j ≡ Some x = sym (get_other gs i j (in_status Waiting y) other) ∙ there in
       rw (one, other_number i j other, here, at) refl
 
   another_here : (x : Goal) → slice_get before i ≡ Some x → another (1 + i) ≡ is_alike x y
   another_here x there =
       let one : 1 + i ≡ suc i = omega arith in
-      let is : in_state Waiting y ≡ x = some_goal (in_state Waiting y) x (sym at_before ∙ there) in
-      let none : is_alike (in_state Waiting y) y ≡ false = no_both (bytes_eq y.derivation y.derivation) in
+      let is : in_status Waiting y ≡ x = some_goal (in_status Waiting y) x (sym at_before ∙ there) in
+      let none : is_alike (in_status Waiting y) y ≡ false = no_both (bytes_eq y.derivation y.derivation) in
       let not_it : another (suc i) ≡ false = rw (not_itself i) refl in
       ap another one ∙ not_it ∙ sym none ∙ ap (λ (z : Goal). is_alike z y) is
     where
@@ -231,21 +231,21 @@ module _ (gs : List Goal) (i : ℕ) (y : Goal) (at : slice_get gs i ≡ Some y) 
   -- under a path under which it is not done nothing else is found
   same_elsewhere : (path : List ℕ) → came path y ≡ false → finished path before ≡ finished path gs
   same_elsewhere path fails =
-      out_set (came path) is_alike alike_per (λ g. false) y (in_state Waiting y) 1 i gs at (rw fails refl) refl
+      out_set (came path) is_alike alike_per (λ g. false) y (in_status Waiting y) 1 i gs at (rw fails refl) refl
 
   module _ (path : List ℕ) (passes : came path y ≡ true) where
     -- the first that came to the same is found among those that are built under the path
     found_among : find another (numbers (is_built_under path) 1 before) ≡ find another (finished path before)
     found_among =
         found_first (came path) is_alike alike_per y another (is_built_under path) (λ g. false) 1 before
-        (λ n x t. (both_parts (is_done x.state) (has_scratch path x.resolved) t).1)
+        (λ n x t. (both_parts (is_done x.status) (has_scratch path x.resolved) t).1)
         (λ x t. (alike_came path x y t passes, refl))
         another_anywhere
 
     alone : find another (finished path before) ≡ None
         → (finished path gs ≡ with_number (suc i) (finished path before)) × (finished path before ≡ without_number (suc i) (finished path gs))
     alone none =
-        let so = shift_none (came path) is_alike alike_per y another (in_state Waiting y) passes refl (λ g. false) 1 (suc i) i before at_before
+        let so = shift_none (came path) is_alike alike_per y another (in_status Waiting y) passes refl (λ g. false) 1 (suc i) i before at_before
         (omega arith) refl another_at none in
         (ap (finished path) (sym again) ∙ so.0, so.1 ∙ ap (λ l. without_number (suc i) (finished path l)) again)
 
@@ -254,7 +254,7 @@ module _ (gs : List Goal) (i : ℕ) (y : Goal) (at : slice_get gs i ≡ Some y) 
         ⊎ ((suc i < r) × (finished path gs ≡ with_number (suc i) (without_number r (finished path before)))
         × (finished path before ≡ with_number r (without_number (suc i) (finished path gs))))
     beside r found =
-        elim (shift_some (came path) is_alike alike_per y another (in_state Waiting y) passes refl (λ g. false) 1 (suc i) i r before at_before
+        elim (shift_some (came path) is_alike alike_per y another (in_status Waiting y) passes refl (λ g. false) 1 (suc i) i r before at_before
         (omega arith) refl another_at found) [
           | inl so ↦ inl (so.0, ap (finished path) (sym again) ∙ so.1)
           | inr so ↦ inr (so.0, ap (finished path) (sym again) ∙ so.1, so.2 ∙ ap (λ l. with_number r (without_number (suc i) (finished path l))) again)
@@ -262,12 +262,12 @@ module _ (gs : List Goal) (i : ℕ) (y : Goal) (at : slice_get gs i ≡ Some y) 
 
 -- ---- the goal of a number
 
-undone_is : (gs : List Goal) (i : ℕ) (y : Goal) → goal_at (suc i) gs ≡ Some y → slice_set gs i (in_state Waiting y) ≡ undone (suc i) gs
+undone_is : (gs : List Goal) (i : ℕ) (y : Goal) → goal_at (suc i) gs ≡ Some y → slice_set gs i (in_status Waiting y) ≡ undone (suc i) gs
 undone_is gs i y at = ap (λ o. undone_at (suc i) o gs) (sym at)
 
 still_built : (path : List ℕ) (gs : List Goal) (i : ℕ) (y : Goal) → goal_at (suc i) gs ≡ Some y
-    → numbers (is_built_under path) 1 gs ≡ numbers (is_built_under path) 1 (slice_set gs i (in_state Waiting y))
-still_built path gs i y at = rw sub-one at (set_kept (is_built_under path) (suc i) gs y (in_state Waiting y) at refl)
+    → numbers (is_built_under path) 1 gs ≡ numbers (is_built_under path) 1 (slice_set gs i (in_status Waiting y))
+still_built path gs i y at = rw sub-one at (set_kept (is_built_under path) (suc i) gs y (in_status Waiting y) at refl)
 
 module _ (gs : List Goal) where
   abbrev other : ℕ → ℕ → Bool
@@ -283,7 +283,7 @@ module _ (gs : List Goal) where
   found_built zero y at path passes = cc
   found_built (suc i) y at path passes =
       ap (find (other (suc i))) (still_built path gs i y at)
-      ∙ subst (λ us. find (other (suc i)) (numbers (is_built_under path) 1 (slice_set gs i (in_state Waiting y))) ≡ find (other (suc i)) (finished path us))
+      ∙ subst (λ us. find (other (suc i)) (numbers (is_built_under path) 1 (slice_set gs i (in_status Waiting y))) ≡ find (other (suc i)) (finished path us))
       (undone_is gs i y at) (found_among gs i y at path passes)
 
   is_alone : (n : ℕ) (y : Goal) → goal_at n gs ≡ Some y → (path : List ℕ) → came path y ≡ true → find (other n) (finished path (undone n gs)) ≡ None
@@ -310,16 +310,16 @@ module _ (gs : List Goal) where
   fewer_now : (path : List ℕ) → length (finished path gs) ≤ length (numbers (is_built_under path) 1 gs)
   fewer_now path =
       fewer_first (came path) is_alike alike_per (is_built_under path)
-      (λ n x t. (both_parts (is_done x.state) (has_scratch path x.resolved) t).1) (λ g. false) 1 gs
+      (λ n x t. (both_parts (is_done x.status) (has_scratch path x.resolved) t).1) (λ g. false) 1 gs
 
   fewer_undone : (n : ℕ) (y : Goal) → goal_at n gs ≡ Some y → (path : List ℕ)
       → length (finished path (undone n gs)) ≤ length (numbers (is_built_under path) 1 gs)
   fewer_undone zero y at path = cc
   fewer_undone (suc i) y at path =
-      let us : List Goal = slice_set gs i (in_state Waiting y) in
+      let us : List Goal = slice_set gs i (in_status Waiting y) in
       let few : length (finished path us) ≤ length (numbers (is_built_under path) 1 us) =
       fewer_first (came path) is_alike alike_per (is_built_under path)
-      (λ n x t. (both_parts (is_done x.state) (has_scratch path x.resolved) t).1) (λ g. false) 1 us in
+      (λ n x t. (both_parts (is_done x.status) (has_scratch path x.resolved) t).1) (λ g. false) 1 us in
       let same : length (finished path us) ≡ length (finished path (undone (suc i) gs)) = ap (λ vs. length (finished path vs)) (undone_is gs i y at) in
       let all : length (numbers (is_built_under path) 1 gs) ≡ length (numbers (is_built_under path) 1 us) = ap length (still_built path gs i y at) in
       omega (arith, few, same, all)
@@ -361,14 +361,14 @@ room_for_one m path ns all goals built done finds room is few =
 -- a goal of which nothing is found
 pub undo_nothing : (gs : List Goal) (n : ℕ) (y : Goal) → goal_at n gs ≡ Some y → path_of_done (Some y) ≡ None → (p : List ℕ)
     → finished p (undone n gs) ≡ finished p gs
-undo_nothing gs n y at none p = elsewhere gs n y at p (came_nowhere y.state y.resolved p none)
+undo_nothing gs n y at none p = elsewhere gs n y at p (came_nowhere y.status y.resolved p none)
 
 module _ (gs : List Goal) (n : ℕ) (y : Goal) (at : goal_at n gs ≡ Some y) (path : List ℕ) (ends : path_of_done (Some y) ≡ Some path) where
   came_here : came path y ≡ true
-  came_here = came_where y.state y.resolved path path ends ∙ bytes_same path
+  came_here = came_where y.status y.resolved path path ends ∙ bytes_same path
 
   elsewhere_alike : (p : List ℕ) → bytes_eq path p ≡ false → finished p (undone n gs) ≡ finished p gs
-  elsewhere_alike p f = elsewhere gs n y at p (came_where y.state y.resolved path p ends ∙ f)
+  elsewhere_alike p f = elsewhere gs n y at p (came_where y.status y.resolved path p ends ∙ f)
 
   -- it is found from now on
   module _ (old : List (List ℕ × Ascending)) (finds : FindsFinished (undone n gs) old) where
@@ -446,11 +446,11 @@ module _ (gs : List Goal) (n : ℕ) (y : Goal) (at : goal_at n gs ≡ Some y) (p
 -- ---- one goal is written
 
 -- one that was done or not, and is not done now
-pub finished_written : (gs : List Goal) (n : ℕ) (g y : Goal) → goal_at n gs ≡ Some g → is_done y.state ≡ false → (p : List ℕ)
+pub finished_written : (gs : List Goal) (n : ℕ) (g y : Goal) → goal_at n gs ≡ Some g → is_done y.status ≡ false → (p : List ℕ)
     → finished p (undone n gs) ≡ finished p (slice_set gs (n - 1) y)
 finished_written gs zero g y at not_done p = cc
 finished_written gs (suc i) g y at not_done p =
-    let w : Goal = in_state Waiting g in
+    let w : Goal = in_status Waiting g in
     let us : List Goal = slice_set gs i w in
     let same : finished p (slice_set us i y) ≡ finished p us =
     out_set (came p) is_alike alike_per (λ x. false) w y 1 i us (get_set gs i g w at) refl (rw not_done refl) in
@@ -461,7 +461,7 @@ pub undone_written : (gs : List Goal) (n : ℕ) (g y : Goal) → goal_at n gs �
     → finished p (undone n gs) ≡ finished p (undone n (slice_set gs (n - 1) y))
 undone_written gs zero g y at p = cc
 undone_written gs (suc i) g y at p =
-    let w : Goal = in_state Waiting y in
+    let w : Goal = in_status Waiting y in
     let now : goal_at (suc i) (slice_set gs i y) ≡ Some y = get_set gs i g y at in
     rw sub-one (finished_written gs (suc i) g w at refl p ∙ ap (λ k. finished p (slice_set gs k w)) (sub-one (suc i))
     ∙ ap (finished p) (sym (set-set gs i y w) ∙ undone_is (slice_set gs i y) i y now))

@@ -4,7 +4,7 @@ use Rattle.std.specs.Prelude.{flat_map, option_map, slice_get, slice_index_or, �
 use Rattle.std.specs.Cmp.Lexicographic.{pointwise}
 use Rattle.std.proofs.Math.Seq.{drop-cons}
 use Rattle.std.proofs.Math.ListN.{drop_of_length-le}
-use Rattle.model.specs.Worlds.{Resolved, Job, State, Waiting, Planned, Building, Done, Failed, Goal}
+use Rattle.model.specs.Worlds.{Resolved, Job, Status, Waiting, Planned, Building, Done, Failed, Goal}
 use Rattle.model.specs.Goals.{goal_at, is_in, job_before, running_before, job_or, job_of, same_entry, same_resolved, Running, running_in, led_by, job_in}
 use Rattle.model.specs.Orders.{least_from, lesser}
 use Rattle.model.proofs.BoolLemmas.{either, both_parts}
@@ -45,7 +45,7 @@ among_done r goals ns i least all above before =
     let none : drop i ns ≡ [] = drop_of_length-le ns above in
     sym (ap (λ ms. least_from job_before least (jobs_among r goals ms)) none) ∙ before
 
-job_in_own : (own : Job) (s : State) → is_in own s ≡ true → job_in s ≡ Some own
+job_in_own : (own : Job) (s : Status) → is_in own s ≡ true → job_in s ≡ Some own
 job_in_own own Waiting t = cc
 job_in_own own Planned t = cc
 job_in_own own (Building other) t = ap (λ j. Some j) (job_same other own t)
@@ -83,7 +83,7 @@ not_both : (b : Bool) → (b && false) ≡ false
 not_both true = refl
 not_both false = refl
 
-one_goal : (r : Resolved) (own : Job) (s : State) (from : Option Resolved) (f : ℕ → Option Job) (k : ℕ) (ns : List ℕ) (led : List Running)
+one_goal : (r : Resolved) (own : Job) (s : Status) (from : Option Resolved) (f : ℕ → Option Job) (k : ℕ) (ns : List ℕ) (led : List Running)
     → f k ≡ (if same_as r from then job_in s else None) → flat_map (λ n. listed (f n)) ns ≡ jobs_with r led
     → flat_map (λ n. listed (f n)) (if is_in own s && has_scratch r.scratch from then k ∷ ns else ns) ≡ jobs_with r (running_in own s from ++ led)
 one_goal r own s None f k ns led here rest = rw (not_both (is_in own s)) rest
@@ -104,7 +104,7 @@ led_from r owner f k (g ∷ gs) same =
     let none : k + zero ≡ k = omega arith in
     let here : f k ≡ job_with r (Some g) = rw none at (same zero g refl) in
     let next : (i : ℕ) → suc k + i ≡ k + suc i = λ i. (omega arith) in
-    one_goal r (own_job owner k) g.state g.resolved f k (numbers (leads_at owner r.scratch) (suc k) gs) (led_by owner (suc k) gs) here
+    one_goal r (own_job owner k) g.status g.resolved f k (numbers (leads_at owner r.scratch) (suc k) gs) (led_by owner (suc k) gs) here
     (led_from r owner f (suc k) gs (λ i x at. ap f (next i) ∙ same (suc i) x at))
 
 pub led_among : (r : Resolved) (owner : List ℕ) (gs : List Goal) → jobs_among r gs (numbers (leads_at owner r.scratch) 1 gs) ≡ jobs_with r (led_by owner 1 gs)
@@ -163,7 +163,7 @@ none_led all r place none =
     let owner : List ℕ = name_at all.users place in
     sym (led_among r owner gs)
     ∙ ap (jobs_among r gs) (none_fewer (leads_at owner r.scratch) (is_built_under r.scratch) 1 gs
-    (λ n g t. (both_parts (is_in (own_job owner n) g.state) (has_scratch r.scratch g.resolved) t).1) none)
+    (λ n g t. (both_parts (is_in (own_job owner n) g.status) (has_scratch r.scratch g.resolved) t).1) none)
 
 -- those of a set who are left out lead no such job
 pub jobs_near : (all : OwnedByAll) (r : Resolved) (set near : ℕ → Bool) (place count : ℕ) → ((v : ℕ) → near v ≡ true → set v ≡ true)

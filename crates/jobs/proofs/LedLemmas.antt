@@ -16,7 +16,7 @@ not_in false kept why check is e = cc
 
 not_led : (job : Job) (o : Option Goal) (why : Refusal) → leading job o ≡ Err why → led_job job o ≡ Err why
 not_led job None why e = cc
-not_led job (Some g) why e = not_in (is_in job g.state) (with_kept job g.resolved) why (leading job (Some g)) refl e
+not_led job (Some g) why e = not_in (is_in job g.status) (with_kept job g.resolved) why (leading job (Some g)) refl e
 
 pub is_refused : (job : Job) (o : Option Goal) (why : Refusal) → leading job o ≡ Err why → IsAnswerTo (led_job job o) (Err why)
 is_refused job o why e = record { value = inr (not_led job o why e); at_once = λ other f. sym (not_led job o why e) ∙ f }

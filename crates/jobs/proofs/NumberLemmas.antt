@@ -122,7 +122,7 @@ numbers_push t k (g ∷ gs) y fail = elim (either (t k g)) [
 pub members_are : (job : Job) (k : ℕ) (gs : List Goal) → numbers (is_of job) k gs ≡ members job k gs
 unfolding numbers members
 members_are job k [] = refl
-members_are job k (g ∷ gs) = elim (either (is_in job g.state)) [
+members_are job k (g ∷ gs) = elim (either (is_in job g.status)) [
   | inl t ↦ rw t (ap (λ r. k ∷ r) (members_are job (suc k) gs))
   | inr f ↦ rw f (members_are job (suc k) gs)
 ]

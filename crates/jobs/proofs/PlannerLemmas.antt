@@ -8,15 +8,15 @@ use Rattle.std.proofs.lemmas.Bool.Decides.{nat_tests}
 use Rattle.std.proofs.lemmas.List.{get_or-set_same, get_or-set_other}
 use Rattle.std.proofs.lemmas.List.{set-get_or}
 use Rattle.model.proofs.BoolLemmas.{either, both_parts, same_bytes}
-use Rattle.model.specs.Worlds.{Resolved, State, Goal}
-use Rattle.model.specs.Goals.{goal_at, with_goal_at, in_state, new_goal, is_building}
+use Rattle.model.specs.Worlds.{Resolved, Status, Goal}
+use Rattle.model.specs.Goals.{goal_at, with_goal_at, in_status, new_goal, is_building}
 use Rattle.model.specs.ForgetRequests.{is_built_from, let_go}
 use Rattle.trust.specs.Trusting.{holds}
 use Rattle.trust.proofs.RowLemmas.{eq_cases, holds_set}
 use Rattle.jobs.specs.Owned.{Owned, OwnedByAll, with_goals, goals_at, with_goals_at, all_of, goal_of, ChangesOwn}
 use Rattle.jobs.specs.Rising.{without_number}
 use Rattle.jobs.specs.Numbers.{numbers, has_scratch, is_built_under, is_done_under}
-use Rattle.jobs.specs.States.{is_done, planned_with, IsIdle}
+use Rattle.jobs.specs.Statuses.{is_done, planned_with, IsIdle}
 use Rattle.jobs.specs.Planners.{word_at, AddsPlace, HasPlannersOfAll}
 use Rattle.jobs.proofs.NumberLemmas.{set_left, set_kept, written, pushed, some_at}
 use Rattle.jobs.proofs.UserLemmas.{goals_read, goals_written}
@@ -39,7 +39,7 @@ none_fewer t u k (g ∷ gs) fewer none = elim (either (t k g)) [
 -- where no goal is built under a path, none is done under it
 pub none_done : (path : List ℕ) (gs : List Goal) → numbers (is_built_under path) 1 gs ≡ [] → numbers (is_done_under path) 1 gs ≡ []
 none_done path gs none =
-    none_fewer (is_done_under path) (is_built_under path) 1 gs (λ n g t. (both_parts (is_done g.state) (has_scratch path g.resolved) t).1) none
+    none_fewer (is_done_under path) (is_built_under path) 1 gs (λ n g t. (both_parts (is_done g.status) (has_scratch path g.resolved) t).1) none
 
 -- one goal changes, and does not pass
 none_left : (t : ℕ → Goal → Bool) (n : ℕ) (gs : List Goal) (g y : Goal) → goal_at n gs ≡ Some g → t n y ≡ false → numbers t 1 gs ≡ []
@@ -111,13 +111,13 @@ planners_added words place derivation all below before =
     (λ k out. sym (pushed (is_built_under k) gs (new_goal derivation) (λ n. refl)) ∙ before k place out)
 
 -- a goal is built from what it was built from
-pub planners_in_state : (words : List (List ℕ × ℕ)) (place n : ℕ) (g : Goal) (s : State) (all : OwnedByAll) → place < length all.goals
+pub planners_in_status : (words : List (List ℕ × ℕ)) (place n : ℕ) (g : Goal) (s : Status) (all : OwnedByAll) → place < length all.goals
     → goal_at n (goals_at place all) ≡ Some g → HasPlannersOfAll words all
-    → HasPlannersOfAll words (with_goals_at place (with_goal_at n (in_state s g) (goals_at place all)) all)
-planners_in_state words place n g s all below at before =
+    → HasPlannersOfAll words (with_goals_at place (with_goal_at n (in_status s g) (goals_at place all)) all)
+planners_in_status words place n g s all below at before =
     let gs : List Goal = goals_at place all in
-    planners_changed words place (with_goal_at n (in_state s g) gs) all below before
-    (λ k out. same_left (is_built_under k) n gs g (in_state s g) at refl ∙ before k place out)
+    planners_changed words place (with_goal_at n (in_status s g) gs) all below before
+    (λ k out. same_left (is_built_under k) n gs g (in_status s g) at refl ∙ before k place out)
 
 -- goals that change, and are built from what they were built from
 numbers_mapped : (t : ℕ → Goal → Bool) (f : Goal → Goal) (k : ℕ) (gs : List Goal) → ((n : ℕ) (g : Goal) → t n (f g) ≡ t n g)
@@ -130,7 +130,7 @@ numbers_mapped t f k (g ∷ gs) same = elim (either (t k g)) [
 ]
 
 let_go_under : (k class path : List ℕ) (n : ℕ) (g : Goal) → is_built_under k n (let_go class path g) ≡ is_built_under k n g
-let_go_under k class path n g = elim (either (is_building g.state && is_built_from class path g.resolved)) [ inl t ↦ rw t refl | inr f ↦ rw f refl ]
+let_go_under k class path n g = elim (either (is_building g.status && is_built_from class path g.resolved)) [ inl t ↦ rw t refl | inr f ↦ rw f refl ]
 
 -- goals are let go
 planners_let_go : (words : List (List ℕ × ℕ)) (place : ℕ) (class path : List ℕ) (all : OwnedByAll) → place < length all.goals → HasPlannersOfAll words all
@@ -193,13 +193,13 @@ module _ (all : OwnedByAll) (each : List Owned) (place : ℕ) (x y : Owned) (sam
   let_go_written class path is before =
       by_goals (map (let_go class path)) is (planners_let_go words place class path all below (subst (HasPlannersOfAll words) same before))
 
-  pub state_written : (n : ℕ) (s : State) → is_some (goal_of place n all) ≡ true → ChangesOwn n (in_state s) x y → HasPlannersOfAll words (all_of each)
+  pub status_written : (n : ℕ) (s : Status) → is_some (goal_of place n all) ≡ true → ChangesOwn n (in_status s) x y → HasPlannersOfAll words (all_of each)
       → HasPlannersOfAll words (all_of (slice_set each place y))
-  state_written n s there changes before =
+  status_written n s there changes before =
       let g = some_at (goal_of place n all) there in
       let at : goal_at n x.goals ≡ Some g.0 = ap (goal_at n) (sym own) ∙ g.1 in
-      by_goals (with_goal_at n (in_state s g.0)) (changes g.0 at)
-      (planners_in_state words place n g.0 s all below g.1 (subst (HasPlannersOfAll words) same before))
+      by_goals (with_goal_at n (in_status s g.0)) (changes g.0 at)
+      (planners_in_status words place n g.0 s all below g.1 (subst (HasPlannersOfAll words) same before))
 
   pub planned_written : (old : List (List ℕ × ℕ)) (n : ℕ) (r : Resolved) → is_some (goal_of place n all) ≡ true → ChangesOwn n (planned_with r) x y
       → AddsPlace r.scratch place old words → HasPlannersOfAll old (all_of each) → HasPlannersOfAll words (all_of (slice_set each place y))

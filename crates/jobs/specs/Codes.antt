@@ -5,7 +5,7 @@ use Rattle.std.specs.Coded.{Coded, code_by, coded×, coded⊎, coded_ℕ, coded_
 use Rattle.model.specs.declared.refusal.Refusal.{Refusal}
 use Rattle.model.specs.declared.refusal.Refusal.TheVariants.{UnknownUser, Quota, BadUsers, BadName, TooLarge, BadNar, BadPath, BadLine, BadDerivation, MissingInput, RankTooHigh, UnknownDerivation, UnknownGoal, WrongState, NotRealised, RewriteRefused, NotHeld, ClosureTooLarge, InUse, BuilderFailed, BadOutput, InputFault, OutputFault, Memory, Clash, Stopped}
 use Rattle.model.specs.declared.refusal.RewriteFault.TheVariants.{InName, Overlap, Accidental}
-use Rattle.model.specs.Worlds.{Resolved, Job, State, Waiting, Planned, Building, Done, Failed, Goal}
+use Rattle.model.specs.Worlds.{Resolved, Job, Status, Waiting, Planned, Building, Done, Failed, Goal}
 use Rattle.records.specs.Codes.{resolved_code}
 use Rattle.events.specs.Codes.{job_code}
 use Rattle.jobs.specs.Owned.{Owned, OwnedByAll}
@@ -83,25 +83,25 @@ refusal_code = code_by ℕ coded_ℕ place_of refusal_at refused_back
     refused_back Clash = refl
     refused_back Stopped = refl
 
-abbrev pub state_code : Coded State
-state_code = code_by (Option Job ⊎ (Option (List ℕ) ⊎ Refusal))
+abbrev pub status_code : Coded Status
+status_code = code_by (Option Job ⊎ (Option (List ℕ) ⊎ Refusal))
     (coded⊎ (coded_option job_code) (coded⊎ (coded_option (coded_list coded_ℕ)) refusal_code)) parts_of made_of back
   where
-    parts_of : State → Option Job ⊎ (Option (List ℕ) ⊎ Refusal)
+    parts_of : Status → Option Job ⊎ (Option (List ℕ) ⊎ Refusal)
     parts_of Waiting = inl None
     parts_of Planned = inr (inl None)
     parts_of (Building job) = inl (Some job)
     parts_of (Done path) = inr (inl (Some path))
     parts_of (Failed why) = inr (inr why)
 
-    made_of : Option Job ⊎ (Option (List ℕ) ⊎ Refusal) → State
+    made_of : Option Job ⊎ (Option (List ℕ) ⊎ Refusal) → Status
     made_of (inl None) = Waiting
     made_of (inl (Some job)) = Building job
     made_of (inr (inl None)) = Planned
     made_of (inr (inl (Some path))) = Done path
     made_of (inr (inr why)) = Failed why
 
-    back : (s : State) → made_of (parts_of s) ≡ s
+    back : (s : Status) → made_of (parts_of s) ≡ s
     back Waiting = refl
     back Planned = refl
     back (Building job) = refl
@@ -110,8 +110,8 @@ state_code = code_by (Option Job ⊎ (Option (List ℕ) ⊎ Refusal))
 
 abbrev pub goal_code : Coded Goal
 goal_code =
-    code_by (List ℕ × (Option Resolved × State)) (coded× (coded_list coded_ℕ) (coded× (coded_option resolved_code) state_code))
-    (λ g. (g.derivation, (g.resolved, g.state))) (λ p. record { derivation = p.0; resolved = p.1.0; state = p.1.1 }) (λ _. refl)
+    code_by (List ℕ × (Option Resolved × Status)) (coded× (coded_list coded_ℕ) (coded× (coded_option resolved_code) status_code))
+    (λ g. (g.derivation, (g.resolved, g.status))) (λ p. record { derivation = p.0; resolved = p.1.0; status = p.1.1 }) (λ _. refl)
 
 abbrev pub owned_code : Coded Owned
 owned_code =

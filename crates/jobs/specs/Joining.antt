@@ -20,7 +20,7 @@ same_as r (Some q) = same_resolved q r
 -- the job in which a goal that is there is built, if it is built from the same
 abbrev pub job_with : Resolved → Option Goal → Option Job
 job_with r None = None
-job_with r (Some g) = if same_as r g.resolved then job_in g.state else None
+job_with r (Some g) = if same_as r g.resolved then job_in g.status else None
 
 abbrev pub listed : Option Job → List Job
 listed None = []

@@ -9,7 +9,7 @@ use Rattle.trust.specs.Trusting.{IsReach}
 -- that a goal leads a job, or why it does not
 abbrev pub leading : Job → Option Goal → Result (Unit {0}) Refusal
 leading job None = Err UnknownGoal
-leading job (Some g) = if is_in job g.state then Ok tt else Err WrongState
+leading job (Some g) = if is_in job g.status then Ok tt else Err WrongState
 
 -- these are the numbers of the goals in a job of the user at a place, if he reaches its leader, and else there are none
 pub record AreReached (trust : ℕ → ℕ → Bool) (leader : ℕ) (job : Job) (goals : List Goal) (place : ℕ) (numbers : List ℕ) : Type 0 where

@@ -1,6 +1,6 @@
 pub mod Owned
 pub mod Codes
-pub mod States
+pub mod Statuses
 pub mod Rising
 pub mod Numbers
 pub mod Planners

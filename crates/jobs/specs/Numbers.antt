@@ -1,9 +1,9 @@
 -- Goals by their numbers, and ascending lists of numbers by keys.
 use Rattle.std.specs.Prelude.{◌≡◌, ◌≤◌, ℕ, suc, ◌==◌, Bool, true, false, not, ◌&&◌, ◌||◌, if◌then◌else◌, List, [], ◌∷◌, length, vec_capacity, bytes_eq, Option, None, Some, option_map}
 use Rattle.std.specs.Map.{lookup}
-use Rattle.model.specs.Worlds.{Resolved, Job, State, Waiting, Building, Goal}
-use Rattle.model.specs.Goals.{goal_at, with_goal_at, in_state, is_in, same_job}
-use Rattle.jobs.specs.States.{is_done, are_same, is_alike}
+use Rattle.model.specs.Worlds.{Resolved, Job, Status, Waiting, Building, Goal}
+use Rattle.model.specs.Goals.{goal_at, with_goal_at, in_status, is_in, same_job}
+use Rattle.jobs.specs.Statuses.{is_done, are_same, is_alike}
 use Rattle.jobs.specs.declared.ascending.Ascending.{Ascending}
 use Rattle.jobs.specs.Rising.{with_number, without_number}
 
@@ -47,7 +47,7 @@ numbers test n (g ∷ gs) = if test n g then n ∷ numbers test (suc n) gs else 
 
 -- whether a goal is built in a job
 abbrev pub is_of : Job → ℕ → Goal → Bool
-is_of job n g = is_in job g.state
+is_of job n g = is_in job g.status
 
 abbrev pub has_scratch : List ℕ → Option Resolved → Bool
 has_scratch path None = false
@@ -59,7 +59,7 @@ own_job owner n = record { leader = owner; number = n }
 
 -- whether a user's goal leads its own job, and that is built under a path
 abbrev pub leads_at : List ℕ → List ℕ → ℕ → Goal → Bool
-leads_at owner path n g = is_in (own_job owner n) g.state && has_scratch path g.resolved
+leads_at owner path n g = is_in (own_job owner n) g.status && has_scratch path g.resolved
 
 -- whether a goal was planned, and is built under a path
 abbrev pub is_built_under : List ℕ → ℕ → Goal → Bool
@@ -67,7 +67,7 @@ is_built_under path n g = has_scratch path g.resolved
 
 -- whether a goal is done, and was built under a path
 abbrev pub is_done_under : List ℕ → ℕ → Goal → Bool
-is_done_under path n g = is_done g.state && has_scratch path g.resolved
+is_done_under path n g = is_done g.status && has_scratch path g.resolved
 
 -- the numbers of those goals that pass a test and are new, of several that are alike that of the first; none is new that is seen already
 unfoldable pub firsts : (ℕ → Goal → Bool) → (Goal → Goal → Bool) → (Goal → Bool) → ℕ → List Goal → List ℕ
@@ -85,7 +85,7 @@ scratch_of from = option_map (λ r. r.scratch) from
 -- the path under which a goal was built, if it is done
 abbrev pub path_of_done : Option Goal → Option (List ℕ)
 path_of_done None = None
-path_of_done (Some g) = if is_done g.state then scratch_of g.resolved else None
+path_of_done (Some g) = if is_done g.status then scratch_of g.resolved else None
 
 -- whether another goal came to the same as that of number n
 abbrev pub is_other_alike : ℕ → List Goal → ℕ → Bool
@@ -93,7 +93,7 @@ is_other_alike n goals m = not (m == n) && are_same is_alike (goal_at m goals) (
 
 abbrev pub undone_at : ℕ → Option Goal → List Goal → List Goal
 undone_at n None goals = goals
-undone_at n (Some g) goals = with_goal_at n (in_state Waiting g) goals
+undone_at n (Some g) goals = with_goal_at n (in_status Waiting g) goals
 
 -- goals of which that of number n waits
 abbrev pub undone : ℕ → List Goal → List Goal
@@ -143,8 +143,8 @@ EntersPath leads from n old new =
     (path : List ℕ) → numbers_at (bytes_eq path) new ≡ entered (leads && has_scratch path from) n (numbers_at (bytes_eq path) old)
 
 -- a goal leaves the job in which it is built
-abbrev pub LeavesJob : State → ℕ → List (Job × Ascending) → List (Job × Ascending) → Type 0
-LeavesJob state n old new = (k : Job) → numbers_at (same_job k) new ≡ left (is_in k state) n (numbers_at (same_job k) old)
+abbrev pub LeavesJob : Status → ℕ → List (Job × Ascending) → List (Job × Ascending) → Type 0
+LeavesJob status n old new = (k : Job) → numbers_at (same_job k) new ≡ left (is_in k status) n (numbers_at (same_job k) old)
 
 abbrev pub LeavesPath : Bool → Option Resolved → ℕ → List (List ℕ × Ascending) → List (List ℕ × Ascending) → Type 0
 LeavesPath builds from n old new =

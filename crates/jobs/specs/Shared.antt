@@ -42,7 +42,7 @@ trees entries = map tree_of_entry entries
 pub record IsLike (goal : Goal) (r q : Resolved) : Type 0 where
   pub built_from : goal.resolved ≡ Some q
   pub equal : equal_but_trees q r ≡ true
-  pub safe : (is_planned goal.state ≡ true) ⊎ (trees q.closure ≡ trees r.closure)
+  pub safe : (is_planned goal.status ≡ true) ⊎ (trees q.closure ≡ trees r.closure)
 
 -- one of the goals is such a goal
 pub record IsBuiltLike (goals : List Goal) (r q : Resolved) : Type 0 where

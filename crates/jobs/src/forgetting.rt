@@ -10,7 +10,7 @@ ghost use Rattle.jobs.specs.Owned.{with_goals, ChangesOwn};
 
 use crate::goal::Goal;
 use crate::goals::Goals;
-use events::State;
+use events::Status;
 use records::Entry;
 use storepath::StorePath;
 use trust::{Users, is_reached};
@@ -39,7 +39,7 @@ fn has_entry_at(class: &StorePath, path: &StorePath, entries: &[Entry]) -> bool
 
 /// Whether a goal is built in a job, and from the output of a class at a path.
 pub(crate) fn is_built_with(class: &StorePath, path: &StorePath, goal: &Goal) -> bool
-    ensures { result ≡ (is_building goal.now.state
+    ensures { result ≡ (is_building goal.now.status
         && is_built_from class.now path.now goal.now.resolved) }
 {
     match (goal.job(), goal.resolved()) {
@@ -113,7 +113,7 @@ impl Goals {
             return;
         };
         if is_built_with(class, path, goal) {
-            self.set_state(number, State::Waiting);
+            self.set_status(number, Status::Waiting);
         }
     }
 

@@ -2,32 +2,32 @@
 
 ghost use Rattle.std.specs.Prelude.{◌≡◌, None, Some, IfNone, IfSome, option_copied};
 ghost use Rattle.model.specs.Worlds.{Resolved as ResolvedValue};
-ghost use Rattle.model.specs.Goals.{in_state, new_goal, job_in};
-ghost use Rattle.events.specs.States.{state_of};
-ghost use Rattle.jobs.specs.States.{path_in, is_alike, planned_with};
+ghost use Rattle.model.specs.Goals.{in_status, new_goal, job_in};
+ghost use Rattle.events.specs.Statuses.{status_of};
+ghost use Rattle.jobs.specs.Statuses.{path_in, is_alike, planned_with};
 ghost use Rattle.jobs.specs.Joining.{same_as};
 ghost use Rattle.jobs.specs.Shared.{IsLike};
 ghost use Rattle.model.specs.KeptClosures.{is_planned};
 
 use crate::same::same_resolved;
 use crate::shared::{equal_but_trees, equal_trees};
-use events::{Job, State};
+use events::{Job, Status};
 use records::Resolved;
 use std::marker::Model;
 use storepath::StorePath;
 
 /// Whether a goal is planned, or is built in a job.
-fn is_planned(state: &State) -> bool
-    ensures { result ≡ is_planned (state_of state.now) }
+fn is_planned(status: &Status) -> bool
+    ensures { result ≡ is_planned (status_of status.now) }
 {
-    matches!(state, State::Planned | State::Building(_))
+    matches!(status, Status::Planned | Status::Building(_))
 }
 
 /// One request to build.
 pub struct Goal {
     derivation: StorePath,
     resolved: Option<Resolved>,
-    state: State,
+    status: Status,
 }
 
 impl Drop for Goal {
@@ -35,7 +35,7 @@ impl Drop for Goal {
         let Goal {
             derivation: _,
             resolved: _,
-            state: _,
+            status: _,
         } = self;
     }
 }
@@ -48,10 +48,10 @@ impl Model for Goal {
 
     ghost coded = { goal_code };
 
-    ghost use Rattle.events.specs.States.{state_of};
+    ghost use Rattle.events.specs.Statuses.{status_of};
 
     ghost view = { λ g.
-        record { derivation = g.derivation; resolved = g.resolved; state = state_of g.state } };
+        record { derivation = g.derivation; resolved = g.resolved; status = status_of g.status } };
 }
 
 impl Goal {
@@ -62,7 +62,7 @@ impl Goal {
         Goal {
             derivation,
             resolved: None,
-            state: State::Waiting,
+            status: Status::Waiting,
         }
     }
 
@@ -98,33 +98,33 @@ impl Goal {
     {
         let own = self.resolved.as_ref()?;
         let is_like = equal_but_trees(own, resolved)
-            && (is_planned(&self.state) || equal_trees(own.closure(), resolved.closure()));
+            && (is_planned(&self.status) || equal_trees(own.closure(), resolved.closure()));
         if is_like { Some(own) } else { None }
     }
 
     /// How far it is.
-    pub fn state(&self) -> &State
-        ensures { state_of result.now ≡ self.now.state }
+    pub fn status(&self) -> &Status
+        ensures { status_of result.now ≡ self.now.status }
     {
-        &self.state
+        &self.status
     }
 
     /// The job in which it is built.
     pub fn job(&self) -> Option<&Job>
-        ensures { option_copied result ≡ job_in self.now.state }
+        ensures { option_copied result ≡ job_in self.now.status }
     {
-        match &self.state {
-            State::Building(job) => Some(job),
+        match &self.status {
+            Status::Building(job) => Some(job),
             _ => None,
         }
     }
 
     /// The path by which it is done.
     pub(crate) fn done_path(&self) -> Option<&StorePath>
-        ensures { option_copied result ≡ path_in self.now.state }
+        ensures { option_copied result ≡ path_in self.now.status }
     {
-        match &self.state {
-            State::Done(path) => Some(path),
+        match &self.status {
+            Status::Done(path) => Some(path),
             _ => None,
         }
     }
@@ -145,10 +145,10 @@ impl Goal {
     }
 
     /// It gets another state. What it is built from is left.
-    pub(crate) fn set_state(&mut self, state: State)
-        ensures { self.new ≡ in_state (state_of state) self.old }
+    pub(crate) fn set_status(&mut self, status: Status)
+        ensures { self.new ≡ in_status (status_of status) self.old }
     {
-        self.state = state;
+        self.status = status;
     }
 
     /// It is planned, and from now on built from that.
@@ -156,6 +156,6 @@ impl Goal {
         ensures { self.new ≡ planned_with resolved self.old }
     {
         self.resolved = Some(resolved);
-        self.state = State::Planned;
+        self.status = Status::Planned;
     }
 }

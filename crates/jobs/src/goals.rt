@@ -4,18 +4,18 @@ ghost use Rattle.std.specs.Prelude.{◌≡◌, ◌≤◌, ◌+◌, ◌⊎◌, �
 ghost use Rattle.model.specs.declared.refusal.Refusal.TheVariants.{Memory, Quota};
 ghost use Rattle.model.specs.Limits.{most_goals};
 ghost use Rattle.model.specs.Worlds.{Building};
-ghost use Rattle.model.specs.Goals.{goal_at, in_state, new_goal, members, led_by, is_building};
+ghost use Rattle.model.specs.Goals.{goal_at, in_status, new_goal, members, led_by, is_building};
 ghost use Rattle.jobs.specs.Joining.{job_with, least_with, lesser_of};
 ghost use Rattle.jobs.specs.Owned.{with_goals, ChangesOwn};
 ghost use Rattle.jobs.specs.Shared.{IsBuiltLike};
 ghost use Rattle.jobs.specs.Numbers.{numbers, leads_at, finished, first_built};
-ghost use Rattle.events.specs.States.{state_of};
-ghost use Rattle.jobs.specs.States.{planned_with, IsIdle};
+ghost use Rattle.events.specs.Statuses.{status_of};
+ghost use Rattle.jobs.specs.Statuses.{planned_with, IsIdle};
 
 use crate::finished::goal_of;
 use crate::goal::Goal;
 use crate::indexes::Indexes;
-use events::{Job, State};
+use events::{Job, Status};
 use model::Refusal;
 use records::Resolved;
 use std::alloc::Global;
@@ -197,15 +197,15 @@ impl Goals {
 
     /// A goal gets a state that is not `Building`. Where it was built in a job it leaves it. It takes
     /// no memory.
-    pub(crate) fn set_state(&mut self, number: u16, state: State)
+    pub(crate) fn set_status(&mut self, number: u16, status: Status)
         requires there { is_some (goal_at number self.old.goals) ≡ true }
-        requires state { is_building (state_of state) ≡ false }
-        ensures { ChangesOwn number (in_state (state_of state)) self.old self.new }
+        requires status { is_building (status_of status) ≡ false }
+        ensures { ChangesOwn number (in_status (status_of status)) self.old self.new }
     {
         let index = number as usize - 1;
         self.indexes.leave(number, &self.goals[index]);
         self.indexes.undo(self.goals.as_slice(), number);
-        self.goals[index].set_state(state);
+        self.goals[index].set_status(status);
         self.indexes.finish(self.goals.as_slice(), number);
     }
 
@@ -213,7 +213,7 @@ impl Goals {
     pub(crate) fn enter(&mut self, alloc: Global, number: u16, job: Job) -> Result<(), Refusal>
         requires { IsIdle (goal_at number self.old.goals) }
         ensures entered { OnOk result
-            (ChangesOwn number (in_state (Building job)) self.old self.new) }
+            (ChangesOwn number (in_status (Building job)) self.old self.new) }
         ensures kept { OnErr result (self.new ≡ self.old) }
         ensures memory { IfErr result (λ e. e ≡ Memory) }
     {
@@ -221,7 +221,7 @@ impl Goals {
         self.indexes
             .enter(alloc, &self.owner, number, &self.goals[index], &job)?;
         self.indexes.undo(self.goals.as_slice(), number);
-        self.goals[index].set_state(State::Building(job));
+        self.goals[index].set_status(Status::Building(job));
         Ok(())
     }
 

@@ -148,9 +148,9 @@ impl Indexes {
 
     /// Has a goal leave its job, if it is built in one. It takes no memory.
     pub(crate) fn leave(&mut self, number: u16, goal: &Goal)
-        ensures jobs { LeavesJob goal.now.state number
+        ensures jobs { LeavesJob goal.now.status number
             self.old.of_jobs.entries self.new.of_jobs.entries }
-        ensures leading { LeavesPath (is_building goal.now.state) goal.now.resolved number
+        ensures leading { LeavesPath (is_building goal.now.status) goal.now.resolved number
             self.old.leading.entries self.new.leading.entries }
         ensures built { self.new.built ≡ self.old.built }
         ensures done { self.new.done ≡ self.old.done }

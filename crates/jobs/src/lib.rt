@@ -17,7 +17,7 @@ mod same;
 mod shared;
 mod users;
 
-pub use events::{Job, State};
+pub use events::{Job, Status};
 pub use goal::Goal;
 pub use goals::MOST_GOALS;
 pub use leader::leads;

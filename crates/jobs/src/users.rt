@@ -6,12 +6,12 @@ ghost use Rattle.model.specs.Limits.{most_goals};
 ghost use Rattle.model.specs.Worlds.{Building};
 ghost use Rattle.std.specs.List.{list_any};
 ghost use Rattle.model.specs.ForgetRequests.{builds_with, let_go};
-ghost use Rattle.model.specs.Goals.{in_state, new_goal, members, is_building};
+ghost use Rattle.model.specs.Goals.{in_status, new_goal, members, is_building};
 ghost use Rattle.trust.specs.Trusting.{holds};
 ghost use Rattle.trust.specs.Naming.{name_at, names};
 ghost use Rattle.jobs.specs.Owned.{goals_at, with_goals_at, goal_of, ChangesGoal};
-ghost use Rattle.events.specs.States.{state_of};
-ghost use Rattle.jobs.specs.States.{planned_with, IsIdle};
+ghost use Rattle.events.specs.Statuses.{status_of};
+ghost use Rattle.jobs.specs.Statuses.{planned_with, IsIdle};
 ghost use Rattle.jobs.specs.Joining.{running_at, least_with};
 ghost use Rattle.jobs.specs.Numbers.{finished};
 ghost use Rattle.jobs.specs.Planners.{HasPlanners};
@@ -20,7 +20,7 @@ ghost use Rattle.jobs.specs.Shared.{IsBuiltLike};
 use crate::goal::Goal;
 use crate::goals::Goals;
 use crate::planners::Planners;
-use events::{Job, State};
+use events::{Job, Status};
 use model::Refusal;
 use records::Resolved;
 use std::alloc::Global;
@@ -165,13 +165,13 @@ impl Jobs {
 
     /// A goal gets a state that is not `Building`; what it is built from is left. Where it was
     /// built in a job, it leaves it. It takes no memory.
-    pub fn set_state(&mut self, place: usize, number: u16, state: State)
+    pub fn set_status(&mut self, place: usize, number: u16, status: Status)
         requires of_run { place < length self.old.goals }
         requires there { is_some (goal_of place number self.old) ≡ true }
-        requires state { is_building (state_of state) ≡ false }
-        ensures { ChangesGoal place number (in_state (state_of state)) self.old self.new }
+        requires status { is_building (status_of status) ≡ false }
+        ensures { ChangesGoal place number (in_status (status_of status)) self.old self.new }
     {
-        self.all[place].set_state(number, state);
+        self.all[place].set_status(number, status);
     }
 
     /// A goal that is built in no job enters one.
@@ -189,7 +189,7 @@ impl Jobs {
         requires of_run { place < length self.old.goals }
         requires idle { IsIdle (goal_of place number self.old) }
         ensures entered { OnOk result
-            (ChangesGoal place number (in_state (Building job)) self.old self.new) }
+            (ChangesGoal place number (in_status (Building job)) self.old self.new) }
         ensures kept { OnErr result (self.new ≡ self.old) }
         ensures memory { IfErr result (λ e. e ≡ Memory) }
     {

@@ -6,7 +6,7 @@ use Rattle.std.proofs.lemmas.Bool.{cond_both}
 use Rattle.std.proofs.lemmas.List.Elements.{All-nil, All-cons, All-head, All-tail}
 use Rattle.model.specs.declared.refusal.Refusal.TheVariants.{NotHeld, InUse}
 use Rattle.model.specs.Worlds.{Waiting, Goal}
-use Rattle.model.specs.Goals.{in_state, is_building}
+use Rattle.model.specs.Goals.{in_status, is_building}
 use Rattle.model.specs.FinishedBuilds.{is_record_at}
 use Rattle.model.specs.Events as events
 use Rattle.model.specs.Outcomes.{Observation, Outcome, becomes, check}
@@ -27,5 +27,5 @@ pub under_let_go : (set : List ℕ → Bool) (class path : List ℕ) (goals : Li
 under_let_go set class path [] all = All-nil (Under set)
 under_let_go set class path (g ∷ goals) all =
     All-cons (Under set) (let_go class path g) (map (let_go class path) goals)
-    (cond_both (is_building g.state && is_built_from class path g.resolved) (in_state Waiting g) g (Under set) (λ waits. refl) (λ stays. All-head (Under set) g goals all))
+    (cond_both (is_building g.status && is_built_from class path g.resolved) (in_status Waiting g) g (Under set) (λ waits. refl) (λ stays. All-head (Under set) g goals all))
     (under_let_go set class path goals (All-tail (Under set) g goals all))

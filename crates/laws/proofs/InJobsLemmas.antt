@@ -6,11 +6,11 @@ use Rattle.std.proofs.lemmas.Option.{slice_get-map}
 use Rattle.std.proofs.Math.Seq.{set-append_seam}
 use Rattle.model.specs.declared.refusal.Refusal.{Refusal}
 use Rattle.model.specs.declared.refusal.Refusal.TheVariants.{Quota, BuilderFailed}
-use Rattle.model.specs.Worlds.{Setup, Record, Entry, OfSource, OfRecord, Job, State, Waiting, Planned, Building, Done, Failed, Goal, Desk, known_of, has_record, with_record, charge_of, is_within, with_entry, with_all, missing, with_entries}
-use Rattle.model.specs.Goals.{goal_at, with_goal_at, with_goal, in_state, same_job, is_in, members}
+use Rattle.model.specs.Worlds.{Setup, Record, Entry, OfSource, OfRecord, Job, Status, Waiting, Planned, Building, Done, Failed, Goal, Desk, known_of, has_record, with_record, charge_of, is_within, with_entry, with_all, missing, with_entries}
+use Rattle.model.specs.Goals.{goal_at, with_goal_at, with_goal, in_status, same_job, is_in, members}
 use Rattle.model.specs.Endings.{End, Output, Failure, built_record, done_with, with_output, ended_with, ended_goal, ended_goals}
 use Rattle.model.specs.Outcomes.{Notification, NoNotification, Ended, delivered}
-use Rattle.model.specs.Timed.{state_in, goal_in, desk_in}
+use Rattle.model.specs.Timed.{status_in, goal_in, desk_in}
 use Rattle.model.proofs.BoolLemmas.{either, both_parts, same_bytes}
 
 -- ---- goals by number, and entries
@@ -53,7 +53,7 @@ module _ (jobs : Job → Bool) where
 
 -- of the goals that are built in a job of these none waits
 module _ (jobs : Job → Bool) (job : Job) (stays : (other : Job) → same_job other job ≡ true → jobs other ≡ true) where
-  pub in_job : (s : State) → is_in job (state_in jobs s) ≡ is_in job s
+  pub in_job : (s : Status) → is_in job (status_in jobs s) ≡ is_in job s
   in_job Waiting = refl
   in_job Planned = refl
   in_job (Building other) = elim (either (jobs other)) [
@@ -69,7 +69,7 @@ module _ (jobs : Job → Bool) (job : Job) (stays : (other : Job) → same_job o
   pub members_in : (n : ℕ) (goals : List Goal) → members job n (map (goal_in jobs) goals) ≡ members job n goals
   unfolding members
   members_in n [] = refl
-  members_in n (g ∷ goals) = rw (in_job g.state, members_in (suc n) goals) refl
+  members_in n (g ∷ goals) = rw (in_job g.status, members_in (suc n) goals) refl
 
 module _ (setup : Setup) (jobs : Job → Bool) where
   -- either of two
@@ -79,8 +79,8 @@ module _ (setup : Setup) (jobs : Job → Bool) where
 
   done_in : (n : ℕ) (g : Goal) (r : Record) (d : Desk) → done_with setup n g r (desk_in jobs d) ≡ desk_in jobs (done_with setup n g r d)
   done_in n g r d =
-      let done : Goal = in_state (Done r.path) g in
-      let failed : Goal = in_state (Failed Quota) g in
+      let done : Goal = in_status (Done r.path) g in
+      let failed : Goal = in_status (Failed Quota) g in
       let e : Desk = desk_in jobs d in
       desk_if (has_record r e) (has_record r d) (with_goal n done e)
       (if is_within setup (with_record r e) then with_goal n done (with_record r e) else with_goal n failed e)
@@ -92,18 +92,18 @@ module _ (setup : Setup) (jobs : Job → Bool) where
 
   output_in : (n : ℕ) (g : Goal) (o : Result Record Refusal) (d : Desk) → with_output setup n g o (desk_in jobs d) ≡ desk_in jobs (with_output setup n g o d)
   output_in n g (Ok r) d = done_in n g r d
-  output_in n g (Err why) d = goal_put jobs n (in_state (Failed why) g) d refl
+  output_in n g (Err why) d = goal_put jobs n (in_status (Failed why) g) d refl
 
   ended_with_in : (n : ℕ) (g : Goal) (end : End) (d : Desk) → ended_with setup n (goal_in jobs g) end (desk_in jobs d) ≡ desk_in jobs (ended_with setup n g end d)
   ended_with_in n g (Output bytes) d = output_in n g (built_record (known_of d) g bytes) d
-  ended_with_in n g Failure d = goal_put jobs n (in_state (Failed BuilderFailed) g) d refl
+  ended_with_in n g Failure d = goal_put jobs n (in_status (Failed BuilderFailed) g) d refl
 
   ended_in : (reached : Bool) (end : End) (n : ℕ) (o : Option Goal) (d : Desk)
       → ended_goal setup reached end n (option_map (goal_in jobs) o) (desk_in jobs d) ≡ desk_in jobs (ended_goal setup reached end n o d)
   ended_in reached end n None d = refl
   ended_in reached end n (Some g) d =
-      desk_if reached reached (ended_with setup n (goal_in jobs g) end (desk_in jobs d)) (with_goal n (in_state Waiting g) (desk_in jobs d))
-      (ended_with setup n g end d) (with_goal n (in_state Waiting g) d) refl (ended_with_in n g end d) (goal_put jobs n (in_state Waiting g) d refl)
+      desk_if reached reached (ended_with setup n (goal_in jobs g) end (desk_in jobs d)) (with_goal n (in_status Waiting g) (desk_in jobs d))
+      (ended_with setup n g end d) (with_goal n (in_status Waiting g) d) refl (ended_with_in n g end d) (goal_put jobs n (in_status Waiting g) d refl)
 
   all_ended_in : (reached : Bool) (end : End) (ns : List ℕ) (d : Desk) → ended_goals setup reached end ns (desk_in jobs d) ≡ desk_in jobs (ended_goals setup reached end ns d)
   unfolding ended_goals
@@ -159,26 +159,26 @@ module _ (setup : Setup) (end : End) (job : Job) (d : Desk) where
       ∙ ap (λ gs. record d { goals = gs }) (append_assoc first (goal_in (but job) g ∷ []) (map (goal_in (but job)) goals)) in
       let numbers : List ℕ = members job (suc (suc (length first))) goals in
       let now : Desk = record d { goals = first ++ g ∷ goals } in
-      elim (either (is_in job g.state)) [
+      elim (either (is_in job g.status)) [
         | inl t ↦
             let these : members job (suc (length first)) (g ∷ goals) ≡ suc (length first) ∷ numbers = rw t refl in
-            let one : ended_goal setup false end (suc (length first)) (slice_get (first ++ g ∷ goals) (length first)) now ≡ record d { goals = first ++ in_state Waiting g ∷ goals } =
+            let one : ended_goal setup false end (suc (length first)) (slice_get (first ++ g ∷ goals) (length first)) now ≡ record d { goals = first ++ in_status Waiting g ∷ goals } =
             ap (λ o. ended_goal setup false end (suc (length first)) o now) (goal_at_seam first g goals)
-            ∙ ap (λ gs. record d { goals = gs }) (set-append_seam first g goals (in_state Waiting g)) in
-            ap (λ ns. ended_goals setup false end ns now) these ∙ ap (ended_goals setup false end numbers) one ∙ on (in_state Waiting g) (waits g.state t)
+            ∙ ap (λ gs. record d { goals = gs }) (set-append_seam first g goals (in_status Waiting g)) in
+            ap (λ ns. ended_goals setup false end ns now) these ∙ ap (ended_goals setup false end numbers) one ∙ on (in_status Waiting g) (waits g.status t)
         | inr f ↦
             let these : members job (suc (length first)) (g ∷ goals) ≡ numbers = rw f refl in
-            ap (λ ns. ended_goals setup false end ns now) these ∙ on g (ap (λ s. in_state s g) (sym (stays g.state f)))
+            ap (λ ns. ended_goals setup false end ns now) these ∙ on g (ap (λ s. in_status s g) (sym (stays g.status f)))
       ]
     where
-      waits : (s : State) → is_in job s ≡ true → in_state Waiting g ≡ in_state (state_in (but job) s) g
+      waits : (s : Status) → is_in job s ≡ true → in_status Waiting g ≡ in_status (status_in (but job) s) g
       waits Waiting t = absurd (cc)
       waits Planned t = absurd (cc)
       waits (Building other) t = rw t refl
       waits (Done path) t = absurd (cc)
       waits (Failed why) t = absurd (cc)
 
-      stays : (s : State) → is_in job s ≡ false → state_in (but job) s ≡ s
+      stays : (s : Status) → is_in job s ≡ false → status_in (but job) s ≡ s
       stays Waiting f = refl
       stays Planned f = refl
       stays (Building other) f = rw f refl
@@ -190,19 +190,19 @@ abbrev pub unless_ended : List ℕ → Notification → (Job → Bool) → Job �
 unless_ended actor NoNotification jobs job = jobs job
 unless_ended actor (Ended n end) jobs job = jobs job && but (record { leader = actor; number = n }) job
 
-state_both : (jobs others : Job → Bool) (s : State) → state_in others (state_in jobs s) ≡ state_in (λ job. jobs job && others job) s
-state_both jobs others Waiting = refl
-state_both jobs others Planned = refl
-state_both jobs others (Building job) = elim (either (jobs job)) [ inl t ↦ rw t refl | inr f ↦ rw f refl ]
-state_both jobs others (Done path) = refl
-state_both jobs others (Failed why) = refl
+status_both : (jobs others : Job → Bool) (s : Status) → status_in others (status_in jobs s) ≡ status_in (λ job. jobs job && others job) s
+status_both jobs others Waiting = refl
+status_both jobs others Planned = refl
+status_both jobs others (Building job) = elim (either (jobs job)) [ inl t ↦ rw t refl | inr f ↦ rw f refl ]
+status_both jobs others (Done path) = refl
+status_both jobs others (Failed why) = refl
 
 goals_both : (jobs others : Job → Bool) (goals : List Goal) → map (goal_in others) (map (goal_in jobs) goals) ≡ map (goal_in (λ job. jobs job && others job)) goals
 goals_both jobs others [] = refl
 goals_both jobs others (g ∷ goals) =
-    let one = state_both jobs others g.state in
+    let one = status_both jobs others g.status in
     let rest = goals_both jobs others goals in
-    λ i. in_state (one i) g ∷ rest i
+    λ i. in_status (one i) g ∷ rest i
 
 pub delivered_apart : (setup : Setup) (jobs : Job → Bool) (actor : List ℕ) (notification : Notification) (d : Desk)
     → delivered setup actor false notification (desk_in jobs d) ≡ desk_in (unless_ended actor notification jobs) d
@@ -213,16 +213,16 @@ delivered_apart setup jobs actor (Ended n end) d =
 
 -- ---- desks on which nothing waits that did not
 
-state_all : (s : State) → state_in (λ job. true) s ≡ s
-state_all Waiting = refl
-state_all Planned = refl
-state_all (Building job) = refl
-state_all (Done path) = refl
-state_all (Failed why) = refl
+status_all : (s : Status) → status_in (λ job. true) s ≡ s
+status_all Waiting = refl
+status_all Planned = refl
+status_all (Building job) = refl
+status_all (Done path) = refl
+status_all (Failed why) = refl
 
 goals_all : (goals : List Goal) → map (goal_in (λ job. true)) goals ≡ goals
 goals_all [] = refl
-goals_all (g ∷ goals) = let one = state_all g.state in let rest = goals_all goals in λ i. in_state (one i) g ∷ rest i
+goals_all (g ∷ goals) = let one = status_all g.status in let rest = goals_all goals in λ i. in_status (one i) g ∷ rest i
 
 pub all_jobs : (d : Desk) → desk_in (λ job. true) d ≡ d
 all_jobs d = ap (λ gs. record d { goals = gs }) (goals_all d.goals)

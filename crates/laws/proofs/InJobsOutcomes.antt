@@ -12,7 +12,7 @@ use Rattle.model.specs.Derivations.{Derivation}
 use Rattle.model.specs.DerivationTexts.{derivation_of_text}
 use Rattle.model.specs.Classes.{Admission, Known, known_at, derivation_path, admit}
 use Rattle.model.specs.Results.{then_do, unless_rewrite_refused}
-use Rattle.model.specs.Worlds.{Setup, Pin, Entry, OfSource, OfRecord, Resolved, Job, State, Waiting, Planned, Building, Done, Failed, Goal, Desk, known_of, held_at, with_entry, with_entries, with_derivation, with_trust, without_trust, pin_of, with_pin, is_within, Record, has_record, with_record}
+use Rattle.model.specs.Worlds.{Setup, Pin, Entry, OfSource, OfRecord, Resolved, Job, Status, Waiting, Planned, Building, Done, Failed, Goal, Desk, known_of, held_at, with_entry, with_entries, with_derivation, with_trust, without_trust, pin_of, with_pin, is_within, Record, has_record, with_record}
 use Rattle.model.specs.References.{candidates}
 use Rattle.model.specs.Outputs.{record_for}
 use Rattle.model.specs.Choices.{visible_records, visible_sources, choose_among, plan_by}
@@ -21,10 +21,10 @@ use Rattle.model.specs.Closures.{path_for, served_plan}
 use Rattle.model.specs.Resolutions.{input_classes, resolved_over, resolve}
 use Rattle.model.specs.FinishedBuilds.{built_in, built_on, is_labelled_by, finished_build, for_class}
 use Rattle.model.specs.Orders.{least}
-use Rattle.model.specs.Goals.{goal_at, with_goal, with_new_goal, new_goal, in_state, as_seen, is_waiting, is_building, planned_in, same_job, job_of}
+use Rattle.model.specs.Goals.{goal_at, with_goal, with_new_goal, new_goal, in_status, as_seen, is_waiting, is_building, planned_in, same_job, job_of}
 use Rattle.model.specs.Endings.{End, Output, Failure}
 use Rattle.model.specs.Events as events
-use Rattle.model.specs.Events.{Request, AddSource, AddDerivation, Offer, Fetch, Trust, Distrust, Pin as PinIt, Unpin, Closure, Take, Build, Status, Plan, Start, Finish, Fail, Forget, Reply, Path, Content, Entries, GoalNumber, GoalState}
+use Rattle.model.specs.Events.{Request, AddSource, AddDerivation, Offer, Fetch, Trust, Distrust, Pin as PinIt, Unpin, Closure, Take, Build, Status as StatusRequest, Plan, Start, Finish, Fail, Forget, Reply, Path, Content, Entries, GoalNumber, GoalStatus}
 use Rattle.model.specs.Outcomes.{Observation, Ended, Outcome, becomes, check, need, room, add_entry, delivered}
 use Rattle.model.specs.SourceRequests.{source_named}
 use Rattle.model.specs.DerivationRequests.{admit_new}
@@ -34,7 +34,7 @@ use Rattle.model.specs.GoalRequests.{turns, plan_resolved, resolve_for, plan, ow
 use Rattle.model.specs.EndRequests.{told_of, end_job}
 use Rattle.model.specs.ForgetRequests.{refers_to_class, is_built_from, builds_with, remaining, let_go, forget}
 use Rattle.model.specs.Steps.{outcome}
-use Rattle.model.specs.Timed.{state_in, goal_in, desk_in}
+use Rattle.model.specs.Timed.{status_in, goal_in, desk_in}
 use Rattle.model.proofs.BoolLemmas.{either, both_parts, same_bytes}
 use Rattle.laws.proofs.FitLemmas.{IsSound, job_reached}
 use Rattle.laws.proofs.InJobsLemmas.{at_in, goal_put, entries_in, within_in, in_job, delivered_in}
@@ -103,7 +103,7 @@ module _ (jobs : Job → Bool) where
       of (Some x) = h x
 
   -- what was built for goals that are done
-  built_same : (r : Resolved) (d : Desk) (g : Goal) (s : State) → built_in r (desk_in jobs d) (goal_in jobs g) (state_in jobs s) ≡ built_in r d g s
+  built_same : (r : Resolved) (d : Desk) (g : Goal) (s : Status) → built_in r (desk_in jobs d) (goal_in jobs g) (status_in jobs s) ≡ built_in r d g s
   built_same r d g Waiting = refl
   built_same r d g Planned = refl
   built_same r d g (Building job) = elim (either (jobs job)) [ inl is ↦ rw is refl | inr f ↦ rw f refl ]
@@ -112,8 +112,8 @@ module _ (jobs : Job → Bool) where
 
   built_on_same : (r : Resolved) (d : Desk) → built_on r (desk_in jobs d) ≡ built_on r d
   built_on_same r d =
-      flat_map-map (λ g. built_in r (desk_in jobs d) g g.state) (goal_in jobs) d.goals
-      ∙ (λ i. flat_map (λ g. (built_same r d g g.state) i) d.goals)
+      flat_map-map (λ g. built_in r (desk_in jobs d) g g.status) (goal_in jobs) d.goals
+      ∙ (λ i. flat_map (λ g. (built_same r d g g.status) i) d.goals)
 
   finished_in : (view : List Desk) (r : Resolved) → finished_build (map (desk_in jobs) view) r ≡ finished_build view r
   finished_in view r =
@@ -121,7 +121,7 @@ module _ (jobs : Job → Bool) where
       flat_map-map (built_on r) (desk_in jobs) view ∙ (λ i. flat_map (λ d. (built_on_same r d) i) view) in
       ap (λ rs. least (λ p q. bytes_before p.path q.path) (filter (is_labelled_by r) rs)) built
 
-  planned_same : (s : State) (r : Option Resolved) → planned_in (state_in jobs s) r ≡ planned_in s r
+  planned_same : (s : Status) (r : Option Resolved) → planned_in (status_in jobs s) r ≡ planned_in s r
   planned_same Waiting r = refl
   planned_same Planned r = refl
   planned_same (Building job) r = elim (either (jobs job)) [ inl t ↦ rw t refl | inr f ↦ rw f refl ]
@@ -134,7 +134,7 @@ module _ (jobs : Job → Bool) where
     t = observation_in jobs s
 
     -- how far a goal is, as its user sees it
-    seen_in : (state : State) → as_seen s.reach (state_in jobs state) ≡ as_seen s.reach state
+    seen_in : (status : Status) → as_seen s.reach (status_in jobs status) ≡ as_seen s.reach status
     seen_in Waiting = refl
     seen_in Planned = refl
     seen_in (Building job) = elim (either (jobs job)) [
@@ -149,32 +149,32 @@ module _ (jobs : Job → Bool) where
 
     told_in : (o : Option Goal) → told_of s.reach (option_map (goal_in jobs) o) ≡ told_of s.reach o
     told_in None = refl
-    told_in (Some g) = ap GoalState (seen_in g.state)
+    told_in (Some g) = ap GoalStatus (seen_in g.status)
 
     turned_in : (d e : Desk) (n : ℕ) (g : Goal) → d ≡ desk_in jobs e → goal_in jobs g ≡ g → turns t d n g ≡ outcome_in jobs (turns s e n g)
     turned_in d e n g is same =
         let desk : with_goal n g d ≡ desk_in jobs (with_goal n g e) = ap (with_goal n g) is ∙ goal_put jobs n g e same in
-        ap (λ x. becomes x (GoalState (as_seen s.reach g.state))) desk
+        ap (λ x. becomes x (GoalStatus (as_seen s.reach g.status))) desk
 
     -- ---- planning and starting
 
     plan_resolved_in : (n : ℕ) (g : Goal) (o : Result Resolved Refusal) → plan_resolved t n (goal_in jobs g) o ≡ outcome_in jobs (plan_resolved s n g o)
-    plan_resolved_in n g (Ok r) = turned_in _ s.desk n (record { derivation = g.derivation; resolved = Some r; state = Planned }) refl refl
+    plan_resolved_in n g (Ok r) = turned_in _ s.desk n (record { derivation = g.derivation; resolved = Some r; status = Planned }) refl refl
     plan_resolved_in n g (Err NotRealised) = refl
-    plan_resolved_in n g (Err why) = turned_in _ s.desk n (in_state (Failed why) g) refl refl
+    plan_resolved_in n g (Err why) = turned_in _ s.desk n (in_status (Failed why) g) refl refl
 
     plan_in : (n : ℕ) → plan t n ≡ outcome_in jobs (plan s n)
     plan_in n =
         goal_needed_in UnknownGoal n s.desk.goals _ _ (λ g.
-        checked_in WrongState _ _ _ _ (ap is_waiting (seen_in g.state))
+        checked_in WrongState _ _ _ _ (ap is_waiting (seen_in g.status))
         (needed_in UnknownDerivation (known_at (known_of s.desk) g.derivation) _ _ (λ a.
         ap (plan_resolved t n (goal_in jobs g)) (resolve_in s.view s.desk.pins (known_of s.desk) a.derivation)
         ∙ plan_resolved_in n g (resolve_for s a.derivation))))
 
     again_in : (d e : Desk) (n : ℕ) (g : Goal) (r : Record) → d ≡ desk_in jobs e → done_again setup t d n (goal_in jobs g) r ≡ outcome_in jobs (done_again setup s e n g r)
     again_in d e n g r is =
-        let done : Goal = in_state (Done r.path) g in
-        let failed : Goal = in_state (Failed Quota) g in
+        let done : Goal = in_status (Done r.path) g in
+        let failed : Goal = in_status (Failed Quota) g in
         let more : with_record r d ≡ desk_in jobs (with_record r e) = ap (with_record r) is in
         either_in (has_record r d) (has_record r e) (turns t d n done)
         (if is_within setup (with_record r d) then turns t (with_record r d) n done else turns t d n failed)
@@ -186,11 +186,11 @@ module _ (jobs : Job → Bool) where
         (turned_in (with_record r d) (with_record r e) n done more refl) (turned_in d e n failed is refl))
 
     joins_in : (d e : Desk) (n : ℕ) (g : Goal) (r : Resolved) → d ≡ desk_in jobs e
-        → turns t d n (in_state (Building (job_of s.running (own_job s n) r)) g) ≡ outcome_in jobs (turns s e n (in_state (Building (job_of s.running (own_job s n) r)) g))
+        → turns t d n (in_status (Building (job_of s.running (own_job s n) r)) g) ≡ outcome_in jobs (turns s e n (in_status (Building (job_of s.running (own_job s n) r)) g))
     joins_in d e n g r is =
         let job : Job = job_of s.running (own_job s n) r in
         let inside : jobs job ≡ true = covers job (job_reached s n r sound) in
-        turned_in d e n (in_state (Building job) g) is (rw inside refl)
+        turned_in d e n (in_status (Building job) g) is (rw inside refl)
 
     copied_in : (d e : Desk) (n : ℕ) (g : Goal) (r : Resolved) (known : Option Admission) (built : Option Record) → d ≡ desk_in jobs e
         → start_copied setup t d n (goal_in jobs g) r known built ≡ outcome_in jobs (start_copied setup s e n g r known built)
@@ -205,17 +205,17 @@ module _ (jobs : Job → Bool) where
         let copied : now ≡ desk_in jobs old = entries_in jobs r.closure s.desk in
         let known : Option Admission = known_at (known_of s.desk) g.derivation in
         either_in (is_within setup now) (is_within setup old)
-        (start_copied setup t now n (goal_in jobs g) r known (finished_build t.view r)) (turns t t.desk n (in_state (Failed Quota) g))
-        (start_copied setup s old n g r known (finished_build s.view r)) (turns s s.desk n (in_state (Failed Quota) g))
+        (start_copied setup t now n (goal_in jobs g) r known (finished_build t.view r)) (turns t t.desk n (in_status (Failed Quota) g))
+        (start_copied setup s old n g r known (finished_build s.view r)) (turns s s.desk n (in_status (Failed Quota) g))
         (ap (is_within setup) copied ∙ within_in jobs setup old)
         (ap (start_copied setup t now n (goal_in jobs g) r known) (finished_in s.view r) ∙ copied_in now old n g r known (finished_build s.view r) copied)
-        (turned_in t.desk s.desk n (in_state (Failed Quota) g) refl refl)
+        (turned_in t.desk s.desk n (in_status (Failed Quota) g) refl refl)
 
     start_in : (n : ℕ) → start setup t n ≡ outcome_in jobs (start setup s n)
     start_in n =
         goal_needed_in UnknownGoal n s.desk.goals _ _ (λ g.
-        ap (λ o. need WrongState o (start_goal setup t n (goal_in jobs g))) (planned_same g.state g.resolved)
-        ∙ needed_in WrongState (planned_in g.state g.resolved) _ _ (λ r. start_goal_in n g r))
+        ap (λ o. need WrongState o (start_goal setup t n (goal_in jobs g))) (planned_same g.status g.resolved)
+        ∙ needed_in WrongState (planned_in g.status g.resolved) _ _ (λ r. start_goal_in n g r))
 
     -- ---- ending
 
@@ -227,7 +227,7 @@ module _ (jobs : Job → Bool) where
         let reply : told_of s.reach (goal_at n (delivered setup s.user (s.reach s.user) (Ended n end) (desk_in jobs s.desk)).goals) ≡ told_of s.reach (goal_at n after.goals) =
         ap (λ (d : Desk). told_of s.reach (goal_at n d.goals)) receives ∙ ap (told_of s.reach) (at_in jobs n after.goals) ∙ told_in (goal_at n after.goals) in
         goal_needed_in UnknownGoal n s.desk.goals _ _ (λ g.
-        checked_in WrongState _ _ _ _ (in_job jobs (own_job s n) (λ other same. own other (leader_of other same)) g.state)
+        checked_in WrongState _ _ _ _ (in_job jobs (own_job s n) (λ other same. own other (leader_of other same)) g.status)
         (λ i. Ok (record { desk = desk_in jobs s.desk; reply = reply i; notification = Ended n end })))
       where
         leader_of : (other : Job) → same_job other (own_job s n) ≡ true → other.leader ≡ s.user
@@ -249,9 +249,9 @@ module _ (jobs : Job → Bool) where
     -- ---- forgetting
 
     let_go_in : (class path : List ℕ) (g : Goal) → let_go class path (goal_in jobs g) ≡ goal_in jobs (let_go class path g)
-    let_go_in class path g = of g.state
+    let_go_in class path g = of g.status
       where
-        of : (state : State) → let_go class path (in_state (state_in jobs state) g) ≡ goal_in jobs (let_go class path (in_state state g))
+        of : (status : Status) → let_go class path (in_status (status_in jobs status) g) ≡ goal_in jobs (let_go class path (in_status status g))
         of Waiting = refl
         of Planned = refl
         of (Building job) = elim (either (jobs job)) [
@@ -272,7 +272,7 @@ module _ (jobs : Job → Bool) where
         → list_any (builds_with s.reach class path) (map (goal_in jobs) goals) ≡ list_any (builds_with s.reach class path) goals
     builds_in class path [] = refl
     builds_in class path (g ∷ goals) =
-        let one = seen_in g.state in
+        let one = seen_in g.status in
         let rest = builds_in class path goals in
         λ i. (is_building (one i) && is_built_from class path g.resolved) || rest i
 
@@ -311,7 +311,7 @@ module _ (jobs : Job → Bool) where
         ap (λ n. check Quota (nat_lt n most_goals) (becomes (with_new_goal path t.desk) (GoalNumber (suc n)))) (length-map s.desk.goals (goal_in jobs))
         ∙ checked_in Quota _ _ _ (becomes (with_new_goal path s.desk) (GoalNumber (suc (length s.desk.goals)))) refl
         (ap (λ gs. becomes (record t.desk { goals = gs }) (GoalNumber (suc (length s.desk.goals)))) (sym (map-append (goal_in jobs) s.desk.goals (new_goal path ∷ [])))))
-    requested_in (Status n) = goal_needed_in UnknownGoal n s.desk.goals _ _ (λ g. ap (λ state. becomes t.desk (GoalState state)) (seen_in g.state))
+    requested_in (StatusRequest n) = goal_needed_in UnknownGoal n s.desk.goals _ _ (λ g. ap (λ status. becomes t.desk (GoalStatus status)) (seen_in g.status))
     requested_in (Plan n) = plan_in n
     requested_in (Start n) = start_in n
     requested_in (Finish n bytes) = end_in n (Output bytes)

@@ -9,14 +9,14 @@ use Rattle.model.specs.declared.refusal.Refusal.{Refusal}
 use Rattle.model.specs.declared.refusal.Refusal.TheVariants.{UnknownUser, Quota, UnknownDerivation, UnknownGoal, WrongState, NotRealised, BuilderFailed}
 use Rattle.model.specs.Derivations.{Derivation}
 use Rattle.model.specs.Classes.{Admission, Known, known_at}
-use Rattle.model.specs.Worlds.{Setup, Resolved, Record, State, Waiting, Planned, Building, Done, Failed, Goal, Desk, World, nothing, is_user, known_of, has_record, with_record, is_within, with_trust, Entry, with_entries}
+use Rattle.model.specs.Worlds.{Setup, Resolved, Record, Status, Waiting, Planned, Building, Done, Failed, Goal, Desk, World, nothing, is_user, known_of, has_record, with_record, is_within, with_trust, Entry, with_entries}
 use Rattle.model.specs.Worlds as worlds
-use Rattle.model.specs.Goals.{goal_at, with_goal_at, with_goal, in_state, new_goal, as_seen, is_waiting, is_building, planned_in, members, job_of}
+use Rattle.model.specs.Goals.{goal_at, with_goal_at, with_goal, in_status, new_goal, as_seen, is_waiting, is_building, planned_in, members, job_of}
 use Rattle.model.specs.Endings.{End, Output, Failure, built_record, done_with, with_output, ended_with, ended_goal, ended_goals}
 use Rattle.model.specs.Choices as choices
 use Rattle.model.specs.Closures as closures
 use Rattle.model.specs.Resolutions.{input_classes, resolved_over, resolve}
-use Rattle.model.specs.Events.{Request, AddSource, AddDerivation, Offer, Fetch, Trust, Distrust, Pin, Unpin, Closure, Take, Build, Status, Plan, Start, Finish, Fail, Forget, Event, Reply, GoalState}
+use Rattle.model.specs.Events.{Request, AddSource, AddDerivation, Offer, Fetch, Trust, Distrust, Pin, Unpin, Closure, Take, Build, Status as StatusRequest, Plan, Start, Finish, Fail, Forget, Event, Reply, GoalStatus}
 use Rattle.model.specs.Outcomes.{reaches, Observation, observation_of, Notification, NoNotification, Ended, Change, Outcome, becomes, check, need, reply_of, delivered, desk_after}
 use Rattle.model.specs.FinishedBuilds.{finished_build, for_class}
 use Rattle.model.specs.GoalRequests.{own_job, turns, plan_resolved, resolve_for, plan_goal, done_again, start_copied, start_goal}
@@ -45,7 +45,7 @@ use Rattle.laws.proofs.KnowledgeLemmas.{world_after-push}
 
 -- a goal that is planned or built keeps something
 abbrev Stands : Goal → Type 0
-Stands g = is_planned g.state ≡ true → is_some g.resolved ≡ true
+Stands g = is_planned g.status ≡ true → is_some g.resolved ≡ true
 
 -- what a goal of a number keeps the goal of that number kept before; and a goal that was not there keeps nothing
 abbrev HasKept : List Goal → ℕ → Goal → Type 0
@@ -105,8 +105,8 @@ follows_put (suc i) x g goals there same stands = record { kept = kept; none = n
     kept (suc j) y at = inr (put_kept i x g goals there same j y at)
 
 -- a goal that is done, failed or waits again
-follows_state : (n : ℕ) (s : State) (g : Goal) (goals : List Goal) → goal_at n goals ≡ Some g → is_planned s ≡ false → Follows goals (with_goal_at n (in_state s g) goals)
-follows_state n s g goals there idle = follows_put n (in_state s g) g goals there refl (λ planned. absurd (cc))
+follows_status : (n : ℕ) (s : Status) (g : Goal) (goals : List Goal) → goal_at n goals ≡ Some g → is_planned s ≡ false → Follows goals (with_goal_at n (in_status s g) goals)
+follows_status n s g goals there idle = follows_put n (in_status s g) g goals there refl (λ planned. absurd (cc))
 
 -- a new goal
 pushed_kept : (derivation : List ℕ) (goals : List Goal) (i : ℕ) (y : Goal) → slice_get (goals ++ new_goal derivation ∷ []) i ≡ Some y
@@ -141,11 +141,11 @@ follows_new derivation goals = record {
 -- whatever becomes of a goal whose record is forgotten, it keeps the same
 let_go_keeps : (class path : List ℕ) (g : Goal) → (let_go class path g).resolved ≡ g.resolved
 let_go_keeps class path g =
-    cond_both (is_building g.state && is_built_from class path g.resolved) (in_state Waiting g) g (λ h. h.resolved ≡ g.resolved) (λ waits. refl) (λ stays. refl)
+    cond_both (is_building g.status && is_built_from class path g.resolved) (in_status Waiting g) g (λ h. h.resolved ≡ g.resolved) (λ waits. refl) (λ stays. refl)
 
 let_go_stands : (class path : List ℕ) (g : Goal) → Stands g → Stands (let_go class path g)
 let_go_stands class path g stands =
-    cond_both (is_building g.state && is_built_from class path g.resolved) (in_state Waiting g) g Stands (λ waits planned. absurd (cc)) (λ stays. stands)
+    cond_both (is_building g.status && is_built_from class path g.resolved) (in_status Waiting g) g Stands (λ waits planned. absurd (cc)) (λ stays. stands)
 
 all_let_go_kept : (class path : List ℕ) (goals : List Goal) (i : ℕ) (y : Goal) → slice_get (map (let_go class path) goals) i ≡ Some y
     → (h : Goal) × (slice_get goals i ≡ Some h) × (y.resolved ≡ h.resolved)
@@ -184,25 +184,25 @@ follows_if false goals c d one other = other
 
 follows_done : (setup : Setup) (n : ℕ) (g : Goal) (r : Record) (d : Desk) → goal_at n d.goals ≡ Some g → Follows d.goals (done_with setup n g r d).goals
 follows_done setup n g r d there =
-    let done : Follows d.goals (with_goal_at n (in_state (Done r.path) g) d.goals) = follows_state n (Done r.path) g d.goals there refl in
-    let failed : Follows d.goals (with_goal_at n (in_state (Failed Quota) g) d.goals) = follows_state n (Failed Quota) g d.goals there refl in
-    let added : Desk = if is_within setup (with_record r d) then with_goal n (in_state (Done r.path) g) (with_record r d) else with_goal n (in_state (Failed Quota) g) d in
-    follows_if (has_record r d) d.goals (with_goal n (in_state (Done r.path) g) d) added done
-    (follows_if (is_within setup (with_record r d)) d.goals (with_goal n (in_state (Done r.path) g) (with_record r d)) (with_goal n (in_state (Failed Quota) g) d) done failed)
+    let done : Follows d.goals (with_goal_at n (in_status (Done r.path) g) d.goals) = follows_status n (Done r.path) g d.goals there refl in
+    let failed : Follows d.goals (with_goal_at n (in_status (Failed Quota) g) d.goals) = follows_status n (Failed Quota) g d.goals there refl in
+    let added : Desk = if is_within setup (with_record r d) then with_goal n (in_status (Done r.path) g) (with_record r d) else with_goal n (in_status (Failed Quota) g) d in
+    follows_if (has_record r d) d.goals (with_goal n (in_status (Done r.path) g) d) added done
+    (follows_if (is_within setup (with_record r d)) d.goals (with_goal n (in_status (Done r.path) g) (with_record r d)) (with_goal n (in_status (Failed Quota) g) d) done failed)
 
 follows_output : (setup : Setup) (n : ℕ) (g : Goal) (o : Result Record Refusal) (d : Desk) → goal_at n d.goals ≡ Some g → Follows d.goals (with_output setup n g o d).goals
 follows_output setup n g (Ok r) d there = follows_done setup n g r d there
-follows_output setup n g (Err why) d there = follows_state n (Failed why) g d.goals there refl
+follows_output setup n g (Err why) d there = follows_status n (Failed why) g d.goals there refl
 
 follows_ended_with : (setup : Setup) (n : ℕ) (g : Goal) (end : End) (d : Desk) → goal_at n d.goals ≡ Some g → Follows d.goals (ended_with setup n g end d).goals
 follows_ended_with setup n g (Output bytes) d there = follows_output setup n g (built_record (known_of d) g bytes) d there
-follows_ended_with setup n g Failure d there = follows_state n (Failed BuilderFailed) g d.goals there refl
+follows_ended_with setup n g Failure d there = follows_status n (Failed BuilderFailed) g d.goals there refl
 
 follows_ended : (setup : Setup) (reached : Bool) (end : End) (n : ℕ) (o : Option Goal) (d : Desk) → goal_at n d.goals ≡ o → Follows d.goals (ended_goal setup reached end n o d).goals
 follows_ended setup reached end n None d there = follows_itself d.goals
 follows_ended setup reached end n (Some g) d there =
-    follows_if reached d.goals (ended_with setup n g end d) (with_goal n (in_state Waiting g) d)
-    (follows_ended_with setup n g end d there) (follows_state n Waiting g d.goals there refl)
+    follows_if reached d.goals (ended_with setup n g end d) (with_goal n (in_status Waiting g) d)
+    (follows_ended_with setup n g end d there) (follows_status n Waiting g d.goals there refl)
 
 follows_all_ended : (setup : Setup) (reached : Bool) (end : End) (ns : List ℕ) (d : Desk) → Follows d.goals (ended_goals setup reached end ns d).goals
 unfolding ended_goals
@@ -228,7 +228,7 @@ record PlansGoal (s : Observation) (r : Request) (o : Outcome) : Type 0 where
   there : goal_at number s.desk.goals ≡ Some goal
   known : known_at (known_of s.desk) goal.derivation ≡ Some admission
   is : resolve_for s admission.derivation ≡ Ok resolved
-  outcome_is : o ≡ becomes (with_goal number (planned_goal goal resolved) s.desk) (GoalState Planned)
+  outcome_is : o ≡ becomes (with_goal number (planned_goal goal resolved) s.desk) (GoalStatus Planned)
 
 -- what the goals keep was kept before, or the request is refused
 abbrev GoalsFollow : Observation → Outcome → Type 0
@@ -242,14 +242,14 @@ module _ (s : Observation) (n : ℕ) where
   plan_fits : Fits s (Plan n) (requests.plan s n)
   plan_fits =
       let P : Outcome → Type 0 = Fits s (Plan n) in
-      needed P UnknownGoal (goal_at n s.desk.goals) (λ g. check WrongState (is_waiting (as_seen s.reach g.state)) (plan_goal s n g))
-      (λ g there. checked P WrongState (is_waiting (as_seen s.reach g.state)) (plan_goal s n g)
+      needed P UnknownGoal (goal_at n s.desk.goals) (λ g. check WrongState (is_waiting (as_seen s.reach g.status)) (plan_goal s n g))
+      (λ g there. checked P WrongState (is_waiting (as_seen s.reach g.status)) (plan_goal s n g)
       (λ waits. needed P UnknownDerivation (known_at (known_of s.desk) g.derivation) (λ a. plan_resolved s n g (resolve_for s a.derivation))
       (λ a known. resolved_so g a there known (resolve_for s a.derivation) refl) (λ none. inl tt)) (λ begun. inl tt))
       (λ none. inl tt)
     where
-      failed_so : (g : Goal) (why : Refusal) → goal_at n s.desk.goals ≡ Some g → Fits s (Plan n) (turns s s.desk n (in_state (Failed why) g))
-      failed_so g why there = inl (follows_state n (Failed why) g s.desk.goals there refl)
+      failed_so : (g : Goal) (why : Refusal) → goal_at n s.desk.goals ≡ Some g → Fits s (Plan n) (turns s s.desk n (in_status (Failed why) g))
+      failed_so g why there = inl (follows_status n (Failed why) g s.desk.goals there refl)
 
       resolved_so : (g : Goal) (a : Admission) → goal_at n s.desk.goals ≡ Some g → known_at (known_of s.desk) g.derivation ≡ Some a
           → (o : Result Resolved Refusal) → resolve_for s a.derivation ≡ o → Fits s (Plan n) (plan_resolved s n g o)
@@ -268,17 +268,17 @@ module _ (s : Observation) (n : ℕ) where
       resolved_so g a there known (Err why) is = failed_so g why there
 
   -- where it is answered that the goal is planned, it is
-  planned_so : reply_of (requests.plan s n) ≡ GoalState Planned → PlansGoal s (Plan n) (requests.plan s n)
+  planned_so : reply_of (requests.plan s n) ≡ GoalStatus Planned → PlansGoal s (Plan n) (requests.plan s n)
   planned_so =
-      let P : Outcome → Type 0 = λ o. reply_of o ≡ GoalState Planned → PlansGoal s (Plan n) o in
-      needed P UnknownGoal (goal_at n s.desk.goals) (λ g. check WrongState (is_waiting (as_seen s.reach g.state)) (plan_goal s n g))
-      (λ g there. checked P WrongState (is_waiting (as_seen s.reach g.state)) (plan_goal s n g)
+      let P : Outcome → Type 0 = λ o. reply_of o ≡ GoalStatus Planned → PlansGoal s (Plan n) o in
+      needed P UnknownGoal (goal_at n s.desk.goals) (λ g. check WrongState (is_waiting (as_seen s.reach g.status)) (plan_goal s n g))
+      (λ g there. checked P WrongState (is_waiting (as_seen s.reach g.status)) (plan_goal s n g)
       (λ waits. needed P UnknownDerivation (known_at (known_of s.desk) g.derivation) (λ a. plan_resolved s n g (resolve_for s a.derivation))
       (λ a known. resolved_so g a there known (resolve_for s a.derivation) refl) (λ none told. cc)) (λ begun told. cc))
       (λ none told. cc)
     where
       resolved_so : (g : Goal) (a : Admission) → goal_at n s.desk.goals ≡ Some g → known_at (known_of s.desk) g.derivation ≡ Some a
-          → (o : Result Resolved Refusal) → resolve_for s a.derivation ≡ o → reply_of (plan_resolved s n g o) ≡ GoalState Planned
+          → (o : Result Resolved Refusal) → resolve_for s a.derivation ≡ o → reply_of (plan_resolved s n g o) ≡ GoalStatus Planned
           → PlansGoal s (Plan n) (plan_resolved s n g o)
       resolved_so g a there known (Ok r) is told = record {
         number = n;
@@ -295,7 +295,7 @@ module _ (s : Observation) (n : ℕ) where
       resolved_so g a there known (Err why) is told = absurd (cc)
 
 -- a planned goal keeps what it is started with
-kept_in : (s : State) (kept : Option Resolved) (r : Resolved) → planned_in s kept ≡ Some r → kept ≡ Some r
+kept_in : (s : Status) (kept : Option Resolved) (r : Resolved) → planned_in s kept ≡ Some r → kept ≡ Some r
 kept_in Waiting kept r e = absurd (cc)
 kept_in Planned kept r e = e
 kept_in (Building job) kept r e = absurd (cc)
@@ -307,12 +307,12 @@ again_fits : (setup : Setup) (s : Observation) (n : ℕ) (g : Goal) (q : Record)
     → GoalsFollow s (done_again setup s d n g q)
 again_fits setup s n g q d there same =
     let P : Outcome → Type 0 = GoalsFollow s in
-    let done : Goal = in_state (Done q.path) g in
-    let failed : Goal = in_state (Failed Quota) g in
+    let done : Goal = in_status (Done q.path) g in
+    let failed : Goal = in_status (Failed Quota) g in
     let follows : (x : Goal) → Follows d.goals (with_goal_at n x d.goals) → Follows s.desk.goals (with_goal_at n x d.goals) =
     λ x own. subst (λ goals. Follows goals (with_goal_at n x d.goals)) same own in
-    let is_done : Follows s.desk.goals (with_goal_at n done d.goals) = follows done (follows_state n (Done q.path) g d.goals there refl) in
-    let is_failed : Follows s.desk.goals (with_goal_at n failed d.goals) = follows failed (follows_state n (Failed Quota) g d.goals there refl) in
+    let is_done : Follows s.desk.goals (with_goal_at n done d.goals) = follows done (follows_status n (Done q.path) g d.goals there refl) in
+    let is_failed : Follows s.desk.goals (with_goal_at n failed d.goals) = follows failed (follows_status n (Failed Quota) g d.goals there refl) in
     one_of P (has_record q d) (turns s d n done)
     (if is_within setup (with_record q d) then turns s (with_record q d) n done else turns s d n failed)
     (λ had. is_done)
@@ -323,9 +323,9 @@ copied_fits : (setup : Setup) (s : Observation) (n : ℕ) (g : Goal) (r : Resolv
     → goal_at n d.goals ≡ Some g → d.goals ≡ s.desk.goals → is_some g.resolved ≡ true → GoalsFollow s (start_copied setup s d n g r known built)
 copied_fits setup s n g r known built d there same keeps = of known built
   where
-    entered : GoalsFollow s (turns s d n (in_state (Building (job_of s.running (own_job s n) r)) g))
+    entered : GoalsFollow s (turns s d n (in_status (Building (job_of s.running (own_job s n) r)) g))
     entered =
-        let x : Goal = in_state (Building (job_of s.running (own_job s n) r)) g in
+        let x : Goal = in_status (Building (job_of s.running (own_job s n) r)) g in
         subst (λ goals. Follows goals (with_goal_at n x d.goals)) same (follows_put n x g d.goals there refl (λ planned. keeps))
 
     of : (known : Option Admission) (built : Option Record) → GoalsFollow s (start_copied setup s d n g r known built)
@@ -336,16 +336,16 @@ copied_fits setup s n g r known built d there same keeps = of known built
 start_fits : (setup : Setup) (s : Observation) (n : ℕ) → GoalsFollow s (requests.start setup s n)
 start_fits setup s n =
     let P : Outcome → Type 0 = GoalsFollow s in
-    needed P UnknownGoal (goal_at n s.desk.goals) (λ g. need WrongState (planned_in g.state g.resolved) (start_goal setup s n g))
-    (λ g there. needed P WrongState (planned_in g.state g.resolved) (start_goal setup s n g)
+    needed P UnknownGoal (goal_at n s.desk.goals) (λ g. need WrongState (planned_in g.status g.resolved) (start_goal setup s n g))
+    (λ g there. needed P WrongState (planned_in g.status g.resolved) (start_goal setup s n g)
     (λ r is.
     let copied : Desk = with_entries r.closure s.desk in
     let same : copied.goals ≡ s.desk.goals = (entries_added r.closure s.desk).goals in
     let known : Option Admission = known_at (known_of s.desk) g.derivation in
     let built : Option Record = finished_build s.view r in
-    one_of P (is_within setup copied) (start_copied setup s copied n g r known built) (turns s s.desk n (in_state (Failed Quota) g))
-    (λ within. copied_fits setup s n g r known built copied (ap (goal_at n) same ∙ there) same (ap is_some (kept_in g.state g.resolved r is)))
-    (λ outside. follows_state n (Failed Quota) g s.desk.goals there refl))
+    one_of P (is_within setup copied) (start_copied setup s copied n g r known built) (turns s s.desk n (in_status (Failed Quota) g))
+    (λ within. copied_fits setup s n g r known built copied (ap (goal_at n) same ∙ there) same (ap is_some (kept_in g.status g.resolved r is)))
+    (λ outside. follows_status n (Failed Quota) g s.desk.goals there refl))
     (λ none. tt)) (λ absent. tt)
 
 end_fits : (setup : Setup) (s : Observation) (n : ℕ) (end : End) → GoalsFollow s (end_job setup s n end)
@@ -375,7 +375,7 @@ outcome_fits setup s (Take class) =
     (λ entries path given there. follows_same s.desk.goals (with_entries entries s.desk).goals (entries_added entries s.desk).goals) tt tt (λ why. tt) tt)
 outcome_fits setup s (Build path) =
     inl (build_cases (GoalsFollow s) s.desk path (λ a known. follows_new path s.desk.goals) (λ full. tt) (λ unknown. tt))
-outcome_fits setup s (Status n) = inl (status_cases (GoalsFollow s) s n (λ g there. follows_itself s.desk.goals) (λ absent. tt))
+outcome_fits setup s (StatusRequest n) = inl (status_cases (GoalsFollow s) s n (λ g there. follows_itself s.desk.goals) (λ absent. tt))
 outcome_fits setup s (Plan n) = plan_fits s n
 outcome_fits setup s (Start n) = inl (start_fits setup s n)
 outcome_fits setup s (Finish n bytes) = inl (end_fits setup s n (Output bytes))
@@ -443,11 +443,11 @@ put_there (suc i) x g goals there = set_there i goals there
 
 -- a derivation that was resolved has the closure of what was chosen for it
 resolved_plan : (view : List Desk) (pins : List worlds.Pin) (known : Known) (d : Derivation) (r : Resolved) → resolve view pins known d ≡ Ok r
-    → (p : choices.Plan) × (choices.plan view pins (input_classes known d) d.sources ≡ Ok p)
+    → (p : choices.Plan) × (choices.closure_plan view pins (input_classes known d) d.sources ≡ Ok p)
 resolved_plan view pins known d r is =
     let classes : List (List ℕ) = input_classes known d in
     let one = then_ok (closures.closure view pins classes d.sources) (resolved_over classes d) r is in
-    let two = then_ok (choices.plan view pins classes d.sources) closures.served_plan one.0 one.1 in
+    let two = then_ok (choices.closure_plan view pins classes d.sources) closures.served_plan one.0 one.1 in
     (two.0, two.1)
 
 -- the goals of the actor after a change of which nothing is delivered
@@ -475,11 +475,11 @@ abbrev PlansAgain : Setup → List Event → Event → List ℕ → ℕ → Type
 PlansAgain setup done e u n = (e ≡ planning u n) × IsPlanned setup (world_after setup nothing done) u n
 
 abbrev says_planned : Reply → Bool
-says_planned (GoalState Planned) = true
+says_planned (GoalStatus Planned) = true
 says_planned reply = false
 
-planned_said : (reply : Reply) → says_planned reply ≡ true → reply ≡ GoalState Planned
-planned_said (GoalState Planned) says = refl
+planned_said : (reply : Reply) → says_planned reply ≡ true → reply ≡ GoalStatus Planned
+planned_said (GoalStatus Planned) says = refl
 planned_said reply says = absurd (true≢false (sym says))
 
 abbrev asks_plan : Request → ℕ → Bool
@@ -550,9 +550,9 @@ kept_now setup done e n r plans number same good =
     let s : Observation = observation_of setup w u in
     let d = plans.admission.derivation in
     let new : Goal = planned_goal plans.goal plans.resolved in
-    let told : reply_to setup w e ≡ GoalState Planned = ap reply_of plans.outcome_is in
+    let told : reply_to setup w e ≡ GoalStatus Planned = ap reply_of plans.outcome_is in
     let there : goal_at plans.number (after setup w e u).goals ≡ Some new =
-    ap (goal_at plans.number) (goals_after setup w e (with_goal plans.number new s.desk) (GoalState Planned) plans.outcome_is)
+    ap (goal_at plans.number) (goals_after setup w e (with_goal plans.number new s.desk) (GoalStatus Planned) plans.outcome_is)
     ∙ put_there plans.number new plans.goal s.desk.goals plans.there in
     let chosen = resolved_plan s.view s.desk.pins (known_of s.desk) d plans.resolved plans.is in
     let is_good : IsGoodFor setup w u (input_classes (known_of (w u)) d) d.sources plans.resolved.closure =
@@ -567,7 +567,7 @@ kept_now setup done e n r plans number same good =
       cut = ap (λ last. done ++ last ∷ []) event;
       world = w;
       reached = refl;
-      told = subst (λ (x : Event). reply_to setup w x ≡ GoalState Planned) event told;
+      told = subst (λ (x : Event). reply_to setup w x ≡ GoalStatus Planned) event told;
       last = λ since rest same. absurd (not_cut since rest same);
       goal = plans.goal;
       there = plans.there;
@@ -590,7 +590,7 @@ goals_planned : (setup : Setup) (w : World) (e : Event) (u : List ℕ) (plans : 
 goals_planned setup w e u plans own =
     let new : Goal = planned_goal plans.goal plans.resolved in
     subst (λ x. (after setup w e x).goals ≡ with_goal_at plans.number new (w x).goals) (sym own)
-    (goals_after setup w e (with_goal plans.number new (w e.actor)) (GoalState Planned) plans.outcome_is)
+    (goals_after setup w e (with_goal plans.number new (w e.actor)) (GoalStatus Planned) plans.outcome_is)
 
 -- what the goal keeps then is well kept
 kept_planned : (setup : Setup) (done : List Event) (e : Event) (u : List ℕ) (n : ℕ) (g : Goal) (r : Resolved)
@@ -601,7 +601,7 @@ kept_planned setup done e u n g r plans own number is kept good =
     let same : r ≡ plans.resolved = some_same r plans.resolved (sym kept ∙ ap (λ (y : Goal). y.resolved) (sym is)) in
     subst (λ x. IsWellKept setup (done ++ e ∷ []) x n r) (sym own) (kept_now setup done e n r plans number same good)
 
-outcome_planned : (setup : Setup) (s : Observation) (n : ℕ) → reply_of (outcome setup s (Plan n)) ≡ GoalState Planned → PlansGoal s (Plan n) (outcome setup s (Plan n))
+outcome_planned : (setup : Setup) (s : Observation) (n : ℕ) → reply_of (outcome setup s (Plan n)) ≡ GoalStatus Planned → PlansGoal s (Plan n) (outcome setup s (Plan n))
 unfolding outcome
 outcome_planned setup s n = planned_so s n
 
@@ -609,7 +609,7 @@ outcome_planned setup s n = planned_so s n
 plans_it : (setup : Setup) (w : World) (u : List ℕ) (n : ℕ) → IsPlanned setup w u n → PlansGoal (observation_of setup w u) (Plan n) (outcome_of setup w (planning u n))
 plans_it setup w u n =
     let s : Observation = observation_of setup w u in
-    cond_both (is_user setup u) (outcome setup s (Plan n)) (Err UnknownUser) (λ (o : Outcome). reply_of o ≡ GoalState Planned → PlansGoal s (Plan n) o)
+    cond_both (is_user setup u) (outcome setup s (Plan n)) (Err UnknownUser) (λ (o : Outcome). reply_of o ≡ GoalStatus Planned → PlansGoal s (Plan n) o)
     (λ yes. outcome_planned setup s n) (λ no told. absurd (cc))
 
 kept_again : (setup : Setup) (done : List Event) (u : List ℕ) (n : ℕ) (g : Goal) (r : Resolved) → IsPlanned setup (world_after setup nothing done) u n
@@ -667,7 +667,7 @@ asks_itself : (setup : Setup) (w : World) (e : Event) (u : List ℕ) (n : ℕ) �
     → n ≡ plans.number → (e ≡ planning u n) × IsPlanned setup w u n
 asks_itself setup w e u n own plans number =
     let event : e ≡ planning u n = λ j. record { actor = sym own j; request = (plans.asked ∙ ap Plan (sym number)) j } in
-    (event, subst (λ (x : Event). reply_to setup w x ≡ GoalState Planned) event (ap reply_of plans.outcome_is))
+    (event, subst (λ (x : Event). reply_to setup w x ≡ GoalStatus Planned) event (ap reply_of plans.outcome_is))
 
 pub only_plans : OnlyPlansChangeKept
 only_plans setup w e u n old new was now = elim (after_follows setup w e u) [
@@ -719,7 +719,7 @@ stand_after setup w e u all = elim (after_follows setup w e u) [
       let new : Goal = planned_goal plans.goal plans.resolved in
       let goals : (after setup w e u).goals ≡ with_goal_at plans.number new (w u).goals =
       subst (λ x. (after setup w e x).goals ≡ with_goal_at plans.number new (w x).goals) (sym p.0)
-      (goals_after setup w e (with_goal plans.number new (w e.actor)) (GoalState Planned) plans.outcome_is) in
+      (goals_after setup w e (with_goal plans.number new (w e.actor)) (GoalStatus Planned) plans.outcome_is) in
       subst (All Stands) (sym goals) (stand_put plans.number new (w u).goals (λ planned. refl) all)
 ]
   where

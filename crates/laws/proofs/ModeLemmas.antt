@@ -9,7 +9,7 @@ use Rattle.model.specs.Events.{Reply}
 use Rattle.model.specs.Lines.{LineResult, split, cut_at, filled}
 use Rattle.model.specs.Forms.{Form, Command, names_form, users_form, first_form, command_in, command_form, later_form, text_form, line_form, is_empty_word, is_quiet, is_printable, longest_line}
 use Rattle.model.specs.Forms as form
-use Rattle.model.specs.Talk.{Row, Silent, Names, Refuses, Asks, Waits, Seen, after, form_of, Gets, GetsNext, Talks, awaited_in}
+use Rattle.model.specs.Talk.{Row, Silent, Names, Refuses, Asks, Waits, Seen, seen_after, form_of, Gets, GetsNext, Talks, awaited_in}
 
 -- a form of no wait
 abbrev IsNoWait : Form → Type 0
@@ -67,8 +67,8 @@ pub never_waits : (seen : Seen) (lines : List (List ℕ)) (rows : List Row) → 
 never_waits seen [] [] service t = refl
 never_waits seen [] (r ∷ rows) service t = absurd t
 never_waits seen (l ∷ lines) [] service t = refl
-never_waits seen (l ∷ lines) (Silent ∷ rows) service t = never_waits (after seen Silent) lines rows service t.2
-never_waits seen (l ∷ lines) (Names users ∷ rows) service t = never_waits (after seen (Names users)) lines rows service t.2
-never_waits seen (l ∷ lines) (Refuses why ∷ rows) service t = never_waits (after seen (Refuses why)) lines rows service t.2
-never_waits seen (l ∷ lines) (Asks event reply ∷ rows) service t = never_waits (after seen (Asks event reply)) lines rows service t.2
+never_waits seen (l ∷ lines) (Silent ∷ rows) service t = never_waits (seen_after seen Silent) lines rows service t.2
+never_waits seen (l ∷ lines) (Names users ∷ rows) service t = never_waits (seen_after seen (Names users)) lines rows service t.2
+never_waits seen (l ∷ lines) (Refuses why ∷ rows) service t = never_waits (seen_after seen (Refuses why)) lines rows service t.2
+never_waits seen (l ∷ lines) (Asks event reply ∷ rows) service t = never_waits (seen_after seen (Asks event reply)) lines rows service t.2
 never_waits seen (l ∷ lines) (Waits awaited reply ∷ rows) service t = absurd (no_wait-next seen l awaited reply service t.1)

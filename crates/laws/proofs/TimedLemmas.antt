@@ -6,12 +6,12 @@ use Rattle.std.proofs.lemmas.Bool.{or_left, or_right, and_from}
 use Rattle.std.proofs.lemmas.Simd.{map-map}
 use Rattle.model.specs.declared.refusal.Refusal.TheVariants.{UnknownUser}
 use Rattle.model.specs.Reach.{leads, is_among}
-use Rattle.model.specs.Worlds.{Setup, is_user, Resolved, Job, State, Goal, Desk, World, nothing}
+use Rattle.model.specs.Worlds.{Setup, is_user, Resolved, Job, Status, Goal, Desk, World, nothing}
 use Rattle.model.specs.Goals.{same_job, running_in, led_by}
 use Rattle.model.specs.Events.{Event}
 use Rattle.model.specs.Outcomes.{trusts, reaches, view_of, joins, running_for, Observation, observation_of, Notification, NoNotification, Ended, Outcome, check, delivered, reply_of, desk_after}
 use Rattle.model.specs.Steps.{outcome, outcome_of, reply_to, after, world_after, answers, replies_to}
-use Rattle.model.specs.Timed.{reached_from, near, kept_from, state_in, goal_in, desk_in, AgreesOn}
+use Rattle.model.specs.Timed.{reached_from, near, kept_from, status_in, goal_in, desk_in, AgreesOn}
 use Rattle.model.specs.Laws.{IsTimed}
 use Rattle.model.proofs.BoolLemmas.{either, or_cases, both_parts, same_bytes, bytes_same, bytes_eq_sym}
 use Rattle.model.proofs.ReachLemmas.{leads_link, leads_least, leads-IsLeast}
@@ -106,8 +106,8 @@ module _ (setup : Setup) (set : List ℕ → Bool) (w v : World) (agree : Agrees
       (and_agree _ _ _ _ (leads_same ks x k h) (λ t. leads_same ks k y (leads_least (trusts w) set closed ks x k h t))))
 
   -- the jobs that a user of the set leads
-  led_one : (u : List ℕ) → set u ≡ true → (n : ℕ) (s : State) (r : Option Resolved)
-      → running_in (record { leader = u; number = n }) (state_in agree.jobs s) r ≡ running_in (record { leader = u; number = n }) s r
+  led_one : (u : List ℕ) → set u ≡ true → (n : ℕ) (s : Status) (r : Option Resolved)
+      → running_in (record { leader = u; number = n }) (status_in agree.jobs s) r ≡ running_in (record { leader = u; number = n }) s r
   led_one u h n s None = refl
   led_one u h n s (Some r) =
       let job : Job = record { leader = u; number = n } in
@@ -118,7 +118,7 @@ module _ (setup : Setup) (set : List ℕ → Bool) (w v : World) (agree : Agrees
   led_same : (u : List ℕ) → set u ≡ true → (n : ℕ) (goals : List Goal) → led_by u n (map (goal_in agree.jobs) goals) ≡ led_by u n goals
   unfolding led_by
   led_same u h n [] = refl
-  led_same u h n (g ∷ goals) = rw (led_one u h n g.state g.resolved, led_same u h (suc n) goals) refl
+  led_same u h n (g ∷ goals) = rw (led_one u h n g.status g.resolved, led_same u h (suc n) goals) refl
 
   observation_same : (u : List ℕ) → set u ≡ true → observation_of setup w u ≡ observation_in agree.jobs (observation_of setup v u)
   observation_same u h =

@@ -9,14 +9,14 @@ use Rattle.model.specs.declared.verb.WordKind.TheVariants as kind
 use Rattle.model.specs.Paths.{IsPath}
 use Rattle.model.specs.Words.{IsWell, IsIll, FirstIll}
 use Rattle.model.specs.Lines.{split}
-use Rattle.model.specs.Forms.{is_text, is_empty_word, words_by}
+use Rattle.model.specs.Forms.{is_rest_of_line, is_empty_word, words_by}
 
 -- a text is one word
-pub by_text : (kinds : List WordKind) (text : List ℕ) (words : List (List ℕ)) → is_text kinds ≡ true → words ≡ text ∷ [] → Some words ≡ words_by kinds text
+pub by_text : (kinds : List WordKind) (text : List ℕ) (words : List (List ℕ)) → is_rest_of_line kinds ≡ true → words ≡ text ∷ [] → Some words ≡ words_by kinds text
 by_text kinds text words e w = rw e (ap Some w)
 
 -- a text with an empty word is none
-pub by_empty : (kinds : List WordKind) (text : List ℕ) → is_text kinds ≡ false → list_any is_empty_word (split 32 text) ≡ true → None ≡ words_by kinds text
+pub by_empty : (kinds : List WordKind) (text : List ℕ) → is_rest_of_line kinds ≡ false → list_any is_empty_word (split 32 text) ≡ true → None ≡ words_by kinds text
 by_empty kinds text e any = rw (e, any) refl
 
 -- the test of two numbers
@@ -27,7 +27,7 @@ count-other : (m n : ℕ) → (m ≡ n → ⊥) → (m == n) ≡ false
 count-other m n h = grind arith
 
 -- as many words as kinds are all that there are
-pub by_many : (kinds : List WordKind) (text : List ℕ) (words : List (List ℕ)) → is_text kinds ≡ false → list_any is_empty_word (split 32 text) ≡ false
+pub by_many : (kinds : List WordKind) (text : List ℕ) (words : List (List ℕ)) → is_rest_of_line kinds ≡ false → list_any is_empty_word (split 32 text) ≡ false
     → words ≡ take (length kinds + 1) (split 32 text) → length words ≡ length kinds → Some words ≡ words_by kinds text
 by_many kinds text words e any w n =
     let all = split 32 text in
@@ -35,7 +35,7 @@ by_many kinds text words e any w n =
     rw (e, any, count-same (length all) (length kinds) m) (ap Some (w ∙ take_all (length kinds + 1) all (omega arith)))
 
 -- with more or fewer words it is none
-pub by_other : (kinds : List WordKind) (text : List ℕ) (words : List (List ℕ)) → is_text kinds ≡ false → list_any is_empty_word (split 32 text) ≡ false
+pub by_other : (kinds : List WordKind) (text : List ℕ) (words : List (List ℕ)) → is_rest_of_line kinds ≡ false → list_any is_empty_word (split 32 text) ≡ false
     → words ≡ take (length kinds + 1) (split 32 text) → (length words ≡ length kinds → ⊥) → None ≡ words_by kinds text
 by_other kinds text words e any w n =
     let all = split 32 text in

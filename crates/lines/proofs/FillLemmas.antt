@@ -4,16 +4,16 @@ use Rattle.std.proofs.lemmas.List.{append-nil}
 use Rattle.std.specs.List.{list_all}
 use Rattle.model.specs.declared.mode.Mode.{Mode}
 use Rattle.model.specs.Forms.{longest_line, is_quiet, is_printable, line_form, text_form}
-use Rattle.model.specs.Lines.{LineResult, cut_at, split, joined, piece_text, pieces_text, text_from_pieces, filled}
+use Rattle.model.specs.Lines.{LineResult, cut_at, split, joined_texts, expanded_piece, pieces_text, text_from_pieces, filled}
 use Rattle.lines.proofs.CutLemmas.{split-one, split-more}
 
-joined-joined : (a b c : Option (List ℕ)) → joined a (joined b c) ≡ joined (joined a b) c
+joined-joined : (a b c : Option (List ℕ)) → joined_texts a (joined_texts b c) ≡ joined_texts (joined_texts a b) c
 joined-joined None b c = refl
 joined-joined (Some x) None c = refl
 joined-joined (Some x) (Some y) None = refl
 joined-joined (Some x) (Some y) (Some z) = ap Some (sym (append_assoc x y z))
 
-joined-nil : (a : Option (List ℕ)) → joined a (Some []) ≡ a
+joined-nil : (a : Option (List ℕ)) → joined_texts a (Some []) ≡ a
 joined-nil None = refl
 joined-nil (Some x) = ap Some (append-nil x)
 
@@ -21,28 +21,28 @@ pub fill-plain : (told : List LineResult) (line : List ℕ) → cut_at 123 line 
 fill-plain told line e = ap (text_from_pieces told) (split-one 123 line e) ∙ ap Some (append-nil line)
 
 pub fill-start : (told : List LineResult) (line first rest : List ℕ) → cut_at 123 line ≡ Some (first, rest)
-    → joined (Some first) (pieces_text told (split 123 rest)) ≡ filled told line
+    → joined_texts (Some first) (pieces_text told (split 123 rest)) ≡ filled told line
 fill-start told line first rest e = sym (ap (text_from_pieces told) (split-more 123 line first rest e))
 
 fill-more : (told : List LineResult) (old rest piece others : List ℕ) → cut_at 123 rest ≡ Some (piece, others)
-    → joined (Some old) (pieces_text told (split 123 rest)) ≡ joined (joined (Some old) (piece_text told piece)) (pieces_text told (split 123 others))
+    → joined_texts (Some old) (pieces_text told (split 123 rest)) ≡ joined_texts (joined_texts (Some old) (expanded_piece told piece)) (pieces_text told (split 123 others))
 fill-more told old rest piece others e =
-    ap (λ ps. joined (Some old) (pieces_text told ps)) (split-more 123 rest piece others e)
-    ∙ joined-joined (Some old) (piece_text told piece) (pieces_text told (split 123 others))
+    ap (λ ps. joined_texts (Some old) (pieces_text told ps)) (split-more 123 rest piece others e)
+    ∙ joined-joined (Some old) (expanded_piece told piece) (pieces_text told (split 123 others))
 
 pub fill-step : (told : List LineResult) (old new rest piece others : List ℕ) → cut_at 123 rest ≡ Some (piece, others)
-    → Some new ≡ joined (Some old) (piece_text told piece)
-    → joined (Some new) (pieces_text told (split 123 others)) ≡ joined (Some old) (pieces_text told (split 123 rest))
-fill-step told old new rest piece others e f = ap (λ a. joined a (pieces_text told (split 123 others))) f ∙ sym (fill-more told old rest piece others e)
+    → Some new ≡ joined_texts (Some old) (expanded_piece told piece)
+    → joined_texts (Some new) (pieces_text told (split 123 others)) ≡ joined_texts (Some old) (pieces_text told (split 123 rest))
+fill-step told old new rest piece others e f = ap (λ a. joined_texts a (pieces_text told (split 123 others))) f ∙ sym (fill-more told old rest piece others e)
 
-pub fill-stop : (told : List LineResult) (old rest piece others : List ℕ) → cut_at 123 rest ≡ Some (piece, others) → None ≡ joined (Some old) (piece_text told piece)
-    → None ≡ joined (Some old) (pieces_text told (split 123 rest))
-fill-stop told old rest piece others e f = ap (λ a. joined a (pieces_text told (split 123 others))) f ∙ sym (fill-more told old rest piece others e)
+pub fill-stop : (told : List LineResult) (old rest piece others : List ℕ) → cut_at 123 rest ≡ Some (piece, others) → None ≡ joined_texts (Some old) (expanded_piece told piece)
+    → None ≡ joined_texts (Some old) (pieces_text told (split 123 rest))
+fill-stop told old rest piece others e f = ap (λ a. joined_texts a (pieces_text told (split 123 others))) f ∙ sym (fill-more told old rest piece others e)
 
 pub fill-last : (told : List LineResult) (old rest : List ℕ) → cut_at 123 rest ≡ None
-    → joined (Some old) (piece_text told rest) ≡ joined (Some old) (pieces_text told (split 123 rest))
+    → joined_texts (Some old) (expanded_piece told rest) ≡ joined_texts (Some old) (pieces_text told (split 123 rest))
 fill-last told old rest e =
-    sym (ap (λ ps. joined (Some old) (pieces_text told ps)) (split-one 123 rest e) ∙ ap (joined (Some old)) (joined-nil (piece_text told rest)))
+    sym (ap (λ ps. joined_texts (Some old) (pieces_text told ps)) (split-one 123 rest e) ∙ ap (joined_texts (Some old)) (joined-nil (expanded_piece told rest)))
 
 pub text-of_test : (whole : Bool) (text : List ℕ) (o : Option (List ℕ)) → whole ≡ true → cond whole (Some text) None ≡ o → Some text ≡ o
 text-of_test whole text o e h = sym (ap (λ b. cond b (Some text) None) e) ∙ h

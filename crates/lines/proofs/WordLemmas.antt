@@ -10,7 +10,7 @@ use Rattle.model.specs.Worlds.{is_user_name, are_users, begins_with_letter}
 use Rattle.model.specs.declared.verb.WordKind.{WordKind}
 use Rattle.model.specs.declared.verb.WordKind.TheVariants as kind
 use Rattle.model.specs.Lines.{split}
-use Rattle.model.specs.Forms.{Refuses, names_form, users_form, is_empty_word, is_text, so_many, words_by}
+use Rattle.model.specs.Forms.{Refuses, names_form, users_form, is_empty_word, is_rest_of_line, so_many, words_by}
 use Rattle.lines.proofs.NumberLemmas.{leb-false}
 
 and-false : (a : Bool) → (a && false) ≡ false
@@ -67,11 +67,11 @@ so_many-length count words ws h =
     let kept = count-kept (list_any is_empty_word words) (length words == count) words ws h in
     sym (ap length kept.1) ∙ eqb-true (length words) count kept.0
 
-text-one : (kinds : List WordKind) → is_text kinds ≡ true → length kinds ≡ 1
+text-one : (kinds : List WordKind) → is_rest_of_line kinds ≡ true → length kinds ≡ 1
 text-one (kind.Text ∷ []) h = refl
 text-one kinds h = cc h
 
-by-text : (b : Bool) (kinds : List WordKind) (text : List ℕ) (ws : List (List ℕ)) → is_text kinds ≡ b
+by-text : (b : Bool) (kinds : List WordKind) (text : List ℕ) (ws : List (List ℕ)) → is_rest_of_line kinds ≡ b
     → cond b (Some (text ∷ [])) (so_many (length kinds) (split 32 text)) ≡ Some ws → length ws ≡ length kinds
 by-text true kinds text ws e h = sym (ap length (some-of (text ∷ []) ws h)) ∙ sym (text-one kinds e)
 by-text false kinds text ws e h = so_many-length (length kinds) (split 32 text) ws h
@@ -80,7 +80,7 @@ by-text false kinds text ws e h = so_many-length (length kinds) (split 32 text) 
 pub words_by-length : (kinds kinds' : List WordKind) (text : List ℕ) (words : Option (Vec (List ℕ))) (ws : Vec (List ℕ))
     → option_map (λ w. w.items) words ≡ words_by kinds text → words ≡ Some ws → kinds ≡ kinds' → length ws.items ≡ length kinds'
 words_by-length kinds kinds' text words ws h e k =
-    by-text (is_text kinds) kinds text ws.items refl (sym h ∙ ap (option_map (λ w. w.items)) e) ∙ ap length k
+    by-text (is_rest_of_line kinds) kinds text ws.items refl (sym h ∙ ap (option_map (λ w. w.items)) e) ∙ ap length k
 
 -- the first words and the next one
 pub taken_next : (words : List (List ℕ)) (i : ℕ) (word user : List ℕ) (old new : List (List ℕ)) → i < length words → word ≡ get_or words i word → user ≡ word

@@ -5,7 +5,7 @@ ghost use Rattle.model.specs.declared.refusal.Refusal.TheVariants.{Memory};
 ghost use Rattle.model.specs.declared.verb.Verb.TheVariants as verbs;
 ghost use Rattle.model.specs.declared.verb.WordKind.TheVariants as kinds;
 ghost use Rattle.model.specs.Verbs.{kinds_of, verb_in};
-ghost use Rattle.model.specs.Forms.{is_text, words_by, command_in};
+ghost use Rattle.model.specs.Forms.{is_rest_of_line, words_by, command_in};
 ghost use Rattle.lines.specs.Reading.{command_of, IsRequestOfCommand, IsNoRequest, IsEventOfCommand, IsNoEvent};
 
 use crate::cutting::{Word, cut, first_words, has_empty_word, one_word};
@@ -42,7 +42,7 @@ impl<'a> Model for Command<'a> {
 
 /// Whether all that is left of the line is one word.
 fn is_text(kinds: &[WordKind]) -> bool
-    ensures { result ≡ is_text kinds.now }
+    ensures { result ≡ is_rest_of_line kinds.now }
 {
     matches!(kinds, [WordKind::Text])
 }

@@ -1,7 +1,7 @@
 //! The expansions of a line.
 
 ghost use Rattle.std.specs.Prelude.{◌≡◌, ◌∷◌, ◌++◌, [], IfOk, OnOk, MatchOption, if◌then◌else◌, option_map, slice_index_or};
-ghost use Rattle.model.specs.Lines.{named_line, is_letter, expansion_in, nothing_told, told_by, part_by, expanded, piece_text, joined, filled};
+ghost use Rattle.model.specs.Lines.{named_line, is_letter, expansion_in, nothing_told, told_by, part_by, expanded, expanded_piece, joined_texts, filled};
 
 use crate::cutting::cut;
 use crate::line_result::LineResult;
@@ -108,7 +108,7 @@ fn add_piece(
     piece: &[u8],
 ) -> Result<bool, AllocError>
     ensures { IfOk result (λ whole. (if whole then Some text.new.items else None)
-        ≡ joined (Some text.old.items) (piece_text told.now piece.now)) }
+        ≡ joined_texts (Some text.old.items) (expanded_piece told.now piece.now)) }
 {
     let Some(expansion) = expansion_in(told.len(), piece) else {
         text.push(b'{')?;

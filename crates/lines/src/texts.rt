@@ -3,13 +3,13 @@
 ghost use Rattle.std.specs.Prelude.{◌≡◌, ◌++◌, ◌∷◌, [], OnOk, IfOk, IfErr, codes};
 ghost use Rattle.model.specs.declared.refusal.Refusal.TheVariants.{Memory};
 ghost use Rattle.model.specs.Events as events;
-ghost use Rattle.model.specs.Talk.{job_text, state_text, reply_text, answer_text};
-ghost use Rattle.events.specs.States.{state_of};
+ghost use Rattle.model.specs.Talk.{job_text, status_text, reply_text, answer_text};
+ghost use Rattle.events.specs.Statuses.{status_of};
 ghost use Rattle.events.specs.Terms.{reply_of};
 
 use crate::entries::add_entries;
 use crate::pieces::{add, add_number};
-use events::{Job, Reply, State};
+use events::{Job, Reply, Status};
 use model::Refusal;
 use nar::{Tree, tree_text};
 use records::Entry;
@@ -26,15 +26,15 @@ fn add_job(alloc: Global, text: &mut Vec<u8>, job: &Job) -> Result<(), AllocErro
 }
 
 /// Adds how far a goal is.
-fn add_state(alloc: Global, text: &mut Vec<u8>, state: &State) -> Result<(), AllocError>
-    ensures { OnOk result (text.new.items ≡ text.old.items ++ state_text (state_of state.now)) }
+fn add_status(alloc: Global, text: &mut Vec<u8>, status: &Status) -> Result<(), AllocError>
+    ensures { OnOk result (text.new.items ≡ text.old.items ++ status_text (status_of status.now)) }
 {
-    match state {
-        State::Waiting => text.extend_from_slice(b"waiting"),
-        State::Planned => text.extend_from_slice(b"planned"),
-        State::Building(job) => add_job(alloc, text, job),
-        State::Done(path) => add(text, b"done ", path.bytes()),
-        State::Failed(why) => add_number(alloc, text, b"failed ", usize::from(why.number())),
+    match status {
+        Status::Waiting => text.extend_from_slice(b"waiting"),
+        Status::Planned => text.extend_from_slice(b"planned"),
+        Status::Building(job) => add_job(alloc, text, job),
+        Status::Done(path) => add(text, b"done ", path.bytes()),
+        Status::Failed(why) => add_number(alloc, text, b"failed ", usize::from(why.number())),
     }
 }
 
@@ -87,7 +87,7 @@ fn add_reply(alloc: Global, text: &mut Vec<u8>, reply: &Reply) -> Result<(), All
         Reply::Content(tree) => add_tree(alloc, text, tree),
         Reply::Entries(closure) => add_closure(alloc, text, closure.entries()),
         Reply::GoalNumber(number) => add_number(alloc, text, b"goal ", usize::from(*number)),
-        Reply::GoalState(state) => add_state(alloc, text, state),
+        Reply::GoalStatus(status) => add_status(alloc, text, status),
         Reply::Refused(why) => add_refusal(alloc, text, *why),
     }
 }

@@ -4,7 +4,7 @@ use Rattle.std.specs.List.{list_any}
 use Rattle.model.specs.declared.refusal.Refusal.TheVariants.{NotHeld, InUse}
 use Rattle.model.specs.Classes.{Class}
 use Rattle.model.specs.Worlds.{Record, Entry, OfSource, OfRecord, Resolved, Waiting, Goal, Desk}
-use Rattle.model.specs.Goals.{in_state, as_seen, is_building}
+use Rattle.model.specs.Goals.{in_status, as_seen, is_building}
 use Rattle.model.specs.FinishedBuilds.{is_record_at}
 use Rattle.model.specs.Events as events
 use Rattle.model.specs.Outcomes.{Observation, Outcome, becomes, check}
@@ -32,7 +32,7 @@ is_built_from class path (Some r) = list_any (is_entry_at class path) r.closure
 
 -- whether a goal is built from it, as its user sees
 abbrev pub builds_with : (List ℕ → Bool) → List ℕ → List ℕ → Goal → Bool
-builds_with reach class path g = is_building (as_seen reach g.state) && is_built_from class path g.resolved
+builds_with reach class path g = is_building (as_seen reach g.status) && is_built_from class path g.resolved
 
 -- ---- what comes of it
 
@@ -42,7 +42,7 @@ remaining class path records = filter (λ r. not (is_record_at class path r)) re
 
 -- a goal that is stored as built from it waits
 abbrev pub let_go : List ℕ → List ℕ → Goal → Goal
-let_go class path g = if is_building g.state && is_built_from class path g.resolved then in_state Waiting g else g
+let_go class path g = if is_building g.status && is_built_from class path g.resolved then in_status Waiting g else g
 
 -- a desk without the records of a class at a path
 abbrev pub without_records : List ℕ → List ℕ → Desk → Desk

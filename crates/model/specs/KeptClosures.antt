@@ -1,12 +1,12 @@
 -- What goals keep: from where it is, and that its closure is good.
 use Rattle.std.specs.Prelude.{◌≡◌, ℕ, Bool, true, false, is_some, List, ◌∷◌, ◌++◌, ◌⊎◌, Some, Ok}
 use Rattle.model.specs.Classes.{Admission, known_at}
-use Rattle.model.specs.Worlds.{Setup, World, nothing, Resolved, State, Waiting, Planned, Building, Done, Failed, Goal, known_of}
+use Rattle.model.specs.Worlds.{Setup, World, nothing, Resolved, Status, Waiting, Planned, Building, Done, Failed, Goal, known_of}
 use Rattle.model.specs.Choices as choices
 use Rattle.model.specs.Closures.{IsWhole, KeepsNoReplaced}
 use Rattle.model.specs.Goals.{goal_at}
 use Rattle.model.specs.Resolutions.{input_classes, resolve}
-use Rattle.model.specs.Events.{Plan, Event, GoalState}
+use Rattle.model.specs.Events.{Plan, Event, GoalStatus}
 use Rattle.model.specs.Outcomes.{view_of}
 use Rattle.model.specs.Steps.{reply_to, after, world_after}
 use Rattle.model.specs.GivenClosures.{GiveGoodClosures}
@@ -17,7 +17,7 @@ planning u n = record { actor = u; request = Plan n }
 
 -- it is answered that the goal is planned
 abbrev pub IsPlanned : Setup → World → List ℕ → ℕ → Type 0
-IsPlanned setup w u n = reply_to setup w (planning u n) ≡ GoalState Planned
+IsPlanned setup w u n = reply_to setup w (planning u n) ≡ GoalStatus Planned
 
 -- what the goal of a number keeps was found by the last event that planned it: it is what the goal's derivation, as its user knew it then,
 -- is built from, as he saw it then; and its closure serves no class by two paths, holds an entry for each label, and keeps no replaced hash
@@ -36,7 +36,7 @@ pub record IsWellKept (setup : Setup) (events : List Event) (u : List ℕ) (n : 
   pub known : known_at (known_of (world u)) goal.derivation ≡ Some admission
   pub resolved : resolve (view_of setup world u) (world u).pins (known_of (world u)) admission.derivation ≡ Ok r
   pub plan : choices.Plan
-  pub planned : choices.plan (view_of setup world u) (world u).pins (input_classes (known_of (world u)) admission.derivation) admission.derivation.sources ≡ Ok plan
+  pub planned : choices.closure_plan (view_of setup world u) (world u).pins (input_classes (known_of (world u)) admission.derivation) admission.derivation.sources ≡ Ok plan
   pub whole : IsWhole r.closure
   pub gone : KeepsNoReplaced plan r.closure
 
@@ -51,7 +51,7 @@ OnlyPlansChangeKept = (setup : Setup) (w : World) (e : Event) (u : List ℕ) (n 
     → goal_at n (w u).goals ≡ Some old → goal_at n (after setup w e u).goals ≡ Some new → (new.resolved ≡ old.resolved) ⊎ ((e ≡ planning u n) × IsPlanned setup w u n)
 
 -- whether a goal is planned, or is built
-abbrev pub is_planned : State → Bool
+abbrev pub is_planned : Status → Bool
 is_planned Waiting = false
 is_planned Planned = true
 is_planned (Building job) = true
@@ -61,4 +61,4 @@ is_planned (Failed why) = false
 -- such a goal keeps what it is built from
 abbrev pub PlannedGoalsKeep : Type 0
 PlannedGoalsKeep = (setup : Setup) (events : List Event) (u : List ℕ) (n : ℕ) (g : Goal)
-    → goal_at n (world_after setup nothing events u).goals ≡ Some g → is_planned g.state ≡ true → is_some g.resolved ≡ true
+    → goal_at n (world_after setup nothing events u).goals ≡ Some g → is_planned g.status ≡ true → is_some g.resolved ≡ true

@@ -14,7 +14,7 @@ with_kept job (Some r) = Ok (record { job = job; resolved = r })
 -- the job that a goal leads, or why it leads none
 abbrev pub led_job : Job → Option Goal → Result Running Refusal
 led_job job None = Err UnknownGoal
-led_job job (Some g) = if is_in job g.state then with_kept job g.resolved else Err WrongState
+led_job job (Some g) = if is_in job g.status then with_kept job g.resolved else Err WrongState
 
 -- the job that a user's goal of that number leads, or why it leads none
 abbrev pub job_led_by : Setup → World → List ℕ → ℕ → Result Running Refusal

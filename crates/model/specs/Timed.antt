@@ -3,8 +3,8 @@
 -- happened or later, and none earlier than the next link towards the actor.
 use Rattle.std.specs.Prelude.{◌≡◌, ℕ, Bool, true, not, ◌&&◌, ◌||◌, if◌then◌else◌, List, [], ◌∷◌, map, bytes_eq}
 use Rattle.std.specs.List.{list_any}
-use Rattle.model.specs.Worlds.{Setup, is_user, Job, State, Waiting, Planned, Building, Done, Failed, Goal, Desk, World, nothing}
-use Rattle.model.specs.Goals.{in_state}
+use Rattle.model.specs.Worlds.{Setup, is_user, Job, Status, Waiting, Planned, Building, Done, Failed, Goal, Desk, World, nothing}
+use Rattle.model.specs.Goals.{in_status}
 use Rattle.model.specs.Events.{Request, Trust, Distrust, Event}
 use Rattle.model.specs.Outcomes.{reaches}
 use Rattle.model.specs.Steps.{after}
@@ -49,15 +49,15 @@ trusts_after setup e trusts x y = if bytes_eq x e.actor && is_user setup e.actor
 -- ---- goals that may wait
 
 -- a goal stays in a job of these, and waits where it is in another
-abbrev pub state_in : (Job → Bool) → State → State
-state_in jobs Waiting = Waiting
-state_in jobs Planned = Planned
-state_in jobs (Building job) = if jobs job then Building job else Waiting
-state_in jobs (Done path) = Done path
-state_in jobs (Failed why) = Failed why
+abbrev pub status_in : (Job → Bool) → Status → Status
+status_in jobs Waiting = Waiting
+status_in jobs Planned = Planned
+status_in jobs (Building job) = if jobs job then Building job else Waiting
+status_in jobs (Done path) = Done path
+status_in jobs (Failed why) = Failed why
 
 abbrev pub goal_in : (Job → Bool) → Goal → Goal
-goal_in jobs g = in_state (state_in jobs g.state) g
+goal_in jobs g = in_status (status_in jobs g.status) g
 
 -- a desk whose goals are in these jobs alone
 abbrev pub desk_in : (Job → Bool) → Desk → Desk

@@ -2,7 +2,7 @@
 use Rattle.std.specs.Prelude.{◌≡◌, ◌⊎◌, ◌≤◌, ⊤, ℕ, true, false, List, [], Option, None, Some}
 use Rattle.std.specs.List.{list_any}
 use Rattle.model.specs.Worlds.{Record}
-use Rattle.model.specs.Repairs.{Move, is_replaced, is_replaced_by}
+use Rattle.model.specs.Repairs.{Move, changes_path, is_replaced_by}
 use Rattle.moving.specs.Keeping.{sizes}
 use Rattle.moving.specs.AtHand.{IsKept, IsMade}
 use Rattle.moving.specs.declared.kept.Kept.{Kept}
@@ -39,4 +39,4 @@ IsAtHand cache chosen moves = IsMade cache.made.items chosen moves ⊎ IsAmongKe
 
 -- a record whose labels move so has to be repaired, and is not refused for its own path
 abbrev pub IsToRepair : Record → List Move → Type 0
-IsToRepair chosen moves = (list_any is_replaced moves ≡ true) × (list_any (is_replaced_by chosen.path) moves ≡ false)
+IsToRepair chosen moves = (list_any changes_path moves ≡ true) × (list_any (is_replaced_by chosen.path) moves ≡ false)

@@ -10,7 +10,7 @@ use Rattle.model.specs.Substitutions.{Images, image_of, keys_of, is_replaced, pu
 use Rattle.model.specs.Settling.{Settled, ShareNone, IsGone, places_of_path, hash_part_in, name_in, sought, settling, settled}
 use Rattle.model.specs.Worlds.{Label, Record}
 use Rattle.model.specs.References.{paths_of_labels}
-use Rattle.model.specs.Repairs.{Move, is_replaced as is_moved, images_of, moved_labels}
+use Rattle.model.specs.Repairs.{Move, changes_path as is_moved, images_of, moved_labels}
 use Rattle.model.proofs.BoolLemmas.{same_bytes, bytes_same, bytes_differ}
 use Rattle.laws.proofs.MemberLemmas.{In, in_of, contains_of, in_left, in_right, in_map}
 use Rattle.scan.proofs.PlaceLemmas.{places_in-here, places_in-none_here}

@@ -6,7 +6,7 @@ use Rattle.model.specs.declared.refusal.Refusal.TheVariants.{NotRealised, Closur
 use Rattle.model.specs.Limits.{most_entries}
 use Rattle.model.specs.Worlds.{Source, Record, Desk, Pin}
 use Rattle.model.specs.Orders.{set_of}
-use Rattle.model.specs.Choices.{Plan, rank_before, source_before, reached, most_steps, visible_records, visible_sources, choose, needed_sources, source_among, small_plan, plan_by, plan}
+use Rattle.model.specs.Choices.{Plan, rank_before, source_before, reached, most_steps, visible_records, visible_sources, choose, needed_sources, source_among, small_plan, plan_by, closure_plan}
 use Rattle.model.proofs.BoolLemmas.{either}
 use Rattle.laws.proofs.MemberLemmas.{In, from_set}
 use Rattle.laws.proofs.ClosureLemmas.{IsOfClass, choose_own, reached_chosen, small_is}
@@ -45,7 +45,7 @@ ordered visible choice own classes sources =
     }
 
 -- what is planned is in order
-pub plan_is_in_order : (view : List Desk) (pins : List Pin) (classes sources : List (List ℕ)) (p : Plan) → plan view pins classes sources ≡ Ok p → IsInOrder p
+pub plan_is_in_order : (view : List Desk) (pins : List Pin) (classes sources : List (List ℕ)) (p : Plan) → closure_plan view pins classes sources ≡ Ok p → IsInOrder p
 plan_is_in_order view pins classes sources p e =
     subst IsInOrder (planned_is (visible_sources view) (choose view pins) classes sources p e)
     (ordered (visible_sources view) (choose view pins) (choose_own (visible_records view) pins) classes sources)

@@ -5,7 +5,7 @@ use Rattle.model.specs.Paths.{IsPath}
 use Rattle.model.specs.Settling.{Settled, IsGone, IsMade}
 use Rattle.model.specs.Worlds.{Desk, Pin, Record, Source, Entry, OfSource, OfRecord, path_of_entry}
 use Rattle.model.specs.References.{paths_of_labels}
-use Rattle.model.specs.Choices.{Plan, plan}
+use Rattle.model.specs.Choices.{Plan, closure_plan}
 use Rattle.model.specs.Repairs.{Move, moved, serve, chosen_in, serving_texts}
 use Rattle.model.specs.Closures.{tree_of_entry, served_plan, KeepsNoReplaced}
 use Rattle.choose.specs.Gathering.{IsInOrder}
@@ -46,7 +46,7 @@ PlansKeepNoReplaced =
 abbrev pub ClosuresKeepNoReplaced : Type 0
 ClosuresKeepNoReplaced =
     (view : List Desk) (pins : List Pin) (classes sources : List (List ℕ)) (p : Plan) (entries : List Entry)
-    → plan view pins classes sources ≡ Ok p → IsSoundPlan p → PartsTellApart (paths_in p entries) → served_plan p ≡ Ok entries
+    → closure_plan view pins classes sources ≡ Ok p → IsSoundPlan p → PartsTellApart (paths_in p entries) → served_plan p ≡ Ok entries
     → KeepsNoReplaced p entries
 
 -- an entry is of a plan as it is, or has a tree with the path that was made for it

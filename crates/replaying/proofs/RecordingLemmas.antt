@@ -9,7 +9,7 @@ use Rattle.model.specs.Worlds.{Setup, Job}
 use Rattle.model.specs.Reach.{is_among}
 use Rattle.model.specs.Events.{Event as ModelEvent, Reply, Done}
 use Rattle.model.specs.Lines.{lines_of}
-use Rattle.model.specs.Talk.{Row, Silent, Names, Refuses, Asks, Waits, Seen, fresh, form_of, after, after_all, Gets, GetsNext, Talks, users_in}
+use Rattle.model.specs.Talk.{Row, Silent, Names, Refuses, Asks, Waits, Seen, fresh, form_of, seen_after, after_all, Gets, GetsNext, Talks, users_in}
 use Rattle.events.specs.declared.event.Event.{Event}
 use Rattle.events.specs.Terms.{event_of}
 use Rattle.session.specs.Serving.{Link, Chain, IsHeld}
@@ -112,7 +112,7 @@ bad_row goals reading.Waits row bad is e = rw is.2 e
 
 -- whether a row names users, by what its line comes to
 pub names_in : (goals : List Job) (r : Reading) (seen : Seen) (row : Row) (users : Option (Vec (List ℕ))) → IsNamedBy r users → IsRowOf goals r row
-    → seen.begun ≡ false → NamesIn row (after seen row) users
+    → seen.begun ≡ false → NamesIn row (seen_after seen row) users
 names_in goals reading.Silent seen row None n e b = rw e (refl, b)
 names_in goals (reading.Names named) seen row None n e b = absurd n
 names_in goals (reading.Refuses why) seen row None n e b = rw e (refl, b)
@@ -163,7 +163,7 @@ begins_more : (all rest : List (List ℕ)) (full line : List ℕ) (seen seen' : 
 begins_more all rest full line seen seen' first bad bad' users none held h names adds s =
     let gets : GetsNext seen full h.row = gets_held seen full line h.row held h.gets in
     let seen_is : seen' ≡ after_all (fresh Service) (s.rows ++ h.row ∷ []) =
-    h.seen_is ∙ ap (λ x. after x h.row) s.seen_is ∙ sym (after_all-more (fresh Service) s.rows h.row) in
+    h.seen_is ∙ ap (λ x. seen_after x h.row) s.seen_is ∙ sym (after_all-more (fresh Service) s.rows h.row) in
     record {
       rows = s.rows ++ h.row ∷ [];
       done = s.done ++ full ∷ [];
@@ -280,7 +280,7 @@ module _ (setup : Setup) (user : List ℕ) where
       let gets : GetsNext (after_all (fresh Service) s.rows) full l.row =
       subst (λ x. GetsNext x full l.row) s.seen_is (gets_held notes.session full line l.row held l.gets) in
       let seen_is : notes'.session ≡ after_all (fresh Service) (s.rows ++ l.row ∷ []) =
-      l.seen_is ∙ ap (λ x. after x l.row) s.seen_is ∙ sym (after_all-more (fresh Service) s.rows l.row) in
+      l.seen_is ∙ ap (λ x. seen_after x l.row) s.seen_is ∙ sym (after_all-more (fresh Service) s.rows l.row) in
       record {
         rows = s.rows ++ l.row ∷ [];
         done = s.done ++ full ∷ [];

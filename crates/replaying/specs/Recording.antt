@@ -5,7 +5,7 @@ use Rattle.model.specs.declared.mode.Mode.TheVariants.{Service}
 use Rattle.model.specs.Lines.{lines_of}
 use Rattle.model.specs.Worlds.{Setup}
 use Rattle.model.specs.Events.{Event, Reply}
-use Rattle.model.specs.Talk.{Row, Names, Seen, fresh, after, after_all, GetsNext, Talks, users_in}
+use Rattle.model.specs.Talk.{Row, Names, Seen, fresh, seen_after, after_all, GetsNext, Talks, users_in}
 use Rattle.events.specs.declared.event.Event.{Event as AskedEvent}
 use Rattle.events.specs.Terms.{event_of}
 use Rattle.session.specs.Serving.{Chain}
@@ -33,7 +33,7 @@ NamesIn row next (Some users) = row ≡ Names users.items
 pub record IsFirst (line : List ℕ) (seen seen' : Seen) (first : First) : Type 0 where
   pub row : Row
   pub gets : GetsNext seen line row
-  pub seen_is : seen' ≡ after seen row
+  pub seen_is : seen' ≡ seen_after seen row
   pub going : seen'.refused ≡ false
   pub named : NamesIn row seen' first.users
   pub bad_is : first.is_bad ≡ is_bad_line row
@@ -68,7 +68,7 @@ pub record Asked (setup : Setup) (user line : List ℕ) (seen seen' : Seen) (old
     (came : Line) : Type 0 where
   pub row : Row
   pub gets : GetsNext seen line row
-  pub seen_is : seen' ≡ after seen row
+  pub seen_is : seen' ≡ seen_after seen row
   pub going : seen'.refused ≡ false
   pub link : LinksOnly setup old row new
   pub events_are : events' ≡ events ++ events_in (row ∷ [])

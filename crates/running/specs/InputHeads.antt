@@ -2,13 +2,13 @@
 use Rattle.std.specs.Prelude.{◌⊎◌, ℕ, List, [], ◌∷◌}
 use Rattle.model.specs.declared.mode.Mode.TheVariants.{Run}
 use Rattle.model.specs.Lines.{split}
-use Rattle.model.specs.Talk.{Seen, Silent, Names, GetsNext, after, fresh}
+use Rattle.model.specs.Talk.{Seen, Silent, Names, GetsNext, seen_after, fresh}
 
 -- the first of these lines that gets a reply names users: those before it get none
 abbrev pub FirstNames : Seen → List (List ℕ) → Type 0
 FirstNames seen [] = ⊥
 FirstNames seen (line ∷ lines) =
-    ((users : List (List ℕ)) × GetsNext seen line (Names users)) ⊎ (GetsNext seen line Silent × FirstNames (after seen Silent) lines)
+    ((users : List (List ℕ)) × GetsNext seen line (Names users)) ⊎ (GetsNext seen line Silent × FirstNames (seen_after seen Silent) lines)
 
 -- that is so of the lines of a text
 abbrev pub BeginsWithUsers : List ℕ → Type 0

@@ -9,7 +9,7 @@ ghost use Rattle.running.specs.Sessions.{AsksStatus, Calls, GivesUp, HasTold};
 
 use crate::meeting::Meet;
 use crate::pools::WorkerPool;
-use events::{Event, Reply, Request, State};
+use events::{Event, Reply, Request, Status};
 use model::Refusal;
 use session::{Answer, Job};
 use std::alloc::Global;
@@ -62,8 +62,8 @@ enum Progress {
 /// How far a reply says that a goal is.
 fn progress_in(reply: &Reply) -> Progress {
     match reply {
-        Reply::GoalState(State::Waiting) => Progress::Waiting,
-        Reply::GoalState(State::Building(_)) => Progress::Building,
+        Reply::GoalStatus(Status::Waiting) => Progress::Waiting,
+        Reply::GoalStatus(Status::Building(_)) => Progress::Building,
         _ => Progress::Over,
     }
 }

@@ -42,7 +42,7 @@ kept_going job (Some r) e = cc
 
 led_going : (job : Job) (g : Option Goal) → led_job job g ≢ Err Stopped
 led_going job None e = cc
-led_going job (Some g) e = if_going (is_in job g.state) (with_kept job g.resolved) (kept_going job g.resolved) e
+led_going job (Some g) e = if_going (is_in job g.status) (with_kept job g.resolved) (kept_going job g.resolved) e
   where
     if_going : (b : Bool) (r : Result Running Refusal) → r ≢ Err Stopped → (if b then r else Err WrongState) ≢ Err Stopped
     if_going true r going h = going h

@@ -139,7 +139,7 @@ module _ (old : List Source) (test : List ℕ → Bool) where
       let own = sound r keeps in (
         own.0,
         λ needs. entries_stored r.closure
-            (λ p m. pass p (and_from (is_planned g.state) (is_built_from_path g.resolved p) needs (ap (λ o. is_built_from_path o p) keeps ∙ m))) (own.1 needs),
+            (λ p m. pass p (and_from (is_planned g.status) (is_built_from_path g.resolved p) needs (ap (λ o. is_built_from_path o p) keeps ∙ m))) (own.1 needs),
       )
 
   own_swept : (goals : List Goal) → ((p : List ℕ) → keep_path goals p ≡ true → Passes p) → AreGoalsSound old goals → AreGoalsSound now goals

@@ -27,7 +27,7 @@ is_built_from_path (Some r) path = has_entry_at r.closure path
 
 -- whether a goal that is planned, or is being built, keeps a path
 abbrev pub keeps_path : Goal → List ℕ → Bool
-keeps_path g path = is_planned g.state && is_built_from_path g.resolved path
+keeps_path g path = is_planned g.status && is_built_from_path g.resolved path
 
 -- whether one of a user's goals does
 abbrev pub keep_path : List Goal → List ℕ → Bool

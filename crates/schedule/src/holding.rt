@@ -3,11 +3,11 @@
 ghost use Rattle.std.specs.Prelude.{◌≡◌, length, bytes_eq, All, IfErr, OnOk};
 ghost use Rattle.model.specs.declared.refusal.Refusal.TheVariants.{Memory};
 ghost use Rattle.model.specs.KeptClosures.{is_planned};
-ghost use Rattle.events.specs.States.{state_of};
+ghost use Rattle.events.specs.Statuses.{status_of};
 ghost use Rattle.schedule.specs.Sweeping.{holds_path, hold_path, has_entry_at, keeps_path, keep_path, keep_any_path, IsHolding, Holds};
 
 use indexmap::IndexSet;
-use jobs::{Goal, Jobs, State};
+use jobs::{Goal, Jobs, Status};
 use model::Refusal;
 use realise::Desk;
 use records::Entry;
@@ -66,10 +66,10 @@ fn hold_entries(
 }
 
 /// Whether a goal is planned, or is being built.
-fn is_planned(state: &State) -> bool
-    ensures { result ≡ is_planned (state_of state.now) }
+fn is_planned(status: &Status) -> bool
+    ensures { result ≡ is_planned (status_of status.now) }
 {
-    matches!(state, State::Planned | State::Building(_))
+    matches!(status, Status::Planned | Status::Building(_))
 }
 
 /// Puts the paths that a goal keeps into a set, if it is planned or is being built. The one error is
@@ -78,7 +78,7 @@ fn hold_goal(held: &mut IndexSet<StorePath, RandomState>, goal: &Goal) -> Result
     ensures held { OnOk result (Holds held.old.keys (keeps_path goal.now) held.new.keys) }
     ensures memory { IfErr result (λ e. e ≡ Memory) }
 {
-    if !is_planned(goal.state()) {
+    if !is_planned(goal.status()) {
         return Ok(());
     }
     match goal.resolved() {

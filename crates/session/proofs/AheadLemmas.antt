@@ -4,7 +4,7 @@ use Rattle.std.proofs.lemmas.List.{append-nil}
 use Rattle.model.specs.declared.mode.Mode.{Mode}
 use Rattle.model.specs.Lines.{lines_of}
 use Rattle.model.specs.Forms.{longest_line}
-use Rattle.model.specs.Talk.{Row, Silent, Names, Refuses, Asks, Waits, Seen, fresh, GetsNext, after, after_all, users_in}
+use Rattle.model.specs.Talk.{Row, Silent, Names, Refuses, Asks, Waits, Seen, fresh, GetsNext, seen_after, after_all, users_in}
 use Rattle.session.specs.Serving.{HasNoNewline, HoldsMore}
 use Rattle.session.specs.Ahead.{Searched, LooksAhead}
 use Rattle.session.proofs.LineLemmas.{nothing-held, lines-last}
@@ -35,7 +35,7 @@ searched-held {mode} input seen held bytes held' p w h = record {
 }
 
 pub searched-line : {mode : Mode} (input : List ℕ) (seen next : Seen) (held : List ℕ) (row : Row) → Searched mode input seen held → GetsNext seen held row
-    → next ≡ after seen row → users_in (row ∷ []) ≡ None → next.refused ≡ seen.refused → Searched mode (input ++ 10 ∷ []) next []
+    → next ≡ seen_after seen row → users_in (row ∷ []) ≡ None → next.refused ≡ seen.refused → Searched mode (input ++ 10 ∷ []) next []
 searched-line {mode} input seen next held row p g s n f =
     let rows = p.so_far.rows in
     let l = p.so_far.lines in
@@ -53,7 +53,7 @@ searched-line {mode} input seen next held row p g s n f =
 
 -- the line that is held ends the search
 pub found-line : {mode : Mode} (input : List ℕ) (seen : Seen) (held : List ℕ) (row : Row) (users : Option (List (List ℕ))) (more : List ℕ)
-    → Searched mode input seen held → GetsNext seen held row → users_in (row ∷ []) ≡ users → (users ≡ None → (after seen row).refused ≡ true)
+    → Searched mode input seen held → GetsNext seen held row → users_in (row ∷ []) ≡ users → (users ≡ None → (seen_after seen row).refused ≡ true)
     → LooksAhead mode (input ++ 10 ∷ more) users
 found-line {mode} input seen held row users more p g n f =
     let rows = p.so_far.rows in
@@ -65,7 +65,7 @@ found-line {mode} input seen held row users more p g n f =
       cut = ended-cut l more;
       talks = ended-talks l row (held-gets l seen held row p.held_is p.seen_is g);
       named = users_in-more rows row p.so_far.none ∙ n;
-      ends = λ e. inr (refused-same mode (rows ++ row ∷ []) (after seen row) (seen-more mode rows seen (after seen row) row p.seen_is refl) ∙ f e);
+      ends = λ e. inr (refused-same mode (rows ++ row ∷ []) (seen_after seen row) (seen-more mode rows seen (seen_after seen row) row p.seen_is refl) ∙ f e);
     }
 
 -- the input ends with nothing held

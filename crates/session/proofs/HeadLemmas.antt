@@ -6,7 +6,7 @@ use Rattle.model.specs.declared.refusal.Refusal.{Refusal}
 use Rattle.model.specs.Events as events
 use Rattle.model.specs.Worlds.{Job}
 use Rattle.model.specs.Forms.{Form}
-use Rattle.model.specs.Talk.{Row, Silent, Names, Refuses, Asks, Waits, Seen, fresh, form_of, Gets, GetsNext, after, after_all, users_in}
+use Rattle.model.specs.Talk.{Row, Silent, Names, Refuses, Asks, Waits, Seen, fresh, form_of, Gets, GetsNext, seen_after, after_all, users_in}
 use Rattle.std.specs.Global.{Vec}
 use Rattle.lines.specs.declared.line.Reading.{Reading}
 use Rattle.lines.specs.declared.line.Reading.TheVariants as reading
@@ -33,7 +33,7 @@ idle-stops L seen line now next b d = elim d [ inl e ↦ inl refl | inr w ↦ in
 
 -- ---- nobody is named yet
 
-begun-stays : (seen : Seen) (row : Row) → seen.begun ≡ true → (after seen row).begun ≡ true
+begun-stays : (seen : Seen) (row : Row) → seen.begun ≡ true → (seen_after seen row).begun ≡ true
 begun-stays seen Silent b = b
 begun-stays seen (Names users) b = refl
 begun-stays seen (Refuses why) b = b
@@ -42,15 +42,15 @@ begun-stays seen (Waits goals reply) b = b
 
 begun-all : (seen : Seen) (rows : List Row) → seen.begun ≡ true → (after_all seen rows).begun ≡ true
 begun-all seen [] b = b
-begun-all seen (row ∷ rows) b = begun-all (after seen row) rows (begun-stays seen row b)
+begun-all seen (row ∷ rows) b = begun-all (seen_after seen row) rows (begun-stays seen row b)
 
 nobody : (seen : Seen) (rows : List Row) → (after_all seen rows).begun ≡ false → users_in rows ≡ None
 nobody seen [] b = refl
-nobody seen (Silent ∷ rows) b = nobody (after seen Silent) rows b
-nobody seen (Names users ∷ rows) b = let no : true ≡ false = sym (begun-all (after seen (Names users)) rows refl) ∙ b in absurd (cc)
-nobody seen (Refuses why ∷ rows) b = nobody (after seen (Refuses why)) rows b
-nobody seen (Asks event reply ∷ rows) b = nobody (after seen (Asks event reply)) rows b
-nobody seen (Waits goals reply ∷ rows) b = nobody (after seen (Waits goals reply)) rows b
+nobody seen (Silent ∷ rows) b = nobody (seen_after seen Silent) rows b
+nobody seen (Names users ∷ rows) b = let no : true ≡ false = sym (begun-all (seen_after seen (Names users)) rows refl) ∙ b in absurd (cc)
+nobody seen (Refuses why ∷ rows) b = nobody (seen_after seen (Refuses why)) rows b
+nobody seen (Asks event reply ∷ rows) b = nobody (seen_after seen (Asks event reply)) rows b
+nobody seen (Waits goals reply ∷ rows) b = nobody (seen_after seen (Waits goals reply)) rows b
 
 -- a session on its way that has no users has searched so far
 searched-of : {mode : Mode} (blank written : Option (List ℕ)) (input : List ℕ) (seen : Seen) (held : List ℕ) → seen.begun ≡ false
@@ -74,7 +74,7 @@ names-line {mode} blank written input seen held users b p g more =
     (found-line input seen held (Names users) (Some users) more (searched-of blank written input seen held b p) g refl (λ e. cc))
 
 -- whether users are named by a row, by what its line comes to
-row-begins : (goals : List Job) (r : Reading) (seen : Seen) (row : Row) → IsNamedBy r None → IsRowOf goals r row → seen.begun ≡ false → (after seen row).begun ≡ false
+row-begins : (goals : List Job) (r : Reading) (seen : Seen) (row : Row) → IsNamedBy r None → IsRowOf goals r row → seen.begun ≡ false → (seen_after seen row).begun ≡ false
 row-begins goals reading.Silent seen row n e b = rw e b
 row-begins goals (reading.Names users) seen row n e b = absurd n
 row-begins goals (reading.Refuses why) seen row n e b = rw e b
@@ -90,7 +90,7 @@ row-names goals form reading.Waits users n b = absurd n
 
 -- the line that is held was answered
 pub head-line : (seen seen' : Seen) (held line : List ℕ) (written written' : Option (List ℕ)) (r : Reading) (users : Option (Vec (List ℕ))) → seen.begun ≡ false
-    → line ≡ held → Becomes (form_of seen line) r → IsNamedBy r users → (row : Row) → IsRowOf seen.goals r row → seen' ≡ after seen row
+    → line ≡ held → Becomes (form_of seen line) r → IsNamedBy r users → (row : Row) → IsRowOf seen.goals r row → seen' ≡ seen_after seen row
     → GoesIdle written written' seen seen' held [] (10 ∷ []) → IsHeadLine written written' seen seen' held users
 head-line seen seen' held line written written' r None b same is named row of next goes =
     (ap (λ (s : Seen). s.begun) next ∙ row-begins seen.goals r seen row named of b, goes)

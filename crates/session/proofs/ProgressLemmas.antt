@@ -13,7 +13,7 @@ use Rattle.model.specs.declared.refusal.Refusal.TheVariants.{BadUsers, InputFaul
 use Rattle.model.specs.Forms.{longest_line}
 use Rattle.model.specs.Lines.{lines_of}
 use Rattle.model.specs.Events.{Reply, Refused}
-use Rattle.model.specs.Talk.{Row, Silent, Names, Refuses, Asks, Waits, Seen, fresh, GetsNext, after, after_all, Talks, text_from, row_text, answer_text, reply_text}
+use Rattle.model.specs.Talk.{Row, Silent, Names, Refuses, Asks, Waits, Seen, fresh, GetsNext, seen_after, after_all, Talks, text_from, row_text, answer_text, reply_text}
 use Rattle.session.specs.Serving.{Progress, EndedEarly, Finished, NotShown, HasNoNewline, HoldsMore, Gives, StopsAt, IsFault, IsOwn, MayBeFault, GoesOn, EndsIn, EndsBehind}
 use Rattle.session.proofs.LineLemmas.{nothing-held, lines-newline, lines-last}
 use Rattle.session.proofs.RowLemmas.{chain-more, length-after_all, text-more, appends-none, appends-more, appends-flushed, take-seam}
@@ -27,7 +27,7 @@ answer_printed n actor reply h = some_text (decimal n ++ 32 ∷ actor ++ 32 ∷ 
 
 -- a line of users that is refused has a text
 refusal_printed : (mode : Mode) (rows : List Row) (seen : Seen) (row : Row) → seen ≡ after_all (fresh mode) rows → (after_all (fresh mode) rows).refused ≡ false
-    → (after seen row).refused ≡ true → (n : ℕ) → length (row_text n row) ≤ 0 → ⊥
+    → (seen_after seen row).refused ≡ true → (n : ℕ) → length (row_text n row) ≤ 0 → ⊥
 refusal_printed mode rows seen Silent is going r n h = true≢false (sym r ∙ ap (λ (s : Seen). s.refused) is ∙ going)
 refusal_printed mode rows seen (Names users) is going r n h = true≢false (sym r ∙ ap (λ (s : Seen). s.refused) is ∙ going)
 refusal_printed mode rows seen (Refuses why) is going r n h = answer_printed n (codes "-") (Refused why) h
@@ -126,16 +126,16 @@ module _ {mode : Mode} {A : Type 0} (L : A → Row → A → Type 0) (first : A)
   -- whether users were refused once the line that is held is answered
   line_refused : (now : A) (written : Option (List ℕ)) (input : List ℕ) (seen : Seen) (held : List ℕ)
       (p : Progress mode L first now blank written input seen held) (row : Row)
-      → (after_all (fresh mode) (p.so_far.rows ++ row ∷ [])).refused ≡ (after seen row).refused
+      → (after_all (fresh mode) (p.so_far.rows ++ row ∷ [])).refused ≡ (seen_after seen row).refused
   line_refused now written input seen held p row =
-      refused-same mode (p.so_far.rows ++ row ∷ []) (after seen row) (seen-more mode p.so_far.rows seen (after seen row) row p.seen_is refl)
+      refused-same mode (p.so_far.rows ++ row ∷ []) (seen_after seen row) (seen-more mode p.so_far.rows seen (seen_after seen row) row p.seen_is refl)
 
   -- the line that is held was answered, and a beginning of its text written
   pub early-line : (now next : A) (written written' : Option (List ℕ)) (input : List ℕ) (seen : Seen) (held : List ℕ) (row : Row) (n : ℕ)
       (more : List ℕ) (why : Refusal) → Progress mode L first now blank written input seen held → GetsNext seen held row → L now row next
       → Appends written written' (take n (row_text (length seen.told + 1) row))
-      → (why ≡ BadUsers → ((after seen row).refused ≡ true) × (length (row_text (length seen.told + 1) row) ≤ n))
-      → ((after seen row).refused ≡ true → length (row_text (length seen.told + 1) row) ≤ n → why ≡ BadUsers)
+      → (why ≡ BadUsers → ((seen_after seen row).refused ≡ true) × (length (row_text (length seen.told + 1) row) ≤ n))
+      → ((seen_after seen row).refused ≡ true → length (row_text (length seen.told + 1) row) ≤ n → why ≡ BadUsers)
       → EndedEarly mode L first next blank written' (input ++ 10 ∷ more) ⊥ why
   early-line now next written written' input seen held row n more why p g l a u t = record {
     rows = p.so_far.rows ++ row ∷ [];
@@ -151,7 +151,7 @@ module _ {mode : Mode} {A : Type 0} (L : A → Row → A → Type 0) (first : A)
 
   -- and all of its text
   pub progress-line : (now next : A) (written written' : Option (List ℕ)) (input : List ℕ) (seen seen' : Seen) (held : List ℕ) (row : Row)
-      → Progress mode L first now blank written input seen held → GetsNext seen held row → L now row next → seen' ≡ after seen row
+      → Progress mode L first now blank written input seen held → GetsNext seen held row → L now row next → seen' ≡ seen_after seen row
       → Appends written written' (row_text (length seen.told + 1) row) → seen'.refused ≡ false
       → Progress mode L first next blank written' (input ++ 10 ∷ []) seen' []
   progress-line now next written written' input seen seen' held row p g l s a f =

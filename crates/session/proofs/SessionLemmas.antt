@@ -8,7 +8,7 @@ use Rattle.model.specs.Worlds.{Job}
 use Rattle.model.specs.Lines.{LineResult, nothing_told}
 use Rattle.model.specs.Forms.{Form}
 use Rattle.model.specs.Replies.{ends_wait}
-use Rattle.model.specs.Talk.{Row, Names, Refuses, Asks, Waits, Seen, form_of, Gets, GetsNext, answer_text, told_in, goal_by, with_goal, is_bad_users}
+use Rattle.model.specs.Talk.{Row, Names, Refuses, Asks, Waits, Seen, form_of, Gets, GetsNext, answer_text, told_in, goal_by, with_asked, is_bad_users}
 use Rattle.events.specs.declared.event.Event.{Event}
 use Rattle.events.specs.Terms.{event_of}
 use Rattle.lines.specs.declared.line.Reading.{Reading}
@@ -53,14 +53,14 @@ module _ {A : Type 0} (R : A → events.Event → events.Reply → A → Type 0)
   -- the row of an event
   pub gives-asked : (mode : Mode) (begun refused : Bool) (told told' : List LineResult) (goals goals' : List Job) (text : List ℕ) (n : ℕ) (event : Event)
       (reply : events.Reply) (one : LineResult) (goal : Option Job) (now next : A)
-      → told' ≡ told ++ one ∷ [] → one ≡ told_in reply → goals' ≡ with_goal goals goal → goal ≡ goal_by event.actor reply → n ≡ length told + 1
+      → told' ≡ told ++ one ∷ [] → one ≡ told_in reply → goals' ≡ with_asked goals goal → goal ≡ goal_by event.actor reply → n ≡ length told + 1
       → text ≡ answer_text n event.actor reply → R now (event_of event) reply next
       → Gives (IsRowOf goals (reading.Asks event)) (Link R W) (seen_by mode begun refused told goals) (seen_by mode begun refused told' goals') now next text
   gives-asked mode begun refused told told' goals goals' text n event reply one goal now next e₁ e₂ f₁ f₂ e₃ e₄ h = (
     Asks (event_of event) reply,
     (reply, refl),
     ap (λ ts. seen_by mode begun refused ts goals') (e₁ ∙ ap (λ x. told ++ x ∷ []) e₂)
-        ∙ ap (seen_by mode begun refused (told ++ told_in reply ∷ [])) (f₁ ∙ ap (with_goal goals) f₂),
+        ∙ ap (seen_by mode begun refused (told ++ told_in reply ∷ [])) (f₁ ∙ ap (with_asked goals) f₂),
     e₄ ∙ ap (λ k. answer_text k event.actor reply) e₃,
     h,
   )

@@ -2,7 +2,7 @@
 use Rattle.std.proofs.Common.{◌≡◌, ℕ, false, List, [], ◌∷◌, ◌++◌, refl, sym, ap, ◌∙◌, subst, append_assoc}
 use Rattle.model.specs.declared.mode.Mode.{Mode}
 use Rattle.model.specs.Lines.{lines_of}
-use Rattle.model.specs.Talk.{Row, Seen, fresh, Gets, GetsNext, after, after_all, Talks, form_of}
+use Rattle.model.specs.Talk.{Row, Seen, fresh, Gets, GetsNext, seen_after, after_all, Talks, form_of}
 use Rattle.session.specs.Serving.{WholeLines, HasNoNewline, IsHeld}
 use Rattle.session.proofs.LineLemmas.{lines-newline, HasNoNewline-append, form_of-held}
 use Rattle.session.proofs.RowLemmas.{talks-more, after_all-more}
@@ -59,9 +59,9 @@ module _ {mode : Mode} {input : List ℕ} {rows : List Row} (l : WholeLines mode
   }
 
 -- what is kept with one more row
-pub seen-more : (mode : Mode) (rows : List Row) (seen next : Seen) (row : Row) → seen ≡ after_all (fresh mode) rows → next ≡ after seen row
+pub seen-more : (mode : Mode) (rows : List Row) (seen next : Seen) (row : Row) → seen ≡ after_all (fresh mode) rows → next ≡ seen_after seen row
     → next ≡ after_all (fresh mode) (rows ++ row ∷ [])
-seen-more mode rows seen next row e s = s ∙ ap (λ x. after x row) e ∙ sym (after_all-more (fresh mode) rows row)
+seen-more mode rows seen next row e s = s ∙ ap (λ x. seen_after x row) e ∙ sym (after_all-more (fresh mode) rows row)
 
 -- whether users were refused, by what is kept
 pub refused-same : (mode : Mode) (rows : List Row) (seen : Seen) → seen ≡ after_all (fresh mode) rows → (after_all (fresh mode) rows).refused ≡ seen.refused

@@ -4,7 +4,7 @@ use Rattle.std.specs.Global.{Vec}
 use Rattle.model.specs.declared.mode.Mode.{Mode}
 use Rattle.model.specs.declared.refusal.Refusal.TheVariants.{BadUsers}
 use Rattle.model.specs.Lines.{lines_of}
-use Rattle.model.specs.Talk.{Row, Names, Refuses, Seen, fresh, after, after_all, GetsNext, Talks, users_in}
+use Rattle.model.specs.Talk.{Row, Names, Refuses, Seen, fresh, seen_after, after_all, GetsNext, Talks, users_in}
 use Rattle.session.specs.Serving.{WholeLines, IsHeld}
 use Rattle.session.specs.declared.ahead.Look.{Look}
 use Rattle.session.specs.declared.ahead.Look.TheVariants.{Users, Refused, Other}
@@ -13,7 +13,7 @@ use Rattle.session.specs.declared.ahead.Look.TheVariants.{Users, Refused, Other}
 abbrev pub IsLook : List ℕ → Seen → Seen → Look → Type 0
 IsLook line seen next (Users users) = GetsNext seen line (Names users.items)
 IsLook line seen next Refused = GetsNext seen line (Refuses BadUsers)
-IsLook line seen next Other = (row : Row) × GetsNext seen line row × (next ≡ after seen row) × (users_in (row ∷ []) ≡ None) × (next.refused ≡ seen.refused)
+IsLook line seen next Other = (row : Row) × GetsNext seen line row × (next ≡ seen_after seen row) × (users_in (row ∷ []) ≡ None) × (next.refused ≡ seen.refused)
 
 -- the whole lines of an input of which more may come name no users
 pub record NoUsersSoFar (mode : Mode) (input : List ℕ) : Type 0 where

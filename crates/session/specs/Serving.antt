@@ -10,7 +10,7 @@ use Rattle.model.specs.Worlds.{Job}
 use Rattle.model.specs.Lines.{lines_of}
 use Rattle.model.specs.Forms.{longest_line}
 pub use Rattle.nar.specs.Writing.{HasFailed, IsFault, MayBeFault, IsUnwritten}
-use Rattle.model.specs.Talk.{Row, Silent, Names, Refuses, Asks, Waits, Seen, fresh, after, after_all, Talks, row_text, text_from}
+use Rattle.model.specs.Talk.{Row, Silent, Names, Refuses, Asks, Waits, Seen, fresh, seen_after, after_all, Talks, row_text, text_from}
 
 -- one row's link of the chain: an event is one answer, a wait is one wait for its goals, and any other line leaves the answer alone
 abbrev pub Link : {A : Type 0} → (A → Event → Reply → A → Type 0) → (A → List Job → Reply → A → Type 0) → A → Row → A → Type 0
@@ -145,12 +145,12 @@ StopsBehind {A} link now next written written' seen held bytes = (mode : Mode) (
 
 -- what a line of that row gives: what is kept of it, and what is printed for it
 abbrev pub GivesRow : Row → (seen next : Seen) → List ℕ → Type 0
-GivesRow row seen next text = (next ≡ after seen row) × (text ≡ row_text (length seen.told + 1) row)
+GivesRow row seen next text = (next ≡ seen_after seen row) × (text ≡ row_text (length seen.told + 1) row)
 
 -- what a line gives of which these may be the rows: a row, what is kept of it, what is printed for it, and what became of the answer
 abbrev pub Gives : {A : Type 0} → (Row → Type 0) → (A → Row → A → Type 0) → (seen next : Seen) (old new : A) → List ℕ → Type 0
 Gives Is link seen next old new text =
-    (row : Row) × Is row × (next ≡ after seen row) × (text ≡ row_text (length seen.told + 1) row) × link old row new
+    (row : Row) × Is row × (next ≡ seen_after seen row) × (text ≡ row_text (length seen.told + 1) row) × link old row new
 
 -- where it gives none, its event was answered or not, and its wait has ended or not begun
 abbrev pub StopsAt : {A : Type 0} → (Row → Type 0) → (A → Row → A → Type 0) → (old new : A) → Type 0

@@ -2,7 +2,7 @@
 
 ghost use Rattle.std.specs.Prelude.{◌≡◌, ◌⊎◌, ℕ, List, length, IfOk, IfErr, OnOk, OnErr};
 ghost use Rattle.model.specs.declared.refusal.Refusal.TheVariants.{Memory};
-ghost use Rattle.model.specs.Talk.{Silent, Names, Refuses, fresh, form_of, GetsNext, is_bad_users, with_goal};
+ghost use Rattle.model.specs.Talk.{Silent, Names, Refuses, fresh, form_of, GetsNext, is_bad_users, with_asked};
 ghost use Rattle.lines.specs.declared.line.Reading.TheVariants as readings;
 ghost use Rattle.lines.specs.Reading.{Becomes, IsRowOf};
 ghost use Rattle.session.specs.Serving.{Link, Gives, GivesRow, StopsAt};
@@ -208,7 +208,7 @@ impl Session {
 
 /// Adds the goal that a reply gave, if it gave one.
 fn add_goal(goals: &mut Vec<Job>, goal: Option<Job>) -> Result<(), AllocError>
-    ensures { OnOk result (goals.new.items ≡ with_goal goals.old.items goal) }
+    ensures { OnOk result (goals.new.items ≡ with_asked goals.old.items goal) }
 {
     match goal {
         Some(goal) => Ok(goals.push(goal)?),

@@ -4,13 +4,13 @@ use Rattle.std.specs.NonZero.{non_zero_u8_get}
 use Rattle.model.specs.declared.refusal.Refusal.{Refusal}
 use Rattle.model.specs.declared.refusal.Refusal.TheVariants.{Memory, Stopped}
 use Rattle.model.specs.Goals.{Running, is_in}
-use Rattle.events.specs.States.{state_of}
-use Rattle.events.specs.declared.state.State.TheVariants.{Planned}
+use Rattle.events.specs.Statuses.{status_of}
+use Rattle.events.specs.declared.status.Status.TheVariants.{Planned}
 use Rattle.events.specs.declared.event.Request.{Request}
 use Rattle.events.specs.declared.event.Request.TheVariants.{Plan, Start, Finish, Fail}
 use Rattle.events.specs.declared.event.Event.{Event}
 use Rattle.events.specs.declared.reply.Reply.{Reply}
-use Rattle.events.specs.declared.reply.Reply.TheVariants.{GoalState, Refused}
+use Rattle.events.specs.declared.reply.Reply.TheVariants.{GoalStatus, Refused}
 use Rattle.workers.specs.declared.ticket.Ticket.{Ticket}
 use Rattle.workers.specs.declared.ticket.Ticket.TheVariants.{Goal, Stop}
 use Rattle.workers.specs.declared.runner.RunFault.{RunFault}
@@ -29,12 +29,12 @@ asking user request = record { actor = user; request = request }
 
 -- whether a reply says that the goal is planned
 abbrev pub is_planned : Reply → Bool
-is_planned (GoalState Planned) = true
+is_planned (GoalStatus Planned) = true
 is_planned reply = false
 
 -- whether a reply says that the job which is built is led by the user's goal of that number
 abbrev pub leads_own : List ℕ → ℕ → Reply → Bool
-leads_own user number (GoalState state) = is_in (record { leader = user; number = number }) (state_of state)
+leads_own user number (GoalStatus status) = is_in (record { leader = user; number = number }) (status_of status)
 leads_own user number reply = false
 
 -- what a worker meets in a refusal: 90 and 92, and nothing in any other

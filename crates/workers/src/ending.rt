@@ -6,7 +6,7 @@ ghost use Rattle.workers.specs.Outputs.{bytes_of};
 ghost use Rattle.workers.specs.Working.{TakesMemory, ending, met_in, met_by, is_planned, leads_own};
 
 use crate::runner::RunFault;
-use events::{Output, Reply, Request, State};
+use events::{Output, Reply, Request, Status};
 use model::Refusal;
 use trust::User;
 
@@ -54,7 +54,7 @@ pub(crate) fn is_planned(reply: &Reply) -> bool
     ensures { result ≡ is_planned reply.now }
 {
     match reply {
-        Reply::GoalState(State::Planned) => true,
+        Reply::GoalStatus(Status::Planned) => true,
         _ => false,
     }
 }
@@ -64,7 +64,7 @@ pub(crate) fn leads_own(user: &User, number: u16, reply: &Reply) -> bool
     ensures { result ≡ leads_own user.now number reply.now }
 {
     match reply {
-        Reply::GoalState(State::Building(job)) => job.is_led_by(user, number),
+        Reply::GoalStatus(Status::Building(job)) => job.is_led_by(user, number),
         _ => false,
     }
 }

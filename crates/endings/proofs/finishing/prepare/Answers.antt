@@ -2,13 +2,13 @@ use Rattle.std.proofs.Common.{◌≡◌, ◌<◌, List, length, Some, inl, arith
 use Rattle.std.specs.Prelude.{map}
 use Rattle.std.specs.Option.{option_copied}
 use Rattle.std.proofs.lemmas.Result.{err_from_is_err_and}
-use Rattle.model.specs.Worlds.{Goal, State}
-use Rattle.events.specs.States.{state_of}
+use Rattle.model.specs.Worlds.{Goal, Status}
+use Rattle.events.specs.Statuses.{status_of}
 use Rattle.trust.specs.Trusting.{trusts}
 use Rattle.store.specs.Stored.{put_all, sources_of, AreThere}
-use Rattle.building.specs.DeskDeltas.{last_state, state_at}
-use Rattle.endings.specs.Committing.{Delivered, trees_gained, states_for, states_delivered, AreToAdd}
-use Rattle.endings.proofs.CommitLemmas.{states_there}
+use Rattle.building.specs.DeskDeltas.{last_status, status_at}
+use Rattle.endings.specs.Committing.{Delivered, trees_gained, statuses_for, statuses_delivered, AreToAdd}
+use Rattle.endings.proofs.CommitLemmas.{statuses_there}
 use Rattle.endings.proofs.AllBuiltLemmas.{only_memory}
 use Rattle.endings.proofs.finishing.prepare.Goals as goal
 
@@ -56,10 +56,10 @@ returns-clause-prepared c =
       told = λ g is.
           let same : g ≡ c.unwrap-goal.result.now =
           (let some : option_copied c.get.result ≡ Some c.unwrap-goal.result.now = search rules in let own = sym is ∙ sym c.get.ensures ∙ some in cc) in
-          let states : map state_at c.as_slice.result.now ≡ states_for delivered c.args.place =
-          ap (map state_at) c.as_slice.ensures.value ∙ ap (λ (h : Delivered). states_delivered h) c.index.ensures
-          ∙ states_there delivered c.args.place c.index.result.now within in
-          let state : state_of c.state.result.now ≡ g.state = c.state.ensures ∙ ap (λ (x : Goal). x.state) (sym same) in
-          c.in_ok-told.ensures ∙ ap (λ (s : State). last_state c.args.number s (map state_at c.as_slice.result.now)) state
-          ∙ ap (last_state c.args.number g.state) states;
+          let statuses : map status_at c.as_slice.result.now ≡ statuses_for delivered c.args.place =
+          ap (map status_at) c.as_slice.ensures.value ∙ ap (λ (h : Delivered). statuses_delivered h) c.index.ensures
+          ∙ statuses_there delivered c.args.place c.index.result.now within in
+          let status : status_of c.status.result.now ≡ g.status = c.status.ensures ∙ ap (λ (x : Goal). x.status) (sym same) in
+          c.in_ok-told.ensures ∙ ap (λ (s : Status). last_status c.args.number s (map status_at c.as_slice.result.now)) status
+          ∙ ap (last_status c.args.number g.status) statuses;
     }

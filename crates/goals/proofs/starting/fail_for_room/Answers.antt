@@ -13,7 +13,7 @@ returns c =
       reply = c.failed.result;
       is = refl;
       told = ap reply_of c.failed.ensures;
-      failed = c.set_state.ensures;
+      failed = c.set_status.ensures;
       copied = elim c.in_ok-unless_full.ensures [
         | inl done ↦ inl (subst P done copies)
         | inr full ↦ inr (subst P full copies)

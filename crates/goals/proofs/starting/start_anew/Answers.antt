@@ -1,7 +1,7 @@
 use Rattle.std.proofs.Common.{◌≡◌, ◌<◌, length, refl, sym, inl, inr, rules, Ok, Err}
 use Rattle.jobs.specs.Owned.{goal_of}
 use Rattle.jobs.proofs.IndexedLemmas.{idle_goal}
-use Rattle.goals.specs.Starting.{uncopied_state}
+use Rattle.goals.specs.Starting.{uncopied_status}
 use Rattle.goals.proofs.StartLemmas.{entered_goal, entered_there, entered_inside, changed_so}
 use Rattle.goals.proofs.starting.start_anew.Goals as goal
 
@@ -40,6 +40,6 @@ returns-in-Err c =
       left = λ g there.
           let enters = entered.entered g there in
           changed_so c.args.jobs.now c.enter_job.new.jobs c.args.place c.args.number g entered.job there below enters c.leave_job.new.jobs
-          (uncopied_state c.in-Err.why)
+          (uncopied_status c.in-Err.why)
           (c.leave_job.ensures.left _ (entered_goal c.args.jobs.now c.enter_job.new.jobs c.args.place c.args.number g entered.job there below enters));
     }))

@@ -2,8 +2,8 @@ use Rattle.std.proofs.Common.{◌≡◌, inl, inr, refl, sym, ◌∙◌, ap, sub
 use Rattle.model.specs.declared.refusal.Refusal.{Refusal}
 use Rattle.model.specs.declared.refusal.Refusal.TheVariants.{Quota}
 use Rattle.model.specs.Worlds.{Source, Entry, Done}
-use Rattle.model.specs.Goals.{in_state}
-use Rattle.model.specs.Events.{GoalState}
+use Rattle.model.specs.Goals.{in_status}
+use Rattle.model.specs.Events.{GoalStatus}
 use Rattle.realise.specs.Holdings.{Holdings}
 use Rattle.jobs.specs.Owned.{ChangesGoal}
 use Rattle.events.specs.Terms.{reply_of}
@@ -22,8 +22,8 @@ returns-in-Ok c =
     inl (record {
       reply = c.in_ok-reply.reply;
       is = refl;
-      told = ap reply_of c.in_ok-reply.ensures.reply ∙ ap (λ p. GoalState (Done p)) copy;
-      done = subst (λ p. ChangesGoal c.args.place c.args.number (in_state (Done p)) c.args.jobs.now c.set_state.new.self) path c.set_state.ensures;
+      told = ap reply_of c.in_ok-reply.ensures.reply ∙ ap (λ p. GoalStatus (Done p)) copy;
+      done = subst (λ p. ChangesGoal c.args.place c.args.number (in_status (Done p)) c.args.jobs.now c.set_status.new.self) path c.set_status.ensures;
       copied = rw c.closure.ensures at (rw result at c.copy_with.ensures);
     })
 

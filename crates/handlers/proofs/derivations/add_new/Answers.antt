@@ -7,7 +7,7 @@ use Rattle.model.specs.declared.refusal.Refusal.TheVariants.{Memory, Quota}
 use Rattle.model.specs.Derivations.{Derivation}
 use Rattle.model.specs.Events as events
 use Rattle.model.specs.Outcomes.{becomes}
-use Rattle.model.specs.DerivationRequests.{told_of}
+use Rattle.model.specs.DerivationRequests.{told_of_derivation}
 use Rattle.model.specs.Classes.{Admission, Known, known_at, derivation_path, admit}
 use Rattle.model.specs.Worlds.{Source}
 use Rattle.events.specs.Terms.{reply_of}
@@ -78,10 +78,10 @@ returns-clause-adds c table limit sound users beside =
     let known = c.args.desk.now.known in
     let ok : admit known c.args.derivation ≡ Ok c.in_ok-admitted.admitted = search rules in
     let within : nat_le (length known.derivations + 1) most_derivations ≡ true = grind (arith, nat_tests, c.in_ok-path.ensures.within) in
-    let told : events.Derivation c.in_ok-path.path c.in_ok-path.class ≡ told_of c.in_ok-admitted.admitted =
+    let told : events.Derivation c.in_ok-path.path c.in_ok-path.class ≡ told_of_derivation c.in_ok-admitted.admitted =
     ap (λ p. events.Derivation p c.in_ok-path.class) c.in_ok-path.ensures.file ∙ ap (events.Derivation c.in_ok-admitted.admitted.path) c.in_ok-path.ensures.class in
     added_fits users beside table limit c.args.desk.now c.args.derivation c.in_ok-admitted.admitted sound c.requires.absent ok within
-    ∙ ap (λ d. becomes (desk_of beside table d) (told_of c.in_ok-admitted.admitted)) (sym (changed c)) ∙ ap (becomes (desk_of beside table c.add_derivation.new.self)) (sym (ap reply_of c.in_ok-reply.ensures.reply ∙ told))
+    ∙ ap (λ d. becomes (desk_of beside table d) (told_of_derivation c.in_ok-admitted.admitted)) (sym (changed c)) ∙ ap (becomes (desk_of beside table c.add_derivation.new.self)) (sym (ap reply_of c.in_ok-reply.ensures.reply ∙ told))
 
 pub returns-clause-sound : goal.returns-clause-sound
 returns-clause-sound c table limit sound =

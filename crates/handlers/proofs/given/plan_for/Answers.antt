@@ -1,6 +1,6 @@
 use Rattle.std.proofs.Common.{◌≡◌, [], ◌∷◌, sym, ◌∙◌, ap, subst}
 use Rattle.std.proofs.lemmas.List.{get_or_default}
-use Rattle.model.specs.Choices.{plan}
+use Rattle.model.specs.Choices.{closure_plan}
 use Rattle.realise.specs.Holdings.{Holdings}
 use Rattle.trust.specs.Trusting.{trusts}
 use Rattle.choose.specs.Visible.{desks_of}
@@ -23,7 +23,7 @@ returns-clause-planned c =
     let pins : c.pins.result.now ≡ (desk_at c.args.desks.now c.args.place).pins = c.pins.ensures ∙ ap (λ (d : Holdings). d.pins) (sym same) in
     let class : c.in_ok-clone.field-0 ≡ c.args.class.now = c.in_ok-clone.ensures.cases in
     planned_at (trusts c.args.trust.now) c.args.table.now.sources c.args.desks.now (desks_of c.in_ok-seen.seen.items) c.args.place c.args.class.now c.plan.result c.in_ok-seen.ensures
-    (λ s sees. subst (IsPlanFor c.plan.result) (λ i. plan s (pins i) (class i ∷ []) []) (c.plan.ensures.planned s (sees ∙ sym c.new-view.ensures)))
+    (λ s sees. subst (IsPlanFor c.plan.result) (λ i. closure_plan s (pins i) (class i ∷ []) []) (c.plan.ensures.planned s (sees ∙ sym c.new-view.ensures)))
 
 pub returns-clause-closures : goal.returns-clause-closures
 returns-clause-closures c =

@@ -1,7 +1,7 @@
 use Rattle.std.proofs.Common.{◌≡◌, ◌∙◌, ◌<◌, ◌-◌, ℕ, true, refl, ap, arith, length, length-set, List}
 use Rattle.std.specs.Prelude.{is_some}
 use Rattle.model.specs.Worlds.{Goal, Building}
-use Rattle.model.specs.Goals.{goal_at, in_state}
+use Rattle.model.specs.Goals.{goal_at, in_status}
 use Rattle.jobs.specs.Numbers.{finished, undone}
 use Rattle.jobs.proofs.NumberLemmas.{changed, got, in_range}
 use Rattle.jobs.proofs.IndexedLemmas.{indexed_entered, listed_nowhere, idle_at}
@@ -32,7 +32,7 @@ invariant_of-self-2 c =
     let job = c.args.job in
     let is = idle_at c.args.self.now c.self.inside.owner gs n x c.self.view_is c.index.ensures c.requires in
     let written : c.index_mut.result.now ≡ x = got n gs c.index_mut.result.now x c.index_mut.ensures.value is.0 in
-    let entered : c.set_state.new.self ≡ in_state (Building job) x = c.set_state.ensures ∙ ap (in_state (Building job)) written in
+    let entered : c.set_status.new.self ≡ in_status (Building job) x = c.set_status.ensures ∙ ap (in_status (Building job)) written in
     let old = c.self.inside.indexes in
     let mid = c.enter.new.self in
     let new = c.undo.new.self in (
@@ -42,12 +42,12 @@ invariant_of-self-2 c =
           old.of_jobs.entries mid.of_jobs.entries old.leading.entries mid.leading.entries old.built.entries old.done.entries new.done.entries
           is.1 c.in_ok-enter.ensures.jobs c.in_ok-enter.ensures.leading
           (λ p. c.undo.ensures.done p ∙ ap (λ us. finished p (undone n us)) c.as_slice.ensures.value
-          ∙ finished_written gs n x (in_state (Building job) x) is.0 refl p)
+          ∙ finished_written gs n x (in_status (Building job) x) is.0 refl p)
           (rw (c.undo.ensures.built, c.in_ok-enter.ensures.built) at c.undo.ensures.room) c.self.invariant.1),
     )
 
 pub returns-clause-entered : goal.returns-clause-entered
 returns-clause-entered c =
-    changed c.args.self.now c.self.inside.owner c.self.inside.goals.items c.args.number c.index_mut.result.now c.set_state.new.self
-    (in_state (Building c.args.job))
-    c.self.view_is c.index_mut.ensures.value c.set_state.ensures
+    changed c.args.self.now c.self.inside.owner c.self.inside.goals.items c.args.number c.index_mut.result.now c.set_status.new.self
+    (in_status (Building c.args.job))
+    c.self.view_is c.index_mut.ensures.value c.set_status.ensures

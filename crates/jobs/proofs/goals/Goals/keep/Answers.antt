@@ -4,7 +4,7 @@ use Rattle.model.specs.Worlds.{Goal}
 use Rattle.model.specs.Goals.{goal_at}
 use Rattle.jobs.specs.Owned.{Owned}
 use Rattle.jobs.specs.Numbers.{finished, undone}
-use Rattle.jobs.specs.States.{planned_with}
+use Rattle.jobs.specs.Statuses.{planned_with}
 use Rattle.jobs.proofs.NumberLemmas.{found, changed, got, in_range}
 use Rattle.jobs.proofs.IndexedLemmas.{indexed_alike, indexed_planned}
 use Rattle.jobs.proofs.FinishedLemmas.{finished_written}

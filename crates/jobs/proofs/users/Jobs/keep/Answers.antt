@@ -2,7 +2,7 @@ use Rattle.std.proofs.Common.{◌<◌, ap, sym, subst, ◌∙◌, length, length
 use Rattle.jobs.specs.Owned.{all_of}
 use Rattle.jobs.specs.Planners.{AddsPlace}
 use Rattle.model.specs.Goals.{goal_at, with_goal_at}
-use Rattle.jobs.specs.States.{planned_with}
+use Rattle.jobs.specs.Statuses.{planned_with}
 use Rattle.jobs.proofs.UserLemmas.{goals_read, goals_written, on_ok}
 use Rattle.jobs.specs.Owned.{Owned}
 use Rattle.jobs.proofs.PlannerLemmas.{by_result, same_written, planned_written, planners_wider, added_widens}

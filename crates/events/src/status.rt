@@ -6,7 +6,7 @@ use storepath::StorePath;
 
 /// How far a goal is.
 #[derive(Clone, Debug, Drop)]
-pub enum State {
+pub enum Status {
     /// It is to be planned.
     Waiting,
     /// It can start.
