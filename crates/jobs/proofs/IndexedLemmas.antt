@@ -5,8 +5,8 @@ use Rattle.jobs.specs.declared.ascending.Ascending.{Ascending}
 use Rattle.model.specs.Worlds.{Resolved, Job, Goal, Status, Waiting, Planned, Building, Done, Failed}
 use Rattle.model.specs.Goals.{goal_at, is_in, same_job, in_status, new_goal, is_building}
 use Rattle.jobs.specs.Owned.{Owned}
-use Rattle.jobs.specs.Rising.{without_number}
-use Rattle.jobs.specs.Numbers.{numbers, numbers_at, entered, left, moved, is_of, has_scratch, own_job, leads_at, is_built_under, firsts, HasSameNumbers, EntersJob, EntersPath, LeavesJob, LeavesPath, MovesPath, HasRoom, Finds, FindsFinished, IsIndexed}
+use Rattle.jobs.specs.Rising.{with_number, without_number}
+use Rattle.jobs.specs.Numbers.{numbers, in_any_job, building, numbers_at, entered, left, moved, is_of, has_scratch, own_job, leads_at, is_built_under, firsts, HasSameNumbers, EntersJob, EntersPath, LeavesJob, LeavesPath, MovesPath, HasRoom, Finds, FindsFinished, IsIndexed}
 use Rattle.jobs.specs.Statuses.{planned_with, IsIdle}
 use Rattle.jobs.proofs.NumberLemmas.{set_left, set_entered, set_kept, set_moved, not_there, pushed, got}
 use Rattle.jobs.proofs.FinishedLemmas.{finished_pushed}
@@ -33,10 +33,11 @@ not_leading job (Failed why) under f = refl
 idle_leads : (job : Job) (s : Status) (under : Bool) → is_building s ≡ false → (is_in job s && under) ≡ false
 idle_leads job s under f = rw (not_in job s f) refl
 
-pub indexed_nothing : (owner : List ℕ) (jobs : List (Job × Ascending)) (leading built done : List (List ℕ × Ascending)) → jobs ≡ [] → leading ≡ [] → built ≡ []
-    → done ≡ [] → IsIndexed owner [] jobs leading built done
+pub indexed_nothing : (owner listed : List ℕ) (jobs : List (Job × Ascending)) (leading built done : List (List ℕ × Ascending)) → listed ≡ [] → jobs ≡ []
+    → leading ≡ [] → built ≡ [] → done ≡ [] → IsIndexed owner [] listed jobs leading built done
 unfolding numbers firsts
-indexed_nothing owner jobs leading built done no_jobs none_leading none_built none_done = record {
+indexed_nothing owner listed jobs leading built done none_listed no_jobs none_leading none_built none_done = record {
+  of_building = none_listed;
   of_jobs = λ job. rw no_jobs refl;
   of_leading = λ path. rw none_leading refl;
   of_built = λ path. rw none_built refl;
@@ -44,9 +45,10 @@ indexed_nothing owner jobs leading built done no_jobs none_leading none_built no
   room = λ path. rw (none_built, none_done) (omega arith);
 }
 
-pub indexed_added : (owner path : List ℕ) (gs : List Goal) (jobs : List (Job × Ascending)) (leading built done : List (List ℕ × Ascending))
-    → IsIndexed owner gs jobs leading built done → IsIndexed owner (gs ++ new_goal path ∷ []) jobs leading built done
-indexed_added owner path gs jobs leading built done is = record {
+pub indexed_added : (owner path : List ℕ) (gs : List Goal) (listed : List ℕ) (jobs : List (Job × Ascending)) (leading built done : List (List ℕ × Ascending))
+    → IsIndexed owner gs listed jobs leading built done → IsIndexed owner (gs ++ new_goal path ∷ []) listed jobs leading built done
+indexed_added owner path gs listed jobs leading built done is = record {
+  of_building = is.of_building ∙ pushed in_any_job gs (new_goal path) (λ n. refl);
   of_jobs = λ job. is.of_jobs job ∙ pushed (is_of job) gs (new_goal path) (λ n. refl);
   of_leading = λ p. is.of_leading p ∙ pushed (leads_at owner p) gs (new_goal path) (λ n. refl);
   of_built = λ p. is.of_built p ∙ pushed (is_built_under p) gs (new_goal path) (λ n. refl);
@@ -55,22 +57,29 @@ indexed_added owner path gs jobs leading built done is = record {
 }
 
 -- lists that have the same numbers as those that find the goals
-pub indexed_alike : (owner : List ℕ) (gs : List Goal) (jobs new_jobs : List (Job × Ascending))
+pub indexed_alike : (owner : List ℕ) (gs : List Goal) (listed new_listed : List ℕ) (jobs new_jobs : List (Job × Ascending))
     (leading new_leading built new_built done new_done : List (List ℕ × Ascending))
-    → HasSameNumbers same_job jobs new_jobs → HasSameNumbers bytes_eq leading new_leading → HasSameNumbers bytes_eq built new_built
-    → FindsFinished gs new_done → HasRoom new_built new_done → IsIndexed owner gs jobs leading built done
-    → IsIndexed owner gs new_jobs new_leading new_built new_done
-indexed_alike owner gs jobs new_jobs leading new_leading built new_built done new_done of_jobs of_leading of_built of_done room is = record {
-  of_jobs = λ job. of_jobs job ∙ is.of_jobs job;
-  of_leading = λ path. of_leading path ∙ is.of_leading path;
-  of_built = λ path. of_built path ∙ is.of_built path;
-  of_done = of_done;
-  room = room;
-}
+    → new_listed ≡ listed → HasSameNumbers same_job jobs new_jobs → HasSameNumbers bytes_eq leading new_leading → HasSameNumbers bytes_eq built new_built
+    → FindsFinished gs new_done → HasRoom new_built new_done → IsIndexed owner gs listed jobs leading built done
+    → IsIndexed owner gs new_listed new_jobs new_leading new_built new_done
+indexed_alike owner gs listed new_listed jobs new_jobs leading new_leading built new_built done new_done of_building of_jobs of_leading of_built of_done room
+    is = record {
+      of_building = of_building ∙ is.of_building;
+      of_jobs = λ job. of_jobs job ∙ is.of_jobs job;
+      of_leading = λ path. of_leading path ∙ is.of_leading path;
+      of_built = λ path. of_built path ∙ is.of_built path;
+      of_done = of_done;
+      room = room;
+    }
 
 -- one goal of a user is written, and stays where it was listed, is listed elsewhere or nowhere
 module _ (owner : List ℕ) (gs : List Goal) (n : ℕ) (g : Goal) (at : goal_at n gs ≡ Some g) where
   -- where it leaves its job
+  building_left : (y : Goal) (listed new_listed : List ℕ) → is_building y.status ≡ false → new_listed ≡ left (is_building g.status) n listed
+      → listed ≡ building gs → new_listed ≡ building (slice_set gs (n - 1) y)
+  building_left y listed new_listed idle leaves is =
+      leaves ∙ ap (left (is_building g.status) n) is ∙ set_left in_any_job n gs g y (is_building g.status) at idle (λ f. f)
+
   of_jobs_left : (y : Goal) (jobs new_jobs : List (Job × Ascending)) → is_building y.status ≡ false → LeavesJob g.status n jobs new_jobs
       → Finds same_job is_of gs jobs → Finds same_job is_of (slice_set gs (n - 1) y) new_jobs
   of_jobs_left y jobs new_jobs idle leaves is k =
@@ -92,11 +101,14 @@ module _ (owner : List ℕ) (gs : List Goal) (n : ℕ) (g : Goal) (at : goal_at 
   built_kept s built is p = is p ∙ set_kept (is_built_under p) n gs g (in_status s g) at refl
 
   -- a goal that is built in no job now, and is built from the same
-  pub indexed_left : (status : Status) (jobs new_jobs : List (Job × Ascending)) (leading new_leading built done new_done : List (List ℕ × Ascending))
-      → is_building status ≡ false → LeavesJob g.status n jobs new_jobs → LeavesPath (is_building g.status) g.resolved n leading new_leading
+  pub indexed_left : (status : Status) (listed new_listed : List ℕ) (jobs new_jobs : List (Job × Ascending)) (leading new_leading built done new_done : List (List ℕ × Ascending))
+      → is_building status ≡ false → new_listed ≡ left (is_building g.status) n listed → LeavesJob g.status n jobs new_jobs
+      → LeavesPath (is_building g.status) g.resolved n leading new_leading
       → FindsFinished (slice_set gs (n - 1) (in_status status g)) new_done → HasRoom built new_done
-      → IsIndexed owner gs jobs leading built done → IsIndexed owner (slice_set gs (n - 1) (in_status status g)) new_jobs new_leading built new_done
-  indexed_left status jobs new_jobs leading new_leading built done new_done idle of_jobs of_leading of_done room is = record {
+      → IsIndexed owner gs listed jobs leading built done
+      → IsIndexed owner (slice_set gs (n - 1) (in_status status g)) new_listed new_jobs new_leading built new_done
+  indexed_left status listed new_listed jobs new_jobs leading new_leading built done new_done idle of_building of_jobs of_leading of_done room is = record {
+    of_building = building_left (in_status status g) listed new_listed idle of_building is.of_building;
     of_jobs = of_jobs_left (in_status status g) jobs new_jobs idle of_jobs is.of_jobs;
     of_leading = leading_left (in_status status g) leading new_leading idle of_leading is.of_leading;
     of_built = built_kept status built is.of_built;
@@ -105,26 +117,35 @@ module _ (owner : List ℕ) (gs : List Goal) (n : ℕ) (g : Goal) (at : goal_at 
   }
 
   -- a goal that is planned
-  pub indexed_planned : (r : Resolved) (jobs new_jobs : List (Job × Ascending)) (leading new_leading built new_built done new_done : List (List ℕ × Ascending))
-      → LeavesJob g.status n jobs new_jobs → LeavesPath (is_building g.status) g.resolved n leading new_leading → MovesPath g.resolved (Some r) n built new_built
+  pub indexed_planned : (r : Resolved) (listed new_listed : List ℕ) (jobs new_jobs : List (Job × Ascending))
+      (leading new_leading built new_built done new_done : List (List ℕ × Ascending))
+      → new_listed ≡ left (is_building g.status) n listed → LeavesJob g.status n jobs new_jobs
+      → LeavesPath (is_building g.status) g.resolved n leading new_leading → MovesPath g.resolved (Some r) n built new_built
       → FindsFinished (slice_set gs (n - 1) (planned_with r g)) new_done → HasRoom new_built new_done
-      → IsIndexed owner gs jobs leading built done → IsIndexed owner (slice_set gs (n - 1) (planned_with r g)) new_jobs new_leading new_built new_done
-  indexed_planned r jobs new_jobs leading new_leading built new_built done new_done of_jobs of_leading of_built of_done room is = record {
-    of_jobs = of_jobs_left (planned_with r g) jobs new_jobs refl of_jobs is.of_jobs;
-    of_leading = leading_left (planned_with r g) leading new_leading refl of_leading is.of_leading;
-    of_built = λ p.
-        of_built p ∙ ap (moved (has_scratch p g.resolved) (has_scratch p (Some r)) n) (is.of_built p)
-        ∙ set_moved (is_built_under p) n gs g (planned_with r g) (has_scratch p g.resolved) (has_scratch p (Some r)) at refl refl;
-    of_done = of_done;
-    room = room;
-  }
+      → IsIndexed owner gs listed jobs leading built done
+      → IsIndexed owner (slice_set gs (n - 1) (planned_with r g)) new_listed new_jobs new_leading new_built new_done
+  indexed_planned r listed new_listed jobs new_jobs leading new_leading built new_built done new_done of_building of_jobs of_leading of_built of_done room
+      is = record {
+        of_building = building_left (planned_with r g) listed new_listed refl of_building is.of_building;
+        of_jobs = of_jobs_left (planned_with r g) jobs new_jobs refl of_jobs is.of_jobs;
+        of_leading = leading_left (planned_with r g) leading new_leading refl of_leading is.of_leading;
+        of_built = λ p.
+            of_built p ∙ ap (moved (has_scratch p g.resolved) (has_scratch p (Some r)) n) (is.of_built p)
+            ∙ set_moved (is_built_under p) n gs g (planned_with r g) (has_scratch p g.resolved) (has_scratch p (Some r)) at refl refl;
+        of_done = of_done;
+        room = room;
+      }
 
   -- a goal that enters a job
-  pub indexed_entered : (job : Job) (jobs new_jobs : List (Job × Ascending)) (leading new_leading built done new_done : List (List ℕ × Ascending))
-      → is_building g.status ≡ false → EntersJob job n jobs new_jobs → EntersPath (same_job job (own_job owner n)) g.resolved n leading new_leading
+  pub indexed_entered : (job : Job) (listed new_listed : List ℕ) (jobs new_jobs : List (Job × Ascending)) (leading new_leading built done new_done : List (List ℕ × Ascending))
+      → is_building g.status ≡ false → new_listed ≡ with_number n listed → EntersJob job n jobs new_jobs
+      → EntersPath (same_job job (own_job owner n)) g.resolved n leading new_leading
       → FindsFinished (slice_set gs (n - 1) (in_status (Building job) g)) new_done → HasRoom built new_done
-      → IsIndexed owner gs jobs leading built done → IsIndexed owner (slice_set gs (n - 1) (in_status (Building job) g)) new_jobs new_leading built new_done
-  indexed_entered job jobs new_jobs leading new_leading built done new_done idle of_jobs of_leading of_done room is = record {
+      → IsIndexed owner gs listed jobs leading built done
+      → IsIndexed owner (slice_set gs (n - 1) (in_status (Building job) g)) new_listed new_jobs new_leading built new_done
+  indexed_entered job listed new_listed jobs new_jobs leading new_leading built done new_done idle of_building of_jobs of_leading of_done room is = record {
+    of_building =
+        of_building ∙ ap (with_number n) is.of_building ∙ set_entered in_any_job n gs g (in_status (Building job) g) true at refl idle;
     of_jobs = λ k.
         of_jobs k
         ∙ ap (entered (is_in k (Building job)) n) (is.of_jobs k)
@@ -140,9 +161,10 @@ module _ (owner : List ℕ) (gs : List Goal) (n : ℕ) (g : Goal) (at : goal_at 
   }
 
   -- a goal that is built in no job is listed in none
-  pub listed_nowhere : (job : Job) (jobs : List (Job × Ascending)) (leading built done : List (List ℕ × Ascending)) → is_building g.status ≡ false
-      → IsIndexed owner gs jobs leading built done → without_number n (numbers_at (same_job job) jobs) ≡ numbers_at (same_job job) jobs
-  listed_nowhere job jobs leading built done idle is =
+  pub listed_nowhere : (job : Job) (listed : List ℕ) (jobs : List (Job × Ascending)) (leading built done : List (List ℕ × Ascending))
+      → is_building g.status ≡ false → IsIndexed owner gs listed jobs leading built done
+      → without_number n (numbers_at (same_job job) jobs) ≡ numbers_at (same_job job) jobs
+  listed_nowhere job listed jobs leading built done idle is =
       ap (without_number n) (is.of_jobs job) ∙ not_there (is_of job) n gs g at (not_in job g.status idle) ∙ sym (is.of_jobs job)
 
 pub idle_goal : (o : Option Goal) → IsIdle o → (g : Goal) × (o ≡ Some g) × (is_building g.status ≡ false)

@@ -189,7 +189,7 @@ first_from path f k (g ∷ gs) at =
       | inr n ↦ rw n (first_from path f (suc k) gs (λ i x there. ap f (next i) ∙ at (suc i) x there))
     ]
 
-numbered_from : (gs : List Goal) (i : ℕ) (g : Goal) → slice_get gs i ≡ Some g → goal_at (1 + i) gs ≡ Some g
+pub numbered_from : (gs : List Goal) (i : ℕ) (g : Goal) → slice_get gs i ≡ Some g → goal_at (1 + i) gs ≡ Some g
 numbered_from gs i g at = let one : 1 + i ≡ suc i = omega arith in rw one at
 
 -- no goal has a number

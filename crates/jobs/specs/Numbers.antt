@@ -2,7 +2,7 @@
 use Rattle.std.specs.Prelude.{◌≡◌, ◌≤◌, ℕ, suc, ◌==◌, Bool, true, false, not, ◌&&◌, ◌||◌, if◌then◌else◌, List, [], ◌∷◌, length, vec_capacity, bytes_eq, Option, None, Some, option_map}
 use Rattle.std.specs.Map.{lookup}
 use Rattle.model.specs.Worlds.{Resolved, Job, Status, Waiting, Building, Goal}
-use Rattle.model.specs.Goals.{goal_at, with_goal_at, in_status, is_in, same_job}
+use Rattle.model.specs.Goals.{goal_at, with_goal_at, in_status, is_in, is_building, same_job}
 use Rattle.jobs.specs.Statuses.{is_done, are_same, is_alike}
 use Rattle.jobs.specs.declared.ascending.Ascending.{Ascending}
 use Rattle.jobs.specs.Rising.{with_number, without_number}
@@ -44,6 +44,14 @@ KeepsRoom {K} eq old new = (k : K) → room_at (eq k) old ≤ room_at (eq k) new
 unfoldable pub numbers : (ℕ → Goal → Bool) → ℕ → List Goal → List ℕ
 numbers test n [] = []
 numbers test n (g ∷ gs) = if test n g then n ∷ numbers test (suc n) gs else numbers test (suc n) gs
+
+-- whether a goal is built in any job
+abbrev pub in_any_job : ℕ → Goal → Bool
+in_any_job n g = is_building g.status
+
+-- the numbers of those that are built in jobs
+abbrev pub building : List Goal → List ℕ
+building goals = numbers in_any_job 1 goals
 
 -- whether a goal is built in a job
 abbrev pub is_of : Job → ℕ → Goal → Bool
@@ -116,9 +124,11 @@ FindsFinished goals lists = (path : List ℕ) → numbers_at (bytes_eq path) lis
 abbrev pub HasRoom : List (List ℕ × Ascending) → List (List ℕ × Ascending) → Type 0
 HasRoom built done = (path : List ℕ) → length (numbers_at (bytes_eq path) built) ≤ room_at (bytes_eq path) done
 
--- by each job its members are found, and by each path those goals that lead their own job under it, those that are built under it, and of
--- these those that are finished
-pub record IsIndexed (owner : List ℕ) (goals : List Goal) (members : List (Job × Ascending)) (leading built done : List (List ℕ × Ascending)) : Type 0 where
+-- those that are built in jobs are listed; by each job its members are found, and by each path those goals that lead their own job under it, those
+-- that are built under it, and of these those that are finished
+pub record IsIndexed (owner : List ℕ) (goals : List Goal) (listed : List ℕ) (members : List (Job × Ascending))
+    (leading built done : List (List ℕ × Ascending)) : Type 0 where
+  pub of_building : listed ≡ building goals
   pub of_jobs : Finds same_job is_of goals members
   pub of_leading : Finds bytes_eq (leads_at owner) goals leading
   pub of_built : Finds bytes_eq is_built_under goals built

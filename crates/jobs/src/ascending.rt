@@ -50,6 +50,15 @@ fn place_of(list: &[u16], number: u16) -> Option<usize>
 }
 
 impl Ascending {
+    /// No numbers.
+    pub(crate) fn new(alloc: Global) -> Ascending
+        ensures { result.numbers.items ≡ [] }
+    {
+        Ascending {
+            numbers: Vec::new(alloc),
+        }
+    }
+
     /// No numbers, with room for so many. The one error is memory.
     pub(crate) fn with_capacity(alloc: Global, count: usize) -> Result<Ascending, Refusal>
         ensures items { IfOk result (λ list. list.numbers.items ≡ []) }
@@ -96,6 +105,16 @@ impl Ascending {
     {
         self.numbers
             .reserve(count.saturating_sub(self.numbers.len()))?;
+        Ok(())
+    }
+
+    /// Makes room for one number more. The one error is memory. No number changes.
+    pub(crate) fn reserve_one(&mut self) -> Result<(), Refusal>
+        ensures items { self.new.numbers.items ≡ self.old.numbers.items }
+        ensures room { OnOk result (vec_len self.new.numbers < vec_capacity self.new.numbers) }
+        ensures memory { IfErr result (λ e. e ≡ Memory) }
+    {
+        self.numbers.reserve(1)?;
         Ok(())
     }
 

@@ -67,29 +67,9 @@ pub(crate) fn builds_with(
     }
 }
 
-/// Whether one of the goals is built so.
-fn any_builds_with(
-    users: &Users,
-    reached: u64,
-    class: &StorePath,
-    path: &StorePath,
-    goals: &[Goal],
-) -> bool
-    requires { length users.now ≤ 64 }
-    ensures { result
-        ≡ list_any (builds_with (names users.now (holds reached)) class.now path.now) goals.now }
-{
-    for goal in goals {
-        if builds_with(users, reached, class, path, goal) {
-            return true;
-        }
-    }
-    false
-}
-
 impl Goals {
     /// Whether a goal is built from the output of a class at a path, in a job whose leader is at one of
-    /// the places of a word.
+    /// the places of a word. It looks only at the goals that are built in jobs.
     pub(crate) fn build_with(
         &self,
         users: &Users,
@@ -101,7 +81,14 @@ impl Goals {
         ensures { result ≡ list_any
             (builds_with (names users.now (holds reached)) class.now path.now) self.now.goals }
     {
-        any_builds_with(users, reached, class, path, self.as_slice())
+        for number in self.building() {
+            if let Some(goal) = self.get(*number) {
+                if builds_with(users, reached, class, path, goal) {
+                    return true;
+                }
+            }
+        }
+        false
     }
 
     /// A goal that is built in a job from the output of a class at a path waits; another one stays.
@@ -117,13 +104,16 @@ impl Goals {
         }
     }
 
-    /// The goals that are built in jobs from the output of a class at a path wait. It takes no memory.
+    /// The goals that are built in jobs from the output of a class at a path wait. It looks only at those
+    /// that are built in jobs, at the last first: one that waits is taken from behind those that are left.
+    /// It takes no memory.
     pub(crate) fn let_go(&mut self, class: &StorePath, path: &StorePath)
         ensures { self.new
             ≡ with_goals (map (let_go class.now path.now) self.old.goals) self.old }
     {
-        for index in 0..self.as_slice().len() {
-            self.let_one_go(index as u16 + 1, class, path);
+        for place in (0..self.building().len()).rev() {
+            let number = self.building()[place];
+            self.let_one_go(number, class, path);
         }
     }
 }

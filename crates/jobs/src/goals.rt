@@ -8,7 +8,7 @@ ghost use Rattle.model.specs.Goals.{goal_at, in_status, new_goal, members, led_b
 ghost use Rattle.jobs.specs.Joining.{job_with, least_with, lesser_of};
 ghost use Rattle.jobs.specs.Owned.{with_goals, ChangesOwn};
 ghost use Rattle.jobs.specs.Shared.{IsBuiltLike};
-ghost use Rattle.jobs.specs.Numbers.{numbers, leads_at, finished, first_built};
+ghost use Rattle.jobs.specs.Numbers.{numbers, building, leads_at, finished, first_built};
 ghost use Rattle.events.specs.Statuses.{status_of};
 ghost use Rattle.jobs.specs.Statuses.{planned_with, IsIdle};
 
@@ -58,8 +58,9 @@ impl Model for Goals {
     ghost view = { λ g. record { owner = g.owner; goals = g.goals.items } };
 
     ghost invariant = { λ g. (length g.goals.items ≤ most_goals)
-        × IsIndexed g.owner g.goals.items g.indexes.of_jobs.entries g.indexes.leading.entries
-        g.indexes.built.entries g.indexes.done.entries };
+        × IsIndexed g.owner g.goals.items g.indexes.building.numbers.items
+        g.indexes.of_jobs.entries g.indexes.leading.entries g.indexes.built.entries
+        g.indexes.done.entries };
 }
 
 /// The best so far, or another job, if there is one, that goes before it.
@@ -223,6 +224,13 @@ impl Goals {
         self.indexes.undo(self.goals.as_slice(), number);
         self.goals[index].set_status(Status::Building(job));
         Ok(())
+    }
+
+    /// The numbers of the goals that are built in jobs, ascending. They are found at once.
+    pub(crate) fn building(&self) -> &[u16]
+        ensures { result.now ≡ building self.now.goals }
+    {
+        self.indexes.building()
     }
 
     /// The numbers of the goals that are built in a job, ascending. They are found at once.

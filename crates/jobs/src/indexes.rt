@@ -5,7 +5,7 @@ ghost use Rattle.std.specs.Str.{bytes_eq};
 ghost use Rattle.model.specs.Goals.{goal_at, same_job, is_building};
 ghost use Rattle.model.specs.declared.refusal.Refusal.TheVariants.{Memory};
 ghost use Rattle.jobs.specs.Rising.{with_number};
-ghost use Rattle.jobs.specs.Numbers.{numbers_at, own_job, is_built_under, undone, ChangesAt, HasSameNumbers, HasRoom, EntersJob, EntersPath, LeavesJob, LeavesPath, MovesPath, Finds, FindsFinished, IsUnlisted};
+ghost use Rattle.jobs.specs.Numbers.{numbers_at, left, own_job, is_built_under, undone, ChangesAt, HasSameNumbers, HasRoom, EntersJob, EntersPath, LeavesJob, LeavesPath, MovesPath, Finds, FindsFinished, IsUnlisted};
 
 use crate::ascending::Ascending;
 use crate::finished::{finished_under, first_alike};
@@ -20,13 +20,14 @@ use std::hash::RandomState;
 use storepath::StorePath;
 use trust::User;
 
-/// The numbers of a user's goals: by the jobs in which they are built, and by the paths under which
-/// they are built those that lead their own job, those that were planned, and those that are done, of
-/// several that came to the same the first. A list may be empty.
+/// The numbers of a user's goals: of those that are built in jobs, by the jobs in which they are built,
+/// and by the paths under which they are built those that lead their own job, those that were planned,
+/// and those that are done, of several that came to the same the first. A list may be empty.
 ///
 /// A goal becomes done where no memory may be taken. So the lists of those that are done have room
 /// for all that were planned.
 pub(crate) struct Indexes {
+    building: Ascending,
     of_jobs: IndexMap<Job, Ascending, RandomState>,
     leading: IndexMap<StorePath, Ascending, RandomState>,
     built: IndexMap<StorePath, Ascending, RandomState>,
@@ -36,6 +37,7 @@ pub(crate) struct Indexes {
 impl Drop for Indexes {
     fn drop(self) {
         let Indexes {
+            building: _,
             of_jobs: _,
             leading: _,
             built: _,
@@ -47,17 +49,26 @@ impl Drop for Indexes {
 impl Indexes {
     /// Of no goals.
     pub(crate) fn new(alloc: Global, hashing: RandomState) -> Indexes
+        ensures building { result.building.numbers.items ≡ [] }
         ensures of_jobs { result.of_jobs.entries ≡ [] }
         ensures leading { result.leading.entries ≡ [] }
         ensures built { result.built.entries ≡ [] }
         ensures done { result.done.entries ≡ [] }
     {
         Indexes {
+            building: Ascending::new(alloc),
             of_jobs: IndexMap::with_hasher(alloc, hashing),
             leading: IndexMap::with_hasher(alloc, hashing),
             built: IndexMap::with_hasher(alloc, hashing),
             done: IndexMap::with_hasher(alloc, hashing),
         }
+    }
+
+    /// The numbers of those that are built in jobs.
+    pub(crate) fn building(&self) -> &[u16]
+        ensures { result.now ≡ self.now.building.numbers.items }
+    {
+        self.building.as_slice()
     }
 
     /// The numbers of those that are built in a job.
@@ -99,6 +110,7 @@ impl Indexes {
         goal: &Goal,
         job: &Job,
     ) -> Result<(), Refusal>
+        ensures building { self.new.building ≡ self.old.building }
         ensures jobs { self.new.of_jobs ≡ self.old.of_jobs }
         ensures leading { MatchResult result
             (λ _. EntersPath (same_job job.now (own_job owner.now number)) goal.now.resolved number
@@ -127,6 +139,10 @@ impl Indexes {
         job: &Job,
     ) -> Result<(), Refusal>
         requires { IsUnlisted job.now number self.old.of_jobs.entries }
+        ensures building { MatchResult result
+            (λ _. self.new.building.numbers.items
+            ≡ with_number number self.old.building.numbers.items)
+            (λ e. self.new.building.numbers.items ≡ self.old.building.numbers.items) }
         ensures jobs { MatchResult result
             (λ _. EntersJob job.now number self.old.of_jobs.entries self.new.of_jobs.entries)
             (λ e. (e ≡ Memory)
@@ -138,16 +154,20 @@ impl Indexes {
         ensures built { self.new.built ≡ self.old.built }
         ensures done { self.new.done ≡ self.old.done }
     {
+        self.building.reserve_one()?;
         insert_at(alloc, &mut self.of_jobs, job.clone()?, number)?;
         if let Err(why) = self.lead(alloc, owner, number, goal, job) {
             remove_at(&mut self.of_jobs, job, number);
             return Err(why);
         }
+        self.building.insert_reserved(number);
         Ok(())
     }
 
     /// Has a goal leave its job, if it is built in one. It takes no memory.
     pub(crate) fn leave(&mut self, number: u16, goal: &Goal)
+        ensures building { self.new.building.numbers.items
+            ≡ left (is_building goal.now.status) number self.old.building.numbers.items }
         ensures jobs { LeavesJob goal.now.status number
             self.old.of_jobs.entries self.new.of_jobs.entries }
         ensures leading { LeavesPath (is_building goal.now.status) goal.now.resolved number
@@ -158,6 +178,7 @@ impl Indexes {
         let Some(job) = goal.job() else {
             return;
         };
+        self.building.remove(number);
         remove_at(&mut self.of_jobs, job, number);
         if let Some(resolved) = goal.resolved() {
             remove_at(&mut self.leading, resolved.scratch(), number);
@@ -166,6 +187,7 @@ impl Indexes {
 
     // Lists a number at a path. The one error is memory, and changes no list.
     fn list(&mut self, alloc: Global, number: u16, path: &StorePath) -> Result<(), Refusal>
+        ensures building { self.new.building ≡ self.old.building }
         ensures jobs { self.new.of_jobs ≡ self.old.of_jobs }
         ensures leading { self.new.leading ≡ self.old.leading }
         ensures built { MatchResult result
@@ -187,6 +209,7 @@ impl Indexes {
         goal: &Goal,
         resolved: &Resolved,
     ) -> Result<(), Refusal>
+        ensures building { self.new.building ≡ self.old.building }
         ensures jobs { self.new.of_jobs ≡ self.old.of_jobs }
         ensures leading { self.new.leading ≡ self.old.leading }
         ensures built { MatchResult result
@@ -217,6 +240,7 @@ impl Indexes {
         resolved: &Resolved,
     ) -> Result<(), Refusal>
         requires { HasRoom self.old.built.entries self.old.done.entries }
+        ensures building { self.new.building ≡ self.old.building }
         ensures jobs { self.new.of_jobs ≡ self.old.of_jobs }
         ensures leading { self.new.leading ≡ self.old.leading }
         ensures built { MatchResult result
@@ -240,6 +264,7 @@ impl Indexes {
         requires built { Finds bytes_eq is_built_under goals.now self.old.built.entries }
         requires done { FindsFinished (undone number goals.now) self.old.done.entries }
         requires room { HasRoom self.old.built.entries self.old.done.entries }
+        ensures building { self.new.building ≡ self.old.building }
         ensures jobs { self.new.of_jobs ≡ self.old.of_jobs }
         ensures leading { self.new.leading ≡ self.old.leading }
         ensures built { self.new.built ≡ self.old.built }
@@ -263,6 +288,7 @@ impl Indexes {
         requires built { Finds bytes_eq is_built_under goals.now self.old.built.entries }
         requires done { FindsFinished goals.now self.old.done.entries }
         requires room { HasRoom self.old.built.entries self.old.done.entries }
+        ensures building { self.new.building ≡ self.old.building }
         ensures jobs { self.new.of_jobs ≡ self.old.of_jobs }
         ensures leading { self.new.leading ≡ self.old.leading }
         ensures built { self.new.built ≡ self.old.built }

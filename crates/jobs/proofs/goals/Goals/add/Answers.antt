@@ -11,6 +11,6 @@ invariant_of-self-2 c =
     let lists = c.self.inside.indexes in (
       rw (c.in_ok-push.ensures.items, c.new.ensures) (omega (arith, length-append gs (y ∷ []))),
       rw (c.in_ok-push.ensures.items, c.new.ensures)
-          (indexed_added c.self.inside.owner c.args.derivation gs lists.of_jobs.entries lists.leading.entries lists.built.entries lists.done.entries
-          c.self.invariant.1),
+          (indexed_added c.self.inside.owner c.args.derivation gs lists.building.numbers.items lists.of_jobs.entries lists.leading.entries lists.built.entries
+          lists.done.entries c.self.invariant.1),
     )

@@ -13,8 +13,8 @@ enter-requires c =
     let lists = c.self.inside.indexes in
     let is = idle_at c.args.self.now c.self.inside.owner c.self.inside.goals.items c.args.number c.index.result.now c.self.view_is
     c.index.ensures c.requires in
-    listed_nowhere c.self.inside.owner c.self.inside.goals.items c.args.number c.index.result.now is.0 c.args.job lists.of_jobs.entries
-    lists.leading.entries lists.built.entries lists.done.entries is.1 c.self.invariant.1
+    listed_nowhere c.self.inside.owner c.self.inside.goals.items c.args.number c.index.result.now is.0 c.args.job lists.building.numbers.items
+    lists.of_jobs.entries lists.leading.entries lists.built.entries lists.done.entries is.1 c.self.invariant.1
 
 pub index_mut-requires : goal.index_mut-requires
 index_mut-requires c =
@@ -37,10 +37,10 @@ invariant_of-self-2 c =
     let mid = c.enter.new.self in
     let new = c.undo.new.self in (
       rw (length-set {A = Goal}) c.self.invariant.0,
-      rw (entered, c.undo.ensures.jobs, c.undo.ensures.leading, c.undo.ensures.built, c.in_ok-enter.ensures.built)
+      rw (entered, c.undo.ensures.building, c.undo.ensures.jobs, c.undo.ensures.leading, c.undo.ensures.built, c.in_ok-enter.ensures.built)
           (indexed_entered c.self.inside.owner gs n x is.0 job
-          old.of_jobs.entries mid.of_jobs.entries old.leading.entries mid.leading.entries old.built.entries old.done.entries new.done.entries
-          is.1 c.in_ok-enter.ensures.jobs c.in_ok-enter.ensures.leading
+          old.building.numbers.items mid.building.numbers.items old.of_jobs.entries mid.of_jobs.entries old.leading.entries mid.leading.entries old.built.entries old.done.entries new.done.entries
+          is.1 c.in_ok-enter.ensures.building c.in_ok-enter.ensures.jobs c.in_ok-enter.ensures.leading
           (λ p. c.undo.ensures.done p ∙ ap (λ us. finished p (undone n us)) c.as_slice.ensures.value
           ∙ finished_written gs n x (in_status (Building job) x) is.0 refl p)
           (rw (c.undo.ensures.built, c.in_ok-enter.ensures.built) at c.undo.ensures.room) c.self.invariant.1),

@@ -15,6 +15,9 @@ invariant_of-self c =
     let old = c.self.inside.indexes in
     let new = c.finish.new.self in
     rw (
+      c.finish.ensures.building,
+      c.in-Err.ensures.building,
+      c.undo.ensures.building,
       c.finish.ensures.jobs,
       c.in-Err.ensures.jobs,
       c.undo.ensures.jobs,
@@ -24,8 +27,9 @@ invariant_of-self c =
       c.finish.ensures.built,
     ) (
       c.self.invariant.0,
-      indexed_alike c.self.inside.owner c.self.inside.goals.items old.of_jobs.entries old.of_jobs.entries old.leading.entries old.leading.entries
-          old.built.entries c.plan.new.self.built.entries old.done.entries new.done.entries (λ k. refl) (λ p. refl)
+      indexed_alike c.self.inside.owner c.self.inside.goals.items old.building.numbers.items old.building.numbers.items
+          old.of_jobs.entries old.of_jobs.entries old.leading.entries old.leading.entries
+          old.built.entries c.plan.new.self.built.entries old.done.entries new.done.entries refl (λ k. refl) (λ p. refl)
           (rw c.undo.ensures.built at c.in-Err.ensures.built.1) (rw c.as_slice-in-Err.ensures.value at c.finish.ensures.done)
           (rw c.finish.ensures.built at c.finish.ensures.room) c.self.invariant.1,
     )
@@ -62,8 +66,9 @@ invariant_of-self-2 c =
     let new = c.leave.new.self in (
       rw (length-set {A = Goal}) c.self.invariant.0,
       rw (is, c.leave.ensures.built, c.leave.ensures.done)
-          (indexed_planned c.self.inside.owner gs n x at c.shared-resolved.result old.of_jobs.entries new.of_jobs.entries
-          old.leading.entries new.leading.entries old.built.entries plan.built.entries old.done.entries plan.done.entries
+          (indexed_planned c.self.inside.owner gs n x at c.shared-resolved.result old.building.numbers.items new.building.numbers.items
+          old.of_jobs.entries new.of_jobs.entries old.leading.entries new.leading.entries old.built.entries plan.built.entries old.done.entries plan.done.entries
+          (rw (c.in_default.ensures.building, c.undo.ensures.building) at c.leave.ensures.building)
           (rw (c.in_default.ensures.jobs, c.undo.ensures.jobs) at c.leave.ensures.jobs)
           (rw (c.in_default.ensures.leading, c.undo.ensures.leading) at c.leave.ensures.leading)
           (rw (planned, c.undo.ensures.built) at c.in_default.ensures.built)

@@ -1,8 +1,6 @@
 use Rattle.std.proofs.Common.{◌≡◌}
-use Rattle.model.specs.ForgetRequests.{let_go}
-use Rattle.jobs.specs.Owned.{with_goals}
-use Rattle.jobs.proofs.ForgettingLemmas.{first_done}
+use Rattle.jobs.proofs.ForgettingLemmas.{letting_go}
 use Rattle.jobs.proofs.goals.Goals.let_go.Given as goal
 
-abbrev pub invariant-loop-index : goal.invariant-loop-index
-invariant-loop-index l = l.self ≡ with_goals (first_done (let_go l.class l.path) l.index l.fn.self.goals) l.fn.self
+abbrev pub invariant-loop-place : goal.invariant-loop-place
+invariant-loop-place l = l.self ≡ letting_go l.class l.path l.fn.self l.place

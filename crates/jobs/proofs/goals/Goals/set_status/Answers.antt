@@ -48,6 +48,8 @@ invariant_of-self c =
       rw (length-set {A = Goal}) c.self.invariant.0,
       rw (
         is,
+        c.finish.ensures.building,
+        c.undo.ensures.building,
         c.finish.ensures.jobs,
         c.undo.ensures.jobs,
         c.finish.ensures.leading,
@@ -56,8 +58,9 @@ invariant_of-self c =
         c.undo.ensures.built,
         c.leave.ensures.built,
       )
-          (indexed_left c.self.inside.owner gs n x at (status_of c.args.status) old.of_jobs.entries mid.of_jobs.entries old.leading.entries mid.leading.entries
-          old.built.entries old.done.entries new.done.entries c.requires.status c.leave.ensures.jobs c.leave.ensures.leading
+          (indexed_left c.self.inside.owner gs n x at (status_of c.args.status) old.building.numbers.items mid.building.numbers.items
+          old.of_jobs.entries mid.of_jobs.entries old.leading.entries mid.leading.entries
+          old.built.entries old.done.entries new.done.entries c.requires.status c.leave.ensures.building c.leave.ensures.jobs c.leave.ensures.leading
           (rw (c.as_slice-2.ensures.value, is) at c.finish.ensures.done)
           (rw (c.finish.ensures.built, c.undo.ensures.built, c.leave.ensures.built) at c.finish.ensures.room) c.self.invariant.1),
     )
