@@ -23,11 +23,13 @@ ghost use Rattle.endings.specs.Committing.{delta_at, statuses_for, AreToAdd, May
 ghost use Rattle.endings.specs.Delivery.{AreAllBuiltOn, IsNotMade};
 ghost use Rattle.endings.specs.Finishing.{IsPrepared};
 ghost use Rattle.handling.specs.Handling.{IsHandledByAll};
+ghost use Rattle.handling.specs.States.{HasPlace, Handles};
 
 use crate::committing::{additions_of, gained_by_all, set_all};
 use crate::delivery::delivered_by_all;
 use building::DeskDelta;
 use events::{CopiedReply, Reply};
+use handling::State;
 use jobs::{Job, Jobs, Status, leads};
 use model::Refusal;
 use nar::{Tree, decode};
@@ -228,20 +230,8 @@ fn put_in_place(
     Ok(reply)
 }
 
-/// The job that the goal of a number of the user at a place leads has ended with an output. Each of its
-/// goals whose user reaches him is done, or has failed for itself, and the others wait. The reply is how
-/// far the leader's goal is then.
-///
-/// # Errors
-///
-/// Nothing has changed then.
-///
-/// - `UnknownGoal` exactly where he has no goal of that number, and `WrongState` exactly where it leads no
-///   job that is built now.
-/// - `Clash` only where another tree is at the path of one that was built, in the table or with one
-///   before it.
-/// - `Memory` only where memory was refused.
-pub fn finish(
+/// What [`finish`] does, on what it changes.
+fn finish_job(
     alloc: Global,
     users: &[User],
     trust: &Trust,
@@ -284,4 +274,51 @@ pub fn finish(
     )?;
     let reply = put_in_place(alloc, jobs, table, desks, ending)?;
     Ok(reply)
+}
+
+/// The job that the goal of a number of the user at a place leads has ended with an output. Each of its
+/// goals whose user reaches him is done, or has failed for itself, and the others wait. The reply is how
+/// far the leader's goal is then.
+///
+/// # Errors
+///
+/// Nothing has changed then.
+///
+/// - `UnknownGoal` exactly where he has no goal of that number, and `WrongState` exactly where it leads no
+///   job that is built now.
+/// - `Clash` only where another tree is at the path of one that was built, in the table or with one
+///   before it.
+/// - `Memory` only where memory was refused.
+pub fn finish(
+    alloc: Global,
+    state: &mut State,
+    place: usize,
+    settlements: &mut Settlements,
+    number: u16,
+    output: &[u8],
+) -> Result<CopiedReply, Refusal>
+    requires { HasPlace state.old place }
+    ensures { Handles state.old place (FinishRequest number output.now) result state.new }
+{
+    let State {
+        users,
+        trust,
+        jobs,
+        desks,
+        table,
+        limits,
+    } = state;
+    finish_job(
+        alloc,
+        users.as_slice(),
+        trust,
+        jobs,
+        table,
+        desks.as_mut_slice(),
+        place,
+        *limits,
+        number,
+        settlements,
+        output,
+    )
 }

@@ -12,8 +12,10 @@ ghost use Rattle.jobs.specs.Owned.{goals_at, with_goals_at};
 ghost use Rattle.handling.specs.Sound.{IsSound, AreGoalsSound};
 ghost use Rattle.handling.specs.Viewing.{desk_at};
 ghost use Rattle.handling.specs.Handling.{IsHandledAtPlace};
+ghost use Rattle.handling.specs.States.{HasPlace, Handles};
 
 use events::CopiedReply;
+use handling::State;
 use jobs::Jobs;
 use model::Refusal;
 use realise::Desk;
@@ -41,15 +43,8 @@ fn is_in_use(
     desk.needs(class, path) || jobs.build_with(place, users, reached, class, path)
 }
 
-/// Takes the outputs of a class at a path from the desk of the user at a place. His goals that are stored
-/// as built from one of them, in jobs whose leaders he does not reach, wait. It takes no memory.
-///
-/// # Errors
-///
-/// - `NotHeld` exactly where he has no output of that class at that path.
-/// - `InUse` exactly where he has one, and another output on his desk has a label of it, or it is among
-///   what a goal of his is built from, in a job whose leader he reaches.
-pub fn forget(
+/// What [`forget`] does, on what it changes.
+fn forget_output(
     users: &Users,
     trust: &Trust,
     jobs: &mut Jobs,
@@ -82,4 +77,31 @@ pub fn forget(
     jobs.let_go(place, class, path);
     desk.forget(class, path);
     Ok(CopiedReply::done())
+}
+
+/// Takes the outputs of a class at a path from the desk of the user at a place. His goals that are stored
+/// as built from one of them, in jobs whose leaders he does not reach, wait. It takes no memory.
+///
+/// # Errors
+///
+/// - `NotHeld` exactly where he has no output of that class at that path.
+/// - `InUse` exactly where he has one, and another output on his desk has a label of it, or it is among
+///   what a goal of his is built from, in a job whose leader he reaches.
+pub fn forget(
+    state: &mut State,
+    place: usize,
+    class: &StorePath,
+    path: &StorePath,
+) -> Result<CopiedReply, Refusal>
+    requires { HasPlace state.old place }
+    ensures { Handles state.old place (ForgetRequest class.now path.now) result state.new }
+{
+    let State {
+        users,
+        trust,
+        jobs,
+        desks,
+        ..
+    } = state;
+    forget_output(users, trust, jobs, desks.as_mut_slice(), place, class, path)
 }

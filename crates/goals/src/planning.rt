@@ -15,6 +15,7 @@ ghost use Rattle.handling.specs.Stored.{source_of_entry};
 ghost use Rattle.handling.specs.Sound.{IsSound, IsClosure, IsStored, AreGoalsSound};
 ghost use Rattle.handling.specs.Viewing.{desk_at};
 ghost use Rattle.handling.specs.Handling.{IsHandledAtPlace};
+ghost use Rattle.handling.specs.States.{HasPlace, Handles};
 ghost use Rattle.goals.specs.Planning.{IsResolvedAt, TellsToPlan, fails, IsNotKept};
 ghost use Rattle.goals.specs.Sharing.{EqualsAllLike};
 
@@ -23,7 +24,7 @@ use choose::View;
 use classes::input_classes;
 use events::CopiedReply;
 use handlers::trees_of;
-use handling::desks_in_view;
+use handling::{State, desks_in_view};
 use jobs::{Jobs, Status};
 use laws::closures_are_whole;
 use model::Refusal;
@@ -160,17 +161,8 @@ fn keep(
     Ok(())
 }
 
-/// Finds what the goal of a number of the user at a place is built from, as he sees it now. The reply
-/// is how far the goal is then: it is planned, or has failed.
-///
-/// # Errors
-///
-/// - `UnknownGoal` exactly where he has no goal of that number, and `WrongState` exactly where it does not
-///   wait, whether there is memory or not.
-/// - `NotRealised` exactly where no desk that he sees has a record of the class of an input.
-/// - `Clash` only where another tree is stored at the path of an entry.
-/// - `Memory` only where memory was refused; it may stand in the place of each answer but the first two.
-pub fn plan(
+/// What [`plan`] does, on what it changes.
+fn plan_goal(
     alloc: Global,
     users: &Users,
     trust: &Trust,
@@ -208,4 +200,38 @@ pub fn plan(
         }
         Err(why) => Err(why),
     }
+}
+
+/// Finds what the goal of a number of the user at a place is built from, as he sees it now. The reply
+/// is how far the goal is then: it is planned, or has failed.
+///
+/// # Errors
+///
+/// - `UnknownGoal` exactly where he has no goal of that number, and `WrongState` exactly where it does not
+///   wait, whether there is memory or not.
+/// - `NotRealised` exactly where no desk that he sees has a record of the class of an input.
+/// - `Clash` only where another tree is stored at the path of an entry.
+/// - `Memory` only where memory was refused; it may stand in the place of each answer but the first two.
+pub fn plan(
+    alloc: Global,
+    state: &mut State,
+    place: usize,
+    cache: &mut Cache,
+    number: u16,
+) -> Result<CopiedReply, Refusal>
+    requires { HasPlace state.old place }
+    ensures { Handles state.old place (PlanRequest number) result state.new }
+{
+    let State {
+        users,
+        trust,
+        jobs,
+        desks,
+        table,
+        ..
+    } = state;
+    let desks = desks.as_slice();
+    plan_goal(
+        alloc, users, trust, jobs, table, desks, place, cache, number,
+    )
 }

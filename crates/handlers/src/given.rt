@@ -10,10 +10,11 @@ ghost use Rattle.handling.specs.Viewing.{desk_at};
 ghost use Rattle.handlers.specs.Serving.{IsServedAt, IsPlannedAt, IsServedOf};
 ghost use Rattle.handling.specs.Handling.{IsHandledByObservation};
 ghost use Rattle.handling.specs.Sound.{IsClosure};
+ghost use Rattle.handling.specs.States.{HasPlace, Handles};
 
 use choose::{Plan, View, plan};
 use events::{CopiedReply, Reply};
-use handling::desks_in_view;
+use handling::{State, desks_in_view};
 use laws::closures_are_whole;
 use model::Refusal;
 use realise::Desk;
@@ -89,16 +90,8 @@ pub(crate) fn entries_for(
     served_closure_with(alloc, &planned, cache)
 }
 
-/// The closure of a class for the user at a place, of all that he sees.
-///
-/// # Errors
-///
-/// - `NotRealised` exactly where no desk that he sees has a record of the class.
-/// - `ClosureTooLarge` exactly where there would be more than 1,024 entries.
-/// - `RewriteRefused` exactly where a record cannot be repaired, with the reason of the first such class
-///   by rank and then by the path of the class.
-/// - `Memory` only where memory was refused; it may stand in the place of each answer.
-pub fn closure(
+/// What [`closure`] tells, by what it reads.
+fn reply_with_closure(
     alloc: Global,
     trust: &Trust,
     table: &Table,
@@ -115,4 +108,27 @@ pub fn closure(
 {
     let entries = entries_for(alloc, trust, table, desks, place, cache, class)?;
     Ok(CopiedReply::new(Reply::Entries(Closure::new(entries)?))?)
+}
+
+/// The closure of a class for the user at a place, of all that he sees.
+///
+/// # Errors
+///
+/// - `NotRealised` exactly where no desk that he sees has a record of the class.
+/// - `ClosureTooLarge` exactly where there would be more than 1,024 entries.
+/// - `RewriteRefused` exactly where a record cannot be repaired, with the reason of the first such class
+///   by rank and then by the path of the class.
+/// - `Memory` only where memory was refused; it may stand in the place of each answer.
+pub fn closure(
+    alloc: Global,
+    state: &State,
+    place: usize,
+    cache: &mut Cache,
+    class: &StorePath,
+) -> Result<CopiedReply, Refusal>
+    requires { HasPlace state.now place }
+    ensures { Handles state.now place (ClosureRequest class.now) result state.now }
+{
+    let desks = state.desks.as_slice();
+    reply_with_closure(alloc, &state.trust, &state.table, desks, place, cache, class)
 }

@@ -8,12 +8,14 @@ ghost use Rattle.model.specs.declared.refusal.Refusal.TheVariants.{Memory, NotRe
 ghost use Rattle.realise.specs.Holdings.{bare, sources_in, records_in};
 ghost use Rattle.trust.specs.Trusting.{trusts};
 ghost use Rattle.handling.specs.Sound.{IsSound, IsClosure};
+ghost use Rattle.handling.specs.States.{HasPlace, Handles};
 ghost use Rattle.handling.specs.Viewing.{desk_at};
 ghost use Rattle.handling.specs.Handling.{IsHandledByObservation};
 ghost use Rattle.handlers.specs.Taking.{tree_with_path, counted, missing_on, are_roomy, AreCopyable, IsLabelledBy, has_built, with_built, CopiesEntries};
 
 use crate::given::entries_for;
 use events::{CopiedReply, Reply};
+use handling::State;
 use model::Refusal;
 use nar::Tree;
 use realise::{Desk, Limits, MOST_RECORDS, MOST_SOURCES};
@@ -228,19 +230,8 @@ pub fn copy_with(
     copy_entries(alloc, table, desk, limits, &entries)
 }
 
-/// Copies all that the closure of a class has for the user at a place to his desk, or nothing. The
-/// reply is the path of what serves the class.
-///
-/// # Errors
-///
-/// - `NotRealised` exactly where no desk that he sees has a record of the class.
-/// - `ClosureTooLarge` exactly where there would be more than 1,024 entries.
-/// - `RewriteRefused` exactly where a record cannot be repaired, with the reason of the first such class
-///   by rank and then by the path of the class.
-/// - `Clash` only where another tree is stored at the path of an entry.
-/// - `Quota` exactly where no other tree is at these paths and a limit of the desk would be passed.
-/// - `Memory` only where memory was refused; it may stand in the place of each answer.
-pub fn take(
+/// What [`take`] does, on what it changes.
+fn take_closure(
     alloc: Global,
     trust: &Trust,
     table: &mut Table,
@@ -263,4 +254,37 @@ pub fn take(
     let reply = CopiedReply::new(Reply::Path(path))?;
     copy_all(alloc, table, &mut desks[place], limits, &entries)?;
     Ok(reply)
+}
+
+/// Copies all that the closure of a class has for the user at a place to his desk, or nothing. The
+/// reply is the path of what serves the class.
+///
+/// # Errors
+///
+/// - `NotRealised` exactly where no desk that he sees has a record of the class.
+/// - `ClosureTooLarge` exactly where there would be more than 1,024 entries.
+/// - `RewriteRefused` exactly where a record cannot be repaired, with the reason of the first such class
+///   by rank and then by the path of the class.
+/// - `Clash` only where another tree is stored at the path of an entry.
+/// - `Quota` exactly where no other tree is at these paths and a limit of the desk would be passed.
+/// - `Memory` only where memory was refused; it may stand in the place of each answer.
+pub fn take(
+    alloc: Global,
+    state: &mut State,
+    place: usize,
+    cache: &mut Cache,
+    class: &StorePath,
+) -> Result<CopiedReply, Refusal>
+    requires { HasPlace state.old place }
+    ensures { Handles state.old place (TakeRequest class.now) result state.new }
+{
+    let State {
+        trust,
+        desks,
+        table,
+        limits,
+        ..
+    } = state;
+    let desks = desks.as_mut_slice();
+    take_closure(alloc, trust, table, desks, place, *limits, cache, class)
 }

@@ -12,3 +12,5 @@ pub mod ViewLemmas
 pub mod PuttingLemmas
 pub mod ClosedLemmas
 pub mod ForgettingLemmas
+pub mod RunLemmas
+pub mod StateLemmas

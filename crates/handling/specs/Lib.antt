@@ -5,3 +5,5 @@ pub mod Viewing
 pub mod Given
 pub mod Stored
 pub mod Handling
+pub mod Runs
+pub mod States

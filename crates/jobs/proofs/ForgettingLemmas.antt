@@ -116,14 +116,16 @@ module _ (f : Goal → Goal) (idle : (g : Goal) → is_building g.status ≡ fal
       let below = it.4 in
       (suc it.0, it.1, it.2, rw t (omega (arith, number)), rw t (omega (arith, below)), ap (λ l. g ∷ l) it.5)
 
-  turn_past : (p k : ℕ) (g : Goal) (now next : List Goal) → is_building g.status ≡ false → IsTurn f p (suc k) now next → IsTurn f p k (g ∷ now) (g ∷ next)
+  turn_past : (p k : ℕ) (g : Goal) (now next : List Goal) → is_building g.status ≡ false → IsTurn f p (suc k) now next
+      → IsTurn f p k (g ∷ now) (g ∷ next)
   unfolding numbers
   turn_past p k g now next n it =
       let number = it.3 in
       let below = it.4 in
       (suc it.0, it.1, it.2, rw n (omega (arith, number)), rw n (omega (arith, below)), ap (λ l. g ∷ l) it.5)
 
-  same_turn : (p k : ℕ) (now now_too next next_too : List Goal) → now ≡ now_too → next ≡ next_too → IsTurn f p k now_too next_too → IsTurn f p k now next
+  same_turn : (p k : ℕ) (now now_too next next_too : List Goal) → now ≡ now_too → next ≡ next_too → IsTurn f p k now_too next_too
+      → IsTurn f p k now next
   same_turn p k now now_too next next_too is then_is it =
       subst (λ l. IsTurn f p k l next) (sym is) (subst (IsTurn f p k now_too) (sym then_is) it)
 
@@ -143,8 +145,8 @@ module _ (f : Goal → Goal) (idle : (g : Goal) → is_building g.status ≡ fal
   turn_at (suc p) k (g ∷ gs) below = elim (either (is_building g.status)) [
     | inl t ↦
         let fewer : suc p < suc (length (numbers in_any_job (suc k) gs)) = rw t at below in
-        same_turn (suc p) k (changed_from f (suc (suc p)) (g ∷ gs)) (g ∷ changed_from f (suc p) gs) (changed_from f (suc p) (g ∷ gs)) (g ∷ changed_from f p gs)
-        (passed_in (suc p) g gs t) (passed_in p g gs t)
+        same_turn (suc p) k (changed_from f (suc (suc p)) (g ∷ gs)) (g ∷ changed_from f (suc p) gs) (changed_from f (suc p) (g ∷ gs))
+        (g ∷ changed_from f p gs) (passed_in (suc p) g gs t) (passed_in p g gs t)
         (turn_behind p k g (changed_from f (suc p) gs) (changed_from f p gs) t (turn_at p (suc k) gs (omega (arith, fewer))))
     | inr n ↦
         same_turn (suc p) k (changed_from f (suc (suc p)) (g ∷ gs)) (g ∷ changed_from f (suc (suc p)) gs) (changed_from f (suc p) (g ∷ gs))
@@ -167,7 +169,8 @@ module _ (class path : List ℕ) (o : Owned) where
   pub next_turn : (now : Owned) (place : ℕ) (all ns : List ℕ) → now ≡ letting_go place → 0 < place → place ≤ length all → all ≡ building o.goals
       → ns ≡ building now.goals
       → (place - 1 < length ns) × (g : Goal) × (goal_at (slice_index_or ns (place - 1) 0) now.goals ≡ Some g)
-      × ((new : Owned) → new ≡ with_goals (with_goal_at (slice_index_or ns (place - 1) 0) (let_go class path g) now.goals) now → new ≡ letting_go (place - 1))
+      × ((new : Owned) → new ≡ with_goals (with_goal_at (slice_index_or ns (place - 1) 0) (let_go class path g) now.goals) now
+      → new ≡ letting_go (place - 1))
   next_turn now place all ns is left within listed read =
       let f : Goal → Goal = let_go class path in
       let p : ℕ = place - 1 in

@@ -101,7 +101,8 @@ module _ (owner : List ℕ) (gs : List Goal) (n : ℕ) (g : Goal) (at : goal_at 
   built_kept s built is p = is p ∙ set_kept (is_built_under p) n gs g (in_status s g) at refl
 
   -- a goal that is built in no job now, and is built from the same
-  pub indexed_left : (status : Status) (listed new_listed : List ℕ) (jobs new_jobs : List (Job × Ascending)) (leading new_leading built done new_done : List (List ℕ × Ascending))
+  pub indexed_left : (status : Status) (listed new_listed : List ℕ) (jobs new_jobs : List (Job × Ascending))
+      (leading new_leading built done new_done : List (List ℕ × Ascending))
       → is_building status ≡ false → new_listed ≡ left (is_building g.status) n listed → LeavesJob g.status n jobs new_jobs
       → LeavesPath (is_building g.status) g.resolved n leading new_leading
       → FindsFinished (slice_set gs (n - 1) (in_status status g)) new_done → HasRoom built new_done
@@ -137,7 +138,8 @@ module _ (owner : List ℕ) (gs : List Goal) (n : ℕ) (g : Goal) (at : goal_at 
       }
 
   -- a goal that enters a job
-  pub indexed_entered : (job : Job) (listed new_listed : List ℕ) (jobs new_jobs : List (Job × Ascending)) (leading new_leading built done new_done : List (List ℕ × Ascending))
+  pub indexed_entered : (job : Job) (listed new_listed : List ℕ) (jobs new_jobs : List (Job × Ascending))
+      (leading new_leading built done new_done : List (List ℕ × Ascending))
       → is_building g.status ≡ false → new_listed ≡ with_number n listed → EntersJob job n jobs new_jobs
       → EntersPath (same_job job (own_job owner n)) g.resolved n leading new_leading
       → FindsFinished (slice_set gs (n - 1) (in_status (Building job) g)) new_done → HasRoom built new_done

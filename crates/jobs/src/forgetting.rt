@@ -104,9 +104,9 @@ impl Goals {
         }
     }
 
-    /// The goals that are built in jobs from the output of a class at a path wait. It looks only at those
-    /// that are built in jobs, at the last first: one that waits is taken from behind those that are left.
-    /// It takes no memory.
+    /// The goals that are built in jobs from the output of a class at a path wait. It looks only at the
+    /// goals that are built in jobs, at the last first, since one that waits leaves their list, where those
+    /// before it keep their places. It takes no memory.
     pub(crate) fn let_go(&mut self, class: &StorePath, path: &StorePath)
         ensures { self.new
             ≡ with_goals (map (let_go class.now path.now) self.old.goals) self.old }

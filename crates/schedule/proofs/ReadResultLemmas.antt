@@ -18,7 +18,7 @@ use Rattle.schedule.proofs.StepLemmas.{served_step, refused_step}
 
 handled_step : OneTreeAtAPath → NeverFails → (core : Core) (e : events.Event) (given : Result Reply Refusal) → IsHandled (parts_of core) e given (parts_of core)
     → IsCoreStep core e (reply_of (told given)) core
-handled_step one never core e (Ok reply) handled = served_step core core e reply handled core.sound
+handled_step one never core e (Ok reply) handled = served_step core core e reply handled core.state.run.sound
 handled_step one never core e (Err why) handled = refused_step one never core core e why handled
 
 pub found_step : OneTreeAtAPath → NeverFails → (core : Core) (e : events.Event) (read_result : ReadResult)

@@ -166,37 +166,37 @@ kept_same f g same (s ∷ sources) = elim (either (g s.path)) [
 
 module _ (core : Core) (held : List ℕ → Bool) (same : (p : List ℕ) → held p ≡ is_held core p) where
   abbrev pub swept : List Source
-  swept = kept_at held core.table.sources
+  swept = kept_at held core.state.table.sources
 
-  pub swept_is : swept ≡ kept_at (is_held core) core.table.sources
-  swept_is = kept_same held (is_held core) same core.table.sources
+  pub swept_is : swept ≡ kept_at (is_held core) core.state.table.sources
+  swept_is = kept_same held (is_held core) same core.state.table.sources
 
-  on_desk : (p : List ℕ) → hold_path core.desks.items p ≡ true → held p ≡ true
-  on_desk p m = same p ∙ or_left (hold_path core.desks.items p) _ m
+  on_desk : (p : List ℕ) → hold_path core.state.desks.items p ≡ true → held p ≡ true
+  on_desk p m = same p ∙ or_left (hold_path core.state.desks.items p) _ m
 
-  with_goal : (p : List ℕ) → keep_any_path core.jobs.goals p ≡ true → held p ≡ true
-  with_goal p m = same p ∙ or_right (hold_path core.desks.items p) _ m
+  with_goal : (p : List ℕ) → keep_any_path core.state.jobs.goals p ≡ true → held p ≡ true
+  with_goal p m = same p ∙ or_right (hold_path core.state.desks.items p) _ m
 
-  pub core_sound : All IsHolding core.desks.items → All (IsSound swept core.limits.charge) core.desks.items
-  core_sound holding = desks_swept core.table.sources held core.limits.charge core.desks.items on_desk holding core.sound
+  pub core_sound : All IsHolding core.state.desks.items → All (IsSound swept core.state.limits.charge) core.state.desks.items
+  core_sound holding = desks_swept core.state.table.sources held core.state.limits.charge core.state.desks.items on_desk holding core.state.run.sound
 
-  pub core_goals : All (AreGoalsSound swept) core.jobs.goals
-  core_goals = goals_swept core.table.sources held core.jobs.goals with_goal core.goals_sound
+  pub core_goals : All (AreGoalsSound swept) core.state.jobs.goals
+  core_goals = goals_swept core.state.table.sources held core.state.jobs.goals with_goal core.state.run.goals_sound
 
   pub core_world : (u : List ℕ)
-      → desk_among (beside_at core.users (trusts core.trust) core.jobs.goals) swept core.users core.desks.items u
-      ≡ desk_among (beside_at core.users (trusts core.trust) core.jobs.goals) core.table.sources core.users core.desks.items u
+      → desk_among (beside_at core.state.users (trusts core.state.trust) core.state.jobs.goals) swept core.state.users core.state.desks.items u
+      ≡ desk_among (beside_at core.state.users (trusts core.state.trust) core.state.jobs.goals) core.state.table.sources core.state.users core.state.desks.items u
   core_world u =
-      among_swept core.table.sources held (beside_at core.users (trusts core.trust) core.jobs.goals) core.users core.desks.items u on_desk
+      among_swept core.state.table.sources held (beside_at core.state.users (trusts core.state.trust) core.state.jobs.goals) core.state.users core.state.desks.items u on_desk
 
 -- every path that a desk holds is stored
 pub holds_stored : (core : Core) → HoldsStored core
 unfolding world_of stored_in
 holds_stored core u path h =
-    among_stored (beside_at core.users (trusts core.trust) core.jobs.goals) core.table.sources core.limits.charge core.users core.desks.items u path core.sound h
+    among_stored (beside_at core.state.users (trusts core.state.trust) core.state.jobs.goals) core.state.table.sources core.state.limits.charge core.state.users core.state.desks.items u path core.state.run.sound h
 
 -- what is left was made by texts that were hashed
 pub hashed_swept : (texts : List (List ℕ)) (old new : Core) (test : List ℕ → Bool) → stored_in new ≡ kept_at test (stored_in old) → HasHashed texts old → HasHashed texts new
 unfolding stored_in HasHashed
 hashed_swept texts old new test are hashed =
-    subst (All (IsHashed texts)) (sym are) (All-filter (λ s. test s.path) (IsHashed texts) old.table.sources hashed)
+    subst (All (IsHashed texts)) (sym are) (All-filter (λ s. test s.path) (IsHashed texts) old.state.table.sources hashed)

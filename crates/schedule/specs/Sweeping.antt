@@ -39,7 +39,7 @@ keep_any_path all path = list_any (λ goals. keep_path goals path) all
 
 -- whether a core holds a path: a desk holds it, or a goal keeps it that is planned or is being built
 abbrev pub is_held : Core → List ℕ → Bool
-is_held core path = hold_path core.desks.items path || keep_any_path core.jobs.goals path
+is_held core path = hold_path core.state.desks.items path || keep_any_path core.state.jobs.goals path
 
 -- the archives of a desk are those of the paths that it holds
 abbrev pub IsHolding : Holdings → Type 0

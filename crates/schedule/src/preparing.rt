@@ -5,6 +5,7 @@ ghost use Rattle.model.specs.declared.refusal.Refusal.TheVariants.{Memory};
 ghost use Rattle.outputs.specs.declared.settlements.Settlements.{Settlements as SettlementsValue};
 ghost use Rattle.events.specs.Terms.{event_of, request_of};
 ghost use Rattle.trust.specs.Naming.{place_of};
+ghost use Rattle.handling.specs.States.{HasPlace};
 ghost use Rattle.schedule.specs.declared.work.Ready.{Ready as ReadyValue};
 ghost use Rattle.schedule.specs.Standing.{world_of};
 ghost use Rattle.schedule.specs.Preparing.{output_of, HasPath, HasInput, HasOutcome, IsPrepared, IsMade};
@@ -102,20 +103,20 @@ impl Core {
         place: usize,
         request: &Request,
     ) -> Result<Option<Input>, Refusal>
-        requires of_run { place < length self.now.users }
-        ensures needed { (user : List ℕ) → place_of self.now.users user ≡ Some place
+        requires of_run { HasPlace self.now.state place }
+        ensures needed { (user : List ℕ) → place_of self.now.state.users user ≡ Some place
             → IfOk result (λ input. (settlements : SettlementsValue)
             → HasInput (request_of request.now) input settlements
             → HasOutcome (world_of self.now user) user (request_of request.now) settlements) }
         ensures memory { IfErr result (λ why. why ≡ Memory) }
     {
-        let desks = self.desks.as_slice();
+        let desks = self.state.desks.as_slice();
         match request {
             Request::Offer(path, _) => input_for_offer(alloc, &desks[place], path),
             Request::Finish(number, _) => input_for_finish(
                 alloc,
-                self.users.as_slice(),
-                &self.jobs,
+                self.state.users.as_slice(),
+                &self.state.jobs,
                 desks,
                 place,
                 *number,
@@ -135,7 +136,7 @@ impl Core {
             → IsMade need (event_of event.now).request ready → IsPrepared self.now (event_of event.now) ready) }
         ensures memory { IfErr result (λ why. why ≡ Memory) }
     {
-        let Some(place) = self.users.place_of(&event.actor) else {
+        let Some(place) = self.state.users.place_of(&event.actor) else {
             return Ok(PrepareInput { input: None });
         };
         let input = self.input_for(alloc, place, &event.request)?;

@@ -1,13 +1,9 @@
 //! Looking for what is only read.
 
-ghost use Rattle.std.specs.Prelude.{◌≡◌, ◌<◌, true, length, All, Result};
+ghost use Rattle.std.specs.Prelude.{◌≡◌, Result};
 ghost use Rattle.model.specs.declared.refusal.Refusal.{Refusal as RefusalValue};
-ghost use Rattle.model.specs.Worlds.{are_users};
-ghost use Rattle.trust.specs.Trusting.{trusts};
-ghost use Rattle.trust.specs.Naming.{IsWithin};
-ghost use Rattle.handling.specs.Sound.{IsSound, AreGoalsSound};
-ghost use Rattle.handling.specs.Parts.{parts};
-ghost use Rattle.handling.specs.Handling.{IsHandled, IsHandledByAll};
+ghost use Rattle.handling.specs.Handling.{IsHandled};
+ghost use Rattle.handling.specs.States.{HasPlace, Handles};
 ghost use Rattle.events.specs.Terms.{request_of, event_of, reply_of};
 ghost use Rattle.events.specs.declared.reply.Reply.{Reply as ReplyValue};
 ghost use Rattle.handlers.specs.Serving.{MayServe};
@@ -23,14 +19,11 @@ use choose::Plan;
 use events::{CopiedReply, Reply};
 use goals::status;
 use handlers::{fetch, plan_for};
-use jobs::Jobs;
+use handling::State;
 use laws::never_fails;
 use model::Refusal;
-use realise::{Desk, Limits};
 use rewrite::one_tree_at_a_path;
 use std::alloc::Global;
-use store::Table;
-use trust::{Trust, Users};
 
 /// What is found where a reply is made.
 fn told(reply: Result<CopiedReply, Refusal>) -> Result<ReadResult, Refusal>
@@ -49,32 +42,21 @@ fn planned(plan: Result<Plan, Refusal>) -> Result<ReadResult, Refusal>
 /// What is found for what the user at a place asks.
 fn find_at(
     alloc: Global,
-    users: &Users,
-    trust: &Trust,
-    jobs: &Jobs,
-    table: &Table,
-    desks: &[Desk],
-    limits: Limits,
+    state: &State,
     place: usize,
     question: &Question,
 ) -> Result<ReadResult, Refusal>
-    requires listed { are_users users.now ≡ true }
-    requires within { IsWithin (length users.now) (trusts trust.now) }
-    requires paired { length desks.now ≡ length users.now }
-    requires sound { All (IsSound table.now.sources limits.charge) desks.now }
-    requires with_goals { length jobs.now.goals ≡ length users.now }
-    requires goals_sound { All (AreGoalsSound table.now.sources) jobs.now.goals }
-    requires of_run { place < length users.now }
-    ensures { (given : Result ReplyValue RefusalValue) → MayGive result given → IsHandledByAll
-        (parts users.now limits.charge (trusts trust.now) jobs.now.goals table.now.sources desks.now)
-        place (request_of (request_in question.now)) given
-        (parts users.now limits.charge (trusts trust.now) jobs.now.goals table.now.sources desks.now) }
+    requires { HasPlace state.now place }
+    ensures { (given : Result ReplyValue RefusalValue) → MayGive result given
+        → Handles state.now place (request_of (request_in question.now)) given state.now }
 {
-    let _limits = limits;
+    let desks = state.desks.as_slice();
     match question {
-        Question::Status(number) => told(status(users, trust, jobs, place, *number)),
-        Question::Closure(class) => planned(plan_for(alloc, trust, table, desks, place, class)),
-        Question::Fetch(path) => told(fetch(table, &desks[place], path)),
+        Question::Status(number) => told(status(state, place, *number)),
+        Question::Closure(class) => {
+            planned(plan_for(alloc, &state.trust, &state.table, desks, place, class))
+        }
+        Question::Fetch(path) => told(fetch(&state.table, &desks[place], path)),
     }
 }
 
@@ -84,20 +66,10 @@ impl Core {
         ensures { (given : Result ReplyValue RefusalValue) → MayGive result given
             → IsHandled (parts_of self.now) (event_of (event_for query.now)) given (parts_of self.now) }
     {
-        let Some(place) = self.users.place_of(&query.actor) else {
+        let Some(place) = self.state.users.place_of(&query.actor) else {
             return Err(Refusal::UnknownUser);
         };
-        find_at(
-            alloc,
-            &self.users,
-            &self.trust,
-            &self.jobs,
-            &self.table,
-            self.desks.as_slice(),
-            self.limits,
-            place,
-            &query.question,
-        )
+        find_at(alloc, &self.state, place, &query.question)
     }
 
     /// Looks for the answer to a query. Whatever reply [`ReadResult::serve`] gives of what is found, it is one

@@ -32,9 +32,9 @@ impl Core {
         if self.stopped() {
             return Err(Refusal::Stopped);
         }
-        let Some(place) = self.users.place_of(user) else {
+        let Some(place) = self.state.users.place_of(user) else {
             return Err(Refusal::UnknownUser);
         };
-        led_job(self.users.as_slice(), &self.jobs, place, number)
+        led_job(self.state.users.as_slice(), &self.state.jobs, place, number)
     }
 }

@@ -20,7 +20,7 @@ impl Core {
     pub fn stored(&self) -> u64
         ensures { result ≡ length (stored_in self.now) }
     {
-        self.table.len() as u64
+        self.state.table.len() as u64
     }
 
     /// The paths that a desk holds, or that a goal keeps which is planned or is being built. The one error
@@ -28,24 +28,24 @@ impl Core {
     fn held(&self, alloc: Global) -> Result<IndexSet<StorePath, RandomState>, Refusal>
         ensures held { IfOk result (λ held. (path : List ℕ)
             → contains bytes_eq held path ≡ is_held self.now path) }
-        ensures charged { OnOk result (All IsHolding self.now.desks.items) }
+        ensures charged { OnOk result (All IsHolding self.now.state.desks.items) }
         ensures memory { IfErr result (λ e. e ≡ Memory) }
     {
-        let mut held = IndexSet::with_hasher(alloc, self.table.hashing());
-        hold_desks(&mut held, self.desks.as_slice())?;
-        hold_jobs(&mut held, &self.jobs, self.users.as_slice().len())?;
+        let mut held = IndexSet::with_hasher(alloc, self.state.table.hashing());
+        hold_desks(&mut held, self.state.desks.as_slice())?;
+        hold_jobs(&mut held, &self.state.jobs, self.state.desks.len())?;
         Ok(held)
     }
 
     /// Has the table keep the paths of a set, which are those that the core holds. It takes no memory.
     fn keep_held(&mut self, held: &IndexSet<StorePath, RandomState>)
         requires held { (path : List ℕ) → contains bytes_eq held.now path ≡ is_held self.old path }
-        requires charged { All IsHolding self.old.desks.items }
+        requires charged { All IsHolding self.old.state.desks.items }
         ensures stored { stored_in self.new ≡ kept_at (is_held self.old) (stored_in self.old) }
         ensures world { world_of self.new ≡ world_of self.old }
         ensures setup { setup_of self.new ≡ setup_of self.old }
     {
-        self.table.sweep(held);
+        self.state.table.sweep(held);
     }
 
     /// Has the table keep the paths that a desk holds, or that a goal keeps which is planned or is being

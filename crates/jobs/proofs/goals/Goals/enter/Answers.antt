@@ -39,7 +39,8 @@ invariant_of-self-2 c =
       rw (length-set {A = Goal}) c.self.invariant.0,
       rw (entered, c.undo.ensures.building, c.undo.ensures.jobs, c.undo.ensures.leading, c.undo.ensures.built, c.in_ok-enter.ensures.built)
           (indexed_entered c.self.inside.owner gs n x is.0 job
-          old.building.numbers.items mid.building.numbers.items old.of_jobs.entries mid.of_jobs.entries old.leading.entries mid.leading.entries old.built.entries old.done.entries new.done.entries
+          old.building.numbers.items mid.building.numbers.items old.of_jobs.entries mid.of_jobs.entries
+          old.leading.entries mid.leading.entries old.built.entries old.done.entries new.done.entries
           is.1 c.in_ok-enter.ensures.building c.in_ok-enter.ensures.jobs c.in_ok-enter.ensures.leading
           (λ p. c.undo.ensures.done p ∙ ap (λ us. finished p (undone n us)) c.as_slice.ensures.value
           ∙ finished_written gs n x (in_status (Building job) x) is.0 refl p)

@@ -11,23 +11,13 @@ use Rattle.schedule.proofs.state.Core.find.Goals as goal
 
 pub find_at-requires : goal.find_at-requires
 find_at-requires c =
-    let core = c.args.self.now in
-    rw (c.as_slice-users.ensures.value, c.as_slice.ensures.value) (record {
-      listed = core.listed;
-      within = core.within;
-      paired = core.paired;
-      sound = core.sound;
-      with_goals = core.with_goals;
-      goals_sound = core.goals_sound;
-      of_run = place_below core.users c.args.query.now.actor c.in-Some.place (rw c.as_slice-users.ensures.value at (sym c.place_of.ensures ∙ c.in-Some.is));
-    })
+    place_below c.args.self.now.state.users c.args.query.now.actor c.in-Some.place (sym c.place_of.ensures ∙ c.in-Some.is)
 
 pub returns-in_default : goal.returns-in_default
 returns-in_default c given gives =
     let core = c.args.self.now in
     subst (λ (o : Result Reply Refusal). IsHandled (parts_of core) (event_of (event_for c.args.query.now)) o (parts_of core)) (sym gives)
-    (stranger (parts_of core) (event_of (event_for c.args.query.now)) core.sound core.goals_sound core.within (rw (← c.as_slice-users.ensures.value) (sym c.in_default.ensures)))
+    (stranger (parts_of core) (event_of (event_for c.args.query.now)) core.state.run.sound core.state.run.goals_sound core.state.run.within (sym c.in_default.ensures))
 
 pub returns : goal.returns
-returns c given gives =
-    rw (c.as_slice-users.ensures.value, c.as_slice.ensures.value) at (c.find_at.ensures given gives c.args.query.now.actor (sym c.place_of.ensures ∙ c.in-Some.is))
+returns c given gives = c.find_at.ensures given gives c.args.query.now.actor (sym c.place_of.ensures ∙ c.in-Some.is)

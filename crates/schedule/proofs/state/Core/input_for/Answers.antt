@@ -26,14 +26,14 @@ returns-in-Offer-clause-needed c user found =
     let path = c.in-Offer.path in
     let result = c.input_for_offer.result in
     let below : place < length c.as_slice-desks.result.now = search rules in
-    let desk : c.index-desks-place.result ≡ desk_at core.desks.items place =
+    let desk : c.index-desks-place.result ≡ desk_at core.state.desks.items place =
     at_place c.as_slice-desks.result.now place c.index-desks-place.result below c.index-desks-place.is
     ∙ ap (λ ds. desk_at ds place) c.as_slice-desks.ensures.value in
     let his = subst (λ (d : Holdings). IfOk result (λ input. (t : Tree) (settled : List Settlement) → HasNeeded settled input t → HasOffered d path t settled))
     desk c.input_for_offer.ensures.needed in
     subst (λ r. IfOk result (λ input. (made : Settlements) → HasInput r input made → HasOutcome (world_of core user) user r made)) (ap request_of (sym c.in-Offer.is))
-    (offered_by core.users core.limits.charge (trusts core.trust) core.jobs.goals core.table.sources core.desks.items user place
-    core.listed found core.paired core.within result path _ his)
+    (offered_by core.state.users core.state.limits.charge (trusts core.state.trust) core.state.jobs.goals core.state.table.sources core.state.desks.items user place
+    core.state.run.listed found core.state.run.paired core.state.run.within result path _ his)
 
 pub returns-in-Finish-clause-needed : goal.returns-in-Finish-clause-needed
 unfolding world_of
@@ -42,13 +42,13 @@ returns-in-Finish-clause-needed c user found =
     let place = c.args.place in
     let n = c.in-Finish.number in
     let result = c.input_for_finish.result in
-    let goals = goals_of core.jobs.goals place in
+    let goals = goals_of core.state.jobs.goals place in
     let led = subst (λ ds. IfOk result (λ input. (bytes : List ℕ) (settled : List Settlement) → HasNeededFor bytes settled input
     → HasLedOutput (desk_at ds place) (record { leader = name_at c.as_slice.result.now place; number = n }) goals bytes settled))
     c.as_slice-desks.ensures.value c.input_for_finish.ensures.needed in
     let his = subst (λ us. IfOk result (λ input. (bytes : List ℕ) (settled : List Settlement) → HasNeededFor bytes settled input
-    → HasLedOutput (desk_at core.desks.items place) (record { leader = name_at us place; number = n }) goals bytes settled))
+    → HasLedOutput (desk_at core.state.desks.items place) (record { leader = name_at us place; number = n }) goals bytes settled))
     c.as_slice.ensures.value led in
     subst (λ r. IfOk result (λ input. (made : Settlements) → HasInput r input made → HasOutcome (world_of core user) user r made)) (ap request_of (sym c.in-Finish.is))
-    (ended_by core.users core.limits.charge (trusts core.trust) core.jobs.goals core.table.sources core.desks.items user place
-    core.listed found core.paired core.within result n _ his)
+    (ended_by core.state.users core.state.limits.charge (trusts core.state.trust) core.state.jobs.goals core.state.table.sources core.state.desks.items user place
+    core.state.run.listed found core.state.run.paired core.state.run.within result n _ his)

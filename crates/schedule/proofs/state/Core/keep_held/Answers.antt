@@ -15,15 +15,17 @@ invariant_of-self c =
     let old = c.args.self.now in
     let held : List ℕ → Bool = contains bytes_eq c.args.held.now in
     record {
-      paired = old.paired;
-      listed = old.listed;
-      within = old.within;
-      sound = subst (λ (t : List Source). All (IsSound t old.limits.charge) old.desks.items) (sym c.sweep.ensures)
-          (core_sound old held c.requires.held c.requires.charged);
-      owned = old.owned;
-      with_goals = old.with_goals;
-      goals_sound = subst (λ (t : List Source). All (AreGoalsSound t) old.jobs.goals) (sym c.sweep.ensures) (core_goals old held c.requires.held);
-      supported = old.supported;
+      run = record {
+        paired = old.state.run.paired;
+        listed = old.state.run.listed;
+        within = old.state.run.within;
+        sound = subst (λ (t : List Source). All (IsSound t old.state.limits.charge) old.state.desks.items) (sym c.sweep.ensures)
+            (core_sound old held c.requires.held c.requires.charged);
+        with_goals = old.state.run.with_goals;
+        goals_sound = subst (λ (t : List Source). All (AreGoalsSound t) old.state.jobs.goals) (sym c.sweep.ensures) (core_goals old held c.requires.held);
+        supported = old.state.run.supported;
+      };
+      owned = old.state.owned;
     }
 
 pub returns-clause-stored : goal.returns-clause-stored
@@ -34,8 +36,8 @@ pub returns-clause-world : goal.returns-clause-world
 unfolding world_of
 returns-clause-world c =
     let old = c.args.self.now in
-    let beside = beside_at old.users (trusts old.trust) old.jobs.goals in
-    (λ i. desk_among beside (c.sweep.ensures i) old.users old.desks.items)
+    let beside = beside_at old.state.users (trusts old.state.trust) old.state.jobs.goals in
+    (λ i. desk_among beside (c.sweep.ensures i) old.state.users old.state.desks.items)
     ∙ same_world (core_world old (contains bytes_eq c.args.held.now) c.requires.held)
 
 pub returns-clause-setup : goal.returns-clause-setup

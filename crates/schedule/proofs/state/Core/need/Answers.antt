@@ -1,4 +1,4 @@
-use Rattle.std.proofs.Common.{◌≡◌, ◌∙◌, List, ℕ, None, Some, false, true, subst, sym}
+use Rattle.std.proofs.Common.{◌≡◌, ◌∙◌, List, ℕ, None, Some, false, true, sym}
 use Rattle.handling.proofs.WorldLemmas.{no_place}
 use Rattle.trust.specs.Naming.{place_of}
 use Rattle.schedule.specs.Standing.{setup_of}
@@ -9,17 +9,15 @@ unfolding setup_of
 returns-in_default-clause-need c ready made =
     let core = c.args.self.now in
     let user : List ℕ = c.args.event.now.actor in
-    let none : place_of core.users user ≡ None =
-    subst (λ (users : List (List ℕ)). place_of users user ≡ None) c.as_slice.ensures.value (sym c.in_default.ensures) in
+    let none : place_of core.state.users user ≡ None = sym c.in_default.ensures in
     record {
       path = made.path;
-      outcome = λ among. let bad : true ≡ false = sym among ∙ no_place core.users user none in cc;
+      outcome = λ among. let bad : true ≡ false = sym among ∙ no_place core.state.users user none in cc;
     }
 
 pub returns-clause-need : goal.returns-clause-need
 returns-clause-need c ready made =
     let core = c.args.self.now in
     let user : List ℕ = c.args.event.now.actor in
-    let found : place_of core.users user ≡ Some c.in-Some.place =
-    subst (λ (users : List (List ℕ)). place_of users user ≡ Some c.in-Some.place) c.as_slice.ensures.value (sym c.in-Some.ensures) in
+    let found : place_of core.state.users user ≡ Some c.in-Some.place = sym c.in-Some.ensures in
     record { path = made.path; outcome = λ among. c.in_ok-input.ensures.needed user found ready.work.settlements made.output }

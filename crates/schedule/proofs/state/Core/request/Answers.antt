@@ -13,9 +13,8 @@ pub returns-in_default-clause-value : goal.returns-in_default-clause-value
 unfolding setup_of world_of
 returns-in_default-clause-value c =
     let core = c.args.self.now in
-    let found : place_of core.users c.args.user.now ≡ None =
-    subst (λ (users : List (List ℕ)). place_of users c.args.user.now ≡ None) c.as_slice.ensures.value (sym c.in_default.ensures) in
-    let none = led_by_none core.users core.limits.charge (trusts core.trust) core.jobs.goals core.table.sources core.desks.items
+    let found : place_of core.state.users c.args.user.now ≡ None = sym c.in_default.ensures in
+    let none = led_by_none core.state.users core.state.limits.charge (trusts core.state.trust) core.state.jobs.goals core.state.table.sources core.state.desks.items
     c.args.user.now c.args.number found in
     record { value = inr none; at_once = λ why e. sym none ∙ e }
 
@@ -24,10 +23,9 @@ unfolding setup_of world_of
 returns-clause-value c =
     let core = c.args.self.now in
     let place : ℕ = c.in-Some.place in
-    let found : place_of core.users c.args.user.now ≡ Some place =
-    subst (λ (users : List (List ℕ)). place_of users c.args.user.now ≡ Some place) c.as_slice.ensures.value (sym c.in-Some.ensures) in
+    let found : place_of core.state.users c.args.user.now ≡ Some place = sym c.in-Some.ensures in
     let told = subst (λ (users : List (List ℕ)). IsAnswerTo (led_job (record { leader = name_at users place; number = c.args.number })
-    (goal_at c.args.number (goals_at place core.jobs))) c.led_job.result) c.as_slice-2.ensures.value c.led_job.ensures in
+    (goal_at c.args.number (goals_at place core.state.jobs))) c.led_job.result) c.as_slice.ensures.value c.led_job.ensures in
     subst (λ answer. IsAnswerTo answer c.led_job.result)
-    (sym (led_at core.users core.limits.charge (trusts core.trust) core.jobs.goals core.table.sources core.desks.items
-    c.args.user.now place c.args.number core.listed found core.paired core.within)) told
+    (sym (led_at core.state.users core.state.limits.charge (trusts core.state.trust) core.state.jobs.goals core.state.table.sources core.state.desks.items
+    c.args.user.now place c.args.number core.state.run.listed found core.state.run.paired core.state.run.within)) told

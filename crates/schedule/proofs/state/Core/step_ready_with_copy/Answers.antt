@@ -11,10 +11,10 @@ unfolding world_of stored_in setup_of
 returns-in-Ok c =
     let core = c.serve.new.self in
     record {
-      step = served_step c.args.self.now core (event_of c.args.event) c.in-Ok.reply c.in-Ok.ensures c.args.self.now.sound;
+      step = served_step c.args.self.now core (event_of c.args.event) c.in-Ok.reply c.in-Ok.ensures c.args.self.now.state.run.sound;
       stored = λ answered. c.in-Ok.ensures.stored;
-      holds = λ u path h. among_stored (beside_at core.users (trusts core.trust) core.jobs.goals) core.table.sources core.limits.charge core.users
-          core.desks.items u path core.sound h;
+      holds = λ u path h. among_stored (beside_at core.state.users (trusts core.state.trust) core.state.jobs.goals) core.state.table.sources core.state.limits.charge core.state.users
+          core.state.desks.items u path core.state.run.sound h;
       keeps = keeps_stored core;
     }
 
@@ -25,7 +25,7 @@ returns-in-Err c =
     rw c.refused.ensures (record {
       step = refused_step c.one_tree_at_a_path.ensures c.never_fails.ensures c.args.self.now core (event_of c.args.event) c.in-Err.refusal c.in-Err.ensures;
       stored = λ answered. cc;
-      holds = λ u path h. among_stored (beside_at core.users (trusts core.trust) core.jobs.goals) core.table.sources core.limits.charge core.users
-          core.desks.items u path core.sound h;
+      holds = λ u path h. among_stored (beside_at core.state.users (trusts core.state.trust) core.state.jobs.goals) core.state.table.sources core.state.limits.charge core.state.users
+          core.state.desks.items u path core.state.run.sound h;
       keeps = keeps_stored core;
     })

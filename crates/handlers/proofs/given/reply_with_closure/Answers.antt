@@ -1,0 +1,30 @@
+use Rattle.std.proofs.Common.{◌∙◌, ap, inl, refl}
+use Rattle.std.proofs.lemmas.Result.{err_from_is_err_and}
+use Rattle.model.specs.declared.refusal.Refusal.TheVariants.{Memory}
+use Rattle.model.specs.Events as events
+use Rattle.events.specs.Terms.{reply_of}
+use Rattle.trust.specs.Trusting.{trusts}
+use Rattle.handlers.proofs.ClosureLemmas.{closure_handled, closure_refused}
+use Rattle.handlers.proofs.given.reply_with_closure.Goals as goal
+
+pub returns-in_err-entries : goal.returns-in_err-entries
+returns-in_err-entries c limit =
+    let p = err_from_is_err_and c.from_residual.result c.from_residual.ensures.1 in
+    rw (p.1, p.2) (closure_refused (trusts c.args.trust.now) limit c.args.table.now.sources c.args.desks.now c.args.place c.args.class.now c.in_err-entries.field-0.0 c.in_err-entries.ensures.served)
+
+pub returns-in_err-new : goal.returns-in_err-new
+returns-in_err-new c limit =
+    let p = err_from_is_err_and c.from_residual-in_err-new.result c.from_residual-in_err-new.ensures.1 in
+    rw (p.1, p.2) (closure_refused (trusts c.args.trust.now) limit c.args.table.now.sources c.args.desks.now c.args.place c.args.class.now c.in_err-new.field-0.0
+    (λ users limit goals actor listed found paired within. inl c.in_err-new.ensures))
+
+pub returns-in_err-new-2 : goal.returns-in_err-new-2
+returns-in_err-new-2 c limit =
+    let p = err_from_is_err_and c.from_residual-in_err-new-2.result c.from_residual-in_err-new-2.ensures.1 in
+    rw (p.1, p.2) (closure_refused (trusts c.args.trust.now) limit c.args.table.now.sources c.args.desks.now c.args.place c.args.class.now Memory
+    (λ users limit goals actor listed found paired within. inl refl))
+
+pub returns : goal.returns
+returns c limit =
+    closure_handled (trusts c.args.trust.now) limit c.args.table.now.sources c.args.desks.now c.args.place c.args.class.now c.in_ok-entries.entries.items _
+    c.in_ok-entries.ensures.served (ap reply_of c.in_ok-new-2.ensures.reply ∙ ap events.Entries c.in_ok-new.ensures)
