@@ -6,7 +6,7 @@ ghost use Rattle.realise.specs.Numbers.{IsAbove, number_of, without_numbers};
 ghost use Rattle.realise.specs.Indexed.{group_at, IsGrouped, IsUngrouped, HasSameGroups};
 ghost use Rattle.model.specs.declared.refusal.Refusal.TheVariants.{Memory};
 
-use crate::numbered::Numbered;
+use crate::group::Group;
 use indexmap::IndexMap;
 use model::Refusal;
 use records::Record;
@@ -16,7 +16,7 @@ use storepath::StorePath;
 
 /// The records of a group: none, where there is none.
 pub(crate) fn records_in<'a>(
-    groups: &'a IndexMap<StorePath, Numbered, RandomState>,
+    groups: &'a IndexMap<StorePath, Group, RandomState>,
     key: &StorePath,
 ) -> &'a [Record]
     ensures { result.now ≡ without_numbers (group_at key.now groups.now.entries) }
@@ -30,7 +30,7 @@ pub(crate) fn records_in<'a>(
 /// The number of the first record of a class at a path in a group, if there is one. All of the group are
 /// looked at.
 pub(crate) fn number_in(
-    groups: &IndexMap<StorePath, Numbered, RandomState>,
+    groups: &IndexMap<StorePath, Group, RandomState>,
     key: &StorePath,
     class: &StorePath,
     path: &StorePath,
@@ -42,13 +42,13 @@ pub(crate) fn number_in(
 }
 
 /// A group of one record. The one error is memory.
-fn group_of(alloc: Global, number: u64, one: Record) -> Result<Numbered, Refusal>
+fn group_of(alloc: Global, number: u64, one: Record) -> Result<Group, Refusal>
     ensures { MatchResult result
         (λ group. group ≡ (number, one) ∷ [])
         (λ e. e ≡ Memory) }
 {
-    let mut group = Numbered::new(alloc);
-    group.push(number, one)?;
+    let mut group = Group::new();
+    group.push(alloc, number, one)?;
     Ok(group)
 }
 
@@ -56,7 +56,7 @@ fn group_of(alloc: Global, number: u64, one: Record) -> Result<Numbered, Refusal
 /// group.
 pub(crate) fn put_in_group(
     alloc: Global,
-    groups: &mut IndexMap<StorePath, Numbered, RandomState>,
+    groups: &mut IndexMap<StorePath, Group, RandomState>,
     key: StorePath,
     number: u64,
     one: Record,
@@ -67,7 +67,7 @@ pub(crate) fn put_in_group(
         (λ e. (e ≡ Memory) × HasSameGroups groups.old.entries groups.new.entries) }
 {
     if let Some(group) = groups.get_mut(&key) {
-        group.push(number, one)?;
+        group.push(alloc, number, one)?;
         return Ok(());
     }
     let group = group_of(alloc, number, one)?;
@@ -77,7 +77,7 @@ pub(crate) fn put_in_group(
 
 /// Takes the record of a number out of a group. The answer is whether it was the last one.
 fn take_last_from(
-    groups: &mut IndexMap<StorePath, Numbered, RandomState>,
+    groups: &mut IndexMap<StorePath, Group, RandomState>,
     key: &StorePath,
     number: u64,
 ) -> bool
@@ -87,13 +87,13 @@ fn take_last_from(
     let Some(group) = groups.get_mut(key) else {
         return false;
     };
-    let _record = group.remove(number);
+    group.remove(number);
     group.as_slice().is_empty()
 }
 
 /// Takes the record of a number out of a group, and the group with its last record. It takes no memory.
 pub(crate) fn take_from_group(
-    groups: &mut IndexMap<StorePath, Numbered, RandomState>,
+    groups: &mut IndexMap<StorePath, Group, RandomState>,
     key: &StorePath,
     number: u64,
 )

@@ -9,9 +9,9 @@ ghost use Rattle.realise.specs.Indexed.{AreTabled, group_at, IsGrouped, HasSameG
 ghost use Rattle.model.specs.declared.refusal.Refusal.TheVariants.{Memory};
 
 use crate::counts::Counts;
+use crate::group::Group;
 use crate::groups::{number_in, put_in_group, records_in, take_from_group};
 use crate::names::{add_labels, count_under, take_labels};
-use crate::numbered::Numbered;
 use indexmap::IndexMap;
 use model::Refusal;
 use records::Record;
@@ -23,8 +23,8 @@ use storepath::StorePath;
 /// The records of a desk by their classes and by their paths, and for each class and path how many labels
 /// of other records name what is of that class at that path. The groups have copies of the records.
 pub struct Indexes {
-    by_class: IndexMap<StorePath, Numbered, RandomState>,
-    by_path: IndexMap<StorePath, Numbered, RandomState>,
+    by_class: IndexMap<StorePath, Group, RandomState>,
+    by_path: IndexMap<StorePath, Group, RandomState>,
     named: IndexMap<StorePath, Counts, RandomState>,
 }
 
@@ -54,8 +54,8 @@ impl Model for Indexes {
 /// is memory, and changes no group.
 fn put_in_groups(
     alloc: Global,
-    by_class: &mut IndexMap<StorePath, Numbered, RandomState>,
-    by_path: &mut IndexMap<StorePath, Numbered, RandomState>,
+    by_class: &mut IndexMap<StorePath, Group, RandomState>,
+    by_path: &mut IndexMap<StorePath, Group, RandomState>,
     number: u64,
     one: &Record,
 ) -> Result<(), Refusal>

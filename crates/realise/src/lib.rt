@@ -6,6 +6,7 @@ mod by_class;
 mod counts;
 mod desk;
 mod forgetting;
+mod group;
 mod groups;
 mod holding;
 mod indexes;

@@ -38,11 +38,12 @@ fn add_under(
         (λ _. HasMoreNames (once_under class path) names.old.entries names.new.entries)
         (λ e. (e ≡ Memory) × HasSameNames names.old.entries names.new.entries) }
 {
+    let hashing = *names.hasher();
     if let Some(counts) = names.get_mut(&class) {
-        return counts.add(path);
+        return counts.add(alloc, hashing, path);
     }
-    let mut counts = Counts::new(alloc, *names.hasher());
-    counts.add(path)?;
+    let mut counts = Counts::new();
+    counts.add(alloc, hashing, path)?;
     let _none = names.insert(class, counts)?;
     Ok(())
 }

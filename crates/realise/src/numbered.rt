@@ -1,6 +1,7 @@
 //! Records with numbers.
 
 ghost use Rattle.std.specs.Prelude.{◌≡◌, ◌<◌, ◌-◌, [], ◌∷◌, ◌++◌, length, take, vec_len, vec_capacity, MatchResult, IfSome, IfNone};
+ghost use Rattle.std.specs.List.{zip, AllPairs};
 ghost use Rattle.std.specs.Map.{lookup, remove_entry};
 ghost use Rattle.model.specs.declared.refusal.Refusal.TheVariants.{Memory};
 ghost use Rattle.realise.specs.Numbers.{AscendByNumber, IsAbove, is_number, number_of, without_numbers};
@@ -61,6 +62,22 @@ impl Numbered {
             numbers: Vec::new(alloc),
             records: Vec::new(alloc),
         }
+    }
+
+    /// Two records, the second with the higher number. The one error is memory.
+    pub(crate) fn of_two(
+        alloc: Global,
+        numbers: [u64; 2],
+        records: [Record; 2],
+    ) -> Result<Numbered, Refusal>
+        requires { AllPairs (λ m n. m < n) numbers }
+        ensures { MatchResult result
+            (λ both. both ≡ zip numbers records)
+            (λ e. e ≡ Memory) }
+    {
+        let numbers = Vec::from_array(alloc, numbers)?;
+        let records = Vec::from_array(alloc, records)?;
+        Ok(Numbered { numbers, records })
     }
 
     /// The records, by ascending numbers.
