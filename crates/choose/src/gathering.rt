@@ -10,15 +10,12 @@ ghost use Rattle.choose.specs.Gathering.{has_class, has_source, with_chosen, wit
 use crate::choice::chosen;
 use crate::view::View;
 use indexmap::IndexSet;
-use model::Refusal;
+use model::{MOST_ENTRIES, Refusal};
 use realise::Pins;
 use records::{Label, Realisation, Source};
 use std::alloc::{AllocError, Global};
 use std::marker::Model;
 use storepath::StorePath;
-
-/// The most entries of a closure.
-const MOST_ENTRIES: usize = 1024;
 
 /// The records and the sources that have been found, each once, the first first. The two tables
 /// beside them tell what is there: the paths of classes and of sources. Their hashers have a fixed

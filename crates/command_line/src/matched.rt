@@ -10,7 +10,7 @@ ghost use Rattle.command_line.specs.Steps.{IsFound};
 
 use crate::settings::{Action, MOST_FILES, MOST_WORKERS, Options, Run};
 use clap::ArgMatches;
-use realise::LARGEST_CHARGE;
+use model::LARGEST_CHARGE;
 use std::alloc::{AllocError, Global};
 
 /// The limit on the charge: as given, or the largest. The parser has refused every other number.

@@ -130,5 +130,13 @@ pub fn closure(
     ensures { Handles state.now place (ClosureRequest class.now) result state.now }
 {
     let desks = state.desks.as_slice();
-    reply_with_closure(alloc, &state.trust, &state.table, desks, place, cache, class)
+    reply_with_closure(
+        alloc,
+        &state.trust,
+        &state.table,
+        desks,
+        place,
+        cache,
+        class,
+    )
 }

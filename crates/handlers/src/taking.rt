@@ -16,9 +16,9 @@ ghost use Rattle.handlers.specs.Taking.{tree_with_path, counted, missing_on, are
 use crate::given::entries_for;
 use events::{CopiedReply, Reply};
 use handling::State;
-use model::Refusal;
+use model::{MOST_RECORDS, MOST_SOURCES, Refusal};
 use nar::Tree;
-use realise::{Desk, Limits, MOST_RECORDS, MOST_SOURCES};
+use realise::{Desk, Limits};
 use records::{DeskEntry, Realisation};
 use repair::{Cache, served_are_made};
 use std::alloc::Global;

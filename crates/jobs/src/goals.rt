@@ -16,16 +16,13 @@ use crate::finished::goal_of;
 use crate::goal::Goal;
 use crate::indexes::Indexes;
 use events::{Job, Status};
-use model::Refusal;
+use model::{MOST_GOALS, Refusal};
 use records::Resolved;
 use std::alloc::Global;
 use std::hash::RandomState;
 use std::marker::Model;
 use storepath::StorePath;
 use trust::User;
-
-/// The most goals of one user.
-pub const MOST_GOALS: usize = 65_535;
 
 /// The goals of one user, numbered from 1.
 pub(crate) struct Goals {

@@ -19,7 +19,6 @@ mod users;
 
 pub use events::{Job, Status};
 pub use goal::Goal;
-pub use goals::MOST_GOALS;
 pub use leader::leads;
 pub use members::members_reached;
 pub use running::{RunningJob, led_job};

@@ -13,16 +13,13 @@ use crate::numbers::numeral_up_to;
 use aterm::Text;
 use events::Output;
 use hex::FromHexError;
-use model::Refusal;
+use model::{MOST_GOALS, Refusal};
 use nar::{Tree, encode, read_tree_text};
 use std::alloc::{AllocError, Global};
 use trust::{User, are_users};
 
 /// The greatest length of a user's name, in bytes.
 const LONGEST_USER: usize = 32;
-
-/// The most goals of a user, and so the greatest number of one.
-const MOST_GOALS: usize = 65_535;
 
 /// The greatest exit status of a builder.
 const GREATEST_STATUS: usize = 255;

@@ -13,12 +13,11 @@ ghost use Rattle.model.specs.declared.refusal.Refusal.TheVariants.{Memory};
 
 use crate::by_class::Records;
 use crate::holding::Holding;
-use crate::limits::{MOST_RECORDS, MOST_SOURCES};
 use crate::parts::parted;
 use crate::pins::Pins;
 use classes::{Admitted, Known};
 use indexmap::map::Keys;
-use model::Refusal;
+use model::{MOST_RECORDS, MOST_SOURCES, Refusal};
 use records::{DeskEntry, Record};
 use std::alloc::Global;
 use std::hash::RandomState;

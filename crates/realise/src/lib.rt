@@ -18,6 +18,6 @@ mod pins;
 
 pub use additions::{Addition, add_to_each};
 pub use desk::Desk;
-pub use limits::{LARGEST_CHARGE, Limits, MOST_DERIVATIONS, MOST_PINS, MOST_RECORDS, MOST_SOURCES};
+pub use limits::Limits;
 pub use pins::Pins;
 pub use records::{DeskEntry, Label, Record, is_class_before, labels_in_order, labels_of};

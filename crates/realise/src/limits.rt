@@ -1,19 +1,6 @@
-//! The most that a user may have on his desk, and what a run's desks are limited to beside that.
+//! What a run's desks are limited to, beside the limits that do not change.
 
-/// The most sources of a user.
-pub const MOST_SOURCES: usize = 1024;
-
-/// The most derivations of a user.
-pub const MOST_DERIVATIONS: usize = 1024;
-
-/// The most records of a user.
-pub const MOST_RECORDS: usize = 4096;
-
-/// The most pins of a user.
-pub const MOST_PINS: usize = 4096;
-
-/// The largest limit on a user's charge, in bytes of archives: 1 GiB.
-pub const LARGEST_CHARGE: u64 = 1_073_741_824;
+use model::LARGEST_CHARGE;
 
 /// What a run's desks are limited to, beside the fixed limits.
 #[derive(Clone, Copy, Debug)]

@@ -21,11 +21,12 @@ mod work;
 
 pub use events::{CopiedReply, Event, Output, Reply, Request};
 pub use jobs::RunningJob;
+pub use model::LARGEST_CHARGE;
 pub use moving::Cache;
 pub use preparing::PrepareInput;
 pub use query::{Query, Question};
 pub use read_result::ReadResult;
-pub use realise::{LARGEST_CHARGE, Limits};
+pub use realise::Limits;
 pub use runs::run;
 pub use state::Core;
 pub use striking::{strike, strike_timed};
