@@ -1,27 +1,26 @@
 //! The end of a job with an output.
 
-ghost use Rattle.std.specs.Prelude.{◌≡◌, ◌+◌, ◌<◌, ◌≤◌, ◌⊎◌, ◌++◌, length, map, All, OnOk, IfOk, IfErr, MatchResult};
+ghost use Rattle.std.specs.Prelude.{◌≡◌, ◌+◌, ◌≤◌, ◌⊎◌, ◌++◌, length, map, OnOk, IfOk, IfErr, MatchResult};
 ghost use Rattle.model.specs.declared.refusal.Refusal.TheVariants.{Memory, Clash};
 ghost use Rattle.store.specs.Stored.{AreTaken, put_all, sources_of};
-ghost use Rattle.model.specs.Goals.{members};
-ghost use Rattle.model.specs.Limits.{most_records};
 ghost use Rattle.building.specs.DeskDeltas.{delta_in, status_at};
 ghost use Rattle.std.specs.Option.{option_copied};
 ghost use Rattle.jobs.specs.Owned.{goals_at};
 ghost use Rattle.trust.specs.Trusting.{trusts};
-ghost use Rattle.building.specs.Built.{AreBuiltOn};
-ghost use Rattle.endings.specs.Delivery.{Receives, trees_built, tree_built, all_trees, AreStored, IsBuiltAtPlace, AreAllBuiltOn, AreBuiltFor, IsDeliveredAtPlace, AreDelivered, IsMadeBeside, IsNotMade};
+ghost use Rattle.handling.specs.States.{HasPlace};
+ghost use Rattle.handling.specs.Viewing.{desk_at};
+ghost use Rattle.endings.specs.Delivery.{Receives, trees_built, tree_built, all_trees, AreStored, AreBuiltFor, IsDeliveredAtPlace, AreDelivered, IsMadeBeside, IsNotMade};
 
 use building::{Built, DeskDelta, built_on, delta_for, waiting};
-use jobs::{Job, Jobs, Status, members_reached};
+use handling::State;
+use jobs::{Job, Status, members_reached};
 use model::Refusal;
 use nar::Tree;
 use outputs::Settlements;
-use realise::{Desk, Limits};
 use std::alloc::Global;
 use store::Table;
 use storepath::StorePath;
-use trust::{Trust, has_place};
+use trust::has_place;
 
 /// Puts the tree of what was built for a goal, with its path, behind others. The one error is memory.
 fn put_tree(built: &Built, trees: &mut Vec<(StorePath, Tree)>) -> Result<(), Refusal>
@@ -76,69 +75,28 @@ pub(crate) fn tested(
     Ok(())
 }
 
-/// What is built for the goals in a job of the user at a place, if he reaches its leader. The one error
-/// is memory.
-fn build_at(
-    alloc: Global,
-    trust: &Trust,
-    desk: &Desk,
-    jobs: &Jobs,
-    leader: usize,
-    place: usize,
-    job: &Job,
-    tree: Option<&Tree>,
-    settlements: &mut Settlements,
-) -> Result<Vec<(u16, Built)>, Refusal>
-    requires leader { leader < 64 }
-    requires place { place < 64 }
-    requires of_run { place < length jobs.now.goals }
-    requires on_desk { AreBuiltOn desk.now (goals_at place jobs.now)
-        (members job.now 1 (goals_at place jobs.now)) }
-    ensures built { IfOk result (λ built. IsBuiltAtPlace (option_copied tree.entry)
-        (trusts trust.now) leader job.now desk.now (goals_at place jobs.now) place built.items) }
-    ensures memory { IfErr result (λ why. why ≡ Memory) }
-{
-    let numbers = members_reached(trust, jobs, leader, place, job);
-    let built = built_on(alloc, desk, jobs, place, numbers, tree, settlements)?;
-    Ok(built)
-}
-
 /// What is built for the goals in a job of each user who reaches its leader, in the order of users; for
 /// another user nothing. What was settled before is used again where an output is settled by the same.
 /// The one error is memory.
 fn build_from(
     alloc: Global,
-    trust: &Trust,
-    desks: &[Desk],
-    jobs: &Jobs,
+    state: &State,
     leader: usize,
     job: &Job,
     tree: Option<&Tree>,
     settlements: &mut Settlements,
 ) -> Result<Vec<Vec<(u16, Built)>>, Refusal>
-    requires few { length desks.now ≤ 64 }
-    requires of_run { leader < length desks.now }
-    requires with_goals { length jobs.now.goals ≡ length desks.now }
-    requires on_desks { AreAllBuiltOn job.now desks.now jobs.now.goals }
+    requires { HasPlace state.now leader }
     ensures built { IfOk result (λ built. AreBuiltFor (option_copied tree.entry)
-        (trusts trust.now) leader job.now desks.now jobs.now.goals built.items) }
-    ensures count { IfOk result (λ built. length built.items ≡ length desks.now) }
+        (trusts state.now.trust) leader job.now state.now.desks.items state.now.jobs.goals built.items) }
+    ensures count { IfOk result (λ built. length built.items ≡ length state.now.desks.items) }
     ensures memory { IfErr result (λ why. why ≡ Memory) }
 {
     let mut all = Vec::new(alloc);
-    for place in 0..desks.len() {
-        let desk = &desks[place];
-        let built = build_at(
-            alloc,
-            trust,
-            desk,
-            jobs,
-            leader,
-            place,
-            job,
-            tree,
-            settlements,
-        )?;
+    for place in 0..state.desks.len() {
+        let numbers = members_reached(&state.trust, &state.jobs, leader, place, job);
+        let desk = &state.desks[place];
+        let built = built_on(alloc, desk, &state.jobs, place, numbers, tree, settlements)?;
         all.push(built)?;
     }
     Ok(all)
@@ -148,26 +106,24 @@ fn build_from(
 /// desk gets, and how far each of his goals in the job is then. The one error is memory.
 fn receive(
     alloc: Global,
-    desk: &Desk,
-    limits: Limits,
-    jobs: &Jobs,
+    state: &State,
     place: usize,
     job: &Job,
     reached: bool,
     built: Vec<(u16, Built)>,
 ) -> Result<(DeskDelta, Vec<(u16, Status)>), Refusal>
-    requires of_run { place < length jobs.now.goals }
-    requires records { length desk.now.records ≤ most_records }
-    requires charge { desk.now.charge ≤ limits.charge }
-    ensures receives { IfOk result (λ r. Receives limits.charge desk.now (goals_at place jobs.now) job.now
+    requires { HasPlace state.now place }
+    ensures receives { IfOk result (λ r. Receives state.now.limits.charge
+        (desk_at state.now.desks.items place) (goals_at place state.now.jobs) job.now
         reached built.items (delta_in r.0) (map status_at r.1.items)) }
-    ensures charge { IfOk result (λ r. desk.now.charge + r.0.more ≤ limits.charge) }
+    ensures charge { IfOk result (λ r.
+        (desk_at state.now.desks.items place).charge + r.0.more ≤ state.now.limits.charge) }
     ensures memory { IfErr result (λ why. why ≡ Memory) }
 {
     if reached {
-        return delta_for(alloc, desk, limits, built);
+        return delta_for(alloc, &state.desks[place], state.limits, built);
     }
-    let statuses = waiting(alloc, jobs.members(place, job))?;
+    let statuses = waiting(alloc, state.jobs.members(place, job))?;
     Ok((DeskDelta::new(alloc), statuses))
 }
 
@@ -175,57 +131,45 @@ fn receive(
 /// goals. The one error is memory.
 fn receive_at(
     alloc: Global,
-    trust: &Trust,
-    desk: &Desk,
-    limits: Limits,
-    jobs: &Jobs,
+    state: &State,
     leader: usize,
     place: usize,
     job: &Job,
     built: Vec<(u16, Built)>,
 ) -> Result<(DeskDelta, Vec<(u16, Status)>), Refusal>
-    requires leader { leader < 64 }
-    requires place { place < 64 }
-    requires of_run { place < length jobs.now.goals }
-    requires records { length desk.now.records ≤ most_records }
-    requires charge { desk.now.charge ≤ limits.charge }
-    ensures delivered { IfOk result (λ r. IsDeliveredAtPlace (trusts trust.now) leader limits.charge job.now
-        desk.now (goals_at place jobs.now) place built.items (delta_in r.0) (map status_at r.1.items)) }
+    requires leader { HasPlace state.now leader }
+    requires of_run { HasPlace state.now place }
+    ensures delivered { IfOk result (λ r. IsDeliveredAtPlace (trusts state.now.trust) leader
+        state.now.limits.charge job.now (desk_at state.now.desks.items place)
+        (goals_at place state.now.jobs) place built.items (delta_in r.0) (map status_at r.1.items)) }
     ensures memory { IfErr result (λ why. why ≡ Memory) }
 {
-    let reached = has_place(trust.closure(place), leader);
-    let delivered = receive(alloc, desk, limits, jobs, place, job, reached, built)?;
+    let reached = has_place(state.trust.closure(place), leader);
+    let delivered = receive(alloc, state, place, job, reached, built)?;
     Ok(delivered)
 }
 
 /// What each user receives of a job that ended with an output, in the order of users, of which these were
 /// built for their goals. The one error is memory.
-pub(crate) fn receive_all(
+fn receive_all(
     alloc: Global,
-    trust: &Trust,
-    desks: &[Desk],
-    limits: Limits,
-    jobs: &Jobs,
+    state: &State,
     leader: usize,
     job: &Job,
     built: Vec<Vec<(u16, Built)>>,
 ) -> Result<Vec<(DeskDelta, Vec<(u16, Status)>)>, Refusal>
-    requires few { length desks.now ≤ 64 }
-    requires of_run { leader < length desks.now }
-    requires with_goals { length jobs.now.goals ≡ length desks.now }
-    requires count { length built.items ≡ length desks.now }
-    requires records { All (λ d. length d.records ≤ most_records) desks.now }
-    requires charge { All (λ d. d.charge ≤ limits.charge) desks.now }
-    ensures delivered { IfOk result (λ delivered. AreDelivered (trusts trust.now) leader limits.charge job.now
-        desks.now jobs.now.goals built.items delivered.items) }
-    ensures count { IfOk result (λ delivered. length delivered.items ≡ length desks.now) }
+    requires leader { HasPlace state.now leader }
+    requires count { length built.items ≡ length state.now.desks.items }
+    ensures delivered { IfOk result (λ delivered. AreDelivered (trusts state.now.trust) leader
+        state.now.limits.charge job.now state.now.desks.items state.now.jobs.goals
+        built.items delivered.items) }
+    ensures count { IfOk result (λ delivered. length delivered.items ≡ length state.now.desks.items) }
     ensures memory { IfErr result (λ why. why ≡ Memory) }
 {
     let mut all = Vec::new(alloc);
     for own in built {
         let place = all.len();
-        let desk = &desks[place];
-        all.push(receive_at(alloc, trust, desk, limits, jobs, leader, place, job, own)?)?;
+        all.push(receive_at(alloc, state, leader, place, job, own)?)?;
     }
     Ok(all)
 }
@@ -239,30 +183,22 @@ pub(crate) fn receive_all(
 /// - `Memory` only where memory was refused.
 pub(crate) fn delivered_by_all(
     alloc: Global,
-    trust: &Trust,
-    table: &Table,
-    desks: &[Desk],
-    limits: Limits,
-    jobs: &Jobs,
+    state: &State,
     leader: usize,
     job: &Job,
     tree: Option<&Tree>,
     settlements: &mut Settlements,
 ) -> Result<Vec<(DeskDelta, Vec<(u16, Status)>)>, Refusal>
-    requires few { length desks.now ≤ 64 }
-    requires of_run { leader < length desks.now }
-    requires with_goals { length jobs.now.goals ≡ length desks.now }
-    requires on_desks { AreAllBuiltOn job.now desks.now jobs.now.goals }
-    requires records { All (λ d. length d.records ≤ most_records) desks.now }
-    requires charge { All (λ d. d.charge ≤ limits.charge) desks.now }
-    ensures delivered { IfOk result (λ delivered. IsMadeBeside table.now.sources (option_copied tree.entry)
-        (trusts trust.now) leader limits.charge job.now desks.now jobs.now.goals delivered.items) }
-    ensures count { IfOk result (λ delivered. length delivered.items ≡ length desks.now) }
-    ensures refused { IfErr result (IsNotMade table.now.sources (option_copied tree.entry)
-        (trusts trust.now) leader job.now desks.now jobs.now.goals) }
+    requires { HasPlace state.now leader }
+    ensures delivered { IfOk result (λ delivered. IsMadeBeside state.now.table.sources
+        (option_copied tree.entry) (trusts state.now.trust) leader state.now.limits.charge job.now
+        state.now.desks.items state.now.jobs.goals delivered.items) }
+    ensures count { IfOk result (λ delivered. length delivered.items ≡ length state.now.desks.items) }
+    ensures refused { IfErr result (IsNotMade state.now.table.sources (option_copied tree.entry)
+        (trusts state.now.trust) leader job.now state.now.desks.items state.now.jobs.goals) }
 {
-    let built = build_from(alloc, trust, desks, jobs, leader, job, tree, settlements)?;
-    tested(alloc, table, &built)?;
-    let delivered = receive_all(alloc, trust, desks, limits, jobs, leader, job, built)?;
+    let built = build_from(alloc, state, leader, job, tree, settlements)?;
+    tested(alloc, &state.table, &built)?;
+    let delivered = receive_all(alloc, state, leader, job, built)?;
     Ok(delivered)
 }

@@ -1,28 +1,24 @@
 //! The end of a job with an output: what all users receive of it is made beside everything, and then put in
 //! place.
 
-ghost use Rattle.std.specs.Prelude.{◌≡◌, ◌<◌, ◌≤◌, ◌⊎◌, ◌++◌, ℕ, All, IfOk, IfErr, OnOk, OnErr, true, is_some, length, map};
+ghost use Rattle.std.specs.Prelude.{◌≡◌, ◌<◌, ◌⊎◌, ◌++◌, ℕ, All, IfOk, IfErr, OnOk, OnErr, true, is_some, length, map};
 ghost use Rattle.std.specs.Option.{option_copied};
 ghost use Rattle.model.specs.declared.refusal.Refusal.TheVariants.{Memory};
 ghost use Rattle.model.specs.ArchiveReading.{tree_of_archive};
-ghost use Rattle.model.specs.Limits.{most_records};
-ghost use Rattle.model.specs.Worlds.{are_users};
 ghost use Rattle.model.specs.Goals.{goal_at};
 ghost use Rattle.model.specs.Events.{Finish as FinishRequest};
 ghost use Rattle.events.specs.declared.reply.Reply.TheVariants.{GoalStatus};
 ghost use Rattle.events.specs.Statuses.{status_of};
 ghost use Rattle.trust.specs.Trusting.{trusts};
-ghost use Rattle.trust.specs.Naming.{IsWithin, name_at};
+ghost use Rattle.trust.specs.Naming.{name_at};
+ghost use Rattle.jobs.specs.Owned.{goals_at};
 ghost use Rattle.store.specs.Stored.{AreNew, sources_of};
-ghost use Rattle.handling.specs.Sound.{IsSound, AreGoalsSound};
-ghost use Rattle.handling.specs.Supported.{AreSupported};
-ghost use Rattle.handling.specs.Parts.{goals_of, parts};
+ghost use Rattle.handling.specs.Parts.{goals_of};
 ghost use Rattle.handling.specs.Viewing.{desk_at};
 ghost use Rattle.building.specs.DeskDeltas.{last_status, status_at, with_delta, with_statuses, IsSettable};
 ghost use Rattle.endings.specs.Committing.{delta_at, statuses_for, AreToAdd, MayGain};
-ghost use Rattle.endings.specs.Delivery.{AreAllBuiltOn, IsNotMade};
+ghost use Rattle.endings.specs.Delivery.{IsNotMade};
 ghost use Rattle.endings.specs.Finishing.{IsPrepared};
-ghost use Rattle.handling.specs.Handling.{IsHandledByAll};
 ghost use Rattle.handling.specs.States.{HasPlace, Handles};
 
 use crate::committing::{additions_of, gained_by_all, set_all};
@@ -38,7 +34,6 @@ use realise::{Addition, Desk, Limits, add_to_each};
 use std::alloc::{AllocError, Global};
 use store::Table;
 use storepath::StorePath;
-use trust::{Trust, User};
 
 /// The tree whose archive a builder wrote, if its output is one. The one error is memory.
 pub fn tree_in(alloc: Global, output: &[u8]) -> Result<Option<Tree>, Refusal>
@@ -55,7 +50,11 @@ pub fn tree_in(alloc: Global, output: &[u8]) -> Result<Option<Tree>, Refusal>
 /// How far the goal of a number, which was this far, is once goals have got these states. The one error
 /// is memory.
 #[tactic(auto, unfolding(building::specs::DeskDeltas::last_status))]
-fn status_then(status: &Status, number: u16, statuses: &[(u16, Status)]) -> Result<Status, AllocError>
+fn status_then(
+    status: &Status,
+    number: u16,
+    statuses: &[(u16, Status)],
+) -> Result<Status, AllocError>
     ensures { IfOk result (λ then. status_of then
         ≡ last_status number (status_of status.now) (map status_at statuses.now)) }
 {
@@ -87,44 +86,27 @@ pub(crate) struct Ending {
 /// - `Memory` only where memory was refused.
 fn prepare(
     alloc: Global,
-    trust: &Trust,
-    table: &Table,
-    desks: &[Desk],
-    limits: Limits,
-    jobs: &Jobs,
+    state: &State,
     place: usize,
     job: &Job,
     tree: Option<&Tree>,
     settlements: &mut Settlements,
-    number: u16,
 ) -> Result<Ending, Refusal>
-    requires few { length desks.now ≤ 64 }
-    requires of_run { place < length desks.now }
-    requires with_goals { length jobs.now.goals ≡ length desks.now }
-    requires there { is_some (goal_at number (goals_of jobs.now.goals place)) ≡ true }
-    requires on_desks { AreAllBuiltOn job.now desks.now jobs.now.goals }
-    requires records { All (λ d. length d.records ≤ most_records) desks.now }
-    requires charge { All (λ d. d.charge ≤ limits.charge) desks.now }
-    ensures prepared { IfOk result (IsPrepared table.now.sources (option_copied tree.entry)
-        (trusts trust.now) place limits.charge job.now desks.now jobs.now.goals number) }
-    ensures refused { IfErr result (IsNotMade table.now.sources (option_copied tree.entry)
-        (trusts trust.now) place job.now desks.now jobs.now.goals) }
+    requires of_run { HasPlace state.now place }
+    requires there { is_some (goal_at job.now.number (goals_at place state.now.jobs)) ≡ true }
+    ensures prepared { IfOk result (IsPrepared state.now.table.sources (option_copied tree.entry)
+        (trusts state.now.trust) place state.now.limits.charge job.now
+        state.now.desks.items state.now.jobs.goals job.now.number) }
+    ensures refused { IfErr result (IsNotMade state.now.table.sources (option_copied tree.entry)
+        (trusts state.now.trust) place job.now state.now.desks.items state.now.jobs.goals) }
 {
-    let delivered = delivered_by_all(
-        alloc,
-        trust,
-        table,
-        desks,
-        limits,
-        jobs,
-        place,
-        job,
-        tree,
-        settlements,
-    )?;
-    let trees = table.missing(alloc, gained_by_all(alloc, &delivered)?)?;
+    let delivered = delivered_by_all(alloc, state, place, job, tree, settlements)?;
+    let trees = state
+        .table
+        .missing(alloc, gained_by_all(alloc, &delivered)?)?;
     let additions = additions_of(alloc, &delivered)?;
-    let goal = jobs.get(place, number).unwrap();
+    let number = job.number();
+    let goal = state.jobs.get(place, number).unwrap();
     let told = status_then(goal.status(), number, delivered[place].1.as_slice())?;
     Ok(Ending {
         delivered,
@@ -142,49 +124,27 @@ fn prepare(
 /// Those of [`prepare`].
 fn prepare_led(
     alloc: Global,
-    users: &[User],
-    trust: &Trust,
-    table: &Table,
-    desks: &[Desk],
-    limits: Limits,
-    jobs: &Jobs,
+    state: &State,
     place: usize,
     number: u16,
     settlements: &mut Settlements,
     output: &[u8],
 ) -> Result<Ending, Refusal>
-    requires few { length desks.now ≤ 64 }
-    requires paired { length desks.now ≡ length users.now }
-    requires of_run { place < length users.now }
-    requires with_goals { length jobs.now.goals ≡ length users.now }
-    requires there { is_some (goal_at number (goals_of jobs.now.goals place)) ≡ true }
-    requires supported { AreSupported desks.now jobs.now.goals }
-    requires records { All (λ d. length d.records ≤ most_records) desks.now }
-    requires charge { All (λ d. d.charge ≤ limits.charge) desks.now }
-    ensures prepared { IfOk result (IsPrepared table.now.sources (tree_of_archive output.now)
-        (trusts trust.now) place limits.charge
-        (record { leader = name_at users.now place; number = number })
-        desks.now jobs.now.goals number) }
-    ensures refused { IfErr result (IsNotMade table.now.sources (tree_of_archive output.now)
-        (trusts trust.now) place (record { leader = name_at users.now place; number = number })
-        desks.now jobs.now.goals) }
+    requires of_run { HasPlace state.now place }
+    requires there { is_some (goal_at number (goals_at place state.now.jobs)) ≡ true }
+    ensures prepared { IfOk result (IsPrepared state.now.table.sources (tree_of_archive output.now)
+        (trusts state.now.trust) place state.now.limits.charge
+        (record { leader = name_at state.now.users place; number = number })
+        state.now.desks.items state.now.jobs.goals number) }
+    ensures refused { IfErr result (IsNotMade state.now.table.sources (tree_of_archive output.now)
+        (trusts state.now.trust) place
+        (record { leader = name_at state.now.users place; number = number })
+        state.now.desks.items state.now.jobs.goals) }
 {
-    let job = Job::new(users[place].clone()?, number);
+    let leader = &state.users.as_slice()[place];
+    let job = Job::new(leader.clone()?, number);
     let tree = tree_in(alloc, output)?;
-    let tree = tree.as_ref();
-    let ending = prepare(
-        alloc,
-        trust,
-        table,
-        desks,
-        limits,
-        jobs,
-        place,
-        &job,
-        tree,
-        settlements,
-        number,
-    )?;
+    let ending = prepare(alloc, state, place, &job, tree.as_ref(), settlements)?;
     Ok(ending)
 }
 
@@ -196,12 +156,13 @@ fn put_in_place(
     jobs: &mut Jobs,
     table: &mut Table,
     desks: &mut [Desk],
+    limits: Limits,
     ending: Ending,
 ) -> Result<CopiedReply, Refusal>
     requires each { length ending.delivered.items ≡ length desks.old }
     requires additions { AreToAdd ending.delivered.items ending.additions.items }
     requires may { (place : ℕ) → place < length desks.old
-        → MayGain (desk_at desks.old place) (delta_at ending.delivered.items place) }
+        → MayGain limits.charge (desk_at desks.old place) (delta_at ending.delivered.items place) }
     requires count { length ending.delivered.items ≡ length jobs.old.goals }
     requires settable { (place : ℕ) → place < length jobs.old.goals
         → All (IsSettable (goals_of jobs.old.goals place)) (statuses_for ending.delivered.items place) }
@@ -230,52 +191,6 @@ fn put_in_place(
     Ok(reply)
 }
 
-/// What [`finish`] does, on what it changes.
-fn finish_job(
-    alloc: Global,
-    users: &[User],
-    trust: &Trust,
-    jobs: &mut Jobs,
-    table: &mut Table,
-    desks: &mut [Desk],
-    place: usize,
-    limits: Limits,
-    number: u16,
-    settlements: &mut Settlements,
-    output: &[u8],
-) -> Result<CopiedReply, Refusal>
-    requires listed { are_users users.now ≡ true }
-    requires within { IsWithin (length users.now) (trusts trust.now) }
-    requires paired { length desks.old ≡ length users.now }
-    requires sound { All (IsSound table.old.sources limits.charge) desks.old }
-    requires with_goals { length jobs.old.goals ≡ length users.now }
-    requires goals_sound { All (AreGoalsSound table.old.sources) jobs.old.goals }
-    requires supported { AreSupported desks.old jobs.old.goals }
-    requires of_run { place < length users.now }
-    ensures handled { IsHandledByAll
-        (parts users.now limits.charge (trusts trust.now) jobs.old.goals table.old.sources desks.old)
-        place (FinishRequest number output.now) result
-        (parts users.now limits.charge (trusts trust.now) jobs.new.goals table.new.sources desks.new) }
-    ensures users { jobs.new.users ≡ jobs.old.users }
-{
-    leads(users, jobs, place, number)?;
-    let ending = prepare_led(
-        alloc,
-        users,
-        trust,
-        table,
-        desks,
-        limits,
-        jobs,
-        place,
-        number,
-        settlements,
-        output,
-    )?;
-    let reply = put_in_place(alloc, jobs, table, desks, ending)?;
-    Ok(reply)
-}
-
 /// The job that the goal of a number of the user at a place leads has ended with an output. Each of its
 /// goals whose user reaches him is done, or has failed for itself, and the others wait. The reply is how
 /// far the leader's goal is then.
@@ -300,25 +215,14 @@ pub fn finish(
     requires { HasPlace state.old place }
     ensures { Handles state.old place (FinishRequest number output.now) result state.new }
 {
+    leads(state.users.as_slice(), &state.jobs, place, number)?;
+    let ending = prepare_led(alloc, state, place, number, settlements, output)?;
     let State {
-        users,
-        trust,
         jobs,
         desks,
         table,
         limits,
+        ..
     } = state;
-    finish_job(
-        alloc,
-        users.as_slice(),
-        trust,
-        jobs,
-        table,
-        desks.as_mut_slice(),
-        place,
-        *limits,
-        number,
-        settlements,
-        output,
-    )
+    put_in_place(alloc, jobs, table, desks.as_mut_slice(), *limits, ending)
 }

@@ -3,6 +3,8 @@ use Rattle.std.specs.Prelude.{map}
 use Rattle.std.specs.Option.{option_copied}
 use Rattle.std.proofs.lemmas.Result.{err_from_is_err_and}
 use Rattle.model.specs.Worlds.{Goal, Status}
+use Rattle.model.specs.Goals.{goal_at}
+use Rattle.handling.specs.Parts.{goals_of}
 use Rattle.events.specs.Statuses.{status_of}
 use Rattle.trust.specs.Trusting.{trusts}
 use Rattle.store.specs.Stored.{put_all, sources_of, AreThere}
@@ -27,8 +29,8 @@ returns-in_err-trees-clause-refused c =
     let p = err_from_is_err_and c.from_residual-in_err-trees.result c.from_residual-in_err-trees.ensures.1 in
     let are : c.in_ok-gained_by_all.field-0.items ≡ trees_gained c.in_ok-delivered.delivered.items =
     c.in_ok-gained_by_all.ensures ∙ ap trees_gained c.deref.ensures.value in
-    rw (p.1, p.2) (inl (only_memory (trusts c.args.trust.now) c.args.place c.args.limits.charge c.args.job.now c.args.desks.now c.args.jobs.now.goals
-    c.args.table.now.sources (option_copied c.args.tree) c.in_ok-delivered.delivered.items c.in_ok-delivered.ensures.delivered c.in_err-trees.field-0.0
+    rw (p.1, p.2) (inl (only_memory (trusts c.args.state.now.trust) c.args.place c.args.state.now.limits.charge c.args.job.now c.args.state.now.desks.items c.args.state.now.jobs.goals
+    c.args.state.now.table.sources (option_copied c.args.tree) c.in_ok-delivered.delivered.items c.in_ok-delivered.ensures.delivered c.in_err-trees.field-0.0
     c.in_ok-gained_by_all.field-0.items are c.in_err-trees.ensures.refused))
 
 pub returns-in_err-additions : goal.returns-in_err-additions
@@ -45,21 +47,22 @@ pub returns-clause-prepared : goal.returns-clause-prepared
 returns-clause-prepared c =
     let delivered : List Delivered = c.in_ok-delivered.delivered.items in
     let are : c.in_ok-gained_by_all.field-0.items ≡ trees_gained delivered = c.in_ok-gained_by_all.ensures ∙ ap trees_gained c.deref.ensures.value in
-    let within : c.args.place < length delivered = (let count = c.in_ok-delivered.ensures.count in let below = c.requires.of_run in omega (arith, count, below)) in
+    let within : c.args.place < length delivered = (let count = c.in_ok-delivered.ensures.count in let below = c.requires.of_run in let paired = c.args.state.now.run.paired in omega (arith, count, below, paired)) in
     record {
       made = c.in_ok-delivered.ensures.delivered;
       count = c.in_ok-delivered.ensures.count;
       additions = subst (λ (hs : List Delivered). AreToAdd hs c.in_ok-additions.additions.items) c.deref-2.ensures.value c.in_ok-additions.ensures;
-      all = sym (ap (λ ts. put_all (sources_of ts) c.args.table.now.sources) are) ∙ c.in_ok-trees.ensures.all;
+      all = sym (ap (λ ts. put_all (sources_of ts) c.args.state.now.table.sources) are) ∙ c.in_ok-trees.ensures.all;
       new = c.in_ok-trees.ensures.new;
-      there = subst (AreThere c.args.table.now.sources) are c.in_ok-trees.ensures.there;
+      there = subst (AreThere c.args.state.now.table.sources) are c.in_ok-trees.ensures.there;
       told = λ g is.
           let same : g ≡ c.unwrap-goal.result.now =
-          (let some : option_copied c.get.result ≡ Some c.unwrap-goal.result.now = search rules in let own = sym is ∙ sym c.get.ensures ∙ some in cc) in
+          (let some : option_copied c.get.result ≡ Some c.unwrap-goal.result.now = search rules in let own = sym is ∙ ap (λ k. goal_at k (goals_of c.args.state.now.jobs.goals c.args.place)) (sym c.number-number.ensures) ∙ sym c.get.ensures ∙ some in cc) in
           let statuses : map status_at c.as_slice.result.now ≡ statuses_for delivered c.args.place =
           ap (map status_at) c.as_slice.ensures.value ∙ ap (λ (h : Delivered). statuses_delivered h) c.index.ensures
           ∙ statuses_there delivered c.args.place c.index.result.now within in
           let status : status_of c.status.result.now ≡ g.status = c.status.ensures ∙ ap (λ (x : Goal). x.status) (sym same) in
-          c.in_ok-told.ensures ∙ ap (λ (s : Status). last_status c.args.number s (map status_at c.as_slice.result.now)) status
-          ∙ ap (last_status c.args.number g.status) statuses;
+          c.in_ok-told.ensures ∙ ap (λ (s : Status). last_status c.number-number.result s (map status_at c.as_slice.result.now)) status
+          ∙ ap (last_status c.number-number.result g.status) statuses
+          ∙ ap (λ k. last_status k g.status (statuses_for delivered c.args.place)) c.number-number.ensures;
     }
