@@ -13,6 +13,7 @@ use Rattle.storepath.specs.contracts.path.StorePath as StorePath
 use Rattle.storepath.proofs.path.StorePath.TheSendSync as paths
 use Rattle.storepath.proofs.name.Name.TheSendSync as names
 use Rattle.trust.proofs.pairs.Trust.TheSendSync as trusts
+use Rattle.trust.proofs.users.Users.TheSendSync as users
 use Rattle.records.specs.contracts.record.Record as Record
 use Rattle.records.proofs.record.Record.TheSendSync as records
 use Rattle.realise.specs.contracts.desk.Desk as Desk
@@ -41,6 +42,7 @@ use Rattle.outputs.specs.contracts.settlements.Settlements as Settlements
 use Rattle.outputs.specs.contracts.sources.Sources as Sources
 use Rattle.events.specs.contracts.event.Event as Event
 use Rattle.events.specs.contracts.reply.Reply as Reply
+use Rattle.handling.specs.contracts.state.State as State
 use Rattle.schedule.specs.contracts.state.Core as Core
 use Rattle.schedule.specs.contracts.work.Work as Work
 use Rattle.schedule.specs.contracts.work.Ready as Ready
@@ -197,17 +199,23 @@ desk_send = desks.the_send
 desk_sync : IsSync Desk.the_row
 desk_sync = desks.the_sync
 
-pub core_send : IsSend Core.the_row
-core_send = declared_send Core.the_type (
-  search (sendable, crosses) depth 60,
-  (trusts.the_send, (jobs_send, (search (sendable, crosses, desk_send) depth 60 fits 5000, (table_send, (search sendable depth 20, (cache_send, (search sendable, tt))))))),
+state_send : IsSend State.the_row
+state_send = declared_send State.the_type (
+  users.the_send,
+  (trusts.the_send, (jobs_send, (search (sendable, crosses, desk_send) depth 60 fits 5000, (table_send, (search sendable depth 20, tt))))),
 )
 
-pub core_sync : IsSync Core.the_row
-core_sync = declared_sync Core.the_type (
-  search (sendable, crosses) depth 60,
-  (trusts.the_sync, (jobs_sync, (search (sendable, crosses, desk_sync) depth 60 fits 5000, (table_sync, (search sendable depth 20, (cache_sync, (search sendable, tt))))))),
+state_sync : IsSync State.the_row
+state_sync = declared_sync State.the_type (
+  users.the_sync,
+  (trusts.the_sync, (jobs_sync, (search (sendable, crosses, desk_sync) depth 60 fits 5000, (table_sync, (search sendable depth 20, tt))))),
 )
+
+pub core_send : IsSend Core.the_row
+core_send = declared_send Core.the_type (state_send, (cache_send, (search sendable, tt)))
+
+pub core_sync : IsSync Core.the_row
+core_sync = declared_sync Core.the_type (state_sync, (cache_sync, (search sendable, tt)))
 
 -- ---- values that were made before a step
 

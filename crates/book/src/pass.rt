@@ -84,6 +84,40 @@ impl<J: FrontId> Model for Pass<J> {
         × (p.sure ≡ length p.caller.sure) × (p.stops.parts ≡ 1) };
 }
 
+/// Looks for the answer to a query after the rows that are published, with these rows.
+fn look_by(
+    reader: SnapshotReader,
+    query: Query,
+) -> (SnapshotReader, Option<(ReadResult, HistoryPrefix)>)
+    requires { (view reader.place).knows ≡ true }
+    ensures view { view result.0.place ≡ view reader.place }
+    ensures rows { IfSome result.1 (λ t. t.1.seen.book ≡ book_in (view reader.place).name) }
+    ensures legal { IfSome result.1
+        (λ t. IsLegal (setup_in (view reader.place).name) t.1.seen.log) }
+    ensures found { IfSome result.1
+        (λ t. FindsRead (setup_in (view reader.place).name) t.1.seen.log (event_for query) t.0) }
+{
+    look(reader, query)
+}
+
+/// What an event needs to be made after the rows that are published, with these rows.
+fn need_by(
+    reader: SnapshotReader,
+    event: &Event,
+) -> (
+    SnapshotReader,
+    Option<(Result<PrepareInput, Refusal>, HistoryPrefix)>,
+)
+    requires { (view reader.place).knows ≡ true }
+    ensures view { view result.0.place ≡ view reader.place }
+    ensures rows { IfSome result.1 (λ t. t.1.seen.book ≡ book_in (view reader.place).name) }
+    ensures need { IfSome result.1 (λ t. IfOk t.0 (IsNeedAfter
+        (setup_in (view reader.place).name) t.1.seen.log (event_of event.now))) }
+    ensures memory { IfSome result.1 (λ t. IfErr t.0 (λ why. why ≡ Memory)) }
+{
+    need(reader, event)
+}
+
 /// How many values the copy that is published had to make itself.
 fn computed_by(reader: SnapshotReader, _nothing: ()) -> (SnapshotReader, Option<u64>)
     requires { (view reader.place).knows ≡ true }
@@ -185,7 +219,7 @@ impl<J: FrontId> Pass<J> {
     {
         isolation();
         timed_isolation();
-        let Some((found, rows)) = replace_with(&mut self.reader, query, look) else {
+        let Some((found, rows)) = replace_with(&mut self.reader, query, look_by) else {
             return Reply::Refused(Refusal::Memory);
         };
         if self.see(rows) {
@@ -220,7 +254,7 @@ impl<J: FrontId> Pass<J> {
         ensures same { self.new ≡ seeing self.old self.new.seen }
         ensures memory { IfErr result (λ why. why ≡ Memory) }
     {
-        let Some((needed, rows)) = replace_with(&mut self.reader, event, need) else {
+        let Some((needed, rows)) = replace_with(&mut self.reader, event, need_by) else {
             return Err(Refusal::Memory);
         };
         if self.see(rows) {
