@@ -4,7 +4,7 @@ ghost use Rattle.std.specs.Prelude.{◌≡◌, ◌<◌, ◌⊎◌, [], true, fal
 ghost use Rattle.model.specs.Lines.{lines_of};
 ghost use Rattle.model.specs.Worlds.{are_users};
 ghost use Rattle.model.specs.declared.refusal.Refusal.TheVariants.{BadUsers, Quota, InputFault, OutputFault};
-ghost use Rattle.session.specs.Serving.{EndsByCounts, IsOwn};
+ghost use Rattle.session.specs.Serving.{EndsByCounts, IsOwn, IsShown};
 ghost use Rattle.replaying.specs.Replaying.{Replayed, ReplayedInPart};
 ghost use Rattle.replaying.specs.WholeLines.{ReplayedSoFar};
 ghost use Rattle.replaying.specs.Striking.{Struck, StruckEarly};
@@ -79,6 +79,7 @@ pub(crate) fn run_lines<H: Wait, R: Read + Faults, W: Write + Faults>(
         → StruckEarly options.now.charge user timed (W.contents writer.old) (W.contents writer.new) (lines_of all) why)) }
     ensures counts { EndsByCounts result (R.failed reader.old) (R.failed reader.new)
         (W.failed writer.old) (W.failed writer.new) }
+    ensures shown { IsShown result (W.failed writer.old) (W.failed writer.new) }
 {
     let limits = limits_of(options);
     let settings = Settings { hashing, limits };

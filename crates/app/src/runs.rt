@@ -3,7 +3,7 @@
 ghost use Rattle.std.specs.Prelude.{◌≡◌, ◌⊎◌, [], Err, OnOk, IfOk, IfErr, map, slice_index_or, string_bytes};
 ghost use Rattle.std.specs.Io.KnownBytes.{Appends};
 ghost use Rattle.model.specs.declared.refusal.Refusal.TheVariants.{OutputFault};
-ghost use Rattle.session.specs.Serving.{MayBeFault};
+ghost use Rattle.session.specs.Serving.{IsShown, MayBeFault};
 ghost use Rattle.app.specs.Runs.{AppendsFront, HasNotRun, HasNotPrinted, IsFirstFault, RunsFiles, first_end, texts_of};
 ghost use Rattle.app.specs.Ends.{status_of_end};
 
@@ -80,6 +80,7 @@ fn print_all<W: Write + Faults>(writer: &mut W, outputs: &[Output]) -> Result<()
     ensures ok { OnOk result (Appends (W.contents writer.old) (W.contents writer.new) (texts_of outputs.now)) }
     ensures err { IfErr result (λ _. AppendsFront (W.contents writer.old) (W.contents writer.new) (texts_of outputs.now)) }
     ensures fault { IfErr result (MayBeFault OutputFault (W.failed writer.old) (W.failed writer.new)) }
+    ensures shown { IsShown result (W.failed writer.old) (W.failed writer.new) }
 {
     let before = writer.failures();
     let ended = write_texts(writer, before, outputs);
@@ -110,6 +111,7 @@ fn run_and_print<
     ensures ran { IfOk result (RunsFiles options.now.charge Q.gives I.remaining files.entry.items) }
     ensures printed { IfOk result (λ results.
         Appends (W.contents writer.old) (W.contents writer.new) (texts_of results.outputs.items)) }
+    ensures shown { IsShown result (W.failed writer.old) (W.failed writer.new) }
     ensures refused { IfErr result (λ refused.
         ((writer.new ≡ writer.old) × HasNotRun I.failed files.entry.items refused)
         ⊎ (HasNotPrinted options.now.charge Q.gives I.remaining files.entry.items

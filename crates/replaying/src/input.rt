@@ -6,7 +6,7 @@ ghost use Rattle.model.specs.Limits.{most_charge};
 ghost use Rattle.model.specs.Worlds.{are_users, nothing};
 ghost use Rattle.schedule.specs.Standing.{setup_for, setup_of, world_of, stored_in};
 ghost use Rattle.model.specs.declared.refusal.Refusal.TheVariants.{InputFault, OutputFault};
-ghost use Rattle.session.specs.Serving.{EndsByCounts, HasFailed, IsOwn, MayBeFault};
+ghost use Rattle.session.specs.Serving.{EndsByCounts, HasFailed, IsOwn, IsShown, MayBeFault};
 ghost use Rattle.replaying.specs.WholeLines.{ReplayedSoFar};
 ghost use Rattle.replaying.specs.ServingOn.{ServesOn, ServesOnInPart, ServesOnSoFar};
 ghost use Rattle.replaying.specs.Replaying.{Replayed, ReplayedInPart};
@@ -162,6 +162,7 @@ pub fn replay<H: Wait, R: Read + Faults, W: Write + Faults>(
     ensures errors { IfErr result (λ why. (why ≡ InputFault) ⊎ IsOwn why) }
     ensures counts { EndsByCounts result (R.failed reader.old) (R.failed reader.new)
         (W.failed writer.old) (W.failed writer.new) }
+    ensures shown { IsShown result (W.failed writer.old) (W.failed writer.new) }
 {
     let reader_before = reader.failures();
     let writer_before = writer.failures();

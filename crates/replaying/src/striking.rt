@@ -9,7 +9,7 @@ ghost use Rattle.model.specs.declared.refusal.Refusal.TheVariants.{InputFault, O
 ghost use Rattle.events.specs.Terms.{event_of, answer_of};
 ghost use Rattle.schedule.specs.Ever.{run_of};
 ghost use Rattle.schedule.specs.Standing.{setup_for};
-ghost use Rattle.session.specs.Serving.{EndsByCounts, HasFailed, IsUnwritten};
+ghost use Rattle.session.specs.Serving.{EndsByCounts, HasFailed, IsShown, IsUnwritten};
 ghost use Rattle.replaying.specs.BadLines.{end_of, ended_with};
 ghost use Rattle.replaying.specs.Recording.{IsFirstRun};
 ghost use Rattle.replaying.specs.Striking.{Rerun, Struck, StruckEarly, lines_under, struck};
@@ -224,6 +224,7 @@ pub fn strike<H: Wait, R: Read + Faults, W: Write + Faults>(
         (W.contents writer.old) (W.contents writer.new) (lines_of all) why) }
     ensures counts { EndsByCounts result (R.failed reader.old) (R.failed reader.new)
         (W.failed writer.old) (W.failed writer.new) }
+    ensures shown { IsShown result (W.failed writer.old) (W.failed writer.new) }
 {
     let reader_before = reader.failures();
     let writer_before = writer.failures();

@@ -160,6 +160,10 @@ StopsAt Is link old new = (new ≡ old) ⊎ ((row : Row) × Is row × link old r
 abbrev pub IsNoFault : (old new : ℕ) → Refusal → Type 0
 IsNoFault old new why = why ≡ Memory → ¬ HasFailed old new
 
+-- where it ended well, the writer's count shows no failure
+abbrev pub IsShown : {T E : Type 0} → Result T E → (writes writes_now : ℕ) → Type 0
+IsShown result writes writes_now = OnOk result (¬ HasFailed writes writes_now)
+
 -- how lines ended, by how often reader and writer had failed before and have failed now: all is answered only where the reader's count
 -- shows no failure, a fault comes of a failure that its count shows, and memory is told only where the writer's count shows none
 pub record EndsByCounts {T : Type 0} (result : Result T Refusal) (reads reads_now writes writes_now : ℕ) : Type 0 where

@@ -6,7 +6,7 @@ ghost use Rattle.model.specs.declared.refusal.Refusal.TheVariants.{InputFault, M
 ghost use Rattle.model.specs.Lines.{lines_of};
 ghost use Rattle.model.specs.Talk.{fresh};
 ghost use Rattle.session.specs.Serving.{Link, GoesOn, EndsIn, Finishes, EndsAtLast, AnsweredSoFar, EndedEarly};
-ghost use Rattle.session.specs.Serving.{EndsBehind, EndsByCounts, FinishesBehind, HasFailed, StopsBehind};
+ghost use Rattle.session.specs.Serving.{EndsBehind, EndsByCounts, FinishesBehind, HasFailed, IsShown, StopsBehind};
 ghost use Rattle.session.specs.Serving.{Finished, HoldsMore, IsFault, IsNoFault, IsOwn, MayBeFault, NotShown};
 
 use crate::answer::Answer;
@@ -305,8 +305,8 @@ pub fn serve_behind<R: Read + Faults, W: Write + Faults, A: Answer>(
 ///
 /// # Errors
 ///
-/// They are those of [`serve_behind`], of no bytes. And `OutputFault` also where the writer was not
-/// flushed.
+/// They are those of [`serve_behind`], of no bytes. And `OutputFault` also where the writer's count shows a
+/// failure once all is written.
 pub fn serve<R: Read + Faults, W: Write + Faults, A: Answer>(
     alloc: Global,
     mode: Mode,
@@ -337,6 +337,7 @@ pub fn serve<R: Read + Faults, W: Write + Faults, A: Answer>(
     ensures errors { IfErr result (λ why. (why ≡ InputFault) ⊎ IsOwn why) }
     ensures counts { EndsByCounts result (R.failed reader.old) (R.failed reader.new)
         (W.failed writer.old) (W.failed writer.new) }
+    ensures shown { IsShown result (W.failed writer.old) (W.failed writer.new) }
 {
     let before = writer.failures();
     let ended = serve_behind(alloc, mode, b"", reader, writer, answer);

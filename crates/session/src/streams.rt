@@ -3,7 +3,7 @@
 ghost use Rattle.std.specs.Prelude.{◌≡◌, ◌<◌, ◌⊎◌, [], Some, Err, IsOk, OnOk, OnErr, IfOk, IfErr, length};
 ghost use Rattle.std.specs.Io.KnownBytes.{Appends, Consumes};
 ghost use Rattle.model.specs.declared.refusal.Refusal.TheVariants.{InputFault, OutputFault};
-ghost use Rattle.session.specs.Serving.{HasFailed, IsFault, IsNoFault, IsWant, MayBeFault, HasRead, TellsEnd};
+ghost use Rattle.session.specs.Serving.{HasFailed, IsFault, IsNoFault, IsShown, IsWant, MayBeFault, HasRead, TellsEnd};
 
 use model::Refusal;
 use nar::{Faults, has_failed};
@@ -25,16 +25,20 @@ fn flush_once<W: Write + Faults>(writer: &mut W, before: u64) -> Result<bool, Re
     }
 }
 
-/// Flushes the writer. One that fails and does not count it is tried again, 2^64 times at most: nothing
-/// is promised of a flush but that it does not fail by the count.
+/// Flushes the writer, and then looks at its count. One that fails and does not count it is tried again, 2^64
+/// times at most: nothing is promised of a flush but that the count shows no failure after it.
 pub(crate) fn flush<W: Write + Faults>(writer: &mut W, before: u64) -> Result<(), Refusal>
     ensures kept { Appends (W.contents writer.old) (W.contents writer.new) [] }
+    ensures shown { IsShown result before (W.failed writer.new) }
     ensures fault { IfErr result (IsFault OutputFault before (W.failed writer.new)) }
 {
     for _ in 0..u64::MAX {
         if flush_once(writer, before)? {
-            return Ok(());
+            break;
         }
+    }
+    if has_failed(before, writer.failures()) {
+        return Err(Refusal::OutputFault);
     }
     Ok(())
 }
@@ -52,10 +56,10 @@ pub(crate) fn want_of<W: Faults>(writer: &W, before: u64) -> Refusal
 }
 
 /// Flushes the writer after what ended so, unless that is a failure of the writer, and says how it ended:
-/// so, or with `OutputFault` where it was not flushed. The counts are looked at again. A failure of the
-/// reader that its count does not show, or one of the writer, is told as want of memory then: they showed
-/// it, and have fallen since. And want of memory is told as a failure of the writer where its count shows
-/// one.
+/// so, or with `OutputFault` where the writer's count shows a failure then. The counts are looked at again.
+/// A failure of the reader that its count does not show, or one of the writer, is told as want of memory
+/// then: they showed it, and have fallen since. And want of memory is told as a failure of the writer where
+/// its count shows one.
 ///
 /// # Errors
 ///
@@ -72,6 +76,8 @@ pub fn flush_after<R: Faults, W: Write + Faults>(
 ) -> Result<(), Refusal>
     ensures kept { Appends (W.contents writer.old) (W.contents writer.new) [] }
     ensures ok { OnOk result (IsOk ended) }
+    // A failure of the writer is never passed over.
+    ensures shown { IsShown result writer_before (W.failed writer.new) }
     // It was not flushed, or the end is told.
     ensures err { IfErr result (λ why. IsFault OutputFault writer_before (W.failed writer.new) why
         ⊎ ((first : Refusal) × (ended ≡ Err first) × TellsEnd first

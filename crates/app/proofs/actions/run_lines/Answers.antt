@@ -14,3 +14,6 @@ returns-in-Replay-clause-failed g c = λ _.
 
 pub returns-in-Replay-clause-counts : goal.returns-in-Replay-clause-counts
 returns-in-Replay-clause-counts g c = told_counts c.replay.result c.nothing_told.result _ _ _ _ c.nothing_told.ensures c.replay.ensures.counts
+
+pub returns-in-Replay-clause-shown : goal.returns-in-Replay-clause-shown
+returns-in-Replay-clause-shown g c = told_ok c.replay.result c.nothing_told.result _ c.nothing_told.ensures c.replay.ensures.shown

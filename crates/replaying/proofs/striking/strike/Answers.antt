@@ -32,3 +32,8 @@ returns-clause-counts g c =
       output_fault = with_err c.ended_with.result shown told _ c.ended_with.ensures flushed.output_fault;
       memory = with_err c.ended_with.result shown told _ c.ended_with.ensures flushed.memory;
     })
+
+pub returns-clause-shown : goal.returns-clause-shown
+returns-clause-shown g c =
+    rw (← c.failures-writer_before.ensures)
+    (with_ok c.ended_with.result c.flush_after-shown.result c.strike_lines-told.result _ c.ended_with.ensures c.flush_after-shown.ensures.shown)
