@@ -7,7 +7,7 @@ ghost use Rattle.model.specs.declared.refusal.Refusal.TheVariants.{BadUsers, Quo
 ghost use Rattle.session.specs.Serving.{EndsByCounts, IsOwn, IsShown};
 ghost use Rattle.replaying.specs.Replaying.{Replayed, ReplayedInPart};
 ghost use Rattle.replaying.specs.WholeLines.{ReplayedSoFar};
-ghost use Rattle.replaying.specs.Striking.{Struck, StruckEarly};
+ghost use Rattle.replaying.specs.Striking.{StrikeEndsBy, Struck, StruckEarly};
 ghost use Rattle.running.specs.Sessions.{CannotBegin};
 ghost use Rattle.running.specs.Desks.{passes_needed};
 ghost use Rattle.running.specs.Runs.{AreResults};
@@ -77,6 +77,8 @@ pub(crate) fn run_lines<H: Wait, R: Read + Faults, W: Write + Faults>(
     ensures struck_in_part { WhereStrikes options.now.action (λ user timed. IfErr result (λ why.
         (all : List ℕ) → R.remaining reader.old ≡ Some all
         → StruckEarly options.now.charge user timed (W.contents writer.old) (W.contents writer.new) (lines_of all) why)) }
+    ensures struck_why { WhereStrikes options.now.action (λ user timed.
+        IfErr result (StrikeEndsBy user (R.remaining reader.old))) }
     ensures counts { EndsByCounts result (R.failed reader.old) (R.failed reader.new)
         (W.failed writer.old) (W.failed writer.new) }
     ensures shown { IsShown result (W.failed writer.old) (W.failed writer.new) }

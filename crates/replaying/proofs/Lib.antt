@@ -10,3 +10,4 @@ pub mod PrintLemmas
 pub mod LawLemmas
 pub mod StruckLemmas
 pub mod BadLemmas
+pub mod UnnamedLemmas

@@ -125,7 +125,7 @@ names_in goals (reading.Asks event) seen row (Some users) n e b = absurd n
 names_in goals reading.Waits seen row (Some users) n e b = absurd n
 
 -- what is held of a line gets the line's row
-gets_held : (seen : Seen) (full held : List ℕ) (row : Row) → IsHeld full held → GetsNext seen held row → GetsNext seen full row
+pub gets_held : (seen : Seen) (full held : List ℕ) (row : Row) → IsHeld full held → GetsNext seen held row → GetsNext seen full row
 gets_held seen full held row is g = subst (λ f. Gets seen.goals f row) (ap (form_of seen) is ∙ form_of-held seen full) g
 
 -- the number of one line more, where a test of its row says so

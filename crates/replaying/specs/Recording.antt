@@ -1,5 +1,5 @@
 -- A session whose events are kept.
-use Rattle.std.specs.Prelude.{◌≡◌, ℕ, Bool, false, if◌then◌else◌, List, [], ◌∷◌, ◌++◌, length, map, Option, Some, None}
+use Rattle.std.specs.Prelude.{◌≡◌, ℕ, Bool, true, false, if◌then◌else◌, List, [], ◌∷◌, ◌++◌, length, map, Option, Some, None}
 use Rattle.std.specs.Global.{Vec}
 use Rattle.model.specs.declared.mode.Mode.TheVariants.{Service}
 use Rattle.model.specs.Lines.{lines_of}
@@ -37,6 +37,10 @@ pub record IsFirst (line : List ℕ) (seen seen' : Seen) (first : First) : Type 
   pub going : seen'.refused ≡ false
   pub named : NamesIn row seen' first.users
   pub bad_is : first.is_bad ≡ is_bad_line row
+
+-- the line is one of users that is refused
+abbrev pub RefusesFirst : (line : List ℕ) → Seen → Type 0
+RefusesFirst line seen = (row : Row) × GetsNext seen line row × ((seen_after seen row).refused ≡ true)
 
 -- the first of all lines were answered, and asked nobody; they name these users, or none, and the rest is left
 pub record Begins (all rest : List (List ℕ)) (users : Option (List (List ℕ))) (seen : Seen) (bad : Option BadLines) : Type 0 where

@@ -1,9 +1,10 @@
 -- What is printed for a user's lines where only those events of a file are run that can reach him.
-use Rattle.std.specs.Prelude.{◌≡◌, ◌⊎◌, ℕ, ◌+◌, Bool, true, false, if◌then◌else◌, List, [], ◌∷◌, ◌++◌, map, take, Option, Some, bytes_eq}
+use Rattle.std.specs.Prelude.{◌≡◌, ◌⊎◌, ℕ, ◌+◌, Bool, true, false, if◌then◌else◌, List, [], ◌∷◌, ◌++◌, map, take, Option, Some, None, IfSome, unwrap_or, bytes_eq}
 use Rattle.std.specs.List.{list_any}
 use Rattle.std.specs.Io.KnownBytes.{Appends}
 use Rattle.model.specs.declared.mode.Mode.TheVariants.{Service}
 use Rattle.model.specs.declared.refusal.Refusal.{Refusal}
+use Rattle.model.specs.declared.refusal.Refusal.TheVariants.{BadUsers, UnknownUser, InputFault, OutputFault, Memory}
 use Rattle.model.specs.Paths.{NoClash}
 use Rattle.model.specs.Reach.{is_among}
 use Rattle.model.specs.Worlds.{Setup, nothing}
@@ -19,6 +20,7 @@ use Rattle.events.specs.declared.event.Event.{Event as AskedEvent}
 use Rattle.events.specs.declared.reply.Reply.{Reply as GivenReply}
 use Rattle.events.specs.Terms.{event_of, answer_of}
 use Rattle.schedule.specs.Running.{HadMemory, IsRun}
+use Rattle.session.specs.Ahead.{LooksAhead}
 use Rattle.session.specs.Serving.{IsUnwritten}
 use Rattle.replaying.specs.declared.bad_lines.BadLines.{BadLines}
 use Rattle.replaying.specs.BadLines.{numbers_where, bad_numbers, AreBad}
@@ -112,3 +114,26 @@ pub record StruckInPart (charge : ℕ) (user : List ℕ) (timed : Bool) (blank w
 -- nothing was written, or a beginning
 abbrev pub StruckEarly : ℕ → (user : List ℕ) (timed : Bool) (blank written : Option (List ℕ)) (lines : List (List ℕ)) → Refusal → Type 0
 StruckEarly charge user timed blank written lines why = Appends blank written [] ⊎ StruckInPart charge user timed blank written lines why
+
+-- ---- how it may end
+
+-- no line of users names the user, or there is none, and none is refused
+pub record IsUnnamed (user input : List ℕ) : Type 0 where
+  pub users : Option (List (List ℕ))
+  pub found : LooksAhead Service input users
+  pub going : (after_all (fresh Service) found.rows).refused ≡ false
+  pub unlisted : is_among user (unwrap_or users []) ≡ false
+
+-- a line of users is refused, and none before it names any
+pub record RefusesUsers (input : List ℕ) : Type 0 where
+  pub found : LooksAhead Service input None
+  pub refused : (after_all (fresh Service) found.rows).refused ≡ true
+
+-- why it may end before all is written: no line of users names the user, or one is refused; reading or writing failed, or memory was refused
+abbrev pub StrikeEndsBy : (user : List ℕ) (start : Option (List ℕ)) → Refusal → Type 0
+StrikeEndsBy user start UnknownUser = IfSome start (IsUnnamed user)
+StrikeEndsBy user start BadUsers = IfSome start RefusesUsers
+StrikeEndsBy user start InputFault = Unit {0}
+StrikeEndsBy user start OutputFault = Unit {0}
+StrikeEndsBy user start Memory = Unit {0}
+StrikeEndsBy user start why = ⊥

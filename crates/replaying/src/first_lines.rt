@@ -1,9 +1,11 @@
 //! The first lines of an input, up to the one that names its users.
 
-ghost use Rattle.std.specs.Prelude.{◌≡◌, ◌∷◌, ◌++◌, ℕ, List, if◌then◌else◌, false, [], Some, IfOk, OnOk};
+ghost use Rattle.std.specs.Prelude.{◌≡◌, ◌⊎◌, ◌∷◌, ◌++◌, ℕ, List, if◌then◌else◌, false, [], Some, IfOk, IfErr};
+ghost use Rattle.model.specs.declared.refusal.Refusal.TheVariants.{BadUsers, Memory};
 ghost use Rattle.model.specs.Lines.{lines_of};
 ghost use Rattle.replaying.specs.BadLines.{is_bad_reading, AreBad};
-ghost use Rattle.replaying.specs.Recording.{IsFirst, NamesUsers};
+ghost use Rattle.replaying.specs.Recording.{IsFirst, NamesUsers, RefusesFirst};
+ghost use Rattle.replaying.specs.Striking.{StrikeEndsBy};
 
 use crate::bad_lines::BadLines;
 use crate::numbers::Named;
@@ -52,7 +54,9 @@ struct First {
 /// Answers a line before which nobody is named. Nobody is asked.
 fn answer_first(alloc: Global, session: &mut Session, line: &[u8]) -> Result<First, Refusal>
     requires { session.old.begun ≡ false }
-    ensures { IfOk result (IsFirst line.now session.old session.new) }
+    ensures first { IfOk result (IsFirst line.now session.old session.new) }
+    ensures refused { IfErr result (λ why. (why ≡ Memory)
+        ⊎ ((why ≡ BadUsers) × RefusesFirst line.now session.old)) }
 {
     let reading = session.read(alloc, line)?;
     let is_bad = is_bad(&reading);
@@ -66,8 +70,9 @@ fn answer_first(alloc: Global, session: &mut Session, line: &[u8]) -> Result<Fir
 
 /// Answers the first lines of an input, up to the one that names its users. Where none does, no user is known.
 pub(crate) fn find_users<R: BufRead>(alloc: Global, input: &mut R) -> Result<Named, Refusal>
-    ensures { IfOk result (λ named. (all : List ℕ) → R.remaining input.old ≡ Some all
+    ensures named { IfOk result (λ named. (all : List ℕ) → R.remaining input.old ≡ Some all
         → NamesUsers (lines_of all) (R.remaining input.new) named) }
+    ensures why { IfErr result (λ why. (user : List ℕ) → StrikeEndsBy user (R.remaining input.old) why) }
 {
     let mut session = Session::new(alloc, Mode::Service);
     let mut bad = None;

@@ -1,6 +1,7 @@
 //! Running the lines of an input for the events that they make.
 
-ghost use Rattle.std.specs.Prelude.{◌≡◌, ◌≤◌, ◌++◌, ◌∷◌, ℕ, List, if◌then◌else◌, true, false, [], length, map, slice_get, bytes_eq, MatchOption, Some, IfOk, OnOk};
+ghost use Rattle.std.specs.Prelude.{◌≡◌, ◌≤◌, ◌⊎◌, ◌++◌, ◌∷◌, ℕ, List, if◌then◌else◌, true, false, [], length, map, slice_get, bytes_eq, MatchOption, Some, IfOk, IfErr, OnOk};
+ghost use Rattle.model.specs.declared.refusal.Refusal.TheVariants.{InputFault, Memory, UnknownUser};
 ghost use Rattle.model.specs.Lines.{lines_of};
 ghost use Rattle.model.specs.Limits.{most_charge};
 ghost use Rattle.model.specs.Reach.{is_among};
@@ -8,6 +9,7 @@ ghost use Rattle.model.specs.Worlds.{nothing};
 ghost use Rattle.events.specs.Terms.{event_of};
 ghost use Rattle.schedule.specs.Standing.{setup_of, world_of, stored_in};
 ghost use Rattle.replaying.specs.Recording.{AddsNumbers, Asked, AsksOn, RunsOut, IsAsked, IsFirstRun};
+ghost use Rattle.replaying.specs.Striking.{StrikeEndsBy};
 
 use crate::first_lines::{bad_after, find_users, is_bad};
 use crate::numbers::{FirstRun, Line, Named, Notes, Numbers};
@@ -30,7 +32,8 @@ fn is_next_of(events: &[Event], before: usize, user: &User) -> bool
     events.get(before).is_some_and(|event| event.actor == *user)
 }
 
-/// Runs a line, and tells what it was. The line is let go before its event is answered.
+/// Runs a line, and tells what it was. The line is let go before its event is answered. The one error is memory,
+/// which is also told in place of a second line of users that is refused with 14: none is.
 fn ask_line<J: FrontId, H: Wait>(
     alloc: Global,
     session: &mut Session,
@@ -43,6 +46,7 @@ fn ask_line<J: FrontId, H: Wait>(
         recorder.old.store (map event_of recorder.old.events.items)
         recorder.new.store (map event_of recorder.new.events.items)) }
     ensures kept { OnOk result (recorder.new.has_lost ≡ false) }
+    ensures memory { IfErr result (λ why. why ≡ Memory) }
 {
     let before = recorder.events.len();
     let reading = session.read(alloc, line.as_slice())?;
@@ -53,7 +57,7 @@ fn ask_line<J: FrontId, H: Wait>(
         return Err(Refusal::Memory);
     }
     if session.is_refused() {
-        return Err(Refusal::BadUsers);
+        return Err(Refusal::Memory);
     }
     let is_his = is_next_of(recorder.events.as_slice(), before, user);
     Ok(Line { is_his, is_bad })
@@ -92,6 +96,7 @@ fn ask_numbered<J: FrontId, H: Wait>(
         recorder.old.store (map event_of recorder.old.events.items) notes.new
         recorder.new.store (map event_of recorder.new.events.items)) }
     ensures kept { OnOk result (recorder.new.has_lost ≡ false) }
+    ensures memory { IfErr result (λ why. why ≡ Memory) }
 {
     let line = ask_line(alloc, &mut notes.session, recorder, line, &notes.user)?;
     add_numbers(&mut notes.numbers, line, notes.session.line_count())?;
@@ -106,9 +111,10 @@ fn ask_lines<J: FrontId, H: Wait, R: BufRead>(
     input: &mut R,
 ) -> Result<(), Refusal>
     requires { recorder.old.has_lost ≡ false }
-    ensures { OnOk result (RunsOut J.setup (R.remaining input.old) notes.old
+    ensures out { OnOk result (RunsOut J.setup (R.remaining input.old) notes.old
         recorder.old.store (map event_of recorder.old.events.items) notes.new
         recorder.new.store (map event_of recorder.new.events.items)) }
+    ensures errors { IfErr result (λ why. (why ≡ InputFault) ⊎ (why ≡ Memory)) }
 {
     for _ in 0..u64::MAX {
         let Some(line) = next_line(alloc, input)? else {
@@ -134,7 +140,9 @@ fn ask_core<J: FrontId, H: Wait, R: BufRead>(
     requires log { blank.log.table.shared.table_id ≡ J.table }
     requires rows { blank.rows.seen.book ≡ J.book }
     requires core { (setup_of core ≡ J.setup) × (world_of core ≡ nothing) × (stored_in core ≡ []) }
-    ensures { IfOk result (λ events. IsAsked J.setup (R.remaining input.old) notes.old notes.new events.items) }
+    ensures asked { IfOk result (λ events.
+        IsAsked J.setup (R.remaining input.old) notes.old notes.new events.items) }
+    ensures errors { IfErr result (λ why. (why ≡ InputFault) ⊎ (why ≡ Memory)) }
 {
     let (front, mut passes) = Front::<J>::new(rt, alloc, blank, core, 1)?;
     let pass = passes.pop().unwrap();
@@ -154,12 +162,21 @@ fn ask_core<J: FrontId, H: Wait, R: BufRead>(
     Ok(events)
 }
 
+/// Whether a user is one of these.
+fn is_one_of(users: &[User], user: &User) -> bool
+    ensures { result ≡ is_among user.now users.now }
+{
+    users.iter().any(|other| *other == *user)
+}
+
 /// The user of a name, who is one of these.
 fn user_among(alloc: Global, users: &[User], name: &[u8]) -> Result<User, Refusal>
-    ensures { IfOk result (λ user. (user ≡ name.now) × (is_among name.now users.now ≡ true)) }
+    ensures user { IfOk result (λ user. (user ≡ name.now) × (is_among name.now users.now ≡ true)) }
+    ensures unknown { IfErr result (λ why. (why ≡ Memory)
+        ⊎ ((why ≡ UnknownUser) × (is_among name.now users.now ≡ false))) }
 {
     let user = User::new(alloc, name)?;
-    if users.iter().any(|other| *other == user) {
+    if is_one_of(users, &user) {
         Ok(user)
     } else {
         Err(Refusal::UnknownUser)
@@ -175,8 +192,9 @@ pub(crate) fn first_run<H: Wait, R: BufRead>(
     input: &mut R,
 ) -> Result<FirstRun, Refusal>
     requires { settings.limits.charge ≤ most_charge }
-    ensures { IfOk result (λ run. (all : List ℕ) → R.remaining input.old ≡ Some all
+    ensures run { IfOk result (λ run. (all : List ℕ) → R.remaining input.old ≡ Some all
         → IsFirstRun settings.limits.charge name.now (lines_of all) run) }
+    ensures why { IfErr result (StrikeEndsBy name.now (R.remaining input.old)) }
 {
     let Settings { hashing, limits } = settings;
     let named = find_users(alloc, input)?;

@@ -1,18 +1,18 @@
 //! Running those events of one input that can reach a user.
 
-ghost use Rattle.std.specs.Prelude.{◌≡◌, ◌≤◌, ℕ, List, Some, map, take, OnOk, OnErr, IfOk, IfErr};
+ghost use Rattle.std.specs.Prelude.{◌≡◌, ◌≤◌, ◌⊎◌, ℕ, List, Some, map, take, OnOk, OnErr, IfOk, IfErr};
 ghost use Rattle.std.specs.Io.KnownBytes.{Appends};
 ghost use Rattle.model.specs.Lines.{lines_of};
 ghost use Rattle.model.specs.Limits.{most_charge};
 ghost use Rattle.model.specs.Steps.{replies_to};
-ghost use Rattle.model.specs.declared.refusal.Refusal.TheVariants.{InputFault, OutputFault};
+ghost use Rattle.model.specs.declared.refusal.Refusal.TheVariants.{InputFault, Memory, OutputFault};
 ghost use Rattle.events.specs.Terms.{event_of, answer_of};
-ghost use Rattle.schedule.specs.Ever.{run_of};
+ghost use Rattle.schedule.specs.Ever.{run_of, why_untold};
 ghost use Rattle.schedule.specs.Standing.{setup_for};
 ghost use Rattle.session.specs.Serving.{EndsByCounts, HasFailed, IsShown, IsUnwritten};
 ghost use Rattle.replaying.specs.BadLines.{end_of, ended_with};
 ghost use Rattle.replaying.specs.Recording.{IsFirstRun};
-ghost use Rattle.replaying.specs.Striking.{Rerun, Struck, StruckEarly, lines_under, struck};
+ghost use Rattle.replaying.specs.Striking.{Rerun, StrikeEndsBy, Struck, StruckEarly, lines_under, struck};
 
 use crate::bad_lines::BadLines;
 use crate::first_run::first_run;
@@ -38,8 +38,9 @@ fn strike_events(
     user: &User,
     timed: bool,
 ) -> Result<Vec<Event>, Refusal>
-    ensures { IfOk result (λ kept. (charge : ℕ) → map event_of kept.items
+    ensures kept { IfOk result (λ kept. (charge : ℕ) → map event_of kept.items
         ≡ struck timed (run_of users.now charge) user.now (map event_of events.items)) }
+    ensures refused { IfErr result (λ why. why_untold users.now user.now ≡ Some why) }
 {
     if timed {
         schedule::strike_timed(users, events, user)
@@ -58,8 +59,10 @@ fn rerun(
     timed: bool,
 ) -> Result<Vec<(User, Reply)>, Refusal>
     requires { settings.limits.charge ≤ most_charge }
-    ensures { IfOk result (λ given.
+    ensures given { IfOk result (λ given.
         Rerun (setup_for users settings.limits) user.now timed (map event_of events.items) given.items) }
+    ensures refused { IfErr result (λ why.
+        (why ≡ Memory) ⊎ (why_untold users.items user.now ≡ Some why)) }
 {
     let kept = strike_events(users.as_slice(), events, user, timed)?;
     run(alloc, settings.hashing, users, settings.limits, kept)
@@ -108,6 +111,7 @@ fn run_reader<H: Wait, R: Read + Faults>(
     requires { settings.limits.charge ≤ most_charge }
     ensures first { IfOk result (λ run. (all : List ℕ) → R.remaining reader.old ≡ Some all
         → IsFirstRun settings.limits.charge name.now (lines_of all) run) }
+    ensures why { IfErr result (StrikeEndsBy name.now (R.remaining reader.old)) }
     ensures whole { OnOk result (¬ HasFailed (R.failed reader.old) (R.failed reader.new)) }
 {
     let before = reader.failures();
@@ -139,6 +143,7 @@ fn strike_lines<H: Wait, R: Read + Faults, W: Write + Faults>(
     ensures err { IfErr result (λ why. (all : List ℕ) → R.remaining reader.old ≡ Some all
         → StruckEarly settings.limits.charge observer.entry.name.now observer.entry.timed
         (W.contents writer.old) (W.contents writer.new) (lines_of all) why) }
+    ensures why { IfErr result (StrikeEndsBy observer.entry.name.now (R.remaining reader.old)) }
     ensures whole { OnOk result (¬ HasFailed (R.failed reader.old) (R.failed reader.new)) }
 {
     let before = writer.failures();
@@ -218,10 +223,12 @@ pub fn strike<H: Wait, R: Read + Faults, W: Write + Faults>(
     ensures ok { IfOk result (λ bad. (all : List ℕ) → R.remaining reader.old ≡ Some all
         → Struck settings.limits.charge observer.entry.name.now observer.entry.timed
         (W.contents writer.old) (W.contents writer.new) (lines_of all) bad) }
-    // Else nothing is written, or a beginning of it where writing failed, or memory while writing.
+    // Else nothing is written, or a beginning of it where writing failed, or memory while writing; and what is told
+    // of the users is so.
     ensures err { IfErr result (λ why. (all : List ℕ) → R.remaining reader.old ≡ Some all
         → StruckEarly settings.limits.charge observer.entry.name.now observer.entry.timed
         (W.contents writer.old) (W.contents writer.new) (lines_of all) why) }
+    ensures why { IfErr result (StrikeEndsBy observer.entry.name.now (R.remaining reader.old)) }
     ensures counts { EndsByCounts result (R.failed reader.old) (R.failed reader.new)
         (W.failed writer.old) (W.failed writer.new) }
     ensures shown { IsShown result (W.failed writer.old) (W.failed writer.new) }

@@ -3,6 +3,8 @@ use Rattle.std.specs.Prelude.{if◌then◌else◌, length}
 use Rattle.replaying.specs.BadLines.{AreBad}
 use Rattle.replaying.specs.Recording.{IsFirst}
 use Rattle.replaying.proofs.RecordingLemmas.{begins_none, begins_on, still_nobody, names_users}
+use Rattle.session.proofs.RowLemmas.{err-is}
+use Rattle.replaying.proofs.UnnamedLemmas.{if_known, by_first, names_nobody, refuses_line}
 use Rattle.replaying.proofs.first_lines.find_users.Given.{Over}
 use Rattle.replaying.proofs.first_lines.find_users.Goals as goal
 use Rattle.replaying.proofs.first_lines.find_users.Goals.{After-bad_after-bad}
@@ -12,7 +14,7 @@ loop-init g c = rw c.new-session.ensures (refl, λ all known. (all, known, begin
 
 -- the line that was answered
 first : (g : Over) (c : After-bad_after-bad g) → IsFirst c.in-Some.line.items c.loop.session c.answer_first.new.session c.in_ok-users.field-0
-first g c = rw c.as_slice.ensures.value at c.in_ok-users.ensures
+first g c = rw c.as_slice.ensures.value at c.in_ok-users.ensures.first
 
 -- its number
 adds : (g : Over) (c : After-bad_after-bad g) → (numbers : List ℕ) → AreBad c.loop.bad numbers
@@ -30,10 +32,23 @@ loop-preserved g c =
           begins_on _ i.0 _ c.in-Some.line.items cut c.loop.session _ c.in_ok-users.field-0 c.loop.bad _ c.loop.invariant.0 (first g b) (adds g b) i.2 is,
     )
 
-pub returns-in-Some-users : goal.returns-in-Some-users
-returns-in-Some-users g c = λ all known.
-    let b = (goal.at.returns-in-Some-users g c).After-bad_after-bad in
+pub returns-in-Some-users-clause-named : goal.returns-in-Some-users-clause-named
+returns-in-Some-users-clause-named g c = λ all known.
+    let b = (goal.at.returns-in-Some-users-clause-named g c).After-bad_after-bad in
     let i = c.loop.invariant.1 all known in
     let cut = rw c.in-Some.is at (c.in_ok-line.ensures.line i.0 i.1) in
     names_users _ i.0 _ c.in-Some.line.items cut c.loop.session _ c.in_ok-users.field-0 c.loop.bad _ c.loop.invariant.0 (first g b) (adds g b) i.2
     _ c.in-Some-users.is refl refl
+
+pub returns-in_default-clause-why : goal.returns-in_default-clause-why
+returns-in_default-clause-why g c = λ user. if_known _ _ (λ all known.
+    let i = c.loop.invariant.1 all known in
+    let none = rw c.in_default.is at (c.in_ok-line.ensures.line i.0 i.1) in
+    names_nobody all i.0 _ _ user none i.2)
+
+pub returns-in_err-users-clause-why : goal.returns-in_err-users-clause-why
+returns-in_err-users-clause-why g c = err-is _ _ _ c.from_residual-in_err-users.ensures.1 (λ user.
+    by_first user _ _ c.in-Some.line.items c.loop.session (rw c.as_slice.ensures.value at c.in_err-users.ensures.refused) (λ all known h.
+    let i = c.loop.invariant.1 all known in
+    let cut = rw c.in-Some.is at (c.in_ok-line.ensures.line i.0 i.1) in
+    refuses_line all i.0 _ c.in-Some.line.items c.loop.session _ cut i.2 h))

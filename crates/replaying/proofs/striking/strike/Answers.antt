@@ -1,5 +1,6 @@
 use Rattle.replaying.proofs.InputLemmas.{after_ok}
 use Rattle.replaying.proofs.StruckLemmas.{all_flushed, not_flushed, early_told, early_after, end_ok, end_with, end_err, with_ok, with_err, with_told}
+use Rattle.replaying.proofs.UnnamedLemmas.{still_why}
 use Rattle.replaying.proofs.striking.strike.Goals as goal
 
 pub returns-clause-ok : goal.returns-clause-ok
@@ -37,3 +38,12 @@ pub returns-clause-shown : goal.returns-clause-shown
 returns-clause-shown g c =
     rw (← c.failures-writer_before.ensures)
     (with_ok c.ended_with.result c.flush_after-shown.result c.strike_lines-told.result _ c.ended_with.ensures c.flush_after-shown.ensures.shown)
+
+pub returns-clause-why : goal.returns-clause-why
+returns-clause-why g c =
+    let told = c.strike_lines-told.result in
+    let ended = c.end_of-ended.result in
+    let shown = c.flush_after-shown.result in
+    with_err c.ended_with.result shown told _ c.ended_with.ensures
+    (still_why _ _ _ _ _ _ shown ended c.flush_after-shown.ensures.err
+    (end_err told ended _ c.end_of-ended.ensures c.strike_lines-told.ensures.why))
