@@ -1,9 +1,11 @@
 -- Files of a run, one more at a time: as they are opened, and what is run for them.
 use Rattle.std.proofs.Common.{◌≡◌, sym, ap, ◌∙◌, subst, inl, inr, ℕ, zero, suc, ◌+◌, ◌<◌, arith, List, [], ◌∷◌, ◌++◌, length, get_or, take}
-use Rattle.std.specs.Prelude.{map, Option, None, Some, Contains, unwrap_or}
+use Rattle.std.specs.Prelude.{map, Option, None, Some, Result, Err, Contains, unwrap_or}
 use Rattle.std.specs.Global.{Vec}
 use Rattle.std.proofs.lemmas.List.{length-map, map-append, take_more}
 use Rattle.std.proofs.Math.ListN.{get_or-map}
+use Rattle.model.specs.declared.refusal.Refusal.{Refusal}
+use Rattle.model.specs.declared.refusal.Refusal.TheVariants.{Quota}
 use Rattle.command_line.specs.declared.settings.Run.{Run}
 use Rattle.running.specs.declared.sessions.Part.{Part}
 use Rattle.app.specs.declared.opening.Opened.{Opened}
@@ -72,8 +74,17 @@ module _ {I Q : Type 0} (remaining : I → Option (List ℕ)) where
   named_end parts (Some users) none empty all = subst (λ (ps : List (Part I Q)). AreNamed remaining ps users.items) (sym all.2) all.3
 
 -- a refusal that comes of a file at a place
-pub refused_at : {I Q : Type 0} (failed : I → ℕ) (files : List (Opened I Q)) (i : ℕ) (file : Opened I Q) (refused : Refused)
-    → i < length files → file ≡ get_or files i file → IsRefusedFor failed file refused → IsRefusedAmong failed files refused
-refused_at failed [] i file refused inside here one = absurd (omega (arith, inside))
-refused_at {I} {Q} failed (f ∷ fs) zero file refused inside here one = inl (subst (λ (g : Opened I Q). IsRefusedFor failed g refused) here one)
-refused_at failed (f ∷ fs) (suc i) file refused inside here one = inr (refused_at failed fs i file refused (omega (arith, inside)) here one)
+pub refused_at : {I Q : Type 0} (remaining : I → Option (List ℕ)) (failed : I → ℕ) (files : List (Opened I Q)) (i : ℕ) (file : Opened I Q) (refused : Refused)
+    → i < length files → file ≡ get_or files i file → IsRefusedFor remaining failed file refused
+    → IsRefusedAmong remaining failed files refused
+refused_at remaining failed [] i file refused inside here one = absurd (omega (arith, inside))
+refused_at {I} {Q} remaining failed (f ∷ fs) zero file refused inside here one =
+    inl (subst (λ (g : Opened I Q). IsRefusedFor remaining failed g refused) here one)
+refused_at remaining failed (f ∷ fs) (suc i) file refused inside here one =
+    inr (refused_at remaining failed fs i file refused (omega (arith, inside)) here one)
+
+-- ---- why nothing is run
+
+-- where it is told that so many are too many, no other error is
+pub too_many : {T : Type 0} (n : ℕ) (result : Result T Refusal) (why : Refusal) → result ≡ Err why → (64 < n → result ≡ Err Quota) → 64 < n → why ≡ Quota
+too_many n result why is full more = let same : Err why ≡ Err Quota = sym is ∙ full more in cc

@@ -5,7 +5,7 @@ use Rattle.model.specs.declared.mode.Mode.TheVariants.{Run}
 use Rattle.model.specs.declared.refusal.Refusal.TheVariants.{BadUsers, InputFault, Memory}
 use Rattle.session.specs.Ahead.{LooksAhead}
 use Rattle.session.specs.Serving.{HasFailed}
-use Rattle.running.specs.InputHeads.{BeginsWithUsers}
+use Rattle.running.specs.InputHeads.{BeginsOtherwise, BeginsWithUsers}
 use Rattle.running.specs.declared.sessions.Part.{Part}
 use Rattle.app.specs.declared.opening.Opened.{Opened}
 use Rattle.app.specs.declared.opening.Refused.{Refused}
@@ -34,7 +34,7 @@ module _ {I Q : Type 0} (remaining : I → Option (List ℕ)) where
   AreNamed [] users = users ≡ []
   AreNamed (part ∷ parts) users = HeadNames part users
 
-module _ {I Q : Type 0} (failed : I → ℕ) where
+module _ {I Q : Type 0} (remaining : I → Option (List ℕ)) (failed : I → ℕ) where
   -- the refusal comes of that file: memory was refused, it could not be read, or it was and its first line that gets a reply names no
   -- users; its reader is as the last one then
   pub record IsRefusedFor (file : Opened I Q) (refused : Refused) : Type 0 where
@@ -43,6 +43,7 @@ module _ {I Q : Type 0} (failed : I → ℕ) where
     pub why : (refused.why ≡ InputFault) ⊎ (refused.why ≡ BadUsers) ⊎ (refused.why ≡ Memory)
     pub fault : refused.why ≡ InputFault → HasFailed (failed file.reader) (failed last)
     pub users : refused.why ≡ BadUsers → ¬ HasFailed (failed file.reader) (failed last)
+    pub others : refused.why ≡ BadUsers → BeginsOtherwise (remaining file.reader)
 
   -- it comes of one of these files
   abbrev pub IsRefusedAmong : List (Opened I Q) → Refused → Type 0

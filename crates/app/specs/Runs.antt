@@ -28,8 +28,8 @@ module _ {I Q : Type 0} (charge : ℕ) (gives : Q → Running → Result (List �
     pub results_are : AreResults (record { users = users; charge = charge }) gives remaining parts results
 
 -- no line was run: a file is refused, or no session can begin
-abbrev pub HasNotRun : {I Q : Type 0} → (I → ℕ) → List (Opened I Q) → Refused → Type 0
-HasNotRun failed files refused = CannotBegin refused.why ⊎ IsRefusedAmong failed files refused
+abbrev pub HasNotRun : {I Q : Type 0} → (I → Option (List ℕ)) → (I → ℕ) → List (Opened I Q) → Refused → Type 0
+HasNotRun remaining failed files refused = CannotBegin refused.why ⊎ IsRefusedAmong remaining failed files refused
 
 -- ---- what is printed
 

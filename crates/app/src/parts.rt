@@ -33,7 +33,7 @@ fn part_of<'a, I: Read + Faults + Drop, Q: Drop>(
 ) -> Result<Headed<I, Q>, Refused<'a>>
     ensures part { IfOk result (λ headed. IsPartOf I.remaining file.entry headed.part) }
     ensures users { IfOk result (λ headed. HeadNames I.remaining headed.part headed.users.items) }
-    ensures refused { IfErr result (IsRefusedFor I.failed file.entry) }
+    ensures refused { IfErr result (IsRefusedFor I.remaining I.failed file.entry) }
 {
     let Opened {
         name,
@@ -69,7 +69,7 @@ pub(crate) fn parts_of<'a, I: Read + Faults + Drop, Q: Drop>(
 ) -> Result<Parts<I, Q>, Refused<'a>>
     ensures parts { IfOk result (λ found. AreParts I.remaining files.entry.items found.parts.items) }
     ensures users { IfOk result (λ found. AreNamed I.remaining found.parts.items found.users.items) }
-    ensures refused { IfErr result (IsRefused I.failed files.entry.items) }
+    ensures refused { IfErr result (IsRefused I.remaining I.failed files.entry.items) }
 {
     let mut named = None;
     let mut parts = Vec::new(alloc);

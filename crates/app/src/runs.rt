@@ -44,7 +44,7 @@ fn run_opened<
     files: Vec<Opened<'a, I, Q>>,
 ) -> Result<Results, Refused<'a>>
     ensures ran { IfOk result (RunsFiles options.now.charge Q.gives I.remaining files.entry.items) }
-    ensures refused { IfErr result (HasNotRun I.failed files.entry.items) }
+    ensures refused { IfErr result (HasNotRun I.remaining I.failed files.entry.items) }
 {
     let Parts { users, parts } = parts_of(alloc, files)?;
     match run_parts(host, alloc, hashing, users, options, parts) {
@@ -113,7 +113,7 @@ fn run_and_print<
         Appends (W.contents writer.old) (W.contents writer.new) (texts_of results.outputs.items)) }
     ensures shown { IsShown result (W.failed writer.old) (W.failed writer.new) }
     ensures refused { IfErr result (λ refused.
-        ((writer.new ≡ writer.old) × HasNotRun I.failed files.entry.items refused)
+        ((writer.new ≡ writer.old) × HasNotRun I.remaining I.failed files.entry.items refused)
         ⊎ (HasNotPrinted options.now.charge Q.gives I.remaining files.entry.items
         (W.contents writer.old) (W.contents writer.new)
         × MayBeFault OutputFault (W.failed writer.old) (W.failed writer.new) refused.why)) }

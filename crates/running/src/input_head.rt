@@ -5,7 +5,7 @@ ghost use Rattle.std.specs.Io.KnownBytes.{Consumes};
 ghost use Rattle.model.specs.declared.mode.Mode.TheVariants.{Run};
 ghost use Rattle.model.specs.declared.refusal.Refusal.TheVariants.{Memory, BadUsers, InputFault};
 ghost use Rattle.session.specs.Ahead.{LooksAhead};
-ghost use Rattle.running.specs.InputHeads.{BeginsWithUsers};
+ghost use Rattle.running.specs.InputHeads.{BeginsOtherwise, BeginsWithUsers};
 ghost use Rattle.session.specs.Serving.{HasFailed, MayBeFault};
 
 use lines::cut;
@@ -28,6 +28,7 @@ pub struct InputHead {
 /// Whether the first line that gets a reply names users. Lines behind it are left alone.
 fn begins_with_users(alloc: Global, bytes: &[u8]) -> Result<bool, Refusal>
     ensures first { result ≡ Ok true → BeginsWithUsers bytes.now }
+    ensures others { result ≡ Ok false → ¬ BeginsWithUsers bytes.now }
     ensures memory { IfErr result (λ why. why ≡ Memory) }
 {
     let mut session = Session::new(alloc, Mode::Run);
@@ -76,6 +77,8 @@ pub fn look_ahead<R: Read + Faults>(alloc: Global, reader: &mut R) -> Result<Inp
     ensures first { IfOk result (λ head. BeginsWithUsers head.bytes.items) }
     // A file that could not be read is not told as one that names no users.
     ensures bad_users { IfErr result (λ why. why ≡ BadUsers → ¬ HasFailed (R.failed reader.old) (R.failed reader.new)) }
+    // Neither is one that begins with them, whatever was read of it.
+    ensures others { IfErr result (λ why. why ≡ BadUsers → BeginsOtherwise (R.remaining reader.old)) }
     ensures why { IfErr result (λ why. (why ≡ InputFault) ⊎ (why ≡ BadUsers) ⊎ (why ≡ Memory)) }
     ensures fault { IfErr result (MayBeFault InputFault (R.failed reader.old) (R.failed reader.new)) }
 {

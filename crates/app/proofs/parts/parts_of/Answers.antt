@@ -15,7 +15,7 @@ returns-in_err-part-clause-refused g c =
     c.next.result c.next.new.self c.in-Some.file c.in-Some.is c.next.ensures.steps in
     let told = err_from_is_err_and c.from_residual.result c.from_residual.ensures.1 in
     rw (told.1, told.2)
-    (inr (refused_at g.I.Faults.failed c.args.files.items (length c.loop-file.yielded) c.in-Some.file
+    (inr (refused_at g.I.Read.remaining g.I.Faults.failed c.args.files.items (length c.loop-file.yielded) c.in-Some.file
     c.in_err-part.field-0.0 turn.0 turn.1 c.in_err-part.ensures.refused))
 
 pub loop-file-preserved : goal.loop-file-preserved

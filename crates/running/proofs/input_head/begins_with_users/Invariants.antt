@@ -9,6 +9,7 @@ use Rattle.running.proofs.input_head.begins_with_users.Given as goal
 abbrev pub invariant-loop-line : goal.invariant-loop-line
 invariant-loop-line l =
     (l.session.begun ≡ false) × (FirstNames l.session (split 10 l.rest) → FirstNames (fresh Run) (split 10 l.fn.bytes))
+    × (FirstNames (fresh Run) (split 10 l.fn.bytes) → FirstNames l.session (split 10 l.rest))
 
 abbrev pub decreases-loop-line : goal.decreases-loop-line
 decreases-loop-line l = length l.rest
