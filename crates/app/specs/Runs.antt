@@ -1,15 +1,18 @@
 -- What comes of files whose lines are run, and what is printed of it.
-use Rattle.std.specs.Prelude.{◌≡◌, ◌⊎◌, ◌+◌, true, ℕ, List, [], ◌∷◌, flat_map, take, Option, None, Some, Result, Ok, Err, slice_index_or}
+use Rattle.std.specs.Prelude.{◌≡◌, ◌⊎◌, ◌<◌, ◌≤◌, ◌+◌, true, false, ℕ, List, [], ◌∷◌, flat_map, take, Option, None, Some, Result, Ok, Err, slice_index_or}
 use Rattle.std.specs.Io.KnownBytes.{Appends}
 use Rattle.model.specs.declared.refusal.Refusal.{Refusal}
+use Rattle.model.specs.declared.refusal.Refusal.TheVariants.{BadUsers, Quota, Memory}
 use Rattle.model.specs.Goals.{Running}
 use Rattle.model.specs.Worlds.{are_users}
 use Rattle.workers.specs.declared.runner.RunFault.{RunFault}
 use Rattle.running.specs.declared.sessions.Output.{Output}
 use Rattle.running.specs.declared.sessions.Part.{Part}
 use Rattle.running.specs.declared.runs.Results.{Results}
+use Rattle.running.specs.Desks.{passes_needed}
 use Rattle.running.specs.Runs.{AreResults}
 use Rattle.running.specs.Sessions.{CannotBegin}
+use Rattle.session.specs.Serving.{IsUnwritten}
 use Rattle.app.specs.declared.opening.Opened.{Opened}
 use Rattle.app.specs.declared.opening.Refused.{Refused}
 use Rattle.app.specs.Parts.{AreParts, AreNamed, IsRefusedAmong}
@@ -18,18 +21,31 @@ use Rattle.app.specs.Parts.{AreParts, AreNamed, IsRefusedAmong}
 
 module _ {I Q : Type 0} (charge : ℕ) (gives : Q → Running → Result (List ℕ) RunFault → Q → Type 0) (remaining : I → Option (List ℕ)) where
   -- these are the results of the sessions of one store, under that charge, whose users the first file names: each file has the session
-  -- in its place, with its own bytes and its own runners
+  -- in its place, with its own bytes and its own runners; they need 64 passes at most
   pub record RunsFiles (files : List (Opened I Q)) (results : Results) : Type 0 where
     pub users : List (List ℕ)
     pub parts : List (Part I Q)
     pub parts_are : AreParts remaining files parts
     pub named : AreNamed remaining parts users
     pub users_are : are_users users ≡ true
+    pub few : passes_needed parts ≤ 64
     pub results_are : AreResults (record { users = users; charge = charge }) gives remaining parts results
 
--- no line was run: a file is refused, or no session can begin
-abbrev pub HasNotRun : {I Q : Type 0} → (I → Option (List ℕ)) → (I → ℕ) → List (Opened I Q) → Refused → Type 0
-HasNotRun remaining failed files refused = CannotBegin refused.why ⊎ IsRefusedAmong remaining failed files refused
+module _ {I Q : Type 0} (remaining : I → Option (List ℕ)) (failed : I → ℕ) where
+  -- no session can begin with what is to be run for these files: memory was refused, their users are no list, or they need more than 64 passes
+  pub record CannotRun (files : List (Opened I Q)) (why : Refusal) : Type 0 where
+    pub users : List (List ℕ)
+    pub parts : List (Part I Q)
+    pub parts_are : AreParts remaining files parts
+    pub named : AreNamed remaining parts users
+    pub begin : CannotBegin why
+    pub bad_users : why ≡ BadUsers → are_users users ≡ false
+    pub quota : why ≡ Quota → 64 < passes_needed parts
+    pub full : 64 < passes_needed parts → why ≡ Quota
+
+  -- no line was run: memory was refused, a file is, or no session can begin
+  abbrev pub HasNotRun : List (Opened I Q) → Refused → Type 0
+  HasNotRun files refused = (refused.why ≡ Memory) ⊎ CannotRun files refused.why ⊎ IsRefusedAmong remaining failed files refused
 
 -- ---- what is printed
 
@@ -41,12 +57,13 @@ texts_of outputs = flat_map (λ output. output.text.items) outputs
 abbrev pub AppendsFront : Option (List ℕ) → Option (List ℕ) → List ℕ → Type 0
 AppendsFront blank written text = (count : ℕ) × Appends blank written (take count text)
 
--- the files were run, and a beginning of what they gave is written
+-- the files were run, and a beginning of what they gave is written, since writing failed, or memory
 pub record HasNotPrinted {I Q : Type 0} (charge : ℕ) (gives : Q → Running → Result (List ℕ) RunFault → Q → Type 0)
-    (remaining : I → Option (List ℕ)) (files : List (Opened I Q)) (blank written : Option (List ℕ)) : Type 0 where
+    (remaining : I → Option (List ℕ)) (files : List (Opened I Q)) (blank written : Option (List ℕ)) (why : Refusal) : Type 0 where
   pub results : Results
   pub ran : RunsFiles charge gives remaining files results
   pub front : AppendsFront blank written (texts_of results.outputs.items)
+  pub fault : IsUnwritten why
 
 -- ---- how they ended
 

@@ -3,7 +3,7 @@
 ghost use Rattle.std.specs.Prelude.{◌≡◌, ◌⊎◌, [], Err, OnOk, IfOk, IfErr, map, slice_index_or, string_bytes};
 ghost use Rattle.std.specs.Io.KnownBytes.{Appends};
 ghost use Rattle.model.specs.declared.refusal.Refusal.TheVariants.{OutputFault};
-ghost use Rattle.session.specs.Serving.{IsShown, MayBeFault};
+ghost use Rattle.session.specs.Serving.{IsShown, IsUnwritten, MayBeFault};
 ghost use Rattle.app.specs.Runs.{AppendsFront, HasNotRun, HasNotPrinted, IsFirstFault, RunsFiles, first_end, texts_of};
 ghost use Rattle.app.specs.Ends.{status_of_end};
 
@@ -61,6 +61,7 @@ fn write_texts<W: Write + Faults>(
 ) -> Result<(), Refusal>
     ensures ok { OnOk result (Appends (W.contents writer.old) (W.contents writer.new) (texts_of outputs.now)) }
     ensures err { IfErr result (λ _. AppendsFront (W.contents writer.old) (W.contents writer.new) (texts_of outputs.now)) }
+    ensures errors { IfErr result IsUnwritten }
 {
     for output in outputs {
         write_whole(writer, before, output.text.as_slice())?;
@@ -79,6 +80,7 @@ fn write_texts<W: Write + Faults>(
 fn print_all<W: Write + Faults>(writer: &mut W, outputs: &[Output]) -> Result<(), Refusal>
     ensures ok { OnOk result (Appends (W.contents writer.old) (W.contents writer.new) (texts_of outputs.now)) }
     ensures err { IfErr result (λ _. AppendsFront (W.contents writer.old) (W.contents writer.new) (texts_of outputs.now)) }
+    ensures errors { IfErr result IsUnwritten }
     ensures fault { IfErr result (MayBeFault OutputFault (W.failed writer.old) (W.failed writer.new)) }
     ensures shown { IsShown result (W.failed writer.old) (W.failed writer.new) }
 {
@@ -115,7 +117,7 @@ fn run_and_print<
     ensures refused { IfErr result (λ refused.
         ((writer.new ≡ writer.old) × HasNotRun I.remaining I.failed files.entry.items refused)
         ⊎ (HasNotPrinted options.now.charge Q.gives I.remaining files.entry.items
-        (W.contents writer.old) (W.contents writer.new)
+        (W.contents writer.old) (W.contents writer.new) refused.why
         × MayBeFault OutputFault (W.failed writer.old) (W.failed writer.new) refused.why)) }
 {
     let results = match run_opened(host, alloc, hashing, options, files) {
