@@ -8,7 +8,7 @@ use Rattle.replaying.specs.Recording.{RunSoFar}
 use Rattle.replaying.proofs.RecordingLemmas.{run_begins, first_of}
 use Rattle.model.specs.Worlds.{are_users}
 use Rattle.session.proofs.RowLemmas.{err-is}
-use Rattle.replaying.proofs.UnnamedLemmas.{by_reading, by_others, by_store, names_others, named_well}
+use Rattle.replaying.proofs.UnnamedLemmas.{by_others, by_store, names_others, named_well}
 use Rattle.replaying.proofs.first_run.first_run.Goals as goal
 
 pub returns-clause-run : goal.returns-clause-run
@@ -42,6 +42,3 @@ returns-in_err-core-clause-why g c =
     err-is _ _ _ c.from_residual-in_err-core.ensures.1
     (by_store _ _ _ c.in_ok-copied.copied.items c.in_err-core.ensures.refused (λ all known.
     subst (λ (us : List (List ℕ)). are_users us ≡ true) (sym same) (named_well _ _ c.in_ok-named.named (c.in_ok-named.ensures.named all known))))
-
-pub returns-in_err-events-clause-why : goal.returns-in_err-events-clause-why
-returns-in_err-events-clause-why g c = err-is _ _ _ c.from_residual-in_err-events.ensures.1 (by_reading _ _ _ c.in_err-events.ensures.errors)

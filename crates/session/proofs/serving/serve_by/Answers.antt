@@ -1,4 +1,4 @@
-use Rattle.std.proofs.Common.{inl, inr, refl, sym, ap, subst, [], ◌++◌, Some}
+use Rattle.std.proofs.Common.{inr, refl, sym, ap, subst, [], ◌++◌, Some}
 use Rattle.std.proofs.lemmas.List.{append-nil}
 use Rattle.model.specs.declared.refusal.Refusal.TheVariants.{Memory}
 use Rattle.session.specs.Serving.{Link, EndedEarly}
