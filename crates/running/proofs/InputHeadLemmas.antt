@@ -121,8 +121,8 @@ not_these : (seen next : Seen) (line : List ℕ) (lines : List (List ℕ)) (n : 
     → next ≡ seen_after seen row → text ≡ row_text n row → next.begun ≡ false → (text ≡ [] → ⊥) → FirstNames seen (line ∷ lines) → ⊥
 not_these seen next line lines n row text gets same printed begun some first = elim (first_row seen line lines row gets first) [
   | inl names ↦
-        let now : next ≡ seen_after seen (Names names.0) = same ∙ ap (seen_after seen) names.1 in
-        true≢false (sym (ap (λ (s : Seen). s.begun) now) ∙ begun)
+      let now : next ≡ seen_after seen (Names names.0) = same ∙ ap (seen_after seen) names.1 in
+      true≢false (sym (ap (λ (s : Seen). s.begun) now) ∙ begun)
   | inr s ↦ some (printed ∙ ap (row_text n) s.0)
 ]
 
@@ -139,8 +139,8 @@ pub last_others : (seen next : Seen) (rest : List ℕ) (row : Row) → cut_at 10
 last_others seen next rest row cut gets same begun first =
     elim (first_row seen rest [] row gets (subst (FirstNames seen) (split-one 10 rest cut) first)) [
       | inl names ↦
-            let now : next ≡ seen_after seen (Names names.0) = same ∙ ap (seen_after seen) names.1 in
-            true≢false (sym (ap (λ (s : Seen). s.begun) now) ∙ begun)
+          let now : next ≡ seen_after seen (Names names.0) = same ∙ ap (seen_after seen) names.1 in
+          true≢false (sym (ap (λ (s : Seen). s.begun) now) ∙ begun)
       | inr s ↦ s.1
     ]
 
@@ -186,10 +186,10 @@ all_silent seen (line ∷ done) rest [] t none first = absurd t
 all_silent seen (line ∷ done) rest (row ∷ rows) t none first = elim (first_row seen line (done ++ rest) row t.1 first) [
   | inl names ↦ let bad : None ≡ Some names.0 = sym none ∙ ap (λ r. users_in (r ∷ rows)) names.1 in cc
   | inr s ↦
-        let after : seen_after seen Silent ≡ seen_after seen row = ap (seen_after seen) (sym s.0) in
-        let nobody : users_in rows ≡ None = ap (λ r. users_in (r ∷ rows)) (sym s.0) ∙ none in
-        let more = all_silent (seen_after seen row) done rest rows t.2 nobody (subst (λ x. FirstNames x (done ++ rest)) after s.1) in
-        (more.0 ∙ ap (λ (x : Seen). x.refused) (sym after), more.1)
+      let after : seen_after seen Silent ≡ seen_after seen row = ap (seen_after seen) (sym s.0) in
+      let nobody : users_in rows ≡ None = ap (λ r. users_in (r ∷ rows)) (sym s.0) ∙ none in
+      let more = all_silent (seen_after seen row) done rest rows t.2 nobody (subst (λ x. FirstNames x (done ++ rest)) after s.1) in
+      (more.0 ∙ ap (λ (x : Seen). x.refused) (sym after), more.1)
 ]
 
 -- an input that names no users does not begin with them
@@ -264,13 +264,13 @@ first_part seen (part ∷ front) last others (line ∷ done) rest (row ∷ rows)
     elim first [
       | inl names ↦ inl names
       | inr silent ↦
-            let s : row ≡ Silent =
-            silent_only seen.goals (form_of seen part) row silent.0 (subst (λ x. GetsNext seen x row) here t.1) in
-            inr (
-              silent.0,
-              first_part (seen_after seen Silent) front last others done rest rows users tail
-                  (subst (λ x. Talks (seen_after seen x) done rows) s t.2) (ap (λ r. users_in (r ∷ rows)) (sym s) ∙ named) silent.1,
-            )
+          let s : row ≡ Silent =
+          silent_only seen.goals (form_of seen part) row silent.0 (subst (λ x. GetsNext seen x row) here t.1) in
+          inr (
+            silent.0,
+            first_part (seen_after seen Silent) front last others done rest rows users tail
+                (subst (λ x. Talks (seen_after seen x) done rows) s t.2) (ap (λ r. users_in (r ∷ rows)) (sym s) ∙ named) silent.1,
+          )
     ]
 
 -- bytes that name users begin with them where they do so with more behind them
