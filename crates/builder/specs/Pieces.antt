@@ -30,11 +30,11 @@ module _ {O File Output Process : Type 0} (steps : Steps O File Output Process) 
       (before : List (List ℕ)) × (between : O) × (left : Output) × (error : Error)
       × Reads o output before left between × steps.read between left (Err error) output' o'
 
-  -- so many pieces are read of an output that nobody would wait for it
+  -- so many pieces are read of an output that no turn is left for its end
   abbrev pub ReadsWithoutEnd : O → Output → Output → O → Type 0
   ReadsWithoutEnd o output output' o' = (pieces : List (List ℕ)) × Reads o output pieces output' o' × (length pieces ≡ 2 ^ 64 - 1)
 
-  -- why an output was not read: a call outside failed, or did so without end, or memory was refused
+  -- why an output was not read: a call outside failed, its end did not come, or memory was refused
   abbrev pub IsUnread : O → Output → Fault → Output → O → Type 0
   IsUnread o output OutputNotRead output' o' = FailsToRead o output output' o' ⊎ ReadsWithoutEnd o output output' o'
   IsUnread o output MemoryLater output' o' = (pieces : List (List ℕ)) × Reads o output pieces output' o'

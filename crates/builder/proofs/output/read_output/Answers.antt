@@ -24,9 +24,10 @@ pub loop-preserved : goal.loop-preserved
 loop-preserved g c =
     let so_far = c.loop.invariant in
     let piece = take c.in-Ok.count c.read.new.buffer in
+    let next : c.keep.new.kept.items ≡ c.loop.kept.items ++ take (67108865 - length c.loop.kept.items) piece = c.in-Ok-keep.ensures in
     let one_more : length (piece ∷ so_far.0) ≡ c.loop.counter + 1 = (let pieces : length so_far.0 ≡ c.loop.counter = so_far.3 in omega arith) in (
       piece ∷ so_far.0,
       (c.loop.outside, c.loop.output, so_far.1, c.in-Ok.ensures.read),
-      c.in-Ok-keep.ensures ∙ ap (λ kept. kept ++ take (67108865 - length kept) piece) so_far.2 ∙ kept_behind 67108865 (joined so_far.0) piece,
+      next ∙ ap (λ kept. kept ++ take (67108865 - length kept) piece) so_far.2 ∙ kept_behind 67108865 (joined so_far.0) piece,
       one_more,
     )
