@@ -31,8 +31,6 @@ pub enum Fault {
     EndNotLearnt,
     /// Memory was refused before anything was done outside.
     Memory,
-    /// Memory was refused later.
-    MemoryLater,
 }
 
 impl Fault {
@@ -48,8 +46,7 @@ impl Fault {
             | Fault::InputsNotWritten
             | Fault::LogNotMade
             | Fault::OutputNotRead
-            | Fault::EndNotLearnt
-            | Fault::MemoryLater => RunFault::Device,
+            | Fault::EndNotLearnt => RunFault::Device,
         }
     }
 }
@@ -69,7 +66,6 @@ impl Display for Fault {
             Fault::OutputNotRead => f.write_str("output not read"),
             Fault::EndNotLearnt => f.write_str("end not learnt"),
             Fault::Memory => f.write_str("out of memory"),
-            Fault::MemoryLater => f.write_str("no memory to go on"),
         }
     }
 }

@@ -1,15 +1,12 @@
 //! What a runner reaches outside the program: files, and processes.
 
-ghost use Rattle.std.specs.Prelude.{◌<◌, length};
-ghost use Rattle.std.specs.Io.{ReadsAtMost};
-ghost use Rattle.builder.specs.Pieces.{piece_of};
 ghost use Rattle.builder.specs.Steps.{Steps};
 
 use crate::command::Streams;
 use crate::log::{Log, Tail};
 use std::fs::OpenOptions;
 use std::io;
-use std::io::Write;
+use std::io::{Read, Write};
 use std::process::{Command, ExitStatus};
 
 /// Files and processes, as a runner uses them. Each call is a step, of which contracts see a relation: what
@@ -18,8 +15,8 @@ use std::process::{Command, ExitStatus};
 pub trait Outside {
     /// A file that is written.
     type File: Write + Drop;
-    /// What a process writes to its standard output.
-    type Output: Drop;
+    /// What a process writes: what is read of it is its standard output.
+    type Output: Read + Drop;
     /// A process that was started.
     type Process: Drop;
 
@@ -33,10 +30,6 @@ pub trait Outside {
     /// Opens a file as the options ask.
     fn open(&mut self, how: &OpenOptions, path: &str) -> io::Result<Self::File>
         ensures { steps.opened self.old how.now path.now result self.new };
-
-    /// Writes all of these bytes to a file, behind what was written before.
-    fn write(&mut self, file: &mut Self::File, bytes: &[u8]) -> io::Result<()>
-        ensures { steps.wrote self.old file.old bytes.now result file.new self.new };
 
     /// Closes a file.
     fn close(&mut self, file: Self::File)
@@ -52,12 +45,6 @@ pub trait Outside {
         log: Option<Log<Self::File>>,
     ) -> io::Result<(Self::Process, Self::Output)>
         ensures { steps.started self.old command.now streams.now log result self.new };
-
-    /// Reads what comes next of an output to the front of a buffer, and gives how much that is: 0 at its end.
-    fn read(&mut self, output: &mut Self::Output, buffer: &mut [u8]) -> io::Result<usize>
-        requires { 0 < length buffer.old }
-        ensures bound { ReadsAtMost result buffer.new }
-        ensures read { steps.read self.old output.old (piece_of result buffer.new) output.new self.new };
 
     /// Kills a process, if it can be.
     fn kill(&mut self, process: &mut Self::Process)

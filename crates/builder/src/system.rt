@@ -7,7 +7,7 @@ use crate::log::{Log, Tail};
 use crate::outside::Outside;
 use crate::written::Written;
 use std::fs::{Files, OpenOptions};
-use std::io::{Error, ErrorKind, Read, Write};
+use std::io::{Error, ErrorKind};
 use std::process::{Child, ChildStdout, Command, ExitStatus, Processes, SystemProcess};
 use std::{fs, io};
 
@@ -87,10 +87,6 @@ impl<'a, R: Files + Processes<Started = SystemProcess>> Outside for System<'a, R
         how.open(self.rt, path)
     }
 
-    fn write(&mut self, file: &mut Self::File, bytes: &[u8]) -> io::Result<()> {
-        file.write_all(bytes)
-    }
-
     fn close(&mut self, file: Self::File) {
         drop(file);
     }
@@ -106,16 +102,6 @@ impl<'a, R: Files + Processes<Started = SystemProcess>> Outside for System<'a, R
         let (mut process, output) = self.start_again(command, streams)?;
         let stderr = process.stderr.take();
         Ok((process, Written::new(output, stderr, log)))
-    }
-
-    fn read(&mut self, output: &mut Self::Output, buffer: &mut [u8]) -> io::Result<usize> {
-        for _ in 1..u64::MAX {
-            match output.read(buffer) {
-                Err(error) if error.kind() == ErrorKind::Interrupted => {}
-                read => return read,
-            }
-        }
-        output.read(buffer)
     }
 
     fn kill(&mut self, process: &mut Self::Process) {
