@@ -8,3 +8,4 @@ pub mod HoldingLemmas
 pub mod KeepingLemmas
 pub mod ForgettingLemmas
 mod NumberLemmas
+mod QueueLemmas

@@ -110,7 +110,7 @@ module _ (ns : List ℕ) (rs : List Recorded) (same : length rs ≡ length ns) (
       let long : length ns - 1 ≡ length (zip ns rs) - 1 = omega (arith, both, same) in
       last_out (length ns - 1) ns rs last (omega (arith, within)) same up here ∙ ap (λ m. take m (zip ns rs)) long
 
-  pub next_above : (last : ℕ) (o : Option ℕ) → Some last ≡ slice_get ns (length ns - 1) → SomeIff o (last + 1 < 2 ^ 64) (last + 1)
+  pub next_above : (last : ℕ) (o : Option ℕ) → Some last ≡ slice_get ns (length ns - 1) → SomeIff o (last + 1 < 2 ^ 32) (last + 1)
       → IfSome o (λ number. IsAbove number (zip ns rs))
   next_above last None is so = tt
   next_above last (Some number) is so =

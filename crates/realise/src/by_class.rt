@@ -53,14 +53,15 @@ impl Model for Records {
 }
 
 /// Takes the record of a number out, if there is one. It takes no memory.
-fn take_out(list: &mut Numbered, indexes: &mut Indexes, number: u64)
+fn take_out(list: &mut Numbered, indexes: &mut Indexes, number: u32)
     requires tabled { AreTabled indexes.old list.old }
     ensures tabled { AreTabled indexes.new list.new }
     ensures others { list.new ≡ remove_entry (is_number number) list.old }
     ensures ascending { AscendByNumber list.old }
 {
-    if let Some(record) = list.remove(number) {
-        indexes.take(number, &record);
+    if let Some(record) = list.get(number) {
+        indexes.take(number, record);
+        list.remove(number);
     }
 }
 
@@ -134,8 +135,9 @@ impl Records {
         self.indexes.named(class, path) > 0
     }
 
-    /// Adds a record as the last. The one error is memory, and changes nothing.
-    pub(crate) fn push(&mut self, alloc: Global, added: Record) -> Result<(), Refusal>
+    /// Adds a record as the last, under a number above all, where there is one. The one error is memory, and
+    /// changes nothing.
+    fn push_above(&mut self, alloc: Global, added: Record) -> Result<(), Refusal>
         ensures { MatchResult result
             (λ _. self.new ≡ self.old ++ added ∷ [])
             (λ e. (e ≡ Memory) × (self.new ≡ self.old)) }
@@ -150,6 +152,30 @@ impl Records {
             return Err(why);
         }
         Ok(())
+    }
+
+    /// The same records, with numbers from 0 on. The one error is memory.
+    fn renumbered(&self, alloc: Global) -> Result<Records, Refusal>
+        ensures { MatchResult result (λ anew. anew ≡ self.now) (λ e. e ≡ Memory) }
+    {
+        let mut anew = Records::new(alloc, self.indexes.hashing());
+        for record in self.as_slice() {
+            anew.push_above(alloc, record.clone()?)?;
+        }
+        Ok(anew)
+    }
+
+    /// Adds a record as the last. Where there is no number above all, they get others first. The one error is
+    /// memory, and changes nothing.
+    pub(crate) fn push(&mut self, alloc: Global, added: Record) -> Result<(), Refusal>
+        ensures { MatchResult result
+            (λ _. self.new ≡ self.old ++ added ∷ [])
+            (λ e. (e ≡ Memory) × (self.new ≡ self.old)) }
+    {
+        if self.list.next().is_none() {
+            *self = self.renumbered(alloc)?;
+        }
+        self.push_above(alloc, added)
     }
 
     /// Takes the newest record away, if there is one.

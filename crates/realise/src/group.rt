@@ -19,7 +19,7 @@ use storepath::StorePath;
 #[derive(Drop)]
 enum Kept {
     Empty,
-    One(u64, Record),
+    One(u32, Record),
     Several(Box<Numbered>),
 }
 
@@ -64,7 +64,7 @@ impl Group {
     }
 
     /// The number of the first record of a class at a path, if there is one. All are looked at.
-    pub(crate) fn number_of(&self, class: &StorePath, path: &StorePath) -> Option<u64>
+    pub(crate) fn number_of(&self, class: &StorePath, path: &StorePath) -> Option<u32>
         ensures { result ≡ number_of (is_recorded_at class.now path.now) self.now }
     {
         match &self.kept {
@@ -75,7 +75,7 @@ impl Group {
     }
 
     /// Adds a record with a number above all. The one error is memory, and changes nothing.
-    pub(crate) fn push(&mut self, alloc: Global, number: u64, added: Record) -> Result<(), Refusal>
+    pub(crate) fn push(&mut self, alloc: Global, number: u32, added: Record) -> Result<(), Refusal>
         requires { IsAbove number self.old }
         ensures { MatchResult result
             (λ _. self.new ≡ self.old ++ (number, added) ∷ [])
@@ -96,14 +96,12 @@ impl Group {
     }
 
     /// Takes the record of a number out, if there is one. It takes no memory.
-    pub(crate) fn remove(&mut self, number: u64)
+    pub(crate) fn remove(&mut self, number: u32)
         ensures { self.new ≡ remove_entry (is_number number) self.old }
     {
         match &mut self.kept {
             Kept::One(own, _) if *own == number => self.kept = Kept::Empty,
-            Kept::Several(numbered) => {
-                let _record = numbered.remove(number);
-            }
+            Kept::Several(numbered) => numbered.remove(number),
             _ => {}
         }
     }

@@ -34,7 +34,7 @@ pub(crate) fn number_in(
     key: &StorePath,
     class: &StorePath,
     path: &StorePath,
-) -> Option<u64>
+) -> Option<u32>
     ensures { result
         ≡ number_of (is_recorded_at class.now path.now) (group_at key.now groups.now.entries) }
 {
@@ -42,7 +42,7 @@ pub(crate) fn number_in(
 }
 
 /// A group of one record. The one error is memory.
-fn group_of(alloc: Global, number: u64, one: Record) -> Result<Group, Refusal>
+fn group_of(alloc: Global, number: u32, one: Record) -> Result<Group, Refusal>
     ensures { MatchResult result
         (λ group. group ≡ (number, one) ∷ [])
         (λ e. e ≡ Memory) }
@@ -58,7 +58,7 @@ pub(crate) fn put_in_group(
     alloc: Global,
     groups: &mut IndexMap<StorePath, Group, RandomState>,
     key: StorePath,
-    number: u64,
+    number: u32,
     one: Record,
 ) -> Result<(), Refusal>
     requires above { IsAbove number (group_at key groups.old.entries) }
@@ -79,7 +79,7 @@ pub(crate) fn put_in_group(
 fn take_last_from(
     groups: &mut IndexMap<StorePath, Group, RandomState>,
     key: &StorePath,
-    number: u64,
+    number: u32,
 ) -> bool
     ensures taken { IsUngrouped key.now number groups.old.entries groups.new.entries }
     ensures last { result ≡ true → group_at key.now groups.new.entries ≡ [] }
@@ -95,7 +95,7 @@ fn take_last_from(
 pub(crate) fn take_from_group(
     groups: &mut IndexMap<StorePath, Group, RandomState>,
     key: &StorePath,
-    number: u64,
+    number: u32,
 )
     ensures { IsUngrouped key.now number groups.old.entries groups.new.entries }
 {

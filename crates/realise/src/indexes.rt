@@ -56,7 +56,7 @@ fn put_in_groups(
     alloc: Global,
     by_class: &mut IndexMap<StorePath, Group, RandomState>,
     by_path: &mut IndexMap<StorePath, Group, RandomState>,
-    number: u64,
+    number: u32,
     one: &Record,
 ) -> Result<(), Refusal>
     requires of_class { IsAbove number (group_at one.now.class.path by_class.old.entries) }
@@ -91,6 +91,11 @@ impl Indexes {
         }
     }
 
+    /// The keys of the hashers.
+    pub(crate) fn hashing(&self) -> RandomState {
+        *self.named.hasher()
+    }
+
     /// Those of a class, by ascending numbers.
     pub(crate) fn of_class(&self, class: &StorePath) -> &[Record]
         ensures { result.now ≡ without_numbers (group_at class.now self.now.by_class) }
@@ -107,7 +112,7 @@ impl Indexes {
 
     /// The number of the first record of a class at a path, if there is one. Those of the class are looked
     /// at, or those at the path, whichever are fewer.
-    pub(crate) fn number_of(&self, class: &StorePath, path: &StorePath) -> Option<u64>
+    pub(crate) fn number_of(&self, class: &StorePath, path: &StorePath) -> Option<u32>
         ensures { (numbered : List (ℕ × Recorded)) → AreTabled self.now numbered
             → result ≡ number_of (is_recorded_at class.now path.now) numbered }
     {
@@ -127,7 +132,7 @@ impl Indexes {
 
     /// Lists a record under a number above those of its class and at its path. The one error is memory, and
     /// changes nothing.
-    pub(crate) fn put(&mut self, alloc: Global, number: u64, one: &Record) -> Result<(), Refusal>
+    pub(crate) fn put(&mut self, alloc: Global, number: u32, one: &Record) -> Result<(), Refusal>
         requires by_class { IsAbove number (group_at one.now.class.path self.old.by_class) }
         requires by_path { IsAbove number (group_at one.now.path self.old.by_path) }
         ensures { MatchResult result
@@ -143,7 +148,7 @@ impl Indexes {
     }
 
     /// Lists the record of a number no longer. It takes no memory.
-    pub(crate) fn take(&mut self, number: u64, one: &Record)
+    pub(crate) fn take(&mut self, number: u32, one: &Record)
         ensures { HasUnlisted number one.now self.old self.new }
     {
         take_from_group(&mut self.by_class, one.class().path(), number);

@@ -15,6 +15,7 @@ mod names;
 mod numbered;
 mod parts;
 mod pins;
+mod queue;
 
 pub use additions::{Addition, add_to_each};
 pub use desk::Desk;

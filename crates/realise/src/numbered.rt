@@ -1,6 +1,6 @@
 //! Records with numbers.
 
-ghost use Rattle.std.specs.Prelude.{◌≡◌, ◌<◌, ◌-◌, [], ◌∷◌, ◌++◌, length, take, vec_len, vec_capacity, MatchResult, IfSome, IfNone};
+ghost use Rattle.std.specs.Prelude.{◌≡◌, ◌<◌, ◌-◌, [], ◌∷◌, ◌++◌, length, take, option_copied, MatchResult, IfSome, IfNone};
 ghost use Rattle.std.specs.List.{zip, AllPairs};
 ghost use Rattle.std.specs.Map.{lookup, remove_entry};
 ghost use Rattle.model.specs.declared.refusal.Refusal.TheVariants.{Memory};
@@ -8,6 +8,7 @@ ghost use Rattle.realise.specs.Numbers.{AscendByNumber, IsAbove, is_number, numb
 ghost use Rattle.realise.specs.Holdings.{is_recorded_at};
 
 use crate::forgetting::is_recorded_at;
+use crate::queue::Queue;
 use model::Refusal;
 use records::Record;
 use std::alloc::Global;
@@ -16,11 +17,11 @@ use storepath::StorePath;
 
 /// Records with numbers, which ascend.
 ///
-/// A record is found by its number in a few steps, however many there are, and taken out by moving
-/// the numbers and the pointers behind it.
+/// A record is found by its number in a few steps, however many there are. The oldest is taken out at once,
+/// and another by moving the numbers and the pointers behind it.
 pub struct Numbered {
-    numbers: Vec<u64>,
-    records: Vec<Record>,
+    numbers: Queue<u32>,
+    records: Queue<Record>,
 }
 
 impl Drop for Numbered {
@@ -40,17 +41,9 @@ impl Model for Numbered {
 
     ghost Value = { List (ℕ × Recorded) };
 
-    ghost view = { λ n. zip n.numbers.items n.records.items };
+    ghost view = { λ n. zip n.numbers n.records };
 
-    ghost invariant = { λ n. ArePaired n.numbers.items n.records.items };
-}
-
-/// Puts a number for which there is room.
-fn push_reserved(numbers: &mut Vec<u64>, number: u64)
-    requires room { vec_len numbers.old < vec_capacity numbers.old }
-    ensures { numbers.new.items ≡ numbers.old.items ++ number ∷ [] }
-{
-    numbers.push(number).unwrap();
+    ghost invariant = { λ n. ArePaired n.numbers n.records };
 }
 
 impl Numbered {
@@ -59,15 +52,15 @@ impl Numbered {
         ensures { result ≡ [] }
     {
         Numbered {
-            numbers: Vec::new(alloc),
-            records: Vec::new(alloc),
+            numbers: Queue::new(alloc),
+            records: Queue::new(alloc),
         }
     }
 
     /// Two records, the second with the higher number. The one error is memory.
     pub(crate) fn of_two(
         alloc: Global,
-        numbers: [u64; 2],
+        numbers: [u32; 2],
         records: [Record; 2],
     ) -> Result<Numbered, Refusal>
         requires { AllPairs (λ m n. m < n) numbers }
@@ -75,8 +68,8 @@ impl Numbered {
             (λ both. both ≡ zip numbers records)
             (λ e. e ≡ Memory) }
     {
-        let numbers = Vec::from_array(alloc, numbers)?;
-        let records = Vec::from_array(alloc, records)?;
+        let numbers = Queue::of_two(alloc, numbers)?;
+        let records = Queue::of_two(alloc, records)?;
         Ok(Numbered { numbers, records })
     }
 
@@ -88,61 +81,71 @@ impl Numbered {
     }
 
     /// A number above all of them, if there is one.
-    pub(crate) fn next(&self) -> Option<u64>
+    pub(crate) fn next(&self) -> Option<u32>
         ensures { IfSome result (λ number. IsAbove number self.now) }
     {
-        match self.numbers.last() {
+        match self.numbers.as_slice().last() {
             Some(last) => last.checked_add(1),
             None => Some(0),
         }
     }
 
     /// The number of the last record, if there is one. Taking it out takes the last one out.
-    pub(crate) fn last(&self) -> Option<u64>
+    pub(crate) fn last(&self) -> Option<u32>
         ensures some { IfSome result (λ number.
             remove_entry (is_number number) self.now ≡ take (length self.now - 1) self.now) }
         ensures none { IfNone result (self.now ≡ []) }
     {
-        self.numbers.last().copied()
+        self.numbers.as_slice().last().copied()
     }
 
     /// The number of the first record of a class at a path, if there is one. All are looked at.
-    pub(crate) fn number_of(&self, class: &StorePath, path: &StorePath) -> Option<u64>
+    pub(crate) fn number_of(&self, class: &StorePath, path: &StorePath) -> Option<u32>
         ensures { result ≡ number_of (is_recorded_at class.now path.now) self.now }
     {
-        for (place, record) in self.records.iter().enumerate() {
+        let numbers = self.numbers.as_slice();
+        for (place, record) in self.records.as_slice().iter().enumerate() {
             if is_recorded_at(class, path, record) {
-                return Some(self.numbers[place]);
+                return Some(numbers[place]);
             }
         }
         None
     }
 
     /// Adds a record with a number above all. The one error is memory, and changes nothing.
-    pub(crate) fn push(&mut self, number: u64, added: Record) -> Result<(), Refusal>
+    pub(crate) fn push(&mut self, number: u32, added: Record) -> Result<(), Refusal>
         requires { IsAbove number self.old }
         ensures { MatchResult result
             (λ _. self.new ≡ self.old ++ (number, added) ∷ [])
             (λ e. (e ≡ Memory) × (self.new ≡ self.old)) }
     {
-        self.numbers.reserve(1)?;
-        self.records.push(added)?;
-        push_reserved(&mut self.numbers, number);
+        self.numbers.push(number)?;
+        if let Err(why) = self.records.push(added) {
+            let last = self.numbers.as_slice().len() - 1;
+            self.numbers.remove(last);
+            return Err(why);
+        }
         Ok(())
     }
 
-    /// Takes the record of a number out, if there is one. It takes no memory.
-    pub(crate) fn remove(&mut self, number: u64) -> Option<Record>
-        ensures record { result ≡ lookup (is_number number) self.old }
-        ensures others { self.new ≡ remove_entry (is_number number) self.old }
-        ensures ascending { AscendByNumber self.old }
+    /// The record of a number, if there is one.
+    pub(crate) fn get(&self, number: u32) -> Option<&Record>
+        ensures record { option_copied result ≡ lookup (is_number number) self.now }
+        ensures ascending { AscendByNumber self.now }
     {
-        match self.numbers.binary_search(&number) {
-            Ok(place) => {
-                let _number = self.numbers.remove(place);
-                Some(self.records.remove(place))
-            }
+        match self.numbers.as_slice().binary_search(&number) {
+            Ok(place) => Some(&self.as_slice()[place]),
             Err(_) => None,
+        }
+    }
+
+    /// Takes the record of a number out, if there is one. It takes no memory.
+    pub(crate) fn remove(&mut self, number: u32)
+        ensures { self.new ≡ remove_entry (is_number number) self.old }
+    {
+        if let Ok(place) = self.numbers.as_slice().binary_search(&number) {
+            self.numbers.remove(place);
+            self.records.remove(place);
         }
     }
 }

@@ -5,5 +5,5 @@ use Rattle.realise.proofs.numbered.Numbered.as_slice.Goals as goal
 
 pub returns : goal.returns
 returns c =
-    c.as_slice.ensures.value ∙ sym (seconds-zip c.self.inside.numbers.items c.self.inside.records.items c.self.invariant.paired)
+    c.as_slice.ensures ∙ sym (seconds-zip c.self.inside.numbers c.self.inside.records c.self.invariant.paired)
     ∙ ap without_numbers c.self.view_is

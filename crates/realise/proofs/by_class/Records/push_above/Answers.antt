@@ -3,7 +3,7 @@ use Rattle.records.specs.Recorded.{Recorded}
 use Rattle.realise.specs.Holdings.{is_record_of}
 use Rattle.realise.specs.Indexed.{AreTabled, group_at, is_record_at}
 use Rattle.realise.proofs.NumberLemmas.{above_group, tabled_more, tabled_back}
-use Rattle.realise.proofs.by_class.Records.push.Goals as goal
+use Rattle.realise.proofs.by_class.Records.push_above.Goals as goal
 
 pub put-requires-clause-by_class : goal.put-requires-clause-by_class
 put-requires-clause-by_class c =
