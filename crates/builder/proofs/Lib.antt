@@ -1,3 +1,4 @@
 mod TextLemmas
 mod CommandLemmas
 mod InputLemmas
+mod PieceLemmas

@@ -29,9 +29,9 @@ pub record Prepares (folders : Folders) (job : Running) (p : Prepared) : Type 0 
   pub log : log_name p ≡ log_path_in folders job.job
   pub started : IsCommandFor derivation job.resolved.scratch (path_buf_bytes folders.builders) (path_buf_bytes p.inputs) p.command
 
-module _ {O File Output Process : Type 0} (steps : Steps O File Output Process) (remaining : Output → Option (List ℕ)) (contents : File → Option (List ℕ)) where
+module _ {O File Output Process : Type 0} (steps : Steps O File Output Process) where
   -- the job is built; or nothing is done, for want of memory or since nothing can be started for it
   abbrev pub Builds : Folders → O → Running → Result (List ℕ) Fault → O → Type 0
   Builds folders o job given o' =
-      ((p : Prepared) × Prepares folders job p × RunsInFolder steps remaining contents o job.resolved.closure p given o')
+      ((p : Prepared) × Prepares folders job p × RunsInFolder steps o job.resolved.closure p given o')
       ⊎ ((o' ≡ o) × ((given ≡ Err Memory) ⊎ ((given ≡ Err NotStarted) × IsUnusable job)))

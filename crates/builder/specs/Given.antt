@@ -1,5 +1,5 @@
 -- What a runner by processes gives, and how it counts.
-use Rattle.std.specs.Prelude.{◌≡◌, ℕ, List, Option, Some, IfSome, Result}
+use Rattle.std.specs.Prelude.{◌≡◌, ℕ, List, Some, IfSome, Result}
 use Rattle.std.specs.Path.{path_buf_bytes}
 use Rattle.model.specs.Goals.{Running}
 use Rattle.workers.specs.declared.runner.RunFault.{RunFault}
@@ -9,12 +9,12 @@ use Rattle.builder.specs.Meaning.{counted, fault_in, told}
 use Rattle.builder.specs.Building.{Builds, log_path_in}
 use Rattle.builder.specs.declared.processes.ProcessRunner.{ProcessRunner}
 
-module _ {O File Output Process : Type 0} (steps : Steps O File Output Process) (remaining : Output → Option (List ℕ)) (contents : File → Option (List ℕ)) where
+module _ {O File Output Process : Type 0} (steps : Steps O File Output Process) where
   -- the job is built with the runner's folders, what came of it is told, each failure is counted, and the log is
   -- that of the job
   pub record Gives (old : ProcessRunner O) (job : Running) (given : Result (List ℕ) RunFault) (new : ProcessRunner O) : Type 0 where
     pub built : Result (List ℕ) Fault
-    pub builds : Builds steps remaining contents old.folders old.outside job built new.outside
+    pub builds : Builds steps old.folders old.outside job built new.outside
     pub tells : given ≡ told built
     pub fault : new.fault ≡ fault_in built
     pub counts : new.failures ≡ counted old.failures given

@@ -10,7 +10,7 @@ use Rattle.std.specs.Int.NonZero.{non_zero_u8_get}
 use Rattle.workers.specs.declared.runner.RunFault.{RunFault}
 use Rattle.workers.specs.declared.runner.RunFault.TheVariants as run
 use Rattle.builder.specs.declared.fault.Fault.{Fault}
-use Rattle.builder.specs.declared.fault.Fault.TheVariants.{Status, Killed, OutputNotRead, EndNotLearnt, Memory}
+use Rattle.builder.specs.declared.fault.Fault.TheVariants.{Status, Killed, EndNotLearnt, Memory}
 
 -- ---- faults
 
@@ -62,7 +62,7 @@ MeansStatus output ended (Some (pos (suc n))) given = HasStatus (suc n) given
 MeansStatus output ended (Some (negsuc n)) given = ⊥
 
 -- what reading gave decides before what waiting gave
-abbrev pub Means : Result (List ℕ) Error → Result ExitStatus Error → Result (List ℕ) Fault → Type 0
-Means (Err unread) ended given = given ≡ Err OutputNotRead
+abbrev pub Means : Result (List ℕ) Fault → Result ExitStatus Error → Result (List ℕ) Fault → Type 0
+Means (Err unread) ended given = given ≡ Err unread
 Means (Ok output) (Err lost) given = given ≡ Err EndNotLearnt
 Means (Ok output) (Ok ended) given = MeansStatus output ended (exit_code ended) given

@@ -1,9 +1,8 @@
 -- What a runner does for a job, step by step, whatever fails: each process that was started is waited for, and each file of
 -- inputs that was made is removed.
-use Rattle.std.specs.Prelude.{◌≡◌, ◌⊎◌, ℕ, Bool, if◌then◌else◌, List, take, Option, Some, None, is_some, option_map, Result, Ok, Err}
+use Rattle.std.specs.Prelude.{◌≡◌, ◌⊎◌, ℕ, Bool, if◌then◌else◌, List, Option, Some, None, is_some, option_map, Result, Ok, Err}
 use Rattle.std.specs.Global.{Global}
 use Rattle.std.specs.Path.{path_buf_bytes}
-use Rattle.std.specs.Io.KnownBytes.{Appends, IsAtEnd}
 use Rattle.std.specs.declared.fs.options.OpenOptions.{OpenOptions}
 use Rattle.std.specs.declared.io.Error.{Error}
 use Rattle.std.specs.declared.process.command.Command.{Command}
@@ -19,11 +18,7 @@ use Rattle.builder.specs.Commands.{AreStreams, IsMadeAnew}
 use Rattle.builder.specs.Logs.{IsNewLog}
 use Rattle.builder.specs.Meaning.{IsGone, Means}
 use Rattle.builder.specs.Steps.{Steps}
-
--- what was read of an output, and what is left of it: the first 67,108,865 bytes, and nothing
-abbrev pub IsRead : Option (List ℕ) → Option (List ℕ) → Result (List ℕ) Error → Type 0
-IsRead (Some all) left (Ok output) = (output ≡ take 67108865 all) × IsAtEnd left
-IsRead _ _ _ = Unit {0}
+use Rattle.builder.specs.Pieces.{IsRead, IsWritten}
 
 -- the name of the log of what is started, if it is to have one
 abbrev pub log_name : Prepared → Option (List ℕ)
@@ -39,21 +34,21 @@ module _ {O File Output Process : Type 0} (steps : Steps O File Output Process) 
     pub anew : IsMadeAnew how
     pub opens : steps.opened cleared how path answer o'
 
-module _ {O File Output Process : Type 0} (steps : Steps O File Output Process) (remaining : Output → Option (List ℕ)) where
   -- where the output could not be read, the process is killed
-  abbrev pub KillsUnread : Result (List ℕ) Error → O → Process → Process → O → Type 0
+  abbrev pub KillsUnread : Result (List ℕ) Fault → O → Process → Process → O → Type 0
   KillsUnread (Ok output) o process process' o' = (process' ≡ process) × (o' ≡ o)
   KillsUnread (Err unread) o process process' o' = steps.killed o process process' o'
 
   -- the output of a process is read, and then the process is waited for
   pub record Ends (o : O) (process : Process) (output : Output) (given : Result (List ℕ) Fault) (o' : O) : Type 0 where
-    pub read : Result (List ℕ) Error
+    pub read : Result (List ℕ) Fault
     pub output' : Output
+    pub behind : O
     pub process' : Process
     pub between : O
     pub ended : Result ExitStatus Error
-    pub is_read : IsRead (remaining output) (remaining output') read
-    pub kills : KillsUnread read o process process' between
+    pub is_read : IsRead steps o output read output' behind
+    pub kills : KillsUnread read behind process process' between
     pub waits : steps.waited between process' output' ended o'
     pub means : Means read ended given
 
@@ -81,37 +76,42 @@ module _ {O File Output Process : Type 0} (steps : Steps O File Output Process) 
   abbrev pub RunsLogged : Option (List ℕ) → O → Command Global → Result (List ℕ) Fault → O → Type 0
   RunsLogged None o command given o' = Runs o command None given o'
   RunsLogged (Some path) o command given o' =
-      (made : Result File Error) × (between : O) × MakesAnew steps o path made between × RunsWithLog made between command given o'
+      (made : Result File Error) × (between : O) × MakesAnew o path made between × RunsWithLog made between command given o'
 
-  module _ (contents : File → Option (List ℕ)) where
-    -- a file is closed with the inputs behind what was in it, and nothing behind them, and the process runs; or the inputs were
-    -- not written, and no process is started
-    pub record WritesAndRuns (o : O) (file : File) (closure : List Entry) (p : Prepared) (given : Result (List ℕ) Fault) (o' : O) : Type 0 where
-      pub file' : File
-      pub between : O
-      pub closes : steps.closed o file' between
-      pub runs : (Appends (contents file) (contents file') (inputs_text (inputs_of closure)) × RunsLogged (log_name p) between p.command given o')
-          ⊎ ((o' ≡ between) × (given ≡ Err InputsNotWritten))
+  -- a process runs once its inputs are written; else none is started
+  abbrev pub RunsWritten : Result (Unit {0}) Fault → O → Prepared → Result (List ℕ) Fault → O → Type 0
+  RunsWritten (Ok done) o p given o' = RunsLogged (log_name p) o p.command given o'
+  RunsWritten (Err unwritten) o p given o' = (o' ≡ o) × (given ≡ Err unwritten)
 
-    -- what a file was made for is done, and the file is removed; a file that stays is a fault
-    pub record RunsAndRemoves (o : O) (file : File) (closure : List Entry) (p : Prepared) (given : Result (List ℕ) Fault) (o' : O) : Type 0 where
-      pub inner : Result (List ℕ) Fault
-      pub between : O
-      pub answer : Result (Unit {0}) Error
-      pub gone : Bool
-      pub runs : WritesAndRuns o file closure p inner between
-      pub removes : steps.removed between (path_buf_bytes p.inputs) answer o'
-      pub tells : IsGone answer gone
-      pub gives : given ≡ (if gone then inner else Err InputsNotWritten)
+  -- the inputs are written to a file, which is closed then, and the process runs; or they were not, and no process is started
+  pub record WritesAndRuns (o : O) (file : File) (closure : List Entry) (p : Prepared) (given : Result (List ℕ) Fault) (o' : O) : Type 0 where
+    pub written : Result (Unit {0}) Fault
+    pub file' : File
+    pub behind : O
+    pub between : O
+    pub is_written : IsWritten steps o file (inputs_text (inputs_of closure)) written file' behind
+    pub closes : steps.closed behind file' between
+    pub runs : RunsWritten written between p given o'
 
-    -- a file that could not be made is a fault, whatever the reason
-    abbrev pub RunsOpened : Result File Error → O → List Entry → Prepared → Result (List ℕ) Fault → O → Type 0
-    RunsOpened (Ok file) o closure p given o' = RunsAndRemoves o file closure p given o'
-    RunsOpened (Err unmade) o closure p given o' = (o' ≡ o) × (given ≡ Err InputsNotWritten)
+  -- what a file was made for is done, and the file is removed; a file that stays is a fault
+  pub record RunsAndRemoves (o : O) (file : File) (closure : List Entry) (p : Prepared) (given : Result (List ℕ) Fault) (o' : O) : Type 0 where
+    pub inner : Result (List ℕ) Fault
+    pub between : O
+    pub answer : Result (Unit {0}) Error
+    pub gone : Bool
+    pub runs : WritesAndRuns o file closure p inner between
+    pub removes : steps.removed between (path_buf_bytes p.inputs) answer o'
+    pub tells : IsGone answer gone
+    pub gives : given ≡ (if gone then inner else Err InputsNotWritten)
 
-    -- the file of inputs is made anew, and what it is made for is done
-    pub record RunsInFolder (o : O) (closure : List Entry) (p : Prepared) (given : Result (List ℕ) Fault) (o' : O) : Type 0 where
-      pub answer : Result File Error
-      pub between : O
-      pub makes : MakesAnew steps o (path_buf_bytes p.inputs) answer between
-      pub runs : RunsOpened answer between closure p given o'
+  -- a file that could not be made is a fault, whatever the reason
+  abbrev pub RunsOpened : Result File Error → O → List Entry → Prepared → Result (List ℕ) Fault → O → Type 0
+  RunsOpened (Ok file) o closure p given o' = RunsAndRemoves o file closure p given o'
+  RunsOpened (Err unmade) o closure p given o' = (o' ≡ o) × (given ≡ Err InputsNotWritten)
+
+  -- the file of inputs is made anew, and what it is made for is done
+  pub record RunsInFolder (o : O) (closure : List Entry) (p : Prepared) (given : Result (List ℕ) Fault) (o' : O) : Type 0 where
+    pub answer : Result File Error
+    pub between : O
+    pub makes : MakesAnew o (path_buf_bytes p.inputs) answer between
+    pub runs : RunsOpened answer between closure p given o'

@@ -14,11 +14,15 @@ pub record Steps (O File Output Process : Type 0) : Type 1 where
   pub removed : O → List ℕ → Result (Unit {0}) Error → O → Type 0
   -- a file of that name is opened as the options ask
   pub opened : O → OpenOptions → List ℕ → Result File Error → O → Type 0
+  -- these bytes are written to a file, or were not
+  pub wrote : O → File → List ℕ → Result (Unit {0}) Error → File → O → Type 0
   -- a file is closed, as it is then
   pub closed : O → File → O → Type 0
   -- a process is started with these streams; its standard output is read from the output, and its standard error goes into
   -- the log, if there is one
   pub started : O → Command Global → Streams → Option (Log File) → Result (Process × Output) Error → O → Type 0
+  -- what comes next of an output is read, none at its end
+  pub read : O → Output → Result (List ℕ) Error → Output → O → Type 0
   -- a process is killed, and is another one after
   pub killed : O → Process → Process → O → Type 0
   -- an output is closed, and its process is waited for, and ended so
@@ -29,8 +33,10 @@ abbrev pub nothing_said : {O File Output Process : Type 0} → Steps O File Outp
 nothing_said = record {
   removed = λ _ _ _ _. Unit {0};
   opened = λ _ _ _ _ _. Unit {0};
+  wrote = λ _ _ _ _ _ _. Unit {0};
   closed = λ _ _ _. Unit {0};
   started = λ _ _ _ _ _ _. Unit {0};
+  read = λ _ _ _ _ _. Unit {0};
   killed = λ _ _ _ _. Unit {0};
   waited = λ _ _ _ _ _. Unit {0};
 }

@@ -42,14 +42,14 @@ fn meaning_of_status(output: Vec<u8>, status: ExitStatus) -> Result<Vec<u8>, Fau
 
 /// What it means that reading the output of a process gave this, and waiting for it that.
 pub(crate) fn meaning(
-    read: io::Result<Vec<u8>>,
+    read: Result<Vec<u8>, Fault>,
     ended: io::Result<ExitStatus>,
 ) -> Result<Vec<u8>, Fault>
     ensures { Means (output_of read) ended (output_of result) }
 {
     match (read, ended) {
         (Ok(output), Ok(status)) => meaning_of_status(output, status),
-        (Err(_), _) => Err(Fault::OutputNotRead),
+        (Err(unread), _) => Err(unread),
         (Ok(_), Err(_)) => Err(Fault::EndNotLearnt),
     }
 }

@@ -1,23 +1,35 @@
 //! Reading what a process writes.
 
 ghost use Rattle.builder.specs.Meaning.{output_of};
-ghost use Rattle.builder.specs.Running.{IsRead};
+ghost use Rattle.builder.specs.Pieces.{IsRead};
 
+use crate::fault::Fault;
+use crate::outside::Outside;
 use std::alloc::Global;
-use std::io;
-use std::io::Read;
 
 /// The most bytes that are kept of what a process writes: one more than an archive may have.
-const MOST_OUTPUT: u64 = 67_108_865;
+const MOST_OUTPUT: usize = 67_108_865;
 
 /// Reads to the end of what a process writes, and gives the first 67,108,865 bytes of it. What comes after
 /// them is dropped.
-pub(crate) fn read_output<R: Read>(alloc: Global, reader: &mut R) -> io::Result<Vec<u8>>
-    ensures { IsRead (R.remaining reader.old) (R.remaining reader.new) (output_of result) }
+///
+/// # Errors
+///
+/// - `OutputNotRead` only where reading failed, or did not end.
+pub(crate) fn read_output<O: Outside>(
+    alloc: Global,
+    outside: &mut O,
+    output: &mut O::Output,
+) -> Result<Vec<u8>, Fault>
+    ensures { IsRead O.steps outside.old output.old (output_of result) output.new outside.new }
 {
-    let mut output = Vec::new(alloc);
-    let mut kept = (&mut *reader).take(MOST_OUTPUT);
-    kept.read_to_end(&mut output)?;
-    io::copy(reader, &mut io::sink())?;
-    Ok(output)
+    let mut kept = Vec::new(alloc);
+    for _ in 0..u64::MAX {
+        match outside.read(output, &mut kept) {
+            Ok(0) => return Ok(kept),
+            Ok(_) => kept.truncate(MOST_OUTPUT),
+            Err(_) => return Err(Fault::OutputNotRead),
+        }
+    }
+    Err(Fault::OutputNotRead)
 }

@@ -1,12 +1,13 @@
 //! What a runner reaches outside the program: files, and processes.
 
+ghost use Rattle.builder.specs.Pieces.{ReadsBehind};
 ghost use Rattle.builder.specs.Steps.{Steps};
 
 use crate::command::Streams;
 use crate::log::{Log, Tail};
 use std::fs::OpenOptions;
 use std::io;
-use std::io::{Read, Write};
+use std::io::Write;
 use std::process::{Command, ExitStatus};
 
 /// Files and processes, as a runner uses them. Each call is a step, of which contracts see a relation: what
@@ -15,8 +16,8 @@ use std::process::{Command, ExitStatus};
 pub trait Outside {
     /// A file that is written.
     type File: Write + Drop;
-    /// What a process writes: what is read of it is its standard output.
-    type Output: Read + Drop;
+    /// What a process writes to its standard output.
+    type Output: Drop;
     /// A process that was started.
     type Process: Drop;
 
@@ -30,6 +31,10 @@ pub trait Outside {
     /// Opens a file as the options ask.
     fn open(&mut self, how: &OpenOptions, path: &str) -> io::Result<Self::File>
         ensures { steps.opened self.old how.now path.now result self.new };
+
+    /// Writes all of these bytes to a file, behind what was written before.
+    fn write(&mut self, file: &mut Self::File, bytes: &[u8]) -> io::Result<()>
+        ensures { steps.wrote self.old file.old bytes.now result file.new self.new };
 
     /// Closes a file.
     fn close(&mut self, file: Self::File)
@@ -45,6 +50,10 @@ pub trait Outside {
         log: Option<Log<Self::File>>,
     ) -> io::Result<(Self::Process, Self::Output)>
         ensures { steps.started self.old command.now streams.now log result self.new };
+
+    /// Reads what comes next of an output behind what was kept of it, and gives how much that is: 0 at its end.
+    fn read(&mut self, output: &mut Self::Output, kept: &mut Vec<u8>) -> io::Result<usize>
+        ensures { ReadsBehind steps self.old output.old kept.old.items result kept.new.items output.new self.new };
 
     /// Kills a process, if it can be.
     fn kill(&mut self, process: &mut Self::Process)

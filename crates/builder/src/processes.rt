@@ -50,9 +50,9 @@ fn end<O: Outside>(
     mut process: O::Process,
     mut output: O::Output,
 ) -> Ended
-    ensures { Ends O.steps O.Output.remaining outside.old process output (output_of result.output) outside.new }
+    ensures { Ends O.steps outside.old process output (output_of result.output) outside.new }
 {
-    let read = read_output(alloc, &mut output);
+    let read = read_output(alloc, outside, &mut output);
     if read.is_err() {
         outside.kill(&mut process);
     }
@@ -70,7 +70,7 @@ fn run_process<O: Outside>(
     command: &Command,
     log: Option<Log<O::File>>,
 ) -> Ended
-    ensures { Runs O.steps O.Output.remaining outside.old command.now log (output_of result.output) outside.new }
+    ensures { Runs O.steps outside.old command.now log (output_of result.output) outside.new }
 {
     match outside.start(command, &builder_streams(log.is_some()), log) {
         Ok((process, output)) => end(alloc, outside, process, output),
@@ -93,7 +93,7 @@ fn run_with_log<O: Outside>(
     command: &Command,
     made: io::Result<O::File>,
 ) -> Ended
-    ensures { RunsWithLog O.steps O.Output.remaining made outside.old command.now (output_of result.output) outside.new }
+    ensures { RunsWithLog O.steps made outside.old command.now (output_of result.output) outside.new }
 {
     let Ok(file) = made else {
         return Ended::without_process(Fault::LogNotMade);
@@ -106,7 +106,7 @@ fn run_with_log<O: Outside>(
 
 /// Runs a process, with a log that is made anew for it, if it is to have one.
 fn run_logged<O: Outside>(alloc: Global, outside: &mut O, prepared: &Prepared) -> Ended
-    ensures { RunsLogged O.steps O.Output.remaining (log_name prepared.now) outside.old prepared.now.command
+    ensures { RunsLogged O.steps (log_name prepared.now) outside.old prepared.now.command
         (output_of result.output) outside.new }
 {
     match &prepared.log {
@@ -126,14 +126,14 @@ fn run_with_inputs<O: Outside>(
     closure: &[Entry],
     prepared: &Prepared,
 ) -> Ended
-    ensures { WritesAndRuns O.steps O.Output.remaining O.File.contents outside.old file closure.now prepared.now
+    ensures { WritesAndRuns O.steps outside.old file closure.now prepared.now
         (output_of result.output) outside.new }
 {
-    let written = write_inputs(alloc, &mut file, closure);
+    let written = write_inputs(alloc, outside, &mut file, closure);
     outside.close(file);
     match written {
         Ok(()) => run_logged(alloc, outside, prepared),
-        Err(_) => Ended::without_process(Fault::InputsNotWritten),
+        Err(why) => Ended::without_process(why),
     }
 }
 
@@ -144,7 +144,7 @@ fn run_in_folder<O: Outside>(
     closure: &[Entry],
     prepared: &Prepared,
 ) -> Ended
-    ensures { RunsInFolder O.steps O.Output.remaining O.File.contents outside.old closure.now prepared.now
+    ensures { RunsInFolder O.steps outside.old closure.now prepared.now
         (output_of result.output) outside.new }
 {
     let inputs = prepared.inputs.as_str();
@@ -184,7 +184,7 @@ fn logged(alloc: Global, path: Option<PathBuf>, tail: Option<Tail>) -> Option<Lo
 
 /// Builds a job.
 fn build<O: Outside>(alloc: Global, outside: &mut O, folders: &Folders, job: &RunningJob) -> Built
-    ensures builds { Builds O.steps O.Output.remaining O.File.contents folders.now outside.old job.now
+    ensures builds { Builds O.steps folders.now outside.old job.now
         (output_of result.output) outside.new }
     ensures log { IfSome result.log (λ log. log_path_in folders.now job.now.job ≡ Some (path_buf_bytes log.path)) }
 {
@@ -258,7 +258,7 @@ impl<O> Explains for ProcessRunner<O> {
 impl<O: Outside> Runner for ProcessRunner<O> {
     ghost use Rattle.builder.specs.Given.{Gives};
 
-    ghost gives = { Gives O.steps O.Output.remaining O.File.contents };
+    ghost gives = { Gives O.steps };
 
     ghost failed = { λ runner. runner.failures };
 

@@ -1,5 +1,6 @@
 //! The files and processes of the machine.
 
+ghost use Rattle.std.specs.Io.{ReadsAtMost};
 ghost use Rattle.builder.specs.Steps.{nothing_said};
 
 use crate::command::Streams;
@@ -7,12 +8,28 @@ use crate::log::{Log, Tail};
 use crate::outside::Outside;
 use crate::written::Written;
 use std::fs::{Files, OpenOptions};
-use std::io::{Error, ErrorKind};
+use std::io::{Error, ErrorKind, Read, Write};
 use std::process::{Child, ChildStdout, Command, ExitStatus, Processes, SystemProcess};
 use std::{fs, io};
 
 /// How often a call is made in all that signals interrupt.
 const MOST_TRIES: u32 = 1_000;
+
+/// How much is read of an output at once.
+const PIECE: usize = 65_536;
+
+/// Reads. A call that a signal interrupts is made again.
+fn read_again<R: Read>(reader: &mut R, buffer: &mut [u8]) -> io::Result<usize>
+    ensures { ReadsAtMost result buffer.new }
+{
+    for _ in 1..u64::MAX {
+        match reader.read(buffer) {
+            Err(error) if error.kind() == ErrorKind::Interrupted => {}
+            read => return read,
+        }
+    }
+    reader.read(buffer)
+}
 
 /// The files and processes of the machine, through the runtime. A call that a signal interrupts is made again.
 #[derive(Drop)]
@@ -87,6 +104,10 @@ impl<'a, R: Files + Processes<Started = SystemProcess>> Outside for System<'a, R
         how.open(self.rt, path)
     }
 
+    fn write(&mut self, file: &mut Self::File, bytes: &[u8]) -> io::Result<()> {
+        file.write_all(bytes)
+    }
+
     fn close(&mut self, file: Self::File) {
         drop(file);
     }
@@ -102,6 +123,13 @@ impl<'a, R: Files + Processes<Started = SystemProcess>> Outside for System<'a, R
         let (mut process, output) = self.start_again(command, streams)?;
         let stderr = process.stderr.take();
         Ok((process, Written::new(output, stderr, log)))
+    }
+
+    fn read(&mut self, output: &mut Self::Output, kept: &mut Vec<u8>) -> io::Result<usize> {
+        let mut piece = [0u8; PIECE];
+        let count = read_again(output, &mut piece)?;
+        kept.extend_from_slice(&piece[..count])?;
+        Ok(count)
     }
 
     fn kill(&mut self, process: &mut Self::Process) {

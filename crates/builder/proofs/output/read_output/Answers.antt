@@ -1,18 +1,15 @@
-use Rattle.std.proofs.Common.{subst, ap, ℕ, List, [], ◌++◌, ◌≡◌, take, Option}
-use Rattle.std.specs.Prelude.{option_map}
-use Rattle.std.specs.Option.{IfSome}
-use Rattle.builder.proofs.InputLemmas.{front_read}
+use Rattle.std.proofs.Common.{◌≡◌, ◌∷◌, ◌+◌, ◌<◌, arith, length}
+use Rattle.builder.proofs.PieceLemmas.{piece_kept}
 use Rattle.builder.proofs.output.read_output.Goals as goal
 
-pub returns : goal.returns
-returns g c =
-    let output = c.read_to_end.new.buf.items in
-    let known = g.R.Read.remaining c.args.reader.now in
-    let Kept : ℕ → Option (List ℕ) → List ℕ → Type 0 = λ most left before. IfSome (option_map (take most) left) (λ xs. output ≡ before ++ xs) in
-    let limit = c.take-kept.result.limit in
-    let reader : g.R.Read.remaining c.take-kept.result.inner.now ≡ known = ap (λ r. g.R.Read.remaining r.now) c.take-kept.ensures.inner in
-    front_read known (g.R.Read.remaining c.copy.new.reader) output
-    (subst (λ n. Kept n known []) c.take-kept.ensures.limit
-    (subst (λ k. Kept limit k []) reader
-    (subst (λ s. Kept limit (g.R.Read.remaining c.take-kept.result.inner.now) s) c.new-output.ensures.items c.in_ok-read_to_end.ensures.bytes)))
-    c.in_ok-copy.ensures.end
+pub loop-preserved : goal.loop-preserved
+loop-preserved g c =
+    let so_far = c.loop.invariant in
+    let piece = c.in-Ok.ensures.0 in
+    let is_count : length piece ≡ c.in-Ok.field-0 = c.in-Ok.ensures.2 in
+    let some : 0 < length piece = grind (arith, c.in-Ok.field-0-test, is_count) in
+    let pieces : length so_far.0 ≡ c.loop.counter = so_far.3 in
+    let one_more : length (piece ∷ so_far.0) ≡ c.loop.counter + 1 = omega arith in
+    let read = c.read.new.kept.items in
+    let kept = piece_kept 67108865 c.loop.kept.items read c.truncate.new.self.items piece so_far.0 so_far.2 c.in-Ok.ensures.1 c.truncate.ensures.items in
+    (piece ∷ so_far.0, (c.loop.outside, c.loop.output, so_far.1, some, c.in-Ok.ensures.3), kept, one_more)

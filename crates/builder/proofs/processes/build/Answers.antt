@@ -11,7 +11,7 @@ pub returns-clause-builds : goal.returns-clause-builds
 returns-clause-builds g c =
     let prepared = c.in-Ok.prepared in
     let closure = c.args.job.now.resolved.closure in
-    let RunsFor : List Entry → Type 0 = λ entries. RunsInFolder g.O.Outside.steps g.O.Output.Read.remaining g.O.File.Write.contents c.args.outside.now entries prepared (output_of c.run_in_folder-output.result.output) c.run_in_folder-output.new.outside in
+    let RunsFor : List Entry → Type 0 = λ entries. RunsInFolder g.O.Outside.steps c.args.outside.now entries prepared (output_of c.run_in_folder-output.result.output) c.run_in_folder-output.new.outside in
     let entries : c.closure.result.now ≡ closure = search rules in
     inl (prepared, c.in-Ok.ensures.ok, subst RunsFor entries c.run_in_folder-output.ensures)
 
