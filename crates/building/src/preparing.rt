@@ -9,7 +9,7 @@ ghost use Rattle.building.specs.Built.{HasBuilt};
 
 use jobs::Goal;
 use model::Refusal;
-use outputs::Input;
+use outputs::{Candidates, Input};
 use realise::Desk;
 use std::alloc::Global;
 
@@ -31,6 +31,12 @@ pub fn input_for_goal(alloc: Global, desk: &Desk, goal: &Goal) -> Result<Option<
         return Ok(None);
     };
     let labels = resolved.labels(alloc)?;
-    let input = Input::new(alloc, resolved.scratch(), &labels, admitted.derivation())?;
+    let candidates = Candidates::of_labels(labels);
+    let input = Input::new(
+        alloc,
+        resolved.scratch(),
+        &candidates,
+        admitted.derivation(),
+    )?;
     Ok(Some(input))
 }

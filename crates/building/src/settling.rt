@@ -11,16 +11,15 @@ ghost use Rattle.model.specs.Paths.{IsPath};
 ghost use Rattle.model.specs.References.{paths_of_labels};
 ghost use Rattle.model.specs.Settling.{hash_part_in};
 ghost use Rattle.model.specs.declared.refusal.Refusal.TheVariants.{Memory};
-ghost use Rattle.records.specs.Recorded.{AreInPathOrder};
 ghost use Rattle.building.specs.Built.{IsBuiltBy, IsBuiltOn, IsClosedBuilt, HasInput, HasInputFrom, IsBuiltAt, AreBuiltOn, built_at, built_of, built_output, record_under, all_built, numbered, HaveInputs};
 
 use classes::Admitted;
 use jobs::{Goal, Jobs};
 use model::Refusal;
 use nar::Tree;
-use outputs::{Output, Settlements, record_of};
+use outputs::{Candidates, Output, Settlements, record_of};
 use realise::Desk;
-use records::{Label, Record, Resolved};
+use records::{Record, Resolved};
 use std::alloc::Global;
 use storepath::StorePath;
 
@@ -31,16 +30,15 @@ pub type Built = Result<(Record, Tree), Refusal>;
 fn built_by(
     alloc: Global,
     admitted: &Admitted,
-    labels: &[Label],
+    candidates: &Candidates,
     settled: Result<Output, Refusal>,
 ) -> Result<Built, Refusal>
-    requires { AreInPathOrder labels.now }
-    ensures built { IfOk result (IsBuiltBy labels.now admitted.now settled) }
+    ensures built { IfOk result (IsBuiltBy candidates.now admitted.now settled) }
     ensures memory { IfErr result (λ why. why ≡ Memory) }
 {
     match settled {
         Ok(output) => {
-            let record = record_of(alloc, admitted, labels, output.named())?;
+            let record = record_of(alloc, admitted, candidates, output.named())?;
             Ok(Ok((record, output.tree().clone()?)))
         }
         Err(why) => Ok(Err(why)),
@@ -54,20 +52,19 @@ fn built_under(
     alloc: Global,
     admitted: &Admitted,
     path: &StorePath,
-    labels: &[Label],
+    candidates: &Candidates,
     tree: &Tree,
     settlements: &mut Settlements,
 ) -> Result<Built, Refusal>
-    requires in_order { AreInPathOrder labels.now }
     ensures built { IfOk result (λ built.
-        built_of built ≡ record_under path.now labels.now admitted.now tree.now) }
+        built_of built ≡ record_under path.now candidates.now admitted.now tree.now) }
     ensures own { IfOk result (λ _. IsHashPart (hash_part_in path.now)) }
-    ensures paths { IfOk result (λ _. All IsPath (paths_of_labels labels.now)) }
+    ensures paths { IfOk result (λ _. All IsPath (paths_of_labels candidates.now)) }
     ensures memory { IfErr result (λ why. why ≡ Memory) }
 {
     let derivation = admitted.derivation();
-    let settled = settlements.settle_output(alloc, path, labels, derivation, tree)?;
-    built_by(alloc, admitted, labels, settled)
+    let settled = settlements.settle_output(alloc, path, candidates, derivation, tree)?;
+    built_by(alloc, admitted, candidates, settled)
 }
 
 /// What is built for a goal on its user's desk from a job's output. What was settled before is used
@@ -94,11 +91,12 @@ fn built_for(
         return Ok(Err(Refusal::BadOutput));
     };
     let labels = resolved.labels(alloc)?;
+    let candidates = Candidates::of_labels(labels);
     let built = built_under(
         alloc,
         admitted,
         resolved.scratch(),
-        &labels,
+        &candidates,
         tree,
         settlements,
     )?;

@@ -28,11 +28,6 @@ pub admissions_of-push : (entries : List (List ℕ × Admission)) (e : List ℕ 
 admissions_of-push [] e = refl
 admissions_of-push (x ∷ entries) e = ap (λ rest. x.1 ∷ rest) (admissions_of-push entries e)
 
--- a path is one of the keys whichever of the two is compared with the other
-pub one_of_keys : (path : List ℕ) (keys : List (List ℕ)) → list_any (bytes_eq path) keys ≡ is_one_of keys path
-one_of_keys path [] = refl
-one_of_keys path (k ∷ keys) = rw (bytes_eq_sym path k, one_of_keys path keys) refl
-
 -- one path more in a set of those that came earlier
 pub any_insert : (path : List ℕ) (keys earlier : List (List ℕ)) → ((q : List ℕ) → list_any (bytes_eq q) keys ≡ list_any (bytes_eq q) earlier) → (q : List ℕ)
     → list_any (bytes_eq q) (insert_key bytes_eq keys path) ≡ list_any (bytes_eq q) (earlier ++ path ∷ [])

@@ -11,8 +11,3 @@ AreKeyed entries = All IsKeyed entries
 
 abbrev pub admissions_of : List (List ℕ × Admission) → List Admission
 admissions_of entries = map (λ e. e.1) entries
-
--- none of paths is among these, or comes twice
-abbrev pub AreNew : List (List ℕ) → List (List ℕ) → Type 0
-AreNew known [] = Unit {0}
-AreNew known (path ∷ paths) = (is_one_of known path ≡ false) × AreNew (known ++ path ∷ []) paths

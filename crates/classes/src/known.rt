@@ -1,14 +1,14 @@
 //! What a desk knows.
 
-ghost use Rattle.std.specs.Prelude.{◌≡◌, ◌≤◌, None, false, [], ◌∷◌, ◌++◌, MatchResult, option_copied, length, take};
-ghost use Rattle.indexmap.specs.IndexSet.{spare};
-ghost use Rattle.classes.specs.Entries.{AreNew};
+ghost use Rattle.std.specs.Prelude.{◌≡◌, ◌⊎◌, None, Ok, Err, false, [], ◌∷◌, ◌++◌, MatchResult, option_copied, length};
+ghost use Rattle.scan.specs.PathSets.{AreNew};
 ghost use Rattle.model.specs.Classes.{known_at, is_one_of};
 ghost use Rattle.model.specs.declared.refusal.Refusal.TheVariants.{Memory};
 
 use crate::class::Admitted;
-use indexmap::{IndexMap, IndexSet};
+use indexmap::IndexMap;
 use model::Refusal;
+use scan::PathSet;
 use std::alloc::Global;
 use std::marker::Model;
 use storepath::StorePath;
@@ -16,10 +16,11 @@ use storepath::StorePath;
 /// What one desk knows: its derivations by their paths, and the paths of its sources, the oldest
 /// first.
 ///
-/// Looking a path up takes the same time however much is known. The hashers have a fixed seed: a desk is one user's own, and nobody else puts paths there.
+/// Looking a path up takes the same time however much is known, and so does looking up the sources that have
+/// a hash part. The hashers have a fixed seed: a desk is one user's own, and nobody else puts paths there.
 pub struct Known {
     derivations: IndexMap<StorePath, Admitted>,
-    sources: IndexSet<StorePath>,
+    sources: PathSet,
 }
 
 impl Drop for Known {
@@ -37,20 +38,9 @@ impl Model for Known {
 
     ghost Value = { KnownValue };
 
-    ghost view = { λ a. record { derivations = admissions_of a.derivations.entries; sources = a.sources.keys } };
+    ghost view = { λ a. record { derivations = admissions_of a.derivations.entries; sources = a.sources } };
 
     ghost invariant = { λ a. AreKeyed a.derivations.entries };
-}
-
-/// Puts paths that are not there yet into a set that has room for them.
-fn put_reserved(set: &mut IndexSet<StorePath>, paths: Vec<StorePath>)
-    requires absent { AreNew set.old.keys paths.items }
-    requires room { length paths.items ≤ spare set.old }
-    ensures { set.new.keys ≡ set.old.keys ++ paths.items }
-{
-    for path in paths {
-        let _is_new = set.insert(path).unwrap();
-    }
 }
 
 impl Known {
@@ -60,7 +50,7 @@ impl Known {
     {
         Known {
             derivations: IndexMap::new(alloc),
-            sources: IndexSet::new(alloc),
+            sources: PathSet::new(),
         }
     }
 
@@ -75,7 +65,7 @@ impl Known {
     pub fn source_count(&self) -> usize
         ensures { result ≡ length self.now.sources }
     {
-        self.sources.len()
+        self.sources.as_slice().len()
     }
 
     /// One derivation more, whose path is not known yet.
@@ -94,19 +84,29 @@ impl Known {
         Ok(())
     }
 
-    /// One source more, whose path is not known yet.
+    /// One source more, whose path is not known yet, if `check` lets it, which is asked when no more memory is
+    /// needed.
     ///
     /// # Errors
     ///
-    /// - `Memory` only where memory was refused. Then nothing has changed.
-    pub fn add_source(&mut self, path: StorePath) -> Result<(), Refusal>
+    /// Nothing has changed then.
+    ///
+    /// - `Memory` only where memory was refused, or by `check`.
+    /// - What `check` refused it for.
+    pub fn add_source_if<F: FnOnce() -> Result<bool, Refusal>>(
+        &mut self,
+        alloc: Global,
+        path: StorePath,
+        check: F,
+    ) -> Result<bool, Refusal>
+        requires callable { F.IsAlwaysCallable check }
         requires absent { is_one_of self.old.sources path ≡ false }
         ensures { MatchResult result
-            (λ _. self.new ≡ record self.old { sources = self.old.sources ++ path ∷ [] })
-            (λ e. (e ≡ Memory) × (self.new ≡ self.old)) }
+            (λ told. F.post check (Ok told)
+            × (self.new ≡ record self.old { sources = self.old.sources ++ path ∷ [] }))
+            (λ e. ((e ≡ Memory) ⊎ F.post check (Err e)) × (self.new ≡ self.old)) }
     {
-        let _is_new = self.sources.insert(path)?;
-        Ok(())
+        self.sources.add_if(alloc, path, check)
     }
 
     /// These sources more, all of them or none: no path is known yet, and none comes twice.
@@ -114,22 +114,13 @@ impl Known {
     /// # Errors
     ///
     /// - `Memory` only where memory was refused. Then nothing has changed.
-    pub fn add_sources(&mut self, paths: Vec<StorePath>) -> Result<(), Refusal>
+    pub fn add_sources(&mut self, alloc: Global, paths: Vec<StorePath>) -> Result<(), Refusal>
         requires absent { AreNew self.old.sources paths.items }
         ensures { MatchResult result
             (λ _. self.new ≡ record self.old { sources = self.old.sources ++ paths.items })
             (λ e. (e ≡ Memory) × (self.new ≡ self.old)) }
     {
-        self.sources.reserve(paths.len())?;
-        put_reserved(&mut self.sources, paths);
-        Ok(())
-    }
-
-    /// Keeps so many of the oldest sources, and takes the others away. It takes no memory.
-    pub fn truncate_sources(&mut self, count: usize)
-        ensures { self.new ≡ record self.old { sources = take count self.old.sources } }
-    {
-        self.sources.truncate(count);
+        self.sources.add_all(alloc, paths)
     }
 
     /// What is known of the derivation of a path.
@@ -140,10 +131,10 @@ impl Known {
     }
 
     /// The paths of the sources, the oldest first.
-    pub fn sources(&self) -> &[StorePath]
+    pub fn sources(&self) -> &PathSet
         ensures { result.now ≡ self.now.sources }
     {
-        self.sources.as_slice()
+        &self.sources
     }
 
     /// Whether the path is a source's.

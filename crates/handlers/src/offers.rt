@@ -10,7 +10,6 @@ ghost use Rattle.model.specs.Events.{Offer as OfferRequest};
 ghost use Rattle.model.specs.OfferRequests.{output_settled};
 ghost use Rattle.model.specs.Results.{unless_rewrite_refused};
 ghost use Rattle.model.specs.declared.refusal.Refusal.TheVariants.{Memory};
-ghost use Rattle.records.specs.Recorded.{AreInPathOrder};
 ghost use Rattle.handling.specs.Sound.{IsSound};
 ghost use Rattle.handling.specs.Handling.{IsHandledAtDesk};
 ghost use Rattle.outputs.specs.Outputs.{IsRecordOf};
@@ -23,9 +22,9 @@ use classes::Admitted;
 use events::CopiedReply;
 use model::Refusal;
 use nar::Tree;
-use outputs::{Input, Output, Settlements, candidates, record_of};
+use outputs::{Candidates, Input, Output, Settlements, record_of};
 use realise::{Desk, Limits};
-use records::{DeskEntry, Label, Record};
+use records::{DeskEntry, Record};
 use std::alloc::Global;
 use store::Table;
 use storepath::StorePath;
@@ -35,18 +34,18 @@ fn settled_output(
     alloc: Global,
     settlements: &mut Settlements,
     admitted: &Admitted,
-    labels: &[Label],
+    candidates: &Candidates,
     tree: &Tree,
 ) -> Result<Result<Output, Refusal>, Refusal>
     ensures tree { IfOk result (λ _. IsTree tree.now) }
-    ensures paths { IfOk result (λ _. All IsPath (paths_of_labels labels.now)) }
+    ensures paths { IfOk result (λ _. All IsPath (paths_of_labels candidates.now)) }
     ensures own { IfOk result (λ _. IsHashPart (hash_part_in admitted.now.class.path)) }
     ensures outcome { IfOk result (λ o.
-        o ≡ unless_rewrite_refused (output_settled labels.now admitted.now tree.now)) }
+        o ≡ unless_rewrite_refused (output_settled candidates.now admitted.now tree.now)) }
     ensures memory { IfErr result (λ why. why ≡ Memory) }
 {
     let own = admitted.class().path();
-    settlements.settle_output(alloc, own, labels, admitted.derivation(), tree)
+    settlements.settle_output(alloc, own, candidates, admitted.derivation(), tree)
 }
 
 /// An output of a derivation that may refer to these, with its path.
@@ -54,31 +53,30 @@ fn output_of(
     alloc: Global,
     settlements: &mut Settlements,
     admitted: &Admitted,
-    labels: &[Label],
+    candidates: &Candidates,
     tree: &Tree,
 ) -> Result<Output, Refusal>
     ensures tree { IfOk result (λ _. IsTree tree.now) }
-    ensures paths { IfOk result (λ _. All IsPath (paths_of_labels labels.now)) }
+    ensures paths { IfOk result (λ _. All IsPath (paths_of_labels candidates.now)) }
     ensures own { IfOk result (λ _. IsHashPart (hash_part_in admitted.now.class.path)) }
-    ensures settled { IfOk result (λ o. output_settled labels.now admitted.now tree.now ≡ Ok o) }
-    ensures refused { IfErr result (IsNotSettled labels.now admitted.now tree.now) }
+    ensures settled { IfOk result (λ o. output_settled candidates.now admitted.now tree.now ≡ Ok o) }
+    ensures refused { IfErr result (IsNotSettled candidates.now admitted.now tree.now) }
 {
-    settled_output(alloc, settlements, admitted, labels, tree)?
+    settled_output(alloc, settlements, admitted, candidates, tree)?
 }
 
 /// The record of an output that has its path, and its tree. The one error is memory.
 fn recorded(
     alloc: Global,
     admitted: &Admitted,
-    labels: &[Label],
+    candidates: &Candidates,
     output: &Output,
 ) -> Result<(Record, Tree), Refusal>
-    requires in_order { AreInPathOrder labels.now }
-    ensures record { IfOk result (λ o. IsRecordOf labels.now admitted.now output.now o.0) }
+    ensures record { IfOk result (λ o. IsRecordOf candidates.now admitted.now output.now o.0) }
     ensures tree { IfOk result (λ o. o.1 ≡ output.now.tree) }
     ensures memory { IfErr result (λ why. why ≡ Memory) }
 {
-    let record = record_of(alloc, admitted, labels, output.named())?;
+    let record = record_of(alloc, admitted, candidates, output.named())?;
     Ok((record, output.tree().clone()?))
 }
 
@@ -93,9 +91,9 @@ fn output_for(
     ensures output { IfOk result (λ o. IsOutput desk.now admitted.now tree.now o.0 o.1) }
     ensures refused { IfErr result (IsNoOutput desk.now admitted.now tree.now) }
 {
-    let labels = candidates(alloc, desk, admitted.derivation())?;
-    let output = output_of(alloc, settlements, admitted, &labels, tree)?;
-    recorded(alloc, admitted, &labels, &output)
+    let candidates = Candidates::of_desk(alloc, desk, admitted.derivation())?;
+    let output = output_of(alloc, settlements, admitted, &candidates, tree)?;
+    recorded(alloc, admitted, &candidates, &output)
 }
 
 /// Adds an output of the derivation in the file at a path to a desk: its tree with the path of its
@@ -155,8 +153,8 @@ pub fn input_for_offer(
     let Some(admitted) = desk.derivation(path) else {
         return Ok(None);
     };
-    let labels = candidates(alloc, desk, admitted.derivation())?;
+    let candidates = Candidates::of_desk(alloc, desk, admitted.derivation())?;
     let own = admitted.class().path();
-    let input = Input::new(alloc, own, &labels, admitted.derivation())?;
+    let input = Input::new(alloc, own, &candidates, admitted.derivation())?;
     Ok(Some(input))
 }

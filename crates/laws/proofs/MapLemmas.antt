@@ -20,16 +20,16 @@ use Rattle.laws.proofs.SetLemmas.{same_filtered}
 
 -- ---- members
 
-both_ways : (a b : Bool) → (a ≡ true → b ≡ true) → (b ≡ true → a ≡ true) → a ≡ b
+pub both_ways : (a b : Bool) → (a ≡ true → b ≡ true) → (b ≡ true → a ≡ true) → a ≡ b
 both_ways true b to from = sym (to refl)
 both_ways false true to from = from refl
 both_ways false false to from = refl
 
-in_of_among : (xs : List (List ℕ)) (x : List ℕ) → among xs x ≡ true → In x xs
+pub in_of_among : (xs : List (List ℕ)) (x : List ℕ) → among xs x ≡ true → In x xs
 in_of_among [] x h = absurd (cc)
 in_of_among (y ∷ ys) x h = elim (or_cases (bytes_eq y x) (among ys x) h) [ inl e ↦ inl (same_bytes y x e) | inr r ↦ inr (in_of_among ys x r) ]
 
-among_of_in : (xs : List (List ℕ)) (x : List ℕ) → In x xs → among xs x ≡ true
+pub among_of_in : (xs : List (List ℕ)) (x : List ℕ) → In x xs → among xs x ≡ true
 among_of_in [] x h = absurd h
 among_of_in (y ∷ ys) x h = elim h [
   | inl e ↦ or_left _ _ (subst (λ z. bytes_eq y z ≡ true) e (bytes_same y))
@@ -67,11 +67,11 @@ images_are_one f g xs ys alike same w =
 -- ---- substitution
 
 -- the images of the keys
-images_listed : (f : List ℕ → List ℕ) (images : Images) → map (λ e. f e.0) images ≡ map f (keys_of images)
+pub images_listed : (f : List ℕ → List ℕ) (images : Images) → map (λ e. f e.0) images ≡ map f (keys_of images)
 images_listed f [] = refl
 images_listed f (e ∷ es) = ap (λ t. f e.0 ∷ t) (images_listed f es)
 
-parts_split : (images : Images) (w : List ℕ) → among (parts_of images) w ≡ (among (keys_of images) w || among (map (image_of images) (keys_of images)) w)
+pub parts_split : (images : Images) (w : List ℕ) → among (parts_of images) w ≡ (among (keys_of images) w || among (map (image_of images) (keys_of images)) w)
 parts_split images w =
     list_any-append (λ part. bytes_eq part w) (keys_of images) (map (λ e. image_of images e.0) images)
     ∙ ap (λ t. among (keys_of images) w || among t w) (images_listed (image_of images) images)
@@ -121,7 +121,7 @@ puts_the_same some others one =
 
 -- ---- settling
 
-kept_image : (candidates : List (List ℕ)) (w : List ℕ) → image_of (map (λ c. (hash_part_in c, hash_part_in c)) candidates) w ≡ w
+pub kept_image : (candidates : List (List ℕ)) (w : List ℕ) → image_of (map (λ c. (hash_part_in c, hash_part_in c)) candidates) w ≡ w
 kept_image [] w = refl
 kept_image (c ∷ cs) w = elim (either (bytes_eq (hash_part_in c) w)) [
   | inl t ↦ rw t (same_bytes (hash_part_in c) w t)

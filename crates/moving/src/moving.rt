@@ -20,8 +20,8 @@ use indexmap::IndexMap;
 use model::{Refusal, RewriteFault};
 use nar::{Nar, encode};
 use records::{Label, Realisation, Record};
-use rewrite::{Named, settle, substitute};
-use scan::occurrences;
+use rewrite::{Candidates, Named, settle, substitute};
+use scan::{PathSet, occurrences};
 use std::alloc::{AllocError, Global};
 use storepath::{Name, StorePath};
 
@@ -70,7 +70,12 @@ fn resettled(
     let own = chosen.path().hash_part();
     let paths = paths_of(alloc, labels)?;
     let name = name_in(alloc, chosen.path())?;
-    settle(alloc, archive, &own, &paths, &name)
+    let none = PathSet::new();
+    let candidates = Candidates {
+        listed: &paths,
+        found: &none,
+    };
+    settle(alloc, archive, &own, &candidates, &name)
 }
 
 // A record of the same class with these labels, at the path of a settled tree. The one error is

@@ -18,7 +18,7 @@ clash b t f = absurd (let e = sym t ∙ f in cc)
 
 -- ---- how two paths stand
 
-order : (p q : List ℕ) → (bytes_before p q ≡ true) ⊎ ((bytes_eq p q ≡ true) ⊎ (bytes_before q p ≡ true))
+pub order : (p q : List ℕ) → (bytes_before p q ≡ true) ⊎ ((bytes_eq p q ≡ true) ⊎ (bytes_before q p ≡ true))
 order p q = elim (either (bytes_before p q)) [
   | inl t ↦ inl t
   | inr f ↦ elim (either (bytes_eq p q)) [ inl s ↦ inr (inl s) | inr n ↦ inr (inr (other_way p q f n)) ]
@@ -32,13 +32,13 @@ not_same p q t = elim (either (bytes_eq p q)) [ inl s ↦ clash (bytes_before p 
 
 -- ---- a label put before, onto or behind the first
 
-past : (l f : Label) (fs : List Label) → bytes_before f.path l.path ≡ true → with_label l (f ∷ fs) ≡ f ∷ with_label l fs
+pub past : (l f : Label) (fs : List Label) → bytes_before f.path l.path ≡ true → with_label l (f ∷ fs) ≡ f ∷ with_label l fs
 past l f fs t = rw t refl
 
-onto : (l f : Label) (fs : List Label) → bytes_eq f.path l.path ≡ true → with_label l (f ∷ fs) ≡ least_label f l ∷ fs
+pub onto : (l f : Label) (fs : List Label) → bytes_eq f.path l.path ≡ true → with_label l (f ∷ fs) ≡ least_label f l ∷ fs
 onto l f fs s = let n = not_before_itself f.path l.path s in rw (n, s) refl
 
-ahead : (l f : Label) (fs : List Label) → bytes_before l.path f.path ≡ true → with_label l (f ∷ fs) ≡ l ∷ f ∷ fs
+pub ahead : (l f : Label) (fs : List Label) → bytes_before l.path f.path ≡ true → with_label l (f ∷ fs) ≡ l ∷ f ∷ fs
 ahead l f fs t =
     let n = bytes_weak.one_way l.path f.path t in
     let m = bytes_eq_sym f.path l.path ∙ not_same l.path f.path t in
@@ -83,7 +83,7 @@ three f k l t =
 -- ---- two labels, one after the other
 
 module _ (l k : Label) where
-  commute_paths : bytes_before l.path k.path ≡ true → (xs : List Label) → with_label l (with_label k xs) ≡ with_label k (with_label l xs)
+  pub commute_paths : bytes_before l.path k.path ≡ true → (xs : List Label) → with_label l (with_label k xs) ≡ with_label k (with_label l xs)
   commute_paths lk [] = ahead l k [] lk ∙ sym (past k l [] lk)
   commute_paths lk (f ∷ fs) = elim (order f.path l.path) [
     | inl fl ↦

@@ -4,7 +4,7 @@
 #![tactic(auto)]
 
 mod below;
-mod candidate;
+mod candidates;
 mod input;
 mod output;
 mod placed;
@@ -14,7 +14,7 @@ mod settlements;
 mod sources;
 
 pub use below::records_below;
-pub use candidate::candidates;
+pub use candidates::Candidates;
 pub use input::Input;
 pub use output::Output;
 pub use record::record_of;

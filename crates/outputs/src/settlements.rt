@@ -12,13 +12,13 @@ ghost use Rattle.model.specs.declared.refusal.Refusal.TheVariants.{Memory};
 ghost use Rattle.outputs.specs.Outputs.{input_settled};
 ghost use Rattle.outputs.specs.Kept.{HasOutput, HasSettled, one_more};
 
+use crate::candidates::Candidates;
 use crate::input::Input;
 use crate::output::Output;
 use crate::settlement::{Settlement, copy_of};
 use aterm::Derivation;
 use model::Refusal;
 use nar::Tree;
-use records::Label;
 use std::alloc::{AllocError, Global};
 use storepath::StorePath;
 
@@ -122,20 +122,20 @@ impl Settlements {
         &mut self,
         alloc: Global,
         own: &StorePath,
-        labels: &[Label],
+        candidates: &Candidates,
         derivation: &Derivation,
         tree: &Tree,
     ) -> Result<Result<Output, Refusal>, Refusal>
         ensures tree { IfOk result (λ _. IsTree tree.now) }
         ensures own { IfOk result (λ _. IsHashPart (hash_part_in own.now)) }
-        ensures paths { IfOk result (λ _. All IsPath (paths_of_labels labels.now)) }
+        ensures paths { IfOk result (λ _. All IsPath (paths_of_labels candidates.now)) }
         ensures outcome { IfOk result (λ o. o ≡ unless_rewrite_refused
-            (settled tree.now (hash_part_in own.now) (paths_of_labels labels.now) (name_of derivation.now))) }
+            (settled tree.now (hash_part_in own.now) (paths_of_labels candidates.now) (name_of derivation.now))) }
         ensures kept { IfOk result (λ _.
-            HasOutput self.new.settled.items own.now labels.now derivation.now tree.now) }
+            HasOutput self.new.settled.items own.now candidates.now derivation.now tree.now) }
         ensures memory { IfErr result (λ why. why ≡ Memory) }
     {
-        let input = Input::new(alloc, own, labels, derivation)?;
+        let input = Input::new(alloc, own, candidates, derivation)?;
         self.settle(alloc, input, tree)
     }
 }

@@ -4,7 +4,7 @@ ghost use Rattle.std.specs.Prelude.{◌≡◌, ◌⊎◌, ◌+◌, ◌<◌, ◌�
 ghost use Rattle.std.specs.Option.{option_copied};
 ghost use Rattle.model.specs.Classes.{known_at, is_one_of};
 ghost use Rattle.model.specs.Worlds.{pinned, unpinned};
-ghost use Rattle.classes.specs.Entries.{AreNew};
+ghost use Rattle.scan.specs.PathSets.{AreNew};
 ghost use Rattle.records.specs.DeskEntries.{entry_path};
 ghost use Rattle.std.specs.Map.Iter.{ShowsInOrder, deref};
 ghost use Rattle.realise.specs.Held.{paths_held, IsSetOf};
@@ -59,26 +59,6 @@ impl Model for Desk {
     ghost invariant = { IsConsistent };
 }
 
-/// Puts an entry that is not there yet with the sources or with the records. The one error is memory,
-/// and changes nothing.
-fn put_entry(
-    alloc: Global,
-    known: &mut Known,
-    records: &mut Records,
-    entry: DeskEntry,
-) -> Result<(), Refusal>
-    requires absent { IsNewSource entry known.old }
-    ensures { MatchResult result
-        (λ _. (known.new ≡ known_with entry known.old)
-        × (records.new ≡ records_with entry records.old))
-        (λ e. (e ≡ Memory) × (known.new ≡ known.old) × (records.new ≡ records.old)) }
-{
-    match entry {
-        DeskEntry::Source(source) => known.add_source(source),
-        DeskEntry::Record(record) => records.push(alloc, record),
-    }
-}
-
 /// Puts records behind the others and sources that are not there yet with the others, all or none. The
 /// one error is memory, and changes nothing.
 fn put_parts(
@@ -96,15 +76,37 @@ fn put_parts(
 {
     let count = records.as_slice().len();
     records.push_all(alloc, added)?;
-    if let Err(why) = known.add_sources(sources) {
+    if let Err(why) = known.add_sources(alloc, sources) {
         records.truncate(count);
         return Err(why);
     }
     Ok(())
 }
 
-/// Puts an entry as [`put_entry`] does, if `check` lets it, which is asked when no more memory is needed.
-/// Where it does not, nothing has changed.
+/// Puts a record behind the others, if `check` lets it, which is asked when no more memory is needed. Where
+/// it does not, nothing has changed.
+fn put_record_if<F: FnOnce() -> Result<bool, Refusal>>(
+    alloc: Global,
+    records: &mut Records,
+    added: Record,
+    check: F,
+) -> Result<bool, Refusal>
+    requires callable { F.IsAlwaysCallable check }
+    ensures { MatchResult result
+        (λ told. F.post check (Ok told) × (records.new ≡ records.old ++ added ∷ []))
+        (λ e. ((e ≡ Memory) ⊎ F.post check (Err e)) × (records.new ≡ records.old)) }
+{
+    let count = records.as_slice().len();
+    records.push(alloc, added)?;
+    let told = check();
+    if told.is_err() {
+        records.truncate(count);
+    }
+    told
+}
+
+/// Puts an entry that is not there yet with the sources or with the records, if `check` lets it, which is
+/// asked when no more memory is needed. Where it does not, nothing has changed.
 fn put_entry_if<F: FnOnce() -> Result<bool, Refusal>>(
     alloc: Global,
     known: &mut Known,
@@ -122,15 +124,10 @@ fn put_entry_if<F: FnOnce() -> Result<bool, Refusal>>(
         × (known.new ≡ known.old)
         × (records.new ≡ records.old)) }
 {
-    let sources = known.source_count();
-    let count = records.as_slice().len();
-    put_entry(alloc, known, records, entry)?;
-    let told = check();
-    if told.is_err() {
-        known.truncate_sources(sources);
-        records.truncate(count);
+    match entry {
+        DeskEntry::Source(source) => known.add_source_if(alloc, source, check),
+        DeskEntry::Record(record) => put_record_if(alloc, records, record, check),
     }
-    told
 }
 
 impl Desk {

@@ -58,14 +58,14 @@ other_way p q h n = elim (either (bytes_before q p)) [
 abbrev IsBefore : Label → Label → Type 0
 IsBefore k l = bytes_before k.path l.path ≡ true
 
-pairs_head : (l : Label) (ls : List Label) → AreInPathOrder (l ∷ ls) → All (IsBefore l) ls
+pub pairs_head : (l : Label) (ls : List Label) → AreInPathOrder (l ∷ ls) → All (IsBefore l) ls
 pairs_head l ls h = λ k d lt. h 0 (suc k) d (omega arith) (omega (arith, lt))
 
-pairs_tail : (l : Label) (ls : List Label) → AreInPathOrder (l ∷ ls) → AreInPathOrder ls
+pub pairs_tail : (l : Label) (ls : List Label) → AreInPathOrder (l ∷ ls) → AreInPathOrder ls
 pairs_tail l ls h = λ i j d lt le. h (suc i) (suc j) d (omega (arith, lt)) (omega (arith, le))
 
 -- of two labels of one path, the one that stays is of the path
-least_path : (P : List ℕ → Type 0) (k l : Label) → P k.path → P l.path → P (least_label k l).path
+pub least_path : (P : List ℕ → Type 0) (k l : Label) → P k.path → P l.path → P (least_label k l).path
 least_path P k l p q = elim (either (class_before l.class k.class)) [ inl t ↦ rw t q | inr f ↦ rw f p ]
 
 -- ---- a label put in
@@ -85,7 +85,7 @@ before_put first l (k ∷ ls) h all =
     ]
 
 -- a label before one goes before all that this one goes before
-before_all : (k l : Label) (ls : List Label) → IsBefore k l → All (IsBefore l) ls → All (IsBefore k) ls
+pub before_all : (k l : Label) (ls : List Label) → IsBefore k l → All (IsBefore l) ls → All (IsBefore k) ls
 before_all k l ls h all = All-weaker (IsBefore l) (IsBefore k) (λ m n. goes_on k.path l.path m.path h n) ls all
 
 pub with_label_in_order : (l : Label) (ls : List Label) → AreInPathOrder ls → AreInPathOrder (with_label l ls)

@@ -63,30 +63,46 @@ pub fn places_in(alloc: Global, text: &[u8], keys: &Keys) -> Result<Places, Refu
     ensures refused { IfErr result (Finds (crowded (text_places keys.now text.now) ≡ true)) }
 {
     let _len = text.len();
-    let mut seek = Sought { keys, asked: 0 };
+    places_in_by(alloc, text, &mut Sought { keys, asked: 0 })
+}
+
+/// Where the keys that `seek` tells stand in a text.
+///
+/// # Errors
+///
+/// Those of [`places_in`].
+fn places_in_by<S: Seek>(alloc: Global, text: &[u8], seek: &mut S) -> Result<Places, Refusal>
+    requires room { S.looked seek.old + length text.now < 2 ^ 64 }
+    ensures found { IfOk result (λ places. places ≡ places_in (S.keys seek.old) 0 text.now) }
+    ensures apart { IfOk result (λ places. crowded places ≡ false) }
+    ensures refused { IfErr result
+        (Finds (crowded (places_in (S.keys seek.old) 0 text.now) ≡ true)) }
+{
     let mut places = Vec::new(alloc);
-    if search(&mut places, text, 0, &mut seek)? {
+    if search(&mut places, text, 0, seek)? {
         return Err(Refusal::RewriteRefused(RewriteFault::Overlap));
     }
     Ok(Places { places })
 }
 
-/// Where keys stand in an archive, whatever they stand in. The time is in proportion to its length,
-/// however many keys there are.
+/// Where the keys that `seek` tells stand in an archive, whatever they stand in. The time is in proportion to
+/// its length, however many keys there are. That `seek` can count so many questions more is the caller's
+/// to know.
 ///
 /// # Errors
 ///
 /// - [`Refusal::RewriteRefused`] with `Overlap` exactly where two places are less than 32 bytes
 ///   apart.
 /// - [`Refusal::Memory`] only where memory was refused.
-pub fn places_of(alloc: Global, archive: &Nar, keys: &Keys) -> Result<Places, Refusal>
-    ensures found { IfOk result (λ places. places ≡ text_places keys.now (nar archive.now)) }
-    ensures occurrences { IfOk result (λ places. places ≡ tree_places keys.now archive.now) }
+pub fn places_by<S: Seek>(alloc: Global, archive: &Nar, seek: &mut S) -> Result<Places, Refusal>
+    requires room { S.looked seek.old + length (nar archive.now) < 2 ^ 64 }
+    ensures found { IfOk result (λ places. places ≡ occurrences (S.keys seek.old) archive.now) }
     ensures apart { IfOk result (λ places. crowded places ≡ false) }
-    ensures refused { IfErr result (Finds (crowded (tree_places keys.now archive.now) ≡ true)) }
+    ensures refused { IfErr result
+        (Finds (crowded (occurrences (S.keys seek.old) archive.now) ≡ true)) }
 {
-    let _parts = keys.parts();
-    match places_in(alloc, archive.bytes(), keys) {
+    let _looks = seek.looks();
+    match places_in_by(alloc, archive.bytes(), seek) {
         Ok(places) => Ok(places),
         Err(why) => Err(why),
     }

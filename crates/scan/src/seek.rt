@@ -4,6 +4,7 @@ ghost use Rattle.std.specs.Prelude.{◌≡◌, ◌+◌, ◌^◌, ◌<◌, ℕ};
 ghost use Rattle.model.specs.Occurrences.{Keys as KeysOf, AreKeys};
 
 use crate::keys::Keys;
+use crate::path_set::PathSet;
 
 /// What tells whether 32 bytes are a hash part that is sought, and counts how often it was asked.
 pub trait Seek {
@@ -28,9 +29,9 @@ pub trait Seek {
 
 /// A set of hash parts, and how often it was asked for one.
 #[derive(Drop)]
-pub(crate) struct Sought<'a> {
-    pub(crate) keys: &'a Keys,
-    pub(crate) asked: u64,
+pub struct Sought<'a> {
+    pub keys: &'a Keys,
+    pub asked: u64,
 }
 
 impl Seek for Sought<'_> {
@@ -47,6 +48,35 @@ impl Seek for Sought<'_> {
 
     fn looks(&self) -> u64 {
         let _parts = self.keys.parts();
+        self.asked
+    }
+}
+
+/// A set of hash parts with those of a set of paths, and how often it was asked for one.
+#[derive(Drop)]
+pub struct SoughtBeside<'a> {
+    pub keys: &'a Keys,
+    pub paths: &'a PathSet,
+    pub asked: u64,
+}
+
+impl Seek for SoughtBeside<'_> {
+    ghost use Rattle.std.specs.Prelude.{◌++◌};
+    ghost use Rattle.model.specs.Occurrences.{among};
+    ghost use Rattle.scan.specs.PathSets.{parts_of};
+
+    ghost keys = { λ s. among (s.keys.now ++ parts_of s.paths.now) };
+
+    ghost looked = { λ s. s.asked };
+
+    fn has(&mut self, window: &[u8; 32]) -> bool {
+        self.asked += 1;
+        self.keys.find(window).is_some() || self.paths.has_part(window)
+    }
+
+    fn looks(&self) -> u64 {
+        let _parts = self.keys.parts();
+        let _parts_of_paths = self.paths.has_part(&[0; 32]);
         self.asked
     }
 }

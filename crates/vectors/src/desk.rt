@@ -25,7 +25,7 @@ pub(crate) fn add_source(
     if known.has_source(&path) {
         return Err(Refusal::BadLine);
     }
-    known.add_source(path)?;
+    known.add_sources(alloc, Vec::from_array(alloc, [path])?)?;
     out.add(&known.source_count());
     out.add_text("sources");
     Ok(())

@@ -6,10 +6,10 @@ use crate::paths::paths_of;
 use crate::trees::{decoded, tell as tell_tree};
 use model::Refusal;
 use nar::{Nar, encode, read_tree_text};
-use rewrite::{Images, Named, settle, source, substitute};
-use scan::{Keys, Places, occurrences};
+use rewrite::{Candidates, Images, Named, settle, source, substitute};
+use scan::{Keys, PathSet, Places, occurrences};
 use std::alloc::Global;
-use storepath::{HashPart, Name};
+use storepath::{HashPart, Name, StorePath};
 
 /// The archive of a tree's text.
 fn archive_of(alloc: Global, text: &str) -> Result<Nar, Refusal> {
@@ -93,6 +93,17 @@ fn settled(alloc: Global, archive: &Nar, words: &str, out: &mut Answer) -> Resul
     tell(alloc, &settled_under(alloc, archive, &own, words)?, out)
 }
 
+/// The paths as a set.
+fn set_of(alloc: Global, paths: Vec<StorePath>) -> Result<PathSet, Refusal> {
+    let mut set = PathSet::new();
+    for path in paths {
+        if !set.contains(&path) {
+            set.add_if(alloc, path, || Ok(true))?;
+        }
+    }
+    Ok(set)
+}
+
 /// `NAME PATH..`: an archive that was built under a hash part, settled under a name with these candidates.
 fn settled_under(
     alloc: Global,
@@ -102,7 +113,11 @@ fn settled_under(
 ) -> Result<Named, Refusal> {
     let (name, candidates) = cut(words);
     let name = Name::new(alloc, name.as_bytes())?;
-    let candidates = paths_of(alloc, candidates)?;
+    let found = set_of(alloc, paths_of(alloc, candidates)?)?;
+    let candidates = Candidates {
+        listed: &[],
+        found: &found,
+    };
     settle(alloc, archive, own, &candidates, &name)
 }
 

@@ -12,7 +12,7 @@ pub returns-clause-built : goal.returns-clause-built
 returns-clause-built c =
     let a = c.args.admitted.now in
     let tree = c.args.tree.now in
-    let labels = c.args.labels.now in
+    let labels = c.args.candidates.now in
     let path = c.args.path.now in
     let named = λ (x : Derivation). unless_rewrite_refused (settled tree (hash_part_in path) (paths_of_labels labels) (name_of x)) in
     let outcome : c.in_ok-settled.settled ≡ unless_rewrite_refused (settled_under path labels a tree) =

@@ -4,7 +4,7 @@ use Rattle.std.specs.List.{list_any}
 use Rattle.std.proofs.lemmas.List.{map-id}
 use Rattle.std.proofs.lemmas.Iterator.{items_from_drains}
 use Rattle.std.proofs.lemmas.Iterator.Adapters.{YieldsList-from_vec}
-use Rattle.classes.proofs.EntryLemmas.{one_of_keys}
+use Rattle.scan.proofs.PathSetLemmas.{one_of_keys}
 use Rattle.classes.proofs.paths.set_of.Goals as goal
 
 pub returns : goal.returns

@@ -13,7 +13,7 @@ returns-clause-needed c tree settled has a known =
     let his : Admission = c.in-Some.admitted.now in
     let found : known_at c.args.desk.now.known c.args.path.now ≡ Some his = search rules in
     let same : his ≡ a = same_Some _ _ (sym found ∙ known) in
-    let labels : List Label = c.deref.result.now in
+    let labels : List Label = c.in_ok-candidates.candidates in
     let are : AreCandidates c.args.desk.now.known his.derivation c.args.desk.now.records labels = search rules in
     let output : HasOutput settled his.class.path labels his.derivation tree = record { input = c.in_ok-input.input; input_is = search rules; has = has } in
     subst (λ x. (ls : List Label) × AreLabels c.args.desk.now x.derivation ls × HasOutput settled x.class.path ls x.derivation tree) same

@@ -11,7 +11,7 @@ use Rattle.handlers.proofs.offers.output_for.Goals as goal
 pub returns-in_err-output-clause-refused : goal.returns-in_err-output-clause-refused
 returns-in_err-output-clause-refused c =
     let p = err_from_is_err_and c.from_residual-in_err-output.result c.from_residual-in_err-output.ensures.1 in
-    let labels : List Label = c.deref.result.now in
+    let labels : List Label = c.in_ok-candidates.candidates in
     let found : AreCandidates c.args.desk.now.known c.args.admitted.now.derivation c.args.desk.now.records labels = search rules in
     let refused : IsNotSettled labels c.args.admitted.now c.args.tree.now p.0 = rw p.2 c.in_err-output.ensures.refused in
     rw p.1 (no_output c.args.desk.now c.args.admitted.now c.args.tree.now labels p.0 (are_labels c.args.desk.now c.args.admitted.now labels found) refused)
@@ -23,8 +23,7 @@ if_both P Q R both (Err why) p q = tt
 
 pub returns-clause-output : goal.returns-clause-output
 returns-clause-output c =
-    let labels : List Label = c.deref.result.now in
-    let same : c.deref-2.result.now ≡ labels = search rules in
+    let labels : List Label = c.in_ok-candidates.candidates in
     let found : AreCandidates c.args.desk.now.known c.args.admitted.now.derivation c.args.desk.now.records labels = search rules in
     if_both _ _ _
     (λ o record_is tree_is. record {
@@ -37,4 +36,4 @@ returns-clause-output c =
       sound = c.in_ok-output.ensures.tree;
       own = c.in_ok-output.ensures.own;
       paths = c.in_ok-output.ensures.paths;
-    }) c.recorded.result (rw same at c.recorded.ensures.record) c.recorded.ensures.tree
+    }) c.recorded.result c.recorded.ensures.record c.recorded.ensures.tree

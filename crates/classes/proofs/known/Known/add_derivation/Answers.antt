@@ -13,9 +13,9 @@ key c = search rules
 
 absent : (c : goal.Joined-none) → lookup (bytes_eq c.in_ok-path.path) c.self.inside.derivations.entries ≡ None
 absent c =
-    let there : known_at (record { derivations = admissions_of c.self.inside.derivations.entries; sources = c.self.inside.sources.keys }) c.args.admitted.path ≡ None = rw (← c.self.view_is) at c.requires.absent in
+    let there : known_at (record { derivations = admissions_of c.self.inside.derivations.entries; sources = c.self.inside.sources }) c.args.admitted.path ≡ None = rw (← c.self.view_is) at c.requires.absent in
     ap (λ path. lookup (bytes_eq path) c.self.inside.derivations.entries) (key c)
-    ∙ sym (known_entries c.args.admitted.path c.self.inside.sources.keys c.self.inside.derivations.entries c.self.invariant) ∙ there
+    ∙ sym (known_entries c.args.admitted.path c.self.inside.sources c.self.inside.derivations.entries c.self.invariant) ∙ there
 
 pushed : (c : goal.Joined-none) → c.insert.new.self.entries ≡ c.self.inside.derivations.entries ++ (c.in_ok-path.path, c.args.admitted) ∷ []
 pushed c = c.in_ok-_none.ensures.entries ∙ insert_entry-new bytes_eq c.self.inside.derivations c.in_ok-path.path c.args.admitted (absent c)

@@ -12,7 +12,7 @@ returns-clause-kept c =
       among = rw c.in_ok-push.ensures.items (Contains-push c.args.self.now.settled.items made);
       input_is = record {
         own = ap (λ (i : Input). i.own) same;
-        candidates = ap (λ (i : Input). i.candidates.items) same;
+        paths = record { sources = ap (λ (i : Input). i.sources) same; others = ap (λ (i : Input). i.others.items) same };
         name = ap (λ (i : Input). i.name) same;
       };
       tree_is = c.in_ok-made.ensures.tree;

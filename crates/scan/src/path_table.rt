@@ -1,0 +1,217 @@
+//! Paths in a table by their hash parts.
+
+ghost use Rattle.std.specs.Prelude.{◌≡◌, ◌⊎◌, ◌-◌, ◌++◌, ◌∷◌, [], false, Ok, Err, length, map, take, All, MatchResult};
+ghost use Rattle.model.specs.Classes.{is_one_of};
+ghost use Rattle.model.specs.Paths.{IsPath};
+ghost use Rattle.model.specs.Occurrences.{among, AreKeys};
+ghost use Rattle.model.specs.Settling.{hash_part_in};
+ghost use Rattle.model.specs.declared.refusal.Refusal.TheVariants.{Memory};
+ghost use Rattle.scan.specs.PathSets.{AreNew, HasOneMore, HasOneLess, HasSame, group_at, with_part};
+
+use crate::group::Group;
+use crate::keys::{SLOTS, digits_of, slot_of};
+use indexmap::{IndexMap, IndexSet};
+use model::Refusal;
+use std::alloc::Global;
+use std::marker::Model;
+use storepath::{HashPart, StorePath};
+
+/// Paths, each once, with those of each hash part, and the slots that the hash parts have.
+pub struct PathTable {
+    paths: IndexSet<StorePath>,
+    groups: IndexMap<[u8; 32], Group>,
+    slots: Vec<bool>,
+}
+
+impl Drop for PathTable {
+    fn drop(self) {
+        let PathTable {
+            paths: _,
+            groups: _,
+            slots: _,
+        } = self;
+    }
+}
+
+impl Model for PathTable {
+    ghost use Rattle.std.specs.Prelude.{List, ℕ};
+    ghost use Rattle.scan.specs.PathSets.{IsTable};
+
+    ghost Value = { List (List ℕ) };
+
+    ghost view = { λ table. table.paths.keys };
+
+    ghost invariant = { λ table. IsTable table.paths.keys table.groups.entries table.slots.items };
+}
+
+/// Puts a path behind those of its hash part. The one error is memory, and changes nothing.
+fn put_in_group(
+    alloc: Global,
+    groups: &mut IndexMap<[u8; 32], Group>,
+    part: &[u8; 32],
+    path: StorePath,
+) -> Result<(), Refusal>
+    ensures { MatchResult result
+        (λ _. HasOneMore part.now path groups.old.entries groups.new.entries)
+        (λ e. (e ≡ Memory) × HasSame groups.old.entries groups.new.entries) }
+{
+    if let Some(group) = groups.get_mut(part) {
+        return group.push(path);
+    }
+    let group = Group::of_one(alloc, path)?;
+    let _none = groups.insert(*part, group)?;
+    Ok(())
+}
+
+/// Takes the last path of a hash part away, if there is one. It takes no memory.
+fn take_from_group(groups: &mut IndexMap<[u8; 32], Group>, part: &[u8; 32])
+    ensures { HasOneLess part.now groups.old.entries groups.new.entries }
+{
+    if let Some(group) = groups.get_mut(part) {
+        group.pop();
+    }
+}
+
+impl PathTable {
+    /// No paths. The one error is memory.
+    pub(crate) fn new(alloc: Global) -> Result<PathTable, Refusal>
+        ensures { MatchResult result
+            (λ table. table ≡ [])
+            (λ e. e ≡ Memory) }
+    {
+        Ok(PathTable {
+            paths: IndexSet::new(alloc),
+            groups: IndexMap::new(alloc),
+            slots: vec![in alloc; false; SLOTS]?,
+        })
+    }
+
+    /// The paths, in the order in which they were added.
+    pub(crate) fn as_slice(&self) -> &[StorePath]
+        ensures value { result.now ≡ self.now }
+        ensures paths { All IsPath self.now }
+    {
+        self.paths.as_slice()
+    }
+
+    /// Whether a path is one of them.
+    pub(crate) fn contains(&self, path: &StorePath) -> bool
+        ensures { result ≡ is_one_of self.now path.now }
+    {
+        self.paths.contains(path)
+    }
+
+    /// Whether 32 bytes are the hash part of one of them.
+    pub(crate) fn has_part(&self, window: &[u8; 32]) -> bool
+        ensures value { result ≡ among (map hash_part_in self.now) window.now }
+        ensures keys { AreKeys (among (map hash_part_in self.now)) }
+    {
+        if !self.slots[slot_of(window)] {
+            return false;
+        }
+        match self.groups.get(window) {
+            Some(group) => !group.as_slice().is_empty(),
+            None => false,
+        }
+    }
+
+    /// Those with a hash part.
+    pub(crate) fn with_part(&self, part: &HashPart) -> &[StorePath]
+        ensures { result.now ≡ with_part part.now self.now }
+    {
+        match self.groups.get(digits_of(part)) {
+            Some(group) => group.as_slice(),
+            None => &[],
+        }
+    }
+
+    /// Adds a path that is not among them. The one error is memory, and changes nothing.
+    fn add(&mut self, alloc: Global, path: StorePath) -> Result<(), Refusal>
+        requires absent { is_one_of self.old path ≡ false }
+        ensures { MatchResult result
+            (λ _. self.new ≡ self.old ++ path ∷ [])
+            (λ e. (e ≡ Memory) × (self.new ≡ self.old)) }
+    {
+        self.paths.reserve(1)?;
+        let part = path.hash_part();
+        let digits = digits_of(&part);
+        put_in_group(alloc, &mut self.groups, digits, path.clone()?)?;
+        self.slots[slot_of(digits)] = true;
+        let _is_new = self.paths.insert(path).unwrap();
+        Ok(())
+    }
+
+    /// Takes the last one away, if there is one. It takes no memory.
+    fn pop(&mut self)
+        ensures { self.new ≡ take (length self.old - 1) self.old }
+    {
+        let Some(last) = self.paths.last() else {
+            return;
+        };
+        let part = last.hash_part();
+        take_from_group(&mut self.groups, digits_of(&part));
+        self.paths.truncate(self.paths.len() - 1);
+    }
+
+    /// Keeps so many of the oldest paths, and takes the others away. It takes no memory.
+    fn truncate(&mut self, count: usize)
+        ensures { self.new ≡ take count self.old }
+    {
+        while count < self.paths.len() {
+            self.pop();
+        }
+    }
+
+    /// A copy. The one error is memory.
+    pub(crate) fn again(&self, alloc: Global) -> Result<PathTable, Refusal>
+        ensures { MatchResult result
+            (λ copy. copy ≡ self.now)
+            (λ e. e ≡ Memory) }
+    {
+        let mut copy = PathTable::new(alloc)?;
+        for path in self.paths.as_slice() {
+            copy.add(alloc, path.clone()?)?;
+        }
+        Ok(copy)
+    }
+
+    /// Adds a path that is not among them, if `check` lets it, which is asked when no more memory is needed.
+    /// Where it does not, nothing has changed.
+    pub(crate) fn add_if<F: FnOnce() -> Result<bool, Refusal>>(
+        &mut self,
+        alloc: Global,
+        path: StorePath,
+        check: F,
+    ) -> Result<bool, Refusal>
+        requires callable { F.IsAlwaysCallable check }
+        requires absent { is_one_of self.old path ≡ false }
+        ensures { MatchResult result
+            (λ told. F.post check (Ok told) × (self.new ≡ self.old ++ path ∷ []))
+            (λ e. ((e ≡ Memory) ⊎ F.post check (Err e)) × (self.new ≡ self.old)) }
+    {
+        self.add(alloc, path)?;
+        let told = check();
+        if told.is_err() {
+            self.pop();
+        }
+        told
+    }
+
+    /// Adds paths that are not among them, and none of which comes twice, all or none. The one error is
+    /// memory, and changes nothing.
+    pub(crate) fn add_all(&mut self, alloc: Global, paths: Vec<StorePath>) -> Result<(), Refusal>
+        requires absent { AreNew self.old paths.items }
+        ensures { MatchResult result
+            (λ _. self.new ≡ self.old ++ paths.items)
+            (λ e. (e ≡ Memory) × (self.new ≡ self.old)) }
+    {
+        let count = self.paths.len();
+        for path in paths {
+            if let Err(why) = self.add(alloc, path) {
+                self.truncate(count);
+                return Err(why);
+            }
+        }
+        Ok(())
+    }
+}
