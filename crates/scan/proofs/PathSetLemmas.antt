@@ -1,27 +1,31 @@
 -- Sets of paths by their hash parts.
-use Rattle.std.proofs.Common.{◌≡◌, ℕ, ◌-◌, ◌+◌, ◌<◌, inl, inr, Bool, true, false, cond, List, [], ◌∷◌, ◌++◌, length, take, map, get_or, set, refl, ap, sym, ◌∙◌, subst, arith, Some, None, Option}
+use Rattle.std.proofs.Common.{◌≡◌, ℕ, ◌-◌, ◌+◌, ◌<◌, inl, inr, Bool, true, false, cond, List, [], ◌∷◌, ◌++◌, length, take, drop, map, get_or, set, refl, ap, sym, ◌∙◌, subst, arith, Some, None, Option}
 use Rattle.std.proofs.Common.{rules}
+use Rattle.std.specs.Cmp.{both_ways}
 use Rattle.std.specs.Cmp.Rules.{comparing}
-use Rattle.std.specs.Prelude.{◌||◌, ◌==◌, not, filter, All, slice_get, unwrap_or}
+use Rattle.std.specs.Prelude.{◌||◌, ◌==◌, ◌&&◌, not, codes, nat_lt, nat_le, filter, All, slice_get, unwrap_or}
 use Rattle.std.specs.Map.{lookup}
 use Rattle.std.specs.Str.{bytes_eq}
-use Rattle.std.proofs.lemmas.Bool.{false≢true, cases_Bool, or_cases}
+use Rattle.std.proofs.lemmas.Bool.{false≢true, cases_Bool, or_cases, leb-true, and_parts}
 use Rattle.std.proofs.lemmas.List.{length-append, length-set, append-nil, take_more}
 use Rattle.std.proofs.lemmas.List.Elements.{filter-append, All-push, All-nil, All-head, All-tail, All-take}
 use Rattle.std.proofs.lemmas.List.Folds.{list_any-append}
-use Rattle.std.specs.List.{list_any, AllByRecursion, IsDistinct}
+use Rattle.std.specs.List.{list_any, list_all, flat_map, AllByRecursion, IsDistinct}
+use Rattle.std.proofs.lemmas.Grind.{flat_map-append}
 use Rattle.indexmap.proofs.MapLemmas.{split_last, distinct-take}
-use Rattle.std.proofs.lemmas.Slice.Eq.{bytes_eq-Decides}
-use Rattle.std.proofs.Math.Seq.{take-append_seam}
+use Rattle.std.proofs.lemmas.Slice.Eq.{bytes_eq-Decides, slice_eq-Decides}
+use Rattle.std.specs.Cmp.Lexicographic.{pointwise}
+use Rattle.std.proofs.Math.Seq.{take-append_seam, drop-append_seam}
 use Rattle.std.proofs.Math.Dec.{eqb-suc-zero}
 use Rattle.model.specs.Occurrences.{AreKeys, IsHashPart, among}
 use Rattle.model.specs.Classes.{is_one_of}
-use Rattle.model.specs.Paths.{IsPath}
+use Rattle.model.specs.Paths.{IsPath, path_text, base32, is_name, is_name_byte, begins_with_dot}
+use Rattle.storepath.proofs.PathLemmas.{length-base32}
 use Rattle.indexmap.specs.IndexSet.{insert_key}
 use Rattle.model.proofs.BoolLemmas.{bytes_eq_sym}
 use Rattle.model.specs.Settling.{hash_part_in}
 use Rattle.scan.specs.Searching.{slot_of, IsMarked}
-use Rattle.scan.specs.PathSets.{Groups, HasOneLess, HasOneMore, HasSame, IsTable, group_at, parts_of, with_part, without_last}
+use Rattle.scan.specs.PathSets.{Groups, HasOneLess, HasOneMore, HasSame, IsTable, counted, group_at, parts_of, with_part, without_last}
 use Rattle.scan.proofs.KeyLemmas.{marked_more}
 
 -- ---- hash parts
@@ -43,16 +47,21 @@ part_is_there part (p ∷ ps) = elim (cases_Bool (bytes_eq (hash_part_in p) part
 
 -- ---- one path more
 
-with_more : (part path : List ℕ) (paths : List (List ℕ)) → with_part part (paths ++ path ∷ []) ≡ (with_part part paths ++ cond (bytes_eq (hash_part_in path) part) (path ∷ []) [])
+with_more : (part path : List ℕ) (paths : List (List ℕ)) → with_part part (paths ++ path ∷ []) ≡ (with_part part paths ++ cond (bytes_eq
+    (hash_part_in path) part) (path ∷ []) [])
 with_more part path paths = filter-append (λ p. bytes_eq (hash_part_in p) part) paths (path ∷ [])
 
 parts_more : (paths : List (List ℕ)) (path : List ℕ) → parts_of (paths ++ path ∷ []) ≡ parts_of paths ++ hash_part_in path ∷ []
 parts_more [] path = refl
 parts_more (p ∷ ps) path = ap (λ rest. hash_part_in p ∷ rest) (parts_more ps path)
 
-pub table_more : (paths : List (List ℕ)) (old new : Groups) (slots : List Bool) (part path : List ℕ) → IsTable paths old slots → IsPath path → IsHashPart part
-    → part ≡ hash_part_in path → slot_of part < 65536 → HasOneMore part path old new → IsTable (paths ++ path ∷ []) new (set slots (slot_of part) true)
-table_more paths old new slots part path is is_path is_part same below more = record {
+texts_more : (paths : List (List ℕ)) (path : List ℕ) → flat_map counted paths ++ counted path ≡ flat_map counted (paths ++ path ∷ [])
+texts_more paths path = sym (flat_map-append counted paths (path ∷ []) ∙ ap (λ ts. flat_map counted paths ++ ts) (append-nil (counted path)))
+
+pub table_more : (paths : List (List ℕ)) (old new : Groups) (slots : List Bool) (texts part path : List ℕ) → IsTable paths old slots texts
+    → IsPath path → IsHashPart part → part ≡ hash_part_in path → slot_of part < 65536 → HasOneMore part path old new
+    → IsTable (paths ++ path ∷ []) new (set slots (slot_of part) true) (texts ++ counted path)
+table_more paths old new slots texts part path is is_path is_part same below more = record {
   paths_are = All-push IsPath paths path is.paths_are is_path;
   parts_are = All-push (λ p. IsHashPart (hash_part_in p)) paths path is.parts_are (subst IsHashPart same is_part);
   grouped = λ p. elim (cases_Bool (bytes_eq part p)) [
@@ -67,27 +76,32 @@ table_more paths old new slots part path is is_path is_part same below more = re
   ];
   count = length-set slots (slot_of part) true ∙ is.count;
   marked = λ w there.
-      let among_more : among (parts_of paths ++ part ∷ []) w ≡ true = ap (λ ps. among ps w) (ap (λ q. parts_of paths ++ q ∷ []) same ∙ sym (parts_more paths path)) ∙ there in
+      let among_more : among (parts_of paths ++ part ∷ []) w ≡ true = ap (λ ps. among ps w) (ap (λ q. parts_of paths ++ q ∷ []) same
+      ∙ sym (parts_more paths path)) ∙ there in
       marked_more (parts_of paths) slots part w (is.marked w) (omega (arith, below, is.count)) among_more;
+  texts_are = ap (λ ts. ts ++ counted path) is.texts_are ∙ texts_more paths path;
 }
 
 -- the same paths in the same groups
-pub table_same : (paths : List (List ℕ)) (old new : Groups) (slots : List Bool) → IsTable paths old slots → HasSame old new → IsTable paths new slots
-table_same paths old new slots is same = record {
+pub table_same : (paths : List (List ℕ)) (old new : Groups) (slots : List Bool) (texts : List ℕ) → IsTable paths old slots texts → HasSame old new
+    → IsTable paths new slots texts
+table_same paths old new slots texts is same = record {
   paths_are = is.paths_are;
   parts_are = is.parts_are;
   grouped = λ p. same p ∙ is.grouped p;
   count = is.count;
   marked = is.marked;
+  texts_are = is.texts_are;
 }
 
-pub table_new : (slots : List Bool) → length slots ≡ 65536 → IsTable [] [] slots
+pub table_new : (slots : List Bool) → length slots ≡ 65536 → IsTable [] [] slots []
 table_new slots count = record {
   paths_are = All-nil IsPath;
   parts_are = All-nil (λ p. IsHashPart (hash_part_in p));
   grouped = λ p. refl;
   count = count;
   marked = λ w there. absurd (false≢true there);
+  texts_are = refl;
 }
 
 -- ---- one path less
@@ -97,16 +111,26 @@ without_more paths path =
     let long : length (paths ++ path ∷ []) - 1 ≡ length paths = let e = length-append paths (path ∷ []) in omega (arith, e) in
     ap (λ n. take n (paths ++ path ∷ [])) long ∙ take-append_seam paths (path ∷ [])
 
-shorter : (paths : List (List ℕ)) (old new : Groups) (slots : List Bool) (part path : List ℕ) → IsTable (paths ++ path ∷ []) old slots
-    → part ≡ hash_part_in path → HasOneLess part old new → IsTable paths new slots
-shorter paths old new slots part path is same less = record {
+-- the texts of all, and how many bytes those are in front of the last
+texts_of : (paths : List (List ℕ)) (path texts : List ℕ) → texts ≡ flat_map counted (paths ++ path ∷ [])
+    → (texts ≡ flat_map counted paths ++ counted path) × (length texts - length path - 1 ≡ length (flat_map counted paths)) × (length path < length texts)
+texts_of paths path texts are =
+    let split : texts ≡ flat_map counted paths ++ counted path = are ∙ sym (texts_more paths path) in
+    let long : length texts ≡ length (flat_map counted paths) + (length path + 1) =
+    ap length split ∙ length-append (flat_map counted paths) (counted path) ∙ (let n = length (flat_map counted paths) in omega arith) in
+    (split, omega (arith, long), omega (arith, long))
+
+shorter : (paths : List (List ℕ)) (old new : Groups) (slots : List Bool) (texts part path : List ℕ) → IsTable (paths ++ path ∷ []) old slots texts
+    → part ≡ hash_part_in path → HasOneLess part old new → IsTable paths new slots (take (length texts - length path - 1) texts)
+shorter paths old new slots texts part path is same less = record {
   paths_are = subst (All IsPath) (without_more paths path) (All-take IsPath (length (paths ++ path ∷ []) - 1) (paths ++ path ∷ []) is.paths_are);
   parts_are = subst (All (λ p. IsHashPart (hash_part_in p))) (without_more paths path)
       (All-take (λ p. IsHashPart (hash_part_in p)) (length (paths ++ path ∷ []) - 1) (paths ++ path ∷ []) is.parts_are);
   grouped = λ p. elim (cases_Bool (bytes_eq part p)) [
     | inl here ↦
         let there : bytes_eq (hash_part_in path) p ≡ true = ap (λ q. bytes_eq q p) (sym same) ∙ here in
-        let before : group_at p old ≡ with_part p paths ++ path ∷ [] = is.grouped p ∙ with_more p path paths ∙ ap (λ b. with_part p paths ++ cond b (path ∷ []) []) there in
+        let before : group_at p old ≡ with_part p paths ++ path ∷ [] = is.grouped p ∙ with_more p path paths
+        ∙ ap (λ b. with_part p paths ++ cond b (path ∷ []) []) there in
         less p ∙ ap (λ b. cond b (without_last (group_at p old)) (group_at p old)) here ∙ ap without_last before ∙ without_more (with_part p paths) path
     | inr other ↦
         let apart : bytes_eq (hash_part_in path) p ≡ false = ap (λ q. bytes_eq q p) (sym same) ∙ other in
@@ -116,16 +140,82 @@ shorter paths old new slots part path is same less = record {
   count = is.count;
   marked = λ w there.
       let still : among (parts_of (paths ++ path ∷ [])) w ≡ true = ap (λ ps. among ps w) (parts_more paths path)
-      ∙ list_any-append (λ q. bytes_eq q w) (parts_of paths) (hash_part_in path ∷ []) ∙ ap (λ b. b || list_any (λ q. bytes_eq q w) (hash_part_in path ∷ [])) there in
+      ∙ list_any-append (λ q. bytes_eq q w) (parts_of paths) (hash_part_in path ∷ [])
+      ∙ ap (λ b. b || list_any (λ q. bytes_eq q w) (hash_part_in path ∷ [])) there in
       is.marked w still;
+  texts_are = let long = texts_of paths path texts is.texts_are in
+      ap (λ n. take n texts) long.1 ∙ ap (take (length (flat_map counted paths))) long.0 ∙ take-append_seam (flat_map counted paths) (counted path);
 }
 
-pub table_less : (paths : List (List ℕ)) (old new : Groups) (slots : List Bool) (part path : List ℕ) → IsTable paths old slots
-    → slice_get paths (length paths - 1) ≡ Some path → 0 < length paths → part ≡ hash_part_in path → HasOneLess part old new → IsTable (without_last paths) new slots
-table_less paths old new slots part path is last some same less =
+split_at_last : (paths : List (List ℕ)) (path : List ℕ) → slice_get paths (length paths - 1) ≡ Some path → 0 < length paths
+    → paths ≡ without_last paths ++ path ∷ []
+split_at_last paths path last some =
     let from_front : length paths - 1 - 0 ≡ length paths - 1 = omega arith in
-    let split : paths ≡ without_last paths ++ path ∷ [] = split_last paths path last some ∙ ap (λ n. take n paths ++ path ∷ []) from_front in
-    shorter (without_last paths) old new slots part path (subst (λ ps. IsTable ps old slots) split is) same less
+    split_last paths path last some ∙ ap (λ n. take n paths ++ path ∷ []) from_front
+
+-- the text of the last stands among the texts, behind its length
+pub last_text_within : (paths : List (List ℕ)) (texts path : List ℕ) → texts ≡ flat_map counted paths
+    → slice_get paths (length paths - 1) ≡ Some path → 0 < length paths → length path < length texts
+last_text_within paths texts path are last some =
+    (texts_of (without_last paths) path texts (are ∙ ap (flat_map counted) (split_at_last paths path last some))).2
+
+pub table_less : (paths : List (List ℕ)) (old new : Groups) (slots : List Bool) (texts part path : List ℕ) → IsTable paths old slots texts
+    → slice_get paths (length paths - 1) ≡ Some path → 0 < length paths → part ≡ hash_part_in path → HasOneLess part old new
+    → IsTable (without_last paths) new slots (take (length texts - length path - 1) texts)
+table_less paths old new slots texts part path is last some same less =
+    shorter (without_last paths) old new slots texts part path (subst (λ ps. IsTable ps old slots texts) (split_at_last paths path last some) is) same less
+
+-- ---- the same paths
+
+same_front : (m n : ℕ) (xs ys more others : List ℕ) → m ≡ length xs → n ≡ length ys → (m ∷ xs) ++ more ≡ (n ∷ ys) ++ others → (xs ≡ ys) × (more ≡ others)
+same_front m n xs ys more others long wide same =
+    let count : m ≡ n = cc in
+    let tails : xs ++ more ≡ ys ++ others = cc in
+    let as_long : length xs ≡ length ys = sym long ∙ count ∙ wide in (
+      sym (take-append_seam xs more) ∙ ap (take (length xs)) tails ∙ ap (λ k. take k (ys ++ others)) as_long ∙ take-append_seam ys others,
+      sym (drop-append_seam xs more) ∙ ap (drop (length xs)) tails ∙ ap (λ k. drop k (ys ++ others)) as_long ∙ drop-append_seam ys others,
+    )
+
+-- the texts of paths, each behind its length, are those of no others
+same_paths : (xs ys : List (List ℕ)) → flat_map counted xs ≡ flat_map counted ys → xs ≡ ys
+same_paths [] [] same = refl
+same_paths [] (y ∷ ys) same = cc
+same_paths (x ∷ xs) [] same = cc
+same_paths (x ∷ xs) (y ∷ ys) same =
+    let both = same_front (length x) (length y) x y (flat_map counted xs) (flat_map counted ys) refl refl same in
+    let rest : xs ≡ ys = same_paths xs ys both.1 in
+    ap (λ z. z ∷ xs) both.0 ∙ ap (λ zs. y ∷ zs) rest
+
+pub texts_tell : (xs ys : List (List ℕ)) (one two : List ℕ) → one ≡ flat_map counted xs → two ≡ flat_map counted ys
+    → bytes_eq one two ≡ pointwise bytes_eq xs ys
+texts_tell xs ys one two one_is two_is =
+    let texts = bytes_eq-Decides one two in
+    let paths = slice_eq-Decides bytes_eq-Decides xs ys (pointwise bytes_eq xs ys) refl in
+    both_ways (bytes_eq one two) (pointwise bytes_eq xs ys)
+    (λ t. paths.1 (same_paths xs ys (sym one_is ∙ texts.0 t ∙ two_is)))
+    (λ t. texts.1 (one_is ∙ ap (flat_map counted) (paths.0 t) ∙ sym two_is))
+
+-- two sets, one of which has no table: they are the same where both are empty
+pub none_tell : (ys : List (List ℕ)) → (length ys == 0) ≡ pointwise bytes_eq [] ys
+none_tell [] = refl
+none_tell (y ∷ ys) = eqb-suc-zero (length ys)
+
+-- ---- the length of a path
+
+pub path_is_short : (path : List ℕ) → IsPath path → length path < 256
+unfolding path_text is_name
+path_is_short path is =
+    let ended : Bool = not (begins_with_dot is.name) && list_all is_name_byte is.name in
+    let within = (and_parts (nat_lt 0 (length is.name)) (nat_le (length is.name) 211 && ended) is.named).1 in
+    let few = leb-true (length is.name) 211 (and_parts (nat_le (length is.name) 211) ended within).0 in
+    let front : length (codes "/nix/store/") ≡ 11 = refl in
+    let long : length path ≡ length (codes "/nix/store/") + length (base32 is.hash_part ++ codes "-" ++ is.name) =
+    ap length is.is ∙ length-append (codes "/nix/store/") (base32 is.hash_part ++ codes "-" ++ is.name) in
+    let rest = length-append (base32 is.hash_part ++ codes "-") is.name in
+    let digits = length-append (base32 is.hash_part) (codes "-") in
+    let dash : length (codes "-") ≡ 1 = refl in
+    let part = length-base32 is.hash_part in
+    omega (arith, few, front, long, rest, digits, dash, part)
 
 -- ---- what is added
 
@@ -159,7 +249,8 @@ pub group_more : (old new : Groups) (part path : List ℕ) (group after : List (
     → ((q : List ℕ) → lookup (bytes_eq q) new ≡ cond (bytes_eq part q) (Some after) (lookup (bytes_eq q) old)) → after ≡ group ++ path ∷ []
     → HasOneMore part path old new
 group_more old new part path group after there written pushed p =
-    let now : group_at p new ≡ unwrap_or (cond (bytes_eq part p) (Some after) (lookup (bytes_eq p) old)) [] = ap (λ (g : Option (List (List ℕ))). unwrap_or g []) (written p) in
+    let now : group_at p new ≡ unwrap_or (cond (bytes_eq part p) (Some after) (lookup (bytes_eq p) old)) [] = ap (λ (g : Option (List (List ℕ))).
+    unwrap_or g []) (written p) in
     elim (cases_Bool (bytes_eq part p)) [
       | inl same ↦
           let before : group_at p old ≡ group =

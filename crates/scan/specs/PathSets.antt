@@ -1,5 +1,6 @@
 -- What a set of paths finds by their hash parts.
 use Rattle.std.specs.Prelude.{◌≡◌, ℕ, ◌-◌, Bool, true, false, if◌then◌else◌, All, List, [], ◌∷◌, ◌++◌, length, take, map, filter, bytes_eq, unwrap_or, Option, Some, None}
+use Rattle.std.specs.List.{flat_map}
 use Rattle.std.specs.Map.{lookup}
 use Rattle.std.specs.Arc.{arc_value}
 use Rattle.std.specs.declared.sync.Arc.{Arc}
@@ -49,13 +50,18 @@ HasSame old new = (p : List ℕ) → group_at p new ≡ group_at p old
 
 -- ---- tables
 
--- the paths of a set, in groups by their hash parts, whose slots are marked
-pub record IsTable (paths : List (List ℕ)) (groups : Groups) (slots : List Bool) : Type 0 where
+-- the text of a path behind its length
+abbrev pub counted : List ℕ → List ℕ
+counted path = length path ∷ path
+
+-- the paths of a set, in groups by their hash parts, whose slots are marked, and their texts side by side
+pub record IsTable (paths : List (List ℕ)) (groups : Groups) (slots : List Bool) (texts : List ℕ) : Type 0 where
   pub paths_are : All IsPath paths
   pub parts_are : All (λ path. IsHashPart (hash_part_in path)) paths
   pub grouped : (part : List ℕ) → group_at part groups ≡ with_part part paths
   pub count : length slots ≡ 65536
   pub marked : (window : List ℕ) → among (parts_of paths) window ≡ true → IsMarked slots window
+  pub texts_are : texts ≡ flat_map counted paths
 
 -- the paths of a set that may have no table yet
 abbrev pub paths_in : {A : Type 0} → Option (Arc (List (List ℕ)) A) → List (List ℕ)

@@ -53,6 +53,25 @@ impl Clone for PathSet {
     }
 }
 
+/// Whether two sets have the same paths in the same order. No path is looked up.
+impl PartialEq for PathSet {
+    ghost use Rattle.std.specs.Prelude.{bytes_eq};
+    ghost use Rattle.std.specs.Cmp.Lexicographic.{pointwise};
+    ghost use Rattle.std.proofs.Common.{rules};
+    ghost use Rattle.std.specs.Cmp.Rules.{comparing};
+
+    ghost eq = { pointwise bytes_eq };
+
+    ghost laws = { Prim.search (comparing, rules) };
+
+    fn eq(&self, other: &PathSet) -> bool {
+        match (&self.shared, &other.shared) {
+            (Some(one), Some(two)) => one.is_same(two),
+            _ => self.as_slice().is_empty() && other.as_slice().is_empty(),
+        }
+    }
+}
+
 impl PathSet {
     /// No paths. It takes no memory.
     pub fn new() -> PathSet

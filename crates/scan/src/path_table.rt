@@ -6,7 +6,9 @@ ghost use Rattle.model.specs.Paths.{IsPath};
 ghost use Rattle.model.specs.Occurrences.{among, AreKeys};
 ghost use Rattle.model.specs.Settling.{hash_part_in};
 ghost use Rattle.model.specs.declared.refusal.Refusal.TheVariants.{Memory};
-ghost use Rattle.scan.specs.PathSets.{AreNew, HasOneMore, HasOneLess, HasSame, group_at, with_part};
+ghost use Rattle.scan.specs.PathSets.{AreNew, HasOneMore, HasOneLess, HasSame, counted, group_at, with_part};
+ghost use Rattle.std.specs.Cmp.Lexicographic.{pointwise};
+ghost use Rattle.std.specs.Prelude.{bytes_eq};
 
 use crate::group::Group;
 use crate::keys::{SLOTS, digits_of, slot_of};
@@ -17,10 +19,14 @@ use std::marker::Model;
 use storepath::{HashPart, StorePath};
 
 /// Paths, each once, with those of each hash part, and the slots that the hash parts have.
+///
+/// The texts of the paths stand side by side as well, each behind its length, so that two tables are compared
+/// in one sweep, and no path is looked up.
 pub struct PathTable {
     paths: IndexSet<StorePath>,
     groups: IndexMap<[u8; 32], Group>,
     slots: Vec<bool>,
+    texts: Vec<u8>,
 }
 
 impl Drop for PathTable {
@@ -29,6 +35,7 @@ impl Drop for PathTable {
             paths: _,
             groups: _,
             slots: _,
+            texts: _,
         } = self;
     }
 }
@@ -41,7 +48,8 @@ impl Model for PathTable {
 
     ghost view = { λ table. table.paths.keys };
 
-    ghost invariant = { λ table. IsTable table.paths.keys table.groups.entries table.slots.items };
+    ghost invariant = { λ table. IsTable table.paths.keys table.groups.entries table.slots.items
+        table.texts.items };
 }
 
 /// Puts a path behind those of its hash part. The one error is memory, and changes nothing.
@@ -72,6 +80,22 @@ fn take_from_group(groups: &mut IndexMap<[u8; 32], Group>, part: &[u8; 32])
     }
 }
 
+/// Puts the text of a path behind others. The one error is memory, and changes nothing.
+fn push_text(texts: &mut Vec<u8>, path: &StorePath) -> Result<(), Refusal>
+    ensures { MatchResult result
+        (λ _. texts.new.items ≡ texts.old.items ++ counted path.now)
+        (λ e. (e ≡ Memory) × (texts.new.items ≡ texts.old.items)) }
+{
+    let count = texts.len();
+    let text = path.bytes();
+    texts.push(text.len() as u8)?;
+    if let Err(why) = texts.extend_from_slice(text) {
+        texts.truncate(count);
+        return Err(why.into());
+    }
+    Ok(())
+}
+
 impl PathTable {
     /// No paths. The one error is memory.
     pub(crate) fn new(alloc: Global) -> Result<PathTable, Refusal>
@@ -83,6 +107,7 @@ impl PathTable {
             paths: IndexSet::new(alloc),
             groups: IndexMap::new(alloc),
             slots: vec![in alloc; false; SLOTS]?,
+            texts: Vec::new(alloc),
         })
     }
 
@@ -115,6 +140,13 @@ impl PathTable {
         }
     }
 
+    /// Whether another table has the same paths in the same order.
+    pub(crate) fn is_same(&self, other: &PathTable) -> bool
+        ensures { result ≡ pointwise bytes_eq self.now other.now }
+    {
+        self.texts == other.texts
+    }
+
     /// Those with a hash part.
     pub(crate) fn with_part(&self, part: &HashPart) -> &[StorePath]
         ensures { result.now ≡ with_part part.now self.now }
@@ -135,7 +167,13 @@ impl PathTable {
         self.paths.reserve(1)?;
         let part = path.hash_part();
         let digits = digits_of(&part);
-        put_in_group(alloc, &mut self.groups, digits, path.clone()?)?;
+        let copy = path.clone()?;
+        let count = self.texts.len();
+        push_text(&mut self.texts, &path)?;
+        if let Err(why) = put_in_group(alloc, &mut self.groups, digits, copy) {
+            self.texts.truncate(count);
+            return Err(why);
+        }
         self.slots[slot_of(digits)] = true;
         let _is_new = self.paths.insert(path).unwrap();
         Ok(())
@@ -149,7 +187,9 @@ impl PathTable {
             return;
         };
         let part = last.hash_part();
+        let count = self.texts.len() - last.bytes().len() - 1;
         take_from_group(&mut self.groups, digits_of(&part));
+        self.texts.truncate(count);
         self.paths.truncate(self.paths.len() - 1);
     }
 

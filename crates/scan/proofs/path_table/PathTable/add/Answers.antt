@@ -8,11 +8,6 @@ use Rattle.scan.specs.PathSets.{HasOneMore}
 use Rattle.scan.proofs.PathSetLemmas.{added, table_more, table_same}
 use Rattle.scan.proofs.path_table.PathTable.add.Goals as goal
 
-pub invariant_of-self-in_err-put_in_group : goal.invariant_of-self-in_err-put_in_group
-invariant_of-self-in_err-put_in_group c =
-    rw c.in_ok-reserve.ensures.keys (table_same c.self.inside.paths.keys c.self.inside.groups.entries c.put_in_group.new.groups.entries c.self.inside.slots.items
-    c.self.invariant c.in_err-put_in_group.ensures.1)
-
 keys : (c : goal.After-unwrap-is_new) → c.insert.new.self.keys ≡ c.self.inside.paths.keys ++ c.args.path ∷ []
 keys c =
     let old = c.self.inside.paths.keys in
@@ -26,10 +21,12 @@ invariant_of-self-2 c =
     let part = c.digits_of-digits.ensures.value ∙ c.hash_part-part.ensures.value in
     let slot : c.slot_of.result ≡ slot_of digits = c.slot_of.ensures.slot in
     let below : slot_of digits < 65536 = rw (sym slot) c.slot_of.ensures.below in
-    let copied : c.in_ok-clone.field-0 ≡ c.args.path = c.in_ok-clone.ensures.cases in
-    let more = subst (λ path. HasOneMore digits path c.self.inside.groups.entries c.put_in_group.new.groups.entries) copied c.in_ok-put_in_group.ensures in
-    rw (keys c, slot) (table_more c.self.inside.paths.keys c.self.inside.groups.entries c.put_in_group.new.groups.entries c.self.inside.slots.items digits c.args.path
-    c.self.invariant c.hash_part-part.ensures.part.0 (subst IsHashPart (sym c.digits_of-digits.ensures.value) c.digits_of-digits.ensures.digits) part below more)
+    let copied : c.in_ok-copy.copy ≡ c.args.path = c.in_ok-copy.ensures.cases in
+    let more = subst (λ path. HasOneMore digits path c.self.inside.groups.entries c.put_in_group.new.groups.entries) copied c.in_default.ensures in
+    rw (keys c, slot, c.in_ok-push_text.ensures) (table_more c.self.inside.paths.keys c.self.inside.groups.entries c.put_in_group.new.groups.entries
+    c.self.inside.slots.items c.self.inside.texts.items digits c.args.path
+    c.self.invariant c.hash_part-part.ensures.part.0 (subst IsHashPart (sym c.digits_of-digits.ensures.value) c.digits_of-digits.ensures.digits) part
+    below more)
 
 pub returns : goal.returns
 returns c = keys c ∙ ap (λ ks. ks ++ c.args.path ∷ []) c.self.view_is

@@ -12,8 +12,10 @@ pub returns-in-Some-clause-value : goal.returns-in-Some-clause-value
 returns-in-Some-clause-value c =
     let paths = c.self.inside.paths.keys in
     let window = c.args.window.now in
-    let group : c.as_slice.result.now ≡ with_part window paths = c.as_slice.ensures ∙ ap (λ (group : Option (List (List ℕ))). unwrap_or group []) c.in-Some.ensures.value ∙ c.self.invariant.grouped window in
-    let told : not c.is_empty.result ≡ not (length (with_part window paths) == 0) = ap not (c.is_empty.ensures ∙ ap (λ (items : List (List ℕ)). length items == 0) group) in
+    let group : c.as_slice.result.now ≡ with_part window paths = c.as_slice.ensures
+    ∙ ap (λ (group : Option (List (List ℕ))). unwrap_or group []) c.in-Some.ensures.value ∙ c.self.invariant.grouped window in
+    let told : not c.is_empty.result ≡ not (length (with_part window paths) == 0) = ap not (c.is_empty.ensures
+    ∙ ap (λ (items : List (List ℕ)). length items == 0) group) in
     rw (← c.self.view_is) (told ∙ sym (part_is_there window paths))
 
 pub returns-in-Some-clause-keys : goal.returns-in-Some-clause-keys
@@ -23,7 +25,8 @@ pub returns-in-None-clause-value : goal.returns-in-None-clause-value
 returns-in-None-clause-value c =
     let paths = c.self.inside.paths.keys in
     let window = c.args.window.now in
-    let group : [] ≡ with_part window paths = ap (λ (group : Option (List (List ℕ))). unwrap_or group []) c.in-None.ensures.value ∙ c.self.invariant.grouped window in
+    let group : [] ≡ with_part window paths = ap (λ (group : Option (List (List ℕ))). unwrap_or group []) c.in-None.ensures.value
+    ∙ c.self.invariant.grouped window in
     rw (← c.self.view_is) (ap (λ (items : List (List ℕ)). not (length items == 0)) group ∙ sym (part_is_there window paths))
 
 pub returns-in-None-clause-keys : goal.returns-in-None-clause-keys
