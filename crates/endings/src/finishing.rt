@@ -15,8 +15,8 @@ ghost use Rattle.jobs.specs.Owned.{goals_at};
 ghost use Rattle.store.specs.Stored.{AreNew, sources_of};
 ghost use Rattle.handling.specs.Parts.{goals_of};
 ghost use Rattle.handling.specs.Viewing.{desk_at};
-ghost use Rattle.building.specs.DeskDeltas.{last_status, status_at, with_delta, with_statuses, IsSettable};
-ghost use Rattle.endings.specs.Committing.{delta_at, statuses_for, AreToAdd, MayGain};
+ghost use Rattle.building.specs.DeskDeltas.{last_status, status_at, with_delta, with_statuses};
+ghost use Rattle.endings.specs.Committing.{delta_at, statuses_for, AreToAdd, MayGain, AreSettable};
 ghost use Rattle.endings.specs.Delivery.{IsNotMade};
 ghost use Rattle.endings.specs.Finishing.{IsPrepared};
 ghost use Rattle.handling.specs.States.{HasPlace, Handles};
@@ -165,7 +165,7 @@ fn put_in_place(
         → MayGain limits.charge (desk_at desks.old place) (delta_at ending.delivered.items place) }
     requires count { length ending.delivered.items ≡ length jobs.old.goals }
     requires settable { (place : ℕ) → place < length jobs.old.goals
-        → All (IsSettable (goals_of jobs.old.goals place)) (statuses_for ending.delivered.items place) }
+        → AreSettable (goals_of jobs.old.goals place) (statuses_for ending.delivered.items place) }
     requires new { AreNew table.old.sources (sources_of ending.trees.items) }
     ensures told { IfOk result (λ reply. reply ≡ GoalStatus ending.told) }
     ensures table { OnOk result
