@@ -1,37 +1,33 @@
 -- Forgetting what was built, as an event.
-use Rattle.std.proofs.Common.{◌≡◌, ℕ, ◌<◌, Bool, true, false, true≢false, inl, inr, List, [], ◌∷◌, length, map, refl, sym, ◌∙◌, ap, subst, rules, Option, Some, None, Result, Ok, Err}
+use Rattle.std.proofs.Common.{◌≡◌, ℕ, Bool, true, false, inl, inr, List, [], ◌∷◌, length, map, refl, sym, ◌∙◌, ap, rules, Some, None, Ok, Err}
 use Rattle.std.specs.Prelude.{◌&&◌, ◌||◌, not, All, bytes_eq}
 use Rattle.std.specs.List.{list_any}
 use Rattle.std.proofs.lemmas.Bool.{cond_both, or_parts}
 use Rattle.std.proofs.lemmas.List.Elements.{All-nil, All-cons, All-head, All-tail}
 use Rattle.model.specs.declared.refusal.Refusal.{Refusal}
 use Rattle.model.specs.declared.refusal.Refusal.TheVariants.{Memory, NotHeld, InUse}
-use Rattle.model.specs.Worlds.{Source, Setup, Desk, World, Entry, OfSource, OfRecord, Job, Status, Waiting, Building, Resolved, Goal, are_users}
-use Rattle.model.specs.Closures.{class_of_entry}
-use Rattle.model.specs.Worlds as worlds
-use Rattle.model.specs.Goals.{in_status, as_seen, is_building}
+use Rattle.model.specs.Worlds.{Source, Setup, Desk, World, Entry, OfSource, OfRecord, Status, Waiting, Building, Goal, are_users}
+use Rattle.model.specs.Goals.{in_status, is_building}
 use Rattle.model.specs.FinishedBuilds.{is_record_at}
-use Rattle.model.specs.KeptClosures.{is_planned}
 use Rattle.model.specs.ForgetRequests.{is_entry_at, is_built_from, builds_with, let_go, is_in_use, forget}
 use Rattle.model.specs.ForgetRequests as model
 use Rattle.model.specs.Events as events
 use Rattle.model.specs.Replies.{is_clash_refusal}
-use Rattle.model.specs.Outcomes.{Observation, observation_of, reaches, becomes, check, Outcome}
+use Rattle.model.specs.Outcomes.{Observation, observation_of, becomes, check}
 use Rattle.model.specs.Steps.{outcome}
 use Rattle.model.proofs.BoolLemmas.{either}
 use Rattle.trust.specs.Trusting.{IsReach}
 use Rattle.trust.specs.Naming.{place_of, names, trusted_at, IsWithin}
 use Rattle.events.specs.declared.reply.Reply as Rust
-use Rattle.events.specs.declared.reply.Reply.TheVariants.{Done}
 use Rattle.events.specs.Terms.{reply_of}
 use Rattle.realise.specs.Held.{paths_held}
 use Rattle.realise.specs.Holdings.{Holdings, is_recorded_at, is_needed, without_records}
 use Rattle.realise.proofs.ForgettingLemmas.{labelled_still}
-use Rattle.handling.specs.Sound.{Beside, desk_of, records_at, IsSound, IsResolvedIn, AreGoalsSound}
-use Rattle.handling.specs.Parts.{goals_of, beside_at}
+use Rattle.handling.specs.Sound.{Beside, desk_of, IsSound, IsResolvedIn, AreGoalsSound}
+use Rattle.handling.specs.Parts.{goals_of}
 use Rattle.handling.specs.Supported.{IsEntryOn, IsSupported, AreSupportedOn}
 use Rattle.handling.specs.Viewing.{desk_at}
-use Rattle.handling.specs.Handling.{Fits, RefusedAtOnce, IsHandledWithGoals, IsHandledAtPlace}
+use Rattle.handling.specs.Handling.{IsHandledWithGoals}
 use Rattle.handling.proofs.GoalLemmas.{goals_sound_at}
 use Rattle.trust.proofs.UsersLemmas.{distinct_users}
 use Rattle.handling.proofs.ForgettingLemmas.{sound_without, there_as, needed_as, desk_without}
@@ -122,7 +118,8 @@ module _ (users : List (List ℕ)) (limit : ℕ) (trust : ℕ → ℕ → Bool) 
 
     used_is : is_in_use observation class path ≡ (is_needed class path d || list_any (builds_with (names users set) class path) own)
     used_is =
-        (λ i. list_any (model.refers_to_class class path) (model.remaining class path (his i).records) || list_any (builds_with observation.reach class path) (his i).goals)
+        (λ i. list_any (model.refers_to_class class path) (model.remaining class path (his i).records) || list_any (builds_with observation.reach
+        class path) (his i).goals)
         ∙ (λ i. needed_as table class path d i || list_any (builds_with (sym reached i) class path) own)
 
   forget_is : (held used : Bool) → list_any (is_recorded_at class path) d.records ≡ held → is_in_use observation class path ≡ used
@@ -141,7 +138,8 @@ module _ (users : List (List ℕ)) (limit : ℕ) (trust : ℕ → ℕ → Bool) 
       → IsHandledWithGoals setup w actor (trusted_at users trust place) own table d request (Err why) own table d
   unfolding outcome
   refused_so why other no_clash is =
-      goals_handled setup w actor (trusted_at users trust place) own own table d request (Err why) d_sound own_sound (λ was. was) refl (λ fault. is) (search rules)
+      goals_handled setup w actor (trusted_at users trust place) own own table d request (Err why) d_sound own_sound (λ was. was) refl (λ fault. is)
+      (search rules)
       (λ second quick o. (let same : why ≡ second = cc in ap Err same)) (λ free lacks. other (let memory : why ≡ Memory = cc in memory)) no_clash refl tt
 
   -- there is none
@@ -158,11 +156,13 @@ module _ (users : List (List ℕ)) (limit : ℕ) (trust : ℕ → ℕ → Bool) 
     -- it is taken away
     pub forget_done : (is_needed class path d || list_any (builds_with (names users set) class path) own) ≡ false
         → list_any (bytes_eq path) (paths_held d.archives) ≡ true → (reply : Rust.Reply) → reply_of reply ≡ events.Done
-        → IsHandledWithGoals setup w actor (trusted_at users trust place) own table d request (Ok reply) (map (let_go class path) own) table (without_records class path d)
+        → IsHandledWithGoals setup w actor (trusted_at users trust place) own table d request (Ok reply) (map (let_go class path) own) table
+        (without_records class path d)
     unfolding outcome
     forget_done free held reply told =
         let parts = or_parts (is_needed class path d) (list_any (builds_with (names users set) class path) own) free in
-        let is : forget observation class path ≡ becomes (model.without_records class path observation.desk) events.Done = forget_is true false there (used_is set reach ∙ free) in
+        let is : forget observation class path ≡ becomes (model.without_records class path observation.desk) events.Done = forget_is true false there
+        (used_is set reach ∙ free) in
         let after : model.without_records class path observation.desk ≡ desk_of (beside (map (let_go class path) own)) table (without_records class path d) =
         ap (model.without_records class path) his ∙ desk_without table class path (beside own) d in
         record {

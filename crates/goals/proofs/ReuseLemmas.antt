@@ -254,7 +254,8 @@ module _ (r : Resolved) (table : List Source) where
       ap (λ b. least_from (λ p q. bytes_before p.path q.path) (Some b) (map at xs)) (lesser_at best x) ∙ least_at (Some (lesser path_before best x)) xs
 
 -- what is found goal by goal is what the user at a place finds
-pub finished_so : (trust : ℕ → ℕ → Bool) (goals : List (List Goal)) (desks : List Holdings) (place : ℕ) (r : Resolved) (set : ℕ → Bool) (built : Option Recorded)
+pub finished_so : (trust : ℕ → ℕ → Bool) (goals : List (List Goal)) (desks : List Holdings) (place : ℕ) (r : Resolved) (set : ℕ
+    → Bool) (built : Option Recorded)
     → IsReach trust place set → built ≡ least path_before (found_in r (labels_from r) desks goals (places_of set (length desks)))
     → IsFinishedBuild trust goals desks place r built
 finished_so trust goals desks place r set built reach is table users limit actor listed found paired within =

@@ -15,7 +15,7 @@ use Rattle.realise.specs.Holdings.{Holdings, records_of}
 use Rattle.jobs.specs.Statuses.{path_in}
 use Rattle.jobs.specs.Joining.{same_as}
 use Rattle.jobs.specs.Numbers.{numbers, is_done_under}
-use Rattle.handling.specs.Parts.{parts, world_in}
+use Rattle.handling.specs.Parts.{Parts, parts, world_in}
 use Rattle.handling.specs.Viewing.{desk_at}
 use Rattle.handling.specs.Supported.{goals_of}
 use Rattle.handlers.specs.Taking.{IsLabelledBy}
@@ -104,3 +104,7 @@ pub record IsUsedAgain (trust : ℕ → ℕ → Bool) (goals : List (List Goal))
       (λ setup w u. built ≡ used_again (known_at (known_of (w u)) g.derivation) (finished_build (view_of setup w u) r))
   pub stored : (q : Record) → built ≡ Some q → tree_at q.path table ≡ Some q.tree
   pub labelled : (q : Record) → built ≡ Some q → IsLabelledBy r.closure q
+
+-- so it is among these parts
+abbrev pub UsesAgain : Parts → ℕ → ℕ → Resolved → Option Record → Type 0
+UsesAgain p place n r built = IsUsedAgain p.trust p.goals p.table p.desks place n r built

@@ -1,20 +1,18 @@
 //! Planning a goal.
 
 ghost use Rattle.std.specs.Prelude.{◌≡◌, ℕ, ◌<◌, ◌≤◌, true, length, map, All, IfOk, IfErr, OnOk, OnErr, Some, is_some};
-ghost use Rattle.model.specs.Worlds.{Goal as GoalValue, are_users};
+ghost use Rattle.model.specs.Worlds.{Goal as GoalValue};
 ghost use Rattle.model.specs.Goals.{as_seen, is_waiting, goal_at, with_goal_at};
 ghost use Rattle.model.specs.Events.{Plan as PlanRequest};
 ghost use Rattle.trust.specs.Trusting.{holds, trusts};
-ghost use Rattle.trust.specs.Naming.{names, IsWithin};
-ghost use Rattle.choose.specs.Visible.{IsComplete};
+ghost use Rattle.trust.specs.Naming.{names};
 ghost use Rattle.store.specs.Stored.{put_all};
 ghost use Rattle.jobs.specs.Owned.{goals_at, with_goals_at};
 ghost use Rattle.events.specs.Statuses.{status_of};
 ghost use Rattle.jobs.specs.Statuses.{planned_with};
 ghost use Rattle.handling.specs.Stored.{source_of_entry};
-ghost use Rattle.handling.specs.Sound.{IsSound, IsClosure, IsStored, AreGoalsSound};
+ghost use Rattle.handling.specs.Sound.{IsClosure, IsStored, AreGoalsSound};
 ghost use Rattle.handling.specs.Viewing.{desk_at};
-ghost use Rattle.handling.specs.Handling.{IsHandledAtPlace};
 ghost use Rattle.handling.specs.States.{HasPlace, Handles};
 ghost use Rattle.goals.specs.Planning.{IsResolvedAt, TellsToPlan, fails, IsNotKept};
 ghost use Rattle.goals.specs.Sharing.{EqualsAllLike};
@@ -28,33 +26,29 @@ use handling::{State, desks_in_view};
 use jobs::{Jobs, Status};
 use laws::closures_are_whole;
 use model::Refusal;
-use realise::Desk;
 use records::Resolved;
 use repair::{Cache, resolve_with, served_are_made};
 use std::alloc::Global;
 use store::Table;
-use trust::{Trust, Users, is_reached};
+use trust::is_reached;
 
 /// What a derivation is built from, for the user at a place, of all that he sees.
 fn resolved_for(
     alloc: Global,
-    trust: &Trust,
-    table: &Table,
-    desks: &[Desk],
+    state: &State,
     place: usize,
     cache: &mut Cache,
     derivation: &Derivation,
 ) -> Result<Resolved, Refusal>
-    requires of_run { place < length desks.now }
-    requires few { length desks.now ≤ 64 }
-    requires complete { IsComplete table.now.sources desks.now }
-    ensures resolved { IsResolvedAt (trusts trust.now) table.now.sources desks.now place
-        derivation.now result }
+    requires { HasPlace state.now place }
+    ensures resolved { IsResolvedAt (trusts state.now.trust) state.now.table.sources
+        state.now.desks.items place derivation.now result }
     ensures closure { IfOk result (λ r. IsClosure r.closure) }
 {
     closures_are_whole();
-    let seen = desks_in_view(alloc, trust, place, desks)?;
-    let view = View::new(table, seen);
+    let desks = state.desks.as_slice();
+    let seen = desks_in_view(alloc, &state.trust, place, desks)?;
+    let view = View::new(&state.table, seen);
     let desk = &desks[place];
     let classes = input_classes(alloc, desk.known(), derivation)?;
     let sources = &derivation.parts().sources;
@@ -63,13 +57,13 @@ fn resolved_for(
 }
 
 /// Whether a goal waits, as one sees it who reaches the users at the places of a word.
-fn waits(users: &Users, reached: u64, status: &Status) -> bool
-    requires { length users.now ≤ 64 }
-    ensures { result ≡ is_waiting (as_seen (names users.now (holds reached)) (status_of status.now)) }
+fn waits(state: &State, reached: u64, status: &Status) -> bool
+    ensures { result
+        ≡ is_waiting (as_seen (names state.now.users (holds reached)) (status_of status.now)) }
 {
     match status {
         Status::Waiting => true,
-        Status::Building(job) => !is_reached(users, reached, job.leader()),
+        Status::Building(job) => !is_reached(&state.users, reached, job.leader()),
         _ => false,
     }
 }
@@ -79,26 +73,24 @@ fn waits(users: &Users, reached: u64, status: &Status) -> bool
 ///
 /// A number without a goal is refused with 42 `UnknownGoal`, a goal that does not wait with 43
 /// `WrongState`, and one whose derivation is not on the desk with 41 `UnknownDerivation`.
-fn derivation_to_plan<'a>(
-    users: &Users,
+fn derivation_to_plan(
+    state: &State,
     reached: u64,
-    jobs: &Jobs,
-    desk: &'a Desk,
     place: usize,
     number: u16,
-) -> Result<&'a Derivation, Refusal>
-    requires few { length users.now ≤ 64 }
-    requires of_run { place < length jobs.now.goals }
-    ensures { TellsToPlan (goals_at place jobs.now) desk.now.known (names users.now (holds reached))
+) -> Result<&Derivation, Refusal>
+    requires { HasPlace state.now place }
+    ensures { TellsToPlan (goals_at place state.now.jobs)
+        (desk_at state.now.desks.items place).known (names state.now.users (holds reached))
         number result }
 {
-    let Some(goal) = jobs.get(place, number) else {
+    let Some(goal) = state.jobs.get(place, number) else {
         return Err(Refusal::UnknownGoal);
     };
-    if !waits(users, reached, goal.status()) {
+    if !waits(state, reached, goal.status()) {
         return Err(Refusal::WrongState);
     }
-    match desk.derivation(goal.derivation()) {
+    match state.desks[place].derivation(goal.derivation()) {
         Some(admitted) => Ok(admitted.derivation()),
         None => Err(Refusal::UnknownDerivation),
     }
@@ -161,47 +153,6 @@ fn keep(
     Ok(())
 }
 
-/// What [`plan`] does, on what it changes.
-fn plan_goal(
-    alloc: Global,
-    users: &Users,
-    trust: &Trust,
-    jobs: &mut Jobs,
-    table: &mut Table,
-    desks: &[Desk],
-    place: usize,
-    cache: &mut Cache,
-    number: u16,
-) -> Result<CopiedReply, Refusal>
-    requires listed { are_users users.now ≡ true }
-    requires within { IsWithin (length users.now) (trusts trust.now) }
-    requires paired { length desks.now ≡ length users.now }
-    requires complete { IsComplete table.old.sources desks.now }
-    requires with_goals { length jobs.old.goals ≡ length users.now }
-    requires goals_sound { All (AreGoalsSound table.old.sources) jobs.old.goals }
-    requires of_run { place < length users.now }
-    ensures handled { (limit : ℕ) → All (IsSound table.old.sources limit) desks.now
-        → IsHandledAtPlace users.now limit (trusts trust.now) jobs.old.goals table.old.sources
-        desks.now place (PlanRequest number) result
-        (goals_at place jobs.new) table.new.sources (desk_at desks.now place) }
-    ensures others { jobs.new ≡ with_goals_at place (goals_at place jobs.new) jobs.old }
-{
-    served_are_made();
-    let reached = trust.closure(place);
-    let derivation = derivation_to_plan(users, reached, jobs, &desks[place], place, number)?;
-    match resolved_for(alloc, trust, table, desks, place, cache, derivation) {
-        Ok(resolved) => {
-            keep(alloc, jobs, table, place, number, resolved)?;
-            Ok(CopiedReply::planned())
-        }
-        Err(why) if fails(why) => {
-            jobs.set_status(place, number, Status::Failed(why));
-            Ok(CopiedReply::failed(why))
-        }
-        Err(why) => Err(why),
-    }
-}
-
 /// Finds what the goal of a number of the user at a place is built from, as he sees it now. The reply
 /// is how far the goal is then: it is planned, or has failed.
 ///
@@ -222,16 +173,25 @@ pub fn plan(
     requires { HasPlace state.old place }
     ensures { Handles state.old place (PlanRequest number) result state.new }
 {
-    let State {
-        users,
-        trust,
-        jobs,
-        desks,
-        table,
-        ..
-    } = state;
-    let desks = desks.as_slice();
-    plan_goal(
-        alloc, users, trust, jobs, table, desks, place, cache, number,
-    )
+    served_are_made();
+    let reached = state.trust.closure(place);
+    let derivation = derivation_to_plan(state, reached, place, number)?;
+    match resolved_for(alloc, state, place, cache, derivation) {
+        Ok(resolved) => {
+            keep(
+                alloc,
+                &mut state.jobs,
+                &mut state.table,
+                place,
+                number,
+                resolved,
+            )?;
+            Ok(CopiedReply::planned())
+        }
+        Err(why) if fails(why) => {
+            state.jobs.set_status(place, number, Status::Failed(why));
+            Ok(CopiedReply::failed(why))
+        }
+        Err(why) => Err(why),
+    }
 }

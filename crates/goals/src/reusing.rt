@@ -1,6 +1,6 @@
 //! What was built already, and is used again.
 
-ghost use Rattle.std.specs.Prelude.{◌≡◌, ◌<◌, ◌≤◌, true, Some, length, filter, option_copied, is_some, IfOk, IfErr, MatchResult};
+ghost use Rattle.std.specs.Prelude.{◌≡◌, true, Some, length, filter, option_copied, is_some, IfOk, IfErr, MatchResult};
 ghost use Rattle.std.specs.List.{list_any, list_all};
 ghost use Rattle.model.specs.Worlds.{same_label, tree_at};
 ghost use Rattle.model.specs.Goals.{goal_at};
@@ -11,19 +11,20 @@ ghost use Rattle.model.specs.declared.refusal.Refusal.TheVariants.{Memory};
 ghost use Rattle.trust.specs.Trusting.{holds, trusts};
 ghost use Rattle.jobs.specs.Owned.{goals_at};
 ghost use Rattle.handling.specs.Viewing.{places_of, desk_at};
+ghost use Rattle.handling.specs.States.{HasPlace, parts_of};
 ghost use Rattle.records.specs.Trees.{record_at};
-ghost use Rattle.choose.specs.Visible.{AreStored};
-ghost use Rattle.goals.specs.Reusing.{path_before, is_found_at, done_path, found_by, found_on, found_in, class_for, IsFinishedBuild, IsHeldAmong, IsUsedAgain};
+ghost use Rattle.goals.specs.Reusing.{path_before, is_found_at, done_path, found_by, found_on, found_in, class_for, IsFinishedBuild, IsHeldAmong, UsesAgain};
 
 use classes::Class;
-use jobs::{Goal, Jobs, Status};
+use handling::State;
+use jobs::{Goal, Status};
 use model::Refusal;
 use realise::Desk;
 use records::{Label, Realisation, Record, Resolved};
 use std::alloc::Global;
 use store::Table;
 use storepath::StorePath;
-use trust::{Trust, has_place};
+use trust::has_place;
 
 /// Whether a label is among these.
 fn is_among(label: &Label, labels: &[Label]) -> bool
@@ -112,24 +113,25 @@ fn least_for_goal<'a>(
     }
 }
 
-/// The best so far, or the least of what was built for the goals of the user at a place, whose desk
-/// this is. It looks only at goals that are done and were built under the same path, of several that came
-/// to the same at the first.
+/// The best so far, or the least of what was built for the goals of the user at a place. It looks only
+/// at goals that are done and were built under the same path, of several that came to the same at the
+/// first.
 fn least_for_user<'a>(
+    state: &'a State,
     best: Option<&'a Record>,
-    jobs: &Jobs,
     place: usize,
-    desk: &'a Desk,
     resolved: &Resolved,
     labels: &[Label],
 ) -> Option<&'a Record>
-    requires { place < length jobs.now.goals }
+    requires { HasPlace state.now place }
     ensures { option_copied result ≡ least_from path_before (option_copied best.entry)
-        (found_on resolved.now labels.now desk.now (goals_at place jobs.now)) }
+        (found_on resolved.now labels.now (desk_at state.now.desks.items place)
+        (goals_at place state.now.jobs)) }
 {
+    let desk = &state.desks[place];
     let mut least = best;
-    for number in jobs.finished_under(place, resolved.scratch()) {
-        if let Some(goal) = jobs.get(place, *number) {
+    for number in state.jobs.finished_under(place, resolved.scratch()) {
+        if let Some(goal) = state.jobs.get(place, *number) {
             least = least_for_goal(least, goal, desk, resolved, labels);
         }
     }
@@ -139,22 +141,20 @@ fn least_for_user<'a>(
 /// The least of what was built for the goals of the users at the places of a word. It looks only at
 /// those of them who have planned goals under the same path.
 fn least_for_all<'a>(
+    state: &'a State,
     word: u64,
-    jobs: &Jobs,
-    desks: &'a [Desk],
     resolved: &Resolved,
     labels: &[Label],
 ) -> Option<&'a Record>
-    requires paired { length jobs.now.goals ≡ length desks.now }
-    requires few { length desks.now ≤ 64 }
-    ensures { option_copied result ≡ least path_before (found_in resolved.now labels.now desks.now
-        jobs.now.goals (places_of (holds word) (length desks.now))) }
+    ensures { option_copied result ≡ least path_before (found_in resolved.now labels.now
+        state.now.desks.items state.now.jobs.goals
+        (places_of (holds word) (length state.now.desks.items))) }
 {
-    let near = word & jobs.planners(resolved.scratch());
+    let near = word & state.jobs.planners(resolved.scratch());
     let mut least = None;
-    for place in 0..desks.len() {
+    for place in 0..state.desks.len() {
         if has_place(near, place) {
-            least = least_for_user(least, jobs, place, &desks[place], resolved, labels);
+            least = least_for_user(state, least, place, resolved, labels);
         }
     }
     least
@@ -163,32 +163,28 @@ fn least_for_all<'a>(
 /// What was built already from the same, for a goal of one whom the user at a place reaches, and is
 /// on that one's desk still, with labels that the closure gives: of several that of the least path.
 fn finished_build<'a>(
-    trust: &Trust,
-    jobs: &Jobs,
-    desks: &'a [Desk],
+    state: &'a State,
     place: usize,
     resolved: &Resolved,
     labels: &[Label],
 ) -> Option<&'a Record>
-    requires of_run { place < length desks.now }
-    requires few { length desks.now ≤ 64 }
-    requires paired { length jobs.now.goals ≡ length desks.now }
+    requires of_run { HasPlace state.now place }
     requires labels { labels.now ≡ labels_from resolved.now }
-    ensures found { IsFinishedBuild (trusts trust.now) jobs.now.goals desks.now place resolved.now
-        (option_copied result) }
-    ensures held { IsHeldAmong labels.now desks.now (option_copied result) }
+    ensures found { IsFinishedBuild (trusts state.now.trust) state.now.jobs.goals
+        state.now.desks.items place resolved.now (option_copied result) }
+    ensures held { IsHeldAmong labels.now state.now.desks.items (option_copied result) }
 {
-    least_for_all(trust.closure(place), jobs, desks, resolved, labels)
+    least_for_all(state, state.trust.closure(place), resolved, labels)
 }
 
-/// The class of the derivation of a goal of the user of a desk, if he knows it.
-fn class_of<'a>(jobs: &Jobs, desk: &'a Desk, place: usize, number: u16) -> Option<&'a Class>
-    requires { place < length jobs.now.goals }
-    ensures { option_copied result
-        ≡ class_for desk.now.known (goal_at number (goals_at place jobs.now)) }
+/// The class of the derivation of the goal of a number of the user at a place, if he knows it.
+fn class_of(state: &State, place: usize, number: u16) -> Option<&Class>
+    requires { HasPlace state.now place }
+    ensures { option_copied result ≡ class_for (desk_at state.now.desks.items place).known
+        (goal_at number (goals_at place state.now.jobs)) }
 {
-    let goal = jobs.get(place, number)?;
-    let admitted = desk.derivation(goal.derivation())?;
+    let goal = state.jobs.get(place, number)?;
+    let admitted = state.desks[place].derivation(goal.derivation())?;
     Some(admitted.class())
 }
 
@@ -216,28 +212,21 @@ fn realised(
 /// for the class of his derivation. The one error is memory.
 pub(crate) fn used_again(
     alloc: Global,
-    trust: &Trust,
-    jobs: &Jobs,
-    table: &Table,
-    desks: &[Desk],
+    state: &State,
     place: usize,
     number: u16,
     resolved: &Resolved,
 ) -> Result<Option<Realisation>, Refusal>
-    requires of_run { place < length desks.now }
-    requires few { length desks.now ≤ 64 }
-    requires paired { length jobs.now.goals ≡ length desks.now }
-    requires stored { AreStored table.now.sources desks.now }
-    ensures used { IfOk result (IsUsedAgain (trusts trust.now) jobs.now.goals table.now.sources
-        desks.now place number resolved.now) }
+    requires { HasPlace state.now place }
+    ensures used { IfOk result (UsesAgain (parts_of state.now) place number resolved.now) }
     ensures memory { IfErr result (λ e. e ≡ Memory) }
 {
-    let Some(class) = class_of(jobs, &desks[place], place, number) else {
+    let Some(class) = class_of(state, place, number) else {
         return Ok(None);
     };
     let labels = resolved.labels(alloc)?;
-    match finished_build(trust, jobs, desks, place, resolved, &labels) {
-        Some(found) => Ok(Some(realised(alloc, table, found, class)?)),
+    match finished_build(state, place, resolved, &labels) {
+        Some(found) => Ok(Some(realised(alloc, &state.table, found, class)?)),
         None => Ok(None),
     }
 }

@@ -205,7 +205,8 @@ map_push (e ∷ es) q = ap (λ rest. counted e ∷ rest) (map_push es q)
 abbrev has_room_for : ℕ → Holdings → List worlds.Entry → Bool
 has_room_for limit d es = are_roomy (bare_entries es) (charged_all (map counted es) d) limit d
 
-less_room : (limit : ℕ) (d : Holdings) (es : List worlds.Entry) (q : Record) → has_room_for limit d (es ++ OfRecord q ∷ []) ≡ true → has_room_for limit d es ≡ true
+less_room : (limit : ℕ) (d : Holdings) (es : List worlds.Entry) (q : Record) → has_room_for limit d (es ++ OfRecord q ∷ []) ≡ true
+    → has_room_for limit d es ≡ true
 less_room limit d es q room =
     let all : List worlds.Entry = es ++ OfRecord q ∷ [] in
     let first = both_parts (nat_le (length d.known.sources + length (sources_in (bare_entries all))) most_sources) _ room in

@@ -51,7 +51,8 @@ use Rattle.handling.proofs.SupportLemmas.{gains_nothing}
 -- ---- the user at a place
 
 module _ (users : List (List ℕ)) (limit : ℕ) (trust : ℕ → ℕ → Bool) (goals : List (List Goal)) (table : List Source) (desks : List Holdings)
-    (actor : List ℕ) (place : ℕ) (listed : are_users users ≡ true) (found : place_of users actor ≡ Some place) (paired : length desks ≡ length users) (within : IsWithin (length users) trust) where
+    (actor : List ℕ) (place : ℕ) (listed : are_users users ≡ true) (found : place_of users actor ≡ Some place) (paired : length desks ≡ length users)
+    (within : IsWithin (length users) trust) where
   abbrev setup : Setup
   setup = record { users = users; charge = limit }
 
@@ -119,13 +120,15 @@ pub planned_at : (trust : ℕ → ℕ → Bool) (table : List Source) (desks vie
 planned_at trust table desks view place class (Ok p) are planned = λ users limit goals actor listed found paired within.
     let w : World = world users limit trust goals table desks actor place listed found paired within in
     let sees = visible users limit trust goals table desks actor place listed found paired within view are in
-    let pins : (w actor).pins ≡ (desk_at desks place).pins = ap (λ (d : Desk). d.pins) (his_desk users limit trust goals table desks actor place listed found paired within) in
+    let pins : (w actor).pins ≡ (desk_at desks place).pins = ap (λ (d : Desk). d.pins) (his_desk users limit trust goals table desks actor place
+    listed found paired within) in
     let his = view_of (record { users = users; charge = limit }) w actor in
     subst (λ ps. closure_plan his ps (class ∷ []) [] ≡ Ok p) (sym pins) (planned his sees)
 planned_at trust table desks view place class (Err why) are planned = λ users limit goals actor listed found paired within.
     let w : World = world users limit trust goals table desks actor place listed found paired within in
     let sees = visible users limit trust goals table desks actor place listed found paired within view are in
-    let pins : (w actor).pins ≡ (desk_at desks place).pins = ap (λ (d : Desk). d.pins) (his_desk users limit trust goals table desks actor place listed found paired within) in
+    let pins : (w actor).pins ≡ (desk_at desks place).pins = ap (λ (d : Desk). d.pins) (his_desk users limit trust goals table desks actor place
+    listed found paired within) in
     let his = view_of (record { users = users; charge = limit }) w actor in
     subst (λ ps. (why ≡ Memory) ⊎ (closure_plan his ps (class ∷ []) [] ≡ Err why)) (sym pins) (planned his sees)
 
@@ -151,12 +154,14 @@ refused_of_plan trust table desks place class p why planned (inr is) = λ users 
 pub unplanned_at : (trust : ℕ → ℕ → Bool) (table : List Source) (desks : List Holdings) (place : ℕ) (class : List ℕ) (why : Refusal)
     → AtPlace trust table desks place (λ setup w u. IsNotPlanned setup w u class why)
     → AtPlace trust table desks place (λ setup w u. AreNotServed setup w u class why)
-unplanned_at trust table desks place class why none = λ users limit goals actor listed found paired within. elim (none users limit goals actor listed found paired within) [
-  | inl memory ↦ inl memory
-  | inr is ↦ inr (ap (λ o. then_do o served_plan) is)
-]
+unplanned_at trust table desks place class why none = λ users limit goals actor listed found paired within. elim (none users limit goals actor listed
+    found paired within) [
+      | inl memory ↦ inl memory
+      | inr is ↦ inr (ap (λ o. then_do o served_plan) is)
+    ]
 
-pub served_at : (trust : ℕ → ℕ → Bool) (table : List Source) (desks : List Holdings) (place : ℕ) (class : List ℕ) (p : Plan) (result : Result (Vec Entry) Refusal)
+pub served_at : (trust : ℕ → ℕ → Bool) (table : List Source) (desks : List Holdings) (place : ℕ) (class : List ℕ) (p : Plan)
+    (result : Result (Vec Entry) Refusal)
     → AtPlace trust table desks place (λ setup w u. IsPlanned setup w u class p) → IsAnswer result (served_plan p) → IfOk result (λ _. IsSoundPlan p)
     → IsServedAt trust table desks place class result
 served_at trust table desks place class p (Ok entries) planned served sound = served_of_plan trust table desks place class p entries.items planned served sound
@@ -165,15 +170,18 @@ served_at trust table desks place class p (Err why) planned served sound = refus
 -- why nothing is served is no clash
 pub unserved_no_clash : (setup : Setup) (w : World) (u class : List ℕ) (why : Refusal) → AreNotServed setup w u class why → is_clash_refusal why ≡ false
 unserved_no_clash setup w u class why (inl memory) = rw memory refl
-unserved_no_clash setup w u class why (inr is) = closure_refusals (λ why. is_clash_refusal why ≡ false) refl refl (λ fault. refl) (view_of setup w u) (w u).pins (class ∷ []) [] why is
+unserved_no_clash setup w u class why (inr is) = closure_refusals (λ why. is_clash_refusal why ≡ false) refl refl (λ fault. refl) (view_of setup w u)
+    (w u).pins (class ∷ []) [] why is
 
 -- no refusal of a closure is one that needs no memory
 closure_at_once : (s : Observation) (class : List ℕ) (result : Result Rust.Reply Refusal) → RefusedAtOnce (closure s class) result
-closure_at_once s class result = closure_cases (λ o. RefusedAtOnce o result) s class (λ entries why quick o. cc) (λ why quick o. cc) (λ why quick o. cc) (λ fault why quick o. cc)
+closure_at_once s class result = closure_cases (λ o. RefusedAtOnce o result) s class (λ entries why quick o. cc) (λ why quick o. cc) (λ why quick o.
+    cc) (λ fault why quick o. cc)
 
 -- ---- a closure that is told
 
-pub closure_handled : (trust : ℕ → ℕ → Bool) (limit : ℕ) (table : List Source) (desks : List Holdings) (place : ℕ) (class : List ℕ) (entries : List Entry) (reply : Rust.Reply)
+pub closure_handled : (trust : ℕ → ℕ → Bool) (limit : ℕ) (table : List Source) (desks : List Holdings) (place : ℕ) (class : List ℕ) (entries : List
+    Entry) (reply : Rust.Reply)
     → AtPlace trust table desks place (λ setup w u. AreServed setup w u class entries) → reply_of reply ≡ events.Entries entries
     → IsHandledByObservation trust limit table desks place (events.Closure class) (Ok reply) table (desk_at desks place)
 unfolding outcome
@@ -181,8 +189,10 @@ closure_handled trust limit table desks place class entries reply served told us
     let s : Setup = record { users = users; charge = limit } in
     let w : World = world users limit trust goals table desks actor place listed found paired within in
     left_there users limit trust goals table desks actor place listed found paired within (events.Closure class) (Ok reply) sound
-    (ap (λ o. then_do o (λ es. becomes (w actor) (events.Entries es))) (served users limit goals actor listed found paired within).are ∙ ap (becomes (w actor)) (sym told))
-    (rw told refl) (closure_at_once (observation_of s w actor) class (Ok reply)) (λ reply. refl) (search rules) refl (served users limit goals actor listed found paired within).sound
+    (ap (λ o. then_do o (λ es. becomes (w actor) (events.Entries es))) (served users limit goals actor listed found paired within).are
+    ∙ ap (becomes (w actor)) (sym told))
+    (rw told refl) (closure_at_once (observation_of s w actor) class (Ok reply)) (λ reply. refl) (search rules) refl (served users limit goals actor
+    listed found paired within).sound
 
 pub closure_refused : (trust : ℕ → ℕ → Bool) (limit : ℕ) (table : List Source) (desks : List Holdings) (place : ℕ) (class : List ℕ) (why : Refusal)
     → AtPlace trust table desks place (λ setup w u. AreNotServed setup w u class why)
@@ -197,18 +207,21 @@ closure_refused trust limit table desks place class why refused users goals acto
       | inl memory ↦ (let no = rw memory at own in cc)
       | inr is ↦ ap (λ o. then_do o (λ es. becomes (w actor) (events.Entries es))) is
     ])
-    (search rules) (closure_at_once (observation_of s w actor) class (Err why)) (λ reply. refl) (unserved_no_clash s w actor class why none) (search rules) (search rules)
+    (search rules) (closure_at_once (observation_of s w actor) class (Err why)) (λ reply. refl) (unserved_no_clash s w actor class why none) (search rules)
+    (search rules)
 
 -- and so is one that is served of a plan, or says why there is none
 pub handled_of_plan : (trust : ℕ → ℕ → Bool) (limit : ℕ) (table : List Source) (desks : List Holdings) (place : ℕ) (class : List ℕ)
     (planned : Result Plan Refusal) (given : Result Rust.Reply Refusal) → IsPlannedAt trust table desks place class planned → MayServe planned given
     → IsHandledByObservation trust limit table desks place (events.Closure class) given table (desk_at desks place)
 handled_of_plan trust limit table desks place class (Ok p) (Ok reply) planned served =
-    closure_handled trust limit table desks place class served.entries reply (served_of_plan trust table desks place class p served.entries planned served.are served.sound) served.told
+    closure_handled trust limit table desks place class served.entries reply (served_of_plan trust table desks place class p served.entries planned
+    served.are served.sound) served.told
 handled_of_plan trust limit table desks place class (Ok p) (Err why) planned served =
     closure_refused trust limit table desks place class why (refused_of_plan trust table desks place class p why planned served)
 handled_of_plan trust limit table desks place class (Err why) given none is =
-    subst (λ (o : Result Rust.Reply Refusal). IsHandledByObservation trust limit table desks place (events.Closure class) o table (desk_at desks place)) (sym is)
+    subst (λ (o : Result Rust.Reply Refusal). IsHandledByObservation trust limit table desks place (events.Closure class) o table (desk_at desks
+    place)) (sym is)
     (closure_refused trust limit table desks place class why (unplanned_at trust table desks place class why none))
 
 -- ---- the entries of a closure

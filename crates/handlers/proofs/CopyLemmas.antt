@@ -59,10 +59,25 @@ module _ (table : List Source) where
       → desk_of beside table (holds_entry (entry_without e) more d) ≡ with_entry e (desk_of beside table d)
   one_copied beside d (OfSource s) more there =
       let sources = sources_at-push table d.known.sources s.path s.tree there in
-      λ i. record { trusted = beside.trusted; sources = sources i; derivations = d.known.derivations; records = records_at table d.records; pins = d.pins; goals = beside.goals }
+      λ i. record {
+        trusted = beside.trusted;
+        sources = sources i;
+        derivations = d.known.derivations;
+        records = records_at table d.records;
+        pins =
+            d.pins;
+        goals = beside.goals;
+      }
   one_copied beside d (OfRecord r) more there =
       let records = records_at-push table d.records (without_tree r) r.tree there in
-      λ i. record { trusted = beside.trusted; sources = sources_at table d.known.sources; derivations = d.known.derivations; records = records i; pins = d.pins; goals = beside.goals }
+      λ i. record {
+        trusted = beside.trusted;
+        sources = sources_at table d.known.sources;
+        derivations = d.known.derivations;
+        records = records i;
+        pins = d.pins;
+        goals = beside.goals;
+      }
 
   -- the bytes of the archive of an entry
   abbrev its_archive : worlds.Entry → ℕ
@@ -111,7 +126,8 @@ module _ (table : List Source) where
       → All (IsSized table) (with_each es d).archives
   all_sized [] d there sized = sized
   all_sized (e ∷ es) d there sized =
-      let stored : tree_at (entry_path (entry_without e)) table ≡ Some (tree_of_entry e) = ap (λ p. tree_at p table) (its_path e) ∙ All-head (IsThereFor table) e es there in
+      let stored : tree_at (entry_path (entry_without e)) table ≡ Some (tree_of_entry e) = ap (λ p. tree_at p table) (its_path e)
+      ∙ All-head (IsThereFor table) e es there in
       all_sized es (holds_entry (entry_without e) (its_archive e) d) (All-tail (IsThereFor table) e es there)
       (subst (All (IsSized table)) (sym (archives_are (entry_without e) (its_archive e) d))
       (sized_with table (entry_path (entry_without e), its_archive e) d.archives (ap (option_map (λ t. length (nar t))) stored) sized))
@@ -144,7 +160,8 @@ one_labelled d (OfSource s) more =
 one_labelled d (OfRecord r) more =
     list_any-append (is_at r.path r.class) d.records (without_tree r ∷ [])
     ∙ or_right (list_any (is_at r.path r.class) d.records) _
-    (or_left (is_at r.path r.class (without_tree r)) false (and_from (bytes_eq r.path r.path) (bytes_eq r.class.path r.class.path) (bytes_same r.path) (bytes_same r.class.path)))
+    (or_left (is_at r.path r.class (without_tree r)) false (and_from (bytes_eq r.path r.path) (bytes_eq r.class.path r.class.path) (bytes_same r.path)
+    (bytes_same r.class.path)))
 
 each_labelled : (es : List worlds.Entry) (d : Holdings) (e : worlds.Entry) → In e es
     → has_labelled (holds_each (map counted es) d) (path_of_entry e) (class_of_entry e) ≡ true
@@ -211,7 +228,8 @@ module _ (d : Holdings) (entries : List worlds.Entry) where
       by : (labels : List worlds.Label) → ((l : worlds.Label) → In l labels → In l r.labels) → All (λ l. has_labelled after l.path l.class ≡ true) labels
       by [] inside = All-nil (λ (l : worlds.Label). has_labelled after l.path l.class ≡ true)
       by (l ∷ labels) inside =
-          All-cons (λ (l : worlds.Label). has_labelled after l.path l.class ≡ true) l labels (named l (inside l (inl refl))) (by labels (λ m k. inside m (inr k)))
+          All-cons (λ (l : worlds.Label). has_labelled after l.path l.class ≡ true) l labels (named l (inside l (inl refl))) (by labels (λ m k.
+          inside m (inr k)))
 
   -- what holds of the records of a desk and of the entries holds of all its records then
   all_records : (P : Recorded → Type 0) (es : List worlds.Entry) (from : Holdings) → All P from.records
@@ -223,7 +241,8 @@ module _ (d : Holdings) (entries : List worlds.Entry) where
   all_closed : AreLabelled entries → IsClosed d → IsClosed after
   all_closed labelled closed =
       all_records (IsClosedWith after) (missing_on d entries) d
-      (All-weaker (IsClosedWith d) (IsClosedWith after) (λ r all. All-weaker (λ l. has_labelled d l.path l.class ≡ true) (λ l. has_labelled after l.path l.class ≡ true)
+      (All-weaker (IsClosedWith d) (IsClosedWith after) (λ r all. All-weaker (λ l. has_labelled d l.path l.class ≡ true) (λ l. has_labelled after
+      l.path l.class ≡ true)
       (λ l h. still_each (map counted (missing_on d entries)) d l.path l.class h) r.labels all) d.records closed)
       (λ r h. record_closed labelled r (from_filter (λ e. not (is_on (entry_without e) d)) (OfRecord r) entries h).0)
 
@@ -303,7 +322,8 @@ module _ (old new : List Source) (limit : ℕ) (d : Holdings) (entries : List wo
         sized = all_sized new found d found_there (sized_kept old new later d.archives sound.sized);
         within = (let fits : d.charge + bytes_more ≤ limit = grind (arith, nat_tests, second.1) in rw charge_sum fits);
         few_sources = (let fits : length d.known.sources + length (sources_in S) ≤ most_sources = grind (arith, nat_tests, first.0) in rw source_sum fits);
-        few_derivations = (let same : with_found.known.derivations ≡ d.known.derivations = ap (λ (h : Holdings). h.known.derivations) in_parts in rw same sound.few_derivations);
+        few_derivations = (let same : with_found.known.derivations ≡ d.known.derivations = ap (λ (h : Holdings). h.known.derivations) in_parts in
+            rw same sound.few_derivations);
         few_records = (let fits : length d.records + length (records_in S) ≤ most_records = grind (arith, nat_tests, second.0) in rw record_sum fits);
         few_pins = (let same : with_found.pins ≡ d.pins = ap (λ (h : Holdings). h.pins) in_parts in rw same sound.few_pins);
         known = all_known new found d found_there (known_kept old new later (paths_of d) sound.known);
@@ -317,7 +337,8 @@ sources_same : (es : List worlds.Entry) → sources_of (map tree_with_path es) �
 sources_same [] = refl
 sources_same (e ∷ es) = ap (λ rest. source_of_entry e ∷ rest) (sources_same es)
 
-pub sources_are : (entries : List worlds.Entry) (trees : List (List ℕ × Tree)) → trees ≡ map tree_with_path entries → sources_of trees ≡ map source_of_entry entries
+pub sources_are : (entries : List worlds.Entry) (trees : List (List ℕ × Tree)) → trees ≡ map tree_with_path entries
+    → sources_of trees ≡ map source_of_entry entries
 sources_are entries trees is = ap sources_of is ∙ sources_same entries
 
 pub all_there : (old : List Source) (entries : List worlds.Entry) (trees : List (List ℕ × Tree)) → trees ≡ map tree_with_path entries → AreThere old trees
@@ -325,7 +346,8 @@ pub all_there : (old : List Source) (entries : List worlds.Entry) (trees : List 
 all_there old entries trees is there =
     let here : AreThere old (map tree_with_path entries) = subst (AreThere old) is there in
     let P : List Source → List ℕ × Tree → Type 0 = λ sources e. tree_at e.0 (put_all sources old) ≡ Some e.1 in
-    unmapped (P (map source_of_entry entries)) tree_with_path entries (subst (λ sources. All (P sources) (map tree_with_path entries)) (sources_same entries) here)
+    unmapped (P (map source_of_entry entries)) tree_with_path entries (subst (λ sources. All (P sources) (map tree_with_path entries))
+    (sources_same entries) here)
 
 map_parts : {X Y : Type 0} (f : X → Y) (xs : List X) (y : X) (zs : List X) → map f (xs ++ y ∷ zs) ≡ map f xs ++ f y ∷ map f zs
 map_parts f [] y zs = refl

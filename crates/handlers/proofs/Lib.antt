@@ -1,4 +1,5 @@
 pub mod ClosureLemmas
+pub mod StateLemmas
 pub mod MissingLemmas
 pub mod CopyLemmas
 pub mod TakeLemmas

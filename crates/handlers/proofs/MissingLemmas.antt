@@ -47,7 +47,8 @@ unfolding are_distinct
 sources_distinct [] up = refl
 sources_distinct (OfRecord r ∷ es) up = sources_distinct es up.1
 sources_distinct (OfSource s ∷ es) up =
-    and_from (not (is_among s.path (sources_in (bare_entries es)))) _ (not_from_false (is_among s.path (sources_in (bare_entries es))) (not_again s es up.0)) (sources_distinct es up.1)
+    and_from (not (is_among s.path (sources_in (bare_entries es)))) _ (not_from_false (is_among s.path (sources_in (bare_entries es))) (not_again s
+    es up.0)) (sources_distinct es up.1)
 
 not_true : (b : Bool) → not b ≡ true → b ≡ false
 not_true true h = cc
@@ -59,7 +60,8 @@ or_none false b h = (refl, h)
 
 bare_all : (P : DeskEntry → Type 0) (es : List worlds.Entry) → All (λ e. P (entry_without e)) es → All P (bare_entries es)
 bare_all P [] all = All-nil P
-bare_all P (e ∷ es) all = All-cons P (entry_without e) (bare_entries es) (All-head (λ e. P (entry_without e)) e es all) (bare_all P es (All-tail (λ e. P (entry_without e)) e es all))
+bare_all P (e ∷ es) all = All-cons P (entry_without e) (bare_entries es) (All-head (λ e. P (entry_without e)) e es all)
+    (bare_all P es (All-tail (λ e. P (entry_without e)) e es all))
 
 filtered_all : {X : Type 0} (p : X → Bool) (P : X → Type 0) → ((x : X) → p x ≡ true → P x) → (xs : List X) → All P (filter p xs)
 filtered_all p P own [] = All-nil P
@@ -128,7 +130,8 @@ length-map f [] = refl
 length-map f (x ∷ xs) = let rest = length-map f xs in omega (arith, rest)
 
 -- no tree has more bytes than a tree may have, so they can be counted together
-pub are_countable : (d : Holdings) (entries : List worlds.Entry) (found : List (DeskEntry × ℕ)) → AreCopyable entries → found ≡ map counted (missing_on d entries)
+pub are_countable : (d : Holdings) (entries : List worlds.Entry) (found : List (DeskEntry × ℕ)) → AreCopyable entries
+    → found ≡ map counted (missing_on d entries)
     → All (λ e. e.1 ≤ 67108864) found → AreCountable found
 are_countable d entries found copyable is small =
     let count : length found ≤ 1025 = (let few = fewer (λ e. not (is_on (entry_without e) d)) entries in
@@ -150,7 +153,8 @@ its_missing (OfRecord r) (entry.Source path) is = cc
 its_missing (OfRecord r) (entry.Record q) is = (let same : with_tree r.tree q ≡ r = cc in ap (λ x. entry.Record (without_tree x)) (sym same))
 
 -- an entry is found exactly where it is not on the desk
-missing_one : (d : Holdings) (e : worlds.Entry) (rest : List worlds.Entry) (old : List (DeskEntry × ℕ)) (b : Bool) (missing : DeskEntry) → entry_without e ≡ missing
+missing_one : (d : Holdings) (e : worlds.Entry) (rest : List worlds.Entry) (old : List (DeskEntry × ℕ)) (b : Bool) (missing : DeskEntry)
+    → entry_without e ≡ missing
     → is_on missing d ≡ b
     → cond b old (old ++ (missing, length (nar (tree_of_entry e))) ∷ []) ++ map counted (missing_on d rest) ≡ old ++ map counted (missing_on d (e ∷ rest))
 missing_one d e rest old true missing put is = let on : is_on (entry_without e) d ≡ true = ap (λ m. is_on m d) put ∙ is in rw on refl

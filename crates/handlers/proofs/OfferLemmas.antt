@@ -35,9 +35,11 @@ use Rattle.handling.proofs.StepLemmas.{offer_at_once}
 use Rattle.handling.proofs.HandlingLemmas.{left, entry_handled}
 
 -- it has its path by texts that were hashed
-pub output_hashed : (texts : List (List ℕ)) (beside : Beside) (table : List Source) (d : Holdings) (a : Admission) (tree new : Tree) (r : Recorded) (path : List ℕ)
+pub output_hashed : (texts : List (List ℕ)) (beside : Beside) (table : List Source) (d : Holdings) (a : Admission) (tree new : Tree) (r : Recorded)
+    (path : List ℕ)
     → IsOutput d a tree r new
-    → known_at d.known path ≡ Some a → All (Contains texts) (offer_texts (desk_of beside table d) path tree) → IsHashed texts (record { path = r.path; tree = new })
+    → known_at d.known path ≡ Some a → All (Contains texts) (offer_texts (desk_of beside table d) path tree)
+    → IsHashed texts (record { path = r.path; tree = new })
 output_hashed texts beside table d a tree new r path output known inside =
     let T : List Label → List (List ℕ) = λ labels. settling_texts tree (hash_part_in a.class.path) (paths_of_labels labels) (name_of a.derivation) in
     let at : known_at (known_of (desk_of beside table d)) path ≡ Some a = ap (λ k. known_at k path) (known_of-desk_of beside table d) ∙ known in
@@ -47,7 +49,8 @@ output_hashed texts beside table d a tree new r path output known inside =
       named = output.settled;
       path = sym (ap (λ (q : Record). q.path) output.record_is);
       tree = sym output.tree_is;
-      made = MadeOutput tree (hash_part_in a.class.path) (paths_of_labels output.labels) (name_of a.derivation) output.sound output.own output.paths output.is own;
+      made = MadeOutput tree (hash_part_in a.class.path) (paths_of_labels output.labels) (name_of a.derivation) output.sound output.own output.paths
+          output.is own;
     }
 
 -- ---- the outcome
@@ -61,7 +64,10 @@ module _ (beside : Beside) (limit : ℕ) (table : List Source) (d : Holdings) (p
       → IsHandledBeside beside limit table d (Offer path tree) (Err UnknownDerivation) table d
   unfolding outcome
   unknown_handled sound none =
-      left beside limit table d (Offer path tree) (Err UnknownDerivation) sound (λ setup w u. tt) (λ users observation same own. rw (same, known_there None none) refl)
+      left beside limit table d (Offer path tree) (Err UnknownDerivation) sound (λ setup w u. tt) (λ users observation same own. rw (
+        same,
+        known_there None none,
+      ) refl)
       (offer_at_once (desk_of beside table d) path tree (Err UnknownDerivation) (λ absent. refl)) (λ reply. refl) (search rules) refl (search rules)
 
   offer_is : (a : Admission) → known_at d.known path ≡ Some a → (setup : Setup)
@@ -93,8 +99,10 @@ module _ (beside : Beside) (limit : ℕ) (table : List Source) (d : Holdings) (p
       → IsHandledBeside beside limit table d (Offer path tree) (Err why) table d
   unfolding outcome
   refused_handled a why sound known refused =
-      left beside limit table d (Offer path tree) (Err why) sound (λ setup w u. tt) (λ users observation same. rw same (refusal_fits a why known refused (record { users = users; charge = limit })))
-      (offer_at_once (desk_of beside table d) path tree (Err why) (λ absent. (let no = sym (known_there (Some a) known) ∙ absent in cc))) (λ reply. refl) (search rules) (refusal_no_clash a why refused) (search rules)
+      left beside limit table d (Offer path tree) (Err why) sound (λ setup w u. tt) (λ users observation same. rw same (refusal_fits a why known
+      refused (record { users = users; charge = limit })))
+      (offer_at_once (desk_of beside table d) path tree (Err why) (λ absent. (let no = sym (known_there (Some a) known)
+      ∙ absent in cc))) (λ reply. refl) (search rules) (refusal_no_clash a why refused) (search rules)
 
   -- the output is added
   pub offer_handled : (new : List Source) (now : Holdings) (settled : Tree) (a : Admission) (r : Recorded) (result : Result Rust.Reply Refusal)
@@ -111,7 +119,8 @@ module _ (beside : Beside) (limit : ℕ) (table : List Source) (d : Holdings) (p
       (offer_at_once (desk_of beside table d) path tree result (λ absent. (let no = sym (known_there (Some a) known) ∙ absent in cc))) (λ reply. refl)
       (λ setup w u here.
       ap (λ e. output_stored e tree (known_at (known_of e) path)) here ∙ ap (output_stored (desk_of beside table d) tree) (known_there (Some a) known)
-      ∙ ap (λ ls. settled_source (output_settled ls a tree)) (sym (output.candidates beside table)) ∙ ap settled_source output.is ∙ ap (λ s. s ∷ []) same_source)
+      ∙ ap (λ ls. settled_source (output_settled ls a tree)) (sym (output.candidates beside table)) ∙ ap settled_source output.is
+      ∙ ap (λ s. s ∷ []) same_source)
       (λ setup w u. refl) (λ setup w u. tt)
       (λ texts setup w u here inside. output_hashed texts beside table d a tree settled r path output known (rw here at inside))
     where
@@ -119,7 +128,8 @@ module _ (beside : Beside) (limit : ℕ) (table : List Source) (d : Holdings) (p
       same_source = λ i. record { path = (sym (ap (λ (q : Record). q.path) output.record_is)) i; tree = (sym output.tree_is) i }
 
       output_outcome : (setup : Setup)
-          → offer_output setup (desk_of beside table d) tree (candidates (desk_of beside table d) a.derivation) a ≡ add_entry setup (desk_of beside table d) (entry_with settled (entry.Record r))
+          → offer_output setup (desk_of beside table d) tree (candidates (desk_of beside table d) a.derivation) a ≡ add_entry setup (desk_of beside
+          table d) (entry_with settled (entry.Record r))
       output_outcome setup =
           ap (λ ls. offer_output setup (desk_of beside table d) tree ls a) (sym (output.candidates beside table))
           ∙ ap (λ o. then_do (unless_rewrite_refused o) (λ s. add_entry setup (desk_of beside table d) (OfRecord (record_for output.labels a s)))) output.is

@@ -1,8 +1,7 @@
 -- A closure that is taken.
 use Rattle.std.proofs.Common.{◌≡◌, ℕ, suc, ◌+◌, ◌<◌, get_or, ◌⊎◌, Bool, List, [], ◌∷◌, refl, sym, ◌∙◌, ap, subst, inl, inr, rules, Some, None, Result, Ok, Err}
-use Rattle.std.specs.Prelude.{All, Contains, slice_set, map, flat_map, filter_map, bytes_eq, unwrap_or, length, nat_lt, is_none}
+use Rattle.std.specs.Prelude.{All, Contains, map, flat_map, filter_map, bytes_eq, unwrap_or, length, nat_lt, is_none}
 use Rattle.std.specs.List.{list_any}
-use Rattle.std.proofs.lemmas.List.{get_or-set_same, set-get_or}
 use Rattle.std.proofs.lemmas.List.Elements.{All-nil, All-cons, All-head, All-tail, All-contains}
 use Rattle.model.specs.declared.refusal.Refusal.{Refusal}
 use Rattle.model.specs.declared.refusal.Refusal.TheVariants.{Memory, Clash, NotRealised}
@@ -25,11 +24,16 @@ use Rattle.laws.proofs.ClosureRequestLemmas.{take_cases}
 use Rattle.store.specs.Stored.{put_all}
 use Rattle.store.proofs.TableLemmas.{found_holds}
 use Rattle.store.proofs.PuttingLemmas.{put_all-Extends}
+use Rattle.trust.specs.Trusting.{trusts}
 use Rattle.records.specs.Recorded.{Recorded}
 use Rattle.realise.specs.Holdings.{Holdings}
 use Rattle.records.specs.Trees.{source_at, record_at}
 use Rattle.repair.specs.RepairLaws.{IsServedEntry, ServedAreMade}
 use Rattle.events.specs.declared.reply.Reply as Rust
+use Rattle.events.specs.declared.reply.Reply.TheVariants.{Path}
+use Rattle.handling.specs.declared.state.State.{State}
+use Rattle.handling.specs.States.{parts_of, HasPlace}
+use Rattle.handling.specs.Runs.{IsRun}
 use Rattle.handling.specs.Stored.{source_of_entry, taken_sources, AreTaken}
 use Rattle.handling.specs.Sound.{Beside, desk_of, IsSound, IsHashed}
 use Rattle.events.specs.Terms.{reply_of}
@@ -41,6 +45,7 @@ use Rattle.handlers.specs.Taking.{CopiesEntries}
 use Rattle.handling.specs.Viewing.{bare, desk_at}
 use Rattle.handling.proofs.DeskLemmas.{IsKnown, sources_known, records_known, some_of}
 use Rattle.handling.proofs.PuttingLemmas.{put_all-All, taken_clash}
+use Rattle.handling.proofs.RunLemmas.{still_run, with_desk, by_own_observation}
 use Rattle.handling.proofs.StepLemmas.{kept_sound, kept_later}
 use Rattle.handling.proofs.ViewLemmas.{any_default}
 use Rattle.handlers.proofs.ClosureLemmas.{world, his_desk, his_sound, left_there, unserved_no_clash}
@@ -79,7 +84,8 @@ module _ (table : List Source) (limit : ℕ) where
         let w = from_map (record_at table) r d.records (rw t at h) in
         let paths : List (List ℕ) = map (λ (q : Recorded). q.path) d.records in
         let known : IsKnown table w.0.path = All-contains (IsKnown table) paths w.0.path
-        (records_known table limit d (All-head (IsSound table limit) d desks sound)) (contains_of paths w.0.path (in_map (λ (q : Recorded). q.path) w.0 d.records w.1)) in
+        (records_known table limit d (All-head (IsSound table limit) d desks sound)) (contains_of paths w.0.path (in_map (λ (q : Recorded). q.path)
+        w.0 d.records w.1)) in
         subst (λ (r : Record). HasTree table r.path r.tree) w.2 (known_tree table w.0.path known)
     | inr f ↦ record_stored (λ k. beside (suc k)) names desks v r (All-tail (IsSound table limit) d desks sound) (rw f at h)
   ]
@@ -109,7 +115,8 @@ planned_source view pins classes sources p e s h = elim (either (list_any (λ c.
 
 -- ---- what is served was hashed
 
-module _ (law : ServedAreMade) (users : List (List ℕ)) (limit : ℕ) (trust : ℕ → ℕ → Bool) (goals : List (List Goal)) (table : List Source) (desks : List Holdings)
+module _ (law : ServedAreMade) (users : List (List ℕ)) (limit : ℕ) (trust : ℕ → ℕ
+    → Bool) (goals : List (List Goal)) (table : List Source) (desks : List Holdings)
     (u : List ℕ) (classes sources : List (List ℕ)) (entries : List Entry) (sound : All (IsSound table limit) desks) where
   abbrev w : World
   w = desk_among (beside_at users trust goals) table users desks
@@ -133,7 +140,8 @@ module _ (law : ServedAreMade) (users : List (List ℕ)) (limit : ℕ) (trust : 
       subst (λ (s : Source). IsHashed texts s) (λ i. record { path = (sym kept.2) i; tree = (sym kept.3) i }) is
   one_hashed texts p hashed planned e (inr (inr made)) = record { named = made.0; path = made.2; tree = made.3; made = made.1 }
 
-  all_hashed : (texts : List (List ℕ)) (p : Plan) → All (IsHashed texts) table → closure_plan (view_of run w u) (w u).pins classes sources ≡ Ok p → (es : List Entry)
+  all_hashed : (texts : List (List ℕ)) (p : Plan) → All (IsHashed texts) table → closure_plan (view_of run w u) (w u).pins classes sources ≡ Ok p
+      → (es : List Entry)
       → ((e : Entry) → In e es → IsServedEntry texts p e) → All (IsHashed texts) (map source_of_entry es)
   all_hashed texts p hashed planned [] own = All-nil (IsHashed texts)
   all_hashed texts p hashed planned (e ∷ es) own =
@@ -151,31 +159,24 @@ module _ (law : ServedAreMade) (users : List (List ℕ)) (limit : ℕ) (trust : 
 
 -- ---- taking
 
--- no desk is another one
-pub others_same : (desks : List Holdings) (place : ℕ) → desks ≡ slice_set desks place (desk_at desks place)
-others_same desks place = sym (set-get_or desks place bare)
-
--- only the desk at a place is
-pub others_stay : (desks : List Holdings) (place : ℕ) (after : Holdings) → place < length desks
-    → slice_set desks place after ≡ slice_set desks place (desk_at (slice_set desks place after) place)
-others_stay desks place after below = ap (slice_set desks place) (sym (get_or-set_same desks place after bare below))
-
--- what is copied to the desk at a place
-pub copied_at : (limit : ℕ) (old : List Source) (desks : List Holdings) (place : ℕ) (any : Holdings) (entries copies : List Entry) (result : Result (Unit {0}) Refusal)
-    (new : List Source) (after : Holdings) → place < length desks → copies ≡ entries
-    → CopiesEntries limit old (get_or desks place any) copies result new after
-    → CopiesEntries limit old (desk_at desks place) entries result new (desk_at (slice_set desks place after) place)
-copied_at limit old desks place any entries copies result new after below same copied =
-    let before : get_or desks place any ≡ desk_at desks place = any_default desks place any bare below in
-    let later : desk_at (slice_set desks place after) place ≡ after = get_or-set_same desks place after bare below in
-    rw (later, ← before, ← same) copied
+-- what is copied to the desk of the user at a place, which was read there
+pub copied_here : (s : State) (place : ℕ) → HasPlace s place → (before : Holdings) → before ≡ get_or s.desks.items place before
+    → (entries copies : List Entry) (result : Result (Unit {0}) Refusal) (new : List Source) (after : Holdings) → copies ≡ entries
+    → CopiesEntries s.limits.charge s.table.sources before copies result new after
+    → CopiesEntries s.limits.charge s.table.sources (desk_at s.desks.items place) entries result new after
+copied_here s place below before read entries copies result new after same copied =
+    let inside : place < length s.desks.items = subst (λ n. place < n) (sym s.run.paired) below in
+    let is : before ≡ desk_at s.desks.items place = read ∙ any_default s.desks.items place before bare inside in
+    rw (← is, ← same) copied
 
 -- no refusal of it is one that needs no memory
 take_at_once : (setup : Setup) (s : Observation) (class : List ℕ) (result : Result Rust.Reply Refusal) → RefusedAtOnce (take setup s class) result
 take_at_once setup s class result =
-    take_cases (λ o. RefusedAtOnce o result) s class setup (λ entries path is there why quick o. cc) (λ why quick o. cc) (λ why quick o. cc) (λ fault why quick o. cc) (λ why quick o. cc)
+    take_cases (λ o. RefusedAtOnce o result) s class setup (λ entries path is there why quick o. cc) (λ why quick o. cc) (λ why quick o. cc) (λ fault
+    why quick o. cc) (λ why quick o. cc)
 
-taken_outcome : (setup : Setup) (s : Observation) (class : List ℕ) (entries : List Entry) (path : List ℕ) → closure_for s class ≡ Ok entries → path_for class entries ≡ Some path
+taken_outcome : (setup : Setup) (s : Observation) (class : List ℕ) (entries : List Entry) (path : List ℕ) → closure_for s class ≡ Ok entries
+    → path_for class entries ≡ Some path
     → take setup s class ≡ room setup (with_entries entries s.desk) (events.Path path)
 taken_outcome setup s class entries path is there =
     ap (λ o. then_do o (take_entries setup s.desk class)) is
@@ -195,7 +196,8 @@ module _ (law : ServedAreMade) (trust : ℕ → ℕ → Bool) (limit : ℕ) (old
         | inl memory ↦ (let no = rw memory at own in cc)
         | inr is ↦ ap (λ o. then_do o (take_entries s (w actor) class)) is
       ])
-      (search rules) (take_at_once s (observation_of s w actor) class (Err why)) (λ reply. refl) (unserved_no_clash s w actor class why none) (search rules) (search rules)
+      (search rules) (take_at_once s (observation_of s w actor) class (Err why)) (λ reply. refl) (unserved_no_clash s w actor class why none)
+      (search rules) (search rules)
 
   module _ (entries : List Entry) (served : AtPlace trust old desks place (λ setup w u. AreServed setup w u class entries)) where
     -- memory was refused, or nothing serves the class
@@ -230,7 +232,8 @@ module _ (law : ServedAreMade) (trust : ℕ → ℕ → Bool) (limit : ℕ) (old
               serves =
                   taken_outcome s (observation_of s w actor) class entries path mine.are named
                   ∙ ap (λ d. room s (with_entries entries d) (events.Path path)) his
-                  ∙ copies.fits users (beside_at users trust goals place) (events.Path path) ∙ ap (becomes (desk_of (beside_at users trust goals place) new after)) (sym told);
+                  ∙ copies.fits users (beside_at users trust goals place) (events.Path path)
+                  ∙ ap (becomes (desk_of (beside_at users trust goals place) new after)) (sym told);
               answered = rw told refl;
               at_once = take_at_once s (observation_of s w actor) class (Ok reply);
               no_memory = λ free. cc;
@@ -267,7 +270,8 @@ module _ (law : ServedAreMade) (trust : ℕ → ℕ → Bool) (limit : ℕ) (old
               at_once = take_at_once s (observation_of s w actor) class (Err why);
               no_memory = λ free. cc;
               kept = copies.kept;
-              sound = kept_sound old new (desk_at desks place) after limit (his_sound users limit trust goals old desks actor place listed found paired within sound) copies.kept;
+              sound = kept_sound old new (desk_at desks place) after limit (his_sound users limit trust goals old desks actor place listed found
+                  paired within sound) copies.kept;
               grows = kept_later old new (desk_at desks place) after copies.kept;
               hashed = λ texts hashed inside. rw copies.kept.sources hashed;
               taken = λ clash.
@@ -276,9 +280,24 @@ module _ (law : ServedAreMade) (trust : ℕ → ℕ → Bool) (limit : ℕ) (old
               clashes = λ clash texts hashed inside.
                   let is : why ≡ Clash = cc in
                   taken_clash texts old (map source_of_entry entries) hashed
-                  (entries_hashed law users limit trust goals old desks actor (class ∷ []) [] entries sound mine.are mine.sound texts hashed inside) (copies.taken (ap Err is));
+                  (entries_hashed law users limit trust goals old desks actor (class ∷ []) [] entries sound mine.are mine.sound texts hashed inside)
+                  (copies.taken (ap Err is));
               stored = search rules;
               given = search rules;
             };
             gains = copies.gains;
           }
+
+-- a state keeps its facts, whatever comes of the copy
+pub run_taken : (law : ServedAreMade) (s : State) (place : ℕ) → HasPlace s place → (class : List ℕ) (entries : List Entry)
+    → AtPlace (trusts s.trust) s.table.sources s.desks.items place (λ setup w u. AreServed setup w u class entries)
+    → (path : List ℕ) → path_for class entries ≡ Some path → (result : Result (Unit {0}) Refusal) (new : List Source) (after : Holdings)
+    → CopiesEntries s.limits.charge s.table.sources (desk_at s.desks.items place) entries result new after → IsRun (with_desk (parts_of s) place new after)
+run_taken law s place below class entries served path named (Ok done) new after copies =
+    still_run (parts_of s) (with_desk (parts_of s) place new after) place (events.Take class) (Ok (Path path)) s.run below
+    (by_own_observation (parts_of s) place (events.Take class) (Ok (Path path)) new after s.run
+    (take_done law (trusts s.trust) s.limits.charge s.table.sources s.desks.items place class entries served path named new after (Path path) refl copies))
+run_taken law s place below class entries served path named (Err why) new after copies =
+    still_run (parts_of s) (with_desk (parts_of s) place new after) place (events.Take class) (Err why) s.run below
+    (by_own_observation (parts_of s) place (events.Take class) (Err why) new after s.run
+    (take_refused law (trusts s.trust) s.limits.charge s.table.sources s.desks.items place class entries served path named new after why copies))

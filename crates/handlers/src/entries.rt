@@ -79,40 +79,6 @@ fn put_entry(
     Ok(())
 }
 
-/// Adds an entry at a path, which is not on the desk yet, with its tree, as [`add_entry`] does.
-fn add_new(
-    alloc: Global,
-    table: &mut Table,
-    desk: &mut Desk,
-    limits: Limits,
-    path: StorePath,
-    entry: DeskEntry,
-    tree: Tree,
-) -> Result<CopiedReply, Refusal>
-    requires path { path ≡ entry_path entry }
-    requires absent { is_on entry desk.old ≡ false }
-    requires sound { IsSound table.old.sources limits.charge desk.old }
-    requires closed { IsClosedWithEntry desk.old entry }
-    ensures adds { AddsEntry limits.charge table.old.sources desk.old
-        entry tree result table.new.sources desk.new }
-    ensures answered { IfOk result (λ r. is_refused (reply_of r) ≡ false) }
-    ensures stored { let path = entry_path entry in
-        OnOk result (IsAdded path tree table.old.sources table.new.sources) }
-    ensures sound { OnOk result (IsSound table.new.sources limits.charge desk.new) }
-    ensures gains { GainsOnly desk.old desk.new }
-    ensures kept { OnErr result (IsKept table.old.sources table.new.sources desk.old desk.new) }
-    ensures taken { result ≡ Err Clash → IsTaken table.old.sources (entry_path entry) tree }
-{
-    let more = desk.charged_for(&path, tree.nar_len() as u64);
-    if !has_room(desk, limits, &entry, more) {
-        let _is_stored = table.has(&path, &tree)?;
-        return Err(Refusal::Quota);
-    }
-    let reply = CopiedReply::new(Reply::Path(path.clone()?))?;
-    put_entry(alloc, table, desk, path, entry, tree)?;
-    Ok(reply)
-}
-
 /// Adds an entry with its tree to a desk, unless it is there, and the tree to the table where its
 /// path is new there. What its labels name is on the desk. Where it is refused, nothing has changed.
 pub(crate) fn add_entry(
@@ -136,8 +102,15 @@ pub(crate) fn add_entry(
     ensures taken { result ≡ Err Clash → IsTaken table.old.sources (entry_path entry) tree }
 {
     let path = entry.path().clone()?;
+    let reply = CopiedReply::new(Reply::Path(path.clone()?))?;
     if desk.has(&entry) {
-        return Ok(CopiedReply::new(Reply::Path(path))?);
+        return Ok(reply);
     }
-    add_new(alloc, table, desk, limits, path, entry, tree)
+    let more = desk.charged_for(&path, tree.nar_len() as u64);
+    if !has_room(desk, limits, &entry, more) {
+        let _is_stored = table.has(&path, &tree)?;
+        return Err(Refusal::Quota);
+    }
+    put_entry(alloc, table, desk, path, entry, tree)?;
+    Ok(reply)
 }

@@ -1,14 +1,12 @@
 //! Asking for a closure.
 
-ghost use Rattle.std.specs.Prelude.{◌≡◌, ◌<◌, ◌≤◌, ℕ, List, IfOk, Ok, length};
+ghost use Rattle.std.specs.Prelude.{◌≡◌, ◌<◌, ◌≤◌, List, IfOk, Ok, length};
 ghost use Rattle.model.specs.Worlds.{Entry as EntryValue};
 ghost use Rattle.model.specs.Closures.{served_plan};
 ghost use Rattle.model.specs.Events.{Closure as ClosureRequest};
 ghost use Rattle.choose.specs.Visible.{IsComplete};
 ghost use Rattle.trust.specs.Trusting.{trusts};
-ghost use Rattle.handling.specs.Viewing.{desk_at};
 ghost use Rattle.handlers.specs.Serving.{IsServedAt, IsPlannedAt, IsServedOf};
-ghost use Rattle.handling.specs.Handling.{IsHandledByObservation};
 ghost use Rattle.handling.specs.Sound.{IsClosure};
 ghost use Rattle.handling.specs.States.{HasPlace, Handles};
 
@@ -72,42 +70,19 @@ pub fn serve_plan(alloc: Global, plan: &Plan, cache: &mut Cache) -> Result<Reply
 /// The entries of the closure of a class for the user at a place, of all that he sees.
 pub(crate) fn entries_for(
     alloc: Global,
-    trust: &Trust,
-    table: &Table,
-    desks: &[Desk],
+    state: &State,
     place: usize,
     cache: &mut Cache,
     class: &StorePath,
 ) -> Result<Vec<Entry>, Refusal>
-    requires of_run { place < length desks.now }
-    requires few { length desks.now ≤ 64 }
-    requires complete { IsComplete table.now.sources desks.now }
-    ensures served { IsServedAt (trusts trust.now) table.now.sources desks.now place
-        class.now result }
+    requires { HasPlace state.now place }
+    ensures served { IsServedAt (trusts state.now.trust) state.now.table.sources
+        state.now.desks.items place class.now result }
     ensures closure { IfOk result (λ entries. IsClosure entries.items) }
 {
-    let planned = plan_for(alloc, trust, table, desks, place, class)?;
+    let desks = state.desks.as_slice();
+    let planned = plan_for(alloc, &state.trust, &state.table, desks, place, class)?;
     served_closure_with(alloc, &planned, cache)
-}
-
-/// What [`closure`] tells, by what it reads.
-fn reply_with_closure(
-    alloc: Global,
-    trust: &Trust,
-    table: &Table,
-    desks: &[Desk],
-    place: usize,
-    cache: &mut Cache,
-    class: &StorePath,
-) -> Result<CopiedReply, Refusal>
-    requires of_run { place < length desks.now }
-    requires few { length desks.now ≤ 64 }
-    requires complete { IsComplete table.now.sources desks.now }
-    ensures { (limit : ℕ) → IsHandledByObservation (trusts trust.now) limit table.now.sources desks.now
-        place (ClosureRequest class.now) result table.now.sources (desk_at desks.now place) }
-{
-    let entries = entries_for(alloc, trust, table, desks, place, cache, class)?;
-    Ok(CopiedReply::new(Reply::Entries(Closure::new(entries)?))?)
 }
 
 /// The closure of a class for the user at a place, of all that he sees.
@@ -129,14 +104,6 @@ pub fn closure(
     requires { HasPlace state.now place }
     ensures { Handles state.now place (ClosureRequest class.now) result state.now }
 {
-    let desks = state.desks.as_slice();
-    reply_with_closure(
-        alloc,
-        &state.trust,
-        &state.table,
-        desks,
-        place,
-        cache,
-        class,
-    )
+    let entries = entries_for(alloc, state, place, cache, class)?;
+    Ok(CopiedReply::new(Reply::Entries(Closure::new(entries)?))?)
 }

@@ -10,8 +10,7 @@ ghost use Rattle.model.specs.Events.{Offer as OfferRequest};
 ghost use Rattle.model.specs.OfferRequests.{output_settled};
 ghost use Rattle.model.specs.Results.{unless_rewrite_refused};
 ghost use Rattle.model.specs.declared.refusal.Refusal.TheVariants.{Memory};
-ghost use Rattle.handling.specs.Sound.{IsSound};
-ghost use Rattle.handling.specs.Handling.{IsHandledAtDesk};
+ghost use Rattle.handling.specs.States.{HasPlace, Handles};
 ghost use Rattle.outputs.specs.Outputs.{IsRecordOf};
 ghost use Rattle.outputs.specs.declared.settlement.Settlement.{Settlement};
 ghost use Rattle.outputs.specs.Kept.{HasNeeded};
@@ -20,13 +19,13 @@ ghost use Rattle.handlers.specs.Offering.{IsOutput, IsNotSettled, IsNoOutput, Ha
 use crate::entries::add_entry;
 use classes::Admitted;
 use events::CopiedReply;
+use handling::State;
 use model::Refusal;
 use nar::Tree;
 use outputs::{Candidates, Input, Output, Settlements, record_of};
-use realise::{Desk, Limits};
+use realise::Desk;
 use records::{DeskEntry, Record};
 use std::alloc::Global;
-use store::Table;
 use storepath::StorePath;
 
 /// What comes of an output of a derivation that may refer to these. The one error beside it is memory.
@@ -96,7 +95,7 @@ fn output_for(
     recorded(alloc, admitted, &candidates, &output)
 }
 
-/// Adds an output of the derivation in the file at a path to a desk: its tree with the path of its
+/// Adds an output of the derivation in the file at a path to the desk of the user at a place: its tree with the path of its
 /// content, and a record for the class of the derivation. The reply is that path; a record that is
 /// there already changes nothing.
 ///
@@ -110,29 +109,28 @@ fn output_for(
 /// - `Memory` only where memory was refused; it may stand in the place of each answer but the first.
 pub fn offer(
     alloc: Global,
-    table: &mut Table,
-    desk: &mut Desk,
-    limits: Limits,
+    state: &mut State,
+    place: usize,
     settlements: &mut Settlements,
     path: &StorePath,
     tree: &Tree,
 ) -> Result<CopiedReply, Refusal>
-    requires { IsSound table.old.sources limits.charge desk.old }
-    ensures { IsHandledAtDesk limits.charge table.old.sources desk.old
-        (OfferRequest path.now tree.now) result table.new.sources desk.new }
+    requires { HasPlace state.old place }
+    ensures { Handles state.old place (OfferRequest path.now tree.now) result state.new }
 {
+    let desk = &state.desks[place];
     let Some(admitted) = desk.derivation(path) else {
         return Err(Refusal::UnknownDerivation);
     };
     let (record, settled) = output_for(alloc, settlements, desk, admitted, tree)?;
-    add_entry(
-        alloc,
+    let output = DeskEntry::Record(record);
+    let State {
+        desks,
         table,
-        desk,
         limits,
-        DeskEntry::Record(record),
-        settled,
-    )
+        ..
+    } = state;
+    add_entry(alloc, table, &mut desks[place], *limits, output, settled)
 }
 
 /// What [`offer`] settles an output by, whatever its tree is, so that it can be settled before it is offered.

@@ -7,22 +7,23 @@ ghost use Rattle.model.specs.Worlds.{tree_at};
 ghost use Rattle.model.specs.Events.{AddSource as AddSourceRequest, Fetch as FetchRequest, Content};
 ghost use Rattle.model.specs.declared.refusal.Refusal.TheVariants.{Memory};
 ghost use Rattle.realise.specs.Holdings.{paths_of};
-ghost use Rattle.handling.specs.Sound.{IsSound};
 ghost use Rattle.events.specs.Terms.{reply_of};
-ghost use Rattle.handling.specs.Handling.{IsHandledAtDesk, IsHandledByDesk};
+ghost use Rattle.handling.specs.Handling.{IsHandledByDesk};
+ghost use Rattle.handling.specs.States.{HasPlace, Handles};
 
 use crate::entries::add_entry;
 use events::{CopiedReply, Reply};
+use handling::State;
 use model::Refusal;
 use nar::Tree;
 use outputs::Sources;
-use realise::{Desk, Limits};
+use realise::Desk;
 use records::DeskEntry;
 use std::alloc::Global;
 use store::Table;
 use storepath::{Name, StorePath};
 
-/// Adds a tree to a desk as a source of a name. The reply is its path; one that is there already
+/// Adds a tree to the desk of the user at a place as a source of a name. The reply is its path; one that is there already
 /// changes nothing.
 ///
 /// # Errors
@@ -33,19 +34,24 @@ use storepath::{Name, StorePath};
 /// - `Memory` only where memory was refused; it may stand in the place of each answer.
 pub fn add_source(
     alloc: Global,
-    table: &mut Table,
-    desk: &mut Desk,
-    limits: Limits,
+    state: &mut State,
+    place: usize,
     sources: &mut Sources,
     name: &Name,
     tree: Tree,
 ) -> Result<CopiedReply, Refusal>
-    requires { IsSound table.old.sources limits.charge desk.old }
-    ensures { IsHandledAtDesk limits.charge table.old.sources desk.old
-        (AddSourceRequest name.now tree) result table.new.sources desk.new }
+    requires { HasPlace state.old place }
+    ensures { Handles state.old place (AddSourceRequest name.now tree) result state.new }
 {
     let path = sources.path_of(alloc, name, &tree)?;
-    add_entry(alloc, table, desk, limits, DeskEntry::Source(path), tree)
+    let source = DeskEntry::Source(path);
+    let State {
+        desks,
+        table,
+        limits,
+        ..
+    } = state;
+    add_entry(alloc, table, &mut desks[place], *limits, source, tree)
 }
 
 /// The tree at a path, if the desk holds the path. Whoever else holds it makes no difference.

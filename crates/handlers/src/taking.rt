@@ -1,16 +1,13 @@
 //! Taking a closure.
 
-ghost use Rattle.std.specs.Prelude.{◌≡◌, ◌<◌, ◌≤◌, ◌⊎◌, ◌+◌, map, Some, None, All, length, nat_le, slice_set, IfOk, IfErr, MatchResult};
+ghost use Rattle.std.specs.Prelude.{◌≡◌, ◌≤◌, ◌⊎◌, ◌+◌, map, Some, None, All, length, nat_le, IfOk, IfErr, MatchResult};
 ghost use Rattle.model.specs.Limits.{most_sources, most_records};
 ghost use Rattle.model.specs.Events.{Take as TakeRequest};
 ghost use Rattle.model.specs.Closures.{path_for};
 ghost use Rattle.model.specs.declared.refusal.Refusal.TheVariants.{Memory, NotRealised};
 ghost use Rattle.realise.specs.Holdings.{bare, sources_in, records_in};
-ghost use Rattle.trust.specs.Trusting.{trusts};
 ghost use Rattle.handling.specs.Sound.{IsSound, IsClosure};
 ghost use Rattle.handling.specs.States.{HasPlace, Handles};
-ghost use Rattle.handling.specs.Viewing.{desk_at};
-ghost use Rattle.handling.specs.Handling.{IsHandledByObservation};
 ghost use Rattle.handlers.specs.Taking.{tree_with_path, counted, missing_on, are_roomy, AreCopyable, IsLabelledBy, has_built, with_built, CopiesEntries};
 
 use crate::given::entries_for;
@@ -24,7 +21,6 @@ use repair::{Cache, served_are_made};
 use std::alloc::Global;
 use store::Table;
 use storepath::StorePath;
-use trust::Trust;
 
 /// The path by which a class is served among entries.
 fn path_for(class: &StorePath, entries: &[records::Entry]) -> Result<StorePath, Refusal>
@@ -230,32 +226,6 @@ pub fn copy_with(
     copy_entries(alloc, table, desk, limits, &entries)
 }
 
-/// What [`take`] does, on what it changes.
-fn take_closure(
-    alloc: Global,
-    trust: &Trust,
-    table: &mut Table,
-    desks: &mut [Desk],
-    place: usize,
-    limits: Limits,
-    cache: &mut Cache,
-    class: &StorePath,
-) -> Result<CopiedReply, Refusal>
-    requires of_run { place < length desks.old }
-    requires few { length desks.old ≤ 64 }
-    requires sound { All (IsSound table.old.sources limits.charge) desks.old }
-    ensures taken { IsHandledByObservation (trusts trust.now) limits.charge table.old.sources desks.old
-        place (TakeRequest class.now) result table.new.sources (desk_at desks.new place) }
-    ensures others { desks.new ≡ slice_set desks.old place (desk_at desks.new place) }
-{
-    served_are_made();
-    let entries = entries_for(alloc, trust, table, desks, place, cache, class)?;
-    let path = path_for(class, &entries)?;
-    let reply = CopiedReply::new(Reply::Path(path))?;
-    copy_all(alloc, table, &mut desks[place], limits, &entries)?;
-    Ok(reply)
-}
-
 /// Copies all that the closure of a class has for the user at a place to his desk, or nothing. The
 /// reply is the path of what serves the class.
 ///
@@ -278,13 +248,16 @@ pub fn take(
     requires { HasPlace state.old place }
     ensures { Handles state.old place (TakeRequest class.now) result state.new }
 {
+    served_are_made();
+    let entries = entries_for(alloc, state, place, cache, class)?;
+    let path = path_for(class, &entries)?;
+    let reply = CopiedReply::new(Reply::Path(path))?;
     let State {
-        trust,
         desks,
         table,
         limits,
         ..
     } = state;
-    let desks = desks.as_mut_slice();
-    take_closure(alloc, trust, table, desks, place, *limits, cache, class)
+    copy_all(alloc, table, &mut desks[place], *limits, &entries)?;
+    Ok(reply)
 }

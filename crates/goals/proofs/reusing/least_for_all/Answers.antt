@@ -1,13 +1,13 @@
-use Rattle.std.proofs.Common.{◌≡◌, ℕ, ◌∙◌, refl, sym, ap, subst, List, length, bit_and, rules, arith}
+use Rattle.std.proofs.Common.{◌≡◌, ℕ, ◌∙◌, sym, ap, subst, List, length, bit_and, rules, arith}
 use Rattle.std.specs.Prelude.{option_copied}
 use Rattle.model.specs.Worlds.{Goal}
-use Rattle.model.specs.Orders.{least_from, least}
+use Rattle.model.specs.Orders.{least}
 use Rattle.trust.specs.Trusting.{holds}
 use Rattle.records.specs.Recorded.{Recorded}
 use Rattle.realise.specs.Holdings.{Holdings}
-use Rattle.handling.specs.Viewing.{bare, desk_at, places_of}
+use Rattle.handling.specs.Viewing.{desk_at, places_of}
 use Rattle.handling.specs.Supported.{goals_of}
-use Rattle.handling.proofs.ViewLemmas.{any_default}
+use Rattle.handlers.proofs.StateLemmas.{few_desks}
 use Rattle.goals.specs.Reusing.{path_before, found_among, found_on, found_in}
 use Rattle.jobs.specs.Planners.{HasPlanners}
 use Rattle.jobs.proofs.PlannerLemmas.{none_done, left_out_of, of_both}
@@ -15,37 +15,41 @@ use Rattle.goals.proofs.ReuseLemmas.{place_in, place_out, nobody, found_near}
 use Rattle.goals.proofs.reusing.least_for_all.Goals as goal
 use Rattle.goals.proofs.reusing.least_for_all.Goals.{then-has_place, else-has_place}
 
+pub has_place-requires : goal.has_place-requires
+has_place-requires c = let few = few_desks c.args.state.now in omega (arith, few)
+
 pub loop-place-init : goal.loop-place-init
 loop-place-init c =
-    nobody (λ p. found_on c.args.resolved.now c.args.labels.now (desk_at c.args.desks.now p) (goals_of c.args.jobs.now.goals p)) (holds (bit_and c.args.word c.planners.result))
+    let s = c.args.state.now in
+    nobody (λ p. found_on c.args.resolved.now c.args.labels.now (desk_at s.desks.items p) (goals_of s.jobs.goals p)) (holds (bit_and c.args.word
+    c.planners.result))
 
 pub loop-place-preserved : goal.loop-place-preserved
 loop-place-preserved c =
-    let desks : List Holdings = c.args.desks.now in
+    let s = c.args.state.now in
     let here : ℕ = c.loop-place.place in
-    let found : ℕ → List Recorded = λ p. found_on c.args.resolved.now c.args.labels.now (desk_at desks p) (goals_of c.args.jobs.now.goals p) in
+    let found : ℕ → List Recorded = λ p. found_on c.args.resolved.now c.args.labels.now (desk_at s.desks.items p) (goals_of s.jobs.goals p) in
     elim c.if-has_place.branch [
       | then-has_place w ↦
-          let at : w.index-desks-place.result ≡ desk_at desks here = w.index-desks-place.is
-          ∙ any_default desks here w.index-desks-place.result bare (omega arith) in
-          place_in found (holds (bit_and c.args.word c.planners.result)) here (option_copied c.loop-place.least) (option_copied c.if-has_place.least) (sym w.if-has_place.ensures)
-          (ap option_copied w.least-is ∙ w.least_for_user-least.ensures
-          ∙ ap (λ d. least_from path_before (option_copied c.loop-place.least) (found_on c.args.resolved.now c.args.labels.now d (goals_of c.args.jobs.now.goals here))) at)
-          c.loop-place.invariant
+          place_in found (holds (bit_and c.args.word c.planners.result)) here (option_copied c.loop-place.least) (option_copied c.if-has_place.least)
+          (sym w.if-has_place.ensures)
+          (ap option_copied w.least-is ∙ w.least_for_user-least.ensures) c.loop-place.invariant
       | else-has_place w ↦
-          place_out found (holds (bit_and c.args.word c.planners.result)) here (option_copied c.loop-place.least) (option_copied c.if-has_place.least) (sym w.if-has_place.ensures)
+          place_out found (holds (bit_and c.args.word c.planners.result)) here (option_copied c.loop-place.least) (option_copied c.if-has_place.least)
+          (sym w.if-has_place.ensures)
           (ap option_copied w.least-is) c.loop-place.invariant
     ]
 
 pub returns : goal.returns
 returns c =
+    let s = c.args.state.now in
     let r = c.args.resolved.now in
     let labels = c.args.labels.now in
-    let desks : List Holdings = c.args.desks.now in
-    let goals : List (List Goal) = c.args.jobs.now.goals in
+    let desks : List Holdings = s.desks.items in
+    let goals : List (List Goal) = s.jobs.goals in
     let found : ℕ → List Recorded = λ p. found_on r labels (desk_at desks p) (goals_of goals p) in
-    let planners : HasPlanners r.scratch (holds c.planners.result) c.args.jobs.now =
-    subst (λ path. HasPlanners path (holds c.planners.result) c.args.jobs.now) c.scratch.ensures c.planners.ensures in
+    let planners : HasPlanners r.scratch (holds c.planners.result) s.jobs =
+    subst (λ path. HasPlanners path (holds c.planners.result) s.jobs) c.scratch.ensures c.planners.ensures in
     let end : c.loop-place.place ≡ length desks = search rules in
     c.loop-place.invariant
     ∙ ap (λ n. least path_before (found_in r labels desks goals (places_of (holds (bit_and c.args.word c.planners.result)) n))) end

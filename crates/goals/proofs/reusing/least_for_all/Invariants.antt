@@ -8,4 +8,4 @@ use Rattle.goals.proofs.reusing.least_for_all.Given as goal
 
 abbrev pub invariant-loop-place : goal.invariant-loop-place
 invariant-loop-place l =
-    option_copied l.least ≡ least path_before (found_in l.resolved l.labels l.desks l.jobs.goals (places_of (holds l.near) l.place))
+    option_copied l.least ≡ least path_before (found_in l.resolved l.labels l.state.desks.items l.state.jobs.goals (places_of (holds l.near) l.place))

@@ -1,6 +1,6 @@
-use Rattle.std.proofs.Common.{◌≡◌, ◌∙◌, refl, sym, ap, List, [], Option, Some, None, rules}
+use Rattle.std.proofs.Common.{◌≡◌, ◌∙◌, ap, None, rules}
 use Rattle.std.specs.Prelude.{option_copied}
-use Rattle.model.specs.Classes.{Admission, known_at}
+use Rattle.model.specs.Classes.{known_at}
 use Rattle.goals.specs.Reusing.{done_path, found_at, found_by}
 use Rattle.goals.proofs.ReuseLemmas.{nothing_found, unknown_found}
 use Rattle.goals.proofs.reusing.least_for_goal.Goals as goal

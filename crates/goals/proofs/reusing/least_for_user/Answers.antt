@@ -7,7 +7,9 @@ use Rattle.model.specs.Orders.{least_from}
 use Rattle.records.specs.Recorded.{Recorded}
 use Rattle.jobs.specs.Owned.{goals_at}
 use Rattle.jobs.specs.Numbers.{finished}
-use Rattle.goals.specs.Reusing.{path_before, found_if, found_among}
+use Rattle.handling.specs.Viewing.{desk_at}
+use Rattle.goals.specs.Reusing.{path_before, found_if, found_among, found_on}
+use Rattle.goals.proofs.StateLemmas.{own_desk}
 use Rattle.goals.proofs.ReuseLemmas.{number_next, nothing_left, nothing_found}
 use Rattle.goals.proofs.EnoughLemmas.{first_enough}
 use Rattle.goals.proofs.reusing.least_for_user.Goals as goal
@@ -15,8 +17,8 @@ use Rattle.goals.proofs.reusing.least_for_user.Goals.{in-Some, in_default}
 
 pub loop-number-preserved : goal.loop-number-preserved
 loop-number-preserved c =
-    let goals : List Goal = goals_at c.args.place c.args.jobs.now in
-    let found : Option Goal → List Recorded = found_if c.args.resolved.now c.args.labels.now c.args.desk.now in
+    let goals : List Goal = goals_at c.args.place c.args.state.now.jobs in
+    let found : Option Goal → List Recorded = found_if c.args.resolved.now c.args.labels.now c.index-desk.result.now in
     let ns : List ℕ = c.finished_under-number-items.result.now in
     let n : ℕ = slice_index_or ns c.loop-number.number-index 0 in
     elim c.match-get.branch [
@@ -37,14 +39,18 @@ loop-number-preserved c =
 
 pub returns : goal.returns
 returns c =
-    let goals : List Goal = goals_at c.args.place c.args.jobs.now in
+    let s = c.args.state.now in
+    let goals : List Goal = goals_at c.args.place s.jobs in
     let ns : List ℕ = c.finished_under-number-items.result.now in
     let past : length ns ≤ c.loop-number.number-index = (let test = c.loop-number-test.false in omega (arith, test)) in
     let all : ns ≡ finished c.args.resolved.now.scratch goals =
     c.finished_under-number-items.ensures ∙ ap (λ path. finished path goals) c.scratch.ensures in
+    let at : c.index-desk.result.now ≡ desk_at s.desks.items c.args.place =
+    c.index-desk.ensures ∙ own_desk s c.args.place c.requires c.index-desk.result.now in
     nothing_left (option_copied c.loop-number.least)
-    (found_among c.args.resolved.now c.args.labels.now c.args.desk.now goals (drop c.loop-number.number-index ns))
-    (ap (found_among c.args.resolved.now c.args.labels.now c.args.desk.now goals) (drop_of_length-le ns past))
+    (found_among c.args.resolved.now c.args.labels.now c.index-desk.result.now goals (drop c.loop-number.number-index ns))
+    (ap (found_among c.args.resolved.now c.args.labels.now c.index-desk.result.now goals) (drop_of_length-le ns past))
     ∙ c.loop-number.invariant
-    ∙ ap (λ ms. least_from path_before (option_copied c.args.best) (found_among c.args.resolved.now c.args.labels.now c.args.desk.now goals ms)) all
-    ∙ first_enough c.args.resolved.now c.args.labels.now c.args.desk.now goals (option_copied c.args.best)
+    ∙ ap (λ ms. least_from path_before (option_copied c.args.best) (found_among c.args.resolved.now c.args.labels.now c.index-desk.result.now goals ms)) all
+    ∙ first_enough c.args.resolved.now c.args.labels.now c.index-desk.result.now goals (option_copied c.args.best)
+    ∙ ap (λ d. least_from path_before (option_copied c.args.best) (found_on c.args.resolved.now c.args.labels.now d goals)) at

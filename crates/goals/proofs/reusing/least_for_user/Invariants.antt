@@ -8,5 +8,5 @@ use Rattle.goals.proofs.reusing.least_for_user.Given as goal
 -- the least so far, and the goals of the numbers that are left
 abbrev pub invariant-loop-number : goal.invariant-loop-number
 invariant-loop-number l =
-    least_from path_before (option_copied l.least) (found_among l.resolved l.labels l.desk (goals_at l.place l.jobs) (drop l.number-index l.number-items))
-    ≡ least_from path_before (option_copied l.best) (found_among l.resolved l.labels l.desk (goals_at l.place l.jobs) l.number-items)
+    least_from path_before (option_copied l.least) (found_among l.resolved l.labels l.desk (goals_at l.place l.state.jobs) (drop l.number-index l.number-items))
+    ≡ least_from path_before (option_copied l.best) (found_among l.resolved l.labels l.desk (goals_at l.place l.state.jobs) l.number-items)

@@ -1,4 +1,4 @@
-use Rattle.std.proofs.Common.{◌≡◌, ℕ, ◌+◌, ◌∙◌, Bool, true, false, List, ◌∷◌, refl, sym, ap, drop, Some}
+use Rattle.std.proofs.Common.{◌≡◌, ℕ, ◌+◌, ◌∙◌, Bool, true, false, List, ◌∷◌, sym, ap, drop, Some}
 use Rattle.std.specs.Prelude.{option_copied, filter}
 use Rattle.std.proofs.lemmas.List.{drop_all}
 use Rattle.records.specs.Recorded.{Recorded}

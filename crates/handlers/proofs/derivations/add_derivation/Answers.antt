@@ -19,7 +19,8 @@ returns-then-text-gt-MOST_DERIVATION_BYTES c table limit sound beside =
     let over : nat_le (length c.args.text.now) most_derivation_bytes ≡ false = grind (arith, nat_tests, c.if-text-gt-MOST_DERIVATION_BYTES.true) in
     left beside limit table c.args.desk.now (AddDerivation c.args.text.now) (Err TooLarge) sound (λ setup w u. tt)
     (λ users observation same own. rw same (too_large (record { users = users; charge = limit }) (desk_of beside table c.args.desk.now) c.args.text.now over))
-    (derivation_at_once (desk_of beside table c.args.desk.now) c.args.text.now (Err TooLarge) (λ large. refl)) (λ reply. refl) (search rules) refl (search rules)
+    (derivation_at_once (desk_of beside table c.args.desk.now) c.args.text.now (Err TooLarge) (λ large. refl)) (λ reply. refl) (search rules) refl
+    (search rules)
 
 pub returns-in_err-derivation : goal.returns-in_err-derivation
 unfolding outcome
@@ -28,13 +29,15 @@ returns-in_err-derivation c table limit sound beside =
     let within : nat_le (length c.args.text.now) most_derivation_bytes ≡ true = grind (arith, nat_tests, c.if-text-gt-MOST_DERIVATION_BYTES.false) in
     let unread : IsNotRead c.args.text.now p.0 = rw p.2 c.in_err-derivation.ensures.same in
     rw p.1 (left beside limit table c.args.desk.now (AddDerivation c.args.text.now) (Err p.0) sound (λ setup w u. tt)
-    (λ users observation same. rw same (unread_fits (record { users = users; charge = limit }) (desk_of beside table c.args.desk.now) (desk_of beside table c.args.desk.now) c.args.text.now p.0 within unread))
+    (λ users observation same. rw same (unread_fits (record { users = users; charge = limit }) (desk_of beside table c.args.desk.now) (desk_of beside
+    table c.args.desk.now) c.args.text.now p.0 within unread))
     (derivation_at_once (desk_of beside table c.args.desk.now) c.args.text.now (Err p.0) (λ large. let no : true ≡ false = sym within ∙ large in cc))
     (λ reply. refl) (search rules) (unread_no_clash c.args.text.now p.0 unread) (search rules))
 
 pub returns : goal.returns
 returns c table limit sound beside =
     let within : nat_le (length c.args.text.now) most_derivation_bytes ≡ true = grind (arith, nat_tests, c.if-text-gt-MOST_DERIVATION_BYTES.false) in
-    derivation_handled beside limit table c.args.desk.now c.add_parsed.new.desk c.args.text.now c.in_ok-derivation.derivation c.add_parsed.result within c.in_ok-derivation.ensures.same
+    derivation_handled beside limit table c.args.desk.now c.add_parsed.new.desk c.args.text.now c.in_ok-derivation.derivation c.add_parsed.result
+    within c.in_ok-derivation.ensures.same
     (c.add_parsed.ensures.adds table limit sound) c.add_parsed.ensures.answered (c.add_parsed.ensures.sound table limit sound) c.add_parsed.ensures.gains
     c.add_parsed.ensures.kept c.add_parsed.ensures.no_clash

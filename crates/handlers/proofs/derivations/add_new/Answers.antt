@@ -39,7 +39,8 @@ returns-in_err-admitted-clause-no_clash c =
     rw (p.1, p.2) (admission_no_clash c.known.result.now c.args.derivation c.in_err-admitted.field-0.0 c.in_err-admitted.ensures)
 
 -- no more than the limit is refused where memory is not
-over_fits_if : (users : List (List ℕ)) (beside : Beside) (table : List Source) (limit : ℕ) (d : Holdings) (derivation : Derivation) (a : Admission) (e : Refusal)
+over_fits_if : (users : List (List ℕ)) (beside : Beside) (table : List Source) (limit : ℕ) (d : Holdings) (derivation : Derivation) (a : Admission)
+    (e : Refusal)
     → IsSound table limit d → known_at d.known (derivation_path derivation) ≡ None → admit d.known derivation ≡ Ok a
     → (e ≡ Memory) ⊎ ((e ≡ Quota) × (most_derivations ≤ length d.known.derivations))
     → is_fault e ≡ false → new_outcome users beside table limit d derivation ≡ Err e
@@ -79,9 +80,11 @@ returns-clause-adds c table limit sound users beside =
     let ok : admit known c.args.derivation ≡ Ok c.in_ok-admitted.admitted = search rules in
     let within : nat_le (length known.derivations + 1) most_derivations ≡ true = grind (arith, nat_tests, c.in_ok-path.ensures.within) in
     let told : events.Derivation c.in_ok-path.path c.in_ok-path.class ≡ told_of_derivation c.in_ok-admitted.admitted =
-    ap (λ p. events.Derivation p c.in_ok-path.class) c.in_ok-path.ensures.file ∙ ap (events.Derivation c.in_ok-admitted.admitted.path) c.in_ok-path.ensures.class in
+    ap (λ p. events.Derivation p c.in_ok-path.class) c.in_ok-path.ensures.file
+    ∙ ap (events.Derivation c.in_ok-admitted.admitted.path) c.in_ok-path.ensures.class in
     added_fits users beside table limit c.args.desk.now c.args.derivation c.in_ok-admitted.admitted sound c.requires.absent ok within
-    ∙ ap (λ d. becomes (desk_of beside table d) (told_of_derivation c.in_ok-admitted.admitted)) (sym (changed c)) ∙ ap (becomes (desk_of beside table c.add_derivation.new.self)) (sym (ap reply_of c.in_ok-reply.ensures.reply ∙ told))
+    ∙ ap (λ d. becomes (desk_of beside table d) (told_of_derivation c.in_ok-admitted.admitted)) (sym (changed c))
+    ∙ ap (becomes (desk_of beside table c.add_derivation.new.self)) (sym (ap reply_of c.in_ok-reply.ensures.reply ∙ told))
 
 pub returns-clause-sound : goal.returns-clause-sound
 returns-clause-sound c table limit sound =

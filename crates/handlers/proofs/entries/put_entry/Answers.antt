@@ -10,7 +10,14 @@ use Rattle.handlers.proofs.entries.put_entry.Goals as goal
 pub returns-in_err-reserve : goal.returns-in_err-reserve
 returns-in_err-reserve c =
     let p = err_from_is_err_and c.from_residual.result c.from_residual.ensures.1 in
-    rw (p.1, p.2) (record { free = tt; desk = tt; table = tt; there = tt; kept = record { sources = c.in_err-reserve.ensures.kept; desk = refl }; refused = inl refl })
+    rw (p.1, p.2) (record {
+      free = tt;
+      desk = tt;
+      table = tt;
+      there = tt;
+      kept = record { sources = c.in_err-reserve.ensures.kept; desk = refl };
+      refused = inl refl;
+    })
 
 pub returns-in_err-is_stored : goal.returns-in_err-is_stored
 returns-in_err-is_stored c =

@@ -1,19 +1,41 @@
-use Rattle.std.proofs.Common.{◌≤◌, sym, subst}
-use Rattle.std.proofs.lemmas.List.{set-get_or}
-use Rattle.handling.specs.Viewing.{bare, desk_at}
-use Rattle.trust.proofs.UsersLemmas.{few_users}
-use Rattle.handlers.proofs.ClosureLemmas.{all_complete}
-use Rattle.handling.specs.States.{parts_of}
-use Rattle.handling.proofs.RunLemmas.{by_observation_of}
+use Rattle.std.proofs.Common.{◌∙◌, ap, inl, refl, Ok, Err}
+use Rattle.std.proofs.lemmas.Result.{err_from_is_err_and}
+use Rattle.model.specs.declared.refusal.Refusal.TheVariants.{Memory}
+use Rattle.model.specs.Events as events
+use Rattle.events.specs.Terms.{reply_of}
+use Rattle.trust.specs.Trusting.{trusts}
+use Rattle.handlers.proofs.ClosureLemmas.{closure_handled, closure_refused}
+use Rattle.handlers.proofs.StateLemmas.{by_sight}
 use Rattle.handlers.proofs.given.closure.Goals as goal
 
-pub reply_with_closure-requires-clause-few : goal.reply_with_closure-requires-clause-few
-reply_with_closure-requires-clause-few c = let old = c.args.state.now in rw c.as_slice-desks.ensures.value (subst (λ n. n ≤ 64) (sym old.run.paired) (few_users old.users old.run.listed))
+pub returns-in_err-entries : goal.returns-in_err-entries
+returns-in_err-entries c =
+    let s = c.args.state.now in
+    let p = err_from_is_err_and c.from_residual.result c.from_residual.ensures.1 in
+    let why = c.in_err-entries.field-0.0 in
+    rw (p.1, p.2) (by_sight s c.args.place (events.Closure c.args.class.now) (Err why)
+    (closure_refused (trusts s.trust) s.limits.charge s.table.sources s.desks.items c.args.place c.args.class.now why c.in_err-entries.ensures.served))
 
-pub reply_with_closure-requires-clause-complete : goal.reply_with_closure-requires-clause-complete
-reply_with_closure-requires-clause-complete c = let old = c.args.state.now in rw c.as_slice-desks.ensures.value (all_complete old.table.sources old.limits.charge old.desks.items old.run.sound)
+pub returns-in_err-new : goal.returns-in_err-new
+returns-in_err-new c =
+    let s = c.args.state.now in
+    let p = err_from_is_err_and c.from_residual-in_err-new.result c.from_residual-in_err-new.ensures.1 in
+    let why = c.in_err-new.field-0.0 in
+    rw (p.1, p.2) (by_sight s c.args.place (events.Closure c.args.class.now) (Err why)
+    (closure_refused (trusts s.trust) s.limits.charge s.table.sources s.desks.items c.args.place c.args.class.now why
+    (λ users limit goals actor listed found paired within. inl c.in_err-new.ensures)))
+
+pub returns-in_err-new-2 : goal.returns-in_err-new-2
+returns-in_err-new-2 c =
+    let s = c.args.state.now in
+    let p = err_from_is_err_and c.from_residual-in_err-new-2.result c.from_residual-in_err-new-2.ensures.1 in
+    rw (p.1, p.2) (by_sight s c.args.place (events.Closure c.args.class.now) (Err Memory)
+    (closure_refused (trusts s.trust) s.limits.charge s.table.sources s.desks.items c.args.place c.args.class.now Memory
+    (λ users limit goals actor listed found paired within. inl refl)))
 
 pub returns : goal.returns
 returns c =
-    let old = c.args.state.now in
-    by_observation_of (parts_of old) c.args.place _ c.reply_with_closure.result old.table.sources (desk_at old.desks.items c.args.place) old.desks.items old.run (sym (set-get_or old.desks.items c.args.place bare)) ((rw c.as_slice-desks.ensures.value at c.reply_with_closure.ensures) old.limits.charge)
+    let s = c.args.state.now in
+    by_sight s c.args.place (events.Closure c.args.class.now) _
+    (closure_handled (trusts s.trust) s.limits.charge s.table.sources s.desks.items c.args.place c.args.class.now c.in_ok-entries.entries.items _
+    c.in_ok-entries.ensures.served (ap reply_of c.in_ok-new-2.ensures.reply ∙ ap events.Entries c.in_ok-new.ensures))

@@ -23,4 +23,5 @@ returns-in-None c limit sound beside =
     sym (c.in-None.ensures ∙ held_in_table beside c.args.table.now.sources limit c.args.desk.now c.args.path.now sound) in
     left beside limit c.args.table.now.sources c.args.desk.now (Fetch c.args.path.now) (Err NotHeld) sound (λ setup w u. tt)
     (λ users observation same own. rw (same, none) refl)
-    (fetch_at_once (desk_of beside c.args.table.now.sources c.args.desk.now) c.args.path.now (Err NotHeld) (λ absent. refl)) (λ reply. refl) (search rules) refl (search rules)
+    (fetch_at_once (desk_of beside c.args.table.now.sources c.args.desk.now) c.args.path.now (Err NotHeld) (λ absent. refl)) (λ reply. refl) (search rules)
+    refl (search rules)

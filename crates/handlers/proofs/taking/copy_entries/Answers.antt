@@ -13,7 +13,8 @@ use Rattle.handlers.proofs.taking.copy_entries.Goals as goal
 pub returns-in_err-trees-2 : goal.returns-in_err-trees-2
 returns-in_err-trees-2 c =
     let p = err_from_is_err_and c.from_residual-in_err-trees-2.result c.from_residual-in_err-trees-2.ensures.1 in
-    rw (p.1, p.2) (uncopied c.args.limits.charge c.args.table.now.sources c.args.desk.now c.args.entries.now c.in_ok-trees.trees.items c.in_err-trees-2.field-0.0
+    rw (p.1, p.2) (uncopied c.args.limits.charge c.args.table.now.sources c.args.desk.now c.args.entries.now c.in_ok-trees.trees.items
+    c.in_err-trees-2.field-0.0
     c.in_ok-trees.ensures c.in_err-trees-2.ensures.refused)
 
 pub charged_for_all-requires : goal.charged_for_all-requires
@@ -35,7 +36,8 @@ add_all-requires-clause-absent c =
 
 pub add_all-requires-clause-closed : goal.add_all-requires-clause-closed
 add_all-requires-clause-closed c =
-    entries_closed c.args.limits.charge c.args.table.now.sources c.args.desk.now c.args.entries.now c.in_ok-trees.trees.items c.requires.sound c.requires.copyable
+    entries_closed c.args.limits.charge c.args.table.now.sources c.args.desk.now c.args.entries.now c.in_ok-trees.trees.items c.requires.sound
+    c.requires.copyable
     c.in_ok-trees.ensures c.in_ok-trees-2.ensures.there c.in_ok-found.found.items c.in_ok-found.ensures.found
 
 pub returns : goal.returns

@@ -1,27 +1,85 @@
-use Rattle.std.proofs.Common.{◌≡◌, ◌≤◌, sym, subst}
-use Rattle.std.specs.Prelude.{slice_set}
-use Rattle.std.specs.Vec.{with_items}
+use Rattle.std.proofs.Common.{◌≡◌, List, None, Some, Ok, Err, inl, refl, sym, ◌∙◌, ap, subst, rules, ◌⊎◌, get_or, Result}
+use Rattle.std.proofs.lemmas.Result.{err_from_is_err_and}
+use Rattle.model.specs.declared.refusal.Refusal.{Refusal}
+use Rattle.model.specs.declared.refusal.Refusal.TheVariants.{Memory, NotRealised}
+use Rattle.model.specs.Closures.{path_for}
 use Rattle.model.specs.Events as events
-use Rattle.handling.specs.Parts.{Parts}
-use Rattle.handling.specs.Viewing.{desk_at}
-use Rattle.trust.proofs.UsersLemmas.{few_users}
+use Rattle.model.specs.Worlds.{Entry}
+use Rattle.trust.specs.Trusting.{trusts}
+use Rattle.events.specs.Terms.{reply_of}
 use Rattle.handling.specs.States.{parts_of}
-use Rattle.handling.proofs.RunLemmas.{still_run, by_observation_of}
-use Rattle.handling.proofs.StateLemmas.{set_back}
+use Rattle.handling.proofs.RunLemmas.{by_own_observation}
+use Rattle.handlers.specs.Taking.{CopiesEntries}
+use Rattle.handlers.proofs.StateLemmas.{by_sight}
+use Rattle.handlers.proofs.TakeLemmas.{take_unserved, take_unnamed, take_done, take_refused, copied_here, run_taken}
 use Rattle.handlers.proofs.taking.take.Goals as goal
 
-pub take_closure-requires-clause-few : goal.take_closure-requires-clause-few
-take_closure-requires-clause-few c = let old = c.args.state.now in rw c.as_mut_slice-desks.ensures.value (subst (λ n. n ≤ 64) (sym old.run.paired) (few_users old.users old.run.listed))
+pub returns-in_err-entries : goal.returns-in_err-entries
+returns-in_err-entries c =
+    let s = c.args.state.now in
+    let p = err_from_is_err_and c.from_residual.result c.from_residual.ensures.1 in
+    let why = c.in_err-entries.field-0.0 in
+    rw (p.1, p.2) (by_sight s c.args.place (events.Take c.args.class.now) (Err why)
+    (take_unserved c.served_are_made.ensures (trusts s.trust) s.limits.charge s.table.sources s.desks.items c.args.place c.args.class.now why
+    c.in_err-entries.ensures.served))
+
+pub returns-in_err-path : goal.returns-in_err-path
+returns-in_err-path c =
+    let s = c.args.state.now in
+    let p = err_from_is_err_and c.from_residual-in_err-path.result c.from_residual-in_err-path.ensures.1 in
+    let why = c.in_err-path.field-0.0 in
+    rw (p.1, p.2) (by_sight s c.args.place (events.Take c.args.class.now) (Err why)
+    (take_unnamed c.served_are_made.ensures (trusts s.trust) s.limits.charge s.table.sources s.desks.items c.args.place c.args.class.now
+    c.in_ok-entries.entries.items c.in_ok-entries.ensures.served why
+    (subst (λ (es : List Entry). (why ≡ Memory) ⊎ ((why ≡ NotRealised) × (path_for c.args.class.now es ≡ None))) c.deref.ensures.value c.in_err-path.ensures)))
+
+pub returns-in_err-reply : goal.returns-in_err-reply
+returns-in_err-reply c =
+    let s = c.args.state.now in
+    let p = err_from_is_err_and c.from_residual-in_err-reply.result c.from_residual-in_err-reply.ensures.1 in
+    rw (p.1, p.2) (by_sight s c.args.place (events.Take c.args.class.now) (Err Memory)
+    (take_unnamed c.served_are_made.ensures (trusts s.trust) s.limits.charge s.table.sources s.desks.items c.args.place c.args.class.now
+    c.in_ok-entries.entries.items c.in_ok-entries.ensures.served Memory (inl refl)))
 
 pub invariant_of-state : goal.invariant_of-state
 invariant_of-state c =
-    let old = c.args.state.now in
-    let here : (with_items old.desks c.take_closure.new.desks).items ≡ slice_set old.desks.items c.args.place (desk_at c.take_closure.new.desks c.args.place) = set_back old c.args.place c.take_closure.new.desks (desk_at c.take_closure.new.desks c.args.place) (rw c.as_mut_slice-desks.ensures.value at c.take_closure.ensures.others) in
-    let new : Parts = record (parts_of old) { table = c.take_closure.new.table.sources; desks = (with_items old.desks c.take_closure.new.desks).items } in
-    record { run = still_run (parts_of old) new c.args.place (events.Take c.args.class.now) c.take_closure.result old.run c.requires (by_observation_of (parts_of old) c.args.place _ c.take_closure.result c.take_closure.new.table.sources (desk_at c.take_closure.new.desks c.args.place) (with_items old.desks c.take_closure.new.desks).items old.run here (rw c.as_mut_slice-desks.ensures.value at c.take_closure.ensures.taken)); owned = old.owned }
+    let s = c.args.state.now in
+    let named : path_for c.args.class.now c.in_ok-entries.entries.items ≡ Some c.in_ok-path.path =
+    ap (path_for c.args.class.now) (sym c.deref.ensures.value) ∙ c.in_ok-path.ensures in
+    let copies = copied_here s c.args.place c.requires c.index_mut.result.now c.index_mut.ensures.value c.in_ok-entries.entries.items
+    c.deref-2.result.now c.copy_all.result
+    c.copy_all.new.table.sources c.copy_all.new.desk c.deref-2.ensures.value c.copy_all.ensures in
+    record {
+      run = run_taken c.served_are_made.ensures s c.args.place c.requires c.args.class.now c.in_ok-entries.entries.items c.in_ok-entries.ensures.served
+          c.in_ok-path.path named c.copy_all.result c.copy_all.new.table.sources c.copy_all.new.desk copies;
+      owned = s.owned;
+    }
+
+pub returns-in_err-copy_all : goal.returns-in_err-copy_all
+returns-in_err-copy_all c =
+    let s = c.args.state.now in
+    let p = err_from_is_err_and c.from_residual-in_err-copy_all.result c.from_residual-in_err-copy_all.ensures.1 in
+    let why = c.in_err-copy_all.field-0.0 in
+    let result : c.copy_all.result ≡ Err why = search rules in
+    let named : path_for c.args.class.now c.in_ok-entries.entries.items ≡ Some c.in_ok-path.path =
+    ap (path_for c.args.class.now) (sym c.deref.ensures.value) ∙ c.in_ok-path.ensures in
+    let copies = copied_here s c.args.place c.requires c.index_mut.result.now c.index_mut.ensures.value c.in_ok-entries.entries.items
+    c.deref-2.result.now (Err why)
+    c.copy_all.new.table.sources c.copy_all.new.desk c.deref-2.ensures.value (rw result at c.copy_all.ensures) in
+    rw (p.1, p.2) (by_own_observation (parts_of s) c.args.place (events.Take c.args.class.now) (Err why) c.copy_all.new.table.sources c.copy_all.new.desk s.run
+    (take_refused c.served_are_made.ensures (trusts s.trust) s.limits.charge s.table.sources s.desks.items c.args.place c.args.class.now
+    c.in_ok-entries.entries.items c.in_ok-entries.ensures.served c.in_ok-path.path named c.copy_all.new.table.sources c.copy_all.new.desk why copies))
 
 pub returns : goal.returns
 returns c =
-    let old = c.args.state.now in
-    let here : (with_items old.desks c.take_closure.new.desks).items ≡ slice_set old.desks.items c.args.place (desk_at c.take_closure.new.desks c.args.place) = set_back old c.args.place c.take_closure.new.desks (desk_at c.take_closure.new.desks c.args.place) (rw c.as_mut_slice-desks.ensures.value at c.take_closure.ensures.others) in
-    by_observation_of (parts_of old) c.args.place _ c.take_closure.result c.take_closure.new.table.sources (desk_at c.take_closure.new.desks c.args.place) (with_items old.desks c.take_closure.new.desks).items old.run here (rw c.as_mut_slice-desks.ensures.value at c.take_closure.ensures.taken)
+    let s = c.args.state.now in
+    let result : c.copy_all.result ≡ Ok tt = search rules in
+    let named : path_for c.args.class.now c.in_ok-entries.entries.items ≡ Some c.in_ok-path.path =
+    ap (path_for c.args.class.now) (sym c.deref.ensures.value) ∙ c.in_ok-path.ensures in
+    let copies = copied_here s c.args.place c.requires c.index_mut.result.now c.index_mut.ensures.value c.in_ok-entries.entries.items
+    c.deref-2.result.now (Ok tt)
+    c.copy_all.new.table.sources c.copy_all.new.desk c.deref-2.ensures.value (rw result at c.copy_all.ensures) in
+    by_own_observation (parts_of s) c.args.place (events.Take c.args.class.now) _ c.copy_all.new.table.sources c.copy_all.new.desk s.run
+    (take_done c.served_are_made.ensures (trusts s.trust) s.limits.charge s.table.sources s.desks.items c.args.place c.args.class.now
+    c.in_ok-entries.entries.items c.in_ok-entries.ensures.served c.in_ok-path.path named c.copy_all.new.table.sources c.copy_all.new.desk _
+    (ap reply_of c.in_ok-reply.ensures.reply) copies)

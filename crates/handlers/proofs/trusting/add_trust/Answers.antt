@@ -40,7 +40,8 @@ returns-clause-handled c limit goals table desks actor found paired sound goals_
       | then-other-place w ↦
           let differs : (c.in-Some.other == c.args.place) ≡ false = grind (arith, nat_tests, w.if-other-place.true) in
           subst Handled (sym (ap trusts w.trust-is ∙ w.add.ensures))
-          (trust_handled users limit old goals table desks actor c.args.place c.args.other.now c.in-Some.other c.requires.listed found its paired sound goals_sound within differs)
+          (trust_handled users limit old goals table desks actor c.args.place c.args.other.now c.in-Some.other c.requires.listed found its paired
+          sound goals_sound within differs)
       | else-other-place w ↦
           let same : (c.in-Some.other == c.args.place) ≡ true = grind (arith, nat_tests, w.if-other-place.false) in
           subst Handled (sym (ap trusts w.trust-is))

@@ -34,4 +34,5 @@ returns-clause-handled c limit goals table desks actor found paired sound goals_
     IsHandled (parts users limit old goals table desks) (record { actor = actor; request = Distrust c.args.other.now }) (Ok Done)
     (parts users limit now goals table desks) in
     rw c.done.ensures (subst Handled (sym c.remove.ensures)
-    (distrust_handled users limit old goals table desks actor c.args.place c.args.other.now c.in-Some.other c.requires.listed found its paired sound goals_sound within))
+    (distrust_handled users limit old goals table desks actor c.args.place c.args.other.now c.in-Some.other c.requires.listed found its paired sound
+    goals_sound within))

@@ -1,0 +1,136 @@
+-- What becomes of a goal of a user of a state that is planned.
+use Rattle.std.proofs.Common.{◌≡◌, ℕ, Bool, true, false, List, refl, sym, ◌∙◌, ap, subst, Some, Result, Ok, Err}
+use Rattle.std.specs.Borrow.{Bor}
+use Rattle.std.specs.Prelude.{All, OnOk, OnErr, map}
+use Rattle.model.specs.declared.refusal.Refusal.{Refusal}
+use Rattle.model.specs.Derivations.{Derivation}
+use Rattle.model.specs.Worlds.{Source, Planned, Failed, Resolved, Goal}
+use Rattle.model.specs.Goals.{goal_at, with_goal_at, in_status}
+use Rattle.model.specs.Events as events
+use Rattle.trust.specs.Trusting.{IsReach, trusts}
+use Rattle.trust.specs.Naming.{names}
+use Rattle.store.specs.Stored.{put_all}
+use Rattle.events.specs.declared.reply.Reply as Rust
+use Rattle.events.specs.declared.reply.Reply.TheVariants as reply
+use Rattle.events.specs.declared.status.Status.TheVariants as status
+use Rattle.events.specs.Terms.{reply_of}
+use Rattle.realise.specs.Holdings.{Holdings}
+use Rattle.repair.specs.RepairLaws.{ServedAreMade}
+use Rattle.jobs.specs.Owned.{OwnedByAll, goals_at, with_goals_at, ChangesGoal}
+use Rattle.jobs.specs.Statuses.{planned_with}
+use Rattle.handling.specs.declared.state.State.{State}
+use Rattle.handling.specs.States.{parts_of, HasPlace, Handles}
+use Rattle.handling.specs.Runs.{IsRun}
+use Rattle.handling.specs.Stored.{source_of_entry}
+use Rattle.handling.specs.Sound.{IsClosure, IsStored}
+use Rattle.handling.specs.Viewing.{desk_at}
+use Rattle.handling.specs.Handling.{IsHandledByAll}
+use Rattle.handling.proofs.RunLemmas.{still_run}
+use Rattle.handlers.specs.Serving.{AtPlace}
+use Rattle.goals.specs.Planning.{IsResolvedFor, IsNotResolvedFor, TellsToPlan, fails, IsNotKept}
+use Rattle.goals.proofs.StateLemmas.{left_so, goals_so}
+use Rattle.goals.proofs.PlanLemmas.{told_of_him, own_there, not_to_plan, not_kept, not_resolved, failed, planned, goal_there}
+
+module _ (s : State) (place n : ℕ) (set : ℕ → Bool) (reach : IsReach (trusts s.trust) place set) where
+  abbrev own : List Goal
+  own = goals_at place s.jobs
+
+  abbrev desk : Holdings
+  desk = desk_at s.desks.items place
+
+  abbrev old : List Source
+  old = s.table.sources
+
+  -- it is none that is to be planned
+  pub untimely_so : (why : Refusal) → TellsToPlan own desk.known (names s.users set) n (Err why) → Handles s place (events.Plan n) (Err why) s
+  untimely_so why tells = left_so s place (events.Plan n) (Err why) (λ actor found.
+      not_to_plan s.users s.limits.charge (trusts s.trust) s.jobs.goals old s.desks.items place n s.run.listed s.run.paired s.run.within s.run.sound
+      s.run.goals_sound actor found why
+      (told_of_him s.users s.limits.charge (trusts s.trust) s.jobs.goals old s.desks.items place n s.run.listed s.run.paired s.run.within s.run.sound
+      s.run.goals_sound actor found set (Err why) reach tells))
+
+  module _ (d : Bor Derivation) (tells : TellsToPlan own desk.known (names s.users set) n (Ok d)) where
+    its : (g : Goal) × (goal_at n own ≡ Some g)
+    its = goal_there own desk.known (names s.users set) n d tells
+
+    -- it is not resolved
+    pub unresolved_so : (why : Refusal) → AtPlace (trusts s.trust) old s.desks.items place (λ setup w u. IsNotResolvedFor setup w u d.now why)
+        → fails why ≡ false → Handles s place (events.Plan n) (Err why) s
+    unresolved_so why unresolved final = left_so s place (events.Plan n) (Err why) (λ actor found.
+        let it = told_of_him s.users s.limits.charge (trusts s.trust) s.jobs.goals old s.desks.items place n s.run.listed s.run.paired s.run.within s.run.sound
+        s.run.goals_sound actor found set (Ok d) reach tells in
+        not_resolved s.users s.limits.charge (trusts s.trust) s.jobs.goals old s.desks.items place n s.run.listed s.run.paired s.run.within s.run.sound
+        s.run.goals_sound actor found d.now it why (unresolved s.users s.limits.charge s.jobs.goals actor s.run.listed found s.run.paired s.run.within) final)
+
+    -- it fails
+    pub failed_so : (why : Refusal) (new : OwnedByAll) (told : Rust.Reply)
+        → AtPlace (trusts s.trust) old s.desks.items place (λ setup w u. IsNotResolvedFor setup w u d.now why) → fails why ≡ true
+        → ChangesGoal place n (in_status (Failed why)) s.jobs new → reply_of told ≡ events.GoalStatus (Failed why)
+        → IsHandledByAll (parts_of s) place (events.Plan n) (Ok told) (record (parts_of s) { goals = new.goals })
+    failed_so why new told unresolved final changes is =
+        goals_so s place (events.Plan n) (Ok told) new (with_goal_at n (in_status (Failed why) its.0) own) old (changes its.0 its.1) (λ actor found.
+        let it = told_of_him s.users s.limits.charge (trusts s.trust) s.jobs.goals old s.desks.items place n s.run.listed s.run.paired s.run.within s.run.sound
+        s.run.goals_sound actor found set (Ok d) reach tells in
+        let there = own_there s.users s.limits.charge (trusts s.trust) s.jobs.goals old s.desks.items place n s.run.listed s.run.paired s.run.within s.run.sound
+        s.run.goals_sound actor found d.now it in
+        let same : it.goal ≡ its.0 = (let two : Some it.goal ≡ Some its.0 = sym there ∙ its.1 in cc) in
+        rw (← same)
+        (failed s.users s.limits.charge (trusts s.trust) s.jobs.goals old s.desks.items place n s.run.listed s.run.paired s.run.within s.run.sound
+        s.run.goals_sound actor found d.now it why told
+        (unresolved s.users s.limits.charge s.jobs.goals actor s.run.listed found s.run.paired s.run.within) final is))
+
+    module _ (law : ServedAreMade) (r : Resolved)
+        (resolved : AtPlace (trusts s.trust) old s.desks.items place (λ setup w u. IsResolvedFor setup w u d.now r)) where
+      -- it is not kept
+      pub unkept_so : (why : Refusal) → IsNotKept old r why → Handles s place (events.Plan n) (Err why) s
+      unkept_so why unkept = left_so s place (events.Plan n) (Err why) (λ actor found.
+          let it = told_of_him s.users s.limits.charge (trusts s.trust) s.jobs.goals old s.desks.items place n s.run.listed s.run.paired s.run.within
+          s.run.sound
+          s.run.goals_sound actor found set (Ok d) reach tells in
+          not_kept s.users s.limits.charge (trusts s.trust) s.jobs.goals old s.desks.items place n s.run.listed s.run.paired s.run.within s.run.sound
+          s.run.goals_sound actor found d.now it law r (resolved s.users s.limits.charge s.jobs.goals actor s.run.listed found s.run.paired
+          s.run.within) why unkept)
+
+      module _ (closure : IsClosure r.closure) (new : OwnedByAll) (table : List Source) where
+        abbrev Keeps : Type 0
+        Keeps = (g : Goal) → goal_at n own ≡ Some g → new ≡ with_goals_at place (with_goal_at n (planned_with r g) own) s.jobs
+
+        -- it is planned
+        pub planned_so : (told : Rust.Reply) → reply_of told ≡ events.GoalStatus Planned → Keeps → table ≡ put_all (map source_of_entry r.closure) old
+            → All (IsStored table) r.closure
+            → IsHandledByAll (parts_of s) place (events.Plan n) (Ok told) (record (parts_of s) { goals = new.goals; table = table })
+        planned_so told is keeps stored there =
+            goals_so s place (events.Plan n) (Ok told) new (with_goal_at n (planned_with r its.0) own) table (keeps its.0 its.1) (λ actor found.
+            let it = told_of_him s.users s.limits.charge (trusts s.trust) s.jobs.goals old s.desks.items place n s.run.listed s.run.paired
+            s.run.within s.run.sound
+            s.run.goals_sound actor found set (Ok d) reach tells in
+            let own_goal = own_there s.users s.limits.charge (trusts s.trust) s.jobs.goals old s.desks.items place n s.run.listed s.run.paired
+            s.run.within s.run.sound
+            s.run.goals_sound actor found d.now it in
+            let same : it.goal ≡ its.0 = (let two : Some it.goal ≡ Some its.0 = sym own_goal ∙ its.1 in cc) in
+            rw (← same, stored)
+            (planned s.users s.limits.charge (trusts s.trust) s.jobs.goals old s.desks.items place n s.run.listed s.run.paired s.run.within s.run.sound
+            s.run.goals_sound actor found d.now it law r (resolved s.users s.limits.charge s.jobs.goals actor s.run.listed found s.run.paired s.run.within)
+            told is closure (subst (λ (t : List Source). All (IsStored t) r.closure) stored there)))
+
+    -- a state keeps its facts, whatever comes of keeping it
+    module _ (below : HasPlace s place) (law : ServedAreMade) (r : Resolved)
+        (resolved : AtPlace (trusts s.trust) old s.desks.items place (λ setup w u. IsResolvedFor setup w u d.now r)) (closure : IsClosure r.closure)
+        (new : OwnedByAll) (table : List Source) where
+      pub run_kept : (result : Result (Unit {0}) Refusal)
+          → ((g : Goal) → goal_at n own ≡ Some g → OnOk result (new ≡ with_goals_at place (with_goal_at n (planned_with r g) own) s.jobs))
+          → OnOk result (table ≡ put_all (map source_of_entry r.closure) old) → OnOk result (All (IsStored table) r.closure)
+          → OnErr result ((new ≡ s.jobs) × (table ≡ old)) → IsRun (record (parts_of s) { goals = new.goals; table = table })
+      run_kept (Ok done) keeps stored there left =
+          still_run (parts_of s) (record (parts_of s) { goals = new.goals; table = table }) place (events.Plan n) (Ok (reply.GoalStatus
+          status.Planned)) s.run below
+          (planned_so law r resolved closure new table (reply.GoalStatus status.Planned) refl keeps stored there)
+      run_kept (Err why) keeps stored there left =
+          subst (λ (t : List Source). IsRun (record (parts_of s) { goals = new.goals; table = t })) (sym left.1)
+          (subst (λ (j : OwnedByAll). IsRun (record (parts_of s) { goals = j.goals })) (sym left.0) s.run)
+
+      pub owned_kept : (result : Result (Unit {0}) Refusal)
+          → ((g : Goal) → goal_at n own ≡ Some g → OnOk result (new ≡ with_goals_at place (with_goal_at n (planned_with r g) own) s.jobs))
+          → OnErr result ((new ≡ s.jobs) × (table ≡ old)) → new.users ≡ s.users
+      owned_kept (Ok done) keeps left = ap (λ (j : OwnedByAll). j.users) (keeps its.0 its.1) ∙ s.owned
+      owned_kept (Err why) keeps left = ap (λ (j : OwnedByAll). j.users) left.0 ∙ s.owned
