@@ -26,6 +26,7 @@ use Rattle.running.specs.Sessions.{Outputs}
 use Rattle.running.specs.Teams.{AllNew, stops_in}
 use Rattle.running.specs.Desks.{AreFirst, IsDeskOf, AreDesksOf, passes_for, passes_needed, session_passes, passes_left, all_passes, numbers_in, all_numbers, stops_left, IsPool, ArePools, OutputOf, AllOutputs}
 use Rattle.running.specs.Runs.{IsGivenBack, AreOutputs, WorkersStand, AreServed, IsClosed, AreResults, are_accounted}
+use Rattle.running.specs.Asked.{are_asked}
 use Rattle.running.specs.declared.runs.Results.{Results}
 use Rattle.history.specs.declared.row.Row.{Row}
 use Rattle.history.specs.Histories.{IsLegal}
@@ -306,6 +307,9 @@ module _ {I Q : Type 0} (setup : Setup) (gives : Q → Running → Result (List 
     others =
         subst (λ (n : ℕ). are_accounted (session_passes n parts) workers results.history.rows.items ≡ true) needed
         (subst (λ (ns : List ℕ). are_accounted ns workers results.history.rows.items ≡ true) served.named closed.others);
+    asked =
+        subst (λ (n : ℕ). are_asked (session_passes n parts) results.history.rows.items ≡ true) needed
+        (subst (λ (ns : List ℕ). are_asked ns results.history.rows.items ≡ true) served.named closed.asked);
   }
 
   pub if_results : (parts : List (Part I Q)) (count : ℕ) (sessions workers : List ℕ) (passes : List Known) (outputs : Vec Output)
@@ -330,4 +334,5 @@ module _ {I Q : Type 0} (setup : Setup) (gives : Q → Running → Result (List 
     workers = [];
     workers_are = ∣ tt ∣₁;
     others = subst (λ (rs : List Row). are_accounted (session_passes (passes_needed parts) parts) [] rs ≡ true) (sym rows) refl;
+    asked = subst (λ (rs : List Row). are_asked (session_passes (passes_needed parts) parts) rs ≡ true) (sym rows) refl;
   }

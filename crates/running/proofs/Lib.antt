@@ -7,4 +7,5 @@ mod TeamLemmas
 mod InputHeadLemmas
 mod ServedLemmas
 mod RunLemmas
+mod AskedLemmas
 mod DeskLemmas

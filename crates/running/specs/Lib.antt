@@ -4,4 +4,5 @@ pub mod Teams
 pub mod Sessions
 pub mod InputHeads
 pub mod Desks
+pub mod Asked
 pub mod Runs

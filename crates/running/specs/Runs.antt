@@ -32,6 +32,7 @@ use Rattle.running.specs.Meeting.{HasMet, stops_by}
 use Rattle.running.specs.Teams.{WorksInRounds}
 use Rattle.running.specs.Sessions.{AsksStatus, EndsBy}
 use Rattle.running.specs.Desks.{passes_needed, session_passes}
+use Rattle.running.specs.Asked.{are_asked}
 use Rattle.running.specs.declared.runs.Results.{Results}
 
 -- these are the calls that lines of these rows make, in their order: the event of a line with the reply that is printed for it, and
@@ -155,8 +156,9 @@ module _ {I Q : Type 0} (setup : Setup) (gives : Q → Running → Result (List 
     pub workers_are : (history : History) → All (IsGivenBack history) passes → ∥ WorkersStand setup gives history workers ∥₁
 
   -- what the lines of files gave is so of the history of one store. It is legal; the lines of each file stand in it under the pass of its
-  -- session, and no other row is of that pass; each row of another pass is of a worker who stands in it; and it says that the store was stopped
-  -- just where a call did that, after which a line of that file was told 90
+  -- session, and no other row is of that pass; each row of another pass is of a worker who stands in it, and goes on with a goal that a line of
+  -- the worker's file was given before; and it says that the store was stopped just where a call did that, after which a line of that file was
+  -- told 90
   pub record AreResults (parts : List (Part I Q)) (results : Results) : Type 0 where
     pub legal : IsLegal setup results.history.rows.items
     pub stops : List ℕ
@@ -165,10 +167,12 @@ module _ {I Q : Type 0} (setup : Setup) (gives : Q → Running → Result (List 
     pub workers : List ℕ
     pub workers_are : ∥ WorkersStand setup gives results.history workers ∥₁
     pub others : are_accounted (session_passes (passes_needed parts) parts) workers results.history.rows.items ≡ true
+    pub asked : are_asked (session_passes (passes_needed parts) parts) results.history.rows.items ≡ true
 
--- a front was closed with these passes, of which these are the sessions' and those the workers'
+-- a front was closed with these passes, of which these are the sessions' and those the workers', who went on with goals of their own files
 pub record IsClosed (setup : Setup) (sessions workers : List ℕ) (passes : List Known) (history : History) : Type 0 where
   pub legal : IsLegal setup history.rows.items
   pub back : All (IsGivenBack history) passes
   pub stopped : sum_by stops_by passes ≡ stops_of history.stopped
   pub others : are_accounted sessions workers history.rows.items ≡ true
+  pub asked : are_asked sessions history.rows.items ≡ true

@@ -6,6 +6,7 @@
 //! | [`run`] | runs the lines of files, each in a thread of its own, with workers that build |
 #![tactic(auto)]
 
+mod asked;
 mod input_head;
 mod meeting;
 mod pass_lists;

@@ -12,6 +12,7 @@ ghost use Rattle.running.specs.Sessions.{CannotBegin};
 ghost use Rattle.running.specs.Desks.{AreFirst, AllOutputs, passes_needed, session_passes};
 ghost use Rattle.running.specs.Runs.{AreServed, IsClosed, AreResults, are_accounted};
 
+use crate::asked::are_asked;
 use crate::pass_lists::{Back, SharedDesk, SharedLeft, desks_for, end_sessions, numbers_of};
 use crate::rounds::Rounds;
 use crate::sessions::{Output, Part, all_at_once};
@@ -136,10 +137,12 @@ fn serve_front<
 ///
 /// # Errors
 ///
-/// - `Memory` where a pass has not come back, and where a row is of no session and of no worker: neither
-///   comes.
+/// - `Memory` where memory was refused, where a pass has not come back, where a row is of no session and of no
+///   worker, and where a row of a worker goes on with a goal that its file was not given before: of these four
+///   only the first comes.
 fn close_front<J: FrontId, R: Wait>(
     rt: &R,
+    alloc: Global,
     front: Front<J>,
     count: u64,
     ended: Ended<J>,
@@ -160,6 +163,9 @@ fn close_front<J: FrontId, R: Wait>(
     }
     let history = front.close(rt, passes);
     if !are_accounted(&sessions, &workers, &history.rows) {
+        return Err(Refusal::Memory);
+    }
+    if !are_asked(alloc, &sessions, &history.rows)? {
         return Err(Refusal::Memory);
     }
     Ok(Results { outputs, history })
@@ -191,7 +197,7 @@ fn run_core<
 {
     let (front, passes) = Front::<J>::new(rt, alloc, blank, core, count)?;
     let ended = serve_front(rt, alloc, &front, passes, parts)?;
-    close_front(rt, front, count, ended)
+    close_front(rt, alloc, front, count, ended)
 }
 
 /// Runs the lines of files as sessions of one new store, whose users these are, under these limits. Each
@@ -204,6 +210,7 @@ fn run_core<
 /// file was answered before, and has no row; and neither has what was answered 90 or 92. Each other row is
 /// of the pass of a worker: for each goal that it takes it plans it, starts it, asks what the job that the
 /// goal leads is built from, has its runner build that once, and ends the job with what the runner gave.
+/// Each row of a worker goes on with a goal that a `build` line of its own file was given before.
 /// No line is answered 92 unless the store was stopped; and it is stopped only where a line of a file was
 /// answered 90, whose own call, or whose worker's, did that.
 ///

@@ -12,6 +12,7 @@ returns-clause-closed g c = (
         c.close-history.ensures.each c.close-history.ensures.stopped;
     stopped = sym (sum-map stops_by c.args.ended.back.passes.items) ∙ c.close-history.ensures.stops;
     others = rw (c.deref.ensures.value, c.deref-2.ensures.value, c.deref-3.ensures.value) at (sym c.are_accounted.ensures ∙ c.if-not-are_accounted.false);
+    asked = rw (c.deref-4.ensures.value, c.deref-5.ensures.value) at (sym c.in_ok-are_asked.ensures ∙ c.if-not-branch.false);
   },
   refl,
 )
