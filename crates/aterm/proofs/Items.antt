@@ -2,9 +2,6 @@
 use Rattle.std.proofs.Common.{◌≡◌, ℕ, zero, suc, ◌+◌, ◌-◌, ◌<◌, true, false, List, [], ◌∷◌, ◌++◌, length, drop, refl, ap, sym, ◌∙◌, append_assoc, append-nil, arith}
 use Rattle.std.specs.Prelude.{Option, Some, None}
 use Rattle.model.specs.DerivationTexts.{Reader, ◌>>=◌, is_at, with_item_first, items_at}
-use Rattle.reading.specs.Outcomes.{Fails}
-use Rattle.reading.specs.declared.steps.ReadError.{ReadError}
-use Rattle.reading.specs.declared.steps.ReadError.TheVariants.{Memory, Malformed}
 
 -- what was read, behind items
 abbrev pub onto : {X : Type 0} → List X → Option (List X × List ℕ) → Option (List X × List ℕ)

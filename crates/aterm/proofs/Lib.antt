@@ -1,3 +1,4 @@
+pub mod PlainRuns
 pub mod Items
 pub mod Texts
 pub mod Sound

@@ -1,10 +1,9 @@
--- Strings and lists as they are written, one member after another.
-use Rattle.std.proofs.Common.{◌≡◌, ℕ, ◌+◌, ◌<◌, ◌≤◌, List, [], ◌∷◌, ◌++◌, map, codes, length, drop, get_or, sym, ap, ◌∙◌, append_assoc, append-nil, add-one}
+-- Lists as they are written, one member after another.
+use Rattle.std.proofs.Common.{◌≡◌, ℕ, ◌+◌, ◌<◌, ◌≤◌, List, [], ◌∷◌, ◌++◌, map, codes, length, drop, get_or, sym, ap, ◌∙◌, append_assoc, add-one}
 use Rattle.std.specs.Prelude.{Result, Ok, Err, IfOk, is_ok, if◌then◌else◌}
-use Rattle.std.specs.List.{flat_map}
 use Rattle.std.proofs.Math.Seq.{drop-cons}
 use Rattle.std.proofs.lemmas.List.{drop_all}
-use Rattle.model.specs.Derivations.{character_text, quoted, listed}
+use Rattle.model.specs.Derivations.{listed}
 
 -- a last write, whose result is returned as it is
 pub last_write : {T E : Type 0} (result : Result T E) (old bytes new whole : List ℕ) → new ≡ (if is_ok result then old ++ bytes else old)
@@ -13,7 +12,7 @@ last_write (Ok value) old bytes new whole written e = written ∙ e
 last_write (Err error) old bytes new whole written e = tt
 
 -- what is left begins with the next member
-next_left : {A : Type 0} (xs : List A) (k : ℕ) (x : A) → k < length xs → drop k xs ≡ get_or xs k x ∷ drop (k + 1) xs
+pub next_left : {A : Type 0} (xs : List A) (k : ℕ) (x : A) → k < length xs → drop k xs ≡ get_or xs k x ∷ drop (k + 1) xs
 next_left xs k x lt = rw add-one (drop-cons xs k x lt)
 
 -- ---- lists
@@ -41,28 +40,3 @@ list_ends f xs k old begun out separator le first so_far =
     ap (λ ys. out ++ listed separator (map f ys)) (sym (drop_all k xs le))
     ∙ so_far
     ∙ ap (λ o. o ++ listed [] (map f xs)) first
-
--- ---- strings
-
-pub string_next : (text : List ℕ) (k : ℕ) (out new whole : List ℕ) → k < length text → new ≡ out ++ character_text (get_or text k 0)
-    → out ++ flat_map character_text (drop k text) ≡ whole → new ++ flat_map character_text (drop (k + 1) text) ≡ whole
-string_next text k out new whole lt written before =
-    let rest = flat_map character_text (drop (k + 1) text) in
-    ap (λ n. n ++ rest) written
-    ∙ append_assoc out (character_text (get_or text k 0)) rest
-    ∙ ap (λ bytes. out ++ flat_map character_text bytes) (sym (next_left text k 0 lt))
-    ∙ before
-
-pub string_ends : (text : List ℕ) (k : ℕ) (old begun out : List ℕ) → length text ≤ k → begun ≡ old ++ codes "\""
-    → out ++ flat_map character_text (drop k text) ≡ begun ++ flat_map character_text text → out ++ codes "\"" ≡ old ++ quoted text
-unfolding quoted
-string_ends text k old begun out le first so_far =
-    let whole : out ≡ old ++ codes "\"" ++ flat_map character_text text =
-    sym (append-nil out)
-    ∙ ap (λ bytes. out ++ flat_map character_text bytes) (sym (drop_all k text le))
-    ∙ so_far
-    ∙ ap (λ o. o ++ flat_map character_text text) first in
-    ap (λ o. o ++ codes "\"") whole ∙ joined old (codes "\"") (flat_map character_text text)
-  where
-    joined : (o q t : List ℕ) → o ++ q ++ t ++ q ≡ o ++ (q ++ t ++ q)
-    joined o q t = simp append_assoc

@@ -1,12 +1,12 @@
 -- What was read is what is written: the text from which a part was read begins with that part's text.
-use Rattle.std.proofs.Common.{◌≡◌, ℕ, zero, suc, Bool, true, false, cond, ◌⊎◌, inl, inr, take-append-drop, List, [], ◌∷◌, ◌++◌, length, take, drop, codes, eqb-true, refl, ap, sym, ◌∙◌, append_assoc, arith}
+use Rattle.std.proofs.Common.{◌≡◌, ℕ, zero, suc, true, false, inl, inr, take-append-drop, List, [], ◌∷◌, ◌++◌, length, take, drop, codes, eqb-true, refl, ap, sym, ◌∙◌, append_assoc, arith}
 use Rattle.std.specs.Prelude.{Option, Some, None, ◌==◌}
 use Rattle.std.specs.Cmp.Lexicographic.{same_text}
 use Rattle.std.proofs.lemmas.Bool.Decides.{nat_tests}
 use Rattle.model.specs.Derivations.{character_text}
 use Rattle.aterm.proofs.Texts.{items_text, closed, closed_is, member_text, members_text, behind, variables_text, member_grouped, variable_grouped}
 use Rattle.model.specs.DerivationTexts.{Reader, ◌>>=◌, is_at, tag_at, with_item_first, items_at, escaped_at, plain_at, character_at, quoted_at, member_at, members_at, variable_at, variables_at}
-use Rattle.reading.proofs.ReadingLemmas.{if_true, if_either, some_same}
+use Rattle.nar.proofs.ReadingLemmas.{if_true, if_either, some_same}
 
 -- ---- steps
 

@@ -3,3 +3,4 @@ pub mod Refused
 pub mod Laws
 pub mod Parts
 pub mod Writing
+pub mod Runs

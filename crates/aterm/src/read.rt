@@ -1,17 +1,19 @@
 //! Reading a derivation's text.
 
-ghost use Rattle.std.specs.Prelude.{◌≡◌, IfOk, MatchResult, Some, []};
+ghost use Rattle.std.specs.Prelude.{◌≡◌, IfOk, MatchResult, Some};
+ghost use Rattle.std.specs.List.{position};
 ghost use Rattle.model.specs.Derivations.{derivation_text, IsDerivation, IsOnlyDerivation};
-ghost use Rattle.model.specs.DerivationTexts.{tag_at, escaped_at, character_at, quoted_at, member_at, members_at, variable_at, variables_at, derivation_at, derivation_of_text};
+ghost use Rattle.model.specs.DerivationTexts.{tag_at, escaped_at, quoted_at, member_at, members_at, variable_at, variables_at, derivation_at, derivation_of_text};
 ghost use Rattle.aterm.specs.Parts.{derivation_of};
+ghost use Rattle.aterm.specs.Runs.{ends_run};
 ghost use Rattle.aterm.specs.Strings.{derivation_read};
 ghost use Rattle.aterm.specs.Refused.{AreNoPaths, HasNoPaths, IsRefused, IsNotRead, IsUnread};
-ghost use Rattle.reading.specs.Outcomes.{Gives};
+ghost use Rattle.nar.specs.Outcomes.{Gives};
 
 use crate::derivation::{Derivation, Parts};
 use crate::text::Text;
 use model::Refusal;
-use reading::ReadError;
+use nar::ReadError;
 use std::alloc::Global;
 use storepath::{StorePath, read_path};
 
@@ -46,23 +48,14 @@ fn read_escaped(bytes: &[u8]) -> Result<(u8, &[u8]), ReadError>
     }
 }
 
-// A character of a string, and what follows it.
-#[tactic(auto, unfolding(model::specs::DerivationTexts::character_at))]
-fn read_character(bytes: &[u8]) -> Result<(u8, &[u8]), ReadError>
-    ensures { Gives (λ r. (r.0, r.1.now)) result (character_at [] bytes.now) }
+// Where the first byte stands that does not stand for itself in a string.
+fn run_end(bytes: &[u8]) -> Option<usize>
+    ensures { result ≡ position ends_run bytes.now }
 {
-    let Some((character, rest)) = bytes.split_first() else {
-        return Err(ReadError::Malformed);
-    };
-    match *character {
-        b'\\' => read_escaped(rest),
-        b'"' => Err(ReadError::Malformed),
-        32..=126 => Ok((*character, rest)),
-        _ => Err(ReadError::Malformed),
-    }
+    bytes.iter().position(|byte| matches!(*byte, b'"' | b'\\') || !matches!(*byte, 32..=126))
 }
 
-// The string behind this tag.
+// The string behind this tag. The characters between two escapes are taken at once.
 #[tactic(auto, unfolding(model::specs::DerivationTexts::quoted_at))]
 fn read_string<'a>(
     alloc: Global,
@@ -73,12 +66,15 @@ fn read_string<'a>(
 {
     let mut rest = expect(bytes, tag)?;
     let mut characters = Vec::new(alloc);
-    for _ in 0..rest.len() {
-        if let Some(after) = rest.strip_prefix(b"\"".as_slice()) {
+    while let Some(at) = run_end(rest) {
+        let (run, behind) = rest.split_at(at);
+        characters.extend_from_slice(run)?;
+        if let Some(after) = behind.strip_prefix(b"\"".as_slice()) {
             let text = Text::new(characters)?;
             return Ok((text, after));
         }
-        let (character, after) = read_character(rest)?;
+        let letters = expect(behind, b"\\")?;
+        let (character, after) = read_escaped(letters)?;
         characters.push(character)?;
         rest = after;
     }

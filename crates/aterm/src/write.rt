@@ -1,9 +1,11 @@
 //! Writing a derivation's text.
 
 ghost use Rattle.std.specs.Prelude.{◌≡◌, ◌++◌, MatchResult, OnOk, [], map, codes};
+ghost use Rattle.std.specs.List.{position};
 ghost use Rattle.model.specs.Derivations.{character_text, quoted, listed, variable_text, derivation_text};
 ghost use Rattle.model.specs.declared.refusal.Refusal.TheVariants.{Memory};
 ghost use Rattle.aterm.specs.Parts.{derivation_of};
+ghost use Rattle.aterm.specs.Runs.{may_have_escape};
 ghost use Rattle.aterm.specs.Writing.{between, members, rest_text};
 
 use crate::derivation::{Derivation, Parts};
@@ -34,14 +36,27 @@ fn put_character(out: &mut Vec<u8>, byte: u8) -> Result<(), AllocError>
     }
 }
 
-#[tactic(auto, unfolding(model::specs::Derivations::quoted))]
+// Where the first byte stands that may have an escape. To a byte behind the quote, such as a letter, it
+// takes two comparisons.
+fn next_escape(text: &[u8]) -> Option<usize>
+    ensures { result ≡ position may_have_escape text.now }
+{
+    text.iter()
+        .position(|byte| matches!(*byte, 0..=b'"' | b'\\'))
+}
+
+// A string, in quotes. The bytes between two escapes are put at once.
 fn put_string(out: &mut Vec<u8>, text: &[u8]) -> Result<(), AllocError>
     ensures { OnOk result (out.new.items ≡ out.old.items ++ quoted text.now) }
 {
+    let mut rest = text;
     out.extend_from_slice(b"\"")?;
-    for byte in text {
-        put_character(out, *byte)?;
+    while let Some(at) = next_escape(rest) {
+        out.extend_from_slice(&rest[..at])?;
+        put_character(out, rest[at])?;
+        rest = &rest[at + 1..];
     }
+    out.extend_from_slice(rest)?;
     out.extend_from_slice(b"\"")
 }
 

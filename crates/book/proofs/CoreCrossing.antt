@@ -26,11 +26,11 @@ use Rattle.records.specs.contracts.realisation.Source as Source
 use Rattle.records.specs.contracts.entries.Entry as Entry
 use Rattle.records.specs.contracts.entries.Closure as Closure
 use Rattle.records.specs.contracts.resolved.Resolved as Resolved
-use Rattle.moving.specs.contracts.repair.Repair as Repair
-use Rattle.moving.specs.contracts.moves.Move as Move
-use Rattle.moving.proofs.moves.Move.TheSendSync as moves
-use Rattle.moving.specs.contracts.kept.Kept as Kept
-use Rattle.moving.specs.contracts.cache.Cache as Cache
+use Rattle.repair.specs.contracts.repair.Repair as Repair
+use Rattle.repair.specs.contracts.moves.Move as Move
+use Rattle.repair.proofs.moves.Move.TheSendSync as moves
+use Rattle.repair.specs.contracts.kept.Kept as Kept
+use Rattle.repair.specs.contracts.cache.Cache as Cache
 use Rattle.jobs.specs.contracts.goal.Goal as Goal
 use Rattle.jobs.specs.contracts.goals.Goals as Goals
 use Rattle.jobs.specs.contracts.users.Jobs as Jobs
@@ -42,7 +42,7 @@ use Rattle.outputs.specs.contracts.settlements.Settlements as Settlements
 use Rattle.outputs.specs.contracts.sources.Sources as Sources
 use Rattle.events.specs.contracts.event.Event as Event
 use Rattle.events.specs.contracts.reply.Reply as Reply
-use Rattle.handling.specs.contracts.state.State as State
+use Rattle.handlers.specs.contracts.state.State as State
 use Rattle.schedule.specs.contracts.state.Core as Core
 use Rattle.schedule.specs.contracts.work.Work as Work
 use Rattle.schedule.specs.contracts.work.Ready as Ready

@@ -29,9 +29,6 @@ use std::alloc::Global;
 use std::num::NonZeroUsize;
 use std::sync::{Mutex, MutexGuard, Wait};
 
-/// The most readers that there can be at once: one for each pass.
-const MOST_READERS: usize = 64;
-
 /// How many repaired records the passes of a front keep at most, all together: as many as a closure may
 /// have entries.
 const MOST_REPAIRED: usize = 1_024;
@@ -115,15 +112,17 @@ fn passes_of<J: FrontId>(
     Ok(passes)
 }
 
-/// A writer of two new copies of a core, which is new.
+/// A writer of two new copies of a core, which is new, with a place for each of so many readers.
 fn writer_of<J: FrontId, R: Wait>(
     rt: &R,
     alloc: Global,
     core: &Core,
     none: &HistoryPrefix,
+    readers: usize,
 ) -> Result<SnapshotWriter, Refusal>
     requires core { IsNew J.setup core.now }
     requires none { (none.now.seen.log ≡ []) × (none.now.seen.book ≡ J.book) }
+    requires readers { (0 < readers) × (readers ≤ 64) }
     ensures rows { IfOk result (λ writer. writer.desk.shown.value.rows ≡ []) }
     ensures name { IfOk result (λ writer.
         writer.desk.shown.value.name ≡ name_of J.book J.setup) }
@@ -134,7 +133,7 @@ fn writer_of<J: FrontId, R: Wait>(
 {
     let first = Snapshot::new(alloc, core.another(alloc)?, none.again());
     let second = Snapshot::new(alloc, core.another(alloc)?, none.again());
-    let writer = SnapshotWriter::new(alloc, first, second, MOST_READERS)?;
+    let writer = SnapshotWriter::new(alloc, first, second, readers)?;
     let (writer, knows) = begin(rt, writer);
     if knows {
         return Ok(writer);
@@ -184,7 +183,7 @@ impl<J: FrontId> Front<J> {
         };
         let mut log = log.named::<J>();
         let (head, none) = rows.named::<J>();
-        let mut writer = writer_of::<J, R>(rt, alloc, &core, &none)?;
+        let mut writer = writer_of::<J, R>(rt, alloc, &core, &none, n as usize)?;
         match passes_of(alloc, &core, n, &mut all, &mut log, &mut writer, &none) {
             Ok(passes) => {
                 let publisher = Publisher::new(head, none, writer);

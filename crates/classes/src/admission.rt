@@ -6,7 +6,7 @@ ghost use Rattle.hex.specs.Hex.{encode_lower};
 ghost use Rattle.sha2.specs.Sha256.{sha256};
 ghost use Rattle.classes.specs.Inputs.{has_inputs, is_absent};
 ghost use Rattle.model.specs.Paths.{OutputClass, store_path};
-ghost use Rattle.model.specs.Derivations.{name_of};
+ghost use Rattle.model.specs.Derivations.{derivation_text, name_of};
 ghost use Rattle.model.specs.Classes.{known_at, is_one_of, mask_of, rank_at, greatest, sorted, derivation_path, masked_text, class_of, admission_of, admit};
 ghost use Rattle.model.specs.declared.refusal.Refusal.TheVariants.{MissingInput, Memory};
 
@@ -148,7 +148,25 @@ pub fn path_of(alloc: Global, derivation: &Derivation) -> Result<StorePath, Refu
         (λ path. path ≡ derivation_path derivation.now)
         (λ e. e ≡ Memory) }
 {
-    let digest = sha256(&print(alloc, derivation)?);
+    path_of_text(alloc, derivation, &print(alloc, derivation)?)
+}
+
+/// The same of a derivation whose text is at hand.
+///
+/// # Errors
+///
+/// - `Memory` only where memory was refused.
+pub fn path_of_text(
+    alloc: Global,
+    derivation: &Derivation,
+    text: &[u8],
+) -> Result<StorePath, Refusal>
+    requires text { text.now ≡ derivation_text derivation.now }
+    ensures { MatchResult result
+        (λ path. path ≡ derivation_path derivation.now)
+        (λ e. e ≡ Memory) }
+{
+    let digest = sha256(text);
     let name = file_name(alloc, derivation)?;
     let parts = derivation.parts();
     let references = references(alloc, &parts.inputs, &parts.sources)?;

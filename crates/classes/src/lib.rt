@@ -7,7 +7,7 @@ mod inputs;
 mod known;
 mod paths;
 
-pub use admission::{admit, admit_at, path_of};
+pub use admission::{admit, admit_at, path_of, path_of_text};
 pub use class::{Admitted, Class};
 pub use inputs::input_classes;
 pub use known::Known;

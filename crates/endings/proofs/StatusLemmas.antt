@@ -7,11 +7,11 @@ use Rattle.model.specs.Worlds.{Status, Goal}
 use Rattle.model.specs.Goals.{goal_at, with_goal_at, in_status}
 use Rattle.jobs.specs.Owned.{OwnedByAll, with_goals_at}
 use Rattle.jobs.proofs.NumberLemmas.{some_at}
-use Rattle.handling.specs.Supported.{goals_of}
-use Rattle.handling.proofs.PuttingLemmas.{all_front}
+use Rattle.handlers.specs.Supported.{goals_of}
+use Rattle.handlers.proofs.PuttingLemmas.{all_front}
 use Rattle.events.specs.declared.status.Status as Rust
 use Rattle.events.specs.Statuses.{status_of}
-use Rattle.building.specs.DeskDeltas.{with_status, with_statuses, status_at, IsSettable}
+use Rattle.endings.specs.DeskDeltas.{with_status, with_statuses, status_at, IsSettable}
 use Rattle.endings.specs.Committing.{Ascend, AreSettable}
 use Rattle.endings.proofs.FailingLemmas.{IsChangedAt, changed_again}
 

@@ -9,7 +9,7 @@ use Rattle.realise.specs.Holdings.{Holdings}
 use Rattle.outputs.specs.declared.input.Input.{Input}
 use Rattle.outputs.specs.declared.settlement.Settlement.{Settlement}
 use Rattle.outputs.specs.Kept.{HasNeeded}
-use Rattle.building.specs.Built.{HasBuilt}
+use Rattle.endings.specs.Built.{HasBuilt}
 
 -- what comes of the output of a job for the goal that leads it is among these, where the output is an archive
 abbrev pub HasLedOutput : Holdings → Job → List Goal → List ℕ → List Settlement → Type 0

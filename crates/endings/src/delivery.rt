@@ -3,16 +3,17 @@
 ghost use Rattle.std.specs.Prelude.{◌≡◌, ◌+◌, ◌≤◌, ◌⊎◌, ◌++◌, length, map, OnOk, IfOk, IfErr, MatchResult};
 ghost use Rattle.model.specs.declared.refusal.Refusal.TheVariants.{Memory, Clash};
 ghost use Rattle.store.specs.Stored.{AreTaken, put_all, sources_of};
-ghost use Rattle.building.specs.DeskDeltas.{delta_in, status_at};
+ghost use Rattle.endings.specs.DeskDeltas.{delta_in, status_at};
 ghost use Rattle.std.specs.Option.{option_copied};
 ghost use Rattle.jobs.specs.Owned.{goals_at};
 ghost use Rattle.trust.specs.Trusting.{trusts};
-ghost use Rattle.handling.specs.States.{HasPlace};
-ghost use Rattle.handling.specs.Viewing.{desk_at};
+ghost use Rattle.handlers.specs.States.{HasPlace};
+ghost use Rattle.handlers.specs.Viewing.{desk_at};
 ghost use Rattle.endings.specs.Delivery.{Receives, trees_built, tree_built, all_trees, AreStored, AreBuiltFor, IsDeliveredAtPlace, AreDelivered, IsMadeBeside, IsNotMade};
 
-use building::{Built, DeskDelta, built_on, delta_for, waiting};
-use handling::State;
+use crate::delta::{DeskDelta, delta_for, waiting};
+use crate::settling::{Built, built_on};
+use handlers::State;
 use jobs::{Job, Status, members_reached};
 use model::Refusal;
 use nar::Tree;
@@ -95,8 +96,7 @@ fn build_from(
     let mut all = Vec::new(alloc);
     for place in 0..state.desks.len() {
         let numbers = members_reached(&state.trust, &state.jobs, leader, place, job);
-        let desk = &state.desks[place];
-        let built = built_on(alloc, desk, &state.jobs, place, numbers, tree, settlements)?;
+        let built = built_on(alloc, state, place, numbers, tree, settlements)?;
         all.push(built)?;
     }
     Ok(all)

@@ -13,19 +13,19 @@ ghost use Rattle.trust.specs.Trusting.{trusts};
 ghost use Rattle.trust.specs.Naming.{name_at};
 ghost use Rattle.jobs.specs.Owned.{goals_at};
 ghost use Rattle.store.specs.Stored.{AreNew, sources_of};
-ghost use Rattle.handling.specs.Parts.{goals_of};
-ghost use Rattle.handling.specs.Viewing.{desk_at};
-ghost use Rattle.building.specs.DeskDeltas.{last_status, status_at, with_delta, with_statuses};
+ghost use Rattle.handlers.specs.Parts.{goals_of};
+ghost use Rattle.handlers.specs.Viewing.{desk_at};
+ghost use Rattle.endings.specs.DeskDeltas.{last_status, status_at, with_delta, with_statuses};
 ghost use Rattle.endings.specs.Committing.{delta_at, statuses_for, AreToAdd, MayGain, AreSettable};
 ghost use Rattle.endings.specs.Delivery.{IsNotMade};
 ghost use Rattle.endings.specs.Finishing.{IsPrepared};
-ghost use Rattle.handling.specs.States.{HasPlace, Handles};
+ghost use Rattle.handlers.specs.States.{HasPlace, Handles};
 
 use crate::committing::{additions_of, gained_by_all, set_all};
 use crate::delivery::delivered_by_all;
-use building::DeskDelta;
+use crate::delta::DeskDelta;
 use events::{CopiedReply, Reply};
-use handling::State;
+use handlers::State;
 use jobs::{Job, Jobs, Status, leads};
 use model::Refusal;
 use nar::{Tree, decode};
@@ -49,7 +49,7 @@ pub fn tree_in(alloc: Global, output: &[u8]) -> Result<Option<Tree>, Refusal>
 
 /// How far the goal of a number, which was this far, is once goals have got these states. The one error
 /// is memory.
-#[tactic(auto, unfolding(building::specs::DeskDeltas::last_status))]
+#[tactic(auto, unfolding(crate::specs::DeskDeltas::last_status))]
 fn status_then(
     status: &Status,
     number: u16,

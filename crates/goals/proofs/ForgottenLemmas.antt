@@ -12,10 +12,10 @@ use Rattle.events.specs.Terms.{reply_of}
 use Rattle.realise.specs.Held.{paths_held}
 use Rattle.realise.specs.Holdings.{Holdings, is_recorded_at, is_needed, without_records}
 use Rattle.jobs.specs.Owned.{OwnedByAll, goals_at, with_goals_at}
-use Rattle.handling.specs.declared.state.State.{State}
-use Rattle.handling.specs.States.{parts_of}
-use Rattle.handling.specs.Viewing.{desk_at}
-use Rattle.handling.specs.Handling.{IsHandledByAll}
+use Rattle.handlers.specs.declared.state.State.{State}
+use Rattle.handlers.specs.States.{parts_of}
+use Rattle.handlers.specs.Viewing.{desk_at}
+use Rattle.handlers.specs.Handling.{IsHandledByAll}
 use Rattle.goals.proofs.StateLemmas.{all_so}
 use Rattle.goals.proofs.ForgetLemmas.{forget_done}
 

@@ -18,14 +18,14 @@ use Rattle.realise.specs.Holdings.{Holdings}
 use Rattle.repair.specs.RepairLaws.{ServedAreMade}
 use Rattle.jobs.specs.Owned.{OwnedByAll, goals_at, with_goals_at, ChangesGoal}
 use Rattle.jobs.specs.Statuses.{planned_with}
-use Rattle.handling.specs.declared.state.State.{State}
-use Rattle.handling.specs.States.{parts_of, HasPlace, Handles}
-use Rattle.handling.specs.Runs.{IsRun}
-use Rattle.handling.specs.Stored.{source_of_entry}
-use Rattle.handling.specs.Sound.{IsClosure, IsStored}
-use Rattle.handling.specs.Viewing.{desk_at}
-use Rattle.handling.specs.Handling.{IsHandledByAll}
-use Rattle.handling.proofs.RunLemmas.{still_run}
+use Rattle.handlers.specs.declared.state.State.{State}
+use Rattle.handlers.specs.States.{parts_of, HasPlace, Handles}
+use Rattle.handlers.specs.Runs.{IsRun}
+use Rattle.handlers.specs.Stored.{source_of_entry}
+use Rattle.handlers.specs.Sound.{IsClosure, IsStored}
+use Rattle.handlers.specs.Viewing.{desk_at}
+use Rattle.handlers.specs.Handling.{IsHandledByAll}
+use Rattle.handlers.proofs.RunLemmas.{still_run}
 use Rattle.handlers.specs.Serving.{AtPlace}
 use Rattle.goals.specs.Planning.{IsResolvedFor, IsNotResolvedFor, TellsToPlan, fails, IsNotKept}
 use Rattle.goals.proofs.StateLemmas.{left_so, goals_so}

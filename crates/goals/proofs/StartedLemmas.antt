@@ -14,14 +14,14 @@ use Rattle.realise.specs.Holdings.{Holdings}
 use Rattle.jobs.specs.Owned.{OwnedByAll, goals_at, ChangesGoal}
 use Rattle.events.specs.declared.reply.Reply as Rust
 use Rattle.events.specs.Terms.{reply_of}
-use Rattle.handling.specs.declared.state.State.{State}
-use Rattle.handling.specs.States.{parts_of, HasPlace, Handles}
-use Rattle.handling.specs.Runs.{IsRun}
-use Rattle.handling.specs.Parts.{Parts}
-use Rattle.handling.specs.Sound.{IsStored}
-use Rattle.handling.specs.Handling.{IsHandledByAll}
-use Rattle.handling.specs.Viewing.{bare, desk_at}
-use Rattle.handling.proofs.RunLemmas.{still_run}
+use Rattle.handlers.specs.declared.state.State.{State}
+use Rattle.handlers.specs.States.{parts_of, HasPlace, Handles}
+use Rattle.handlers.specs.Runs.{IsRun}
+use Rattle.handlers.specs.Parts.{Parts}
+use Rattle.handlers.specs.Sound.{IsStored}
+use Rattle.handlers.specs.Handling.{IsHandledByAll}
+use Rattle.handlers.specs.Viewing.{bare, desk_at}
+use Rattle.handlers.proofs.RunLemmas.{still_run}
 use Rattle.handlers.specs.Taking.{with_built, CopiesEntries}
 use Rattle.goals.specs.Planning.{fails}
 use Rattle.goals.specs.Reusing.{UsesAgain}

@@ -1,7 +1,7 @@
 -- What a state keeps, and what is promised of the user at a place of it.
 use Rattle.std.proofs.Common.{◌≡◌, ℕ, ◌<◌, ◌≤◌, get_or, List, [], length, refl, sym, ap, subst, Result}
 use Rattle.std.specs.Prelude.{slice_set}
-use Rattle.std.proofs.lemmas.List.{set-get_or}
+use Rattle.std.proofs.lemmas.List.{get_or_default, set-get_or}
 use Rattle.model.specs.declared.refusal.Refusal.{Refusal}
 use Rattle.model.specs.Worlds.{Source, Goal}
 use Rattle.model.specs.Events.{Request}
@@ -10,12 +10,12 @@ use Rattle.trust.specs.Trusting.{trusts}
 use Rattle.trust.proofs.UsersLemmas.{few_users}
 use Rattle.realise.specs.Holdings.{Holdings}
 use Rattle.jobs.specs.Owned.{OwnedByAll, goals_at, with_goals_at}
-use Rattle.handling.specs.declared.state.State.{State}
-use Rattle.handling.specs.States.{parts_of, HasPlace, Handles}
-use Rattle.handling.specs.Viewing.{bare, desk_at}
-use Rattle.handling.specs.Handling.{IsHandledAtPlace, IsHandledByAll}
-use Rattle.handling.proofs.ViewLemmas.{any_default}
-use Rattle.handling.proofs.RunLemmas.{at_place_of}
+use Rattle.handlers.specs.declared.state.State.{State}
+use Rattle.handlers.specs.States.{parts_of, HasPlace, Handles}
+use Rattle.handlers.specs.Viewing.{bare, desk_at}
+use Rattle.handlers.specs.Handling.{IsHandledAtPlace, IsHandledByAll}
+use Rattle.handlers.proofs.RunLemmas.{at_place_of}
+use Rattle.handlers.proofs.StateLemmas.{has_desk}
 
 pub few_of : (s : State) → length s.users ≤ 64
 few_of s = few_users s.users s.run.listed
@@ -24,12 +24,9 @@ module _ (s : State) (place : ℕ) (below : HasPlace s place) where
   pub with_goals : place < length s.jobs.goals
   with_goals = subst (λ n. place < n) (sym s.run.with_goals) below
 
-  pub with_desk : place < length s.desks.items
-  with_desk = subst (λ n. place < n) (sym s.run.paired) below
-
   -- the desk that is read at a place
   pub own_desk : (d : Holdings) → get_or s.desks.items place d ≡ desk_at s.desks.items place
-  own_desk d = any_default s.desks.items place d bare with_desk
+  own_desk d = get_or_default s.desks.items place d bare (has_desk s place below)
 
 module _ (s : State) (place : ℕ) (request : Request) (result : Result Reply Refusal) where
   -- a request that may change the goals of the user at a place, the table and his desk

@@ -8,11 +8,11 @@ ghost use Rattle.trust.specs.Trusting.{holds};
 ghost use Rattle.trust.specs.Naming.{names};
 ghost use Rattle.realise.specs.Holdings.{is_needed};
 ghost use Rattle.jobs.specs.Owned.{goals_at};
-ghost use Rattle.handling.specs.Viewing.{desk_at};
-ghost use Rattle.handling.specs.States.{HasPlace, Handles};
+ghost use Rattle.handlers.specs.Viewing.{desk_at};
+ghost use Rattle.handlers.specs.States.{HasPlace, Handles};
 
 use events::CopiedReply;
-use handling::State;
+use handlers::State;
 use model::Refusal;
 use storepath::StorePath;
 

@@ -10,10 +10,10 @@ ghost use Rattle.store.specs.Stored.{put_all};
 ghost use Rattle.jobs.specs.Owned.{goals_at, with_goals_at};
 ghost use Rattle.events.specs.Statuses.{status_of};
 ghost use Rattle.jobs.specs.Statuses.{planned_with};
-ghost use Rattle.handling.specs.Stored.{source_of_entry};
-ghost use Rattle.handling.specs.Sound.{IsClosure, IsStored, AreGoalsSound};
-ghost use Rattle.handling.specs.Viewing.{desk_at};
-ghost use Rattle.handling.specs.States.{HasPlace, Handles};
+ghost use Rattle.handlers.specs.Stored.{source_of_entry};
+ghost use Rattle.handlers.specs.Sound.{IsClosure, IsStored, AreGoalsSound};
+ghost use Rattle.handlers.specs.Viewing.{desk_at};
+ghost use Rattle.handlers.specs.States.{HasPlace, Handles};
 ghost use Rattle.goals.specs.Planning.{IsResolvedAt, TellsToPlan, fails, IsNotKept};
 ghost use Rattle.goals.specs.Sharing.{EqualsAllLike};
 
@@ -21,8 +21,7 @@ use aterm::Derivation;
 use choose::View;
 use classes::input_classes;
 use events::CopiedReply;
-use handlers::trees_of;
-use handling::{State, desks_in_view};
+use handlers::{State, desks_in_view, trees_of};
 use jobs::{Jobs, Status};
 use laws::closures_are_whole;
 use model::Refusal;
@@ -46,10 +45,9 @@ fn resolved_for(
     ensures closure { IfOk result (λ r. IsClosure r.closure) }
 {
     closures_are_whole();
-    let desks = state.desks.as_slice();
-    let seen = desks_in_view(alloc, &state.trust, place, desks)?;
+    let seen = desks_in_view(alloc, state, place)?;
     let view = View::new(&state.table, seen);
-    let desk = &desks[place];
+    let desk = &state.desks[place];
     let classes = input_classes(alloc, desk.known(), derivation)?;
     let sources = &derivation.parts().sources;
     let plan = choose::plan(alloc, &view, desk.pins(), &classes, sources)?;

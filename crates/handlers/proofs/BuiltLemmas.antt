@@ -1,26 +1,24 @@
 -- Entries with that of a record more, and a desk to which they are copied.
-use Rattle.std.proofs.Common.{◌≡◌, ℕ, ◌+◌, ◌≤◌, Bool, true, false, inl, inr, List, [], ◌∷◌, ◌++◌, length, refl, sym, ◌∙◌, ap, subst, arith, append-nil, append_assoc}
-use Rattle.std.specs.Prelude.{All, Any, Contains, map, filter, bytes_eq, nat_le, not, ◌&&◌, ◌||◌, if◌then◌else◌}
+use Rattle.std.proofs.Common.{◌≡◌, ℕ, ◌+◌, ◌≤◌, Bool, true, false, inl, inr, List, [], ◌∷◌, ◌++◌, length, refl, sym, ◌∙◌, ap, subst, arith, append-nil}
+use Rattle.std.specs.Prelude.{All, Any, Contains, map, bytes_eq, nat_le, ◌||◌, if◌then◌else◌}
 use Rattle.std.specs.List.{list_any}
 use Rattle.std.specs.Cmp.Lexicographic.{pointwise, lists_per}
 use Rattle.std.proofs.lemmas.List.{length-append}
 use Rattle.std.proofs.lemmas.List.Folds.{list_any-append}
 use Rattle.std.proofs.lemmas.Bool.Decides.{nat_tests}
 use Rattle.std.proofs.lemmas.Bool.{or_left, or_right, and_from}
-use Rattle.model.specs.Limits.{most_sources, most_records, most_entries}
-use Rattle.model.specs.Archives.{nar}
+use Rattle.model.specs.Limits.{most_sources, most_records}
 use Rattle.model.specs.Worlds.{Source, Record, Desk, OfSource, OfRecord, path_of_entry, are_distinct, is_within, same_label, same_record, has_record, with_record, has_entry, with_entry, with_all, missing, with_entries}
 use Rattle.model.specs.Worlds as worlds
-use Rattle.model.specs.Closures.{class_of_entry, labels_of_entry, tree_of_entry, path_of_class}
+use Rattle.model.specs.Closures.{class_of_entry, labels_of_entry, path_of_class}
 use Rattle.model.proofs.BoolLemmas.{either, same_bytes, bytes_same, or_cases, both_parts}
-use Rattle.laws.proofs.MemberLemmas.{In, in_of, contains_of, any_of, in_left, in_append}
+use Rattle.laws.proofs.MemberLemmas.{in_of, contains_of, any_of, in_left, in_append}
 use Rattle.records.specs.LabelLaws.{same_label_laws}
 use Rattle.records.specs.declared.desk_entry.DeskEntry.{DeskEntry}
 use Rattle.records.specs.ClosureEntries.{is_entry_of}
-use Rattle.realise.specs.Holdings.{Holdings, is_on, charged_all, sources_in, records_in, charged_more, holds_entry}
-use Rattle.records.specs.DeskEntries.{entry_path}
+use Rattle.realise.specs.Holdings.{Holdings, is_on, charged_all, sources_in, records_in, holds_entry}
 use Rattle.store.specs.Stored.{Extends}
-use Rattle.handling.specs.Sound.{IsClosure, desk_of, IsSound, Beside}
+use Rattle.handlers.specs.Sound.{IsClosure, desk_of, IsSound, Beside}
 use Rattle.handlers.specs.Taking.{entry_without, counted, missing_on, are_roomy, AreCopyable, IsLabelledBy, has_built, with_built}
 use Rattle.handlers.proofs.MissingLemmas.{bare_entries, closure_copyable}
 use Rattle.handlers.proofs.CopyLemmas.{IsThereFor, desk_copied, within_copied}

@@ -35,18 +35,18 @@ use Rattle.records.specs.Sound.{IsSoundPlan}
 use Rattle.trust.specs.Naming.{place_of, IsWithin}
 use Rattle.trust.proofs.PlaceLemmas.{name_found}
 use Rattle.events.specs.declared.reply.Reply as Rust
-use Rattle.handling.specs.Stored.{stored_by}
-use Rattle.handling.specs.Sound.{desk_of, IsSound, IsClosure}
+use Rattle.handlers.specs.Stored.{stored_by}
+use Rattle.handlers.specs.Sound.{desk_of, IsSound, IsClosure}
 use Rattle.events.specs.Terms.{reply_of}
-use Rattle.handling.specs.Parts.{beside_at, desk_among}
-use Rattle.handling.specs.Given.{HasSoundPlan}
-use Rattle.handlers.specs.Serving.{AreServed, AreNotServed, AtPlace, IsServedAt, IsPlanned, IsNotPlanned, IsPlannedAt, Serves, IsServedOf, MayServe}
-use Rattle.handling.specs.Handling.{Fits, RefusedAtOnce, IsHandledKeeping, IsHandledByObservation}
-use Rattle.handling.specs.Viewing.{bare, desk_at, IsView}
-use Rattle.handling.proofs.WorldLemmas.{place_found, desk_found}
-use Rattle.handling.proofs.StepLemmas.{TakesMemory, may_lack}
-use Rattle.handling.proofs.HandlingLemmas.{place_there, sound_at, is_left}
-use Rattle.handling.proofs.SupportLemmas.{gains_nothing}
+use Rattle.handlers.specs.Parts.{beside_at, desk_among}
+use Rattle.handlers.specs.Given.{HasSoundPlan}
+use Rattle.handlers.specs.Serving.{AreServed, AreNotServed, AtPlace, IsServedAt, IsPlanned, IsNotPlanned, IsPlannedAt, MayServe}
+use Rattle.handlers.specs.Handling.{Fits, RefusedAtOnce, IsHandledKeeping, IsHandledByObservation}
+use Rattle.handlers.specs.Viewing.{bare, desk_at, IsView}
+use Rattle.handlers.proofs.WorldLemmas.{place_found, desk_found}
+use Rattle.handlers.proofs.StepLemmas.{TakesMemory, may_lack}
+use Rattle.handlers.proofs.HandlingLemmas.{place_there, sound_at, is_left}
+use Rattle.handlers.proofs.SupportLemmas.{gains_nothing}
 
 -- ---- the user at a place
 

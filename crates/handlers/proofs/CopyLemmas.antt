@@ -24,20 +24,20 @@ use Rattle.laws.proofs.SetLemmas.{clash}
 use Rattle.records.specs.Recorded.{Recorded, without_tree, same_recorded}
 use Rattle.records.specs.declared.desk_entry.DeskEntry.{DeskEntry}
 use Rattle.records.specs.DeskEntries.{entry_path, entry_with}
-use Rattle.realise.specs.Holdings.{Holdings, bare, paths_of, archive_of, is_on, holds_entry, holds_each, charged_more, charged_all, sources_in, records_in, is_at, has_labelled, IsClosed, IsClosedWith}
+use Rattle.realise.specs.Holdings.{Holdings, bare, paths_of, archive_of, is_on, holds_entry, holds_each, charged_all, sources_in, records_in, is_at, has_labelled, IsClosed, IsClosedWith}
 use Rattle.realise.proofs.SeveralLemmas.{with_parts, each_parts}
 use Rattle.store.specs.Stored.{Extends, put_all, source_of, sources_of, AreThere, AreTaken as AreTakenOf}
 use Rattle.store.proofs.PuttingLemmas.{put_all-Extends}
-use Rattle.handling.specs.Stored.{source_of_entry}
-use Rattle.handling.specs.Sound.{sources_at, records_at, desk_of, IsSized, IsSound, Beside}
+use Rattle.handlers.specs.Stored.{source_of_entry}
+use Rattle.handlers.specs.Sound.{sources_at, records_at, desk_of, IsSized, IsSound, Beside}
 use Rattle.handlers.specs.Taking.{tree_with_path, entry_without, counted, missing_on, are_roomy, AreLabelled, AreCopyable, copied, CopiesEntries}
-use Rattle.handling.specs.Supported.{IsEntryOn, GainsOnly}
+use Rattle.handlers.specs.Supported.{IsEntryOn, GainsOnly}
 use Rattle.handlers.proofs.MissingLemmas.{bare_entries}
-use Rattle.handling.proofs.PuttingLemmas.{unmapped}
-use Rattle.handling.proofs.AddingLemmas.{has_entry-is_on, charge_of-entry, sources_at-push, records_at-push, known-entry, charge_is, archives_are}
-use Rattle.handling.proofs.ClosedLemmas.{still_labelled}
-use Rattle.handling.proofs.DeskLemmas.{IsKnown, desk_kept, known_kept, sized_kept, sized_with, length-sources_at, length-records_at}
-use Rattle.handling.proofs.SupportLemmas.{gains_nothing}
+use Rattle.handlers.proofs.PuttingLemmas.{unmapped}
+use Rattle.handlers.proofs.AddingLemmas.{has_entry-is_on, charge_of-entry, sources_at-push, records_at-push, known-entry, charge_is, archives_are}
+use Rattle.handlers.proofs.ClosedLemmas.{still_labelled}
+use Rattle.handlers.proofs.DeskLemmas.{IsKnown, desk_kept, known_kept, sized_kept, sized_with, length-sources_at, length-records_at}
+use Rattle.handlers.proofs.SupportLemmas.{gains_nothing}
 
 -- ---- one entry
 

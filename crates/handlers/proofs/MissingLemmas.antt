@@ -13,7 +13,7 @@ use Rattle.model.specs.Worlds as worlds
 use Rattle.model.specs.Archives.{nar}
 use Rattle.model.specs.Closures.{entry_before, tree_of_entry}
 use Rattle.model.proofs.BoolLemmas.{either, same_bytes, both_parts}
-use Rattle.laws.proofs.MemberLemmas.{In, from_filter}
+use Rattle.laws.proofs.MemberLemmas.{In}
 use Rattle.laws.proofs.SetLemmas.{Ascends, irreflexive, clash}
 use Rattle.choose.proofs.OrderLemmas.{entry_before-Weak}
 use Rattle.records.specs.declared.desk_entry.DeskEntry.{DeskEntry}
@@ -22,7 +22,7 @@ use Rattle.records.specs.Recorded.{with_tree, without_tree}
 use Rattle.records.specs.DeskEntries.{entry_with}
 use Rattle.records.proofs.LoopLemmas.{drop_next}
 use Rattle.realise.specs.Holdings.{bare, Holdings, is_on, sources_in, AreCountable, AreAbsent}
-use Rattle.handling.specs.Sound.{IsClosure}
+use Rattle.handlers.specs.Sound.{IsClosure}
 use Rattle.handlers.specs.Taking.{entry_without, counted, missing_on, AreCopyable}
 
 abbrev pub bare_entries : List worlds.Entry → List DeskEntry

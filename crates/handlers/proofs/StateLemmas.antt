@@ -1,23 +1,22 @@
 -- What a state keeps, and what is told of it.
 use Rattle.std.proofs.Common.{◌≡◌, ℕ, ◌<◌, ◌≤◌, List, length, get_or, set, sym, ◌∙◌, ap, subst, Result}
-use Rattle.std.proofs.lemmas.List.{set-get_or}
+use Rattle.std.proofs.lemmas.List.{get_or_default, set-get_or}
 use Rattle.model.specs.declared.refusal.Refusal.{Refusal}
 use Rattle.model.specs.Events.{Request}
 use Rattle.events.specs.declared.reply.Reply.{Reply}
 use Rattle.trust.specs.Trusting.{trusts}
 use Rattle.trust.proofs.UsersLemmas.{few_users}
 use Rattle.choose.specs.Visible.{IsComplete}
-use Rattle.handling.specs.declared.state.State.{State}
-use Rattle.handling.specs.States.{parts_of, Handles}
-use Rattle.handling.specs.Viewing.{bare, desk_at}
+use Rattle.handlers.specs.declared.state.State.{State}
+use Rattle.handlers.specs.States.{parts_of, HasPlace, Handles}
+use Rattle.handlers.specs.Viewing.{bare, desk_at}
 use Rattle.model.specs.Worlds.{Source}
 use Rattle.realise.specs.Holdings.{Holdings}
-use Rattle.handling.specs.Sound.{IsSound}
-use Rattle.handling.specs.Handling.{IsHandledByObservation, IsHandledByAll, IsHandledAtDesk}
-use Rattle.handling.specs.Runs.{IsRun}
-use Rattle.handling.proofs.RunLemmas.{by_observation_of, at_own_desk, still_run, with_desk}
+use Rattle.handlers.specs.Sound.{IsSound}
+use Rattle.handlers.specs.Handling.{IsHandledByObservation, IsHandledByAll, IsHandledAtDesk}
+use Rattle.handlers.specs.Runs.{IsRun}
+use Rattle.handlers.proofs.RunLemmas.{by_observation_of, at_own_desk, still_run, with_desk}
 use Rattle.std.proofs.lemmas.List.Elements.{All-get_or}
-use Rattle.handling.proofs.ViewLemmas.{any_default}
 use Rattle.handlers.proofs.ClosureLemmas.{all_complete}
 
 pub few_desks : (s : State) → length s.desks.items ≤ 64
@@ -25,6 +24,10 @@ few_desks s = subst (λ n. n ≤ 64) (sym s.run.paired) (few_users s.users s.run
 
 pub complete_desks : (s : State) → IsComplete s.table.sources s.desks.items
 complete_desks s = all_complete s.table.sources s.limits.charge s.desks.items s.run.sound
+
+-- a user has a desk
+pub has_desk : (s : State) (place : ℕ) → HasPlace s place → place < length s.desks.items
+has_desk s place inside = subst (λ n. place < n) (sym s.run.paired) inside
 
 -- what the user at a place is told of all that he sees, while nothing changes
 pub by_sight : (s : State) (place : ℕ) (request : Request) (result : Result Reply Refusal)
@@ -42,17 +45,14 @@ own_desk s place = desk_at s.desks.items place
 
 -- this was found at his place
 module _ (s : State) (place : ℕ) (inside : place < length s.users) (d : Holdings) (here : d ≡ get_or s.desks.items place d) where
-  with_desks : place < length s.desks.items
-  with_desks = subst (λ n. place < n) (sym s.run.paired) inside
-
   -- so it is his desk
   pub found_desk : d ≡ own_desk s place
-  found_desk = here ∙ any_default s.desks.items place d bare with_desks
+  found_desk = here ∙ get_or_default s.desks.items place d bare (has_desk s place inside)
 
   pub sound_desk : IsSound s.table.sources s.limits.charge d
   sound_desk =
       subst (IsSound s.table.sources s.limits.charge) (sym found_desk)
-      (All-get_or (IsSound s.table.sources s.limits.charge) s.desks.items place bare with_desks s.run.sound)
+      (All-get_or (IsSound s.table.sources s.limits.charge) s.desks.items place bare (has_desk s place inside) s.run.sound)
 
   -- nothing changes
   pub at_kept_desk : (request : Request) (result : Result Reply Refusal)
@@ -73,4 +73,4 @@ module _ (s : State) (place : ℕ) (inside : place < length s.users) (d : Holdin
 
 -- what is found at his place without one
 pub own_desk_is : (s : State) (place : ℕ) → place < length s.users → own_desk s place ≡ get_or s.desks.items place (own_desk s place)
-own_desk_is s place inside = any_default s.desks.items place bare (own_desk s place) (subst (λ n. place < n) (sym s.run.paired) inside)
+own_desk_is s place inside = get_or_default s.desks.items place bare (own_desk s place) (has_desk s place inside)

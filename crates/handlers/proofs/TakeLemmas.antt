@@ -1,6 +1,7 @@
 -- A closure that is taken.
-use Rattle.std.proofs.Common.{◌≡◌, ℕ, suc, ◌+◌, ◌<◌, get_or, ◌⊎◌, Bool, List, [], ◌∷◌, refl, sym, ◌∙◌, ap, subst, inl, inr, rules, Some, None, Result, Ok, Err}
-use Rattle.std.specs.Prelude.{All, Contains, map, flat_map, filter_map, bytes_eq, unwrap_or, length, nat_lt, is_none}
+use Rattle.std.proofs.Common.{◌≡◌, ℕ, suc, ◌<◌, get_or, ◌⊎◌, Bool, List, [], ◌∷◌, refl, sym, ◌∙◌, ap, subst, inl, inr, rules, Some, None, Result, Ok, Err}
+use Rattle.std.proofs.lemmas.List.{get_or_default}
+use Rattle.std.specs.Prelude.{All, Contains, map, flat_map, filter_map, bytes_eq, unwrap_or, length, is_none}
 use Rattle.std.specs.List.{list_any}
 use Rattle.std.proofs.lemmas.List.Elements.{All-nil, All-cons, All-head, All-tail, All-contains}
 use Rattle.model.specs.declared.refusal.Refusal.{Refusal}
@@ -9,9 +10,8 @@ use Rattle.model.specs.Archives.{Tree, Link}
 use Rattle.model.specs.Results.{then_do}
 use Rattle.model.specs.Worlds.{Source, Record, Setup, Desk, World, Goal, Pin, Entry, tree_at, with_entries}
 use Rattle.model.specs.Events as events
-use Rattle.model.specs.Choices.{Plan, choose, reached, most_steps, rank_before, source_before, source_among, needed_sources, small_plan, plan_by, closure_plan, visible_sources}
+use Rattle.model.specs.Choices.{Plan, choose, reached, most_steps, rank_before, source_before, source_among, needed_sources, plan_by, closure_plan, visible_sources}
 use Rattle.model.specs.Orders.{set_of}
-use Rattle.model.specs.Limits.{most_entries}
 use Rattle.model.specs.Closures.{served_plan, texts_of_plan, closure, closure_texts, path_for}
 use Rattle.model.specs.ClosureRequests.{closure_for, take_entries, take}
 use Rattle.model.specs.Outcomes.{Observation, observation_of, view_of, becomes, need, room}
@@ -31,23 +31,22 @@ use Rattle.records.specs.Trees.{source_at, record_at}
 use Rattle.repair.specs.RepairLaws.{IsServedEntry, ServedAreMade}
 use Rattle.events.specs.declared.reply.Reply as Rust
 use Rattle.events.specs.declared.reply.Reply.TheVariants.{Path}
-use Rattle.handling.specs.declared.state.State.{State}
-use Rattle.handling.specs.States.{parts_of, HasPlace}
-use Rattle.handling.specs.Runs.{IsRun}
-use Rattle.handling.specs.Stored.{source_of_entry, taken_sources, AreTaken}
-use Rattle.handling.specs.Sound.{Beside, desk_of, IsSound, IsHashed}
+use Rattle.handlers.specs.declared.state.State.{State}
+use Rattle.handlers.specs.States.{parts_of, HasPlace}
+use Rattle.handlers.specs.Runs.{IsRun}
+use Rattle.handlers.specs.Stored.{source_of_entry, taken_sources, AreTaken}
+use Rattle.handlers.specs.Sound.{Beside, desk_of, IsSound, IsHashed}
 use Rattle.events.specs.Terms.{reply_of}
-use Rattle.handling.specs.Parts.{beside_at, desk_among}
-use Rattle.handling.specs.Given.{HasSoundPlanOf}
+use Rattle.handlers.specs.Parts.{beside_at, desk_among}
+use Rattle.handlers.specs.Given.{HasSoundPlanOf}
 use Rattle.handlers.specs.Serving.{AreServed, AreNotServed, AtPlace}
-use Rattle.handling.specs.Handling.{RefusedAtOnce, IsHandledByObservation}
+use Rattle.handlers.specs.Handling.{RefusedAtOnce, IsHandledByObservation}
 use Rattle.handlers.specs.Taking.{CopiesEntries}
-use Rattle.handling.specs.Viewing.{bare, desk_at}
-use Rattle.handling.proofs.DeskLemmas.{IsKnown, sources_known, records_known, some_of}
-use Rattle.handling.proofs.PuttingLemmas.{put_all-All, taken_clash}
-use Rattle.handling.proofs.RunLemmas.{still_run, with_desk, by_own_observation}
-use Rattle.handling.proofs.StepLemmas.{kept_sound, kept_later}
-use Rattle.handling.proofs.ViewLemmas.{any_default}
+use Rattle.handlers.specs.Viewing.{bare, desk_at}
+use Rattle.handlers.proofs.DeskLemmas.{IsKnown, sources_known, records_known, some_of}
+use Rattle.handlers.proofs.PuttingLemmas.{put_all-All, taken_clash}
+use Rattle.handlers.proofs.RunLemmas.{still_run, with_desk, by_own_observation}
+use Rattle.handlers.proofs.StepLemmas.{kept_sound, kept_later}
 use Rattle.handlers.proofs.ClosureLemmas.{world, his_desk, his_sound, left_there, unserved_no_clash}
 
 -- ---- two trees with one path
@@ -166,7 +165,7 @@ pub copied_here : (s : State) (place : ℕ) → HasPlace s place → (before : H
     → CopiesEntries s.limits.charge s.table.sources (desk_at s.desks.items place) entries result new after
 copied_here s place below before read entries copies result new after same copied =
     let inside : place < length s.desks.items = subst (λ n. place < n) (sym s.run.paired) below in
-    let is : before ≡ desk_at s.desks.items place = read ∙ any_default s.desks.items place before bare inside in
+    let is : before ≡ desk_at s.desks.items place = read ∙ get_or_default s.desks.items place before bare inside in
     rw (← is, ← same) copied
 
 -- no refusal of it is one that needs no memory

@@ -1,27 +1,24 @@
 //! Asking for a closure.
 
-ghost use Rattle.std.specs.Prelude.{◌≡◌, ◌<◌, ◌≤◌, List, IfOk, Ok, length};
+ghost use Rattle.std.specs.Prelude.{◌≡◌, List, IfOk, Ok};
 ghost use Rattle.model.specs.Worlds.{Entry as EntryValue};
 ghost use Rattle.model.specs.Closures.{served_plan};
 ghost use Rattle.model.specs.Events.{Closure as ClosureRequest};
-ghost use Rattle.choose.specs.Visible.{IsComplete};
 ghost use Rattle.trust.specs.Trusting.{trusts};
 ghost use Rattle.handlers.specs.Serving.{IsServedAt, IsPlannedAt, IsServedOf};
-ghost use Rattle.handling.specs.Sound.{IsClosure};
-ghost use Rattle.handling.specs.States.{HasPlace, Handles};
+ghost use Rattle.handlers.specs.Sound.{IsClosure};
+ghost use Rattle.handlers.specs.States.{HasPlace, Handles};
 
+use crate::state::State;
+use crate::view::desks_in_view;
 use choose::{Plan, View, plan};
 use events::{CopiedReply, Reply};
-use handling::{State, desks_in_view};
 use laws::closures_are_whole;
 use model::Refusal;
-use realise::Desk;
 use records::{Closure, Entry};
 use repair::{Cache, served_closure_with};
 use std::alloc::Global;
-use store::Table;
 use storepath::StorePath;
-use trust::Trust;
 
 /// What the closure of a class needs, of all that the user at a place sees.
 ///
@@ -32,25 +29,21 @@ use trust::Trust;
 /// - `Memory` only where memory was refused; it may stand in the place of each answer.
 pub fn plan_for(
     alloc: Global,
-    trust: &Trust,
-    table: &Table,
-    desks: &[Desk],
+    state: &State,
     place: usize,
     class: &StorePath,
 ) -> Result<Plan, Refusal>
-    requires of_run { place < length desks.now }
-    requires few { length desks.now ≤ 64 }
-    requires complete { IsComplete table.now.sources desks.now }
-    ensures planned { IsPlannedAt (trusts trust.now) table.now.sources desks.now place
-        class.now result }
+    requires { HasPlace state.now place }
+    ensures planned { IsPlannedAt (trusts state.now.trust) state.now.table.sources
+        state.now.desks.items place class.now result }
     ensures closures { IfOk result (λ p. (entries : List EntryValue)
         → served_plan p ≡ Ok entries → IsClosure entries) }
 {
     closures_are_whole();
-    let seen = desks_in_view(alloc, trust, place, desks)?;
-    let view = View::new(table, seen);
+    let seen = desks_in_view(alloc, state, place)?;
+    let view = View::new(&state.table, seen);
     let classes = [class.clone()?];
-    plan(alloc, &view, desks[place].pins(), &classes, &[])
+    plan(alloc, &view, state.desks[place].pins(), &classes, &[])
 }
 
 /// The closure that was planned, as it is told.
@@ -80,8 +73,7 @@ pub(crate) fn entries_for(
         state.now.desks.items place class.now result }
     ensures closure { IfOk result (λ entries. IsClosure entries.items) }
 {
-    let desks = state.desks.as_slice();
-    let planned = plan_for(alloc, &state.trust, &state.table, desks, place, class)?;
+    let planned = plan_for(alloc, state, place, class)?;
     served_closure_with(alloc, &planned, cache)
 }
 

@@ -10,16 +10,16 @@ ghost use Rattle.model.specs.Events.{Offer as OfferRequest};
 ghost use Rattle.model.specs.OfferRequests.{output_settled};
 ghost use Rattle.model.specs.Results.{unless_rewrite_refused};
 ghost use Rattle.model.specs.declared.refusal.Refusal.TheVariants.{Memory};
-ghost use Rattle.handling.specs.States.{HasPlace, Handles};
+ghost use Rattle.handlers.specs.States.{HasPlace, Handles};
 ghost use Rattle.outputs.specs.Outputs.{IsRecordOf};
 ghost use Rattle.outputs.specs.declared.settlement.Settlement.{Settlement};
 ghost use Rattle.outputs.specs.Kept.{HasNeeded};
 ghost use Rattle.handlers.specs.Offering.{IsOutput, IsNotSettled, IsNoOutput, HasOffered};
 
 use crate::entries::add_entry;
+use crate::state::State;
 use classes::Admitted;
 use events::CopiedReply;
-use handling::State;
 use model::Refusal;
 use nar::Tree;
 use outputs::{Candidates, Input, Output, Settlements, record_of};

@@ -8,12 +8,12 @@ ghost use Rattle.model.specs.Events.{AddSource as AddSourceRequest, Fetch as Fet
 ghost use Rattle.model.specs.declared.refusal.Refusal.TheVariants.{Memory};
 ghost use Rattle.realise.specs.Holdings.{paths_of};
 ghost use Rattle.events.specs.Terms.{reply_of};
-ghost use Rattle.handling.specs.Handling.{IsHandledByDesk};
-ghost use Rattle.handling.specs.States.{HasPlace, Handles};
+ghost use Rattle.handlers.specs.Handling.{IsHandledByDesk};
+ghost use Rattle.handlers.specs.States.{HasPlace, Handles};
 
 use crate::entries::add_entry;
+use crate::state::State;
 use events::{CopiedReply, Reply};
-use handling::State;
 use model::Refusal;
 use nar::Tree;
 use outputs::Sources;

@@ -6,13 +6,13 @@ ghost use Rattle.model.specs.Events.{Take as TakeRequest};
 ghost use Rattle.model.specs.Closures.{path_for};
 ghost use Rattle.model.specs.declared.refusal.Refusal.TheVariants.{Memory, NotRealised};
 ghost use Rattle.realise.specs.Holdings.{bare, sources_in, records_in};
-ghost use Rattle.handling.specs.Sound.{IsSound, IsClosure};
-ghost use Rattle.handling.specs.States.{HasPlace, Handles};
+ghost use Rattle.handlers.specs.Sound.{IsSound, IsClosure};
+ghost use Rattle.handlers.specs.States.{HasPlace, Handles};
 ghost use Rattle.handlers.specs.Taking.{tree_with_path, counted, missing_on, are_roomy, AreCopyable, IsLabelledBy, has_built, with_built, CopiesEntries};
 
 use crate::given::entries_for;
+use crate::state::State;
 use events::{CopiedReply, Reply};
-use handling::State;
 use model::{MOST_RECORDS, MOST_SOURCES, Refusal};
 use nar::Tree;
 use realise::{Desk, Limits};

@@ -15,7 +15,7 @@ use Rattle.events.specs.declared.event.Event.{Event}
 use Rattle.events.specs.declared.reply.Reply.{Reply}
 use Rattle.events.specs.Terms.{event_of, reply_of}
 use Rattle.schedule.specs.declared.state.Core.{Core}
-use Rattle.handling.specs.Sound.{IsHashed}
+use Rattle.handlers.specs.Sound.{IsHashed}
 use Rattle.schedule.specs.Standing.{world_of, setup_of, stored_in, HasHashed, IsUnchanged}
 use Rattle.schedule.specs.Stepping.{IsCoreStep}
 use Rattle.schedule.proofs.RunLemmas.{hashed_kept, all_back}

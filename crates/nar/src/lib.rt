@@ -13,6 +13,7 @@
 //! | [`write_whole`] | a text, written to a writer that counts its failures ([`Faults`]) |
 //! | [`tree_text`], [`read_tree_text`] | the tree text of a tree, and the tree of a tree text |
 //! | [`str_text`], [`read_str`] | one string of an archive, and the content of the string in front |
+//! | [`ReadError`] | why a reader read nothing |
 #![tactic(auto)]
 
 mod archive_reader;
@@ -20,8 +21,11 @@ mod archive_writer;
 mod faults;
 mod law;
 mod measures;
+mod names;
 mod node;
+mod parts;
 mod sink;
+mod steps;
 mod strings;
 mod text;
 mod text_reader;
@@ -36,6 +40,7 @@ pub use archive_writer::{Nar, encode, write_nar};
 pub use faults::{Faults, has_failed};
 pub use law::{archives_are_read, archives_differ, strings_are_read, texts_differ};
 pub use sink::Sink;
+pub use steps::ReadError;
 pub use strings::{read_str, str_text};
 pub use text_reader::read_tree_text;
 pub use text_writer::tree_text;

@@ -7,8 +7,8 @@ ghost use Rattle.nar.specs.Taking.{TakesMore};
 
 use crate::node::Node;
 use crate::sink::Sink;
+use crate::strings::padding;
 use crate::tree::Tree;
-use reading::padding;
 use std::sync::Arc;
 
 /// Hands the archive of a tree to a sink. The archive is never made, and no memory is taken but by the

@@ -15,7 +15,7 @@ use Rattle.choose.specs.Gathering.{IsApart, AreApart, IsInOrder}
 use Rattle.laws.proofs.SetLemmas.{Ascends, clash, irreflexive}
 use Rattle.choose.proofs.SetLemmas.{sorted_set}
 use Rattle.choose.proofs.OrderLemmas.{rank_before-Weak, source_before-Weak, entry_before-Weak, entries_apart}
-use Rattle.moving.specs.Served.{Served, values_of}
+use Rattle.repair.specs.Served.{Served, values_of}
 use Rattle.repair.specs.Serving.{AreServedBy, AreServed, members_with, AreEntries}
 use Rattle.laws.proofs.ServedLemmas.{serve_class, chosen_in_class}
 use Rattle.repair.proofs.ServingLemmas.{all_served}

@@ -16,11 +16,11 @@ use Rattle.laws.proofs.MemberLemmas.{In, in_append, in_left, in_right}
 use Rattle.laws.proofs.SetLemmas.{Ascends, clash, irreflexive}
 use Rattle.choose.specs.Gathering.{IsInOrder}
 use Rattle.choose.proofs.OrderLemmas.{rank_before-Weak}
-use Rattle.moving.specs.Served.{Served, values_of, if_below, or_not_realised, served_in, served_from}
+use Rattle.repair.specs.Served.{Served, values_of, if_below, or_not_realised, served_in, served_from}
 use Rattle.repair.specs.Serving.{AreServedBy, AreServed}
 use Rattle.laws.proofs.ServedLemmas.{served_none, served_high, served_low, serve_rank, serve_moves, chosen_in_list, chosen_in_one, option_cases}
 use Rattle.rewrite.proofs.StepLemmas.{take_next}
-use Rattle.moving.proofs.TurnLemmas.{split_at, each_stop}
+use Rattle.repair.proofs.TurnLemmas.{split_at, each_stop}
 
 -- ---- what is served so far
 

@@ -6,7 +6,7 @@ ghost use Rattle.model.specs.Worlds.{OfSource, OfRecord};
 ghost use Rattle.model.specs.Closures.{entry_before};
 ghost use Rattle.model.specs.declared.refusal.Refusal.TheVariants.{Memory};
 ghost use Rattle.repair.specs.Serving.{AreEntries};
-ghost use Rattle.moving.specs.Served.{values_of};
+ghost use Rattle.repair.specs.Served.{values_of};
 
 use indexmap::IndexMap;
 use model::Refusal;

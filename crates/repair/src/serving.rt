@@ -9,11 +9,12 @@ ghost use Rattle.choose.specs.Gathering.{IsInOrder};
 ghost use Rattle.repair.specs.Serving.{AreServed};
 ghost use Rattle.records.specs.Sound.{IsSoundPlan};
 
+use crate::cache::Cache;
 use crate::entries::entries_with;
+use crate::moving::serve;
 use choose::Plan;
 use indexmap::IndexMap;
 use model::Refusal;
-use moving::{Cache, serve};
 use records::{Entry, Realisation};
 use std::alloc::Global;
 use storepath::StorePath;

@@ -23,24 +23,46 @@ use std::marker::Brand;
 use std::mem;
 use std::sync::Wait;
 
+/// What a new store is made of.
+#[derive(Drop)]
+struct NewStore {
+    /// The keys of its hashers, and its limits.
+    settings: Settings,
+    /// Its users.
+    users: Vec<User>,
+    /// Whether it is swept after each event that is no query.
+    sweeps: bool,
+}
+
+/// What a new front begins with.
+#[derive(Drop)]
+struct NewFront {
+    /// Its tokens.
+    blank: FrontTokens,
+    /// Its core.
+    core: Core,
+    /// Whether it is swept after each event that is no query.
+    sweeps: bool,
+}
+
 /// Answers the lines behind the first ones, of what was read behind those and of the reader, by a new core,
 /// behind a lock that one pass takes. The store is not taken apart at the end: the program ends with it, and
 /// its memory is given back at once.
 fn serve_core<J: FrontId, H: Wait, R: Read + Faults, W: Write + Faults>(
     rt: &H,
     alloc: Global,
-    blank: FrontTokens,
-    core: Core,
-    sweeps: bool,
+    new: NewFront,
     begun: &mut Begun,
     reader: &mut R,
     writer: &mut W,
 ) -> Result<(), Refusal>
-    requires blank { (blank.calls.name ≡ J.name) × (blank.calls.parts ≡ J.parts) × (blank.calls.parts ≡ 1) }
-    requires stops { blank.stops.name ≡ J.stops }
-    requires log { blank.log.table.shared.table_id ≡ J.table }
-    requires rows { blank.rows.seen.book ≡ J.book }
-    requires core { (setup_of core ≡ J.setup) × (world_of core ≡ nothing) × (stored_in core ≡ []) }
+    requires blank { (new.blank.calls.name ≡ J.name) × (new.blank.calls.parts ≡ J.parts)
+        × (new.blank.calls.parts ≡ 1) }
+    requires stops { new.blank.stops.name ≡ J.stops }
+    requires log { new.blank.log.table.shared.table_id ≡ J.table }
+    requires rows { new.blank.rows.seen.book ≡ J.book }
+    requires core { (setup_of new.core ≡ J.setup) × (world_of new.core ≡ nothing)
+        × (stored_in new.core ≡ []) }
     ensures ok { OnOk result (ServesOn J.setup begun.old.session begun.old.rest.items
         (R.remaining reader.old) (R.remaining reader.new) (W.contents writer.old) (W.contents writer.new)) }
     ensures err { IfErr result (ServesOnInPart J.setup begun.old.session begun.old.rest.items
@@ -51,6 +73,11 @@ fn serve_core<J: FrontId, H: Wait, R: Read + Faults, W: Write + Faults>(
     ensures errors { IfErr result (λ why. (why ≡ InputFault) ⊎ IsOwn why) }
     ensures output_fault { IfErr result (MayBeFault OutputFault begun.old.writer_failures (W.failed writer.new)) }
 {
+    let NewFront {
+        blank,
+        core,
+        sweeps,
+    } = new;
     let (front, mut passes) = Front::<J>::new(rt, alloc, blank, core, 1)?;
     let pass = passes.pop().unwrap();
     let mut store = OnePass {
@@ -70,27 +97,38 @@ fn serve_core<J: FrontId, H: Wait, R: Read + Faults, W: Write + Faults>(
 fn serve_users<H: Wait, R: Read + Faults, W: Write + Faults>(
     rt: &H,
     alloc: Global,
-    settings: Settings,
-    users: Vec<User>,
-    sweeps: bool,
+    new: NewStore,
     begun: &mut Begun,
     reader: &mut R,
     writer: &mut W,
 ) -> Result<(), Refusal>
-    requires { settings.limits.charge ≤ most_charge }
-    ensures ok { OnOk result (ServesOn (setup_for users settings.limits) begun.old.session begun.old.rest.items
+    requires { new.settings.limits.charge ≤ most_charge }
+    ensures ok { OnOk result (ServesOn (setup_for new.users new.settings.limits)
+        begun.old.session begun.old.rest.items
         (R.remaining reader.old) (R.remaining reader.new) (W.contents writer.old) (W.contents writer.new)) }
-    ensures err { IfErr result (λ why. are_users users.items ≡ true → ServesOnInPart (setup_for users settings.limits)
-        begun.old.session begun.old.rest.items (R.remaining reader.old) (R.remaining reader.new) (W.contents writer.old) (W.contents writer.new) why) }
-    ensures failed { IfErr result (λ why. why ≡ InputFault → ServesOnSoFar (setup_for users settings.limits)
-        begun.old.session begun.old.rest.items (R.remaining reader.old) (R.remaining reader.new) (W.contents writer.old) (W.contents writer.new)) }
+    ensures err { IfErr result (λ why. are_users new.users.items ≡ true
+        → ServesOnInPart (setup_for new.users new.settings.limits) begun.old.session begun.old.rest.items
+        (R.remaining reader.old) (R.remaining reader.new) (W.contents writer.old) (W.contents writer.new) why) }
+    ensures failed { IfErr result (λ why. why ≡ InputFault
+        → ServesOnSoFar (setup_for new.users new.settings.limits) begun.old.session begun.old.rest.items
+        (R.remaining reader.old) (R.remaining reader.new) (W.contents writer.old) (W.contents writer.new)) }
     ensures whole { OnOk result (¬ HasFailed begun.old.reader_failures (R.failed reader.new)) }
     ensures errors { IfErr result (λ why. (why ≡ InputFault) ⊎ IsOwn why) }
     ensures output_fault { IfErr result (MayBeFault OutputFault begun.old.writer_failures (W.failed writer.new)) }
 {
+    let NewStore {
+        settings,
+        users,
+        sweeps,
+    } = new;
     let core = Core::new(alloc, settings.hashing, users, settings.limits)?;
     let blank = FrontTokens::new(alloc, 1)?;
-    serve_core::<Brand, _, _, _>(rt, alloc, blank, core, sweeps, begun, reader, writer)
+    let new = NewFront {
+        blank,
+        core,
+        sweeps,
+    };
+    serve_core::<Brand, _, _, _>(rt, alloc, new, begun, reader, writer)
 }
 
 /// Answers the lines that a reader gives, in a store for the users whom they name first and under these
@@ -119,9 +157,12 @@ fn answer_input<H: Wait, R: Read + Faults, W: Write + Faults>(
     let Some(users) = users else {
         return Ok(());
     };
-    serve_users(
-        rt, alloc, settings, users, sweeps, &mut begun, reader, writer,
-    )
+    let new = NewStore {
+        settings,
+        users,
+        sweeps,
+    };
+    serve_users(rt, alloc, new, &mut begun, reader, writer)
 }
 
 /// Answers the lines that a reader gives, in a store for the users whom they name first and under

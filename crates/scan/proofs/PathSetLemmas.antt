@@ -1,13 +1,13 @@
 -- Sets of paths by their hash parts.
-use Rattle.std.proofs.Common.{◌≡◌, ℕ, ◌-◌, ◌+◌, ◌<◌, inl, inr, Bool, true, false, cond, List, [], ◌∷◌, ◌++◌, length, take, drop, map, get_or, set, refl, ap, sym, ◌∙◌, subst, arith, Some, None, Option}
+use Rattle.std.proofs.Common.{◌≡◌, ℕ, ◌-◌, ◌+◌, ◌<◌, inl, inr, Bool, true, false, cond, List, [], ◌∷◌, ◌++◌, length, take, drop, get_or, refl, ap, sym, ◌∙◌, subst, arith, Some, Option}
 use Rattle.std.proofs.Common.{rules}
 use Rattle.std.specs.Cmp.{both_ways}
 use Rattle.std.specs.Cmp.Rules.{comparing}
-use Rattle.std.specs.Prelude.{◌||◌, ◌==◌, ◌&&◌, not, codes, nat_lt, nat_le, filter, All, slice_get, unwrap_or}
+use Rattle.std.specs.Prelude.{◌||◌, ◌==◌, ◌&&◌, not, codes, nat_lt, nat_le, All, slice_get, unwrap_or}
 use Rattle.std.specs.Map.{lookup}
 use Rattle.std.specs.Str.{bytes_eq}
 use Rattle.std.proofs.lemmas.Bool.{false≢true, cases_Bool, or_cases, leb-true, and_parts}
-use Rattle.std.proofs.lemmas.List.{length-append, length-set, append-nil, take_more}
+use Rattle.std.proofs.lemmas.List.{length-append, append-nil, take_more}
 use Rattle.std.proofs.lemmas.List.Elements.{filter-append, All-push, All-nil, All-head, All-tail, All-take}
 use Rattle.std.proofs.lemmas.List.Folds.{list_any-append}
 use Rattle.std.specs.List.{list_any, list_all, flat_map, AllByRecursion, IsDistinct}
@@ -24,9 +24,9 @@ use Rattle.storepath.proofs.PathLemmas.{length-base32}
 use Rattle.indexmap.specs.IndexSet.{insert_key}
 use Rattle.model.proofs.BoolLemmas.{bytes_eq_sym}
 use Rattle.model.specs.Settling.{hash_part_in}
-use Rattle.scan.specs.Searching.{slot_of, IsMarked}
+use Rattle.scan.specs.Slots.{is_marked, with_mark}
 use Rattle.scan.specs.PathSets.{Groups, HasOneLess, HasOneMore, HasSame, IsTable, counted, group_at, parts_of, with_part, without_last}
-use Rattle.scan.proofs.KeyLemmas.{marked_more}
+use Rattle.scan.proofs.SlotLemmas.{marked_more}
 
 -- ---- hash parts
 
@@ -58,10 +58,11 @@ parts_more (p ∷ ps) path = ap (λ rest. hash_part_in p ∷ rest) (parts_more p
 texts_more : (paths : List (List ℕ)) (path : List ℕ) → flat_map counted paths ++ counted path ≡ flat_map counted (paths ++ path ∷ [])
 texts_more paths path = sym (flat_map-append counted paths (path ∷ []) ∙ ap (λ ts. flat_map counted paths ++ ts) (append-nil (counted path)))
 
-pub table_more : (paths : List (List ℕ)) (old new : Groups) (slots : List Bool) (texts part path : List ℕ) → IsTable paths old slots texts
-    → IsPath path → IsHashPart part → part ≡ hash_part_in path → slot_of part < 65536 → HasOneMore part path old new
-    → IsTable (paths ++ path ∷ []) new (set slots (slot_of part) true) (texts ++ counted path)
-table_more paths old new slots texts part path is is_path is_part same below more = record {
+pub table_more : (paths : List (List ℕ)) (old new : Groups) (slots marked texts part path : List ℕ) → IsTable paths old slots texts
+    → IsPath path → IsHashPart part → part ≡ hash_part_in path → ((window : List ℕ) → is_marked marked window ≡ with_mark part slots window)
+    → HasOneMore part path old new
+    → IsTable (paths ++ path ∷ []) new marked (texts ++ counted path)
+table_more paths old new slots marked texts part path is is_path is_part same marks more = record {
   paths_are = All-push IsPath paths path is.paths_are is_path;
   parts_are = All-push (λ p. IsHashPart (hash_part_in p)) paths path is.parts_are (subst IsHashPart same is_part);
   grouped = λ p. elim (cases_Bool (bytes_eq part p)) [
@@ -74,32 +75,29 @@ table_more paths old new slots texts part path is is_path is_part same below mor
         let now : group_at p new ≡ group_at p old = more p ∙ ap (λ b. cond b (group_at p old ++ path ∷ []) (group_at p old)) other in
         now ∙ is.grouped p ∙ sym (append-nil (with_part p paths)) ∙ sym (with_more p path paths ∙ ap (λ b. with_part p paths ++ cond b (path ∷ []) []) apart)
   ];
-  count = length-set slots (slot_of part) true ∙ is.count;
   marked = λ w there.
       let among_more : among (parts_of paths ++ part ∷ []) w ≡ true = ap (λ ps. among ps w) (ap (λ q. parts_of paths ++ q ∷ []) same
       ∙ sym (parts_more paths path)) ∙ there in
-      marked_more (parts_of paths) slots part w (is.marked w) (omega (arith, below, is.count)) among_more;
+      marked_more (parts_of paths) slots marked part w (is.marked w) (marks w) among_more;
   texts_are = ap (λ ts. ts ++ counted path) is.texts_are ∙ texts_more paths path;
 }
 
 -- the same paths in the same groups
-pub table_same : (paths : List (List ℕ)) (old new : Groups) (slots : List Bool) (texts : List ℕ) → IsTable paths old slots texts → HasSame old new
+pub table_same : (paths : List (List ℕ)) (old new : Groups) (slots texts : List ℕ) → IsTable paths old slots texts → HasSame old new
     → IsTable paths new slots texts
 table_same paths old new slots texts is same = record {
   paths_are = is.paths_are;
   parts_are = is.parts_are;
   grouped = λ p. same p ∙ is.grouped p;
-  count = is.count;
   marked = is.marked;
   texts_are = is.texts_are;
 }
 
-pub table_new : (slots : List Bool) → length slots ≡ 65536 → IsTable [] [] slots []
-table_new slots count = record {
+pub table_new : (slots : List ℕ) → IsTable [] [] slots []
+table_new slots = record {
   paths_are = All-nil IsPath;
   parts_are = All-nil (λ p. IsHashPart (hash_part_in p));
   grouped = λ p. refl;
-  count = count;
   marked = λ w there. absurd (false≢true there);
   texts_are = refl;
 }
@@ -120,7 +118,7 @@ texts_of paths path texts are =
     ap length split ∙ length-append (flat_map counted paths) (counted path) ∙ (let n = length (flat_map counted paths) in omega arith) in
     (split, omega (arith, long), omega (arith, long))
 
-shorter : (paths : List (List ℕ)) (old new : Groups) (slots : List Bool) (texts part path : List ℕ) → IsTable (paths ++ path ∷ []) old slots texts
+shorter : (paths : List (List ℕ)) (old new : Groups) (slots texts part path : List ℕ) → IsTable (paths ++ path ∷ []) old slots texts
     → part ≡ hash_part_in path → HasOneLess part old new → IsTable paths new slots (take (length texts - length path - 1) texts)
 shorter paths old new slots texts part path is same less = record {
   paths_are = subst (All IsPath) (without_more paths path) (All-take IsPath (length (paths ++ path ∷ []) - 1) (paths ++ path ∷ []) is.paths_are);
@@ -137,7 +135,6 @@ shorter paths old new slots texts part path is same less = record {
         less p ∙ ap (λ b. cond b (without_last (group_at p old)) (group_at p old)) other
         ∙ is.grouped p ∙ with_more p path paths ∙ ap (λ b. with_part p paths ++ cond b (path ∷ []) []) apart ∙ append-nil (with_part p paths)
   ];
-  count = is.count;
   marked = λ w there.
       let still : among (parts_of (paths ++ path ∷ [])) w ≡ true = ap (λ ps. among ps w) (parts_more paths path)
       ∙ list_any-append (λ q. bytes_eq q w) (parts_of paths) (hash_part_in path ∷ [])
@@ -159,7 +156,7 @@ pub last_text_within : (paths : List (List ℕ)) (texts path : List ℕ) → tex
 last_text_within paths texts path are last some =
     (texts_of (without_last paths) path texts (are ∙ ap (flat_map counted) (split_at_last paths path last some))).2
 
-pub table_less : (paths : List (List ℕ)) (old new : Groups) (slots : List Bool) (texts part path : List ℕ) → IsTable paths old slots texts
+pub table_less : (paths : List (List ℕ)) (old new : Groups) (slots texts part path : List ℕ) → IsTable paths old slots texts
     → slice_get paths (length paths - 1) ≡ Some path → 0 < length paths → part ≡ hash_part_in path → HasOneLess part old new
     → IsTable (without_last paths) new slots (take (length texts - length path - 1) texts)
 table_less paths old new slots texts part path is last some same less =

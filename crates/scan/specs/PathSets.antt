@@ -1,5 +1,5 @@
 -- What a set of paths finds by their hash parts.
-use Rattle.std.specs.Prelude.{◌≡◌, ℕ, ◌-◌, Bool, true, false, if◌then◌else◌, All, List, [], ◌∷◌, ◌++◌, length, take, map, filter, bytes_eq, unwrap_or, Option, Some, None}
+use Rattle.std.specs.Prelude.{◌≡◌, ℕ, ◌-◌, true, false, if◌then◌else◌, All, List, [], ◌∷◌, ◌++◌, length, take, map, filter, bytes_eq, unwrap_or, Option, Some, None}
 use Rattle.std.specs.List.{flat_map}
 use Rattle.std.specs.Map.{lookup}
 use Rattle.std.specs.Arc.{arc_value}
@@ -8,7 +8,7 @@ use Rattle.model.specs.Classes.{is_one_of}
 use Rattle.model.specs.Occurrences.{IsHashPart, among}
 use Rattle.model.specs.Paths.{IsPath}
 use Rattle.model.specs.Settling.{hash_part_in}
-use Rattle.scan.specs.Searching.{IsMarked}
+use Rattle.scan.specs.Slots.{is_marked}
 
 -- none of paths is among these, or comes twice
 abbrev pub AreNew : List (List ℕ) → List (List ℕ) → Type 0
@@ -55,12 +55,11 @@ abbrev pub counted : List ℕ → List ℕ
 counted path = length path ∷ path
 
 -- the paths of a set, in groups by their hash parts, whose slots are marked, and their texts side by side
-pub record IsTable (paths : List (List ℕ)) (groups : Groups) (slots : List Bool) (texts : List ℕ) : Type 0 where
+pub record IsTable (paths : List (List ℕ)) (groups : Groups) (slots : List ℕ) (texts : List ℕ) : Type 0 where
   pub paths_are : All IsPath paths
   pub parts_are : All (λ path. IsHashPart (hash_part_in path)) paths
   pub grouped : (part : List ℕ) → group_at part groups ≡ with_part part paths
-  pub count : length slots ≡ 65536
-  pub marked : (window : List ℕ) → among (parts_of paths) window ≡ true → IsMarked slots window
+  pub marked : (window : List ℕ) → among (parts_of paths) window ≡ true → is_marked slots window ≡ true
   pub texts_are : texts ≡ flat_map counted paths
 
 -- the paths of a set that may have no table yet

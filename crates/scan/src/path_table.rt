@@ -11,7 +11,8 @@ ghost use Rattle.std.specs.Cmp.Lexicographic.{pointwise};
 ghost use Rattle.std.specs.Prelude.{bytes_eq};
 
 use crate::group::Group;
-use crate::keys::{SLOTS, digits_of, slot_of};
+use crate::keys::digits_of;
+use crate::slots::Slots;
 use indexmap::{IndexMap, IndexSet};
 use model::Refusal;
 use std::alloc::Global;
@@ -25,7 +26,7 @@ use storepath::{HashPart, StorePath};
 pub struct PathTable {
     paths: IndexSet<StorePath>,
     groups: IndexMap<[u8; 32], Group>,
-    slots: Vec<bool>,
+    slots: Slots,
     texts: Vec<u8>,
 }
 
@@ -48,7 +49,7 @@ impl Model for PathTable {
 
     ghost view = { λ table. table.paths.keys };
 
-    ghost invariant = { λ table. IsTable table.paths.keys table.groups.entries table.slots.items
+    ghost invariant = { λ table. IsTable table.paths.keys table.groups.entries table.slots
         table.texts.items };
 }
 
@@ -106,7 +107,7 @@ impl PathTable {
         Ok(PathTable {
             paths: IndexSet::new(alloc),
             groups: IndexMap::new(alloc),
-            slots: vec![in alloc; false; SLOTS]?,
+            slots: Slots::new(alloc)?,
             texts: Vec::new(alloc),
         })
     }
@@ -131,7 +132,7 @@ impl PathTable {
         ensures value { result ≡ among (map hash_part_in self.now) window.now }
         ensures keys { AreKeys (among (map hash_part_in self.now)) }
     {
-        if !self.slots[slot_of(window)] {
+        if !self.slots.are_marked(window) {
             return false;
         }
         match self.groups.get(window) {
@@ -174,7 +175,7 @@ impl PathTable {
             self.texts.truncate(count);
             return Err(why);
         }
-        self.slots[slot_of(digits)] = true;
+        self.slots.mark(digits);
         let _is_new = self.paths.insert(path).unwrap();
         Ok(())
     }

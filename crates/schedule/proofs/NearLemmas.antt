@@ -18,7 +18,7 @@ use Rattle.trust.specs.Trusting as places
 use Rattle.trust.specs.Naming.{place_of, name_at, is_at, names, trusted_at, IsWithin, IsLinked}
 use Rattle.trust.proofs.PlaceLemmas.{option_cases, place_found, name_found, same_place}
 use Rattle.trust.proofs.NameLemmas.{trusted_by_nobody, trusted_added, trusted_removed, trusted_elsewhere, within_nobody, within_added, within_removed, reached_names, names_cases, same_tests}
-use Rattle.handling.proofs.WorldLemmas as worlds
+use Rattle.handlers.proofs.WorldLemmas as worlds
 use Rattle.schedule.specs.declared.undoing.Said.{Said}
 use Rattle.schedule.specs.Ever.{run_of}
 use Rattle.schedule.specs.Undoing.{said_of, said_in, said_by, trust_with}

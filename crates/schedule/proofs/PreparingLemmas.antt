@@ -13,12 +13,12 @@ use Rattle.outputs.specs.Kept.{HasOutput, HasNeeded}
 use Rattle.outputs.specs.declared.input.Input.{Input}
 use Rattle.outputs.specs.declared.settlement.Settlement.{Settlement}
 use Rattle.handlers.specs.Offering.{HasOffered}
-use Rattle.building.specs.Built.{HasBuilt}
+use Rattle.endings.specs.Built.{HasBuilt}
 use Rattle.endings.specs.Preparing.{HasLedOutput, HasNeededFor}
-use Rattle.handling.specs.Parts.{desk_among, beside_at, goals_of}
-use Rattle.handling.specs.Sound.{Beside, desk_of}
-use Rattle.handling.specs.Viewing.{desk_at}
-use Rattle.handling.proofs.DeskLemmas.{known_of-desk_of}
+use Rattle.handlers.specs.Parts.{desk_among, beside_at, goals_of}
+use Rattle.handlers.specs.Sound.{Beside, desk_of}
+use Rattle.handlers.specs.Viewing.{desk_at}
+use Rattle.handlers.proofs.DeskLemmas.{known_of-desk_of}
 use Rattle.handlers.proofs.ClosureLemmas.{his_desk}
 use Rattle.outputs.specs.declared.settlements.Settlements.{Settlements}
 use Rattle.schedule.specs.Preparing.{HasInput, HasOutcome}

@@ -13,7 +13,7 @@ use Rattle.outputs.specs.Kept.{HasOutput, HasPlaced, HasNeeded}
 use Rattle.outputs.specs.declared.input.Input.{Input}
 use Rattle.outputs.specs.declared.settlements.Settlements.{Settlements}
 use Rattle.outputs.specs.declared.sources.Sources.{Sources}
-use Rattle.building.specs.Built.{HasBuilt}
+use Rattle.endings.specs.Built.{HasBuilt}
 use Rattle.schedule.specs.declared.state.Core.{Core}
 use Rattle.schedule.specs.declared.preparing.PrepareInput.{PrepareInput}
 use Rattle.schedule.specs.declared.work.Ready.{Ready}

@@ -5,7 +5,7 @@ ghost use Rattle.model.specs.declared.refusal.Refusal.TheVariants.{Memory};
 ghost use Rattle.outputs.specs.declared.settlements.Settlements.{Settlements as SettlementsValue};
 ghost use Rattle.events.specs.Terms.{event_of, request_of};
 ghost use Rattle.trust.specs.Naming.{place_of};
-ghost use Rattle.handling.specs.States.{HasPlace};
+ghost use Rattle.handlers.specs.States.{HasPlace};
 ghost use Rattle.schedule.specs.declared.work.Ready.{Ready as ReadyValue};
 ghost use Rattle.schedule.specs.Standing.{world_of};
 ghost use Rattle.schedule.specs.Preparing.{output_of, HasPath, HasInput, HasOutcome, IsPrepared, IsMade};
@@ -110,17 +110,9 @@ impl Core {
             → HasOutcome (world_of self.now user) user (request_of request.now) settlements) }
         ensures memory { IfErr result (λ why. why ≡ Memory) }
     {
-        let desks = self.state.desks.as_slice();
         match request {
-            Request::Offer(path, _) => input_for_offer(alloc, &desks[place], path),
-            Request::Finish(number, _) => input_for_finish(
-                alloc,
-                self.state.users.as_slice(),
-                &self.state.jobs,
-                desks,
-                place,
-                *number,
-            ),
+            Request::Offer(path, _) => input_for_offer(alloc, &self.state.desks[place], path),
+            Request::Finish(number, _) => input_for_finish(alloc, &self.state, place, *number),
             _ => Ok(None),
         }
     }

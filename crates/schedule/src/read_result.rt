@@ -8,7 +8,7 @@ use choose::Plan;
 use events::Reply;
 use handlers::serve_plan;
 use model::Refusal;
-use moving::Cache;
+use repair::Cache;
 use std::alloc::Global;
 
 /// What a core finds for a query. What takes long of a closure, its repairs, is left to [`ReadResult::serve`],

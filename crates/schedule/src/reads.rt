@@ -2,8 +2,8 @@
 
 ghost use Rattle.std.specs.Prelude.{◌≡◌, Result};
 ghost use Rattle.model.specs.declared.refusal.Refusal.{Refusal as RefusalValue};
-ghost use Rattle.handling.specs.Handling.{IsHandled};
-ghost use Rattle.handling.specs.States.{HasPlace, Handles};
+ghost use Rattle.handlers.specs.Handling.{IsHandled};
+ghost use Rattle.handlers.specs.States.{HasPlace, Handles};
 ghost use Rattle.events.specs.Terms.{request_of, event_of, reply_of};
 ghost use Rattle.events.specs.declared.reply.Reply.{Reply as ReplyValue};
 ghost use Rattle.handlers.specs.Serving.{MayServe};
@@ -18,8 +18,7 @@ use crate::state::Core;
 use choose::Plan;
 use events::{CopiedReply, Reply};
 use goals::status;
-use handlers::{fetch, plan_for};
-use handling::State;
+use handlers::{State, fetch, plan_for};
 use laws::never_fails;
 use model::Refusal;
 use rewrite::one_tree_at_a_path;
@@ -50,13 +49,10 @@ fn find_at(
     ensures { (given : Result ReplyValue RefusalValue) → MayGive result given
         → Handles state.now place (request_of (request_in question.now)) given state.now }
 {
-    let desks = state.desks.as_slice();
     match question {
         Question::Status(number) => told(status(state, place, *number)),
-        Question::Closure(class) => {
-            planned(plan_for(alloc, &state.trust, &state.table, desks, place, class))
-        }
-        Question::Fetch(path) => told(fetch(&state.table, &desks[place], path)),
+        Question::Closure(class) => planned(plan_for(alloc, state, place, class)),
+        Question::Fetch(path) => told(fetch(&state.table, &state.desks[place], path)),
     }
 }
 

@@ -2,8 +2,8 @@
 
 ghost use Rattle.std.specs.Prelude.{◌≡◌};
 
-use moving::Cache;
 use outputs::{Settlements, Sources};
+use repair::Cache;
 use std::alloc::{AllocError, Global};
 
 /// What a step is done with: paths of sources, settled trees and repaired records that were made

@@ -34,6 +34,26 @@ pub struct Begun {
     pub writer_failures: u64,
 }
 
+/// A session on its way through the lines of an input.
+#[derive(Drop)]
+struct Ongoing<'a> {
+    /// The session.
+    session: &'a mut Session,
+    /// What is held of the line begun.
+    held: Vec<u8>,
+}
+
+/// What came before a session goes on with a reader and a writer.
+#[derive(Drop)]
+struct Before<'a> {
+    /// What was read, and is not answered.
+    bytes: &'a [u8],
+    /// How often the reader had failed, by its count.
+    reader_failures: u64,
+    /// How often the writer had.
+    writer_failures: u64,
+}
+
 /// Holds more of the line begun, no more than shows whether it is too long.
 pub(crate) fn hold(held: &mut Vec<u8>, bytes: &[u8]) -> Result<(), AllocError>
     ensures { OnOk result (HoldsMore held.old.items bytes.now held.new.items) }
@@ -55,27 +75,27 @@ pub(crate) fn is_begun(held: &[u8]) -> bool
 /// answered.
 fn end_line<W: Write + Faults, A: Answer>(
     alloc: Global,
-    session: &mut Session,
-    held: &mut Vec<u8>,
+    ongoing: &mut Ongoing<'_>,
     writer: &mut W,
     before: u64,
     answer: &mut A,
 ) -> Result<(), Refusal>
     ensures ok { OnOk result (GoesOn (Link A.answers A.waited) answer.old answer.new
         (W.contents writer.old) (W.contents writer.new)
-        session.old session.new held.old.items held.new.items (10 ∷ [])) }
-    ensures empty { OnOk result (held.new.items ≡ []) }
+        ongoing.old.session.now ongoing.new.session.now
+        ongoing.old.held.items ongoing.new.held.items (10 ∷ [])) }
+    ensures empty { OnOk result (ongoing.new.held.items ≡ []) }
     ensures err { IfErr result (λ why. (more : List ℕ) → EndsIn (Link A.answers A.waited) answer.old answer.new
         (W.contents writer.old) (W.contents writer.new)
-        session.old held.old.items (10 ∷ more) why) }
+        ongoing.old.session.now ongoing.old.held.items (10 ∷ more) why) }
     ensures errors { IfErr result IsOwn }
     ensures fault { IfErr result (MayBeFault OutputFault before (W.failed writer.new)) }
 {
-    let reading = session.read(alloc, held.as_slice())?;
-    *held = Vec::new(alloc);
-    let text = session.answer(alloc, reading, answer)?;
+    let reading = ongoing.session.read(alloc, ongoing.held.as_slice())?;
+    ongoing.held = Vec::new(alloc);
+    let text = ongoing.session.answer(alloc, reading, answer)?;
     write_whole(writer, before, text.as_slice())?;
-    if session.is_refused() {
+    if ongoing.session.is_refused() {
         return Err(Refusal::BadUsers);
     }
     Ok(())
@@ -84,8 +104,7 @@ fn end_line<W: Write + Faults, A: Answer>(
 /// Takes the next piece of the input.
 fn feed<W: Write + Faults, A: Answer>(
     alloc: Global,
-    session: &mut Session,
-    held: &mut Vec<u8>,
+    ongoing: &mut Ongoing<'_>,
     piece: &[u8],
     writer: &mut W,
     before: u64,
@@ -93,43 +112,45 @@ fn feed<W: Write + Faults, A: Answer>(
 ) -> Result<(), Refusal>
     ensures ok { OnOk result (GoesOn (Link A.answers A.waited) answer.old answer.new
         (W.contents writer.old) (W.contents writer.new)
-        session.old session.new held.old.items held.new.items piece.now) }
+        ongoing.old.session.now ongoing.new.session.now
+        ongoing.old.held.items ongoing.new.held.items piece.now) }
     ensures err { IfErr result (EndsIn (Link A.answers A.waited) answer.old answer.new
         (W.contents writer.old) (W.contents writer.new)
-        session.old held.old.items piece.now) }
+        ongoing.old.session.now ongoing.old.held.items piece.now) }
     ensures errors { IfErr result IsOwn }
     ensures fault { IfErr result (MayBeFault OutputFault before (W.failed writer.new)) }
 {
     let mut rest = piece;
     while let Some((line, after)) = cut(b'\n', rest) {
-        hold(held, line)?;
-        end_line(alloc, session, held, writer, before, answer)?;
+        hold(&mut ongoing.held, line)?;
+        end_line(alloc, ongoing, writer, before, answer)?;
         rest = after;
     }
-    hold(held, rest)?;
+    hold(&mut ongoing.held, rest)?;
     Ok(())
 }
 
 /// Answers a last line that lacks its newline, if there is one.
 fn finish<W: Write + Faults, A: Answer>(
     alloc: Global,
-    session: &mut Session,
-    held: &mut Vec<u8>,
+    ongoing: &mut Ongoing<'_>,
     writer: &mut W,
     before: u64,
     answer: &mut A,
 ) -> Result<(), Refusal>
     ensures ok { OnOk result (Finishes (Link A.answers A.waited) answer.old answer.new
-        (W.contents writer.old) (W.contents writer.new) session.old held.old.items) }
+        (W.contents writer.old) (W.contents writer.new)
+        ongoing.old.session.now ongoing.old.held.items) }
     ensures err { IfErr result (EndsAtLast (Link A.answers A.waited) answer.old answer.new
-        (W.contents writer.old) (W.contents writer.new) session.old held.old.items) }
+        (W.contents writer.old) (W.contents writer.new)
+        ongoing.old.session.now ongoing.old.held.items) }
     ensures errors { IfErr result IsOwn }
     ensures fault { IfErr result (MayBeFault OutputFault before (W.failed writer.new)) }
 {
-    if !is_begun(held.as_slice()) {
+    if !is_begun(ongoing.held.as_slice()) {
         return Ok(());
     }
-    end_line(alloc, session, held, writer, before, answer)?;
+    end_line(alloc, ongoing, writer, before, answer)?;
     Ok(())
 }
 
@@ -137,48 +158,50 @@ fn finish<W: Write + Faults, A: Answer>(
 /// does.
 fn serve_by<R: Read + Faults, W: Write + Faults, A: Answer>(
     alloc: Global,
-    session: &mut Session,
-    held: &mut Vec<u8>,
-    bytes: &[u8],
+    ongoing: &mut Ongoing<'_>,
+    before: &Before<'_>,
     reader: &mut R,
-    reader_before: u64,
     writer: &mut W,
-    writer_before: u64,
     answer: &mut A,
 ) -> Result<(), Refusal>
     ensures ok { OnOk result ((input : List ℕ)
         × Consumes (R.remaining reader.old) (R.remaining reader.new) input
         × IsAtEnd (R.remaining reader.new)
         × FinishesBehind (Link A.answers A.waited) answer.old answer.new
-        (W.contents writer.old) (W.contents writer.new) session.old held.old.items (bytes.now ++ input)) }
+        (W.contents writer.old) (W.contents writer.new)
+        ongoing.old.session.now ongoing.old.held.items (before.now.bytes.now ++ input)) }
     ensures err { IfErr result (λ why. (input : List ℕ)
         × Consumes (R.remaining reader.old) (R.remaining reader.new) input
         × EndsBehind (Link A.answers A.waited) answer.old answer.new
-        (W.contents writer.old) (W.contents writer.new) session.old held.old.items
-        (bytes.now ++ input) (IsAtEnd (R.remaining reader.new)) why) }
+        (W.contents writer.old) (W.contents writer.new)
+        ongoing.old.session.now ongoing.old.held.items
+        (before.now.bytes.now ++ input) (IsAtEnd (R.remaining reader.new)) why) }
     ensures failed { IfErr result (λ why. why ≡ InputFault → (input : List ℕ)
         × Consumes (R.remaining reader.old) (R.remaining reader.new) input
         × StopsBehind (Link A.answers A.waited) answer.old answer.new
-        (W.contents writer.old) (W.contents writer.new) session.old held.old.items (bytes.now ++ input)) }
-    ensures whole { OnOk result (¬ HasFailed reader_before (R.failed reader.new)) }
+        (W.contents writer.old) (W.contents writer.new)
+        ongoing.old.session.now ongoing.old.held.items (before.now.bytes.now ++ input)) }
+    ensures whole { OnOk result (¬ HasFailed before.now.reader_failures (R.failed reader.new)) }
     ensures errors { IfErr result (λ why. (why ≡ InputFault) ⊎ IsOwn why) }
     ensures input_fault { IfErr result
-        (MayBeFault InputFault reader_before (R.failed reader.new)) }
+        (MayBeFault InputFault before.now.reader_failures (R.failed reader.new)) }
     ensures output_fault { IfErr result
-        (MayBeFault OutputFault writer_before (W.failed writer.new)) }
+        (MayBeFault OutputFault before.now.writer_failures (W.failed writer.new)) }
 {
-    feed(alloc, session, held, bytes, writer, writer_before, answer)?;
+    let reader_before = before.reader_failures;
+    let writer_before = before.writer_failures;
+    feed(alloc, ongoing, before.bytes, writer, writer_before, answer)?;
     let mut chunk = [0u8; CHUNK];
     for _ in 0..u64::MAX {
         let Some(n) = read_more(reader, reader_before, writer, writer_before, &mut chunk)? else {
             continue;
         };
         if n == 0 {
-            finish(alloc, session, held, writer, writer_before, answer)?;
+            finish(alloc, ongoing, writer, writer_before, answer)?;
             return Ok(());
         }
         let (piece, _) = chunk.split_at(n);
-        feed(alloc, session, held, piece, writer, writer_before, answer)?;
+        feed(alloc, ongoing, piece, writer, writer_before, answer)?;
     }
     Err(Refusal::Memory)
 }
@@ -221,20 +244,17 @@ pub fn serve_on<R: Read + Faults, W: Write + Faults, A: Answer>(
     ensures counts { EndsByCounts result begun.old.reader_failures (R.failed reader.new)
         begun.old.writer_failures (W.failed writer.new) }
 {
-    let before = begun.writer_failures;
-    let mut held = Vec::new(alloc);
-    let ended = serve_by(
-        alloc,
-        &mut begun.session,
-        &mut held,
-        &begun.rest,
-        reader,
-        begun.reader_failures,
-        writer,
-        before,
-        answer,
-    );
-    as_counted(writer, before, ended)
+    let before = Before {
+        bytes: &begun.rest,
+        reader_failures: begun.reader_failures,
+        writer_failures: begun.writer_failures,
+    };
+    let mut ongoing = Ongoing {
+        session: &mut begun.session,
+        held: Vec::new(alloc),
+    };
+    let ended = serve_by(alloc, &mut ongoing, &before, reader, writer, answer);
+    as_counted(writer, before.writer_failures, ended)
 }
 
 /// Answers the lines of an input to its end, and writes what is printed for them. Some of its bytes were
@@ -282,22 +302,18 @@ pub fn serve_behind<R: Read + Faults, W: Write + Faults, A: Answer>(
     ensures counts { EndsByCounts result (R.failed reader.old) (R.failed reader.new)
         (W.failed writer.old) (W.failed writer.new) }
 {
-    let reader_before = reader.failures();
-    let before = writer.failures();
-    let mut session = Session::new(alloc, mode);
-    let mut held = Vec::new(alloc);
-    let ended = serve_by(
-        alloc,
-        &mut session,
-        &mut held,
+    let before = Before {
         bytes,
-        reader,
-        reader_before,
-        writer,
-        before,
-        answer,
-    );
-    as_counted(writer, before, ended)
+        reader_failures: reader.failures(),
+        writer_failures: writer.failures(),
+    };
+    let mut session = Session::new(alloc, mode);
+    let mut ongoing = Ongoing {
+        session: &mut session,
+        held: Vec::new(alloc),
+    };
+    let ended = serve_by(alloc, &mut ongoing, &before, reader, writer, answer);
+    as_counted(writer, before.writer_failures, ended)
 }
 
 /// Answers the lines of the reader to the input's end, writes what is printed for them, and flushes that
@@ -385,15 +401,10 @@ pub fn serve_whole_lines<W: Write + Faults, A: Answer>(
 {
     let before = writer.failures();
     let mut session = Session::new(alloc, mode);
-    let mut held = Vec::new(alloc);
-    let ended = feed(
-        alloc,
-        &mut session,
-        &mut held,
-        bytes,
-        writer,
-        before,
-        answer,
-    );
+    let mut ongoing = Ongoing {
+        session: &mut session,
+        held: Vec::new(alloc),
+    };
+    let ended = feed(alloc, &mut ongoing, bytes, writer, before, answer);
     as_counted(writer, before, ended)
 }

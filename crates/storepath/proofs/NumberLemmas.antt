@@ -1,29 +1,57 @@
 -- Numbers by their bytes, the lowest first.
-use Rattle.std.proofs.Common.{◌≡◌, ℕ, zero, suc, ◌+◌, ◌*◌, ◌/◌, ◌%◌, ◌^◌, ◌<◌, ◌≤◌, List, [], ◌∷◌, ◌++◌, length, get_or, set, take, drop, refl, ◌∙◌, ap, subst, arith, add-one, inl, inr, ◌⊎◌, ◌≢◌, true, replicate, lit<}
+use Rattle.std.proofs.Common.{◌≡◌, ℕ, zero, suc, ◌+◌, ◌-◌, ◌*◌, ◌/◌, ◌%◌, ◌^◌, ◌<◌, ◌≤◌, List, [], ◌∷◌, ◌++◌, length, get_or, set, take, drop, refl, sym, ◌∙◌, ap, subst, arith, add-one, inl, inr, ◌⊎◌, ◌≢◌, true, replicate, lit<}
 use Rattle.std.specs.Prelude.{nat_lt}
 use Rattle.std.specs.List.{list_all}
 use Rattle.std.proofs.lemmas.Bool.{and_parts}
 use Rattle.std.proofs.lemmas.Bool.Decides.{Decides-ltb}
-use Rattle.std.proofs.Math.Nat.{pow-suc}
-use Rattle.std.proofs.lemmas.List.{drop_more, drop-set-lt, get_or-set_same, take_more, take_more_set, length-set, length-take-le, take_all, get_or-set_other, set_past}
+use Rattle.std.proofs.Math.Nat.{add_comm, add-mul-div_left, add-mul-mod_self_left, div-div-eq-div-mul, div-one, mul-suc, mul-zero, pow-suc, pow-succ', pow-zero, zero-div}
+use Rattle.std.proofs.lemmas.Nat.{pow-add, pow_pos}
+use Rattle.std.proofs.lemmas.List.{get_or-set_same, take_more, take_more_set, length-set, length-take-le, take_all, get_or-set_other, set_past}
 use Rattle.model.specs.Paths.{number_of, IsFolded}
 use Rattle.model.specs.Archives.{AreBytes}
 
-pub number_of-drop : (xs : List ℕ) (p : ℕ) → p < length xs → number_of (drop p xs) ≡ get_or xs p 0 + 256 * number_of (drop (p + 1) xs)
+-- a byte, and the bytes above it
+number_of-drop : (xs : List ℕ) (p : ℕ) → number_of (drop p xs) ≡ get_or xs p 0 + 256 * number_of (drop (p + 1) xs)
 unfolding number_of
-number_of-drop xs p h = rw (drop_more xs p 0 h) refl
+number_of-drop [] zero = refl
+number_of-drop [] (suc p) = rw (add-one (suc p)) refl
+number_of-drop (x ∷ xs) zero = refl
+number_of-drop (x ∷ xs) (suc p) = rw (add-one (suc p)) (rw (add-one p) at (number_of-drop xs p))
 
-pub number_of-drop-set : (xs : List ℕ) (p v : ℕ) → p < length xs → number_of (drop p (set xs p v)) ≡ v + 256 * number_of (drop (p + 1) xs)
-number_of-drop-set xs p v h =
-    let long : p < length (set xs p v) = omega (arith, length-set xs p v) in
-    number_of-drop (set xs p v) p long ∙ rw (get_or-set_same xs p v 0 h, drop-set-lt (p + 1) xs p v (omega arith)) refl
+-- what is left of a number without its lowest bytes
+number_of-above : (xs : List ℕ) (p : ℕ) → AreBytes xs → number_of xs / 256 ^ p ≡ number_of (drop p xs)
+unfolding number_of
+number_of-above xs zero h = div-one (number_of xs)
+number_of-above [] (suc p) h = zero-div (256 ^ suc p)
+number_of-above (x ∷ xs) (suc p) h =
+    let first = h 0 in
+    let rest : (x + 256 * number_of xs) / 256 ≡ number_of xs = omega arith in
+    rw (pow-succ' 256 p, ← div-div-eq-div-mul (x + 256 * number_of xs) 256 (256 ^ p), rest) (number_of-above xs p (λ i. h (suc i)))
 
--- one step of a division by 32, from the highest byte down
-pub divide_step : (old now : List ℕ) (p q r byte : ℕ) → p + 1 ≡ q → p < length old → p < length now → byte ≡ get_or now p 0 → byte ≡ get_or old p 0 → number_of (drop q old) ≡ 32 * number_of (drop q now) + r
-    → number_of (drop p old) ≡ 32 * number_of (drop p (set now p ((r * 256 + byte) / 32))) + (r * 256 + byte) % 32
-divide_step old now p q r byte next h k is same e =
-    let f : number_of (drop (p + 1) old) ≡ 32 * number_of (drop (p + 1) now) + r = rw next e in
-    rw (number_of-drop old p h, number_of-drop-set now p ((r * 256 + byte) / 32) k, ← same) (omega (arith, f))
+-- a power of a power
+power_of_power : (n k i : ℕ) → (n ^ k) ^ i ≡ n ^ (k * i)
+power_of_power n k zero = rw (mul-zero k, pow-zero n, pow-zero (n ^ k)) refl
+power_of_power n k (suc i) = rw (pow-succ' (n ^ k) i, power_of_power n k i, mul-suc k i, add_comm (k * i) k, pow-add n k (k * i)) refl
+
+-- what lies above two bytes is in no digit that begins in the first of them
+five_bits : (bits above s : ℕ) → s < 8 → (bits + 65536 * above) / 2 ^ s % 32 ≡ bits / 2 ^ s % 32
+five_bits bits above s h =
+    let part : ℕ = 2 ^ (11 - s) * above in
+    let e : 11 ≡ s + (11 - s) = omega arith in
+    let whole : 2 ^ 11 ≡ 2 ^ s * 2 ^ (11 - s) = ap (λ k. 2 ^ k) e ∙ pow-add 2 s (11 - s) in
+    let moved : 65536 * above ≡ 2 ^ s * (32 * part) = grind (arith, whole) in
+    rw (moved, add-mul-div_left bits (32 * part) (pow_pos s)) (add-mul-mod_self_left (bits / 2 ^ s) 32 part)
+
+-- a digit to base 32, from the byte in which it begins and the next
+pub digit_from_bytes : (xs : List ℕ) (i j s : ℕ) → AreBytes xs → 5 * i ≡ 8 * j + s → s < 8
+    → (get_or xs j 0 + 256 * get_or xs (j + 1) 0) / 2 ^ s % 32 ≡ number_of xs / 32 ^ i % 32
+digit_from_bytes xs i j s bytes e h =
+    let low : ℕ = get_or xs j 0 in
+    let high : ℕ = get_or xs (j + 1) 0 in
+    let above : ℕ = number_of (drop (j + 1 + 1) xs) in
+    let power : 32 ^ i ≡ 256 ^ j * 2 ^ s = power_of_power 2 5 i ∙ ap (λ k. 2 ^ k) e ∙ pow-add 2 (8 * j) s ∙ ap (λ n. n * 2 ^ s) (sym (power_of_power 2 8 j)) in
+    let split : number_of (drop j xs) ≡ low + 256 * high + 65536 * above = omega (arith, number_of-drop xs j, number_of-drop xs (j + 1)) in
+    rw (power, ← div-div-eq-div-mul (number_of xs) (256 ^ j) (2 ^ s), number_of-above xs j bytes, split) (sym (five_bits (low + 256 * high) above s h))
 
 pub number_of-append : (xs ys : List ℕ) → number_of (xs ++ ys) ≡ number_of xs + 256 ^ length xs * number_of ys
 unfolding number_of

@@ -1,5 +1,5 @@
 -- The parts of a path's text.
-use Rattle.std.proofs.Common.{◌≡◌, ℕ, ◌+◌, ◌≤◌, true, false, List, [], ◌∷◌, ◌++◌, length, take, drop, refl, sym, ◌∙◌, ap, arith, append_assoc}
+use Rattle.std.proofs.Common.{◌≡◌, ℕ, ◌+◌, ◌-◌, ◌/◌, ◌%◌, ◌^◌, ◌≤◌, true, false, List, [], ◌∷◌, ◌++◌, length, take, drop, refl, sym, ◌∙◌, ap, arith, append_assoc}
 use Rattle.std.specs.Prelude.{codes, nat_lt, IsTrue}
 use Rattle.std.specs.List.{list_all}
 use Rattle.std.specs.Str.{IsAscii, IsUtf8}
@@ -53,8 +53,7 @@ ascii_by_test (b ∷ bs) h =
 pub base32_is_ascii : (bytes : List ℕ) → IsAscii (base32 bytes)
 base32_is_ascii bytes =
     IsAscii-from_reads (base32 bytes) 32 (omega (arith, length-base32 bytes)) (λ k h.
-    let digit = get_or-digits_of 32 (number_of bytes) k h in
-    rw digit.2 (ascii_by_test digits_32 refl digit.0))
+    rw (get_or-digits_of 32 (number_of bytes) k (31 - k) (omega arith)) (ascii_by_test digits_32 refl (number_of bytes / 32 ^ (31 - k) % 32)))
 
 pub path_is_utf8 : (text : List ℕ) → IsPath text → IsUtf8 text
 path_is_utf8 text path =

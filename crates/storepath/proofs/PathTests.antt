@@ -6,7 +6,7 @@ use Rattle.std.specs.Str.{IsAscii}
 use Rattle.std.proofs.lemmas.Slice.Eq.{bytes_eq-Decides}
 use Rattle.std.proofs.Math.Nat.{pow-suc}
 use Rattle.std.proofs.lemmas.Bool.{and_parts, false≢true}
-use Rattle.std.proofs.lemmas.Bool.Decides.{eqb_tells, same_from_decides}
+use Rattle.std.proofs.lemmas.Bool.Decides.{Decides-eqb, eqb_tells, same_from_decides}
 use Rattle.std.proofs.lemmas.List.{drop-drop, length-take-le, take-append-drop, take_at, drop_at, take_all, length-drop}
 use Rattle.std.proofs.lemmas.List.Folds.{list_all-append}
 use Rattle.std.proofs.lemmas.List.Sums.{AllPass-from_list_all}
@@ -71,6 +71,12 @@ folded_with text long h =
     let number = number_with text h 32 (omega (arith, long)) in
     let bytes = bytes_with 20 number.0 number.1 in
     (bytes.0, record { bytes = bytes.1; length = bytes.2 }, ap (digits_of 32) bytes.3 ∙ number.2 ∙ take_all 32 text (omega (arith, long)))
+
+-- a hash part is the digits of 20 bytes
+pub hash_part_with : (text : List ℕ) → is_hash_part text ≡ true → (bytes : List ℕ) × IsFolded bytes × (base32 bytes ≡ text)
+hash_part_with text h =
+    let parts = and_parts (length text == 32) (list_all is_digit_32 text) h in
+    folded_with text ((Decides-eqb (length text) 32).0 parts.0) parts.1
 
 -- 20 bytes have 32 digits
 pub base32_passes : (bytes : List ℕ) → list_all is_digit_32 (base32 bytes) ≡ true

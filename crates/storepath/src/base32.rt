@@ -2,27 +2,27 @@
 //!
 //! The bytes are one number of 160 bits, the lowest byte first, and its digits are printed the highest first (Nix Reference Manual, "Store Path").
 
-ghost use Rattle.std.specs.Prelude.{◌≡◌, ◌↔◌, ◌≢◌, ℕ, List, ◌+◌, ◌*◌, ◌^◌, ◌<◌, ◌==◌, position, is_ok, IfOk, IfErr};
-ghost use Rattle.model.specs.Paths.{base32, digits_32, number_of, IsFolded};
+ghost use Rattle.std.specs.Prelude.{◌≡◌, ◌↔◌, ◌≢◌, ℕ, List, ◌+◌, ◌*◌, ◌/◌, ◌%◌, ◌^◌, ◌<◌, ◌==◌, position, is_ok, IfOk, IfErr};
+ghost use Rattle.model.specs.Paths.{base32, digits_32, is_digit_32, number_of, IsFolded};
 ghost use Rattle.storepath.specs.Parts.{is_hash_part};
 
 use model::Refusal;
+use std::array;
 
 /// The digits: no `e`, `o`, `u` or `t`.
 const DIGITS: [u8; 32] = *b"0123456789abcdfghijklmnpqrsvwxyz";
 
-/// Divides a number of 160 bits by 32, and gives the remainder.
-fn divide(number: &mut [u8; 20]) -> usize
-    ensures divided { number_of number.old ≡ 32 * number_of number.new + result }
-    ensures remainder { result < 32 }
+/// The digit at a place of a number of 160 bits, counted from the lowest: its five bits lie in one
+/// byte or in two.
+fn digit_at(number: &[u8; 20], place: usize) -> usize
+    requires { place < 32 }
+    ensures { result ≡ number_of number.now / 32 ^ place % 32 }
 {
-    let mut remainder = 0;
-    for place in (0..20).rev() {
-        let value = remainder * 256 + usize::from(number[place]);
-        number[place] = (value / 32) as u8;
-        remainder = value % 32;
-    }
-    remainder
+    let bit = 5 * place;
+    let low = number[bit / 8];
+    let high = number.get(bit / 8 + 1).copied().unwrap_or(0);
+    let bits = usize::from(low) + 256 * usize::from(high);
+    (bits >> (bit % 8)) % 32
 }
 
 /// Multiplies a number of 160 bits by 32, and adds a digit.
@@ -47,16 +47,18 @@ fn digit_value(character: u8) -> Option<usize>
     DIGITS.iter().position(|digit| *digit == character)
 }
 
+/// Whether a character is a digit.
+pub(crate) fn is_digit(character: u8) -> bool
+    ensures { result ≡ is_digit_32 character }
+{
+    matches!(character, b'0'..=b'9' | b'a'..=b'd' | b'f'..=b'n' | b'p'..=b's' | b'v'..=b'z')
+}
+
 /// The 32 digits of 20 bytes. It takes no memory.
 pub fn to_base32(bytes: &[u8; 20]) -> [u8; 32]
     ensures { result ≡ base32 bytes.now }
 {
-    let mut number = *bytes;
-    let mut text = [0; 32];
-    for place in (0..32).rev() {
-        text[place] = DIGITS[divide(&mut number)];
-    }
-    text
+    array::from_fn(|place| DIGITS[digit_at(bytes, 31 - place)])
 }
 
 /// The 20 bytes that a text of 32 digits stands for.

@@ -5,11 +5,18 @@ ghost use Rattle.std.specs.List.{list_all};
 ghost use Rattle.model.specs.Paths.{is_digit_32};
 ghost use Rattle.storepath.specs.Parts.{is_hash_part};
 
-use crate::base32::from_base32;
+use crate::base32::is_digit;
 use model::Refusal;
 use std::hash::{Hash, Hasher};
 use std::marker::Model;
 use std::{fmt, str};
+
+/// Whether a text is a hash part: 32 digits of base 32.
+pub(crate) fn is_hash_part(text: &[u8]) -> bool
+    ensures { result ≡ is_hash_part text.now }
+{
+    text.len() == 32 && text.iter().all(|character| is_digit(*character))
+}
 
 /// The hash part of a store path: 32 digits of base 32. Hash parts stand in the order of their
 /// digits.
@@ -54,7 +61,9 @@ impl HashPart {
         ensures refused { (result ≡ Err Refusal.BadPath) ↔ (is_hash_part text.now ≡ false) }
         ensures error { IfErr result (λ why. why ≡ Refusal.BadPath) }
     {
-        from_base32(text)?;
+        if !is_hash_part(text) {
+            return Err(Refusal::BadPath);
+        }
         Ok(HashPart::from_digits(text))
     }
 

@@ -4,8 +4,8 @@ ghost use Rattle.std.specs.Prelude.{◌≡◌, ◌↔◌, ◌⊎◌, ℕ, List, 
 ghost use Rattle.model.specs.Paths.{base32, is_name, is_path, path_text, IsPath};
 ghost use Rattle.storepath.specs.Parts.{hash_part_of, name_of};
 
-use crate::base32::{from_base32, to_base32};
-use crate::hash_part::HashPart;
+use crate::base32::to_base32;
+use crate::hash_part::{HashPart, is_hash_part};
 use crate::name::{Name, is_name};
 use model::Refusal;
 use std::alloc::{AllocError, Global};
@@ -110,10 +110,7 @@ fn is_path(text: &[u8]) -> bool
     let Some(name) = rest.strip_prefix(b"-") else {
         return false;
     };
-    match from_base32(digits) {
-        Ok(_) => is_name(name),
-        Err(_) => false,
-    }
+    is_hash_part(digits) && is_name(name)
 }
 
 /// The path of a text.

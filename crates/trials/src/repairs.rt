@@ -3,7 +3,7 @@
 use classes::Class;
 use indexmap::IndexMap;
 use model::Refusal;
-use moving::{Cache, serve};
+use repair::{Cache, serve};
 use nar::Tree;
 use records::{Label, Realisation, Record};
 use std::alloc::Global;

@@ -1,28 +1,56 @@
-use Rattle.std.proofs.Common.{rules, ◌≡◌, ◌∷◌, codes, [], ◌++◌, true, false, arith, refl, length, drop, sym, ap, ◌∙◌}
+use Rattle.std.proofs.Common.{rules, ◌≡◌, ◌∷◌, codes, [], ◌++◌, true, false, arith, take, drop, length-drop, ap, ◌∙◌}
 use Rattle.std.proofs.lemmas.Result.{err_from_is_err_and}
 use Rattle.std.specs.Prelude.{Some}
-use Rattle.model.specs.DerivationTexts.{is_at, character_at, quoted_at}
-use Rattle.reading.proofs.ReadingLemmas.{fails_on}
-use Rattle.aterm.proofs.Items.{loop_ends, loop_fails, loop_spent, loop_goes_on}
+use Rattle.model.specs.DerivationTexts.{is_at}
+use Rattle.nar.proofs.ReadingLemmas.{fails_on}
+use Rattle.aterm.proofs.PlainRuns.{run_read, run_never_ends, quote_read, none_read, escape_read, escape_is, no_escape, escape_shorter, tag_shorter}
 use Rattle.aterm.proofs.read.read_string.Goals as goal
 
-pub returns-in-Some : goal.returns-in-Some
-returns-in-Some c =
-    let here : is_at (codes "\"") c.loop.rest.now ≡ true = search rules in
-    let after : drop 1 c.loop.rest.now ≡ c.in-Some.after.now = search rules in
-    loop_ends character_at (codes "\"") [] (quoted_at c.args.tag.now c.args.bytes.now) c.loop.characters.items _ [] c.loop.rest.now _ c.loop.invariant (omega arith) here after ∙ ap (λ t. Some (t, c.in-Some.after.now)) (sym c.in_ok-text.ensures)
+pub returns-in-Some-strip_prefix : goal.returns-in-Some-strip_prefix
+returns-in-Some-strip_prefix c =
+    let behind = drop c.in-Some.at c.loop-at.rest.now in
+    let left = run_read _ _ _ _ c.loop-at.invariant c.in-Some.ensures in
+    let here : is_at (codes "\"") behind ≡ true = search rules in
+    let after : drop 1 behind ≡ c.in-Some-strip_prefix.after.now = search rules in
+    let text : c.loop-at.characters.items ++ take c.in-Some.at c.loop-at.rest.now ≡ c.in_ok-text.text = search rules in
+    quote_read _ _ behind _ left here after ∙ ap (λ t. Some (t, c.in-Some-strip_prefix.after.now)) text
+
+pub returns-in_err-letters : goal.returns-in_err-letters
+returns-in_err-letters c =
+    let p = err_from_is_err_and c.from_residual-in_err-letters.result c.from_residual-in_err-letters.ensures.1 in
+    let behind = drop c.in-Some.at c.loop-at.rest.now in
+    let left = run_read _ _ _ _ c.loop-at.invariant c.in-Some.ensures in
+    let here : is_at (codes "\"") behind ≡ false = search rules in
+    let failed = rw c.split_at.ensures.back at c.in_err-letters.ensures in
+    rw (p.1, p.2) (fails_on _ _ _ (λ none. none_read _ _ behind left here (no_escape _ _ c.in-Some.ensures here none)) failed)
 
 pub returns-in_err-character : goal.returns-in_err-character
 returns-in_err-character c =
     let p = err_from_is_err_and c.from_residual-in_err-character.result c.from_residual-in_err-character.ensures.1 in
-    let here : is_at (codes "\"") c.loop.rest.now ≡ false = search rules in
-    rw (p.1, p.2) (fails_on _ _ _ (loop_fails character_at (codes "\"") [] (quoted_at c.args.tag.now c.args.bytes.now) c.loop.characters.items _ [] c.loop.rest.now c.loop.invariant here) c.in_err-character.ensures)
+    let behind = drop c.in-Some.at c.loop-at.rest.now in
+    let left = run_read _ _ _ _ c.loop-at.invariant c.in-Some.ensures in
+    let here : is_at (codes "\"") behind ≡ false = search rules in
+    let escape = escape_is behind _ (rw c.split_at.ensures.back at c.in_ok-letters.ensures) in
+    rw (p.1, p.2) (fails_on _ _ _ (λ none. none_read _ _ behind left here (escape ∙ none)) c.in_err-character.ensures)
 
-pub loop-preserved : goal.loop-preserved
-loop-preserved c =
-    let here : is_at (codes "\"") c.loop.rest.now ≡ false = search rules in
-    let pushed : c.loop.characters.items ++ c.in_ok-character.character ∷ [] ≡ c.push.new.self.items = search rules in
-    loop_goes_on character_at (codes "\"") [] (quoted_at c.args.tag.now c.args.bytes.now) c.loop.characters.items c.push.new.self.items (length c.in_ok-rest.rest.now) c.loop.counter [] [] c.loop.rest.now c.in_ok-character.character c.in_ok-character.after.now c.loop.invariant (omega arith) here c.in_ok-character.ensures pushed refl
+pub loop-at-smaller : goal.loop-at-smaller
+loop-at-smaller c =
+    let letter = escape_shorter _ _ _ c.in_ok-character.ensures in
+    let backslash = tag_shorter _ _ (rw c.split_at.ensures.back at c.in_ok-letters.ensures) in
+    omega (arith, length-drop c.in-Some.at c.loop-at.rest.now)
+
+pub loop-at-preserved : goal.loop-at-preserved
+loop-at-preserved c =
+    let behind = drop c.in-Some.at c.loop-at.rest.now in
+    let left = run_read _ _ _ _ c.loop-at.invariant c.in-Some.ensures in
+    let here : is_at (codes "\"") behind ≡ false = search rules in
+    let found = rw c.split_at.ensures.back at c.in_ok-letters.ensures in
+    let escape = escape_is behind _ found ∙ c.in_ok-character.ensures in
+    let letter = escape_shorter _ _ _ c.in_ok-character.ensures in
+    let backslash = tag_shorter _ _ found in
+    let run = take c.in-Some.at c.loop-at.rest.now in
+    let pushed : (c.loop-at.characters.items ++ run) ++ c.in_ok-character.character ∷ [] ≡ c.push.new.self.items = search rules in
+    escape_read _ _ _ behind _ c.in_ok-character.character left (omega arith) here escape pushed
 
 pub returns : goal.returns
-returns c = loop_spent character_at (codes "\"") [] (quoted_at c.args.tag.now c.args.bytes.now) c.loop.characters.items _ [] c.loop.rest.now c.loop.invariant (omega arith)
+returns c = run_never_ends _ _ _ c.loop-at.invariant c.in_default.ensures

@@ -1,7 +1,10 @@
-use Rattle.std.proofs.Common.{◌≡◌, codes, [], ◌-◌}
-use Rattle.model.specs.DerivationTexts.{character_at, items_at, quoted_at}
-use Rattle.aterm.proofs.Items.{onto}
+use Rattle.std.proofs.Common.{length}
+use Rattle.model.specs.DerivationTexts.{quoted_at}
+use Rattle.aterm.proofs.PlainRuns.{IsLeft}
 use Rattle.aterm.proofs.read.read_string.Given as goal
 
-abbrev pub invariant-loop : goal.invariant-loop
-invariant-loop l = quoted_at l.tag l.bytes ≡ onto l.characters.items (items_at character_at (codes "\"") [] (l.end - l.counter) [] l.rest)
+abbrev pub invariant-loop-at : goal.invariant-loop-at
+invariant-loop-at l = IsLeft (quoted_at l.tag l.bytes) l.characters.items l.rest
+
+abbrev pub decreases-loop-at : goal.decreases-loop-at
+decreases-loop-at l = length l.rest

@@ -1,9 +1,8 @@
-use Rattle.std.proofs.Common.{◌≡◌, ◌++◌, ◌∷◌, [], sym, ◌∙◌, ap}
+use Rattle.std.proofs.Common.{◌∙◌}
 use Rattle.std.specs.Prelude.{map}
-use Rattle.std.proofs.lemmas.List.{map-append}
 use Rattle.events.specs.Statuses.{status_of}
-use Rattle.handling.specs.Supported.{goals_of}
-use Rattle.building.specs.DeskDeltas.{with_statuses, status_at}
+use Rattle.handlers.specs.Supported.{goals_of}
+use Rattle.endings.specs.DeskDeltas.{status_at}
 use Rattle.endings.proofs.StatusLemmas.{statuses_before, last_there, popped}
 use Rattle.endings.proofs.committing.set_statuses.Goals as goal
 

@@ -4,11 +4,11 @@ use Rattle.std.specs.Option.{option_copied}
 use Rattle.std.proofs.lemmas.Result.{err_from_is_err_and}
 use Rattle.model.specs.Worlds.{Goal, Status}
 use Rattle.model.specs.Goals.{goal_at}
-use Rattle.handling.specs.Parts.{goals_of}
+use Rattle.handlers.specs.Parts.{goals_of}
 use Rattle.events.specs.Statuses.{status_of}
 use Rattle.trust.specs.Trusting.{trusts}
 use Rattle.store.specs.Stored.{put_all, sources_of, AreThere}
-use Rattle.building.specs.DeskDeltas.{last_status, status_at}
+use Rattle.endings.specs.DeskDeltas.{last_status, status_at}
 use Rattle.endings.specs.Committing.{Delivered, trees_gained, statuses_for, statuses_delivered, AreToAdd}
 use Rattle.endings.proofs.CommitLemmas.{statuses_there}
 use Rattle.endings.proofs.AllBuiltLemmas.{only_memory}

@@ -1,6 +1,6 @@
 use Rattle.std.proofs.Common.{◌≡◌, drop, map}
 use Rattle.events.specs.Statuses.{status_of}
-use Rattle.building.specs.DeskDeltas.{last_status, status_at}
+use Rattle.endings.specs.DeskDeltas.{last_status, status_at}
 use Rattle.endings.proofs.finishing.status_then.Given as goal
 
 abbrev pub invariant-loop-other : goal.invariant-loop-other

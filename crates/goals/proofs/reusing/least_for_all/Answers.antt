@@ -5,8 +5,8 @@ use Rattle.model.specs.Orders.{least}
 use Rattle.trust.specs.Trusting.{holds}
 use Rattle.records.specs.Recorded.{Recorded}
 use Rattle.realise.specs.Holdings.{Holdings}
-use Rattle.handling.specs.Viewing.{desk_at, places_of}
-use Rattle.handling.specs.Supported.{goals_of}
+use Rattle.handlers.specs.Viewing.{desk_at, places_of}
+use Rattle.handlers.specs.Supported.{goals_of}
 use Rattle.handlers.proofs.StateLemmas.{few_desks}
 use Rattle.goals.specs.Reusing.{path_before, found_among, found_on, found_in}
 use Rattle.jobs.specs.Planners.{HasPlanners}

@@ -5,7 +5,7 @@ use Rattle.model.specs.Endings.{labels_from}
 use Rattle.trust.specs.Trusting.{trusts}
 use Rattle.jobs.specs.Owned.{goals_at}
 use Rattle.realise.specs.Holdings.{Holdings}
-use Rattle.handling.specs.Viewing.{desk_at}
+use Rattle.handlers.specs.Viewing.{desk_at}
 use Rattle.handlers.proofs.StateLemmas.{complete_desks}
 use Rattle.goals.specs.Reusing.{class_for, IsFinishedBuild}
 use Rattle.goals.proofs.ReuseLemmas.{held_stored, unknown_class, nothing_built, built_used}

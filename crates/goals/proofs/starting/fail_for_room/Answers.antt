@@ -8,11 +8,12 @@ use Rattle.model.specs.Worlds.{Failed}
 use Rattle.events.specs.declared.reply.Reply.TheVariants.{GoalStatus}
 use Rattle.events.specs.declared.status.Status.TheVariants as status
 use Rattle.events.specs.Terms.{reply_of}
-use Rattle.handling.specs.Sound.{IsSound}
-use Rattle.handling.specs.Viewing.{desk_at}
+use Rattle.handlers.specs.Sound.{IsSound}
+use Rattle.handlers.specs.Viewing.{desk_at}
 use Rattle.handlers.specs.Taking.{CopiesEntries}
 use Rattle.handlers.proofs.TakeLemmas.{copied_here}
-use Rattle.goals.proofs.StateLemmas.{with_goals, with_desk}
+use Rattle.handlers.proofs.StateLemmas.{has_desk}
+use Rattle.goals.proofs.StateLemmas.{with_goals}
 use Rattle.goals.proofs.StartLemmas.{goal_closure}
 use Rattle.goals.proofs.StartedLemmas.{run_started, owned_started, its_closure, lacking_so, failed_so}
 use Rattle.goals.proofs.starting.fail_for_room.Goals as goal
@@ -22,7 +23,7 @@ copy_all-requires-clause-sound c =
     let s = c.args.state.now in
     subst (IsSound s.table.sources s.limits.charge) (sym c.index_mut.ensures.value)
     (All-get_or (IsSound s.table.sources s.limits.charge) s.desks.items c.args.place c.index_mut.result.now
-    (with_desk s c.args.place c.requires.of_run) s.run.sound)
+    (has_desk s c.args.place c.requires.of_run) s.run.sound)
 
 pub copy_all-requires-clause-closure : goal.copy_all-requires-clause-closure
 copy_all-requires-clause-closure c =

@@ -5,9 +5,10 @@ use Rattle.model.specs.Goals.{in_status, is_building}
 use Rattle.model.specs.Worlds.{Building}
 use Rattle.model.specs.Events.{GoalStatus}
 use Rattle.events.specs.Terms.{reply_of}
-use Rattle.handling.specs.Sound.{IsSound}
+use Rattle.handlers.specs.Sound.{IsSound}
 use Rattle.handlers.proofs.TakeLemmas.{copied_here}
-use Rattle.goals.proofs.StateLemmas.{with_goals, with_desk}
+use Rattle.handlers.proofs.StateLemmas.{has_desk}
+use Rattle.goals.proofs.StateLemmas.{with_goals}
 use Rattle.goals.proofs.StartLemmas.{goal_closure, entered_there, entered_inside}
 use Rattle.goals.proofs.StartedLemmas.{run_started, owned_started, no_memory_so, entered_so, left_job, owned_left}
 use Rattle.goals.proofs.starting.start_anew.Goals as goal
@@ -45,7 +46,7 @@ copy_all-requires-clause-sound c =
     let s = c.args.state.now in
     subst (IsSound s.table.sources s.limits.charge) (sym c.index_mut.ensures.value)
     (All-get_or (IsSound s.table.sources s.limits.charge) s.desks.items c.args.place c.index_mut.result.now
-    (with_desk s c.args.place c.requires.of_run) s.run.sound)
+    (has_desk s c.args.place c.requires.of_run) s.run.sound)
 
 pub copy_all-requires-clause-closure : goal.copy_all-requires-clause-closure
 copy_all-requires-clause-closure c =

@@ -7,14 +7,15 @@ use Rattle.model.specs.Goals.{in_status}
 use Rattle.model.specs.Events as events
 use Rattle.events.specs.Terms.{reply_of}
 use Rattle.jobs.specs.Owned.{ChangesGoal}
-use Rattle.handling.specs.Parts.{Parts}
-use Rattle.handling.specs.Sound.{IsSound}
-use Rattle.handling.specs.States.{parts_of}
-use Rattle.handling.specs.Handling.{IsHandledByAll}
+use Rattle.handlers.specs.Parts.{Parts}
+use Rattle.handlers.specs.Sound.{IsSound}
+use Rattle.handlers.specs.States.{parts_of}
+use Rattle.handlers.specs.Handling.{IsHandledByAll}
 use Rattle.handlers.specs.Taking.{IsLabelledBy, with_built}
 use Rattle.handlers.proofs.TakeLemmas.{copied_here}
 use Rattle.goals.specs.Starting.{HasNoRoom}
-use Rattle.goals.proofs.StateLemmas.{with_goals, with_desk}
+use Rattle.handlers.proofs.StateLemmas.{has_desk}
+use Rattle.goals.proofs.StateLemmas.{with_goals}
 use Rattle.goals.proofs.StartLemmas.{goal_closure}
 use Rattle.goals.proofs.StartedLemmas.{run_started, owned_started, no_memory_so, both_stored, lacking_so, done_so, put_back, left_copies}
 use Rattle.goals.proofs.starting.start_done.Goals as goal
@@ -39,7 +40,7 @@ copy_with-requires-clause-sound c =
     let s = c.args.state.now in
     subst (IsSound s.table.sources s.limits.charge) (sym c.index_mut.ensures.value)
     (All-get_or (IsSound s.table.sources s.limits.charge) s.desks.items c.args.place c.index_mut.result.now
-    (with_desk s c.args.place c.requires.of_run) s.run.sound)
+    (has_desk s c.args.place c.requires.of_run) s.run.sound)
 
 pub copy_with-requires-clause-closure : goal.copy_with-requires-clause-closure
 copy_with-requires-clause-closure c =

@@ -7,10 +7,10 @@ use Rattle.model.specs.declared.refusal.Refusal.TheVariants.{TooLarge}
 use Rattle.model.specs.Limits.{most_derivation_bytes}
 use Rattle.model.specs.Events.{AddDerivation}
 use Rattle.model.specs.Steps.{outcome}
-use Rattle.handling.specs.Sound.{desk_of}
-use Rattle.handling.proofs.DerivationLemmas.{too_large, unread_fits, unread_no_clash}
-use Rattle.handling.proofs.StepLemmas.{derivation_at_once}
-use Rattle.handling.proofs.HandlingLemmas.{left, derivation_handled}
+use Rattle.handlers.specs.Sound.{desk_of}
+use Rattle.handlers.proofs.DerivationLemmas.{too_large, unread_fits, unread_no_clash}
+use Rattle.handlers.proofs.StepLemmas.{derivation_at_once}
+use Rattle.handlers.proofs.HandlingLemmas.{left, derivation_handled}
 use Rattle.handlers.proofs.derivations.add_derivation.Goals as goal
 
 pub returns-then-text-gt-MOST_DERIVATION_BYTES : goal.returns-then-text-gt-MOST_DERIVATION_BYTES

@@ -11,14 +11,14 @@ use Rattle.model.specs.DerivationRequests.{told_of_derivation}
 use Rattle.model.specs.Classes.{Admission, Known, known_at, derivation_path, admit}
 use Rattle.model.specs.Worlds.{Source}
 use Rattle.events.specs.Terms.{reply_of}
-use Rattle.handling.specs.Sound.{desk_of, IsSound, Beside}
-use Rattle.handling.specs.Handling.{is_fault}
+use Rattle.handlers.specs.Sound.{desk_of, IsSound, Beside}
+use Rattle.handlers.specs.Handling.{is_fault}
 use Rattle.realise.specs.Holdings.{Holdings, holds_derivation}
-use Rattle.handling.proofs.DeskLemmas.{sound-derivation}
+use Rattle.handlers.proofs.DeskLemmas.{sound-derivation}
 use Rattle.model.specs.Limits.{most_derivations}
 use Rattle.model.specs.Replies.{is_clash_refusal}
 use Rattle.laws.proofs.DerivationRequestLemmas.{admit_refusals}
-use Rattle.handling.proofs.DerivationLemmas.{new_outcome, admitted_path, refused_fits, over_fits, added_fits}
+use Rattle.handlers.proofs.DerivationLemmas.{new_outcome, admitted_path, refused_fits, over_fits, added_fits}
 use Rattle.handlers.proofs.derivations.add_new.Goals as goal
 
 pub returns-in_err-admitted-clause-adds : goal.returns-in_err-admitted-clause-adds

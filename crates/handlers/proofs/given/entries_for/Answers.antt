@@ -1,27 +1,20 @@
 use Rattle.std.proofs.lemmas.Result.{err_from_is_err_and}
 use Rattle.trust.specs.Trusting.{trusts}
 use Rattle.handlers.proofs.ClosureLemmas.{served_at, unplanned_at, closure_if_served}
-use Rattle.handlers.proofs.StateLemmas.{few_desks, complete_desks}
 use Rattle.handlers.proofs.given.entries_for.Goals as goal
-
-pub plan_for-requires-clause-few : goal.plan_for-requires-clause-few
-plan_for-requires-clause-few c = rw c.as_slice-desks.ensures.value (few_desks c.args.state.now)
-
-pub plan_for-requires-clause-complete : goal.plan_for-requires-clause-complete
-plan_for-requires-clause-complete c = rw c.as_slice-desks.ensures.value (complete_desks c.args.state.now)
 
 pub returns-in_err-planned-clause-served : goal.returns-in_err-planned-clause-served
 returns-in_err-planned-clause-served c =
     let s = c.args.state.now in
     let p = err_from_is_err_and c.from_residual.result c.from_residual.ensures.1 in
     rw (p.1, p.2) (unplanned_at (trusts s.trust) s.table.sources s.desks.items c.args.place c.args.class.now c.in_err-planned.field-0.0
-    (rw c.as_slice-desks.ensures.value at c.in_err-planned.ensures.planned))
+    c.in_err-planned.ensures.planned)
 
 pub returns-clause-served : goal.returns-clause-served
 returns-clause-served c =
     let s = c.args.state.now in
     served_at (trusts s.trust) s.table.sources s.desks.items c.args.place c.args.class.now c.in_ok-planned.planned c.served_closure_with.result
-    (rw c.as_slice-desks.ensures.value at c.in_ok-planned.ensures.planned) c.served_closure_with.ensures.served c.served_closure_with.ensures.sound
+    c.in_ok-planned.ensures.planned c.served_closure_with.ensures.served c.served_closure_with.ensures.sound
 
 pub returns-clause-closure : goal.returns-clause-closure
 returns-clause-closure c =

@@ -1,4 +1,4 @@
-use Rattle.std.proofs.Common.{ap, inl, inr, refl}
+use Rattle.std.proofs.Common.{ap}
 use Rattle.model.specs.Events as events
 use Rattle.handlers.proofs.given.serve_plan.Goals as goal
 

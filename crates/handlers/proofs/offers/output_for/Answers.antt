@@ -1,4 +1,4 @@
-use Rattle.std.proofs.Common.{◌≡◌, List, Result, Ok, Err, rules}
+use Rattle.std.proofs.Common.{List, Result, Ok, Err, rules}
 use Rattle.std.specs.Prelude.{IfOk}
 use Rattle.model.specs.declared.refusal.Refusal.{Refusal}
 use Rattle.std.proofs.lemmas.Result.{err_from_is_err_and}

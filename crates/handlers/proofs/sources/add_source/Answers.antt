@@ -2,9 +2,9 @@ use Rattle.std.proofs.Common.{◌≡◌, refl, rules, Err}
 use Rattle.std.proofs.lemmas.Result.{err_from_is_err_and}
 use Rattle.model.specs.declared.refusal.Refusal.TheVariants.{Memory}
 use Rattle.model.specs.Events.{AddSource}
-use Rattle.handling.specs.Sound.{desk_of}
-use Rattle.handling.proofs.StepLemmas.{source_at_once}
-use Rattle.handling.proofs.HandlingLemmas.{left, source_handled}
+use Rattle.handlers.specs.Sound.{desk_of}
+use Rattle.handlers.proofs.StepLemmas.{source_at_once}
+use Rattle.handlers.proofs.HandlingLemmas.{left, source_handled}
 use Rattle.handlers.proofs.StateLemmas.{own_desk, own_desk_is, sound_desk, at_kept_desk, at_new_desk}
 use Rattle.handlers.proofs.sources.add_source.Goals as goal
 

@@ -1,4 +1,4 @@
-use Rattle.std.proofs.Common.{◌≡◌, ◌≤◌, true, false, ◌++◌, length, arith, rules, sym, ◌∙◌, ap, subst, List, ℕ}
+use Rattle.std.proofs.Common.{◌≡◌, true, false, ◌++◌, length, arith, rules, sym, ◌∙◌, ap, subst, List, ℕ}
 use Rattle.std.proofs.lemmas.Result.{err_from_is_err_and}
 use Rattle.model.specs.Worlds.{Source}
 use Rattle.store.specs.Stored.{AreNew, put_all, sources_of}

@@ -1,15 +1,13 @@
-use Rattle.std.proofs.Common.{◌≡◌, List, None, Some, Ok, Err, inl, refl, sym, ◌∙◌, ap, subst, rules, ◌⊎◌, get_or, Result}
+use Rattle.std.proofs.Common.{◌≡◌, List, None, Some, Ok, Err, inl, refl, sym, ◌∙◌, ap, subst, rules, ◌⊎◌}
 use Rattle.std.proofs.lemmas.Result.{err_from_is_err_and}
-use Rattle.model.specs.declared.refusal.Refusal.{Refusal}
 use Rattle.model.specs.declared.refusal.Refusal.TheVariants.{Memory, NotRealised}
 use Rattle.model.specs.Closures.{path_for}
 use Rattle.model.specs.Events as events
 use Rattle.model.specs.Worlds.{Entry}
 use Rattle.trust.specs.Trusting.{trusts}
 use Rattle.events.specs.Terms.{reply_of}
-use Rattle.handling.specs.States.{parts_of}
-use Rattle.handling.proofs.RunLemmas.{by_own_observation}
-use Rattle.handlers.specs.Taking.{CopiesEntries}
+use Rattle.handlers.specs.States.{parts_of}
+use Rattle.handlers.proofs.RunLemmas.{by_own_observation}
 use Rattle.handlers.proofs.StateLemmas.{by_sight}
 use Rattle.handlers.proofs.TakeLemmas.{take_unserved, take_unnamed, take_done, take_refused, copied_here, run_taken}
 use Rattle.handlers.proofs.taking.take.Goals as goal

@@ -4,10 +4,10 @@ use Rattle.trust.specs.Trusting.{trusts}
 use Rattle.trust.specs.Naming.{place_of}
 use Rattle.trust.proofs.PlaceLemmas.{name_found}
 use Rattle.events.specs.declared.reply.Reply.TheVariants.{Done}
-use Rattle.handling.specs.Parts.{parts}
-use Rattle.handling.specs.Handling.{IsHandled}
+use Rattle.handlers.specs.Parts.{parts}
+use Rattle.handlers.specs.Handling.{IsHandled}
 use Rattle.trust.proofs.UsersLemmas.{few_users}
-use Rattle.handling.proofs.TrustLemmas.{distrust_unknown, distrust_handled}
+use Rattle.handlers.proofs.TrustLemmas.{distrust_unknown, distrust_handled}
 use Rattle.handlers.proofs.trusting.remove_trust.Goals as goal
 
 pub returns-in_default-clause-handled : goal.returns-in_default-clause-handled

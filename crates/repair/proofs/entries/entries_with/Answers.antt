@@ -5,7 +5,7 @@ use Rattle.std.proofs.lemmas.List.Sorted.{answers_always}
 use Rattle.model.specs.Worlds.{Entry, OfSource, OfRecord}
 use Rattle.model.specs.Closures.{entry_before}
 use Rattle.choose.proofs.OrderLemmas.{entry_before-Weak}
-use Rattle.moving.specs.Served.{values_of}
+use Rattle.repair.specs.Served.{values_of}
 use Rattle.repair.specs.Serving.{members_with}
 use Rattle.repair.proofs.entries.entries_with.Goals as goal
 

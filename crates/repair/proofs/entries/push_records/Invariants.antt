@@ -1,6 +1,6 @@
 use Rattle.std.proofs.Common.{◌≡◌, ◌++◌, map}
 use Rattle.model.specs.Worlds.{OfRecord}
-use Rattle.moving.specs.Served.{values_of}
+use Rattle.repair.specs.Served.{values_of}
 use Rattle.repair.proofs.entries.push_records.Given as goal
 
 abbrev pub invariant-loop-realisation : goal.invariant-loop-realisation

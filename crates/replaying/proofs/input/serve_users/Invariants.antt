@@ -2,7 +2,7 @@ use Rattle.schedule.specs.Standing.{setup_of}
 use Rattle.replaying.proofs.input.serve_users.Given as goal
 
 abbrev pub ghosts-serve_core-J-Ledger : goal.ghosts-serve_core-J-Ledger
-ghosts-serve_core-J-Ledger g a = record { name = a.blank.calls.name; parts = a.blank.calls.parts }
+ghosts-serve_core-J-Ledger g a = record { name = a.new.blank.calls.name; parts = a.new.blank.calls.parts }
 
 abbrev pub ghosts-serve_core-J-FrontId : goal.ghosts-serve_core-J-FrontId
-ghosts-serve_core-J-FrontId g a = record { stops = a.blank.stops.name; setup = setup_of a.core; table = a.blank.log.table.shared.table_id; book = a.blank.rows.seen.book }
+ghosts-serve_core-J-FrontId g a = record { stops = a.new.blank.stops.name; setup = setup_of a.new.core; table = a.new.blank.log.table.shared.table_id; book = a.new.blank.rows.seen.book }

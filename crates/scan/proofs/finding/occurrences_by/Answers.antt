@@ -1,8 +1,8 @@
-use Rattle.std.proofs.Common.{◌≡◌, ◌+◌, ◌-◌, ◌<◌, ◌≤◌, ◌||◌, ℕ, List, [], ◌∷◌, ◌++◌, length, drop, Bool, true, false, ap, sym, ◌∙◌, refl, arith, Option, Some, None, append-nil}
+use Rattle.std.proofs.Common.{◌≡◌, ◌+◌, ◌-◌, ◌≤◌, ◌||◌, ℕ, List, [], ◌∷◌, ◌++◌, length, drop, Bool, true, false, ap, sym, ◌∙◌, refl, arith, Option, Some, append-nil}
 use Rattle.std.specs.List.{list_any}
 use Rattle.std.specs.Option.{option_map}
 use Rattle.std.proofs.Math.ListN.{drop_of_length-le}
-use Rattle.model.specs.Occurrences.{Keys, Piece, Place, name_holds, pieces, joined, occurrences, places_of_pieces, piece_text, crowded, has_places, places_in}
+use Rattle.model.specs.Occurrences.{Keys, Piece, name_holds, pieces, joined, occurrences, places_of_pieces, piece_text, crowded, has_places, places_in}
 use Rattle.scan.specs.Pieces.{Part, part_in}
 use Rattle.scan.proofs.PieceLemmas.{joined-pieces, tree_are_pieces}
 use Rattle.scan.proofs.NameLemmas.{Fronts, none_left, first_read, length-joined, drop-next, ArePieces-drop}

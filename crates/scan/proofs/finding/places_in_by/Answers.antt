@@ -1,5 +1,5 @@
-use Rattle.std.proofs.Common.{◌≡◌, ◌++◌, ℕ, List, map, refl, ap, sym, ◌∙◌, false}
-use Rattle.model.specs.Occurrences.{Place, places_in, crowded}
+use Rattle.std.proofs.Common.{◌≡◌, ◌++◌, ap, sym, ◌∙◌}
+use Rattle.model.specs.Occurrences.{places_in, crowded}
 use Rattle.scan.specs.Searching.{moved}
 use Rattle.scan.proofs.CrowdLemmas.{moved-none}
 use Rattle.scan.proofs.finding.places_in_by.Goals as goal

@@ -1,29 +1,18 @@
-use Rattle.std.proofs.Common.{◌≡◌, ◌≤◌, List, get_or, sym, subst, Result}
+use Rattle.std.proofs.Common.{◌≡◌, List, get_or, sym, subst, Result}
 use Rattle.std.proofs.lemmas.List.{set-get_or}
 use Rattle.trust.specs.Trusting.{trusts}
 use Rattle.realise.specs.Holdings.{Holdings}
-use Rattle.trust.proofs.UsersLemmas.{few_users}
-use Rattle.handling.specs.Viewing.{bare, desk_at}
-use Rattle.handling.specs.Handling.{IsHandled, IsHandledByDesk}
-use Rattle.handling.specs.States.{parts_of}
-use Rattle.handling.proofs.RunLemmas.{by_own_desk, by_observation_of}
+use Rattle.handlers.specs.Viewing.{bare, desk_at}
+use Rattle.handlers.specs.Handling.{IsHandled, IsHandledByDesk}
+use Rattle.handlers.specs.States.{parts_of}
+use Rattle.handlers.proofs.RunLemmas.{by_own_desk, by_observation_of}
 use Rattle.model.specs.declared.refusal.Refusal.{Refusal}
 use Rattle.model.specs.Events.{Event}
 use Rattle.events.specs.declared.reply.Reply.{Reply}
 use Rattle.events.specs.Terms.{request_of}
-use Rattle.handlers.proofs.ClosureLemmas.{all_complete, handled_of_plan}
+use Rattle.handlers.proofs.ClosureLemmas.{handled_of_plan}
 use Rattle.schedule.specs.Queries.{request_in}
 use Rattle.schedule.proofs.reads.find_at.Goals as goal
-
-pub plan_for-requires-clause-few : goal.plan_for-requires-clause-few
-plan_for-requires-clause-few c =
-    let state = c.args.state.now in
-    rw c.as_slice-desks.ensures.value (subst (λ n. n ≤ 64) (sym state.run.paired) (few_users state.users state.run.listed))
-
-pub plan_for-requires-clause-complete : goal.plan_for-requires-clause-complete
-plan_for-requires-clause-complete c =
-    let state = c.args.state.now in
-    rw c.as_slice-desks.ensures.value (all_complete state.table.sources state.limits.charge state.desks.items state.run.sound)
 
 pub returns-in-Status : goal.returns-in-Status
 returns-in-Status c given gives actor found =
@@ -39,15 +28,15 @@ returns-in-Closure c given gives =
     (sym (set-get_or state.desks.items place bare))
     (rw c.in-Closure.is
     (handled_of_plan (trusts state.trust) state.limits.charge state.table.sources state.desks.items place _ c.plan_for.result given
-    (rw c.as_slice-desks.ensures.value at c.plan_for.ensures.planned) (c.planned.ensures given gives)))
+    c.plan_for.ensures.planned (c.planned.ensures given gives)))
 
 pub returns-in-Fetch : goal.returns-in-Fetch
 returns-in-Fetch c given gives actor found =
     let state = c.args.state.now in
     let parts = parts_of state in
     let event : Event = record { actor = actor; request = request_of (request_in c.args.question.now) } in
-    let d : Holdings = c.index-desks-place.result in
-    let here : d ≡ get_or state.desks.items c.args.place d = rw c.as_slice-desks.ensures.value at c.index-desks-place.is in
+    let d : Holdings = c.index.result.now in
+    let here : d ≡ get_or state.desks.items c.args.place d = c.index.ensures in
     subst (λ (o : Result Reply Refusal). IsHandled parts event o parts) (sym (c.told-in-Fetch.ensures given gives))
     (subst (λ (ds : List Holdings). IsHandled parts event c.fetch.result (record parts { desks = ds })) (set-get_or state.desks.items c.args.place d)
     (by_own_desk parts c.args.place d event.request c.fetch.result (get_or state.desks.items c.args.place d) state.run here

@@ -8,33 +8,39 @@ use Rattle.session.proofs.serving.end_line.Goals as goal
 
 pub returns-in_err-reading-clause-err : goal.returns-in_err-reading-clause-err
 returns-in_err-reading-clause-err g c = err-is _ _ _ c.from_residual.ensures.1 (λ more mode first blank input p.
-    early-here (Link g.A.Answer.answers g.A.Answer.waited) first blank c.args.answer.now (g.W.Write.contents c.args.writer.now) input c.args.session.now c.args.held.now.items
+    early-here (Link g.A.Answer.answers g.A.Answer.waited) first blank c.args.answer.now
+    (g.W.Write.contents c.args.writer.now) input c.args.ongoing.now.session.now c.args.ongoing.now.held.items
     (10 ∷ more) _ (by_memory _ c.in_err-reading.ensures.memory) p)
 
 pub returns-in_err-text-clause-err : goal.returns-in_err-text-clause-err
 returns-in_err-text-clause-err g c = err-is _ _ _ c.from_residual-in_err-text.ensures.1 (λ more mode first blank input p.
     early-memory (Link g.A.Answer.answers g.A.Answer.waited) first blank c.args.answer.now c.answer.new.answer
-    (g.W.Write.contents c.args.writer.now) input c.args.session.now c.args.held.now.items c.as_slice.result.now more _
+    (g.W.Write.contents c.args.writer.now) input c.args.ongoing.now.session.now c.args.ongoing.now.held.items c.as_slice.result.now more _
     (by_memory _ c.in_err-text.ensures.memory) c.as_slice.ensures.value p
-    (part-gets (Link g.A.Answer.answers g.A.Answer.waited) c.args.session.now c.as_slice.result.now c.in_ok-reading.reading c.args.answer.now c.answer.new.answer
+    (part-gets (Link g.A.Answer.answers g.A.Answer.waited) c.args.ongoing.now.session.now
+    c.as_slice.result.now c.in_ok-reading.reading c.args.answer.now c.answer.new.answer
     c.in_ok-reading.ensures.read c.in_err-text.ensures.err))
 
 pub returns-in_err-write_whole-clause-err : goal.returns-in_err-write_whole-clause-err
 returns-in_err-write_whole-clause-err g c = err-is _ _ _ c.from_residual-in_err-write_whole.ensures.1 (λ more mode first blank input p.
     early-write (Link g.A.Answer.answers g.A.Answer.waited) first blank c.args.answer.now c.answer.new.answer (g.W.Write.contents c.args.writer.now)
-    (g.W.Write.contents c.write_whole.new.writer) input c.args.session.now c.answer.new.self c.args.held.now.items c.as_slice.result.now
+    (g.W.Write.contents c.write_whole.new.writer) input c.args.ongoing.now.session.now
+    c.answer.new.self c.args.ongoing.now.held.items c.as_slice.result.now
     c.in_ok-text.text.items c.as_slice-2.result.now more _
     (by_output _ c.in_err-write_whole.ensures.errors) c.as_slice.ensures.value c.as_slice-2.ensures.value
-    (line-gives (Link g.A.Answer.answers g.A.Answer.waited) c.args.session.now c.as_slice.result.now c.in_ok-reading.reading c.args.answer.now c.answer.new.self
+    (line-gives (Link g.A.Answer.answers g.A.Answer.waited) c.args.ongoing.now.session.now
+    c.as_slice.result.now c.in_ok-reading.reading c.args.answer.now c.answer.new.self
     c.answer.new.answer c.in_ok-text.text.items c.in_ok-reading.ensures.read c.in_ok-text.ensures.ok)
     p c.in_err-write_whole.ensures.err)
 
 pub returns-then-is_refused-clause-err : goal.returns-then-is_refused-clause-err
 returns-then-is_refused-clause-err g c = λ more mode first blank input p.
     early-refused (Link g.A.Answer.answers g.A.Answer.waited) first blank c.args.answer.now c.answer.new.answer (g.W.Write.contents c.args.writer.now)
-    (g.W.Write.contents c.write_whole.new.writer) input c.args.session.now c.answer.new.self c.args.held.now.items c.as_slice.result.now
+    (g.W.Write.contents c.write_whole.new.writer) input c.args.ongoing.now.session.now
+    c.answer.new.self c.args.ongoing.now.held.items c.as_slice.result.now
     c.in_ok-text.text.items c.as_slice-2.result.now more _ c.as_slice.ensures.value c.as_slice-2.ensures.value
-    (line-gives (Link g.A.Answer.answers g.A.Answer.waited) c.args.session.now c.as_slice.result.now c.in_ok-reading.reading c.args.answer.now c.answer.new.self
+    (line-gives (Link g.A.Answer.answers g.A.Answer.waited) c.args.ongoing.now.session.now
+    c.as_slice.result.now c.in_ok-reading.reading c.args.answer.now c.answer.new.self
     c.answer.new.answer c.in_ok-text.text.items c.in_ok-reading.ensures.read c.in_ok-text.ensures.ok)
     p c.in_ok-write_whole.ensures.ok (sym c.is_refused.ensures ∙ c.if-is_refused.true) refl
 
@@ -43,9 +49,11 @@ returns-clause-ok g c = λ mode first blank input p.
     subst (λ t. Progress mode (Link g.A.Answer.answers g.A.Answer.waited) first c.answer.new.answer blank (g.W.Write.contents c.write_whole.new.writer)
     (input ++ 10 ∷ []) c.answer.new.self t) (sym c.new.ensures.items)
     (progress-write (Link g.A.Answer.answers g.A.Answer.waited) first blank c.args.answer.now c.answer.new.answer (g.W.Write.contents c.args.writer.now)
-    (g.W.Write.contents c.write_whole.new.writer) input c.args.session.now c.answer.new.self c.args.held.now.items c.as_slice.result.now
+    (g.W.Write.contents c.write_whole.new.writer) input c.args.ongoing.now.session.now
+    c.answer.new.self c.args.ongoing.now.held.items c.as_slice.result.now
     c.in_ok-text.text.items c.as_slice-2.result.now c.as_slice.ensures.value c.as_slice-2.ensures.value
-    (line-gives (Link g.A.Answer.answers g.A.Answer.waited) c.args.session.now c.as_slice.result.now c.in_ok-reading.reading c.args.answer.now c.answer.new.self
+    (line-gives (Link g.A.Answer.answers g.A.Answer.waited) c.args.ongoing.now.session.now
+    c.as_slice.result.now c.in_ok-reading.reading c.args.answer.now c.answer.new.self
     c.answer.new.answer c.in_ok-text.text.items c.in_ok-reading.ensures.read c.in_ok-text.ensures.ok)
     p c.in_ok-write_whole.ensures.ok (sym c.is_refused.ensures ∙ c.if-is_refused.false))
 

@@ -15,11 +15,12 @@ returns-in_err-feed-clause-err g c =
       consumes-none _,
       λ mode first blank input p. early-weakened _ _ _ _ _ _ _ _ _ (λ b. absurd b)
           (subst (λ t. EndedEarly mode (Link g.A.Answer.answers g.A.Answer.waited) first c.feed.new.answer blank (g.W.Write.contents c.feed.new.writer) (input ++ t) ⊥ c.in_err-feed.field-0.0)
-          (sym (append-nil c.args.bytes.now)) (c.in_err-feed.ensures.err mode first blank input p)),
+          (sym (append-nil c.args.before.now.bytes.now)) (c.in_err-feed.ensures.err mode first blank input p)),
     )
 
 pub loop-init : goal.loop-init
-loop-init g c = ([], consumes-none _, goes-nowhere (Link g.A.Answer.answers g.A.Answer.waited) _ _ _ _ _ _ _ _ c.args.bytes.now c.in_ok-feed.ensures.ok)
+loop-init g c =
+    ([], consumes-none _, goes-nowhere (Link g.A.Answer.answers g.A.Answer.waited) _ _ _ _ _ _ _ _ c.args.before.now.bytes.now c.in_ok-feed.ensures.ok)
 
 pub returns-in_err-n-clause-err : goal.returns-in_err-n-clause-err
 returns-in_err-n-clause-err g c =
@@ -31,8 +32,8 @@ returns-in_err-n-clause-err g c =
       consumes-end _ _ _ i.0 [] 0 refl i.1 c.in_err-n.ensures.err,
       λ mode first blank input p. early-weakened _ _ _ _ _ _ _ _ _ (λ b. absurd b)
           (subst (λ t. EndedEarly mode L first c.loop.answer blank (g.W.Write.contents c.read_more.new.writer) t ⊥ c.in_err-n.field-0.0)
-          (append-nil (input ++ (c.args.bytes.now ++ i.0)))
-          (early-here L first blank _ _ (input ++ (c.args.bytes.now ++ i.0)) _ _ [] c.in_err-n.field-0.0
+          (append-nil (input ++ (c.args.before.now.bytes.now ++ i.0)))
+          (early-here L first blank _ _ (input ++ (c.args.before.now.bytes.now ++ i.0)) _ _ [] c.in_err-n.field-0.0
           (more_not_users _ _ _ _ _ c.in_err-n.ensures.fault) (shown mode first blank input p))),
     )
 
@@ -52,7 +53,7 @@ returns-in_err-finish-clause-err g c =
       i.0,
       consumes-end _ _ _ i.0 _ c.in-Some.n c.if-n-eq0.true i.1 s.1,
       λ mode first blank input p. early-weakened _ _ _ _ _ _ _ _ _ (λ t. s.2 c.if-n-eq0.true)
-          (c.in_err-finish.ensures.err mode first blank (input ++ (c.args.bytes.now ++ i.0)) (shown mode first blank input p)),
+          (c.in_err-finish.ensures.err mode first blank (input ++ (c.args.before.now.bytes.now ++ i.0)) (shown mode first blank input p)),
     )
 
 pub returns-then-n-eq0-clause-ok : goal.returns-then-n-eq0-clause-ok
@@ -63,7 +64,8 @@ returns-then-n-eq0-clause-ok g c =
       i.0,
       consumes-end _ _ _ i.0 _ c.in-Some.n c.if-n-eq0.true i.1 s.1,
       s.2 c.if-n-eq0.true,
-      λ mode first blank input p. c.in_ok-finish.ensures.ok mode first blank (input ++ (c.args.bytes.now ++ i.0)) (shown mode first blank input p),
+      λ mode first blank input p. c.in_ok-finish.ensures.ok mode first blank
+          (input ++ (c.args.before.now.bytes.now ++ i.0)) (shown mode first blank input p),
     )
 
 pub returns-in_err-feed-2-clause-err : goal.returns-in_err-feed-2-clause-err
@@ -75,7 +77,8 @@ returns-in_err-feed-2-clause-err g c =
     err-is _ _ _ c.from_residual-in_err-feed-2.ensures.1 (
       i.0 ++ piece,
       consumes-more _ _ _ i.0 piece i.1 (rw c.split_at.ensures.front s.1),
-      ends-further (Link g.A.Answer.answers g.A.Answer.waited) _ _ _ _ _ _ _ _ _ _ c.args.bytes.now i.0 piece _ _ shown c.in_err-feed-2.ensures.err,
+      ends-further (Link g.A.Answer.answers g.A.Answer.waited) _ _ _ _ _ _ _ _ _ _
+          c.args.before.now.bytes.now i.0 piece _ _ shown c.in_err-feed-2.ensures.err,
     )
 
 pub loop-preserved-in_default : goal.loop-preserved-in_default
@@ -93,7 +96,8 @@ loop-preserved g c =
     let piece = c.split_at.result.0.now in (
       i.0 ++ piece,
       consumes-more _ _ _ i.0 piece i.1 (rw c.split_at.ensures.front s.1),
-      goes-further (Link g.A.Answer.answers g.A.Answer.waited) _ _ _ _ _ _ _ _ _ _ _ _ c.args.bytes.now i.0 piece shown c.in_ok-feed-2.ensures.ok,
+      goes-further (Link g.A.Answer.answers g.A.Answer.waited) _ _ _ _ _ _ _ _ _ _ _ _
+          c.args.before.now.bytes.now i.0 piece shown c.in_ok-feed-2.ensures.ok,
     )
 
 pub returns-clause-err : goal.returns-clause-err
@@ -104,8 +108,8 @@ returns-clause-err g c =
       i.1,
       λ mode first blank input p. early-weakened _ _ _ _ _ _ _ _ _ (λ b. absurd b)
           (subst (λ t. EndedEarly mode L first c.loop.answer blank (g.W.Write.contents c.loop.writer) t ⊥ Memory)
-          (append-nil (input ++ (c.args.bytes.now ++ i.0)))
-          (early-here L first blank _ _ (input ++ (c.args.bytes.now ++ i.0)) _ _ [] _ (by_memory _ refl) (i.2 mode first blank input p))),
+          (append-nil (input ++ (c.args.before.now.bytes.now ++ i.0)))
+          (early-here L first blank _ _ (input ++ (c.args.before.now.bytes.now ++ i.0)) _ _ [] _ (by_memory _ refl) (i.2 mode first blank input p))),
     )
 
 -- ---- which errors there are, and the faults that they come of

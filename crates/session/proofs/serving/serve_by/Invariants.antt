@@ -7,4 +7,4 @@ use Rattle.session.proofs.serving.serve_by.Given as goal
 abbrev pub invariant-loop : goal.invariant-loop
 invariant-loop g l = (input : List ℕ) × Consumes (g.R.Read.remaining l.fn.reader) (g.R.Read.remaining l.reader) input
     × GoesOn (Link g.A.Answer.answers g.A.Answer.waited) l.fn.answer l.answer (g.W.Write.contents l.fn.writer) (g.W.Write.contents l.writer)
-    l.fn.session l.session l.fn.held.items l.held.items (l.bytes ++ input)
+    l.fn.ongoing.session.now l.ongoing.session.now l.fn.ongoing.held.items l.ongoing.held.items (l.before.bytes.now ++ input)

@@ -1,20 +1,15 @@
-use Rattle.std.proofs.Common.{ℕ, ◌-◌, get_or, refl, arith, ◌∙◌, append-nil}
-use Rattle.std.proofs.lemmas.List.{length-set}
+use Rattle.std.proofs.Common.{rules, ℕ, ◌-◌, ◌/◌, ◌%◌, ◌^◌, get_or, arith, sym, ◌∙◌}
+use Rattle.std.proofs.lemmas.List.{ext_get_or}
 use Rattle.model.specs.Paths.{base32, digits_32, number_of}
-use Rattle.storepath.proofs.DigitLemmas.{written_digit, written_digits}
+use Rattle.hashmod.proofs.ArrayLemmas.{made_at}
+use Rattle.storepath.proofs.DigitLemmas.{get_or-digits_of}
+use Rattle.storepath.proofs.PathLemmas.{length-base32}
 use Rattle.storepath.proofs.base32.to_base32.Goals as goal
 
-pub loop-place-init : goal.loop-place-init
-loop-place-init c = record { written = append-nil (base32 c.args.bytes.now); long = refl }
-
-pub loop-place-preserved : goal.loop-place-preserved
-loop-place-preserved c =
-    let p : ℕ = c.loop-place.place - 1 in
-    let long = c.loop-place.invariant.long in
-    record {
-      written = written_digit c.loop-place.text (base32 c.args.bytes.now) p c.loop-place.place (number_of c.divide.new.number) (number_of c.loop-place.number) c.divide.result (get_or digits_32 c.divide.result 0) (omega arith) (omega arith) c.divide.ensures.divided c.divide.ensures.remainder refl c.loop-place.invariant.written;
-      long = length-set c.loop-place.text p _ ∙ long;
-    }
-
 pub returns : goal.returns
-returns c = written_digits c.loop-place.text (base32 c.args.bytes.now) c.loop-place.place (number_of c.loop-place.number) (omega arith) c.loop-place.invariant.written
+returns c =
+    let bytes = c.args.bytes.now in
+    let digit = λ (i : ℕ). get_or digits_32 (number_of bytes / 32 ^ (31 - i) % 32) 0 in
+    let made = made_at _ digit _ (λ i r q k. search rules) c.from_fn.result 0 32 c.from_fn.ensures.items.each in
+    ext_get_or 0 c.from_fn.result (base32 bytes) (c.from_fn.ensures.items.long ∙ sym (length-base32 bytes))
+    (λ k h. made k 0 (omega arith) (omega arith) ∙ sym (get_or-digits_of 32 (number_of bytes) k (31 - k) (omega arith)))

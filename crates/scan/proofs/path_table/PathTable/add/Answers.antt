@@ -1,11 +1,10 @@
-use Rattle.std.proofs.Common.{◌≡◌, ◌++◌, ◌∷◌, [], ℕ, List, ◌<◌, ap, sym, ◌∙◌, subst, false}
+use Rattle.std.proofs.Common.{◌≡◌, ◌++◌, ◌∷◌, [], ℕ, List, ap, sym, ◌∙◌, subst, false}
 use Rattle.model.specs.Classes.{is_one_of}
 use Rattle.model.specs.Occurrences.{IsHashPart}
 use Rattle.std.specs.Prelude.{bytes_eq}
 use Rattle.indexmap.specs.IndexSet.{insert_key}
-use Rattle.scan.specs.Searching.{slot_of}
 use Rattle.scan.specs.PathSets.{HasOneMore}
-use Rattle.scan.proofs.PathSetLemmas.{added, table_more, table_same}
+use Rattle.scan.proofs.PathSetLemmas.{added, table_more}
 use Rattle.scan.proofs.path_table.PathTable.add.Goals as goal
 
 keys : (c : goal.After-unwrap-is_new) → c.insert.new.self.keys ≡ c.self.inside.paths.keys ++ c.args.path ∷ []
@@ -19,14 +18,12 @@ pub invariant_of-self-2 : goal.invariant_of-self-2
 invariant_of-self-2 c =
     let digits : List ℕ = c.digits_of-digits.result.now in
     let part = c.digits_of-digits.ensures.value ∙ c.hash_part-part.ensures.value in
-    let slot : c.slot_of.result ≡ slot_of digits = c.slot_of.ensures.slot in
-    let below : slot_of digits < 65536 = rw (sym slot) c.slot_of.ensures.below in
     let copied : c.in_ok-copy.copy ≡ c.args.path = c.in_ok-copy.ensures.cases in
     let more = subst (λ path. HasOneMore digits path c.self.inside.groups.entries c.put_in_group.new.groups.entries) copied c.in_default.ensures in
-    rw (keys c, slot, c.in_ok-push_text.ensures) (table_more c.self.inside.paths.keys c.self.inside.groups.entries c.put_in_group.new.groups.entries
-    c.self.inside.slots.items c.self.inside.texts.items digits c.args.path
+    rw (keys c, c.in_ok-push_text.ensures) (table_more c.self.inside.paths.keys c.self.inside.groups.entries c.put_in_group.new.groups.entries
+    c.self.inside.slots c.mark.new.self c.self.inside.texts.items digits c.args.path
     c.self.invariant c.hash_part-part.ensures.part.0 (subst IsHashPart (sym c.digits_of-digits.ensures.value) c.digits_of-digits.ensures.digits) part
-    below more)
+    c.mark.ensures more)
 
 pub returns : goal.returns
 returns c = keys c ∙ ap (λ ks. ks ++ c.args.path ∷ []) c.self.view_is

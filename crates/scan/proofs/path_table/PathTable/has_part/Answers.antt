@@ -5,8 +5,8 @@ use Rattle.scan.specs.PathSets.{with_part}
 use Rattle.scan.proofs.PathSetLemmas.{are_keys, part_is_there}
 use Rattle.scan.proofs.path_table.PathTable.has_part.Goals as goal
 
-pub returns-then-not-index-clause-keys : goal.returns-then-not-index-clause-keys
-returns-then-not-index-clause-keys c = rw (← c.self.view_is) (are_keys c.self.inside.paths.keys c.self.invariant.parts_are)
+pub returns-then-not-are_marked-clause-keys : goal.returns-then-not-are_marked-clause-keys
+returns-then-not-are_marked-clause-keys c = rw (← c.self.view_is) (are_keys c.self.inside.paths.keys c.self.invariant.parts_are)
 
 pub returns-in-Some-clause-value : goal.returns-in-Some-clause-value
 returns-in-Some-clause-value c =

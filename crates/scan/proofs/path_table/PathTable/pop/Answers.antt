@@ -22,6 +22,6 @@ invariant_of-self c =
     let count : c.len.result - length c.bytes.result.now - 1 ≡ length texts - length c.in-Some.last.now - 1 = omega (arith, long, text) in
     c.truncate.ensures.items ∙ ap (λ n. take n texts) count) in
     rw (c.truncate-2.ensures.keys ∙ ap (λ n. take (n - 1) keys) c.len-2.ensures.len, kept)
-    (table_less keys c.self.inside.groups.entries c.take_from_group.new.groups.entries c.self.inside.slots.items c.self.inside.texts.items digits
+    (table_less keys c.self.inside.groups.entries c.take_from_group.new.groups.entries c.self.inside.slots c.self.inside.texts.items digits
     c.in-Some.last.now c.self.invariant
     (sym c.in-Some.ensures.key) (c.in-Some.ensures.found.0 refl) (c.digits_of.ensures.value ∙ c.hash_part-part.ensures.value) c.take_from_group.ensures)

@@ -1,4 +1,4 @@
-use Rattle.std.proofs.Common.{◌≡◌, ℕ, List, [], ap, sym, ◌∙◌}
+use Rattle.std.proofs.Common.{ℕ, List, [], ap, ◌∙◌}
 use Rattle.std.specs.Prelude.{unwrap_or, Option}
 use Rattle.scan.specs.PathSets.{with_part}
 use Rattle.scan.proofs.path_table.PathTable.with_part.Goals as goal

@@ -1,12 +1,12 @@
 use Rattle.std.proofs.Common.{sym, ◌∙◌, subst, Result}
 use Rattle.model.specs.declared.refusal.Refusal.{Refusal}
 use Rattle.events.specs.declared.reply.Reply.{Reply}
-use Rattle.handling.specs.Handling.{IsHandled}
+use Rattle.handlers.specs.Handling.{IsHandled}
 use Rattle.events.specs.Terms.{event_of}
 use Rattle.schedule.specs.Queries.{event_for}
 use Rattle.schedule.specs.Standing.{parts_of}
-use Rattle.handling.proofs.HandlingLemmas.{stranger}
-use Rattle.handling.proofs.WorldLemmas.{place_below}
+use Rattle.handlers.proofs.HandlingLemmas.{stranger}
+use Rattle.handlers.proofs.WorldLemmas.{place_below}
 use Rattle.schedule.proofs.state.Core.find.Goals as goal
 
 pub find_at-requires : goal.find_at-requires

@@ -10,9 +10,10 @@ use Rattle.outputs.specs.declared.settlement.Settlement.{Settlement}
 use Rattle.outputs.specs.declared.settlements.Settlements.{Settlements}
 use Rattle.handlers.specs.Offering.{HasOffered}
 use Rattle.endings.specs.Preparing.{HasLedOutput, HasNeededFor}
+use Rattle.handlers.proofs.StateLemmas.{has_desk}
 use Rattle.endings.proofs.MadeLemmas.{at_place}
-use Rattle.handling.specs.Parts.{goals_of}
-use Rattle.handling.specs.Viewing.{desk_at}
+use Rattle.handlers.specs.Parts.{goals_of}
+use Rattle.handlers.specs.Viewing.{desk_at}
 use Rattle.schedule.specs.Standing.{world_of}
 use Rattle.schedule.specs.Preparing.{HasInput, HasOutcome}
 use Rattle.schedule.proofs.PreparingLemmas.{offered_by, ended_by}
@@ -25,10 +26,8 @@ returns-in-Offer-clause-needed c user found =
     let place = c.args.place in
     let path = c.in-Offer.path in
     let result = c.input_for_offer.result in
-    let below : place < length c.as_slice-desks.result.now = search rules in
-    let desk : c.index-desks-place.result ≡ desk_at core.state.desks.items place =
-    at_place c.as_slice-desks.result.now place c.index-desks-place.result below c.index-desks-place.is
-    ∙ ap (λ ds. desk_at ds place) c.as_slice-desks.ensures.value in
+    let desk : c.index.result.now ≡ desk_at core.state.desks.items place =
+    at_place core.state.desks.items place c.index.result.now (has_desk core.state place c.requires.of_run) c.index.ensures in
     let his = subst (λ (d : Holdings). IfOk result (λ input. (t : Tree) (settled : List Settlement) → HasNeeded settled input t → HasOffered d path t settled))
     desk c.input_for_offer.ensures.needed in
     subst (λ r. IfOk result (λ input. (made : Settlements) → HasInput r input made → HasOutcome (world_of core user) user r made)) (ap request_of (sym c.in-Offer.is))
@@ -42,13 +41,6 @@ returns-in-Finish-clause-needed c user found =
     let place = c.args.place in
     let n = c.in-Finish.number in
     let result = c.input_for_finish.result in
-    let goals = goals_of core.state.jobs.goals place in
-    let led = subst (λ ds. IfOk result (λ input. (bytes : List ℕ) (settled : List Settlement) → HasNeededFor bytes settled input
-    → HasLedOutput (desk_at ds place) (record { leader = name_at c.as_slice.result.now place; number = n }) goals bytes settled))
-    c.as_slice-desks.ensures.value c.input_for_finish.ensures.needed in
-    let his = subst (λ us. IfOk result (λ input. (bytes : List ℕ) (settled : List Settlement) → HasNeededFor bytes settled input
-    → HasLedOutput (desk_at core.state.desks.items place) (record { leader = name_at us place; number = n }) goals bytes settled))
-    c.as_slice.ensures.value led in
     subst (λ r. IfOk result (λ input. (made : Settlements) → HasInput r input made → HasOutcome (world_of core user) user r made)) (ap request_of (sym c.in-Finish.is))
     (ended_by core.state.users core.state.limits.charge (trusts core.state.trust) core.state.jobs.goals core.state.table.sources core.state.desks.items user place
-    core.state.run.listed found core.state.run.paired core.state.run.within result n _ his)
+    core.state.run.listed found core.state.run.paired core.state.run.within result n _ c.input_for_finish.ensures.needed)

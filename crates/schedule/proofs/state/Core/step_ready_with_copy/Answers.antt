@@ -1,8 +1,8 @@
 use Rattle.trust.specs.Trusting.{trusts}
 use Rattle.schedule.specs.Standing.{world_of, setup_of, stored_in}
 use Rattle.events.specs.Terms.{event_of}
-use Rattle.handling.specs.Parts.{beside_at}
-use Rattle.handling.proofs.WorldLemmas.{among_stored}
+use Rattle.handlers.specs.Parts.{beside_at}
+use Rattle.handlers.proofs.WorldLemmas.{among_stored}
 use Rattle.schedule.proofs.StepLemmas.{served_step, refused_step, keeps_stored}
 use Rattle.schedule.proofs.state.Core.step_ready_with_copy.Goals as goal
 

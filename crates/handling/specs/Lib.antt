@@ -1,9 +1,0 @@
-pub mod Supported
-pub mod Sound
-pub mod Parts
-pub mod Viewing
-pub mod Given
-pub mod Stored
-pub mod Handling
-pub mod Runs
-pub mod States

@@ -1,6 +1,0 @@
-use Rattle.std.proofs.Common.{◌≡◌, take}
-use Rattle.moving.specs.AtHand.{paths_of_key}
-use Rattle.moving.proofs.cache.key_of.Given as goal
-
-abbrev pub invariant-loop-one : goal.invariant-loop-one
-invariant-loop-one l = l.key.items ≡ paths_of_key l.chosen (take l.one-index l.moves)

@@ -1,0 +1,50 @@
+use Rattle.std.proofs.Common.{inl, inr, ◌∙◌, ap, sym, subst, All, arith, Ok}
+use Rattle.std.proofs.lemmas.Result.{err_from_is_err_and}
+use Rattle.std.proofs.lemmas.List.{take_all}
+use Rattle.std.proofs.lemmas.List.Elements.{All-nil}
+use Rattle.model.specs.Paths.{IsPath}
+use Rattle.model.specs.Worlds.{Label}
+use Rattle.model.specs.References.{paths_of_labels}
+use Rattle.model.specs.Repairs.{move_of, moves_of}
+use Rattle.repair.specs.Served.{served_in}
+use Rattle.repair.proofs.TurnLemmas.{each_none, each_step, each_stop}
+use Rattle.repair.proofs.MovingLemmas.{paths_step}
+use Rattle.repair.proofs.moves.moves_of.Goals as goal
+
+pub loop-label-init : goal.loop-label-init
+loop-label-init c = record {
+  moves = each_none (λ l. move_of (served_in c.args.served.now.entries c.args.rank) l l.class) c.new-moves.result.items c.new-moves.ensures.items;
+  sound = All-nil IsPath;
+}
+
+pub returns-in_err-path-clause-moves : goal.returns-in_err-path-clause-moves
+returns-in_err-path-clause-moves c =
+    let p = err_from_is_err_and c.from_residual.result c.from_residual.ensures.1 in
+    rw (p.1, p.2) (elim c.in_err-path.ensures [
+      | inl m ↦ inl m
+      | inr e ↦ inr (each_stop (λ l. move_of (served_in c.args.served.now.entries c.args.rank) l l.class) c.args.labels.now c.loop-label.label-index c.label-item.result
+          c.loop-label.moves.items c.in_err-path.field-0.0 c.loop-label-test.true c.label-item.is c.loop-label.invariant.moves e)
+    ])
+
+pub loop-label-preserved : goal.loop-label-preserved
+loop-label-preserved c =
+    let l = c.label-item.result in
+    let path = c.in_ok-path.path in
+    record {
+      moves =
+          each_step (λ m. move_of (served_in c.args.served.now.entries c.args.rank) m m.class) c.args.labels.now c.loop-label.label-index l
+          c.loop-label.moves.items c.push.new.self.items (record { label = c.in_ok-label.label; path = path })
+          c.loop-label-test.true c.label-item.is c.loop-label.invariant.moves
+          (c.in_ok-path.ensures ∙ ap (λ (m : Label). Ok (record { label = m; path = path })) (sym c.in_ok-label.ensures.cases)) c.in_ok-push.ensures.items;
+      sound = paths_step c.args.labels.now c.loop-label.label-index l c.loop-label-test.true c.label-item.is c.loop-label.invariant.sound
+          (subst IsPath c.path.ensures c.hash_part-part.ensures.part.0);
+    }
+
+pub returns-clause-moves : goal.returns-clause-moves
+returns-clause-moves c =
+    ap (moves_of (served_in c.args.served.now.entries c.args.rank)) (sym (take_all c.loop-label.label-index c.args.labels.now (omega arith)))
+    ∙ c.loop-label.invariant.moves
+
+pub returns-clause-sound : goal.returns-clause-sound
+returns-clause-sound c =
+    subst (λ ls. All IsPath (paths_of_labels ls)) (take_all c.loop-label.label-index c.args.labels.now (omega arith)) c.loop-label.invariant.sound

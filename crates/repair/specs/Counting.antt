@@ -1,0 +1,42 @@
+-- What a cache counts.
+use Rattle.std.specs.Prelude.{◌≡◌, ◌⊎◌, ◌≤◌, ⊤, ℕ, true, false, List, [], Option, None, Some}
+use Rattle.std.specs.List.{list_any}
+use Rattle.model.specs.Worlds.{Record}
+use Rattle.model.specs.Repairs.{Move, changes_path, is_replaced_by}
+use Rattle.repair.specs.Keeping.{sizes}
+use Rattle.repair.specs.AtHand.{IsKept, IsMade}
+use Rattle.repair.specs.declared.kept.Kept.{Kept}
+use Rattle.repair.specs.declared.cache.Cache.{Cache}
+
+-- how many look-ups the records that are kept answered
+abbrev pub hits_of : Option Kept → ℕ
+hits_of None = 0
+hits_of (Some kept) = kept.hits
+
+-- what the records that are kept count is at most what they may
+abbrev pub IsBounded : Option Kept → Type 0
+IsBounded None = ⊤
+IsBounded (Some kept) = sizes kept.records.entries ≤ kept.most_bytes
+
+-- how much they may count
+abbrev pub bound_of : Option Kept → Option ℕ
+bound_of None = None
+bound_of (Some kept) = Some kept.most_bytes
+
+-- no record is kept
+abbrev pub KeepsNone : Option Kept → Type 0
+KeepsNone None = ⊤
+KeepsNone (Some kept) = kept.records.entries ≡ []
+
+-- what came of this record, whose labels move so, is kept
+abbrev pub IsAmongKept : Option Kept → Record → List Move → Type 0
+IsAmongKept None chosen moves = ⊥
+IsAmongKept (Some kept) chosen moves = IsKept kept.records.entries chosen moves
+
+-- it is at hand
+abbrev pub IsAtHand : Cache → Record → List Move → Type 0
+IsAtHand cache chosen moves = IsMade cache.made.items chosen moves ⊎ IsAmongKept cache.kept chosen moves
+
+-- a record whose labels move so has to be repaired, and is not refused for its own path
+abbrev pub IsToRepair : Record → List Move → Type 0
+IsToRepair chosen moves = (list_any changes_path moves ≡ true) × (list_any (is_replaced_by chosen.path) moves ≡ false)

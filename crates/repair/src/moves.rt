@@ -1,0 +1,179 @@
+//! Labels, with the paths by which what they name is served.
+
+ghost use Rattle.std.specs.Prelude.{◌≡◌, ◌⊎◌, All, IfOk, MatchResult, Ok, Err, option_copied};
+ghost use Rattle.std.specs.List.{list_any};
+ghost use Rattle.model.specs.Paths.{IsPath};
+ghost use Rattle.model.specs.References.{paths_of_labels};
+ghost use Rattle.model.specs.Repairs.{changes_path, is_replaced_by, move_of, moves_of, moved_label, moved_labels};
+ghost use Rattle.model.specs.declared.refusal.Refusal.TheVariants.{Memory};
+ghost use Rattle.records.specs.Recorded.{AreInPathOrder};
+ghost use Rattle.repair.specs.Served.{found_below, served_in};
+
+use indexmap::IndexMap;
+use model::Refusal;
+use records::{Label, Realisation, labels_in_order};
+use std::alloc::{AllocError, Global};
+use std::marker::Model;
+use storepath::StorePath;
+
+/// A label, with the path by which what it names is served.
+pub(crate) struct Move {
+    label: Label,
+    path: StorePath,
+}
+
+impl Drop for Move {
+    fn drop(self) {
+        let Move { label: _, path: _ } = self;
+    }
+}
+
+impl Model for Move {
+    ghost use Rattle.model.specs.Repairs.{Move as MoveValue};
+
+    ghost Value = { MoveValue };
+
+    ghost view = { λ m. record { label = m.label; path = m.path } };
+}
+
+impl Move {
+    /// The label.
+    pub(crate) fn label(&self) -> &Label
+        ensures { result.now ≡ self.now.label }
+    {
+        &self.label
+    }
+
+    /// The path by which what it names is served.
+    pub(crate) fn path(&self) -> &StorePath
+        ensures { result.now ≡ self.now.path }
+    {
+        &self.path
+    }
+
+    /// Whether another path stands in the place of the label's.
+    fn is_replaced(&self) -> bool
+        ensures { result ≡ changes_path self.now }
+    {
+        self.path != *self.label.path()
+    }
+
+    /// Whether another path stands there, and is this one.
+    fn is_replaced_by(&self, path: &StorePath) -> bool
+        ensures { result ≡ is_replaced_by path.now self.now }
+    {
+        self.is_replaced() && self.path == *path
+    }
+
+    /// The label of the path that stands there then.
+    fn moved_label(&self) -> Result<Label, AllocError>
+        ensures { IfOk result (λ label. label ≡ moved_label self.now) }
+    {
+        let class = match self.label.class() {
+            Some(class) => Some(class.clone()?),
+            None => None,
+        };
+        Ok(Label::new(self.path.clone()?, class))
+    }
+}
+
+/// Whether another path stands in the place of one of the labels.
+pub(crate) fn is_any_replaced(moves: &[Move]) -> bool
+    ensures { result ≡ list_any changes_path moves.now }
+{
+    for one in moves {
+        if one.is_replaced() {
+            return true;
+        }
+    }
+    false
+}
+
+/// Whether this path stands in the place of another.
+pub(crate) fn is_any_replaced_by(path: &StorePath, moves: &[Move]) -> bool
+    ensures { result ≡ list_any (is_replaced_by path.now) moves.now }
+{
+    for one in moves {
+        if one.is_replaced_by(path) {
+            return true;
+        }
+    }
+    false
+}
+
+// What serves a class, where its rank is lower.
+fn served_below<'a>(
+    served: &'a IndexMap<StorePath, Realisation>,
+    rank: u8,
+    class: &StorePath,
+) -> Option<&'a Realisation>
+    ensures { option_copied result ≡ found_below served.now.entries rank class.now }
+{
+    match served.get(class) {
+        Some(realisation) if realisation.class().rank() < rank => Some(realisation),
+        _ => None,
+    }
+}
+
+// The path by which what a label names is served.
+fn path_for(
+    served: &IndexMap<StorePath, Realisation>,
+    rank: u8,
+    label: &Label,
+) -> Result<StorePath, Refusal>
+    ensures { let answer = move_of (served_in served.now.entries rank) label.now label.now.class in
+        MatchResult result
+        (λ path. answer ≡ Ok (record { label = label.now; path = path }))
+        (λ e. (e ≡ Memory) ⊎ (answer ≡ Err e)) }
+{
+    let Some(class) = label.class() else {
+        return Ok(label.path().clone()?);
+    };
+    let Some(realisation) = served_below(served, rank, class.path()) else {
+        return Err(Refusal::NotRealised);
+    };
+    Ok(realisation.path().clone()?)
+}
+
+/// Each label with the path by which its class is served, of those of lower ranks that are served
+/// so far; that of a source stays.
+///
+/// # Errors
+///
+/// - `NotRealised` exactly where the class of a label is not among these.
+/// - `Memory` only where memory was refused; it may stand in the place of each answer.
+pub(crate) fn moves_of(
+    alloc: Global,
+    labels: &[Label],
+    served: &IndexMap<StorePath, Realisation>,
+    rank: u8,
+) -> Result<Vec<Move>, Refusal>
+    ensures moves { let answer = moves_of (served_in served.now.entries rank) labels.now in
+        MatchResult result
+        (λ moves. answer ≡ Ok moves.items)
+        (λ e. (e ≡ Memory) ⊎ (answer ≡ Err e)) }
+    ensures sound { IfOk result (λ _. All IsPath (paths_of_labels labels.now)) }
+{
+    let mut moves = Vec::new(alloc);
+    for label in labels {
+        let _part = label.path().hash_part();
+        let path = path_for(served, rank, label)?;
+        let label = label.clone()?;
+        moves.push(Move { label, path })?;
+    }
+    Ok(moves)
+}
+
+/// The labels of the paths that stand there then, in order. The one error is memory.
+pub(crate) fn moved_labels(alloc: Global, moves: &[Move]) -> Result<Vec<Label>, Refusal>
+    ensures labels { MatchResult result
+        (λ labels. labels.items ≡ moved_labels moves.now)
+        (λ e. e ≡ Memory) }
+    ensures in_order { IfOk result (λ labels. AreInPathOrder labels.items) }
+{
+    let mut labels = Vec::new(alloc);
+    for one in moves {
+        labels.push(one.moved_label()?)?;
+    }
+    labels_in_order(alloc, labels)
+}
