@@ -1,13 +1,11 @@
 //! What the options ask for, done with the lines of readers.
 
-ghost use Rattle.std.specs.Prelude.{◌≡◌, ◌<◌, ◌⊎◌, [], true, false, ℕ, List, Some, Err, OnOk, IfOk, IfErr};
-ghost use Rattle.model.specs.Lines.{lines_of};
+ghost use Rattle.std.specs.Prelude.{◌≡◌, ◌<◌, ◌⊎◌, true, false, Err, IfOk, IfErr};
 ghost use Rattle.model.specs.Worlds.{are_users};
-ghost use Rattle.model.specs.declared.refusal.Refusal.TheVariants.{BadUsers, Quota, InputFault, OutputFault};
+ghost use Rattle.model.specs.declared.refusal.Refusal.TheVariants.{BadUsers, Quota, InputFault};
 ghost use Rattle.session.specs.Serving.{EndsByCounts, IsOwn, IsShown};
-ghost use Rattle.replaying.specs.Replaying.{Replayed, ReplayedInPart};
-ghost use Rattle.replaying.specs.WholeLines.{ReplayedSoFar};
-ghost use Rattle.replaying.specs.Striking.{StrikeEndsBy, Struck, StruckEarly};
+ghost use Rattle.replaying.specs.Ended.{RepliesToAll, RepliesInPart, RepliesSoFar, WritesForUser, WritesForUserInPart};
+ghost use Rattle.replaying.specs.Striking.{StrikeEndsBy};
 ghost use Rattle.running.specs.Sessions.{CannotBegin};
 ghost use Rattle.running.specs.Desks.{passes_needed};
 ghost use Rattle.running.specs.Runs.{AreResults};
@@ -62,21 +60,19 @@ pub(crate) fn run_lines<H: Wait, R: Read + Faults, W: Write + Faults>(
     writer: &mut W,
 ) -> Result<Option<BadLines>, Refusal>
     // All lines are run by `replay`, under the charge that was asked for.
-    ensures replayed { IsReplay options.now.action → OnOk result ((all : List ℕ) → R.remaining reader.old ≡ Some all
-        → Replayed options.now.charge (W.contents writer.old) (W.contents writer.new) (lines_of all)) }
-    ensures in_part { IsReplay options.now.action → IfErr result (λ why. (all : List ℕ) → R.remaining reader.old ≡ Some all
-        → ReplayedInPart options.now.charge (W.contents writer.old) (W.contents writer.new) (lines_of all) why) }
-    ensures failed { IsReplay options.now.action → IfErr result (λ why. why ≡ InputFault
-        → (all : List ℕ) → R.remaining reader.old ≡ Some all
-        → ReplayedSoFar options.now.charge (W.contents writer.old) (W.contents writer.new) all (R.remaining reader.new)) }
+    ensures replayed { IsReplay options.now.action → RepliesToAll options.now.charge result
+        (R.remaining reader.old) (W.contents writer.old) (W.contents writer.new) }
+    ensures in_part { IsReplay options.now.action → RepliesInPart options.now.charge result
+        (R.remaining reader.old) (W.contents writer.old) (W.contents writer.new) }
+    ensures failed { IsReplay options.now.action → RepliesSoFar options.now.charge result
+        (R.remaining reader.old) (R.remaining reader.new) (W.contents writer.old) (W.contents writer.new) }
     ensures errors { IsReplay options.now.action → IfErr result (λ why. (why ≡ InputFault) ⊎ IsOwn why) }
     // Those that can reach the user are run by `strike`, for his name, timed or not, and under that charge.
-    ensures struck { WhereStrikes options.now.action (λ user timed. IfOk result (λ bad.
-        (all : List ℕ) → R.remaining reader.old ≡ Some all
-        → Struck options.now.charge user timed (W.contents writer.old) (W.contents writer.new) (lines_of all) bad)) }
-    ensures struck_in_part { WhereStrikes options.now.action (λ user timed. IfErr result (λ why.
-        (all : List ℕ) → R.remaining reader.old ≡ Some all
-        → StruckEarly options.now.charge user timed (W.contents writer.old) (W.contents writer.new) (lines_of all) why)) }
+    ensures struck { WhereStrikes options.now.action (λ user timed. WritesForUser options.now.charge user timed
+        result (R.remaining reader.old) (W.contents writer.old) (W.contents writer.new)) }
+    ensures struck_in_part { WhereStrikes options.now.action (λ user timed.
+        WritesForUserInPart options.now.charge user timed result
+        (R.remaining reader.old) (W.contents writer.old) (W.contents writer.new)) }
     ensures struck_why { WhereStrikes options.now.action (λ user timed.
         IfErr result (StrikeEndsBy user (R.remaining reader.old))) }
     ensures counts { EndsByCounts result (R.failed reader.old) (R.failed reader.new)

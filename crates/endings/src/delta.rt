@@ -90,7 +90,7 @@ impl DeskDelta {
         requires charge { desk.now.charge + self.now.more ≤ limits.charge }
         ensures { result ≡ is_free more limits.charge (with_delta (delta_in self.now) desk.now) }
     {
-        self.records.len() < MOST_RECORDS - desk.records().len()
+        self.records.len() < MOST_RECORDS - desk.record_count()
             && more <= limits.charge - desk.charge() - self.more
     }
 

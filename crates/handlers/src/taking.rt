@@ -115,7 +115,7 @@ fn has_room(desk: &Desk, limits: Limits, entries: &[(DeskEntry, u64)], more: u64
         sources as u64,
         MOST_SOURCES as u64,
     ) && fits(
-        desk.records().len() as u64,
+        desk.record_count() as u64,
         records as u64,
         MOST_RECORDS as u64,
     ) && fits(desk.charge(), more, limits.charge)

@@ -292,7 +292,7 @@ fn all_steps(
         (λ e. e ≡ Memory) }
 {
     let mut reached = no_step(alloc, desk, inputs)?;
-    for _step in 0..desk.records().len() {
+    for _step in 0..desk.record_count() {
         if reached.fresh().is_empty() {
             return Ok(reached.into_records());
         }

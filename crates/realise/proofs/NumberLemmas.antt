@@ -1,17 +1,20 @@
 -- Records by ascending numbers.
-use Rattle.std.proofs.Common.{◌≡◌, ℕ, zero, suc, ◌+◌, ◌-◌, ◌<◌, ◌≤◌, Bool, true, false, inl, inr, List, [], ◌∷◌, ◌++◌, length, get_or, take, drop, append-nil, refl, sym, ap, ◌∙◌, subst, arith, Option, Some, None, Result, Ok, Err, MatchResult}
-use Rattle.std.specs.Prelude.{◌^◌, ◌==◌, slice_get, IfSome, IfNone, bytes_eq, unwrap_or, cond, if◌then◌else◌, not, filter, sum_by, is_some, All}
+use Rattle.std.proofs.Common.{◌≡◌, ℕ, zero, suc, ◌+◌, ◌-◌, ◌<◌, ◌≤◌, Bool, true, false, inl, inr, List, [], ◌∷◌, ◌++◌, length, get_or, take, drop, append-nil, refl, sym, ap, ◌∙◌, subst, arith, Option, Some, None, Result, Ok, Err, MatchResult, Less, Greater, length-append}
+use Rattle.std.specs.Prelude.{◌^◌, ◌==◌, IfSome, bytes_eq, unwrap_or, cond, if◌then◌else◌, not, filter, sum_by, is_some, All}
 use Rattle.std.specs.List.{list_any, zip, remove, AllPairs}
 use Rattle.std.specs.Map.{lookup, remove_entry}
-use Rattle.std.specs.List.Sorted.{IsBinarySearchResult}
-use Rattle.std.specs.Ordering.{nat_cmp}
+use Rattle.std.specs.List.Sorted.{IsBinarySearchResult, IsStrictlySortedBy}
+use Rattle.std.specs.BTreeMap.{insert_entry, is_at}
+use Rattle.std.specs.Map.{keys_of}
+use Rattle.std.specs.Ordering.{nat_cmp, is_lt}
 use Rattle.std.specs.Option.{SomeIff}
-use Rattle.std.proofs.lemmas.Option.{slice_get_within, slice_get-get_or, get_or_from_slice_get}
 use Rattle.std.proofs.lemmas.Bool.{cases_lt, or_parts}
 use Rattle.std.proofs.lemmas.Bool.Decides.{nat_tests}
-use Rattle.std.proofs.lemmas.List.{get_or_default, drop_all, map-append, take-map, length-map}
+use Rattle.std.proofs.lemmas.List.{get_or-map, drop_all, map-append, length-map}
 use Rattle.std.proofs.lemmas.List.Elements.{All-head, All-tail, All-filter, filter-append}
 use Rattle.std.proofs.lemmas.List.Sorted.{searched}
+use Rattle.std.proofs.lemmas.Map.Keys.{below_from_sorted, ge_from_not_lt}
+use Rattle.std.proofs.Math.Seq.{take-append_seam}
 use Rattle.std.proofs.lemmas.List.Sums.{sum_by-cons, sum_by-append}
 use Rattle.std.proofs.lemmas.Slice.Zip.{length-zip, get_or-zip}
 use Rattle.model.proofs.BoolLemmas.{either, same_bytes}
@@ -53,80 +56,50 @@ never_falls ns up i j le lt = elim (either (i == j)) [
   | inr f ↦ (let less : i < j = grind (arith, nat_tests, f, le) in let value = up i j 0 less lt in omega (arith, value))
 ]
 
+-- ---- records in a map, by their numbers
+
+-- a key is that of a number
+pub key_of_number : (number n : ℕ) → is_at (nat_cmp number) n ≡ is_number number n
+key_of_number number n = grind (arith, nat_tests)
+
+-- the keys of a map ascend
+pub ascend_in_map : (numbered : Numbered) → IsStrictlySortedBy nat_cmp (keys_of numbered) → AscendByNumber numbered
+ascend_in_map numbered up = λ i j d lt le.
+    let long = length-map numbered (λ (e : ℕ × Recorded). e.0) in
+    let one = get_or-map (λ (e : ℕ × Recorded). e.0) numbered i d 0 (omega (arith, lt, le)) in
+    let other = get_or-map (λ (e : ℕ × Recorded). e.0) numbered j d 0 le in
+    let below = below_from_sorted (keys_of numbered) i j 0 up lt (omega (arith, le, long)) in
+    omega (arith, one, other, below)
+
+keys_below : (number : ℕ) (numbered : Numbered) → All (λ n. n < number) (keys_of numbered) → IsAbove number numbered
+keys_below number numbered below = λ k d lt.
+    let long = length-map numbered (λ (e : ℕ × Recorded). e.0) in
+    let same = get_or-map (λ (e : ℕ × Recorded). e.0) numbered k d 0 lt in
+    let here : get_or (keys_of numbered) k 0 < number = below k 0 (omega (arith, lt, long)) in
+    omega (arith, same, here)
+
+-- a number above the last is above all
+pub above_last : (last : ℕ) (numbered : Numbered) (o : Option ℕ) → All (λ n. is_lt (nat_cmp last n) ≡ false) (keys_of numbered)
+    → SomeIff o (last + 1 < 2 ^ 32) (last + 1) → IfSome o (λ number. IsAbove number numbered)
+above_last last numbered None upto so = tt
+above_last last numbered (Some number) upto so =
+    keys_below number numbered (λ k d lt. let most = ge_from_not_lt last (get_or (keys_of numbered) k d) (upto k d lt) in omega (arith, most, so.1))
+
+-- all but the last are below it
+pub below_last : (number : ℕ) (numbered : Numbered) → All (λ n. nat_cmp n number ≡ Less) (keys_of numbered) → IsAbove number numbered
+below_last number numbered less =
+    keys_below number numbered (λ k d lt. let here = less k d lt in grind (arith, nat_tests, here))
+
+-- a number above all comes behind them
+pub put_last : (number : ℕ) (r : Recorded) (numbered : Numbered) → IsAbove number numbered
+    → insert_entry nat_cmp numbered number r ≡ numbered ++ (number, r) ∷ []
+put_last number r [] above = refl
+put_last number r (e ∷ numbered) above =
+    let below : e.0 < number = All-head (λ (f : ℕ × Recorded). f.0 < number) e numbered above in
+    let after : nat_cmp number e.0 ≡ Greater = grind (arith, nat_tests, below) in
+    rw after (ap (λ es. e ∷ es) (put_last number r numbered (All-tail (λ (f : ℕ × Recorded). f.0 < number) e numbered above)))
+
 -- ---- numbers and records side by side
-
-pub ascend_so : (ns : List ℕ) (rs : List Recorded) → length rs ≡ length ns → Ascend ns → AscendByNumber (zip ns rs)
-ascend_so [] [] long up = λ i j d lt le. absurd (omega (arith, le))
-ascend_so [] (r ∷ rs) long up = λ i j d lt le. absurd (omega (arith, le))
-ascend_so (n ∷ ns) [] long up = absurd (omega (arith, long))
-ascend_so (n ∷ ns) (r ∷ rs) long up = all (ascend_so ns rs (omega (arith, long)) (others_of_all (λ m n. m < n) n ns up))
-  where
-    short : length rs ≡ length ns
-    short = omega (arith, long)
-
-    within : (j : ℕ) → suc j < suc (length (zip ns rs)) → (j < length ns) × (j < length rs)
-    within j le = let both = length-zip ns rs in (omega (arith, le, both, short), omega (arith, le, both, short))
-
-    all : AscendByNumber (zip ns rs) → (i j : ℕ) (d : ℕ × Recorded) → i < j → j < suc (length (zip ns rs)) → (get_or ((n, r) ∷ zip ns rs) i d).0 < (get_or ((n, r) ∷ zip ns rs) j d).0
-    all rest i zero d lt le = absurd (omega (arith, lt))
-    all rest zero (suc j) d lt le =
-        let in_both = within j le in
-        let value = ap (λ (e : ℕ × Recorded). e.0) (get_or-zip ns rs j d in_both.0 in_both.1) in
-        let above = first_of_all (λ m n. m < n) n ns up j d.0 in_both.0 in
-        omega (arith, value, above)
-    all rest (suc i) (suc j) d lt le = rest i j d (omega (arith, lt)) (omega (arith, le))
-
-pub above_last : (ns : List ℕ) (rs : List Recorded) (last : ℕ) → Ascend ns → get_or ns (length ns - 1) 0 ≡ last → IsAbove (last + 1) (zip ns rs)
-above_last [] rs last up is = λ k d lt. absurd (omega (arith, lt))
-above_last (n ∷ ns) rs last up is = λ k d lt.
-    let both = length-zip (n ∷ ns) rs in
-    let in_numbers : k < length (n ∷ ns) = omega (arith, lt, both) in
-    let value = ap (λ (e : ℕ × Recorded). e.0) (get_or-zip (n ∷ ns) rs k d in_numbers (omega (arith, lt, both))) in
-    let most = never_falls (n ∷ ns) up k (length (n ∷ ns) - 1) (omega (arith, in_numbers)) (omega arith) in
-    let same : get_or (n ∷ ns) k d.0 ≡ get_or (n ∷ ns) k 0 = get_or_default (n ∷ ns) k d.0 0 in_numbers in
-    omega (arith, value, most, same, is)
-
-pub last_out : (m : ℕ) (ns : List ℕ) (rs : List Recorded) (last : ℕ) → length ns ≡ m + 1 → length rs ≡ length ns → Ascend ns → get_or ns m 0 ≡ last
-    → remove_entry (is_number last) (zip ns rs) ≡ take m (zip ns rs)
-last_out m [] rs last long same up is = absurd (omega (arith, long))
-last_out m (n ∷ ns) [] last long same up is = absurd (omega (arith, same))
-last_out zero (n ∷ []) (r ∷ []) last long same up is = let own : (n == last) ≡ true = grind (arith, nat_tests, is) in rw own refl
-last_out zero (n ∷ o ∷ ns) (r ∷ rs) last long same up is = absurd (omega (arith, long))
-last_out zero (n ∷ []) (r ∷ q ∷ rs) last long same up is = absurd (omega (arith, same))
-last_out (suc m) (n ∷ ns) (r ∷ rs) last long same up is =
-    let below : n < get_or ns m 0 = first_of_all (λ a b. a < b) n ns up m 0 (omega (arith, long)) in
-    let other : (n == last) ≡ false = below_other n last (omega (arith, below, is)) in
-    rw other (ap (λ es. (n, r) ∷ es) (last_out m ns rs last (omega (arith, long)) (omega (arith, same)) (others_of_all (λ a b. a < b) n ns up) is))
-
-module _ (ns : List ℕ) (rs : List Recorded) (same : length rs ≡ length ns) (up : Ascend ns) where
-  pub last_taken : (o : Option ℕ) → o ≡ slice_get ns (length ns - 1)
-      → IfSome o (λ number. remove_entry (is_number number) (zip ns rs) ≡ take (length (zip ns rs) - 1) (zip ns rs))
-  last_taken None is = tt
-  last_taken (Some last) is =
-      let within = slice_get_within ns (length ns - 1) last (sym is) in
-      let here : get_or ns (length ns - 1) 0 ≡ last =
-      get_or_default ns (length ns - 1) 0 last within ∙ get_or_from_slice_get ns (length ns - 1) last last (sym is) in
-      let both = length-zip ns rs in
-      let long : length ns - 1 ≡ length (zip ns rs) - 1 = omega (arith, both, same) in
-      last_out (length ns - 1) ns rs last (omega (arith, within)) same up here ∙ ap (λ m. take m (zip ns rs)) long
-
-  pub next_above : (last : ℕ) (o : Option ℕ) → Some last ≡ slice_get ns (length ns - 1) → SomeIff o (last + 1 < 2 ^ 32) (last + 1)
-      → IfSome o (λ number. IsAbove number (zip ns rs))
-  next_above last None is so = tt
-  next_above last (Some number) is so =
-      let within = slice_get_within ns (length ns - 1) last (sym is) in
-      let here : get_or ns (length ns - 1) 0 ≡ last =
-      get_or_default ns (length ns - 1) 0 last within ∙ get_or_from_slice_get ns (length ns - 1) last last (sym is) in
-      subst (λ n. IsAbove n (zip ns rs)) (sym so.1) (above_last ns rs last up here)
-
--- there is a last where there is one at all
-pub none_last : (ns : List ℕ) (rs : List Recorded) (o : Option ℕ) → o ≡ slice_get ns (length ns - 1) → IfNone o (zip ns rs ≡ [])
-none_last ns rs (Some last) is = tt
-none_last [] rs None is = refl
-none_last (n ∷ ns) rs None is =
-    let some = slice_get-get_or (n ∷ ns) (length (n ∷ ns) - 1) 0 (omega arith) in
-    let wrong : None ≡ Some (get_or (n ∷ ns) (length (n ∷ ns) - 1) 0) = is ∙ some in
-    cc
 
 pub taken_at : (i : ℕ) (ns : List ℕ) (rs : List Recorded) (number : ℕ) → i < length ns → length rs ≡ length ns → Ascend ns → get_or ns i 0 ≡ number
     → remove_entry (is_number number) (zip ns rs) ≡ zip (remove ns i) (remove rs i)
@@ -137,16 +110,6 @@ taken_at (suc i) (n ∷ ns) (r ∷ rs) number below same up is =
     let under : n < get_or ns i 0 = first_of_all (λ a b. a < b) n ns up i 0 (omega (arith, below)) in
     let other : (n == number) ≡ false = below_other n number (omega (arith, under, is)) in
     rw other (ap (λ es. (n, r) ∷ es) (taken_at i ns rs number (omega (arith, below)) (omega (arith, same)) (others_of_all (λ a b. a < b) n ns up) is))
-
-pub found_at : (i : ℕ) (ns : List ℕ) (rs : List Recorded) (number : ℕ) (d : Recorded) → i < length ns → length rs ≡ length ns → Ascend ns
-    → get_or ns i 0 ≡ number → Some (get_or rs i d) ≡ lookup (is_number number) (zip ns rs)
-found_at i [] rs number d below same up is = absurd (omega (arith, below))
-found_at i (n ∷ ns) [] number d below same up is = absurd (omega (arith, same))
-found_at zero (n ∷ ns) (r ∷ rs) number d below same up is = let own : (n == number) ≡ true = grind (arith, nat_tests, is) in rw own refl
-found_at (suc i) (n ∷ ns) (r ∷ rs) number d below same up is =
-    let under : n < get_or ns i 0 = first_of_all (λ a b. a < b) n ns up i 0 (omega (arith, below)) in
-    let other : (n == number) ≡ false = below_other n number (omega (arith, under, is)) in
-    rw other (found_at i ns rs number d (omega (arith, below)) (omega (arith, same)) (others_of_all (λ a b. a < b) n ns up) is)
 
 -- what halving says
 module _ (ns xs : List ℕ) (number place : ℕ) (r : Result ℕ ℕ) (is : xs ≡ ns) (up : Ascend ns) (found : IsBinarySearchResult (λ y. nat_cmp y number) xs r) where
@@ -167,12 +130,6 @@ module _ (ns xs : List ℕ) (number place : ℕ) (r : Result ℕ ℕ) (is : xs �
 
 -- a number that is not there takes nothing out
 module _ (number : ℕ) where
-  pub none_found : (ns : List ℕ) (rs : List Recorded) → ((k : ℕ) → k < length ns → get_or ns k 0 ≡ number → ⊥) → None ≡ lookup (is_number number) (zip ns rs)
-  none_found [] rs other = refl
-  none_found (n ∷ ns) [] other = refl
-  none_found (n ∷ ns) (r ∷ rs) other =
-      rw (other_number n number (other 0 (omega arith))) (none_found ns rs (λ k lt. other (suc k) (omega (arith, lt))))
-
   pub none_taken : (ns : List ℕ) (rs : List Recorded) → ((k : ℕ) → k < length ns → get_or ns k 0 ≡ number → ⊥) → zip ns rs ≡ remove_entry (is_number number) (zip ns rs)
   none_taken [] rs other = refl
   none_taken (n ∷ ns) [] other = refl
@@ -422,6 +379,20 @@ tabled_less number r old new numbered is there less = record {
       omega (arith, left, before, all);
 }
 
+last_there : (number : ℕ) (r : Recorded) (numbered : Numbered) → IsAbove number numbered
+    → lookup (is_number number) (numbered ++ (number, r) ∷ []) ≡ Some r
+last_there number r [] above = let own : (number == number) ≡ true = grind (arith, nat_tests) in rw own refl
+last_there number r (e ∷ numbered) above =
+    let below : e.0 < number = All-head (λ (f : ℕ × Recorded). f.0 < number) e numbered above in
+    rw (below_other e.0 number below) (last_there number r numbered (All-tail (λ (f : ℕ × Recorded). f.0 < number) e numbered above))
+
+-- the last record less
+pub tabled_before : (number : ℕ) (r : Recorded) (old new : Tables) (numbered : Numbered) → AreTabled old (numbered ++ (number, r) ∷ [])
+    → IsAbove number numbered → HasUnlisted number r old new → AreTabled new numbered
+tabled_before number r old new numbered is above less =
+    subst (AreTabled new) (put_back number r numbered above)
+    (tabled_less number r old new (numbered ++ (number, r) ∷ []) is (last_there number r numbered above) less)
+
 filter_last : (number : ℕ) (r : Recorded) (test : Recorded → Bool) (numbered : Numbered)
     → (if test r then filter (λ e. test e.1) numbered ++ (number, r) ∷ [] else filter (λ e. test e.1) numbered)
     ≡ filter (λ e. test e.1) (numbered ++ (number, r) ∷ [])
@@ -490,7 +461,9 @@ absent_stays test (e ∷ numbered) absent = elim (either (test e.0)) [
 ]
 
 -- the records without the last
-pub bare_last : (numbered : Numbered) → without_numbers (take (length numbered - 1) numbered) ≡ without_last (without_numbers numbered)
-bare_last numbered =
-    sym (take-map (λ (e : ℕ × Recorded). e.1) (length numbered - 1) numbered)
-    ∙ ap (λ n. take (n - 1) (without_numbers numbered)) (sym (length-map numbered (λ (e : ℕ × Recorded). e.1)))
+pub bare_last : (e : ℕ × Recorded) (numbered : Numbered) → without_numbers numbered ≡ without_last (without_numbers (numbered ++ e ∷ []))
+bare_last e numbered =
+    let bare = map-append (λ (f : ℕ × Recorded). f.1) numbered (e ∷ []) in
+    let records = without_numbers numbered in
+    let long : length (records ++ e.1 ∷ []) - 1 ≡ length records = omega (arith, length-append records (e.1 ∷ [])) in
+    sym (take-append_seam records (e.1 ∷ [])) ∙ ap (λ n. take n (records ++ e.1 ∷ [])) (sym long) ∙ ap without_last (sym bare)

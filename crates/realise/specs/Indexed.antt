@@ -4,7 +4,7 @@ use Rattle.std.specs.Map.{lookup, remove_entry}
 use Rattle.model.specs.Worlds.{Pin}
 use Rattle.records.specs.Recorded.{Recorded}
 use Rattle.realise.specs.Counted.{count_under, names_in, names_of, HasMoreNames, HasLessNames, HasSameNames}
-use Rattle.realise.specs.Numbers.{is_number, without_numbers}
+use Rattle.realise.specs.Numbers.{AscendByNumber, is_number, without_numbers}
 use Rattle.realise.specs.Holdings.{is_record_of}
 
 -- the pins of a map's entries
@@ -60,6 +60,11 @@ pub record AreTabled (tables : Tables) (numbered : List (ℕ × Recorded)) : Typ
   pub by_class : AreGroups is_record_of tables.by_class numbered
   pub by_path : AreGroups is_record_at tables.by_path numbered
   pub named : (class path : List ℕ) → count_under class path tables.named ≡ names_in class path (without_numbers numbered)
+
+-- their numbers ascend, and these are the tables of them
+pub record AreInOrder (tables : Tables) (numbered : List (ℕ × Recorded)) : Type 0 where
+  pub tabled : AreTabled tables numbered
+  pub ascending : AscendByNumber numbered
 
 -- a record is listed besides, under a number
 pub record HasListed (number : ℕ) (r : Recorded) (old new : Tables) : Type 0 where

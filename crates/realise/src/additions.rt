@@ -42,7 +42,7 @@ pub fn add_to_each(
         return Ok(());
     };
     let Addition { records, archives } = additions.pop().unwrap();
-    let count = desk.records.as_slice().len();
+    let count = desk.records.len();
     desk.holding.reserve(archives.len())?;
     desk.records.push_all(alloc, records)?;
     if let Err(why) = add_to_each(alloc, others, additions) {

@@ -1,20 +1,20 @@
 //! The records of one user.
 
-ghost use Rattle.std.specs.Prelude.{◌≡◌, ◌<◌, [], ◌∷◌, ◌++◌, map, filter, take, MatchResult};
+ghost use Rattle.std.specs.Prelude.{◌≡◌, ◌<◌, [], ◌∷◌, ◌++◌, length, map, filter, take, MatchResult, IfSome};
 ghost use Rattle.std.specs.List.{list_any};
 ghost use Rattle.std.specs.Map.{remove_entry};
 ghost use Rattle.model.specs.Classes.{is_one_of};
 ghost use Rattle.records.specs.Recorded.{same_recorded};
 ghost use Rattle.realise.specs.Holdings.{is_record_of, is_recorded_at, remaining, refers_to};
-ghost use Rattle.realise.specs.Numbers.{AscendByNumber, is_number};
-ghost use Rattle.realise.specs.Indexed.{AreTabled, is_record_at, without_last};
+ghost use Rattle.realise.specs.Numbers.{IsAbove, is_number};
+ghost use Rattle.realise.specs.Indexed.{AreInOrder, is_record_at, without_last};
 ghost use Rattle.model.specs.declared.refusal.Refusal.TheVariants.{Memory};
 
 use crate::indexes::Indexes;
-use crate::numbered::Numbered;
 use model::Refusal;
 use records::Record;
 use std::alloc::Global;
+use std::collections::BTreeMap;
 use std::hash::RandomState;
 use std::marker::Model;
 use storepath::StorePath;
@@ -25,7 +25,7 @@ use storepath::StorePath;
 /// list, in the records of its class and in those at its path, and taken out of them, however many
 /// there are. The hashers have keys that nobody outside knows, since records may come from others.
 pub struct Records {
-    list: Numbered,
+    list: BTreeMap<u32, Record>,
     indexes: Indexes,
 }
 
@@ -45,23 +45,31 @@ impl Model for Records {
     ghost Value = { List Recorded };
 
     ghost use Rattle.realise.specs.Numbers.{without_numbers};
-    ghost use Rattle.realise.specs.Indexed.{AreTabled};
+    ghost use Rattle.realise.specs.Indexed.{AreInOrder};
 
-    ghost view = { λ r. without_numbers r.list };
+    ghost view = { λ r. without_numbers r.list.entries };
 
-    ghost invariant = { λ r. AreTabled r.indexes r.list };
+    ghost invariant = { λ r. AreInOrder r.indexes r.list.entries };
+}
+
+/// A number above all in a list, unless the last of them is the greatest that there may be.
+fn next_number(list: &BTreeMap<u32, Record>) -> Option<u32>
+    ensures { IfSome result (λ number. IsAbove number list.now.entries) }
+{
+    match list.last_key_value() {
+        Some((last, _)) => last.checked_add(1),
+        None => Some(0),
+    }
 }
 
 /// Takes the record of a number out, if there is one. It takes no memory.
-fn take_out(list: &mut Numbered, indexes: &mut Indexes, number: u32)
-    requires tabled { AreTabled indexes.old list.old }
-    ensures tabled { AreTabled indexes.new list.new }
-    ensures others { list.new ≡ remove_entry (is_number number) list.old }
-    ensures ascending { AscendByNumber list.old }
+fn take_out(list: &mut BTreeMap<u32, Record>, indexes: &mut Indexes, number: u32)
+    requires { AreInOrder indexes.old list.old.entries }
+    ensures in_order { AreInOrder indexes.new list.new.entries }
+    ensures others { list.new.entries ≡ remove_entry (is_number number) list.old.entries }
 {
-    if let Some(record) = list.get(number) {
-        indexes.take(number, record);
-        list.remove(number);
+    if let Some(record) = list.remove(&number) {
+        indexes.take(number, &record);
     }
 }
 
@@ -71,16 +79,16 @@ impl Records {
         ensures { result ≡ [] }
     {
         Records {
-            list: Numbered::new(alloc),
+            list: BTreeMap::new(alloc),
             indexes: Indexes::new(alloc, hashing),
         }
     }
 
-    /// All of them, the oldest first.
-    pub(crate) fn as_slice(&self) -> &[Record]
-        ensures { result.now ≡ self.now }
+    /// How many there are.
+    pub(crate) fn len(&self) -> usize
+        ensures { result ≡ length self.now }
     {
-        self.list.as_slice()
+        self.list.len()
     }
 
     /// Those of a class, the oldest first.
@@ -142,16 +150,18 @@ impl Records {
             (λ _. self.new ≡ self.old ++ added ∷ [])
             (λ e. (e ≡ Memory) × (self.new ≡ self.old)) }
     {
-        let Some(number) = self.list.next() else {
+        let Some(number) = next_number(&self.list) else {
             return Err(Refusal::Memory);
         };
         let copy = added.clone()?;
         self.indexes.put(alloc, number, &added)?;
-        if let Err(why) = self.list.push(number, copy) {
-            self.indexes.take(number, &added);
-            return Err(why);
+        match self.list.insert(number, copy) {
+            Ok(_none) => Ok(()),
+            Err(_copy) => {
+                self.indexes.take(number, &added);
+                Err(Refusal::Memory)
+            }
         }
-        Ok(())
     }
 
     /// The same records, with numbers from 0 on. The one error is memory.
@@ -159,7 +169,7 @@ impl Records {
         ensures { MatchResult result (λ anew. anew ≡ self.now) (λ e. e ≡ Memory) }
     {
         let mut anew = Records::new(alloc, self.indexes.hashing());
-        for record in self.as_slice() {
+        for record in self.list.values() {
             anew.push_above(alloc, record.clone()?)?;
         }
         Ok(anew)
@@ -172,7 +182,7 @@ impl Records {
             (λ _. self.new ≡ self.old ++ added ∷ [])
             (λ e. (e ≡ Memory) × (self.new ≡ self.old)) }
     {
-        if self.list.next().is_none() {
+        if next_number(&self.list).is_none() {
             *self = self.renumbered(alloc)?;
         }
         self.push_above(alloc, added)
@@ -182,8 +192,8 @@ impl Records {
     fn pop(&mut self)
         ensures { self.new ≡ without_last self.old }
     {
-        if let Some(number) = self.list.last() {
-            take_out(&mut self.list, &mut self.indexes, number);
+        if let Some((number, record)) = self.list.pop_last() {
+            self.indexes.take(number, &record);
         }
     }
 
@@ -191,7 +201,7 @@ impl Records {
     pub(crate) fn truncate(&mut self, count: usize)
         ensures { self.new ≡ take count self.old }
     {
-        while count < self.as_slice().len() {
+        while count < self.len() {
             self.pop();
         }
     }
@@ -212,7 +222,7 @@ impl Records {
             (λ _. self.new ≡ self.old ++ added.items)
             (λ e. (e ≡ Memory) × (self.new ≡ self.old)) }
     {
-        let count = self.as_slice().len();
+        let count = self.len();
         for record in added {
             if let Err(why) = self.push(alloc, record) {
                 self.truncate(count);

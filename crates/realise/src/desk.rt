@@ -74,7 +74,7 @@ fn put_parts(
         × (records.new ≡ records.old ++ added.items))
         (λ e. (e ≡ Memory) × (known.new ≡ known.old) × (records.new ≡ records.old)) }
 {
-    let count = records.as_slice().len();
+    let count = records.len();
     records.push_all(alloc, added)?;
     if let Err(why) = known.add_sources(alloc, sources) {
         records.truncate(count);
@@ -96,7 +96,7 @@ fn put_record_if<F: FnOnce() -> Result<bool, Refusal>>(
         (λ told. F.post check (Ok told) × (records.new ≡ records.old ++ added ∷ []))
         (λ e. ((e ≡ Memory) ⊎ F.post check (Err e)) × (records.new ≡ records.old)) }
 {
-    let count = records.as_slice().len();
+    let count = records.len();
     records.push(alloc, added)?;
     let told = check();
     if told.is_err() {
@@ -157,12 +157,12 @@ impl Desk {
         &self.known
     }
 
-    /// What was built, the oldest first.
-    pub fn records(&self) -> &[Record]
-        ensures records { result.now ≡ self.now.records }
+    /// How many outputs it has.
+    pub fn record_count(&self) -> usize
+        ensures count { result ≡ length self.now.records }
         ensures closed { IsClosed self.now }
     {
-        self.records.as_slice()
+        self.records.len()
     }
 
     /// What was built for a class, the oldest first. It is found at once.
@@ -225,7 +225,7 @@ impl Desk {
     {
         match entry {
             DeskEntry::Source(_) => self.known.source_count() < MOST_SOURCES,
-            DeskEntry::Record(_) => self.records.as_slice().len() < MOST_RECORDS,
+            DeskEntry::Record(_) => self.records.len() < MOST_RECORDS,
         }
     }
 

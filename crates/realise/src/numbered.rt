@@ -1,10 +1,10 @@
 //! Records with numbers.
 
-ghost use Rattle.std.specs.Prelude.{◌≡◌, ◌<◌, ◌-◌, [], ◌∷◌, ◌++◌, length, take, option_copied, MatchResult, IfSome, IfNone};
+ghost use Rattle.std.specs.Prelude.{◌≡◌, ◌<◌, [], ◌∷◌, ◌++◌, MatchResult};
 ghost use Rattle.std.specs.List.{zip, AllPairs};
-ghost use Rattle.std.specs.Map.{lookup, remove_entry};
+ghost use Rattle.std.specs.Map.{remove_entry};
 ghost use Rattle.model.specs.declared.refusal.Refusal.TheVariants.{Memory};
-ghost use Rattle.realise.specs.Numbers.{AscendByNumber, IsAbove, is_number, number_of, without_numbers};
+ghost use Rattle.realise.specs.Numbers.{IsAbove, is_number, number_of, without_numbers};
 ghost use Rattle.realise.specs.Holdings.{is_recorded_at};
 
 use crate::forgetting::is_recorded_at;
@@ -80,25 +80,6 @@ impl Numbered {
         self.records.as_slice()
     }
 
-    /// A number above all of them, if there is one.
-    pub(crate) fn next(&self) -> Option<u32>
-        ensures { IfSome result (λ number. IsAbove number self.now) }
-    {
-        match self.numbers.as_slice().last() {
-            Some(last) => last.checked_add(1),
-            None => Some(0),
-        }
-    }
-
-    /// The number of the last record, if there is one. Taking it out takes the last one out.
-    pub(crate) fn last(&self) -> Option<u32>
-        ensures some { IfSome result (λ number.
-            remove_entry (is_number number) self.now ≡ take (length self.now - 1) self.now) }
-        ensures none { IfNone result (self.now ≡ []) }
-    {
-        self.numbers.as_slice().last().copied()
-    }
-
     /// The number of the first record of a class at a path, if there is one. All are looked at.
     pub(crate) fn number_of(&self, class: &StorePath, path: &StorePath) -> Option<u32>
         ensures { result ≡ number_of (is_recorded_at class.now path.now) self.now }
@@ -126,17 +107,6 @@ impl Numbered {
             return Err(why);
         }
         Ok(())
-    }
-
-    /// The record of a number, if there is one.
-    pub(crate) fn get(&self, number: u32) -> Option<&Record>
-        ensures record { option_copied result ≡ lookup (is_number number) self.now }
-        ensures ascending { AscendByNumber self.now }
-    {
-        match self.numbers.as_slice().binary_search(&number) {
-            Ok(place) => Some(&self.as_slice()[place]),
-            Err(_) => None,
-        }
     }
 
     /// Takes the record of a number out, if there is one. It takes no memory.

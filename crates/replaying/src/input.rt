@@ -1,15 +1,13 @@
 //! Running the lines of one input.
 
-ghost use Rattle.std.specs.Prelude.{◌≡◌, ◌≤◌, ◌⊎◌, ℕ, List, [], Some, true, OnOk, IfErr};
-ghost use Rattle.model.specs.Lines.{lines_of};
+ghost use Rattle.std.specs.Prelude.{◌≡◌, ◌≤◌, ◌⊎◌, [], true, OnOk, IfErr};
 ghost use Rattle.model.specs.Limits.{most_charge};
 ghost use Rattle.model.specs.Worlds.{are_users, nothing};
 ghost use Rattle.schedule.specs.Standing.{setup_for, setup_of, world_of, stored_in};
 ghost use Rattle.model.specs.declared.refusal.Refusal.TheVariants.{InputFault, OutputFault};
 ghost use Rattle.session.specs.Serving.{EndsByCounts, HasFailed, IsOwn, IsShown, MayBeFault};
-ghost use Rattle.replaying.specs.WholeLines.{ReplayedSoFar};
 ghost use Rattle.replaying.specs.ServingOn.{ServesOn, ServesOnInPart, ServesOnSoFar};
-ghost use Rattle.replaying.specs.Replaying.{Replayed, ReplayedInPart};
+ghost use Rattle.replaying.specs.Ended.{RepliesToAll, RepliesInPart, RepliesSoFar};
 
 use crate::one_pass::OnePass;
 use crate::settings::Settings;
@@ -142,12 +140,12 @@ fn answer_input<H: Wait, R: Read + Faults, W: Write + Faults>(
     writer: &mut W,
 ) -> Result<(), Refusal>
     requires { settings.limits.charge ≤ most_charge }
-    ensures ok { OnOk result ((all : List ℕ) → R.remaining reader.old ≡ Some all
-        → Replayed settings.limits.charge (W.contents writer.old) (W.contents writer.new) (lines_of all)) }
-    ensures err { IfErr result (λ why. (all : List ℕ) → R.remaining reader.old ≡ Some all
-        → ReplayedInPart settings.limits.charge (W.contents writer.old) (W.contents writer.new) (lines_of all) why) }
-    ensures failed { IfErr result (λ why. why ≡ InputFault → (all : List ℕ) → R.remaining reader.old ≡ Some all
-        → ReplayedSoFar settings.limits.charge (W.contents writer.old) (W.contents writer.new) all (R.remaining reader.new)) }
+    ensures ok { RepliesToAll settings.limits.charge result
+        (R.remaining reader.old) (W.contents writer.old) (W.contents writer.new) }
+    ensures err { RepliesInPart settings.limits.charge result
+        (R.remaining reader.old) (W.contents writer.old) (W.contents writer.new) }
+    ensures failed { RepliesSoFar settings.limits.charge result
+        (R.remaining reader.old) (R.remaining reader.new) (W.contents writer.old) (W.contents writer.new) }
     ensures whole { OnOk result (¬ HasFailed (R.failed reader.old) (R.failed reader.new)) }
     ensures errors { IfErr result (λ why. (why ≡ InputFault) ⊎ IsOwn why) }
     ensures output_fault { IfErr result (MayBeFault OutputFault (W.failed writer.old) (W.failed writer.new)) }
@@ -192,14 +190,14 @@ pub fn replay<H: Wait, R: Read + Faults, W: Write + Faults>(
 ) -> Result<(), Refusal>
     requires { settings.limits.charge ≤ most_charge }
     // What a reader gives all of whose bytes are known, is answered to its end.
-    ensures ok { OnOk result ((all : List ℕ) → R.remaining reader.old ≡ Some all
-        → Replayed settings.limits.charge (W.contents writer.old) (W.contents writer.new) (lines_of all)) }
+    ensures ok { RepliesToAll settings.limits.charge result
+        (R.remaining reader.old) (W.contents writer.old) (W.contents writer.new) }
     // Else its first lines are.
-    ensures err { IfErr result (λ why. (all : List ℕ) → R.remaining reader.old ≡ Some all
-        → ReplayedInPart settings.limits.charge (W.contents writer.old) (W.contents writer.new) (lines_of all) why) }
+    ensures err { RepliesInPart settings.limits.charge result
+        (R.remaining reader.old) (W.contents writer.old) (W.contents writer.new) }
     // Where the reader failed, these are the lines that were read whole, and all of their text.
-    ensures failed { IfErr result (λ why. why ≡ InputFault → (all : List ℕ) → R.remaining reader.old ≡ Some all
-        → ReplayedSoFar settings.limits.charge (W.contents writer.old) (W.contents writer.new) all (R.remaining reader.new)) }
+    ensures failed { RepliesSoFar settings.limits.charge result
+        (R.remaining reader.old) (R.remaining reader.new) (W.contents writer.old) (W.contents writer.new) }
     ensures errors { IfErr result (λ why. (why ≡ InputFault) ⊎ IsOwn why) }
     ensures counts { EndsByCounts result (R.failed reader.old) (R.failed reader.new)
         (W.failed writer.old) (W.failed writer.new) }

@@ -11,8 +11,9 @@ ghost use Rattle.schedule.specs.Ever.{run_of, why_untold};
 ghost use Rattle.schedule.specs.Standing.{setup_for};
 ghost use Rattle.session.specs.Serving.{EndsByCounts, HasFailed, IsShown, IsUnwritten};
 ghost use Rattle.replaying.specs.BadLines.{end_of, ended_with};
+ghost use Rattle.replaying.specs.Ended.{WritesForUser, WritesForUserInPart};
 ghost use Rattle.replaying.specs.Recording.{IsFirstRun};
-ghost use Rattle.replaying.specs.Striking.{Rerun, StrikeEndsBy, Struck, StruckEarly, lines_under, struck};
+ghost use Rattle.replaying.specs.Striking.{Rerun, StrikeEndsBy, lines_under, struck};
 
 use crate::bad_lines::BadLines;
 use crate::first_run::first_run;
@@ -137,12 +138,10 @@ fn strike_lines<H: Wait, R: Read + Faults, W: Write + Faults>(
     writer: &mut W,
 ) -> Result<Option<BadLines>, Refusal>
     requires { settings.limits.charge ≤ most_charge }
-    ensures ok { IfOk result (λ bad. (all : List ℕ) → R.remaining reader.old ≡ Some all
-        → Struck settings.limits.charge observer.entry.name.now observer.entry.timed
-        (W.contents writer.old) (W.contents writer.new) (lines_of all) bad) }
-    ensures err { IfErr result (λ why. (all : List ℕ) → R.remaining reader.old ≡ Some all
-        → StruckEarly settings.limits.charge observer.entry.name.now observer.entry.timed
-        (W.contents writer.old) (W.contents writer.new) (lines_of all) why) }
+    ensures ok { WritesForUser settings.limits.charge observer.entry.name.now observer.entry.timed result
+        (R.remaining reader.old) (W.contents writer.old) (W.contents writer.new) }
+    ensures err { WritesForUserInPart settings.limits.charge observer.entry.name.now observer.entry.timed
+        result (R.remaining reader.old) (W.contents writer.old) (W.contents writer.new) }
     ensures why { IfErr result (StrikeEndsBy observer.entry.name.now (R.remaining reader.old)) }
     ensures whole { OnOk result (¬ HasFailed (R.failed reader.old) (R.failed reader.new)) }
 {
@@ -220,14 +219,12 @@ pub fn strike<H: Wait, R: Read + Faults, W: Write + Faults>(
 ) -> Result<Option<BadLines>, Refusal>
     requires { settings.limits.charge ≤ most_charge }
     // All of his text is written, and the lines are given that the same first run refused with 25.
-    ensures ok { IfOk result (λ bad. (all : List ℕ) → R.remaining reader.old ≡ Some all
-        → Struck settings.limits.charge observer.entry.name.now observer.entry.timed
-        (W.contents writer.old) (W.contents writer.new) (lines_of all) bad) }
+    ensures ok { WritesForUser settings.limits.charge observer.entry.name.now observer.entry.timed result
+        (R.remaining reader.old) (W.contents writer.old) (W.contents writer.new) }
     // Else nothing is written, or a beginning of it where writing failed, or memory while writing; and what is told
     // of the users is so.
-    ensures err { IfErr result (λ why. (all : List ℕ) → R.remaining reader.old ≡ Some all
-        → StruckEarly settings.limits.charge observer.entry.name.now observer.entry.timed
-        (W.contents writer.old) (W.contents writer.new) (lines_of all) why) }
+    ensures err { WritesForUserInPart settings.limits.charge observer.entry.name.now observer.entry.timed
+        result (R.remaining reader.old) (W.contents writer.old) (W.contents writer.new) }
     ensures why { IfErr result (StrikeEndsBy observer.entry.name.now (R.remaining reader.old)) }
     ensures counts { EndsByCounts result (R.failed reader.old) (R.failed reader.new)
         (W.failed writer.old) (W.failed writer.new) }

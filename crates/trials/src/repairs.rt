@@ -3,9 +3,9 @@
 use classes::Class;
 use indexmap::IndexMap;
 use model::Refusal;
-use repair::{Cache, serve};
 use nar::Tree;
 use records::{Label, Realisation, Record};
+use repair::{Cache, serve};
 use std::alloc::Global;
 use std::hash::RandomState;
 use std::num::NonZeroUsize;

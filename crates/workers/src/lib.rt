@@ -14,6 +14,7 @@ mod queue;
 mod rounds;
 mod runner;
 mod serving;
+mod shared;
 mod store;
 mod tally;
 mod tasks;

@@ -11,7 +11,8 @@ ghost use Rattle.workers.specs.Rounds.{Serves, IsRound};
 
 use crate::queue::{Producer, count, ticket_queue};
 use crate::runner::Runner;
-use crate::serving::{Orders, Shared, serve};
+use crate::serving::{Orders, Workers, serve};
+use crate::shared::Shared;
 use crate::store::Store;
 use crate::tally::Tally;
 use crate::ticket::Ticket;
@@ -33,21 +34,19 @@ struct Served<S, Q> {
 /// Serves by threads that borrow.
 fn in_scope<S: Store + Send + Drop, Q: Runner + Send + Drop, R: Threads + Wait + Sync>(
     rt: &R,
-    alloc: Global,
     shared: Shared<'_>,
     producer: Producer,
-    workers: Vec<Worker<S, Q>>,
+    workers: Workers<S, Q>,
     tickets: Vec<Ticket>,
-    done: Vec<Worker<S, Q>>,
 ) -> Served<S, Q>
     requires queue { receives_on shared.receiver.now ≡ sends_on shared.sender.now }
     requires seat { IsSeatAt (sends_on shared.sender.now) producer }
     requires producer { view producer ≡ keeping [] 0 [] }
-    requires room { vec_len workers ≤ vec_capacity done }
-    requires none { done.items ≡ [] }
+    requires room { vec_len workers.left ≤ vec_capacity workers.done }
+    requires none { workers.done.items ≡ [] }
     ensures seat { IsSeatAt (sends_on shared.entry.sender.now) result.producer }
-    ensures serves { Serves S.called S.asked Q.gives tickets.items (vec_len workers) workers.items []
-        result.done.items (view producer) (view result.producer) result.tally }
+    ensures serves { Serves S.called S.asked Q.gives tickets.items (vec_len workers.left)
+        workers.left.items [] result.done.items (view producer) (view result.producer) result.tally }
 {
     thread::scope(
         thread::scope_env(),
@@ -56,27 +55,19 @@ fn in_scope<S: Store + Send + Drop, Q: Runner + Send + Drop, R: Threads + Wait +
             requires queue { receives_on shared.receiver.now ≡ sends_on shared.sender.now }
             requires seat { IsSeatAt (sends_on shared.sender.now) producer }
             requires producer { view producer ≡ keeping [] 0 [] }
-            requires room { vec_len workers ≤ vec_capacity done }
-            requires none { done.items ≡ [] }
+            requires room { vec_len workers.left ≤ vec_capacity workers.done }
+            requires none { workers.done.items ≡ [] }
             ensures seat { IsSeatAt (sends_on shared.entry.sender.now) result.producer }
-            ensures serves { Serves S.called S.asked Q.gives tickets.items (vec_len workers) workers.items []
-                result.done.items (view producer) (view result.producer) result.tally }
+            ensures serves { Serves S.called S.asked Q.gives tickets.items (vec_len workers.left)
+                workers.left.items [] result.done.items (view producer) (view result.producer)
+                result.tally }
         {
             let mut producer = producer;
             let mut workers = workers;
-            let mut done = done;
-            let stops = workers.len();
+            let stops = workers.left.len();
             let orders = Orders { tickets, stops };
-            let tally = serve(
-                rt,
-                alloc,
-                scope,
-                &shared,
-                &mut producer,
-                &mut workers,
-                orders,
-                &mut done,
-            );
+            let tally = serve(rt, scope, shared, &mut producer, &mut workers, orders);
+            let Workers { done, .. } = workers;
             Served {
                 tally,
                 done,
@@ -121,8 +112,13 @@ pub fn round<S: Store + Send + Drop, Q: Runner + Send + Drop, R: Threads + Wait 
     let Ok((sender, receiver, producer)) = ticket_queue(alloc) else {
         return (Err(Refusal::Memory), workers);
     };
+    let workers = Workers {
+        left: workers,
+        done,
+    };
     let given_up = AtomicBool::new(false);
     let shared = Shared {
+        alloc,
         sender: &sender,
         receiver: &receiver,
         given_up: &given_up,
@@ -131,7 +127,7 @@ pub fn round<S: Store + Send + Drop, Q: Runner + Send + Drop, R: Threads + Wait 
         tally,
         done,
         mut producer,
-    } = in_scope(rt, alloc, shared, producer, workers, tickets, done);
+    } = in_scope(rt, shared, producer, workers, tickets);
     count(&sender, &mut producer);
     (tally.answer(), done)
 }

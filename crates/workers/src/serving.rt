@@ -8,28 +8,17 @@ ghost use Rattle.workers.specs.Queue.{producer as keeping};
 ghost use Rattle.workers.specs.Rounds.{Serves};
 
 use crate::putting::put_all;
-use crate::queue::{Producer, Receiver, Sender, give_out, take_back};
+use crate::queue::{Producer, give_out, take_back};
 use crate::runner::Runner;
+use crate::shared::Shared;
 use crate::store::Store;
 use crate::tally::Tally;
 use crate::thread::{Back, finish, start};
 use crate::ticket::Ticket;
 use crate::worker::Worker;
-use std::alloc::Global;
 use std::sync::Wait;
-use std::sync::atomic::{AtomicBool, Ordering};
+use std::sync::atomic::Ordering;
 use std::thread::{Scope, Threads};
-
-/// What the threads of a round share.
-#[derive(Clone, Copy)]
-pub(crate) struct Shared<'s> {
-    /// Where tickets are put.
-    pub(crate) sender: &'s Sender,
-    /// Where they are taken.
-    pub(crate) receiver: &'s Receiver,
-    /// Whether a thread could not be started.
-    pub(crate) given_up: &'s AtomicBool,
-}
 
 /// What is put into the queue of a round: the tickets, and then so many Stops.
 #[derive(Drop)]
@@ -38,6 +27,15 @@ pub(crate) struct Orders {
     pub(crate) tickets: Vec<Ticket>,
     /// How many Stops.
     pub(crate) stops: usize,
+}
+
+/// The workers of a round.
+#[derive(Drop)]
+pub(crate) struct Workers<S, Q> {
+    /// Those for whom a thread is to be started.
+    pub(crate) left: Vec<Worker<S, Q>>,
+    /// Those who are back, the first first.
+    pub(crate) done: Vec<Worker<S, Q>>,
 }
 
 /// Starts a thread for each of the workers that are left, the last first, puts tickets and Stops, and
@@ -50,41 +48,32 @@ pub(crate) fn serve<
     R: Threads + Wait + Sync,
 >(
     rt: &'s R,
-    alloc: Global,
     scope: &Scope<'s, E>,
-    shared: &Shared<'s>,
+    shared: Shared<'s>,
     producer: &mut Producer,
-    left: &mut Vec<Worker<S, Q>>,
+    workers: &mut Workers<S, Q>,
     orders: Orders,
-    done: &mut Vec<Worker<S, Q>>,
 ) -> Tally
-    requires queue { receives_on shared.now.receiver.now ≡ sends_on shared.now.sender.now }
-    requires seat { IsSeatAt (sends_on shared.now.sender.now) producer.old }
+    requires queue { receives_on shared.receiver.now ≡ sends_on shared.sender.now }
+    requires seat { IsSeatAt (sends_on shared.sender.now) producer.old }
     requires producer { view producer.old ≡ keeping [] (view producer.old).out [] }
-    requires room { vec_len done.old + vec_len left.old ≤ vec_capacity done.old }
-    ensures seat { IsSeatAt (sends_on shared.now.sender.now) producer.new }
-    ensures capacity { vec_capacity done.new ≡ vec_capacity done.old }
-    ensures len { vec_len done.new ≡ vec_len done.old + vec_len left.old }
-    ensures serves { Serves S.called S.asked Q.gives orders.tickets.items orders.stops left.old.items
-        done.old.items done.new.items (view producer.old) (view producer.new) result }
+    requires room { vec_len workers.old.done + vec_len workers.old.left ≤ vec_capacity workers.old.done }
+    ensures seat { IsSeatAt (sends_on shared.entry.sender.now) producer.new }
+    ensures capacity { vec_capacity workers.new.done ≡ vec_capacity workers.old.done }
+    ensures len { vec_len workers.new.done ≡ vec_len workers.old.done + vec_len workers.old.left }
+    ensures serves { Serves S.called S.asked Q.gives orders.tickets.items orders.stops
+        workers.old.left.items workers.old.done.items workers.new.done.items
+        (view producer.old) (view producer.new) result }
 {
-    let Some(worker) = left.pop() else {
+    let Some(worker) = workers.left.pop() else {
         let Orders { tickets, stops } = orders;
         let given_up = shared.given_up.load(Ordering::SeqCst);
         let all_put = put_all(rt, shared.sender, producer, given_up, tickets, stops);
         return Tally::new(all_put);
     };
     let consumer = give_out(shared.sender, producer);
-    let started = start(
-        rt,
-        alloc,
-        scope,
-        shared.receiver,
-        shared.given_up,
-        worker,
-        consumer,
-    );
-    let tally = serve(rt, alloc, scope, shared, producer, left, orders, done);
+    let started = start(rt, scope, shared, worker, consumer);
+    let tally = serve(rt, scope, shared, producer, workers, orders);
     let (back, tally) = finish(rt, started, tally);
     let Back {
         worker,
@@ -92,6 +81,6 @@ pub(crate) fn serve<
         ..
     } = back;
     take_back(shared.sender, producer, consumer);
-    done.push_reserved(worker);
+    workers.done.push_reserved(worker);
     tally
 }

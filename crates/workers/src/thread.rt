@@ -6,16 +6,16 @@ ghost use Rattle.crossbeam_channel.specs.Ends.{receives_on};
 ghost use Rattle.workers.specs.Queue.{consumer as taking};
 ghost use Rattle.workers.specs.Rounds.{Returned, is_memory, is_stopped};
 
-use crate::queue::{Consumer, Receiver};
+use crate::queue::Consumer;
 use crate::runner::Runner;
+use crate::shared::Shared;
 use crate::store::Store;
 use crate::tally::Tally;
 use crate::worker::{Worked, Worker, work};
 use model::Refusal;
-use std::alloc::Global;
 use std::snapshot::Snapshot;
 use std::sync::Wait;
-use std::sync::atomic::{AtomicBool, Ordering};
+use std::sync::atomic::Ordering;
 use std::thread::{Promise, PromisedHandle, Scope, Threads};
 
 /// What a thread gives back.
@@ -59,19 +59,17 @@ fn hand_to<S, Q>(worker: &Worker<S, Q>, consumer: &Consumer) -> Handed<S, Q>
 /// Takes tickets and works on them until a Stop; none where the round was given up.
 fn run<S: Store, Q: Runner, R: Wait>(
     rt: &R,
-    alloc: Global,
-    receiver: &Receiver,
-    given_up: &AtomicBool,
+    shared: Shared<'_>,
     mut worker: Worker<S, Q>,
     mut consumer: Consumer,
 ) -> Back<S, Q>
-    requires seat { IsSeatAt (receives_on receiver.now) consumer }
+    requires seat { IsSeatAt (receives_on shared.receiver.now) consumer }
     requires takes { (view consumer).takes ≡ true }
     requires none { view consumer ≡ taking (view consumer).number [] }
     ensures { Returned S.called S.asked Q.gives worker consumer result.worker result.consumer result.met
         result.took_stop }
 {
-    if given_up.load(Ordering::SeqCst) {
+    if shared.given_up.load(Ordering::SeqCst) {
         return Back {
             worker,
             consumer,
@@ -79,7 +77,13 @@ fn run<S: Store, Q: Runner, R: Wait>(
             took_stop: false,
         };
     }
-    let Worked { met, took_stop } = work(rt, alloc, receiver, &mut worker, &mut consumer);
+    let Worked { met, took_stop } = work(
+        rt,
+        shared.alloc,
+        shared.receiver,
+        &mut worker,
+        &mut consumer,
+    );
     Back {
         worker,
         consumer,
@@ -97,14 +101,12 @@ pub(crate) fn start<
     R: Threads + Wait + Sync,
 >(
     rt: &'s R,
-    alloc: Global,
     scope: &Scope<'s, E>,
-    receiver: &'s Receiver,
-    given_up: &'s AtomicBool,
+    shared: Shared<'s>,
     worker: Worker<S, Q>,
     consumer: Consumer,
 ) -> Result<PromisedHandle<Back<S, Q>, Handed<S, Q>>, Back<S, Q>>
-    requires seat { IsSeatAt (receives_on receiver.now) consumer }
+    requires seat { IsSeatAt (receives_on shared.receiver.now) consumer }
     requires takes { (view consumer).takes ≡ true }
     requires none { view consumer ≡ taking (view consumer).number [] }
     ensures worker { IfOk result (λ h. h.promise.worker.value ≡ worker) }
@@ -114,16 +116,16 @@ pub(crate) fn start<
 {
     let promise = hand_to(&worker, &consumer);
     let job = move || -> Back<S, Q>
-        requires seat { IsSeatAt (receives_on receiver.now) consumer }
+        requires seat { IsSeatAt (receives_on shared.receiver.now) consumer }
         requires takes { (view consumer).takes ≡ true }
         requires none { view consumer ≡ taking (view consumer).number [] }
         ensures { Returned S.called S.asked Q.gives worker consumer result.worker result.consumer
             result.met result.took_stop }
-    { run(rt, alloc, receiver, given_up, worker, consumer) };
+    { run(rt, shared, worker, consumer) };
     match scope.spawn_with(promise, job) {
         Ok(handle) => Ok(handle),
         Err(refused) => {
-            given_up.store(true, Ordering::SeqCst);
+            shared.given_up.store(true, Ordering::SeqCst);
             Err((refused.value)())
         }
     }

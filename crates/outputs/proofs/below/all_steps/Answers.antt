@@ -20,7 +20,7 @@ returns-then-is_empty c =
     let records = c.args.desk.now.records in
     let inputs = has_class c.args.inputs.now.keys in
     let k = c.loop-step._step in
-    let long = ap length c.records-step-end.ensures.records in
+    let long = c.record_count-step-end.ensures.count in
     let le : k ≤ length records = omega (arith, long) in
     let empty : length c.fresh.result.now ≡ 0 = grind (arith, nat_tests) in
     let none = sym c.fresh.ensures ∙ nil_from_length c.fresh.result.now empty in
@@ -34,7 +34,7 @@ pub returns : goal.returns
 returns c =
     let records = c.args.desk.now.records in
     let inputs = has_class c.args.inputs.now.keys in
-    let long = ap length c.records-step-end.ensures.records in
+    let long = c.record_count-step-end.ensures.count in
     let all : c.loop-step._step ≡ length records = omega (arith, long) in
     λ class path. ap (filter (is_recorded_at class path)) c.into_records-2.ensures ∙ c.loop-step.invariant.all class path
     ∙ ap (λ n. filter (is_recorded_at class path) (chosen (below_at records inputs n) records)) all

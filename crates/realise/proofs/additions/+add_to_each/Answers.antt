@@ -1,6 +1,5 @@
-use Rattle.std.proofs.Common.{◌≡◌, ◌++◌, [], ◌∷◌, List, length, take, refl, rules, sym, ap, subst, ◌∙◌, arith}
+use Rattle.std.proofs.Common.{◌≡◌, ◌++◌, [], ◌∷◌, take, refl, rules, sym, ap, subst, ◌∙◌, arith}
 use Rattle.std.proofs.Math.Seq.{take-append_seam}
-use Rattle.records.specs.Recorded.{Recorded}
 use Rattle.realise.specs.Additions.{MayAdd, with_addition}
 use Rattle.realise.specs.Kept.{holdings_of}
 use Rattle.realise.proofs.KeepingLemmas.{kept}
@@ -29,7 +28,7 @@ add_to_each-requires t c =
 
 pub invariant_of-desk-in-Err : goal.invariant_of-desk-in-Err
 invariant_of-desk-in-Err t c =
-    let count : length c.as_slice-count.result.now ≡ length c.desk.inside.records = ap (λ (rs : List Recorded). length rs) c.as_slice-count.ensures in
+    let count = c.len-count.ensures in
     let back : c.truncate.new.self ≡ c.desk.inside.records =
     c.truncate.ensures ∙ (λ i. take (count i) (c.in_ok-push_all.ensures i))
     ∙ take-append_seam c.desk.inside.records c.unwrap-records.result.records.items in

@@ -2,4 +2,4 @@ use Rattle.std.proofs.Common.{length}
 use Rattle.workers.proofs.serving.+serve.Given as goal
 
 abbrev pub decreases-serve : goal.decreases-serve
-decreases-serve g l = length l.left.now.items
+decreases-serve g l = length l.workers.now.left.items

@@ -8,5 +8,5 @@ use Rattle.realise.proofs.by_class.Records.at_path.Goals as goal
 pub returns : goal.returns
 returns c =
     let path = c.args.path.now in
-    c.at_path.ensures ∙ ap without_numbers (c.self.invariant.by_path path) ∙ bare_filter (is_record_at path) c.self.inside.list
+    c.at_path.ensures ∙ ap without_numbers (c.self.invariant.tabled.by_path path) ∙ bare_filter (is_record_at path) c.self.inside.list.entries
     ∙ ap (filter (is_record_at path)) c.self.view_is

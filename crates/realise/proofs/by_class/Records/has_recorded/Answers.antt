@@ -8,5 +8,5 @@ use Rattle.realise.proofs.by_class.Records.has_recorded.Goals as goal
 pub returns : goal.returns
 returns c =
     let test = is_recorded_at c.args.class.now c.args.path.now in
-    c.is_some.ensures ∙ ap is_some (c.number_of.ensures c.self.inside.list c.self.invariant) ∙ some_number test c.self.inside.list
+    c.is_some.ensures ∙ ap is_some (c.number_of.ensures c.self.inside.list.entries c.self.invariant.tabled) ∙ some_number test c.self.inside.list.entries
     ∙ ap (list_any test) c.self.view_is

@@ -10,5 +10,5 @@ pub returns : goal.returns
 returns c =
     let class = c.args.class.now in
     let path = c.args.path.now in
-    ap (nat_lt 0) (c.named.ensures ∙ c.self.invariant.named class path) ∙ name_there class path (without_numbers c.self.inside.list)
+    ap (nat_lt 0) (c.named.ensures ∙ c.self.invariant.tabled.named class path) ∙ name_there class path (without_numbers c.self.inside.list.entries)
     ∙ ap (λ rs. list_any (refers_to class path) (remaining class path rs)) c.self.view_is

@@ -8,5 +8,5 @@ use Rattle.realise.proofs.by_class.Records.of_class.Goals as goal
 pub returns : goal.returns
 returns c =
     let class = c.args.class.now in
-    c.of_class.ensures ∙ ap without_numbers (c.self.invariant.by_class class) ∙ bare_filter (is_record_of class) c.self.inside.list
+    c.of_class.ensures ∙ ap without_numbers (c.self.invariant.tabled.by_class class) ∙ bare_filter (is_record_of class) c.self.inside.list.entries
     ∙ ap (filter (is_record_of class)) c.self.view_is

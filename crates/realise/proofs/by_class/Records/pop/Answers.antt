@@ -1,12 +1,21 @@
-use Rattle.std.proofs.Common.{ap, sym, ◌∙◌}
-use Rattle.realise.specs.Indexed.{without_last}
+use Rattle.std.proofs.Common.{ap, sym, subst, ◌∙◌}
+use Rattle.realise.specs.Indexed.{AreTabled, without_last}
 use Rattle.realise.specs.Numbers.{without_numbers}
-use Rattle.realise.proofs.NumberLemmas.{bare_last}
+use Rattle.realise.proofs.NumberLemmas.{ascend_in_map, bare_last, below_last, tabled_before}
 use Rattle.realise.proofs.by_class.Records.pop.Goals as goal
+
+pub invariant_of-self : goal.invariant_of-self
+invariant_of-self c =
+    let number = c.in-Some.number in
+    let left = c.pop_last.new.self.entries in
+    let before = subst (AreTabled c.self.inside.indexes) c.in-Some.ensures.removal c.self.invariant.tabled in
+    record {
+      tabled = tabled_before number c.in-Some.record c.self.inside.indexes c.take.new.self left before (below_last number left c.in-Some.ensures.all_below)
+          c.take.ensures;
+      ascending = ascend_in_map left c.pop_last.ensures.ordered;
+    }
 
 pub returns-in-Some : goal.returns-in-Some
 returns-in-Some c =
-    ap without_numbers (c.take_out.ensures.others ∙ c.in-Some.ensures.some) ∙ bare_last c.self.inside.list ∙ ap without_last c.self.view_is
-
-pub returns-in_default : goal.returns-in_default
-returns-in_default c = sym c.self.view_is ∙ ap without_numbers c.in_default.ensures.none ∙ ap without_last (ap without_numbers (sym c.in_default.ensures.none) ∙ c.self.view_is)
+    bare_last (c.in-Some.number, c.in-Some.record) c.pop_last.new.self.entries
+    ∙ ap (λ list. without_last (without_numbers list)) (sym c.in-Some.ensures.removal) ∙ ap without_last c.self.view_is
