@@ -7,6 +7,7 @@ use model::Refusal;
 use std::alloc::Global;
 use std::hash::RandomState;
 use std::mem;
+use std::sync::Arc;
 use storepath::StorePath;
 use trust::{Trust, User};
 
@@ -135,7 +136,11 @@ impl Heard {
     /// # Errors
     ///
     /// - `Memory` where memory was refused.
-    pub(crate) fn new(alloc: Global, hashing: RandomState, rows: &[Row]) -> Result<Heard, Refusal> {
+    pub(crate) fn new(
+        alloc: Global,
+        hashing: RandomState,
+        rows: &[Arc<Row>],
+    ) -> Result<Heard, Refusal> {
         let mut heard = Heard {
             alloc,
             askers: Vec::new(alloc),

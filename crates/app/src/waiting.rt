@@ -11,6 +11,7 @@ use std::fmt;
 use std::fmt::{Display, Formatter};
 use std::hash::RandomState;
 use std::io::Eprint;
+use std::sync::Arc;
 use storepath::StorePath;
 use trust::User;
 
@@ -147,7 +148,12 @@ fn tell_heard<H: Eprint>(
 
 /// Says on standard error which goals are left waiting by the history of a run, and for which inputs. What there is no
 /// memory for, and what cannot be said, is let go. It takes time that grows with the history and with what is said.
-pub(crate) fn tell_waiting<H: Eprint>(host: &H, alloc: Global, hashing: RandomState, rows: &[Row]) {
+pub(crate) fn tell_waiting<H: Eprint>(
+    host: &H,
+    alloc: Global,
+    hashing: RandomState,
+    rows: &[Arc<Row>],
+) {
     if let Ok(heard) = Heard::new(alloc, hashing, rows) {
         let _ = tell_heard(host, alloc, hashing, &heard);
     }

@@ -2,3 +2,4 @@ pub mod Keeping
 pub mod Asking
 pub mod Publishing
 pub mod Applying
+pub mod Closing

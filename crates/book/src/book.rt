@@ -2,6 +2,7 @@
 
 ghost use Rattle.std.specs.Prelude.{◌≡◌, ◌≢◌, ◌+◌, ◌++◌, ◌<◌, ◌∷◌, ◌⊎◌, [], length, vec_len, map, sum, All, true, false, OnOk, OnErr, IfOk, IfErr, Err};
 ghost use Rattle.std.specs.Vec.{vec_capacity};
+ghost use Rattle.std.specs.Arc.{arc_value};
 ghost use mathlib.Core.List.{IsPrefix};
 ghost use Rattle.model.specs.Paths.{NoClash};
 ghost use Rattle.model.specs.Worlds.{nothing};
@@ -16,6 +17,7 @@ ghost use Rattle.events.specs.declared.reply.Reply.TheVariants.{Refused};
 ghost use Rattle.history.specs.Callers.{told_stopped, knowing, stops_of, Matches};
 ghost use Rattle.history.specs.Histories.{IsLegal};
 ghost use Rattle.book.specs.Applying.{IsApplied};
+ghost use Rattle.book.specs.Closing.{rows_in};
 ghost use Rattle.book.specs.Keeping.{IsNew, StandsFor};
 
 use crate::closed_history::History;
@@ -30,7 +32,7 @@ use schedule::{Core, Event, Ready, Reply, RunningJob, User};
 use std::alloc::{AllocError, Global};
 use std::marker::Model;
 use std::sync::ledger::Share;
-use std::sync::{Wait, ledger};
+use std::sync::{Arc, Wait, ledger};
 
 /// A core with the history of its calls. Whoever holds it may call [`Book::apply`] for any pass.
 ///
@@ -40,7 +42,7 @@ use std::sync::{Wait, ledger};
 /// book is stopped: the core is not used any more, and what was published before stays to be read.
 pub struct Book<J: FrontId> {
     core: Core,
-    history: Vec<Row>,
+    history: Vec<Arc<Row>>,
     calls: ledger::Book<J>,
     stops: ledger::Book<StopCount<J>>,
     spare: Counts<J>,
@@ -65,7 +67,8 @@ impl<J: FrontId> Drop for Book<J> {
 }
 
 impl<J: FrontId> Model for Book<J> {
-    ghost use Rattle.std.specs.Prelude.{◌≡◌, true, false, length};
+    ghost use Rattle.std.specs.Prelude.{◌≡◌, true, false, length, map};
+    ghost use Rattle.std.specs.Arc.{arc_value};
     ghost use Rattle.history.specs.Callers.{stops_of};
     ghost use Rattle.book.specs.Keeping.{Contents, Kept};
 
@@ -76,19 +79,24 @@ impl<J: FrontId> Model for Book<J> {
 
     ghost coded = { Prim.hlevel (codes, tree_code) };
 
-    ghost view = { λ b. record { core = b.core; rows = b.history.items; stopped = b.stopped } };
+    ghost view = { λ b. record {
+      core = b.core;
+      rows = map arc_value b.history.items;
+      stopped = b.stopped;
+    } };
 
-    ghost invariant = { λ b. Kept J.setup b.core b.stopped b.history.items
-        × (length b.history.items ≡ b.calls.total)
+    ghost invariant = { λ b. let rows = map arc_value b.history.items in
+        Kept J.setup b.core b.stopped rows
+        × (length rows ≡ b.calls.total)
         × (b.spare.calls.parts ≡ 0) × (b.spare.calls.amount ≡ 0)
-        × (b.log.rows ≡ b.history.items) × (b.log.stopped ≡ b.stopped)
-        × (b.publisher.rows ≡ b.history.items) × (b.stopped ≡ false → b.publisher.whole ≡ true)
+        × (b.log.rows ≡ rows) × (b.log.stopped ≡ b.stopped)
+        × (b.publisher.rows ≡ rows) × (b.stopped ≡ false → b.publisher.whole ≡ true)
         × (b.stops.total ≡ stops_of b.stopped)
         × (b.spare.stops.parts ≡ 0) × (b.spare.stops.amount ≡ 0) };
 }
 
 /// Makes room for a row, and copies the event that it is to have.
-fn hold(history: &mut Vec<Row>, event: &Event) -> Result<Event, AllocError>
+fn hold(history: &mut Vec<Arc<Row>>, event: &Event) -> Result<Event, AllocError>
     ensures copy { IfOk result (λ asked. asked ≡ event.now) }
     ensures rows { history.new.items ≡ history.old.items }
     ensures room { OnOk result (vec_len history.new < vec_capacity history.new) }
@@ -98,7 +106,7 @@ fn hold(history: &mut Vec<Row>, event: &Event) -> Result<Event, AllocError>
 }
 
 /// Puts a row behind the others.
-fn push(history: &mut Vec<Row>, row: Row)
+fn push(history: &mut Vec<Arc<Row>>, row: Arc<Row>)
     requires { vec_len history.old < vec_capacity history.old }
     ensures { history.new.items ≡ history.old.items ++ row ∷ [] }
 {
@@ -213,7 +221,7 @@ impl<J: FrontId> Book<J> {
             stops.add(part, 1);
             return Reply::Refused(Refusal::Memory);
         };
-        pass.add_row(calls, log, &row);
+        pass.add_row(calls, log, &*row);
         push(history, row);
         reply
     }
@@ -303,8 +311,8 @@ impl<J: FrontId> Book<J> {
     }
 
     /// The rows, the oldest first.
-    pub fn rows(&self) -> &[Row]
-        ensures rows { result.now ≡ self.now.rows }
+    pub fn rows(&self) -> &[Arc<Row>]
+        ensures rows { map arc_value result.now ≡ self.now.rows }
         ensures legal { IsLegal J.setup self.now.rows }
     {
         isolation();
@@ -348,13 +356,13 @@ impl<J: FrontId> Book<J> {
     /// The history. The passes are all that there are. It waits for readers of what was published.
     pub(crate) fn end<R: Wait>(self, rt: &R, passes: Vec<Pass<J>>) -> History
         requires { length passes.items ≡ J.parts }
-        ensures rows { result.rows.items ≡ self.rows }
-        ensures legal { IsLegal J.setup result.rows.items }
-        ensures count { length result.rows.items ≡ sum (map (λ p. p.caller.calls) passes.items) }
+        ensures rows { rows_in result ≡ self.rows }
+        ensures legal { IsLegal J.setup (rows_in result) }
+        ensures count { length (rows_in result) ≡ sum (map (λ p. p.caller.calls) passes.items) }
         ensures stopped { result.stopped ≡ self.stopped }
         ensures stops { sum (map (λ p. p.stops) passes.items) ≡ stops_of result.stopped }
-        ensures matches { All (λ p. Matches result.rows.items result.stopped p.caller) passes.items }
-        ensures seen { All (λ p. IsPrefix p.seen result.rows.items) passes.items }
+        ensures matches { All (λ p. Matches (rows_in result) result.stopped p.caller) passes.items }
+        ensures seen { All (λ p. IsPrefix p.seen (rows_in result)) passes.items }
     {
         isolation();
         timed_isolation();

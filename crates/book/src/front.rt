@@ -12,6 +12,7 @@ ghost use Rattle.history.specs.FrontId.{name_of};
 ghost use Rattle.history.specs.Tied.{knower};
 ghost use Rattle.book.specs.Applying.{HasCalled};
 ghost use Rattle.book.specs.Asking.{HasAsked};
+ghost use Rattle.book.specs.Closing.{rows_in};
 ghost use Rattle.book.specs.Keeping.{IsNew};
 
 use crate::book::{Book, refuse};
@@ -327,11 +328,11 @@ impl<J: FrontId> Front<J> {
     /// exactly if a call of one of them stopped it. It waits for readers of what was published.
     pub fn close<R: Wait>(self, rt: &R, passes: Vec<Pass<J>>) -> History
         requires { length passes.items ≡ J.parts }
-        ensures legal { IsLegal J.setup result.rows.items }
-        ensures rows { length result.rows.items ≡ sum (map (λ p. p.caller.calls) passes.items) }
-        ensures sure { All (λ p. IsPrefix p.caller.sure result.rows.items) passes.items }
-        ensures seen { All (λ p. IsPrefix p.seen result.rows.items) passes.items }
-        ensures each { All (λ p. rows_of p.caller.number result.rows.items ≡ p.caller.calls)
+        ensures legal { IsLegal J.setup (rows_in result) }
+        ensures rows { length (rows_in result) ≡ sum (map (λ p. p.caller.calls) passes.items) }
+        ensures sure { All (λ p. IsPrefix p.caller.sure (rows_in result)) passes.items }
+        ensures seen { All (λ p. IsPrefix p.seen (rows_in result)) passes.items }
+        ensures each { All (λ p. rows_of p.caller.number (rows_in result) ≡ p.caller.calls)
             passes.items }
         ensures stopped { All (λ p. p.caller.stopped ≡ true → result.stopped ≡ true) passes.items }
         ensures stops { sum (map (λ p. p.stops) passes.items) ≡ stops_of result.stopped }

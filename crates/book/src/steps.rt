@@ -1,6 +1,7 @@
 //! A step of a core whose row is published.
 
 ghost use Rattle.std.specs.Prelude.{◌≡◌, ◌++◌, ◌∷◌, [], true, false, IfOk, IfErr, IfSome, IfNone};
+ghost use Rattle.std.specs.Arc.{arc_value};
 ghost use Rattle.model.specs.declared.refusal.Refusal.TheVariants.{Memory};
 ghost use Rattle.schedule.specs.Standing.{setup_of, IsUnchanged};
 ghost use Rattle.events.specs.declared.reply.Reply.TheVariants.{Refused};
@@ -29,57 +30,42 @@ fn want_in(reply: &Reply) -> Option<Refusal>
     }
 }
 
-/// A copy of the event of a row.
-fn event_again(row: &Row) -> Result<Event, AllocError>
-    ensures { IfOk result (λ event. event ≡ row.now.event) }
+/// A row that two share.
+fn share(alloc: Global, row: Row) -> Result<(Arc<Row>, Arc<Row>), AllocError>
+    ensures { IfOk result (λ both. (arc_value both.0 ≡ row) × (arc_value both.1 ≡ row)) }
 {
-    row.event.clone()
+    let first = Arc::new(alloc, row)?;
+    let second = Arc::try_clone(&first)?;
+    Ok((first, second))
 }
 
-/// A copy of its reply.
-fn reply_again(row: &Row) -> Result<Reply, AllocError>
-    ensures { IfOk result (λ reply. reply ≡ row.now.reply) }
-{
-    row.reply.clone()
-}
-
-/// A copy of a row.
-fn row_again(row: &Row) -> Result<Row, AllocError>
-    ensures { IfOk result (λ copy. copy ≡ row.now) }
-{
-    let event = event_again(row)?;
-    let reply = reply_again(row)?;
-    Ok(Row {
-        pass: row.pass,
-        event,
-        reply,
-    })
-}
-
-/// Publishes a copy of a row, with the values that were made for its event, and says whether it did.
+/// Publishes a row, with the values that were made for its event, and gives it to be shared if it did.
 fn show<J: FrontId, R: Wait>(
     rt: &R,
     alloc: Global,
     publisher: &mut Publisher<J>,
-    row: &Row,
+    row: Row,
     ready: Ready,
-) -> bool
+) -> Option<Arc<Row>>
     requires whole { publisher.old.whole ≡ true }
-    requires legal { IsLegal J.setup (publisher.old.rows ++ row.now ∷ []) }
-    ensures shown { result ≡ true
-        → publisher.new ≡ record { rows = publisher.old.rows ++ row.now ∷ []; whole = true } }
-    ensures lost { result ≡ false → publisher.new.rows ≡ publisher.old.rows }
+    requires legal { IsLegal J.setup (publisher.old.rows ++ row ∷ []) }
+    ensures row { IfSome result (λ shared. arc_value shared ≡ row) }
+    ensures shown { IfSome result (λ _.
+        publisher.new ≡ record { rows = publisher.old.rows ++ row ∷ []; whole = true }) }
+    ensures lost { IfNone result (publisher.new.rows ≡ publisher.old.rows) }
 {
-    let Ok(copy) = row_again(row) else {
-        return false;
+    let Ok((shared, published)) = share(alloc, row) else {
+        return None;
     };
-    let Ok(shared) = Arc::new(alloc, copy) else {
-        return false;
-    };
-    publisher.put(rt, shared, ready)
+    if publisher.put(rt, published, ready) {
+        Some(shared)
+    } else {
+        None
+    }
 }
 
-/// Lets a core take an event and publishes the row, and gives its reply and the row. There is none
+/// Lets a core take an event and publishes the row, and gives its reply and the row, shared with what is
+/// published. There is none
 /// where the core has taken the event, and memory is refused for publishing the row. The error is the
 /// core's own want of memory, at which the core is as it was.
 #[tactic(auto, using(crate::proofs::ReplyLemmas::wants_memory))]
@@ -92,15 +78,15 @@ pub(crate) fn step<J: FrontId, R: Wait>(
     event: Event,
     asked: Event,
     ready: Ready,
-) -> Result<Option<(Reply, Row)>, Refusal>
+) -> Result<Option<(Reply, Arc<Row>)>, Refusal>
     requires asked { asked ≡ event }
     requires whole { publisher.old.whole ≡ true }
     requires kept { Kept J.setup core.old false publisher.old.rows }
-    ensures row { IfOk result (λ found. IfSome found (λ p. p.1 ≡ row pass event p.0)) }
+    ensures row { IfOk result (λ found. IfSome found (λ p. arc_value p.1 ≡ row pass event p.0)) }
     ensures some { IfOk result (λ found. IfSome found (λ p. unrecorded p.0 ≡ false)) }
     ensures step { IfOk result (λ found. IfSome found (λ p. Steps core.old event p.0 core.new)) }
     ensures shown { IfOk result (λ found. IfSome found (λ p.
-        publisher.new ≡ record { rows = publisher.old.rows ++ p.1 ∷ []; whole = true })) }
+        publisher.new ≡ record { rows = publisher.old.rows ++ arc_value p.1 ∷ []; whole = true })) }
     ensures lost { IfOk result (λ found. IfNone found (TookEvent core.old event core.new)) }
     ensures not_shown { IfOk result (λ found. IfNone found (publisher.new.rows ≡ publisher.old.rows)) }
     ensures given { setup_of core.new ≡ setup_of core.old }
@@ -122,8 +108,8 @@ pub(crate) fn step<J: FrontId, R: Wait>(
         event: asked,
         reply: copy,
     };
-    if !show(rt, alloc, publisher, &row, ready) {
-        return Ok(None);
+    match show(rt, alloc, publisher, row, ready) {
+        Some(shared) => Ok(Some((reply, shared))),
+        None => Ok(None),
     }
-    Ok(Some((reply, row)))
 }

@@ -11,7 +11,7 @@ use session::Job;
 use std::alloc::Global;
 use std::hash::RandomState;
 use std::marker::Brand;
-use std::sync::Wait;
+use std::sync::{Arc, Wait};
 use std::thread::Threads;
 use trial_lines::{Answer, adding, fetching, new_core};
 
@@ -85,7 +85,7 @@ impl Task for Repeated {
 }
 
 /// How many rows there are, and how many of them are of the second pass.
-fn counted(rows: &[Row]) -> (usize, usize) {
+fn counted(rows: &[Arc<Row>]) -> (usize, usize) {
     let ones = rows.iter().filter(|row| row.pass == 1).count();
     (rows.len(), ones)
 }

@@ -14,8 +14,8 @@ use session::{Mode, Session, answer_text};
 use std::alloc::{AllocError, Global};
 use std::hash::RandomState;
 use std::marker::Brand;
-use std::sync::Wait;
 use std::sync::atomic::{AtomicBool, Ordering};
+use std::sync::{Arc, Wait};
 use std::thread::Threads;
 use trial_lines::{Answer, adding, core_for, fetching, new_core, number, tell};
 
@@ -166,7 +166,7 @@ fn rows_of<J: FrontId, R: Wait>(
     blank: FrontTokens,
     core: Core,
     lines: &String,
-) -> Result<Vec<Row>, Refusal>
+) -> Result<Vec<Arc<Row>>, Refusal>
     requires blank { (blank.calls.name ≡ J.name) × (blank.calls.parts ≡ J.parts) }
     requires stops { blank.stops.name ≡ J.stops }
     requires parts { blank.calls.parts ≡ 1 }
@@ -196,13 +196,13 @@ struct Stage {
 #[derive(Drop)]
 struct Preparing<'a> {
     stage: &'a Stage,
-    rows: Vec<Row>,
+    rows: Vec<Arc<Row>>,
     texts: Vec<Vec<u8>>,
 }
 
 impl<'a> Preparing<'a> {
     /// What a thread does that commits the events of these rows, or none.
-    fn new(alloc: Global, stage: &'a Stage, rows: Vec<Row>) -> Preparing<'a> {
+    fn new(alloc: Global, stage: &'a Stage, rows: Vec<Arc<Row>>) -> Preparing<'a> {
         Preparing {
             stage,
             rows,
@@ -215,7 +215,7 @@ impl<'a> Preparing<'a> {
 fn tasks_of<'a>(
     alloc: Global,
     stage: &'a Stage,
-    rows: Vec<Row>,
+    rows: Vec<Arc<Row>>,
 ) -> Result<Vec<Preparing<'a>>, AllocError> {
     let mut tasks = Vec::new(alloc);
     tasks.push(Preparing::new(alloc, stage, Vec::new(alloc)))?;
@@ -239,7 +239,7 @@ fn hold<J: FrontId, R: Wait>(member: &mut Member<'_, J, R, Preparing<'_>>) -> Re
 fn prepare_each<J: FrontId>(
     alloc: Global,
     pass: &mut Pass<J>,
-    rows: &[Row],
+    rows: &[Arc<Row>],
 ) -> Result<Vec<Ready>, Refusal> {
     let mut made = Vec::new(alloc);
     for row in rows {
@@ -254,7 +254,7 @@ fn commit_each<J: FrontId, R: Wait>(
     alloc: Global,
     front: &Front<J>,
     pass: &mut Pass<J>,
-    rows: &[Row],
+    rows: &[Arc<Row>],
     made: Vec<Ready>,
 ) -> Result<Vec<Vec<u8>>, Refusal> {
     let mut texts = Vec::new(alloc);
@@ -321,7 +321,7 @@ fn call_each<J: FrontId, R: Wait>(
     alloc: Global,
     front: &Front<J>,
     pass: &mut Pass<J>,
-    rows: &[Row],
+    rows: &[Arc<Row>],
 ) -> Result<(), Refusal> {
     for row in rows {
         let _reply = front.call(rt, alloc, pass, row.event.clone()?);
@@ -335,7 +335,7 @@ fn prepare_last<J: FrontId + Send + Sync, R: Threads + Wait + Sync>(
     alloc: Global,
     blank: FrontTokens,
     core: Core,
-    rows: Vec<Row>,
+    rows: Vec<Arc<Row>>,
     last: usize,
     out: &mut Answer,
 ) -> Result<(), Refusal>

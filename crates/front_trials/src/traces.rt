@@ -5,6 +5,7 @@ use model::Refusal;
 use schedule::{Core, Event};
 use session::answer_text;
 use std::alloc::Global;
+use std::sync::Arc;
 
 /// One event of a caller, and the answer to it.
 #[derive(Drop)]
@@ -27,7 +28,7 @@ pub(crate) fn text_of(alloc: Global, row: &Row) -> Result<Vec<u8>, Refusal> {
 }
 
 /// How many rows have another reply than a store that takes the events of all of them.
-pub(crate) fn wrong_rows(alloc: Global, core: Core, rows: &[Row]) -> Result<usize, Refusal> {
+pub(crate) fn wrong_rows(alloc: Global, core: Core, rows: &[Arc<Row>]) -> Result<usize, Refusal> {
     let mut core = core;
     let mut wrong = 0usize;
     for row in rows {
@@ -81,7 +82,7 @@ fn is_call_of(alloc: Global, row: &Row, trace: &[Entry], place: usize) -> Result
 pub(crate) fn unmatched(
     alloc: Global,
     core: Core,
-    rows: &[Row],
+    rows: &[Arc<Row>],
     number: u64,
     trace: &[Entry],
 ) -> Result<usize, Refusal> {

@@ -1,23 +1,20 @@
 -- The calls of a pass, one after another, and what they leave in the history.
 use Rattle.std.proofs.Common.{◌≡◌, ℕ, ◌+◌, Bool, true, false, ◌⊎◌, inl, inr, refl, sym, ◌∙◌, ap, subst, arith, List, [], ◌∷◌, ◌++◌}
-use Rattle.std.specs.Prelude.{◌==◌, ◌||◌, ◌&&◌, not, if◌then◌else◌}
+use Rattle.std.specs.Prelude.{◌==◌, if◌then◌else◌}
 use Rattle.std.proofs.lemmas.Bool.{eq-eqb}
 use Rattle.std.proofs.lemmas.List.{append-nil, append_assoc}
 use mathlib.Core.List.{IsPrefix}
-use Rattle.model.specs.declared.refusal.Refusal.{Refusal}
-use Rattle.model.specs.declared.refusal.Refusal.TheVariants.{Memory, Stopped}
 use Rattle.model.specs.Worlds.{Setup}
 use Rattle.model.proofs.BoolLemmas.{either}
 use Rattle.events.specs.declared.event.Event.{Event}
 use Rattle.events.specs.declared.reply.Reply.{Reply}
-use Rattle.events.specs.declared.reply.Reply.TheVariants.{Refused}
 use Rattle.history.specs.declared.row.Row.{Row}
-use Rattle.history.specs.Callers.{Caller, Known, answered, told_stopped, knowing, rows_of}
-use Rattle.history.proofs.Prefixes.{prefix_self, prefix_push, prefix_trans}
+use Rattle.history.specs.Callers.{Caller, Known, answered, told_stopped, rows_of}
+use Rattle.history.proofs.Prefixes.{prefix_self, prefix_trans}
 use Rattle.history.proofs.RowLemmas.{rows_of-append, one_more}
 use Rattle.history.specs.Histories.{row, unrecorded, IsReadAfter}
 use Rattle.workers.specs.Working.{Call}
-use Rattle.running.specs.Calling.{is_read, has_row, IsTold, own_rows, rows_for, IsAnsweredBy, AnsweredInOrder}
+use Rattle.running.specs.Calling.{is_read, has_row, IsTold, own_rows, rows_for, AnsweredInOrder}
 use Rattle.running.specs.Meeting.{HasMet, unrecorded_cases, is_stopped, stopped_met, stopped_called}
 use Rattle.running.specs.Sessions.{Calls}
 

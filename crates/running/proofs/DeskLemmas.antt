@@ -16,6 +16,7 @@ use Rattle.events.specs.declared.event.Event.{Event}
 use Rattle.events.specs.declared.reply.Reply.{Reply}
 use Rattle.history.specs.Callers.{Known, new_pass, below, rows_of, stops_of}
 use Rattle.book.specs.declared.closed_history.History.{History}
+use Rattle.book.specs.Closing.{rows_in}
 use Rattle.running.specs.declared.sessions.Desk.{Desk}
 use Rattle.running.specs.declared.sessions.Left.{Left}
 use Rattle.running.specs.declared.sessions.Output.{Output}
@@ -222,8 +223,8 @@ module _ {Q : Type 0} where
 
 -- what a front says at its end, of each pass
 pub given_back : (history : History) (passes : List Known)
-    → All (λ (p : Known). IsPrefix p.caller.sure history.rows.items) passes → All (λ (p : Known). IsPrefix p.seen history.rows.items) passes
-    → All (λ (p : Known). rows_of p.caller.number history.rows.items ≡ p.caller.calls) passes
+    → All (λ (p : Known). IsPrefix p.caller.sure (rows_in history)) passes → All (λ (p : Known). IsPrefix p.seen (rows_in history)) passes
+    → All (λ (p : Known). rows_of p.caller.number (rows_in history) ≡ p.caller.calls) passes
     → All (λ (p : Known). p.caller.stopped ≡ true → history.stopped ≡ true) passes → All (IsGivenBack history) passes
 given_back history passes sure seen each stopped = λ k d inside. record {
   sure = sure k d inside;
@@ -305,11 +306,11 @@ module _ {I Q : Type 0} (setup : Setup) (gives : Q → Running → Result (List 
     workers = workers;
     workers_are = served.workers_are results.history closed.back;
     others =
-        subst (λ (n : ℕ). are_accounted (session_passes n parts) workers results.history.rows.items ≡ true) needed
-        (subst (λ (ns : List ℕ). are_accounted ns workers results.history.rows.items ≡ true) served.named closed.others);
+        subst (λ (n : ℕ). are_accounted (session_passes n parts) workers (rows_in results.history) ≡ true) needed
+        (subst (λ (ns : List ℕ). are_accounted ns workers (rows_in results.history) ≡ true) served.named closed.others);
     asked =
-        subst (λ (n : ℕ). are_asked (session_passes n parts) results.history.rows.items ≡ true) needed
-        (subst (λ (ns : List ℕ). are_asked ns results.history.rows.items ≡ true) served.named closed.asked);
+        subst (λ (n : ℕ). are_asked (session_passes n parts) (rows_in results.history) ≡ true) needed
+        (subst (λ (ns : List ℕ). are_asked ns (rows_in results.history) ≡ true) served.named closed.asked);
   }
 
   pub if_results : (parts : List (Part I Q)) (count : ℕ) (sessions workers : List ℕ) (passes : List Known) (outputs : Vec Output)
@@ -322,7 +323,7 @@ module _ {I Q : Type 0} (setup : Setup) (gives : Q → Running → Result (List 
   if_results parts count sessions workers passes outputs needed served (Err why) closed = tt
 
   -- no file gives no output
-  pub no_results : (parts : List (Part I Q)) (results : Results) → parts ≡ [] → results.outputs.items ≡ [] → results.history.rows.items ≡ []
+  pub no_results : (parts : List (Part I Q)) (results : Results) → parts ≡ [] → results.outputs.items ≡ [] → rows_in results.history ≡ []
       → results.history.stopped ≡ false → AreResults setup gives remaining parts results
   no_results parts results none outputs rows going = record {
     legal = subst (IsLegal setup) (sym rows) (legal_none setup);

@@ -1,8 +1,7 @@
 -- What a session called and read through its pass, and its workers through theirs, stands in the history of the front.
 use Rattle.std.proofs.Common.{◌≡◌, ◌⊎◌, inl, inr, refl, sym, ◌∙◌, ap, subst, arith, Bool, true, false, true≢false, List, [], ◌∷◌, ◌++◌, ℕ, ◌+◌, ◌<◌, Option, Result, Ok, Err}
-use Rattle.std.specs.Prelude.{◌||◌, ◌≢◌, map, sum, All, MatchResult}
+use Rattle.std.specs.Prelude.{◌||◌, map, All, MatchResult}
 use Rattle.std.proofs.lemmas.List.Elements.{All-head, All-tail}
-use mathlib.Core.List.{IsPrefix}
 use Rattle.model.specs.declared.refusal.Refusal.{Refusal}
 use Rattle.model.specs.declared.refusal.Refusal.TheVariants as why
 use Rattle.model.specs.Worlds.{Setup, Job}
@@ -12,27 +11,27 @@ use Rattle.model.specs.Replies.{is_refusal, is_memory_refusal, is_stopped_refusa
 use Rattle.model.specs.Talk as talk
 use Rattle.model.proofs.BoolLemmas.{either}
 use Rattle.events.specs.declared.event.Event.{Event}
-use Rattle.events.specs.declared.event.Request.TheVariants.{Status}
 use Rattle.events.specs.declared.reply.Reply.{Reply}
 use Rattle.events.specs.declared.reply.Reply.TheVariants.{Refused}
 use Rattle.events.specs.Terms.{reply_of}
 use Rattle.history.specs.declared.row.Row.{Row}
 use Rattle.history.specs.Callers.{Known, new_pass, rows_of}
 use Rattle.book.specs.declared.closed_history.History.{History}
+use Rattle.book.specs.Closing.{rows_in}
 use Rattle.workers.specs.declared.runner.RunFault.{RunFault}
 use Rattle.workers.specs.declared.worker.Worker.{Worker}
-use Rattle.workers.specs.Working.{Call, asking}
+use Rattle.workers.specs.Working.{Call}
 use Rattle.session.specs.Serving.{Link, Chain}
 use Rattle.book.specs.Asking.{IsAskedBy}
-use Rattle.running.specs.Calling.{IsTold, Stand, is_read, own_rows, rows_for}
+use Rattle.running.specs.Calling.{IsTold, Stand, is_read}
 use Rattle.running.specs.Meeting.{HasMet, IsNew, is_stopped, met_none, met_more, met_asking, stopped_told, stops_by}
 use Rattle.running.specs.Sessions.{Answers, Waits, IsStatusOf, AsksStatus, Calls, Served, ServedInPart}
-use Rattle.running.specs.Teams.{HasWorked, AllWorked, stops_in}
+use Rattle.running.specs.Teams.{HasWorked, AllWorked}
 use Rattle.running.specs.Desks.{numbers_in}
 use Rattle.running.specs.Runs.{Makes, is_told, tell, LinesStand, Ran, RanInPart, WorkerStands, WorkersStand, IsGivenBack}
 use Rattle.running.proofs.WaitLemmas.{calls_append}
 use Rattle.running.proofs.TeamLemmas.{rounds_chain}
-use Rattle.running.proofs.ChainLemmas.{own_longer, chain_adds, chain_counts, chain_seen, chain_stopped, chain_order}
+use Rattle.running.proofs.ChainLemmas.{own_longer, chain_adds, chain_counts, chain_stopped, chain_order}
 
 -- ---- 90 and 92
 
@@ -174,9 +173,9 @@ module _ (setup : Setup) where
 
   module _ (history : History) (number : ℕ) (last : Known) (back : IsGivenBack history last) where
     -- calls from a pass that had made none
-    pub calls_stand : (calls : List Call) → CallChain (new_pass number) calls last → Stand setup history.rows.items number calls
+    pub calls_stand : (calls : List Call) → CallChain (new_pass number) calls last → Stand setup (rows_in history) number calls
     calls_stand calls chain =
-        let rows : List Row = history.rows.items in
+        let rows : List Row = rows_in history in
         let adds = chain_adds setup (new_pass number) calls last chain in
         let counted : rows_of number last.caller.sure ≡ last.caller.calls =
         subst (λ n. rows_of n last.caller.sure ≡ last.caller.calls) adds.number (chain_counts setup (new_pass number) calls last chain refl) in

@@ -14,9 +14,9 @@ use Rattle.schedule.specs.declared.query.Query.{Query}
 use Rattle.schedule.specs.declared.query.Question.{Question}
 use Rattle.schedule.specs.declared.query.Question.TheVariants.{Status, Closure, Fetch}
 use Rattle.schedule.specs.Queries.{request_in, event_for}
-use Rattle.history.specs.Callers.{Caller, Known, seeing, told_stopped}
+use Rattle.history.specs.Callers.{Known, seeing, told_stopped}
 use Rattle.history.specs.Histories.{unrecorded, IsAnswered, IsReadAfter}
-use Rattle.running.specs.Calling.{is_read, has_row, IsCounted, IsTold}
+use Rattle.running.specs.Calling.{is_read, IsCounted, IsTold}
 
 -- neither of two
 neither : (a b : Bool) → (not a && not b) ≡ true → (a ≡ false) × (b ≡ false)

@@ -19,6 +19,7 @@ use Rattle.history.specs.declared.row.Row.{Row}
 use Rattle.history.specs.Callers.{Known, new_pass, rows_of, stops_of}
 use Rattle.history.specs.Histories.{IsLegal}
 use Rattle.book.specs.declared.closed_history.History.{History}
+use Rattle.book.specs.Closing.{rows_in}
 use Rattle.workers.specs.declared.runner.RunFault.{RunFault}
 use Rattle.workers.specs.declared.ticket.Ticket.{Ticket}
 use Rattle.workers.specs.declared.worker.Worker.{Worker}
@@ -62,7 +63,7 @@ tell which (row ∷ rows) = is_told which row || tell which rows
 pub record LinesStand (setup : Setup) (history : History) (number stops : ℕ) (rows : List talk.Row) : Type 0 where
   pub calls : List Call
   pub makes : Makes rows calls
-  pub stand : Stand setup history.rows.items number calls
+  pub stand : Stand setup (rows_in history) number calls
   pub stopped : tell is_stopped_refusal rows ≡ true → history.stopped ≡ true
   pub memory : 0 < stops → tell is_memory_refusal rows ≡ true
 
@@ -122,7 +123,7 @@ module _ {Q : Type 0} (setup : Setup) (gives : Q → Running → Result (List �
     pub rounds : List (List Ticket)
     pub calls : List Call
     pub works : WorksInRounds (IsTold setup) (IsAskedBy setup) gives HasMet first rounds calls last
-    pub stand : Stand setup history.rows.items number calls
+    pub stand : Stand setup (rows_in history) number calls
 
   abbrev pub WorkersStand : List ℕ → Type 0
   WorkersStand [] = Unit {0}
@@ -140,9 +141,9 @@ are_accounted sessions workers rows = list_all (is_accounted sessions workers) r
 
 -- what a front says in its history, when it is closed, of a pass that was given back
 pub record IsGivenBack (history : History) (pass : Known) : Type 0 where
-  pub sure : IsPrefix pass.caller.sure history.rows.items
-  pub seen : IsPrefix pass.seen history.rows.items
-  pub each : rows_of pass.caller.number history.rows.items ≡ pass.caller.calls
+  pub sure : IsPrefix pass.caller.sure (rows_in history)
+  pub seen : IsPrefix pass.seen (rows_in history)
+  pub each : rows_of pass.caller.number (rows_in history) ≡ pass.caller.calls
   pub stopped : pass.caller.stopped ≡ true → history.stopped ≡ true
 
 module _ {I Q : Type 0} (setup : Setup) (gives : Q → Running → Result (List ℕ) RunFault → Q → Type 0) (remaining : I → Option (List ℕ)) where
@@ -160,19 +161,19 @@ module _ {I Q : Type 0} (setup : Setup) (gives : Q → Running → Result (List 
   -- the worker's file was given before; and it says that the store was stopped just where a call did that, after which a line of that file was
   -- told 90
   pub record AreResults (parts : List (Part I Q)) (results : Results) : Type 0 where
-    pub legal : IsLegal setup results.history.rows.items
+    pub legal : IsLegal setup (rows_in results.history)
     pub stops : List ℕ
     pub outputs : AreOutputs setup remaining results.history (session_passes (passes_needed parts) parts) stops parts results.outputs.items
     pub stopped : sum stops ≡ stops_of results.history.stopped
     pub workers : List ℕ
     pub workers_are : ∥ WorkersStand setup gives results.history workers ∥₁
-    pub others : are_accounted (session_passes (passes_needed parts) parts) workers results.history.rows.items ≡ true
-    pub asked : are_asked (session_passes (passes_needed parts) parts) results.history.rows.items ≡ true
+    pub others : are_accounted (session_passes (passes_needed parts) parts) workers (rows_in results.history) ≡ true
+    pub asked : are_asked (session_passes (passes_needed parts) parts) (rows_in results.history) ≡ true
 
 -- a front was closed with these passes, of which these are the sessions' and those the workers', who went on with goals of their own files
 pub record IsClosed (setup : Setup) (sessions workers : List ℕ) (passes : List Known) (history : History) : Type 0 where
-  pub legal : IsLegal setup history.rows.items
+  pub legal : IsLegal setup (rows_in history)
   pub back : All (IsGivenBack history) passes
   pub stopped : sum_by stops_by passes ≡ stops_of history.stopped
-  pub others : are_accounted sessions workers history.rows.items ≡ true
-  pub asked : are_asked sessions history.rows.items ≡ true
+  pub others : are_accounted sessions workers (rows_in history) ≡ true
+  pub asked : are_asked sessions (rows_in history) ≡ true

@@ -1,6 +1,7 @@
 //! Whether workers went on with goals that their files had asked for.
 
-ghost use Rattle.std.specs.Prelude.{◌≡◌, IfOk, OnOk};
+ghost use Rattle.std.specs.Prelude.{◌≡◌, map, IfOk, OnOk};
+ghost use Rattle.std.specs.Arc.{arc_value};
 ghost use Rattle.indexmap.specs.IndexMap.{get};
 ghost use Rattle.model.specs.Goals.{same_job};
 ghost use Rattle.events.specs.Terms.{request_of, reply_of};
@@ -10,6 +11,7 @@ use book::Row;
 use events::{Job, Reply, Request};
 use indexmap::IndexMap;
 use std::alloc::{AllocError, Global};
+use std::sync::Arc;
 
 /// For each goal that was given so far, named as the job that it would lead, the pass of the session that it
 /// was given to.
@@ -82,11 +84,16 @@ fn is_asked(sessions: &[u64], given: &Given, row: &Row) -> Result<bool, AllocErr
 /// # Errors
 ///
 /// Only where memory was refused.
-pub(crate) fn are_asked(alloc: Global, sessions: &[u64], rows: &[Row]) -> Result<bool, AllocError>
-    ensures { IfOk result (λ told. told ≡ are_asked sessions.now rows.now) }
+pub(crate) fn are_asked(
+    alloc: Global,
+    sessions: &[u64],
+    rows: &[Arc<Row>],
+) -> Result<bool, AllocError>
+    ensures { IfOk result (λ told. told ≡ are_asked sessions.now (map arc_value rows.now)) }
 {
     let mut given: Given = IndexMap::new(alloc);
-    for row in rows {
+    for shared in rows {
+        let row = &**shared;
         if sessions.contains(&row.pass) {
             note(&mut given, row)?;
         } else if !is_asked(sessions, &given, row)? {

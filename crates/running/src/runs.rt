@@ -1,6 +1,7 @@
 //! Files whose lines are run as sessions of one store, each in a thread of its own, with workers that build.
 
-ghost use Rattle.std.specs.Prelude.{◌≡◌, ◌<◌, ◌≤◌, ◌-◌, ◌^◌, min, [], true, false, length, Err, IfOk, IfErr};
+ghost use Rattle.std.specs.Prelude.{◌≡◌, ◌<◌, ◌≤◌, ◌-◌, ◌^◌, min, [], true, false, length, map, Err, IfOk, IfErr};
+ghost use Rattle.std.specs.Arc.{arc_value};
 ghost use Rattle.model.specs.Limits.{most_charge};
 ghost use Rattle.model.specs.Worlds.{are_users};
 ghost use Rattle.model.specs.declared.refusal.Refusal.TheVariants.{Memory, BadUsers, Quota};
@@ -24,7 +25,7 @@ use std::alloc::{AllocError, Global};
 use std::hash::RandomState;
 use std::io::Read;
 use std::marker::Brand;
-use std::sync::Wait;
+use std::sync::{Arc, Wait};
 use std::thread::Threads;
 use workers::Runner;
 
@@ -51,10 +52,11 @@ fn count_passes<I: Drop, Q: Drop>(parts: &[Part<I, Q>]) -> u64
 }
 
 /// Whether each row is of the pass of a session or of a worker.
-fn are_accounted(sessions: &[u64], workers: &[u64], rows: &[Row]) -> bool
-    ensures { result ≡ are_accounted sessions.now workers.now rows.now }
+fn are_accounted(sessions: &[u64], workers: &[u64], rows: &[Arc<Row>]) -> bool
+    ensures { result ≡ are_accounted sessions.now workers.now (map arc_value rows.now) }
 {
-    for row in rows {
+    for shared in rows {
+        let row = &**shared;
         if !sessions.contains(&row.pass) && !workers.contains(&row.pass) {
             return false;
         }

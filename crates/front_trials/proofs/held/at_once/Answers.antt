@@ -2,20 +2,15 @@ use denote.Ref.{NamedLft}
 use denote.Exit.{yes}
 use denote.Param.Send.{IsSend, sendable, arg_send, param_send}
 use denote.Param.SendFields.{declared_send}
-use Rattle.std.specs.contracts.vec.Vec as Vec
-use Rattle.std.specs.contracts.alloc.Global as Global
-use Rattle.std.specs.contracts.impls.GlobalAllocator.TheImpl.{ghosts}
-use Rattle.std.proofs.Crossing.{crosses, Vec-send}
-use Rattle.history.specs.contracts.row.Row as Row
-use Rattle.book.proofs.CoreCrossing.{row_send}
+use Rattle.std.proofs.Crossing.{crosses}
+use Rattle.book.proofs.CoreCrossing.{row_send, row_sync}
 use Rattle.front_trials.specs.contracts.held.Preparing as Preparing
 use Rattle.front_trials.proofs.held.at_once.Goals as goal
 
-rows_send : IsSend (Vec.the_row Row.the_row Global.the_row ghosts)
-rows_send = Vec-send Row.the_row row_send
-
 preparing_send : (a : NamedLft) → IsSend (Preparing.the_row a)
-preparing_send a = declared_send (Preparing.the_type a) (search (sendable, crosses) depth 20, (rows_send, (search (sendable, crosses) depth 20, tt)))
+preparing_send a =
+    declared_send (Preparing.the_type a)
+    (search (sendable, crosses) depth 20, (search (sendable, crosses, row_send, row_sync) depth 20, (search (sendable, crosses) depth 20, tt)))
 
 pub all_at_once-requires-send-T : goal.all_at_once-requires-send-T
 all_at_once-requires-send-T g c κs within = param_send _ _ (arg_send _ yes _ (preparing_send _))

@@ -1,4 +1,4 @@
-use Rattle.std.proofs.Common.{◌≡◌, ◌<◌, arith, refl, sym, ◌∙◌, length}
+use Rattle.std.proofs.Common.{◌<◌, arith, refl, sym, ◌∙◌, length}
 use Rattle.std.proofs.lemmas.List.{length-set}
 use Rattle.running.proofs.MeetLemmas.{met_next, knows_next}
 use Rattle.running.proofs.meeting.meet_each.Goals as goal

@@ -1,7 +1,6 @@
 use Rattle.std.proofs.Common.{sym, subst, Bool}
 use Rattle.std.specs.Io.KnownBytes.{prepend_known}
 use Rattle.running.specs.Sessions.{Outputs}
-use Rattle.running.specs.Teams.{TeamView}
 use Rattle.running.proofs.ServedLemmas.{none_served}
 use Rattle.running.proofs.sessions.serve_beside.Goals as goal
 

@@ -1,5 +1,4 @@
-use Rattle.std.proofs.Common.{◌≡◌, ◌⊎◌, inl, inr, ap, List, Result, Err}
-use Rattle.std.specs.Global.{Vec}
+use Rattle.std.proofs.Common.{ap}
 use Rattle.std.specs.Prelude.{◌||◌}
 use mathlib.Core.Logic.{∥∥₁_map}
 use Rattle.running.proofs.TeamLemmas.{round_worked, round_clean, as_lists}

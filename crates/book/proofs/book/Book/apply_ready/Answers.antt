@@ -1,5 +1,6 @@
-use Rattle.std.proofs.Common.{◌≡◌, Bool, true, false, true≢false, List, [], ◌∷◌, ◌++◌, length, refl, ap, sym, ◌∙◌, subst, arith}
-use Rattle.std.proofs.lemmas.List.{length_push}
+use Rattle.std.proofs.Common.{◌≡◌, Bool, true, false, true≢false, List, [], ◌∷◌, ◌++◌, length, map, refl, ap, sym, ◌∙◌, subst, arith}
+use Rattle.std.proofs.lemmas.List.{length_push, map_push}
+use Rattle.std.specs.Arc.{arc_value}
 use Rattle.model.specs.declared.refusal.Refusal.{Refusal}
 use Rattle.model.specs.declared.refusal.Refusal.TheVariants.{Memory, Stopped}
 use Rattle.events.specs.declared.reply.Reply.{Reply}
@@ -34,7 +35,7 @@ is_unchanged old new same = record { setup = ap setup_of same; world = ap world_
 core_then : (g : Over) (c : After-audit-2 g) → c.self.inside.core ≡ c.args.self.now.core
 core_then g c = ap (λ (b : Contents). b.core) c.self.view_is
 
-rows_then : (g : Over) (c : After-audit-2 g) → c.self.inside.history.items ≡ c.args.self.now.rows
+rows_then : (g : Over) (c : After-audit-2 g) → map arc_value c.self.inside.history.items ≡ c.args.self.now.rows
 rows_then g c = ap (λ (b : Contents). b.rows) c.self.view_is
 
 stopped_then : (g : Over) (c : After-audit-2 g) → c.self.inside.stopped ≡ c.args.self.now.stopped
@@ -49,17 +50,17 @@ matching g c = subst (λ (b : Contents). Matches b.rows b.stopped c.args.pass.no
 only_pass : (g : Over) (c : After-audit-2 g) → g.J.Ledger.parts ≡ 1 → c.args.pass.now.sure ≡ c.args.self.now.rows
 only_pass g c one =
     let inside = c.self.inside in
-    sure_of_all c.args.pass.now.sure c.compare.new.self.sure inside.log.rows inside.history.items _ c.compare.ensures.matches.sure
+    sure_of_all c.args.pass.now.sure c.compare.new.self.sure inside.log.rows (map arc_value inside.history.items) _ c.compare.ensures.matches.sure
     c.self.invariant.4 c.compare.ensures.sure (c.audit.ensures.alone one).0 c.self.invariant.1 ∙ rows_then g c
 
 -- the only pass has stopped the book if it is stopped
 stop_counted : (g : Over) (c : After-audit-2 g) → g.J.Ledger.parts ≡ 1 → c.args.part.now.amount ≡ stops_of c.args.self.now.stopped
 stop_counted g c one = c.audit-2.ensures.whole (c.requires.part ∙ sym one) ∙ (c.self.invariant.8 ∙ ap stops_of (stopped_then g c))
 
-legal_then : (g : Over) (c : After-audit-2 g) → IsLegal g.J.FrontId.setup c.self.inside.history.items
+legal_then : (g : Over) (c : After-audit-2 g) → IsLegal g.J.FrontId.setup (map arc_value c.self.inside.history.items)
 legal_then g c =
     let inside = c.self.inside in
-    is_legal g.J.FrontId.setup inside.core inside.stopped inside.history.items c.self.invariant.0 c.isolation.ensures c.timed_isolation.ensures
+    is_legal g.J.FrontId.setup inside.core inside.stopped (map arc_value inside.history.items) c.self.invariant.0 c.isolation.ensures c.timed_isolation.ensures
 
 -- ---- where the book was stopped before
 
@@ -110,13 +111,13 @@ pass_then g c going = c.audit.ensures.same.0 ∙ c.compare.ensures.going (c.self
 pub invariant_of-self-in_default : goal.invariant_of-self-in_default
 invariant_of-self-in_default g c =
     let old = c.self.inside in (
-      rw c.hold.ensures.rows (stays g.J.FrontId.setup old.core c.empty_cache.new.self old.stopped old.history.items c.self.invariant.0 c.empty_cache.ensures),
-      ap (λ (rows : List Row). length rows) c.hold.ensures.rows ∙ (c.self.invariant.1 ∙ sym c.audit.ensures.same.1),
+      rw c.hold.ensures.rows (stays g.J.FrontId.setup old.core c.empty_cache.new.self old.stopped (map arc_value old.history.items) c.self.invariant.0 c.empty_cache.ensures),
+      ap (λ rows. length (map arc_value rows)) c.hold.ensures.rows ∙ (c.self.invariant.1 ∙ sym c.audit.ensures.same.1),
       c.self.invariant.2,
       c.self.invariant.3,
-      ap (λ (log : Recorded). log.rows) c.compare.ensures.same ∙ (c.self.invariant.4 ∙ sym c.hold.ensures.rows),
+      ap (λ (log : Recorded). log.rows) c.compare.ensures.same ∙ (c.self.invariant.4 ∙ sym (ap (map arc_value) c.hold.ensures.rows)),
       ap (λ (log : Recorded). log.stopped) c.compare.ensures.same ∙ c.self.invariant.5,
-      c.self.invariant.6 ∙ sym c.hold.ensures.rows,
+      c.self.invariant.6 ∙ sym (ap (map arc_value) c.hold.ensures.rows),
       c.self.invariant.7,
       c.audit-2.ensures.total ∙ c.self.invariant.8,
       c.self.invariant.9,
@@ -136,7 +137,7 @@ returns-in_default g c =
         counted = λ some. absurd (none some);
         matches = matching g then;
         alone = only_pass g then;
-        no_row = λ _. c.hold.ensures.rows ∙ rows_then g then;
+        no_row = λ _. ap (map arc_value) c.hold.ensures.rows ∙ rows_then g then;
         memory = λ _. pass_then g then c.if-stopped.false;
         unchanged = λ _ _. subst (λ (core : Core). IsUnchanged core c.empty_cache.new.self) (core_then g then) c.empty_cache.ensures;
         stopped = λ stopped. absurd (goes stopped);
@@ -158,13 +159,13 @@ returns-in_default g c =
 pub invariant_of-self-in-Err : goal.invariant_of-self-in-Err
 invariant_of-self-in-Err g c =
     let old = c.self.inside in (
-      rw c.hold.ensures.rows (stays g.J.FrontId.setup old.core c.step.new.core old.stopped old.history.items c.self.invariant.0 c.in-Err.ensures.refused),
-      ap (λ (rows : List Row). length rows) c.hold.ensures.rows ∙ (c.self.invariant.1 ∙ sym c.audit.ensures.same.1),
+      rw c.hold.ensures.rows (stays g.J.FrontId.setup old.core c.step.new.core old.stopped (map arc_value old.history.items) c.self.invariant.0 c.in-Err.ensures.refused),
+      ap (λ rows. length (map arc_value rows)) c.hold.ensures.rows ∙ (c.self.invariant.1 ∙ sym c.audit.ensures.same.1),
       c.self.invariant.2,
       c.self.invariant.3,
-      ap (λ (log : Recorded). log.rows) c.compare.ensures.same ∙ (c.self.invariant.4 ∙ sym c.hold.ensures.rows),
+      ap (λ (log : Recorded). log.rows) c.compare.ensures.same ∙ (c.self.invariant.4 ∙ sym (ap (map arc_value) c.hold.ensures.rows)),
       ap (λ (log : Recorded). log.stopped) c.compare.ensures.same ∙ c.self.invariant.5,
-      ap (λ (publisher : Published). publisher.rows) c.in-Err.ensures.kept ∙ (c.self.invariant.6 ∙ sym c.hold.ensures.rows),
+      ap (λ (publisher : Published). publisher.rows) c.in-Err.ensures.kept ∙ (c.self.invariant.6 ∙ sym (ap (map arc_value) c.hold.ensures.rows)),
       λ going. ap (λ (publisher : Published). publisher.whole) c.in-Err.ensures.kept ∙ c.self.invariant.7 going,
       c.audit-2.ensures.total ∙ c.self.invariant.8,
       c.self.invariant.9,
@@ -185,7 +186,7 @@ returns-in-Err g c =
         counted = λ some. absurd (none some);
         matches = matching g then;
         alone = only_pass g then;
-        no_row = λ _. c.hold.ensures.rows ∙ rows_then g then;
+        no_row = λ _. ap (map arc_value) c.hold.ensures.rows ∙ rows_then g then;
         memory = λ _. pass_then g then c.if-stopped.false;
         unchanged = λ _ _. subst (λ (core : Core). IsUnchanged core c.step.new.core) (core_then g then) c.in-Err.ensures.refused;
         stopped = λ stopped. absurd (goes stopped);
@@ -207,14 +208,14 @@ returns-in-Err g c =
 pub invariant_of-self-in_default-answered : goal.invariant_of-self-in_default-answered
 invariant_of-self-in_default-answered g c =
     let old = c.self.inside in (
-      rw c.hold.ensures.rows (stops g.J.FrontId.setup old.core c.step.new.core old.stopped old.history.items c.self.invariant.0 c.step.ensures.given),
-      ap (λ (rows : List Row). length rows) c.hold.ensures.rows ∙ (c.self.invariant.1 ∙ sym c.audit.ensures.same.1),
+      rw c.hold.ensures.rows (stops g.J.FrontId.setup old.core c.step.new.core old.stopped (map arc_value old.history.items) c.self.invariant.0 c.step.ensures.given),
+      ap (λ rows. length (map arc_value rows)) c.hold.ensures.rows ∙ (c.self.invariant.1 ∙ sym c.audit.ensures.same.1),
       c.self.invariant.2,
       c.self.invariant.3,
       ap (λ (log : Recorded). log.rows) c.stop.ensures
-          ∙ (ap (λ (log : Recorded). log.rows) c.compare.ensures.same ∙ (c.self.invariant.4 ∙ sym c.hold.ensures.rows)),
+          ∙ (ap (λ (log : Recorded). log.rows) c.compare.ensures.same ∙ (c.self.invariant.4 ∙ sym (ap (map arc_value) c.hold.ensures.rows))),
       ap (λ (log : Recorded). log.stopped) c.stop.ensures,
-      (rw c.in_default-answered.is at c.in-Ok-step.ensures.not_shown) ∙ (c.self.invariant.6 ∙ sym c.hold.ensures.rows),
+      (rw c.in_default-answered.is at c.in-Ok-step.ensures.not_shown) ∙ (c.self.invariant.6 ∙ sym (ap (map arc_value) c.hold.ensures.rows)),
       λ going. absurd (true≢false going),
       omega (arith, c.add.ensures.total, c.audit-2.ensures.total, rw c.if-stopped.false at c.self.invariant.8),
       c.self.invariant.9,
@@ -234,7 +235,7 @@ returns-in_default-answered g c =
         counted = λ some. absurd (true≢false some);
         matches = matching g then;
         alone = only_pass g then;
-        no_row = λ _. c.hold.ensures.rows ∙ rows_then g then;
+        no_row = λ _. ap (map arc_value) c.hold.ensures.rows ∙ rows_then g then;
         memory = λ _. pass_then g then c.if-stopped.false;
         unchanged = λ _ same. absurd (goes (sym same));
         stopped = λ stopped. absurd (goes stopped);
@@ -256,36 +257,44 @@ returns-in_default-answered g c =
 pub add_row-requires : goal.add_row-requires
 add_row-requires g c =
     let then = (goal.at.add_row-requires g c).After-audit-2 in
-    let last : c.in-Some.row ≡ row c.number-number.result c.args.event c.in-Some.reply = rw c.in-Some.is at c.in-Ok-step.ensures.row in
+    let last : arc_value c.in-Some.row ≡ row c.number-number.result c.args.event c.in-Some.reply = rw c.in-Some.is at c.in-Ok-step.ensures.row in
     let log : c.compare.new.log ≡ c.self.inside.log = c.compare.ensures.same in
     let pass : c.audit.new.self ≡ c.args.pass.now = pass_then g then c.if-stopped.false in
     let rows : length c.compare.new.log.rows ≡ c.self.inside.calls.total =
     ap (λ (l : Recorded). length l.rows) log ∙ (ap (λ (rows : List Row). length rows) c.self.invariant.4 ∙ c.self.invariant.1) in
     record {
-      mine = ap (λ (r : Row). r.pass) last ∙ c.number-number.ensures;
+      mine = ap (λ (r : Row). r.pass) (c.deref.ensures ∙ last) ∙ c.number-number.ensures;
       matches = subst (λ (x : Recorded × Caller). Matches x.0.rows x.0.stopped x.1) (λ i. (sym log i, sym pass i)) c.compare.ensures.matches;
       alone = λ one. rows ∙ (sym (c.audit.ensures.alone one).1 ∙ ap (λ (p : Caller). p.calls) (sym c.audit.ensures.same.0));
     }
 
-going : (g : Over) (c : goal.After-push g) → Kept g.J.FrontId.setup c.self.inside.core false c.self.inside.history.items
+going : (g : Over) (c : goal.After-push g) → Kept g.J.FrontId.setup c.self.inside.core false (map arc_value c.self.inside.history.items)
 going g c = rw c.if-stopped.false at c.self.invariant.0
 
-last_row : (g : Over) (c : goal.After-push g) → c.in-Some.row ≡ row c.number-number.result c.args.event c.in-Some.reply
+last_row : (g : Over) (c : goal.After-push g) → arc_value c.in-Some.row ≡ row c.number-number.result c.args.event c.in-Some.reply
 last_row g c = rw c.in-Some.is at c.in-Ok-step.ensures.row
 
-some_row : (g : Over) (c : goal.After-push g) → unrecorded c.in-Some.row.reply ≡ false
+some_row : (g : Over) (c : goal.After-push g) → unrecorded (arc_value c.in-Some.row).reply ≡ false
 some_row g c = subst (λ (r : Row). unrecorded r.reply ≡ false) (sym (last_row g c)) (rw c.in-Some.is at c.in-Ok-step.ensures.some)
 
-step_of : (g : Over) (c : goal.After-push g) → Steps c.self.inside.core c.in-Some.row.event c.in-Some.row.reply c.step.new.core
+step_of : (g : Over) (c : goal.After-push g) → Steps c.self.inside.core (arc_value c.in-Some.row).event (arc_value c.in-Some.row).reply c.step.new.core
 step_of g c = subst (λ (r : Row). Steps c.self.inside.core r.event r.reply c.step.new.core) (sym (last_row g c)) (rw c.in-Some.is at c.in-Ok-step.ensures.step)
 
-rows_now : (g : Over) (c : goal.After-push g) → c.push.new.history.items ≡ c.self.inside.history.items ++ c.in-Some.row ∷ []
-rows_now g c = c.push.ensures ∙ ap (λ (rows : List Row). rows ++ c.in-Some.row ∷ []) c.hold.ensures.rows
+rows_now : (g : Over) (c : goal.After-push g) → map arc_value c.push.new.history.items ≡ map arc_value c.self.inside.history.items ++ arc_value c.in-Some.row ∷ []
+rows_now g c =
+    ap (map arc_value) c.push.ensures
+    ∙ (map_push arc_value c.hold.new.history.items c.in-Some.row ∙ ap (λ rows. map arc_value rows ++ arc_value c.in-Some.row ∷ []) c.hold.ensures.rows)
 
-kept_now : (g : Over) (c : goal.After-push g) → Kept g.J.FrontId.setup c.step.new.core false (c.self.inside.history.items ++ c.in-Some.row ∷ [])
-kept_now g c = goes_on g.J.FrontId.setup c.self.inside.core c.step.new.core c.self.inside.history.items c.in-Some.row (going g c) (some_row g c) (step_of g c)
+-- and what is recorded then
+recorded_now : (g : Over) (c : goal.After-push g) → c.compare.new.log.rows ++ c.deref.result.now ∷ [] ≡ map arc_value c.push.new.history.items
+recorded_now g c =
+    let log : c.compare.new.log.rows ≡ map arc_value c.self.inside.history.items = ap (λ (l : Recorded). l.rows) c.compare.ensures.same ∙ c.self.invariant.4 in
+    (λ i. log i ++ c.deref.ensures i ∷ []) ∙ sym (rows_now g c)
 
-shown_now : (g : Over) (c : goal.After-push g) → c.step.new.publisher ≡ record { rows = c.self.inside.publisher.rows ++ c.in-Some.row ∷ []; whole = true }
+kept_now : (g : Over) (c : goal.After-push g) → Kept g.J.FrontId.setup c.step.new.core false (map arc_value c.self.inside.history.items ++ arc_value c.in-Some.row ∷ [])
+kept_now g c = goes_on g.J.FrontId.setup c.self.inside.core c.step.new.core (map arc_value c.self.inside.history.items) (arc_value c.in-Some.row) (going g c) (some_row g c) (step_of g c)
+
+shown_now : (g : Over) (c : goal.After-push g) → c.step.new.publisher ≡ record { rows = c.self.inside.publisher.rows ++ arc_value c.in-Some.row ∷ []; whole = true }
 shown_now g c = rw c.in-Some.is at c.in-Ok-step.ensures.shown
 
 pub step-requires-clause-whole : goal.step-requires-clause-whole
@@ -298,14 +307,13 @@ step-requires-clause-kept g c =
 pub invariant_of-self-2 : goal.invariant_of-self-2
 invariant_of-self-2 g c =
     let old = c.self.inside in
-    let r : Row = c.in-Some.row in
-    let log : c.compare.new.log.rows ≡ old.history.items = ap (λ (l : Recorded). l.rows) c.compare.ensures.same ∙ c.self.invariant.4 in (
+    let r : Row = arc_value c.in-Some.row in (
       rw (c.if-stopped.false, rows_now g c) (kept_now g c),
       ap (λ (rows : List Row). length rows) (rows_now g c)
-          ∙ omega (arith, length_push old.history.items r, c.self.invariant.1, c.audit.ensures.same.1, c.add_row.ensures.calls),
+          ∙ omega (arith, length_push (map arc_value old.history.items) r, c.self.invariant.1, c.audit.ensures.same.1, c.add_row.ensures.calls),
       c.self.invariant.2,
       c.self.invariant.3,
-      ap (λ (l : Recorded). l.rows) c.add_row.ensures.log ∙ (ap (λ (rows : List Row). rows ++ r ∷ []) log ∙ sym (rows_now g c)),
+      ap (λ (l : Recorded). l.rows) c.add_row.ensures.log ∙ recorded_now g c,
       ap (λ (l : Recorded). l.stopped) c.add_row.ensures.log ∙ (ap (λ (l : Recorded). l.stopped) c.compare.ensures.same ∙ c.self.invariant.5),
       ap (λ (publisher : Published). publisher.rows) (shown_now g c) ∙ (ap (λ (rows : List Row). rows ++ r ∷ []) c.self.invariant.6 ∙ sym (rows_now g c)),
       λ _. ap (λ (publisher : Published). publisher.whole) (shown_now g c),
@@ -324,15 +332,14 @@ returns g c =
     let goes : c.args.self.now.stopped ≡ true → ⊥ = not_stopped g then c.if-stopped.false in
     let pass : c.audit.new.self ≡ c.args.pass.now = pass_then g then c.if-stopped.false in
     let number : c.number-number.result ≡ c.args.pass.now.number = c.number-number.ensures ∙ ap (λ (p : Caller). p.number) pass in
-    let log : c.compare.new.log.rows ≡ old.history.items = ap (λ (l : Recorded). l.rows) c.compare.ensures.same ∙ c.self.invariant.4 in
     record {
       applied = record {
         row = λ _. rows_now g c ∙ (λ i. rows_then g then i ++ (last_row g c ∙ ap (λ n. row n c.args.event c.in-Some.reply) number) i ∷ []);
         step = λ _. subst (λ (core : Core). Steps core c.args.event c.in-Some.reply c.step.new.core) (core_then g then) stepped;
         reply = λ _.
             subst (λ (x : List Row × Row). IsModelReply g.J.FrontId.setup x.0 x.1.event x.1.reply) (λ i. (rows_then g then i, last_row g c i))
-            (replied g.J.FrontId.setup old.core c.step.new.core old.history.items c.in-Some.row (going g c) (some_row g c) (step_of g c));
-        counted = λ _. c.add_row.ensures.pass ∙ (λ i. answered (pass i) ((ap (λ (rows : List Row). rows ++ c.in-Some.row ∷ []) log ∙ sym (rows_now g c)) i));
+            (replied g.J.FrontId.setup old.core c.step.new.core (map arc_value old.history.items) (arc_value c.in-Some.row) (going g c) (some_row g c) (step_of g c));
+        counted = λ _. c.add_row.ensures.pass ∙ (λ i. answered (pass i) (recorded_now g c i));
         matches = matching g then;
         alone = only_pass g then;
         no_row = λ gave. absurd (none gave);

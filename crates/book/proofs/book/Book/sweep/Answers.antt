@@ -1,4 +1,5 @@
-use Rattle.std.proofs.Common.{ap, ◌∙◌}
+use Rattle.std.proofs.Common.{map, ap, ◌∙◌}
+use Rattle.std.specs.Arc.{arc_value}
 use Rattle.book.specs.Publishing.{Published}
 use Rattle.book.proofs.SweepingLemmas.{kept_swept}
 use Rattle.book.proofs.book.Book.sweep.Goals as goal
@@ -6,7 +7,7 @@ use Rattle.book.proofs.book.Book.sweep.Goals as goal
 pub invariant_of-self : goal.invariant_of-self
 invariant_of-self g c =
     let old = c.self.inside in (
-      kept_swept g.J.FrontId.setup old.core c.sweep.new.self old.stopped old.history.items c.self.invariant.0 c.sweep.ensures.setup c.sweep.ensures.world c.sweep.ensures.hashed,
+      kept_swept g.J.FrontId.setup old.core c.sweep.new.self old.stopped (map arc_value old.history.items) c.self.invariant.0 c.sweep.ensures.setup c.sweep.ensures.world c.sweep.ensures.hashed,
       c.self.invariant.1,
       c.self.invariant.2,
       c.self.invariant.3,
@@ -22,7 +23,7 @@ invariant_of-self g c =
 pub invariant_of-self-2 : goal.invariant_of-self-2
 invariant_of-self-2 g c =
     let old = c.self.inside in (
-      kept_swept g.J.FrontId.setup old.core c.sweep.new.self old.stopped old.history.items c.self.invariant.0 c.sweep.ensures.setup c.sweep.ensures.world c.sweep.ensures.hashed,
+      kept_swept g.J.FrontId.setup old.core c.sweep.new.self old.stopped (map arc_value old.history.items) c.self.invariant.0 c.sweep.ensures.setup c.sweep.ensures.world c.sweep.ensures.hashed,
       c.self.invariant.1,
       c.self.invariant.2,
       c.self.invariant.3,
