@@ -12,12 +12,14 @@ use Rattle.handlers.proofs.given.plan_for.Goals as goal
 pub new-view-requires-clause-stored : goal.new-view-requires-clause-stored
 new-view-requires-clause-stored c =
     let s = c.args.state.now in
-    (view_complete (trusts s.trust) c.args.place s.table.sources s.desks.items (desks_of c.in_ok-seen.seen.items) (complete_desks s) c.in_ok-seen.ensures).stored
+    (view_complete (trusts s.trust) c.args.place s.table.sources s.desks.items (desks_of c.in_ok-seen.seen.items) (complete_desks s)
+    c.in_ok-seen.ensures).stored
 
 pub new-view-requires-clause-closed : goal.new-view-requires-clause-closed
 new-view-requires-clause-closed c =
     let s = c.args.state.now in
-    (view_complete (trusts s.trust) c.args.place s.table.sources s.desks.items (desks_of c.in_ok-seen.seen.items) (complete_desks s) c.in_ok-seen.ensures).closed
+    (view_complete (trusts s.trust) c.args.place s.table.sources s.desks.items (desks_of c.in_ok-seen.seen.items) (complete_desks s)
+    c.in_ok-seen.ensures).closed
 
 pub returns-clause-planned : goal.returns-clause-planned
 returns-clause-planned c =
@@ -35,5 +37,6 @@ returns-clause-closures c =
     let s = c.args.state.now in
     closure_of_plan c.closures_are_whole.ensures s.table.sources (desks_of c.in_ok-seen.seen.items) c.pins.result.now (c.in_ok-clone.field-0 ∷ [])
     [] c.plan.result
-    (view_complete (trusts s.trust) c.args.place s.table.sources s.desks.items (desks_of c.in_ok-seen.seen.items) (complete_desks s) c.in_ok-seen.ensures).closed
+    (view_complete (trusts s.trust) c.args.place s.table.sources s.desks.items (desks_of c.in_ok-seen.seen.items) (complete_desks s)
+    c.in_ok-seen.ensures).closed
     (λ o sees. c.plan.ensures.planned o (sees ∙ sym c.new-view.ensures))

@@ -111,7 +111,8 @@ pass_then g c going = c.audit.ensures.same.0 ∙ c.compare.ensures.going (c.self
 pub invariant_of-self-in_default : goal.invariant_of-self-in_default
 invariant_of-self-in_default g c =
     let old = c.self.inside in (
-      rw c.hold.ensures.rows (stays g.J.FrontId.setup old.core c.empty_cache.new.self old.stopped (map arc_value old.history.items) c.self.invariant.0 c.empty_cache.ensures),
+      rw c.hold.ensures.rows
+          (stays g.J.FrontId.setup old.core c.empty_cache.new.self old.stopped (map arc_value old.history.items) c.self.invariant.0 c.empty_cache.ensures),
       ap (λ rows. length (map arc_value rows)) c.hold.ensures.rows ∙ (c.self.invariant.1 ∙ sym c.audit.ensures.same.1),
       c.self.invariant.2,
       c.self.invariant.3,
@@ -159,7 +160,8 @@ returns-in_default g c =
 pub invariant_of-self-in-Err : goal.invariant_of-self-in-Err
 invariant_of-self-in-Err g c =
     let old = c.self.inside in (
-      rw c.hold.ensures.rows (stays g.J.FrontId.setup old.core c.step.new.core old.stopped (map arc_value old.history.items) c.self.invariant.0 c.in-Err.ensures.refused),
+      rw c.hold.ensures.rows
+          (stays g.J.FrontId.setup old.core c.step.new.core old.stopped (map arc_value old.history.items) c.self.invariant.0 c.in-Err.ensures.refused),
       ap (λ rows. length (map arc_value rows)) c.hold.ensures.rows ∙ (c.self.invariant.1 ∙ sym c.audit.ensures.same.1),
       c.self.invariant.2,
       c.self.invariant.3,
@@ -208,7 +210,8 @@ returns-in-Err g c =
 pub invariant_of-self-in_default-answered : goal.invariant_of-self-in_default-answered
 invariant_of-self-in_default-answered g c =
     let old = c.self.inside in (
-      rw c.hold.ensures.rows (stops g.J.FrontId.setup old.core c.step.new.core old.stopped (map arc_value old.history.items) c.self.invariant.0 c.step.ensures.given),
+      rw c.hold.ensures.rows
+          (stops g.J.FrontId.setup old.core c.step.new.core old.stopped (map arc_value old.history.items) c.self.invariant.0 c.step.ensures.given),
       ap (λ rows. length (map arc_value rows)) c.hold.ensures.rows ∙ (c.self.invariant.1 ∙ sym c.audit.ensures.same.1),
       c.self.invariant.2,
       c.self.invariant.3,
@@ -280,7 +283,8 @@ some_row g c = subst (λ (r : Row). unrecorded r.reply ≡ false) (sym (last_row
 step_of : (g : Over) (c : goal.After-push g) → Steps c.self.inside.core (arc_value c.in-Some.row).event (arc_value c.in-Some.row).reply c.step.new.core
 step_of g c = subst (λ (r : Row). Steps c.self.inside.core r.event r.reply c.step.new.core) (sym (last_row g c)) (rw c.in-Some.is at c.in-Ok-step.ensures.step)
 
-rows_now : (g : Over) (c : goal.After-push g) → map arc_value c.push.new.history.items ≡ map arc_value c.self.inside.history.items ++ arc_value c.in-Some.row ∷ []
+rows_now : (g : Over) (c : goal.After-push g)
+    → map arc_value c.push.new.history.items ≡ map arc_value c.self.inside.history.items ++ arc_value c.in-Some.row ∷ []
 rows_now g c =
     ap (map arc_value) c.push.ensures
     ∙ (map_push arc_value c.hold.new.history.items c.in-Some.row ∙ ap (λ rows. map arc_value rows ++ arc_value c.in-Some.row ∷ []) c.hold.ensures.rows)
@@ -291,10 +295,14 @@ recorded_now g c =
     let log : c.compare.new.log.rows ≡ map arc_value c.self.inside.history.items = ap (λ (l : Recorded). l.rows) c.compare.ensures.same ∙ c.self.invariant.4 in
     (λ i. log i ++ c.deref.ensures i ∷ []) ∙ sym (rows_now g c)
 
-kept_now : (g : Over) (c : goal.After-push g) → Kept g.J.FrontId.setup c.step.new.core false (map arc_value c.self.inside.history.items ++ arc_value c.in-Some.row ∷ [])
-kept_now g c = goes_on g.J.FrontId.setup c.self.inside.core c.step.new.core (map arc_value c.self.inside.history.items) (arc_value c.in-Some.row) (going g c) (some_row g c) (step_of g c)
+kept_now : (g : Over) (c : goal.After-push g)
+    → Kept g.J.FrontId.setup c.step.new.core false (map arc_value c.self.inside.history.items ++ arc_value c.in-Some.row ∷ [])
+kept_now g c =
+    goes_on g.J.FrontId.setup c.self.inside.core c.step.new.core (map arc_value c.self.inside.history.items) (arc_value c.in-Some.row)
+    (going g c) (some_row g c) (step_of g c)
 
-shown_now : (g : Over) (c : goal.After-push g) → c.step.new.publisher ≡ record { rows = c.self.inside.publisher.rows ++ arc_value c.in-Some.row ∷ []; whole = true }
+shown_now : (g : Over) (c : goal.After-push g)
+    → c.step.new.publisher ≡ record { rows = c.self.inside.publisher.rows ++ arc_value c.in-Some.row ∷ []; whole = true }
 shown_now g c = rw c.in-Some.is at c.in-Ok-step.ensures.shown
 
 pub step-requires-clause-whole : goal.step-requires-clause-whole
@@ -338,7 +346,8 @@ returns g c =
         step = λ _. subst (λ (core : Core). Steps core c.args.event c.in-Some.reply c.step.new.core) (core_then g then) stepped;
         reply = λ _.
             subst (λ (x : List Row × Row). IsModelReply g.J.FrontId.setup x.0 x.1.event x.1.reply) (λ i. (rows_then g then i, last_row g c i))
-            (replied g.J.FrontId.setup old.core c.step.new.core (map arc_value old.history.items) (arc_value c.in-Some.row) (going g c) (some_row g c) (step_of g c));
+            (replied g.J.FrontId.setup old.core c.step.new.core (map arc_value old.history.items) (arc_value c.in-Some.row)
+            (going g c) (some_row g c) (step_of g c));
         counted = λ _. c.add_row.ensures.pass ∙ (λ i. answered (pass i) (recorded_now g c i));
         matches = matching g then;
         alone = only_pass g then;
