@@ -59,7 +59,7 @@ after_rows law setup core rows user number told legal given stands is = record {
   same = same;
   kept = λ clean job ok.
       let led = leads_kept setup (world_after setup nothing (events_of rows)) user number job (told_ok _ told (same clean) job ok) in
-      law setup (events_of rows) user number led.0 job.resolved (legal.good clean) led.1 led.2;
+      law setup (events_of rows) user number led.0 job.resolved (legal.private clean).good led.1 led.2;
 }
   where
     same : NoClash (hashed setup nothing (events_of rows)) → IsAnswerTo (job_led_by setup (world_after setup nothing (events_of rows)) user number) told

@@ -58,4 +58,4 @@ rows_push rows r = map_push answer_in rows r
 
 pub legal_none : (setup : Setup) → IsLegal setup []
 unfolding answers replies_to kept_from GiveGoodClosures
-legal_none setup = record { answered = All-nil (λ (r : Row). unrecorded r.reply ≡ false); same = λ _. refl; isolated = λ _ u. refl; timed = λ _ u. refl; good = λ _. tt }
+legal_none setup = record { answered = All-nil (λ (r : Row). unrecorded r.reply ≡ false); private = λ _. record { same = refl; isolated = λ u. refl; timed = λ u. refl; good = tt } }

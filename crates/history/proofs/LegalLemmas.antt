@@ -1,12 +1,13 @@
 -- A legal history with one row more.
-use Rattle.std.proofs.Common.{◌≡◌, ℕ, false, List, [], ◌∷◌, ◌++◌, ap, ◌∙◌, subst}
+use Rattle.std.proofs.Common.{◌≡◌, ℕ, false, List, [], ◌∷◌, ◌++◌, ap, subst}
 use Rattle.std.proofs.lemmas.List.Elements.{All-push, Contains-append_left}
 use Rattle.model.specs.Paths.{NoClash}
 use Rattle.model.specs.Worlds.{Setup, nothing}
 use Rattle.model.specs.Events.{Event}
-use Rattle.model.specs.Steps.{world_after, answers, reply_to, replies_to}
+use Rattle.model.specs.Steps.{world_after, answers, reply_to}
 use Rattle.model.specs.HashedTexts.{hashed, texts_of_event}
 use Rattle.model.specs.Laws.{IsIsolated, IsTimelyIsolated}
+use Rattle.laws.proofs.PrivateLemmas.{are_private}
 use Rattle.events.specs.Terms.{reply_of}
 use Rattle.schedule.proofs.RunLemmas.{good_push}
 use Rattle.history.specs.declared.row.Row.{Row}
@@ -33,16 +34,15 @@ module _ (setup : Setup) (rows : List Row) (r : Row) where
         let es : List Event = events_of rows in
         rw (rows_push rows r, events_push rows r, answers_push setup nothing es (event_in r), told.same (clean_with clean))
         (ap (λ xs. xs ++ record { actor = r.event.actor; reply = reply_to setup (world_after setup nothing es) (event_in r) } ∷ [])
-        (legal.same (clean_before (clean_with clean))))
+        (legal.private (clean_before (clean_with clean))).same)
 
     -- a legal history is so with a row more, whose reply is the model's after it
     pub legal_with : IsIsolated → IsTimelyIsolated → unrecorded r.reply ≡ false → IsLegal setup (rows ++ r ∷ [])
     legal_with isolated timed some = record {
       answered = All-push (λ (one : Row). unrecorded one.reply ≡ false) rows r legal.answered some;
-      same = same_with;
-      isolated = λ clean u. ap (replies_to u) (same_with clean) ∙ isolated setup (events_of (rows ++ r ∷ [])) u;
-      timed = λ clean u. ap (replies_to u) (same_with clean) ∙ (timed setup u).replies (events_of (rows ++ r ∷ []));
-      good = λ clean.
+      private = λ clean.
           let now = told.good (clean_with clean) in
-          rw (events_push rows r) (good_push setup nothing (events_of rows) (event_in r) (legal.good (clean_before (clean_with clean))) now.0 now.1);
+          let before = legal.private (clean_before (clean_with clean)) in
+          are_private isolated timed setup (events_of (rows ++ r ∷ [])) (answers_of (rows ++ r ∷ [])) (same_with clean)
+          (rw (events_push rows r) (good_push setup nothing (events_of rows) (event_in r) before.good now.0 now.1));
     }

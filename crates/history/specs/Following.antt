@@ -8,7 +8,7 @@ use Rattle.model.specs.Worlds.{Setup, nothing}
 use Rattle.model.specs.Steps.{world_after}
 use Rattle.model.specs.HashedTexts.{hashed}
 use Rattle.schedule.specs.declared.state.Core.{Core}
-use Rattle.schedule.specs.Standing.{world_of, setup_of, stored_in, HasHashed}
+use Rattle.schedule.specs.Standing.{world_of, stored_in, HasHashed}
 use Rattle.schedule.specs.Stepping.{IsCoreStep}
 use Rattle.schedule.specs.declared.work.Ready.{Ready}
 use Rattle.schedule.specs.declared.preparing.PrepareInput.{PrepareInput}

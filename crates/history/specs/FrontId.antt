@@ -1,5 +1,4 @@
 -- The name of a front, as tokens carry it.
-use Rattle.std.specs.Prelude.{◌≡◌, ℕ, List}
 use Rattle.model.specs.Worlds.{Setup}
 use Rattle.logbook.specs.Pages.{Book}
 use Rattle.history.specs.declared.law.Name.{Name}

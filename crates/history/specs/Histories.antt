@@ -4,12 +4,11 @@ use mathlib.Core.List.{IsPrefix}
 use Rattle.model.specs.Paths.{NoClash}
 use Rattle.model.specs.Worlds.{Setup, nothing}
 use Rattle.model.specs.Events as events
-use Rattle.model.specs.Steps.{world_after, reply_to, answers, replies_to, replies}
+use Rattle.model.specs.Steps.{world_after, reply_to}
 use Rattle.model.specs.Replies.{is_unrecorded}
 use Rattle.model.specs.HashedTexts.{hashed}
-use Rattle.model.specs.Striking.{strike}
-use Rattle.model.specs.Timed.{strike_timed}
-use Rattle.model.specs.GivenClosures.{GivesGoodClosure, KeepsGoodClosure, GiveGoodClosures}
+use Rattle.model.specs.GivenClosures.{GivesGoodClosure, KeepsGoodClosure}
+use Rattle.model.specs.Private.{ArePrivate}
 use Rattle.events.specs.declared.event.Event.{Event}
 use Rattle.events.specs.declared.reply.Reply.{Reply}
 use Rattle.events.specs.Terms.{event_of, reply_of}
@@ -42,14 +41,10 @@ unrecorded reply = is_unrecorded (reply_of reply)
 -- ---- what a history says
 
 -- a history that one caller could have made of private desks: where no two texts that its events hash have one folded
--- digest, the replies are the model's, each user's are those to the events that can reach him, also by trust that is held
--- at the times concerned, and the closures that are given are good
+-- digest, its answers are private
 pub record IsLegal (setup : Setup) (rows : List Row) : Type 0 where
   pub answered : All (λ r. unrecorded r.reply ≡ false) rows
-  pub same : NoClash (hashed setup nothing (events_of rows)) → answers_of rows ≡ answers setup nothing (events_of rows)
-  pub isolated : NoClash (hashed setup nothing (events_of rows)) → (u : List ℕ) → replies_to u (answers_of rows) ≡ replies setup u (strike setup u (events_of rows))
-  pub timed : NoClash (hashed setup nothing (events_of rows)) → (u : List ℕ) → replies_to u (answers_of rows) ≡ replies setup u (strike_timed setup u (events_of rows))
-  pub good : NoClash (hashed setup nothing (events_of rows)) → GiveGoodClosures setup nothing (events_of rows)
+  pub private : NoClash (hashed setup nothing (events_of rows)) → ArePrivate setup (events_of rows) (answers_of rows)
 
 -- a call was answered: its row comes after rows that begin with what the pass had seen, and with it they are a legal history, of
 -- which the pass is sure now, and which it has seen

@@ -1,10 +1,8 @@
 -- The rule of what is published.
-use Rattle.std.specs.Prelude.{◌≡◌, ℕ, List, [], ◌∷◌, ◌++◌, fold, Bool, true, false}
+use Rattle.std.specs.Prelude.{◌≡◌, ℕ, List, [], ◌∷◌, ◌++◌, fold, true, false}
 use Rattle.std.specs.Arc.{arc_value}
 use mathlib.Core.Option.{some}
 use lib.ListN.{get_elem?}
-use Rattle.logbook.specs.Pages.{Book}
-use Rattle.model.specs.Worlds.{Setup}
 use Rattle.history.specs.declared.law.Name.{Name}
 use Rattle.history.specs.declared.law.Shown.{Shown}
 use Rattle.history.specs.declared.law.View.{View}

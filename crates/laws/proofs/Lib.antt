@@ -33,3 +33,4 @@ pub mod MapLemmas
 pub mod LabelLemmas
 pub mod ClosureLemmas
 pub mod WholeLemmas
+pub mod PrivateLemmas

@@ -44,6 +44,7 @@ pub mod HashedTexts
 pub mod RunningJobs
 pub mod GivenClosures
 pub mod KeptClosures
+pub mod Private
 pub mod Inputs
 pub mod Lines
 pub mod Words

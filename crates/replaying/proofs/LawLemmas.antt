@@ -11,6 +11,7 @@ use Rattle.model.specs.Worlds.{Setup, nothing}
 use Rattle.model.specs.Events.{is_query, Event, Reply, Refused}
 use Rattle.model.specs.Steps.{answers, replies_to, replies}
 use Rattle.model.specs.Replies.{is_memory, is_unrecorded}
+use Rattle.model.specs.Private.{ArePrivate}
 use Rattle.model.specs.HashedTexts.{hashed}
 use Rattle.model.specs.Striking.{strike}
 use Rattle.model.specs.Talk as talk
@@ -104,8 +105,8 @@ module _ (setup : Setup) (user : List ℕ) (rows : List talk.Row) where
   -- his replies in a legal history
   legal_replies : (timed : Bool) (history : List Row) → IsLegal setup history → NoClash (hashed setup nothing (events_of history))
       → replies_to user (answers_of history) ≡ replies setup user (struck timed setup user (events_of history))
-  legal_replies true history legal clean = legal.timed clean user
-  legal_replies false history legal clean = legal.isolated clean user
+  legal_replies true history legal clean = (legal.private clean).timed user
+  legal_replies false history legal clean = (legal.private clean).isolated user
 
   -- his replies where all events are run are those to the events that can reach him
   first_replies : (timed : Bool) → AreOfOneStore setup rows → NoClash (hashed setup nothing (events_in rows)) → HadMemoryFor rows
@@ -146,16 +147,16 @@ module _ (setup : Setup) (user : List ℕ) (rows : List talk.Row) where
 pub run_again : (setup : Setup) (user : List ℕ) (timed : Bool) (events : List Event) (kept : List AskedEvent) (r : Result (Vec (User × GivenReply)) Refusal)
     → map event_of kept ≡ struck timed setup user events → IfOk r (λ given. IsRun setup kept given.items)
     → (NoClash (hashed setup nothing (map event_of kept))
-    → IfOk r (λ given. HadMemory given.items → map answer_of given.items ≡ answers setup nothing (map event_of kept)))
+    → IfOk r (λ given. HadMemory given.items → ArePrivate setup (map event_of kept) (map answer_of given.items)))
     → IfOk r (λ given. Rerun setup user timed events given.items)
-run_again setup user timed events kept (Ok given) is steps same = record {
+run_again setup user timed events kept (Ok given) is steps private = record {
   kept = kept;
   struck_out = is;
   run = steps;
   private = λ clean memory.
-      subst (λ es. map answer_of given.items ≡ answers setup nothing es) is (same (subst (λ es. NoClash (hashed setup nothing es)) (sym is) clean) memory);
+      subst (λ es. map answer_of given.items ≡ answers setup nothing es) is (private (subst (λ es. NoClash (hashed setup nothing es)) (sym is) clean) memory).same;
 }
-run_again setup user timed events kept (Err why) is steps same = tt
+run_again setup user timed events kept (Err why) is steps private = tt
 
 -- ---- both runs
 

@@ -59,14 +59,14 @@ module _ (setup : Setup) where
           let told : Answer = record { actor = r.event.actor; reply = reply_to setup (world_after setup nothing (events_of rows)) (event_in r) } in
           let all : answers_of rows ++ record { actor = r.event.actor; reply = reply_of r.reply } ∷ [] ≡ answers setup nothing (events_of rows) ++ told ∷ [] =
           sym (rows_push rows r)
-          ∙ (legal.same (subst (λ (es : List Event). NoClash (hashed setup nothing es)) (sym (events_push rows r)) clean)
+          ∙ ((legal.private (subst (λ (es : List Event). NoClash (hashed setup nothing es)) (sym (events_push rows r)) clean)).same
           ∙ (ap (answers setup nothing) (events_push rows r) ∙ answers_push setup nothing (events_of rows) (event_in r))) in
           let last = same_from_push (answers_of rows) (answers setup nothing (events_of rows)) _ told all in
           ap (λ (a : Answer). a.reply) last.1;
       good = λ clean.
           good_last setup nothing (events_of rows) (event_in r)
           (subst (λ (es : List Event). GiveGoodClosures setup nothing es) (events_push rows r)
-          (legal.good (subst (λ (es : List Event). NoClash (hashed setup nothing es)) (sym (events_push rows r)) clean)));
+          (legal.private (subst (λ (es : List Event). NoClash (hashed setup nothing es)) (sym (events_push rows r)) clean)).good);
     }
 
   module _ (rows all : List Row) (r : Row) (before : WithReads rows all) (legal : IsLegal setup (rows ++ r ∷ [])) where

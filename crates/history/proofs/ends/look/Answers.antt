@@ -1,5 +1,4 @@
-use Rattle.std.proofs.Common.{◌≡◌, List, refl, sym, subst}
-use Rattle.left_right.specs.Sides.{view}
+use Rattle.std.proofs.Common.{List, refl, sym, subst}
 use Rattle.history.specs.declared.row.Row.{Row}
 use Rattle.history.specs.Histories.{IsLegal}
 use Rattle.schedule.specs.Queries.{event_for}

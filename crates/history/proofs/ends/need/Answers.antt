@@ -1,4 +1,4 @@
-use Rattle.std.proofs.Common.{◌≡◌, List, refl, sym, subst}
+use Rattle.std.proofs.Common.{List, refl, subst}
 use Rattle.std.specs.Prelude.{IfOk}
 use Rattle.history.specs.declared.row.Row.{Row}
 use Rattle.events.specs.Terms.{event_of}

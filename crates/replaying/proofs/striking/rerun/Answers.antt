@@ -7,7 +7,7 @@ use Rattle.replaying.proofs.striking.rerun.Goals as goal
 pub returns-clause-given : goal.returns-clause-given
 returns-clause-given c =
     run_again _ c.args.user.now c.args.timed _ c.in_ok-kept.kept.items c.run.result (rw c.as_slice.ensures.value at (c.in_ok-kept.ensures.kept c.args.settings.limits.charge))
-    c.run.ensures.steps c.run.ensures.same
+    c.run.ensures.steps c.run.ensures.private
 
 pub returns-in_err-kept-clause-refused : goal.returns-in_err-kept-clause-refused
 returns-in_err-kept-clause-refused c =

@@ -1,18 +1,15 @@
-use Rattle.std.proofs.Common.{◌≡◌, ◌<◌, ◌∙◌, ℕ, List, length, ap, rules, subst, sym}
+use Rattle.std.proofs.Common.{◌≡◌, List, ap, subst, sym}
 use Rattle.std.specs.Prelude.{IfOk}
 use Rattle.model.specs.Archives.{Tree}
 use Rattle.realise.specs.Holdings.{Holdings}
 use Rattle.trust.specs.Trusting.{trusts}
-use Rattle.trust.specs.Naming.{name_at}
 use Rattle.events.specs.Terms.{request_of}
 use Rattle.outputs.specs.Kept.{HasNeeded}
 use Rattle.outputs.specs.declared.settlement.Settlement.{Settlement}
 use Rattle.outputs.specs.declared.settlements.Settlements.{Settlements}
 use Rattle.handlers.specs.Offering.{HasOffered}
-use Rattle.endings.specs.Preparing.{HasLedOutput, HasNeededFor}
 use Rattle.handlers.proofs.StateLemmas.{has_desk}
 use Rattle.endings.proofs.MadeLemmas.{at_place}
-use Rattle.handlers.specs.Parts.{goals_of}
 use Rattle.handlers.specs.Viewing.{desk_at}
 use Rattle.schedule.specs.Standing.{world_of}
 use Rattle.schedule.specs.Preparing.{HasInput, HasOutcome}

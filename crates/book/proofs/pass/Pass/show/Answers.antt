@@ -1,1 +1,0 @@
-use Rattle.book.proofs.pass.Pass.show.Goals as goal
