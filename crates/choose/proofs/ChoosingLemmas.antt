@@ -1,12 +1,12 @@
 -- How the least record is found, one after another, and what it is with its tree.
-use Rattle.std.proofs.Common.{◌≡◌, ℕ, zero, suc, ◌+◌, ◌<◌, ◌≤◌, Bool, true, false, ◌⊎◌, inl, inr, refl, sym, ◌∙◌, ap, subst, arith, add-one, List, [], ◌∷◌, ◌++◌, length, get_or, drop, Option, Some, None}
+use Rattle.std.proofs.Common.{◌≡◌, ℕ, Bool, true, false, inl, inr, refl, sym, ◌∙◌, ap, subst, List, [], ◌∷◌, ◌++◌, Option, Some, None}
 use Rattle.std.specs.Prelude.{bytes_eq, map, filter, option_map, All, is_some}
 use Rattle.std.specs.Option.{option_or}
 use Rattle.std.specs.Borrow.{Bor}
 use Rattle.std.proofs.lemmas.List.Elements.{All-head, All-tail, filter-append}
 use Rattle.std.proofs.lemmas.List.{map-append}
 use Rattle.model.specs.Archives.{Tree}
-use Rattle.model.specs.Worlds.{Source, Record, Pin, pin_of, tree_at}
+use Rattle.model.specs.Worlds.{Source, Pin, pin_of, tree_at}
 use Rattle.model.specs.Orders.{lesser, least_from, least}
 use Rattle.model.specs.Choices.{record_before, is_of, is_pinned, choose_of, choose_among}
 use Rattle.model.proofs.BoolLemmas.{either}

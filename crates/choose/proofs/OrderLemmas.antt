@@ -1,20 +1,12 @@
 -- The orders of records, sources and entries.
-use Rattle.std.proofs.Common.{◌≡◌, ℕ, Bool, true, false, ◌||◌, ◌&&◌, not, inl, inr, refl, sym, ◌∙◌, ap, arith, List, Option, Some, None}
+use Rattle.std.proofs.Common.{◌≡◌, ℕ, Bool, true, false, inl, inr, refl, ap, arith, Option, Some, None}
 use Rattle.std.specs.Prelude.{nat_lt}
-use Rattle.std.specs.Ordering.{is_lt, is_eq, nat_cmp, ordering_reverse}
-use Rattle.std.specs.declared.cmp.Ordering.{Ordering}
-use Rattle.std.specs.declared.cmp.Ordering.TheVariants.{Less, Equal, Greater}
 use Rattle.std.specs.Cmp.{IsStrictWeakOrder}
-use Rattle.std.specs.Cmp.Lexicographic.{slice_cmp, same_text}
 use Rattle.std.proofs.lemmas.Bool.Decides.{nat_tests}
-use Rattle.std.proofs.lemmas.Cmp.{nat_list_cmp_total}
-use Rattle.std.proofs.lemmas.List.Sorted.{ranks_by}
-use Rattle.std.proofs.lemmas.Map.Text.{is_eq-slice_cmp}
 use Rattle.model.specs.Archives.{bytes_before}
 use Rattle.model.specs.Classes.{Class}
 use Rattle.model.specs.Worlds.{Source, Record, Entry, path_of_entry}
 use Rattle.model.specs.References.{class_before}
-use Rattle.model.specs.Orders.{first_by}
 use Rattle.model.specs.Choices.{rank_before, source_before}
 use Rattle.model.specs.Closures.{class_of_entry, entry_before}
 use Rattle.model.proofs.BoolLemmas.{either}

@@ -9,7 +9,7 @@ use Rattle.std.proofs.lemmas.Bool.{or_parts}
 use Rattle.model.specs.Orders.{first_by, set_of}
 use Rattle.model.proofs.BoolLemmas.{either}
 use Rattle.laws.proofs.MemberLemmas.{In, in_of, contains_of, in_append, from_set, in_set}
-use Rattle.laws.proofs.SetLemmas.{Ascends, clash, irreflexive, goes_on, same_members, set_ascends}
+use Rattle.laws.proofs.SetLemmas.{Ascends, clash, irreflexive, same_members, set_ascends}
 use Rattle.choose.specs.Gathering.{IsApart, AreApart}
 
 -- ---- orders

@@ -9,7 +9,7 @@ ghost use Rattle.choose.specs.Visible.{recorded_before, those_at, pinned_at, of_
 use crate::order::is_record_before;
 use crate::view::{View, tree_in};
 use model::Refusal;
-use realise::{Desk, Pins};
+use realise::{Desk, Pins, RecordsOf};
 use records::{Realisation, Record};
 use storepath::StorePath;
 
@@ -46,11 +46,11 @@ fn lesser_at<'a>(
 // those with the path, if one is given.
 fn least_from<'a>(
     best: Option<&'a Record>,
-    records: &'a [Record],
+    records: RecordsOf<'a>,
     path: Option<&StorePath>,
 ) -> Option<&'a Record>
     ensures { option_copied result ≡ least_from recorded_before (option_copied best.entry)
-        (those_at (option_copied path.entry) records.now) }
+        (those_at (option_copied path.entry) records.entry) }
 {
     let mut best = best;
     for candidate in records {

@@ -50,11 +50,6 @@ pub record_next : (p : Recorded → Bool) (best after : Option Recorded) (x : Re
 unfolding least_from
 record_next p best after x xs ys e t is = rw (e, t, is) refl
 
-pub record_left : (p : Recorded → Bool) (best after : Option Recorded) (x : Recorded) (xs ys : List Recorded) → ys ≡ x ∷ xs → p x ≡ false
-    → after ≡ best → least_from path_before after (filter p xs) ≡ least_from path_before best (filter p ys)
-unfolding least_from
-record_left p best after x xs ys e f is = rw (e, f, is) refl
-
 -- nothing is found
 pub nothing_found : (best : Option Recorded) (found : List Recorded) → found ≡ [] → best ≡ least_from path_before best found
 unfolding least_from

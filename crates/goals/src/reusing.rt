@@ -19,7 +19,7 @@ use classes::Class;
 use handlers::State;
 use jobs::{Goal, Status};
 use model::Refusal;
-use realise::Desk;
+use realise::{Desk, RecordsOf};
 use records::{Label, Realisation, Record, Resolved};
 use std::alloc::Global;
 use store::Table;
@@ -67,12 +67,12 @@ fn lesser<'a>(best: Option<&'a Record>, one: &'a Record) -> &'a Record
 /// and whose labels are all among these.
 fn least_of<'a>(
     best: Option<&'a Record>,
-    records: &'a [Record],
+    records: RecordsOf<'a>,
     path: &StorePath,
     labels: &[Label],
 ) -> Option<&'a Record>
     ensures { option_copied result ≡ least_from path_before (option_copied best.entry)
-        (filter (is_found_at labels.now path.now) records.now) }
+        (filter (is_found_at labels.now path.now) records.entry) }
 {
     let mut least = best;
     for one in records {

@@ -1,7 +1,6 @@
 -- Candidates: a set of sources and other labels stand for a label for each path.
-use Rattle.std.proofs.Common.{◌≡◌, ℕ, Bool, true, false, cond, ◌⊎◌, inl, inr, List, [], ◌∷◌, ◌++◌, map, refl, sym, ap, ◌∙◌, All}
+use Rattle.std.proofs.Common.{◌≡◌, ℕ, Bool, true, false, cond, inl, inr, List, [], ◌∷◌, ◌++◌, map, refl, sym, ap, ◌∙◌, All}
 use Rattle.std.specs.Prelude.{◌||◌, bytes_eq, filter}
-use Rattle.std.specs.List.{AllPairs}
 use Rattle.std.proofs.lemmas.List.Elements.{filter-append, All-nil, All-cons, All-head, All-filter, All-append, All-contains}
 use Rattle.std.proofs.lemmas.List.Folds.{list_any-append}
 use Rattle.model.specs.Archives.{bytes_before}
@@ -14,12 +13,12 @@ use Rattle.model.specs.References.{labels_in_order, labels_of, least_label, path
 use Rattle.model.proofs.BoolLemmas.{either, bytes_same, same_bytes}
 use Rattle.laws.proofs.LabelLemmas.{from_labels_in_order, labels_in_order_have}
 use Rattle.laws.proofs.MapLemmas.{both_ways, in_of_among, among_of_in}
-use Rattle.laws.proofs.MemberLemmas.{In, contains_of, in_append, in_left, in_right, in_map, from_map, in_filter, from_filter}
+use Rattle.laws.proofs.MemberLemmas.{In, contains_of, in_map, from_map, in_filter, from_filter}
 use Rattle.records.specs.Ordered.{source_label}
 use Rattle.records.specs.Recorded.{AreInPathOrder}
 use Rattle.records.proofs.PathOrderLemmas.{before_all, labels_are_in_order, least_path, pairs_head, pairs_tail}
 use Rattle.outputs.specs.Outputs.{candidates_of}
-use Rattle.outputs.proofs.SameLemmas.{order, past, onto, ahead, commute_paths, same_behind}
+use Rattle.outputs.proofs.SameLemmas.{order, past, onto, ahead, commute_paths}
 
 in_of_one : (paths : List (List ℕ)) (x : List ℕ) → is_one_of paths x ≡ true → In x paths
 in_of_one = in_of_among

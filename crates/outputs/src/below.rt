@@ -11,7 +11,7 @@ use aterm::Derivation;
 use classes::{Known, input_classes, set_of};
 use indexmap::IndexSet;
 use model::Refusal;
-use realise::Desk;
+use realise::{Desk, RecordsOf};
 use records::{Label, Record};
 use std::alloc::Global;
 use storepath::StorePath;
@@ -57,9 +57,9 @@ impl Reached {
 }
 
 // Adds the records of a group.
-fn push_group(records: &mut Vec<Record>, group: &[Record]) -> Result<(), Refusal>
+fn push_group(records: &mut Vec<Record>, group: RecordsOf) -> Result<(), Refusal>
     ensures { MatchResult result
-        (λ _. records.new.items ≡ records.old.items ++ group.now)
+        (λ _. records.new.items ≡ records.old.items ++ group.entry)
         (λ e. e ≡ Memory) }
 {
     for record in group {
@@ -82,11 +82,11 @@ fn is_named(named: &IndexSet<(StorePath, StorePath)>, one: &Record) -> Result<bo
 fn push_named(
     records: &mut Vec<Record>,
     named: &IndexSet<(StorePath, StorePath)>,
-    group: &[Record],
+    group: RecordsOf,
 ) -> Result<(), Refusal>
     ensures { MatchResult result
         (λ _. records.new.items ≡ records.old.items
-        ++ filter (is_record_named named.now.keys) group.now)
+        ++ filter (is_record_named named.now.keys) group.entry)
         (λ e. e ≡ Memory) }
 {
     for record in group {
@@ -275,10 +275,11 @@ fn one_step(
         (λ e. e ≡ Memory) }
 {
     let named = named_by(alloc, inputs, &reached.seen, reached.fresh())?;
-    let next = records_named(alloc, desk, &named)?;
+    let mut next = records_named(alloc, desk, &named)?;
     add_pairs(&mut reached.seen, &named)?;
     reached.from = reached.records.len();
-    push_group(&mut reached.records, &next)
+    reached.records.append(&mut next)?;
+    Ok(())
 }
 
 // What is reached from the records of the inputs' classes, until a step reaches nothing.

@@ -1,6 +1,6 @@
 -- Records sought among some of them.
 use Rattle.std.proofs.Common.{◌≡◌, ℕ, Bool, true, inl, inr, List, [], ◌∷◌, map, length, refl, suc, arith}
-use Rattle.std.specs.Prelude.{filter, bytes_eq, ◌&&◌, ◌==◌, not}
+use Rattle.std.specs.Prelude.{filter, bytes_eq, ◌&&◌, nat_lt}
 use Rattle.std.specs.List.{list_any}
 use Rattle.std.specs.Cmp.Lexicographic.{pointwise}
 use Rattle.std.proofs.lemmas.Bool.Decides.{nat_tests}
@@ -38,11 +38,14 @@ found_at_path r records =
     (λ q same. (both_parts (bytes_eq q.path r.path) (pointwise same_label q.labels r.labels)
     (both_parts (bytes_eq q.class.path r.class.path) (bytes_eq q.path r.path && pointwise same_label q.labels r.labels) same).1).0)
 
-not_none : (n : ℕ) → not (suc n == 0) ≡ true
+not_none : (n : ℕ) → nat_lt 0 (suc n) ≡ true
 not_none n = grind (arith, nat_tests)
 
 -- there are some at a path where one of all is
 pub some_at_path : (path : List ℕ) (records : List Recorded)
-    → not (length (filter (is_record_at path) records) == 0) ≡ is_one_of (map (λ r. r.path) records) path
+    → nat_lt 0 (length (filter (is_record_at path) records)) ≡ is_one_of (map (λ r. r.path) records) path
 some_at_path path [] = refl
-some_at_path path (r ∷ records) = elim (either (is_record_at path r)) [ inl t ↦ rw t (not_none (length (filter (is_record_at path) records))) | inr f ↦ rw f (some_at_path path records) ]
+some_at_path path (r ∷ records) = elim (either (is_record_at path r)) [
+  | inl t ↦ rw t (not_none (length (filter (is_record_at path) records)))
+  | inr f ↦ rw f (some_at_path path records)
+]

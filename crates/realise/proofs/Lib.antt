@@ -8,4 +8,3 @@ pub mod HoldingLemmas
 pub mod KeepingLemmas
 pub mod ForgettingLemmas
 mod NumberLemmas
-mod QueueLemmas

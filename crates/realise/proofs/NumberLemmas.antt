@@ -1,25 +1,22 @@
 -- Records by ascending numbers.
-use Rattle.std.proofs.Common.{◌≡◌, ℕ, zero, suc, ◌+◌, ◌-◌, ◌<◌, ◌≤◌, Bool, true, false, inl, inr, List, [], ◌∷◌, ◌++◌, length, get_or, take, drop, append-nil, refl, sym, ap, ◌∙◌, subst, arith, Option, Some, None, Result, Ok, Err, MatchResult, Less, Greater, length-append}
+use Rattle.std.proofs.Common.{◌≡◌, ℕ, suc, ◌+◌, ◌-◌, ◌<◌, Bool, true, false, inl, inr, List, [], ◌∷◌, ◌++◌, length, get_or, take, append-nil, refl, sym, ap, ◌∙◌, subst, arith, Option, Some, None, Less, Greater, length-append}
 use Rattle.std.specs.Prelude.{◌^◌, ◌==◌, IfSome, bytes_eq, unwrap_or, cond, if◌then◌else◌, not, filter, sum_by, is_some, All}
-use Rattle.std.specs.List.{list_any, zip, remove, AllPairs}
+use Rattle.std.specs.List.{list_any, AllPairs}
 use Rattle.std.specs.Map.{lookup, remove_entry}
-use Rattle.std.specs.List.Sorted.{IsBinarySearchResult, IsStrictlySortedBy}
+use Rattle.std.specs.List.Sorted.{IsStrictlySortedBy}
 use Rattle.std.specs.BTreeMap.{insert_entry, is_at}
 use Rattle.std.specs.Map.{keys_of}
 use Rattle.std.specs.Ordering.{nat_cmp, is_lt}
 use Rattle.std.specs.Option.{SomeIff}
-use Rattle.std.proofs.lemmas.Bool.{cases_lt, or_parts}
+use Rattle.std.proofs.lemmas.Bool.{or_parts}
 use Rattle.std.proofs.lemmas.Bool.Decides.{nat_tests}
-use Rattle.std.proofs.lemmas.List.{get_or-map, drop_all, map-append, length-map}
+use Rattle.std.proofs.lemmas.List.{get_or-map, map-append, length-map}
 use Rattle.std.proofs.lemmas.List.Elements.{All-head, All-tail, All-filter, filter-append}
-use Rattle.std.proofs.lemmas.List.Sorted.{searched}
 use Rattle.std.proofs.lemmas.Map.Keys.{below_from_sorted, ge_from_not_lt}
 use Rattle.std.proofs.Math.Seq.{take-append_seam}
 use Rattle.std.proofs.lemmas.List.Sums.{sum_by-cons, sum_by-append}
-use Rattle.std.proofs.lemmas.Slice.Zip.{length-zip, get_or-zip}
 use Rattle.model.proofs.BoolLemmas.{either, same_bytes}
 use Rattle.records.specs.Recorded.{Recorded}
-use Rattle.records.proofs.LoopLemmas.{drop_next}
 use Rattle.realise.specs.Numbers.{AscendByNumber, IsAbove, is_number, number_of, without_numbers}
 use Rattle.realise.specs.Indexed.{Groups, Tables, group_at, is_record_at, IsGrouped, IsUngrouped, HasSameGroups, AreTabled, HasListed, HasUnlisted, without_last}
 use Rattle.realise.specs.Holdings.{is_record_of}
@@ -45,16 +42,6 @@ module _ {X : Type 0} (R : X → X → Type 0) where
 
   pub others_of_all : (x : X) (xs : List X) → AllPairs R (x ∷ xs) → AllPairs R xs
   others_of_all x xs h = λ i j d lt le. h (suc i) (suc j) d (omega (arith, lt)) (omega (arith, le))
-
-abbrev Ascend : List ℕ → Type 0
-Ascend ns = AllPairs (λ m n. m < n) ns
-
--- they never fall
-pub never_falls : (ns : List ℕ) → Ascend ns → (i j : ℕ) → i ≤ j → j < length ns → get_or ns i 0 ≤ get_or ns j 0
-never_falls ns up i j le lt = elim (either (i == j)) [
-  | inl t ↦ (let same : i ≡ j = same_number i j t in let value = ap (λ k. get_or ns k 0) same in omega (arith, value))
-  | inr f ↦ (let less : i < j = grind (arith, nat_tests, f, le) in let value = up i j 0 less lt in omega (arith, value))
-]
 
 -- ---- records in a map, by their numbers
 
@@ -99,59 +86,6 @@ put_last number r (e ∷ numbered) above =
     let after : nat_cmp number e.0 ≡ Greater = grind (arith, nat_tests, below) in
     rw after (ap (λ es. e ∷ es) (put_last number r numbered (All-tail (λ (f : ℕ × Recorded). f.0 < number) e numbered above)))
 
--- ---- numbers and records side by side
-
-pub taken_at : (i : ℕ) (ns : List ℕ) (rs : List Recorded) (number : ℕ) → i < length ns → length rs ≡ length ns → Ascend ns → get_or ns i 0 ≡ number
-    → remove_entry (is_number number) (zip ns rs) ≡ zip (remove ns i) (remove rs i)
-taken_at i [] rs number below same up is = absurd (omega (arith, below))
-taken_at i (n ∷ ns) [] number below same up is = absurd (omega (arith, same))
-taken_at zero (n ∷ ns) (r ∷ rs) number below same up is = let own : (n == number) ≡ true = grind (arith, nat_tests, is) in rw own refl
-taken_at (suc i) (n ∷ ns) (r ∷ rs) number below same up is =
-    let under : n < get_or ns i 0 = first_of_all (λ a b. a < b) n ns up i 0 (omega (arith, below)) in
-    let other : (n == number) ≡ false = below_other n number (omega (arith, under, is)) in
-    rw other (ap (λ es. (n, r) ∷ es) (taken_at i ns rs number (omega (arith, below)) (omega (arith, same)) (others_of_all (λ a b. a < b) n ns up) is))
-
--- what halving says
-module _ (ns xs : List ℕ) (number place : ℕ) (r : Result ℕ ℕ) (is : xs ≡ ns) (up : Ascend ns) (found : IsBinarySearchResult (λ y. nat_cmp y number) xs r) where
-  both : MatchResult r (λ i. (i < length ns) × (get_or ns i 0 ≡ number))
-      (λ i. (i ≤ length ns) × ((k : ℕ) → k < i → get_or ns k 0 < number) × ((k : ℕ) → i ≤ k → k < length ns → number < get_or ns k 0))
-  both = searched ns number r (subst (λ ms. IsBinarySearchResult (λ y. nat_cmp y number) ms r) is found) (never_falls ns up)
-
-  pub searched_ok : r ≡ Ok place → (place < length ns) × (get_or ns place 0 ≡ number)
-  searched_ok e = rw e at both
-
-  pub searched_err : r ≡ Err place → (k : ℕ) → k < length ns → get_or ns k 0 ≡ number → ⊥
-  searched_err e k lt here =
-      let apart : (place ≤ length ns) × ((k : ℕ) → k < place → get_or ns k 0 < number) × ((k : ℕ) → place ≤ k → k < length ns → number < get_or ns k 0) = rw e at both in
-      elim (cases_lt k place) [
-        | inl before ↦ let under = apart.1 k before in absurd (omega (arith, under, here))
-        | inr from ↦ let over = apart.2 k from lt in absurd (omega (arith, over, here))
-      ]
-
--- a number that is not there takes nothing out
-module _ (number : ℕ) where
-  pub none_taken : (ns : List ℕ) (rs : List Recorded) → ((k : ℕ) → k < length ns → get_or ns k 0 ≡ number → ⊥) → zip ns rs ≡ remove_entry (is_number number) (zip ns rs)
-  none_taken [] rs other = refl
-  none_taken (n ∷ ns) [] other = refl
-  none_taken (n ∷ ns) (r ∷ rs) other =
-      rw (other_number n number (other 0 (omega arith))) (ap (λ es. (n, r) ∷ es) (none_taken ns rs (λ k lt. other (suc k) (omega (arith, lt)))))
-
-pub zip_last : (ns : List ℕ) (rs : List Recorded) (n : ℕ) (r : Recorded) → length rs ≡ length ns
-    → zip (ns ++ n ∷ []) (rs ++ r ∷ []) ≡ zip ns rs ++ (n, r) ∷ []
-zip_last [] [] n r same = refl
-zip_last [] (q ∷ rs) n r same = absurd (omega (arith, same))
-zip_last (m ∷ ns) [] n r same = absurd (omega (arith, same))
-zip_last (m ∷ ns) (q ∷ rs) n r same = ap (λ es. (m, q) ∷ es) (zip_last ns rs n r (omega (arith, same)))
-
--- the numbers ascend with one above all
-pub numbers_above : (ns : List ℕ) (rs : List Recorded) (n : ℕ) → length rs ≡ length ns → IsAbove n (zip ns rs) → (k d : ℕ) → k < length ns → get_or ns k d < n
-numbers_above ns rs n same above k d lt =
-    let nobody : Recorded = record { class = record { path = []; rank = 0 }; path = []; labels = [] } in
-    let long = length-zip ns rs in
-    let value = ap (λ (e : ℕ × Recorded). e.0) (get_or-zip ns rs k (d, nobody) lt (omega (arith, lt, same))) in
-    let below = above k (d, nobody) (omega (arith, lt, same, long)) in
-    omega (arith, value, below)
-
 -- ---- the first that passes a test
 
 pub passed_first : (test : Recorded → Bool) (left rest : Numbered) (e : ℕ × Recorded) → left ≡ e ∷ rest → test e.1 ≡ true → number_of test left ≡ Some e.0
@@ -160,18 +94,6 @@ passed_first test left rest e is t = ap (number_of test) is ∙ rw t refl
 pub passed_over : (test : Recorded → Bool) (left rest : Numbered) (e : ℕ × Recorded) → left ≡ e ∷ rest → test e.1 ≡ false
     → number_of test rest ≡ number_of test left
 passed_over test left rest e is f = sym (ap (number_of test) is ∙ rw f refl)
-
--- the pair of a turn, and those that are left
-pub pair_next : (ns : List ℕ) (rs : List Recorded) (i n : ℕ) (r : Recorded) → length rs ≡ length ns → i < length rs → n ≡ get_or ns i n → r ≡ get_or rs i r
-    → drop i (zip ns rs) ≡ (n, r) ∷ drop (i + 1) (zip ns rs)
-pair_next ns rs i n r same lt number own =
-    let long = length-zip ns rs in
-    let here = get_or-zip ns rs i (n, r) (omega (arith, lt, same)) lt in
-    drop_next (zip ns rs) i (n, r) (omega (arith, lt, same, long)) ((λ j. (number j, own j)) ∙ sym here)
-
--- all are passed over
-pub passed_all : (test : Recorded → Bool) (numbered : Numbered) (i : ℕ) → length numbered ≤ i → None ≡ number_of test (drop i numbered)
-passed_all test numbered i past = sym (ap (number_of test) (drop_all i numbered past))
 
 -- ---- the records of which one is taken out
 

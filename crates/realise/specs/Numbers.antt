@@ -1,5 +1,5 @@
 -- Records with numbers, which ascend.
-use Rattle.std.specs.Prelude.{◌≡◌, ℕ, ◌<◌, ◌==◌, Bool, List, [], ◌∷◌, length, map, All, Option, Some, None, if◌then◌else◌}
+use Rattle.std.specs.Prelude.{ℕ, ◌<◌, ◌==◌, Bool, List, [], ◌∷◌, map, All, Option, Some, None, if◌then◌else◌}
 use Rattle.std.specs.List.{AllPairs}
 use Rattle.records.specs.Recorded.{Recorded}
 
@@ -22,8 +22,3 @@ IsAbove number numbered = All (λ e. e.0 < number) numbered
 abbrev pub number_of : (Recorded → Bool) → List (ℕ × Recorded) → Option ℕ
 number_of test [] = None
 number_of test (e ∷ numbered) = if test e.1 then Some e.0 else number_of test numbered
-
--- there is a number for each record, and they ascend
-pub record ArePaired (numbers : List ℕ) (records : List Recorded) : Type 0 where
-  pub paired : length records ≡ length numbers
-  pub ascending : AllPairs (λ m n. m < n) numbers

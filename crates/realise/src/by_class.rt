@@ -11,6 +11,7 @@ ghost use Rattle.realise.specs.Indexed.{AreInOrder, is_record_at, without_last};
 ghost use Rattle.model.specs.declared.refusal.Refusal.TheVariants.{Memory};
 
 use crate::indexes::Indexes;
+use crate::records_of::RecordsOf;
 use model::Refusal;
 use records::Record;
 use std::alloc::Global;
@@ -73,6 +74,18 @@ fn take_out(list: &mut BTreeMap<u32, Record>, indexes: &mut Indexes, number: u32
     }
 }
 
+/// Whether a record is among others. Each of them is looked at.
+fn is_among(added: &Record, others: RecordsOf) -> bool
+    ensures { result ≡ list_any (λ r. same_recorded r added.now) others.entry }
+{
+    for other in others {
+        if other.same(added) {
+            return true;
+        }
+    }
+    false
+}
+
 impl Records {
     /// No records. `hashing` has the keys of the hashers. It takes no memory.
     pub(crate) fn new(alloc: Global, hashing: RandomState) -> Records
@@ -92,15 +105,15 @@ impl Records {
     }
 
     /// Those of a class, the oldest first.
-    pub(crate) fn of_class(&self, class: &StorePath) -> &[Record]
-        ensures { result.now ≡ filter (is_record_of class.now) self.now }
+    pub(crate) fn of_class(&self, class: &StorePath) -> RecordsOf<'_>
+        ensures { result ≡ filter (is_record_of class.now) self.now }
     {
         self.indexes.of_class(class)
     }
 
     /// Those at a path, the oldest first.
-    fn at_path(&self, path: &StorePath) -> &[Record]
-        ensures { result.now ≡ filter (is_record_at path.now) self.now }
+    fn at_path(&self, path: &StorePath) -> RecordsOf<'_>
+        ensures { result ≡ filter (is_record_at path.now) self.now }
     {
         self.indexes.at_path(path)
     }
@@ -109,7 +122,7 @@ impl Records {
     pub(crate) fn has_path(&self, path: &StorePath) -> bool
         ensures { result ≡ is_one_of (map (λ r. r.path) self.now) path.now }
     {
-        !self.at_path(path).is_empty()
+        self.at_path(path).len() > 0
     }
 
     /// Whether a record is one of them. Those of its class are looked at, or those at its path, whichever
@@ -120,9 +133,9 @@ impl Records {
         let of_class = self.of_class(added.class().path());
         let at_path = self.at_path(added.path());
         if at_path.len() < of_class.len() {
-            added.is_among(at_path)
+            is_among(added, at_path)
         } else {
-            added.is_among(of_class)
+            is_among(added, of_class)
         }
     }
 

@@ -15,6 +15,7 @@ use crate::by_class::Records;
 use crate::holding::Holding;
 use crate::parts::parted;
 use crate::pins::Pins;
+use crate::records_of::RecordsOf;
 use classes::{Admitted, Known};
 use indexmap::map::Keys;
 use model::{MOST_RECORDS, MOST_SOURCES, Refusal};
@@ -166,8 +167,8 @@ impl Desk {
     }
 
     /// What was built for a class, the oldest first. It is found at once.
-    pub fn records_of(&self, class: &StorePath) -> &[Record]
-        ensures { result.now ≡ records_of class.now self.now }
+    pub fn records_of(&self, class: &StorePath) -> RecordsOf<'_>
+        ensures { result ≡ records_of class.now self.now }
     {
         self.records.of_class(class)
     }

@@ -1,26 +1,39 @@
 //! A group of records.
 
-ghost use Rattle.std.specs.Prelude.{◌≡◌, [], ◌∷◌, ◌++◌, MatchResult};
+ghost use Rattle.std.specs.Prelude.{◌≡◌, ◌==◌, ◌<◌, [], ◌∷◌, ◌++◌, length, MatchResult};
 ghost use Rattle.std.specs.Map.{remove_entry};
 ghost use Rattle.model.specs.declared.refusal.Refusal.TheVariants.{Memory};
 ghost use Rattle.realise.specs.Numbers.{IsAbove, is_number, number_of, without_numbers};
 ghost use Rattle.realise.specs.Holdings.{is_recorded_at};
 
 use crate::forgetting::is_recorded_at;
-use crate::numbered::Numbered;
+use crate::records_of::RecordsOf;
 use model::Refusal;
 use records::Record;
 use std::alloc::Global;
+use std::collections::BTreeMap;
 use std::marker::Model;
-use std::slice;
 use storepath::StorePath;
+
+/// Puts a record with a number above all into a map. The one error is memory, and changes nothing.
+fn insert(map: &mut BTreeMap<u32, Record>, number: u32, added: Record) -> Result<(), Refusal>
+    requires { IsAbove number map.old.entries }
+    ensures { MatchResult result
+        (λ _. map.new.entries ≡ map.old.entries ++ (number, added) ∷ [])
+        (λ e. (e ≡ Memory) × (map.new.entries ≡ map.old.entries)) }
+{
+    match map.insert(number, added) {
+        Ok(_none) => Ok(()),
+        Err(_added) => Err(Refusal::Memory),
+    }
+}
 
 /// What a group has. Most have one record, which needs no memory of its own.
 #[derive(Drop)]
 enum Kept {
     Empty,
     One(u32, Record),
-    Several(Box<Numbered>),
+    Several(Box<BTreeMap<u32, Record>>),
 }
 
 /// The records of a group with their numbers, which ascend.
@@ -44,6 +57,35 @@ impl Model for Group {
     ghost view = { λ g. numbered_in g.kept };
 }
 
+/// A map of two records. The one error is memory.
+fn map_of_two(
+    alloc: Global,
+    first: (u32, Record),
+    second: (u32, Record),
+) -> Result<BTreeMap<u32, Record>, Refusal>
+    requires { first.0 < second.0 }
+    ensures { MatchResult result
+        (λ map. map.entries ≡ first ∷ second ∷ [])
+        (λ e. e ≡ Memory) }
+{
+    let mut map = BTreeMap::new(alloc);
+    insert(&mut map, first.0, first.1)?;
+    insert(&mut map, second.0, second.1)?;
+    Ok(map)
+}
+
+/// The number of the first record of a class at a path in a map, if there is one. All are looked at.
+fn number_in(map: &BTreeMap<u32, Record>, class: &StorePath, path: &StorePath) -> Option<u32>
+    ensures { result ≡ number_of (is_recorded_at class.now path.now) map.now.entries }
+{
+    for (number, record) in map {
+        if is_recorded_at(class, path, record) {
+            return Some(*number);
+        }
+    }
+    None
+}
+
 impl Group {
     /// No records.
     pub(crate) fn new() -> Group
@@ -52,14 +94,25 @@ impl Group {
         Group { kept: Kept::Empty }
     }
 
-    /// The records, by ascending numbers.
-    pub(crate) fn as_slice(&self) -> &[Record]
-        ensures { result.now ≡ without_numbers self.now }
+    /// Whether there are none.
+    pub(crate) fn is_empty(&self) -> bool
+        ensures { result ≡ (length self.now == 0) }
     {
         match &self.kept {
-            Kept::Empty => &[],
-            Kept::One(_, record) => slice::from_ref(record),
-            Kept::Several(numbered) => numbered.as_slice(),
+            Kept::Empty => true,
+            Kept::One(_, _) => false,
+            Kept::Several(numbered) => numbered.is_empty(),
+        }
+    }
+
+    /// The records, by ascending numbers.
+    pub(crate) fn records(&self) -> RecordsOf<'_>
+        ensures { result ≡ without_numbers self.now }
+    {
+        match &self.kept {
+            Kept::Empty => RecordsOf::none(),
+            Kept::One(_, record) => RecordsOf::one(record),
+            Kept::Several(numbered) => RecordsOf::several(numbered),
         }
     }
 
@@ -69,7 +122,7 @@ impl Group {
     {
         match &self.kept {
             Kept::One(number, record) if is_recorded_at(class, path, record) => Some(*number),
-            Kept::Several(numbered) => numbered.number_of(class, path),
+            Kept::Several(numbered) => number_in(numbered, class, path),
             _ => None,
         }
     }
@@ -87,11 +140,11 @@ impl Group {
                 Ok(())
             }
             Kept::One(first, one) => {
-                let both = Numbered::of_two(alloc, [*first, number], [one.clone()?, added])?;
+                let both = map_of_two(alloc, (*first, one.clone()?), (number, added))?;
                 self.kept = Kept::Several(Box::new(alloc, both)?);
                 Ok(())
             }
-            Kept::Several(numbered) => numbered.push(number, added),
+            Kept::Several(numbered) => insert(numbered, number, added),
         }
     }
 
@@ -101,7 +154,9 @@ impl Group {
     {
         match &mut self.kept {
             Kept::One(own, _) if *own == number => self.kept = Kept::Empty,
-            Kept::Several(numbered) => numbered.remove(number),
+            Kept::Several(numbered) => {
+                let _record = numbered.remove(&number);
+            }
             _ => {}
         }
     }

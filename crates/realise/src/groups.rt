@@ -7,6 +7,7 @@ ghost use Rattle.realise.specs.Indexed.{group_at, IsGrouped, IsUngrouped, HasSam
 ghost use Rattle.model.specs.declared.refusal.Refusal.TheVariants.{Memory};
 
 use crate::group::Group;
+use crate::records_of::RecordsOf;
 use indexmap::IndexMap;
 use model::Refusal;
 use records::Record;
@@ -18,12 +19,12 @@ use storepath::StorePath;
 pub(crate) fn records_in<'a>(
     groups: &'a IndexMap<StorePath, Group, RandomState>,
     key: &StorePath,
-) -> &'a [Record]
-    ensures { result.now ≡ without_numbers (group_at key.now groups.now.entries) }
+) -> RecordsOf<'a>
+    ensures { result ≡ without_numbers (group_at key.now groups.now.entries) }
 {
     match groups.get(key) {
-        Some(group) => group.as_slice(),
-        None => &[],
+        Some(group) => group.records(),
+        None => RecordsOf::none(),
     }
 }
 
@@ -88,7 +89,7 @@ fn take_last_from(
         return false;
     };
     group.remove(number);
-    group.as_slice().is_empty()
+    group.is_empty()
 }
 
 /// Takes the record of a number out of a group, and the group with its last record. It takes no memory.

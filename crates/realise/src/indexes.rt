@@ -12,6 +12,7 @@ use crate::counts::Counts;
 use crate::group::Group;
 use crate::groups::{number_in, put_in_group, records_in, take_from_group};
 use crate::names::{add_labels, count_under, take_labels};
+use crate::records_of::RecordsOf;
 use indexmap::IndexMap;
 use model::Refusal;
 use records::Record;
@@ -97,15 +98,15 @@ impl Indexes {
     }
 
     /// Those of a class, by ascending numbers.
-    pub(crate) fn of_class(&self, class: &StorePath) -> &[Record]
-        ensures { result.now ≡ without_numbers (group_at class.now self.now.by_class) }
+    pub(crate) fn of_class(&self, class: &StorePath) -> RecordsOf<'_>
+        ensures { result ≡ without_numbers (group_at class.now self.now.by_class) }
     {
         records_in(&self.by_class, class)
     }
 
     /// Those at a path, by ascending numbers.
-    pub(crate) fn at_path(&self, path: &StorePath) -> &[Record]
-        ensures { result.now ≡ without_numbers (group_at path.now self.now.by_path) }
+    pub(crate) fn at_path(&self, path: &StorePath) -> RecordsOf<'_>
+        ensures { result ≡ without_numbers (group_at path.now self.now.by_path) }
     {
         records_in(&self.by_path, path)
     }

@@ -12,13 +12,13 @@ mod holding;
 mod indexes;
 mod limits;
 mod names;
-mod numbered;
 mod parts;
 mod pins;
-mod queue;
+mod records_of;
 
 pub use additions::{Addition, add_to_each};
 pub use desk::Desk;
 pub use limits::Limits;
 pub use pins::Pins;
 pub use records::{DeskEntry, Label, Record, is_class_before, labels_in_order, labels_of};
+pub use records_of::RecordsOf;

@@ -4,7 +4,7 @@ use Rattle.std.specs.List.{AllPairs}
 use Rattle.std.specs.Cmp.Lexicographic.{pointwise}
 use Rattle.model.specs.Archives.{Tree, bytes_before}
 use Rattle.model.specs.Classes.{Class}
-use Rattle.model.specs.Worlds.{Label, Record, same_label, same_record}
+use Rattle.model.specs.Worlds.{Label, Record, same_label}
 
 -- a record without its tree
 pub record Recorded : Type 0 where
@@ -14,10 +14,6 @@ pub record Recorded : Type 0 where
 
 abbrev pub without_tree : Record → Recorded
 without_tree r = record { class = r.class; path = r.path; labels = r.labels }
-
--- whether two records are the same, whatever their trees
-abbrev pub IsSame : Recorded → Recorded → Bool → Type 0
-IsSame q r same = (one other : Record) → without_tree one ≡ q → without_tree other ≡ r → same ≡ same_record one other
 
 -- each label goes before all later ones by the bytes of its path, so there is one label for a path
 abbrev pub AreInPathOrder : List Label → Type 0

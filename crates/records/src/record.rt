@@ -3,7 +3,7 @@
 ghost use Rattle.std.specs.Prelude.{◌≡◌, MatchResult};
 ghost use Rattle.std.specs.List.{list_any};
 ghost use Rattle.std.specs.Arc.{arc_slice_items};
-ghost use Rattle.records.specs.Recorded.{IsSame, AreInPathOrder, same_recorded};
+ghost use Rattle.records.specs.Recorded.{AreInPathOrder, same_recorded};
 ghost use Rattle.model.specs.declared.refusal.Refusal.TheVariants.{Memory};
 
 use crate::label::Label;
@@ -85,13 +85,6 @@ fn record_of(
     Ok(Record { parts })
 }
 
-/// Whether two records are for one class at one path, with the same labels, whatever their trees are.
-fn is_same(one: &Record, other: &Record) -> bool
-    ensures { result ≡ same_recorded one.now other.now }
-{
-    one.same(other)
-}
-
 impl Record {
     /// A record of its parts. The labels are in the order of paths, one for each.
     ///
@@ -148,7 +141,7 @@ impl Record {
 
     /// Whether two records are for one class at one path, with the same labels.
     pub fn same(&self, other: &Record) -> bool
-        ensures { IsSame self.now other.now result }
+        ensures { result ≡ same_recorded self.now other.now }
     {
         self.class().path() == other.class().path()
             && self.path() == other.path()
@@ -161,7 +154,7 @@ impl Record {
         ensures { result ≡ list_any (λ r. same_recorded r self.now) others.now }
     {
         for other in others {
-            if is_same(other, self) {
+            if other.same(self) {
                 return true;
             }
         }

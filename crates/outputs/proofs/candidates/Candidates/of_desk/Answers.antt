@@ -1,7 +1,6 @@
 use Rattle.std.proofs.Common.{◌≡◌, ◌++◌, List, map, refl, ap, ◌∙◌}
 use Rattle.model.specs.Worlds.{Label}
 use Rattle.records.specs.Ordered.{source_label, record_label}
-use Rattle.records.specs.Recorded.{Recorded}
 use Rattle.outputs.specs.Outputs.{candidates_of}
 use Rattle.outputs.proofs.StepLemmas.{are_candidates}
 use Rattle.outputs.proofs.candidates.Candidates.of_desk.Goals as goal

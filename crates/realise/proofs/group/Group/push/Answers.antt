@@ -6,8 +6,8 @@ use Rattle.realise.specs.Numbers.{IsAbove}
 use Rattle.realise.proofs.group.Group.push.Goals as goal
 
 -- the second is above the first
-pub of_two-requires : goal.of_two-requires
-of_two-requires c =
+pub map_of_two-requires : goal.map_of_two-requires
+map_of_two-requires c =
     let e : ℕ × Recorded = (c.in-One.first, c.in-One.one) in
     let above : IsAbove c.args.number (e ∷ []) = subst (IsAbove c.args.number) (sym c.self.view_is ∙ ap numbered_in c.in-One.is) c.requires in
     let lower : e.0 < c.args.number = All-head (λ (f : ℕ × Recorded). f.0 < c.args.number) e [] above in

@@ -7,19 +7,19 @@ use Rattle.realise.specs.Numbers.{number_of}
 use Rattle.realise.proofs.NumberLemmas.{number_among}
 use Rattle.realise.proofs.indexes.Indexes.number_of.Goals as goal
 
-pub returns-then-at_path-of_class : goal.returns-then-at_path-of_class
-returns-then-at_path-of_class c numbered tabled =
+pub returns-then-len : goal.returns-then-len
+returns-then-len c numbered tabled =
     let class = c.args.class.now in
     let path = c.args.path.now in
     let test = is_recorded_at class path in
     c.number_in.ensures ∙ ap (λ (t : Tables). number_of test (group_at path t.by_path)) c.self.view_is ∙ ap (number_of test) (tabled.by_path path)
     ∙ number_among test (is_record_at path) numbered (λ r t. (both_parts (bytes_eq r.class.path class) (bytes_eq r.path path) t).1)
 
-pub returns-else-at_path-of_class : goal.returns-else-at_path-of_class
-returns-else-at_path-of_class c numbered tabled =
+pub returns-else-len : goal.returns-else-len
+returns-else-len c numbered tabled =
     let class = c.args.class.now in
     let path = c.args.path.now in
     let test = is_recorded_at class path in
-    c.number_in-else-at_path-of_class.ensures ∙ ap (λ (t : Tables). number_of test (group_at class t.by_class)) c.self.view_is
+    c.number_in-else-len.ensures ∙ ap (λ (t : Tables). number_of test (group_at class t.by_class)) c.self.view_is
     ∙ ap (number_of test) (tabled.by_class class)
     ∙ number_among test (is_record_of class) numbered (λ r t. (both_parts (bytes_eq r.class.path class) (bytes_eq r.path path) t).0)
