@@ -12,10 +12,11 @@ use Rattle.model.specs.Limits.{most_derivation_bytes}
 use Rattle.model.specs.Outcomes.{Outcome, becomes}
 use Rattle.model.specs.DerivationRequests.{told_of_derivation, admitted, admit_new, add_derivation}
 use Rattle.aterm.specs.Refused.{IsNotRead}
+use Rattle.events.specs.declared.reply.Reply.{Reply}
 use Rattle.realise.specs.Holdings.{Holdings, holds_derivation}
 use Rattle.handlers.specs.Sound.{desk_of, IsSound, Beside}
 use Rattle.model.specs.Replies.{is_clash_refusal}
-use Rattle.handlers.specs.Handling.{Fits, is_fault}
+use Rattle.handlers.specs.Handling.{Fits, AddsDerivation, HasAddedDerivation, is_fault}
 use Rattle.handlers.proofs.DeskLemmas.{known_of-desk_of, is_within-derivation}
 
 -- ---- admission
@@ -50,6 +51,20 @@ module _ (users : List (List ℕ)) (beside : Beside) (table : List Source) (limi
 
   pub added_fits : (a : Admission) → IsSound table limit d → known_at d.known (derivation_path derivation) ≡ None → admit d.known derivation ≡ Ok a → nat_le (length d.known.derivations + 1) most_derivations ≡ true → new_outcome ≡ becomes (desk_of beside table (holds_derivation a d)) (told_of_derivation a)
   added_fits a sound none ok within = is_new (Ok a) none ok ∙ rw (is_within-derivation users beside table limit d a sound, within) refl
+
+-- a refusal, which leaves the desk as it was
+pub refused_added : (d : Holdings) (derivation : Derivation) (result : Result Reply Refusal) (e : Refusal) → result ≡ Err e → is_clash_refusal e ≡ false
+    → ((table : List Source) (limit : ℕ) → IsSound table limit d → AddsDerivation limit table d derivation (Err e) d)
+    → HasAddedDerivation d derivation result d
+refused_added d derivation result e is clash adds =
+    rw is (record {
+      adds = adds;
+      sound = λ table limit sound. sound;
+      answered = tt;
+      gains = λ path class there. there;
+      kept = refl;
+      no_clash = clash;
+    })
 
 -- ---- a text
 

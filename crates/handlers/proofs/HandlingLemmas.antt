@@ -32,7 +32,7 @@ use Rattle.events.specs.Terms.{reply_of}
 use Rattle.handlers.specs.Parts.{goals_of, beside_at, Parts, parts, world_in, desk_among}
 use Rattle.handlers.specs.Viewing.{bare}
 use Rattle.handlers.specs.Given.{HasSoundPlan}
-use Rattle.handlers.specs.Handling.{Fits, Serves, ServesAtOnce, Stores, IsKept, AreKept, IsHandledKeeping, IsHandledBeside, IsHandledAtDesk, IsHandledByDesk, IsHandledWithGoals, IsHandledByObservation, IsHandledAtPlace, IsHandledByGoals, IsReadAtPlace, AddsEntry, AddsDerivation, IsHandled, is_fault}
+use Rattle.handlers.specs.Handling.{Fits, Serves, ServesAtOnce, Stores, IsKept, AreKept, IsHandledKeeping, IsHandledBeside, IsHandledAtDesk, IsHandledByDesk, IsHandledWithGoals, IsHandledByObservation, IsHandledAtPlace, IsHandledByGoals, IsReadAtPlace, AddsEntry, HasAddedDerivation, IsHandled, is_fault}
 use Rattle.handlers.proofs.DeskLemmas.{sound_kept}
 use Rattle.handlers.proofs.DerivationLemmas.{derivation_read}
 use Rattle.store.proofs.TableLemmas.{put_once-Extends, put_once-All, found_holds}
@@ -389,26 +389,24 @@ fetch_handled beside limit table desk path tree result sound there content memor
 pub derivation_handled : (beside : Beside) (limit : ℕ) (table : List Source) (before now : Holdings) (text : List ℕ) (derivation : Derivation)
     (result : Result Rust.Reply Refusal)
     → nat_le (length text) most_derivation_bytes ≡ true → derivation_of_text text ≡ Some derivation
-    → AddsDerivation limit table before derivation result now
-    → IfOk result (λ r. is_refused (reply_of r) ≡ false) → IsSound table limit now → GainsOnly before now → OnErr result (now ≡ before)
-    → IfErr result (λ why. is_clash_refusal why ≡ false)
+    → HasAddedDerivation before derivation result now → IsSound table limit before
     → IsHandledBeside beside limit table before (AddDerivation text) result table now
 unfolding outcome
-derivation_handled beside limit table before now text derivation result within read adds answered sound gains kept no_clash users w u here = record {
+derivation_handled beside limit table before now text derivation result within read added sound users w u here = record {
   handled = record {
-    serves = rw (here, derivation_read users beside table limit before text derivation within read) (adds users beside);
-    answered = answered;
+    serves = rw (here, derivation_read users beside table limit before text derivation within read) (added.adds table limit sound users beside);
+    answered = added.answered;
     at_once = derivation_at_once (desk_of beside table before) text result (λ large. let no : true ≡ false = sym within ∙ large in cc)
         (record { users = users; charge = limit }) (observation_of (record { users = users; charge = limit }) w u) here;
     no_memory = λ free. cc;
-    kept = on_err_weaker result (λ same. record { sources = refl; desk = same }) kept;
-    sound = sound;
+    kept = on_err_weaker result (λ same. record { sources = refl; desk = same }) added.kept;
+    sound = added.sound table limit sound;
     grows = λ path there. refl;
     hashed = λ texts hashed inside. hashed;
-    taken = λ clash. (let no = rw clash at no_clash in cc);
-    clashes = λ clash. (let no = rw clash at no_clash in cc);
+    taken = λ clash. (let no = rw clash at added.no_clash in cc);
+    clashes = λ clash. (let no = rw clash at added.no_clash in cc);
     stored = on_ok_any result _ refl;
     given = on_ok_any result _ tt;
   };
-  gains = gains;
+  gains = added.gains;
 }

@@ -129,6 +129,15 @@ AddsDerivation limit table before derivation result after = (users : List (List 
     → Fits (admit_new (record { users = users; charge = limit }) (desk_of beside table before) derivation (known_at before.known (derivation_path derivation)))
     (desk_of beside table after) result
 
+-- what becomes of a desk to which a derivation is added, whatever the limit under which it was sound
+pub record HasAddedDerivation (before : Holdings) (derivation : Derivation) (result : Result Reply Refusal) (after : Holdings) : Type 0 where
+  pub adds : (table : List Source) (limit : ℕ) → IsSound table limit before → AddsDerivation limit table before derivation result after
+  pub sound : (table : List Source) (limit : ℕ) → IsSound table limit before → IsSound table limit after
+  pub answered : IfOk result (λ r. is_refused (reply_of r) ≡ false)
+  pub gains : GainsOnly before after
+  pub kept : OnErr result (after ≡ before)
+  pub no_clash : IfErr result (λ why. is_clash_refusal why ≡ false)
+
 -- ---- events of goals
 
 -- what a handler promises of a user in one world that may change his goals too: a refusal leaves them, each is sound, and has

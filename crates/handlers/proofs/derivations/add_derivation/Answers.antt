@@ -39,5 +39,4 @@ returns c table limit sound beside =
     let within : nat_le (length c.args.text.now) most_derivation_bytes ≡ true = grind (arith, nat_tests, c.if-text-gt-MOST_DERIVATION_BYTES.false) in
     derivation_handled beside limit table c.args.desk.now c.add_parsed.new.desk c.args.text.now c.in_ok-derivation.derivation c.add_parsed.result
     within c.in_ok-derivation.ensures.same
-    (c.add_parsed.ensures.adds table limit sound) c.add_parsed.ensures.answered (c.add_parsed.ensures.sound table limit sound) c.add_parsed.ensures.gains
-    c.add_parsed.ensures.kept c.add_parsed.ensures.no_clash
+    c.add_parsed.ensures sound

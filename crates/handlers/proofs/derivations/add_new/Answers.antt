@@ -18,25 +18,21 @@ use Rattle.handlers.proofs.DeskLemmas.{sound-derivation}
 use Rattle.model.specs.Limits.{most_derivations}
 use Rattle.model.specs.Replies.{is_clash_refusal}
 use Rattle.laws.proofs.DerivationRequestLemmas.{admit_refusals}
-use Rattle.handlers.proofs.DerivationLemmas.{new_outcome, admitted_path, refused_fits, over_fits, added_fits}
+use Rattle.handlers.proofs.DerivationLemmas.{new_outcome, admitted_path, refused_added, refused_fits, over_fits, added_fits}
 use Rattle.handlers.proofs.derivations.add_new.Goals as goal
-
-pub returns-in_err-admitted-clause-adds : goal.returns-in_err-admitted-clause-adds
-returns-in_err-admitted-clause-adds c table limit sound users beside =
-    let p = err_from_is_err_and c.from_residual.result c.from_residual.ensures.1 in
-    let known = c.args.desk.now.known in
-    let why : (p.0 ≡ Memory) ⊎ (admit known c.args.derivation ≡ Err p.0) = rw (p.2, ← c.known.ensures) c.in_err-admitted.ensures in
-    rw p.1 (refused_fits users beside table limit c.args.desk.now c.args.derivation p.0 c.requires.absent why)
 
 -- no refusal of an admission is a clash
 admission_no_clash : (known : Known) (d : Derivation) (e : Refusal) → (e ≡ Memory) ⊎ (admit known d ≡ Err e) → is_clash_refusal e ≡ false
 admission_no_clash known d e (inl h) = rw h refl
 admission_no_clash known d e (inr h) = admit_refusals (λ why. is_clash_refusal why ≡ false) refl refl known d e h
 
-pub returns-in_err-admitted-clause-no_clash : goal.returns-in_err-admitted-clause-no_clash
-returns-in_err-admitted-clause-no_clash c =
+pub returns-in_err-admitted : goal.returns-in_err-admitted
+returns-in_err-admitted c =
     let p = err_from_is_err_and c.from_residual.result c.from_residual.ensures.1 in
-    rw (p.1, p.2) (admission_no_clash c.known.result.now c.args.derivation c.in_err-admitted.field-0.0 c.in_err-admitted.ensures)
+    let known = c.args.desk.now.known in
+    let why : (p.0 ≡ Memory) ⊎ (admit known c.args.derivation ≡ Err p.0) = rw (p.2, ← c.known.ensures) c.in_err-admitted.ensures in
+    refused_added c.args.desk.now c.args.derivation c.from_residual.result p.0 p.1 (admission_no_clash known c.args.derivation p.0 why)
+    (λ table limit sound users beside. refused_fits users beside table limit c.args.desk.now c.args.derivation p.0 c.requires.absent why)
 
 -- no more than the limit is refused where memory is not
 over_fits_if : (users : List (List ℕ)) (beside : Beside) (table : List Source) (limit : ℕ) (d : Holdings) (derivation : Derivation) (a : Admission)
@@ -49,21 +45,18 @@ over_fits_if users beside table limit d derivation a e sound none ok (inr quota)
     let over : nat_le (length d.known.derivations + 1) most_derivations ≡ false = grind (arith, nat_tests, quota.1) in
     rw quota.0 (over_fits users beside table limit d derivation a sound none ok over)
 
-pub returns-in_err-path-clause-adds : goal.returns-in_err-path-clause-adds
-returns-in_err-path-clause-adds c table limit sound users beside =
-    let p = err_from_is_err_and c.from_residual-in_err-path.result c.from_residual-in_err-path.ensures.1 in
-    let ok : admit c.args.desk.now.known c.args.derivation ≡ Ok c.in_ok-admitted.admitted = search rules in
-    rw (p.1, p.2) (over_fits_if users beside table limit c.args.desk.now c.args.derivation c.in_ok-admitted.admitted c.in_err-path.field-0.0 sound
-    c.requires.absent ok c.in_err-path.ensures.refused)
-
 over_no_clash : (d : Holdings) (e : Refusal) → (e ≡ Memory) ⊎ ((e ≡ Quota) × (most_derivations ≤ length d.known.derivations)) → is_clash_refusal e ≡ false
 over_no_clash d e (inl memory) = rw memory refl
 over_no_clash d e (inr quota) = rw quota.0 refl
 
-pub returns-in_err-path-clause-no_clash : goal.returns-in_err-path-clause-no_clash
-returns-in_err-path-clause-no_clash c =
+pub returns-in_err-path : goal.returns-in_err-path
+returns-in_err-path c =
     let p = err_from_is_err_and c.from_residual-in_err-path.result c.from_residual-in_err-path.ensures.1 in
-    rw (p.1, p.2) (over_no_clash c.args.desk.now c.in_err-path.field-0.0 c.in_err-path.ensures.refused)
+    let desk = c.args.desk.now in
+    let ok : admit desk.known c.args.derivation ≡ Ok c.in_ok-admitted.admitted = search rules in
+    let why : (p.0 ≡ Memory) ⊎ ((p.0 ≡ Quota) × (most_derivations ≤ length desk.known.derivations)) = rw p.2 c.in_err-path.ensures.refused in
+    refused_added desk c.args.derivation c.from_residual-in_err-path.result p.0 p.1 (over_no_clash desk p.0 why)
+    (λ table limit sound users beside. over_fits_if users beside table limit desk c.args.derivation c.in_ok-admitted.admitted p.0 sound c.requires.absent ok why)
 
 pub add_derivation-requires : goal.add_derivation-requires
 add_derivation-requires c =
@@ -74,18 +67,23 @@ add_derivation-requires c =
 changed : (c : goal.In_ok-add_derivation) → c.add_derivation.new.self ≡ holds_derivation c.in_ok-admitted.admitted c.args.desk.now
 changed c = search rules
 
-pub returns-clause-adds : goal.returns-clause-adds
-returns-clause-adds c table limit sound users beside =
+pub returns : goal.returns
+returns c =
     let known = c.args.desk.now.known in
     let ok : admit known c.args.derivation ≡ Ok c.in_ok-admitted.admitted = search rules in
     let within : nat_le (length known.derivations + 1) most_derivations ≡ true = grind (arith, nat_tests, c.in_ok-path.ensures.within) in
     let told : events.Derivation c.in_ok-path.path c.in_ok-path.class ≡ told_of_derivation c.in_ok-admitted.admitted =
     ap (λ p. events.Derivation p c.in_ok-path.class) c.in_ok-path.ensures.file
     ∙ ap (events.Derivation c.in_ok-admitted.admitted.path) c.in_ok-path.ensures.class in
-    added_fits users beside table limit c.args.desk.now c.args.derivation c.in_ok-admitted.admitted sound c.requires.absent ok within
-    ∙ ap (λ d. becomes (desk_of beside table d) (told_of_derivation c.in_ok-admitted.admitted)) (sym (changed c))
-    ∙ ap (becomes (desk_of beside table c.add_derivation.new.self)) (sym (ap reply_of c.in_ok-reply.ensures.reply ∙ told))
-
-pub returns-clause-sound : goal.returns-clause-sound
-returns-clause-sound c table limit sound =
-    rw (changed c) (sound-derivation table limit c.args.desk.now c.in_ok-admitted.admitted sound (omega (arith, c.in_ok-path.ensures.within)))
+    record {
+      adds = λ table limit sound users beside.
+          added_fits users beside table limit c.args.desk.now c.args.derivation c.in_ok-admitted.admitted sound c.requires.absent ok within
+          ∙ ap (λ d. becomes (desk_of beside table d) (told_of_derivation c.in_ok-admitted.admitted)) (sym (changed c))
+          ∙ ap (becomes (desk_of beside table c.add_derivation.new.self)) (sym (ap reply_of c.in_ok-reply.ensures.reply ∙ told));
+      sound = λ table limit sound.
+          rw (changed c) (sound-derivation table limit c.args.desk.now c.in_ok-admitted.admitted sound (omega (arith, c.in_ok-path.ensures.within)));
+      answered = search rules;
+      gains = search rules;
+      kept = tt;
+      no_clash = tt;
+    }
