@@ -21,10 +21,10 @@ ghost use Rattle.book.specs.Closing.{rows_in};
 ghost use Rattle.book.specs.Keeping.{IsNew, StandsFor};
 
 use crate::closed_history::History;
-use crate::counts::Counts;
+use crate::counts::{Counts, Tally};
 use crate::pass::Pass;
 use crate::publisher::Publisher;
-use crate::steps::step;
+use crate::steps::{Asked, step};
 use history::{Caller, FrontId, HistoryPrefix, Log, Row, StopCount};
 use laws::{isolation, timed_isolation};
 use model::Refusal;
@@ -127,17 +127,19 @@ impl<J: FrontId> Book<J> {
         core: Core,
         calls: ledger::Book<J>,
         stops: ledger::Book<StopCount<J>>,
-        spare: Counts<J>,
-        log: Log<J>,
+        tally: Tally<J>,
         publisher: Publisher<J>,
     ) -> Book<J>
         requires core { IsNew J.setup core }
-        requires calls { (calls.total ≡ 0) × (spare.calls.parts ≡ 0) × (spare.calls.amount ≡ 0) }
-        requires stops { (stops.total ≡ 0) × (spare.stops.parts ≡ 0) × (spare.stops.amount ≡ 0) }
-        requires log { (log.rows ≡ []) × (log.stopped ≡ false) }
+        requires calls { (calls.total ≡ 0)
+            × (tally.spare.calls.parts ≡ 0) × (tally.spare.calls.amount ≡ 0) }
+        requires stops { (stops.total ≡ 0)
+            × (tally.spare.stops.parts ≡ 0) × (tally.spare.stops.amount ≡ 0) }
+        requires log { (tally.log.rows ≡ []) × (tally.log.stopped ≡ false) }
         requires publisher { (publisher.rows ≡ []) × (publisher.whole ≡ true) }
         ensures { result ≡ record { core = core; rows = []; stopped = false } }
     {
+        let Tally { spare, log } = tally;
         Book {
             core,
             history: Vec::new(alloc),
@@ -206,12 +208,18 @@ impl<J: FrontId> Book<J> {
         if *stopped {
             return refuse(Refusal::Stopped, event);
         }
-        let Ok(asked) = hold(history, &event) else {
+        let Ok(copy) = hold(history, &event) else {
             core.empty_cache();
             return refuse(Refusal::Memory, event);
         };
         let number = pass.number();
-        let answered = match step(rt, alloc, core, publisher, number, event, asked, ready) {
+        let asked = Asked {
+            pass: number,
+            event,
+            copy,
+            ready,
+        };
+        let answered = match step(rt, alloc, core, publisher, asked) {
             Ok(answered) => answered,
             Err(why) => return Reply::Refused(why),
         };

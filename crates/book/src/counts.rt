@@ -1,6 +1,6 @@
 //! What is counted of the calls of a front.
 
-use history::{FrontId, StopCount};
+use history::{FrontId, Log, StopCount};
 use std::sync::ledger::Share;
 
 /// Some parts of both counts.
@@ -15,4 +15,13 @@ impl<J: FrontId> Drop for Counts<J> {
     fn drop(self) {
         let Counts { calls: _, stops: _ } = self;
     }
+}
+
+/// What passes are given parts of: both counts, and the log.
+#[derive(Drop)]
+pub(crate) struct Tally<J: FrontId> {
+    /// The parts of the counts that no pass has.
+    pub(crate) spare: Counts<J>,
+    /// What is recorded of the rows, for passes to compare what they know with.
+    pub(crate) log: Log<J>,
 }

@@ -17,7 +17,7 @@ ghost use Rattle.book.specs.Keeping.{IsNew};
 
 use crate::book::{Book, refuse};
 use crate::closed_history::History;
-use crate::counts::Counts;
+use crate::counts::{Counts, Tally};
 use crate::pass::Pass;
 use crate::publisher::Publisher;
 use history::{
@@ -80,33 +80,34 @@ fn passes_of<J: FrontId>(
     alloc: Global,
     core: &Core,
     n: u64,
-    all: &mut Counts<J>,
-    log: &mut Log<J>,
+    tally: &mut Tally<J>,
     writer: &mut SnapshotWriter,
     none: &HistoryPrefix,
 ) -> Result<Vec<Pass<J>>, Refusal>
     requires some { 0 < n }
-    requires all { (all.old.calls.parts ≡ n) × (all.old.calls.amount ≡ 0) }
-    requires stops { (all.old.stops.parts ≡ n) × (all.old.stops.amount ≡ 0) }
-    requires log { log.old ≡ nothing_recorded }
+    requires calls { (tally.old.spare.calls.parts ≡ n) × (tally.old.spare.calls.amount ≡ 0) }
+    requires stops { (tally.old.spare.stops.parts ≡ n) × (tally.old.spare.stops.amount ≡ 0) }
+    requires log { tally.old.log ≡ nothing_recorded }
     requires none { (none.now.seen.log ≡ []) × (none.now.seen.book ≡ J.book) }
     requires knows { view writer.old.desk.place ≡ knower (name_of J.book J.setup) }
     ensures passes { IfOk result (λ passes. passes.items ≡ map new_pass (below n)) }
     ensures writer { (writer.new.desk.shown ≡ writer.old.desk.shown)
         × (writer.new.log ≡ writer.old.log) × (writer.new.behind ≡ writer.old.behind) }
-    ensures all { IfOk result (λ _. (all.new.calls.parts ≡ 0) × (all.new.calls.amount ≡ 0)) }
-    ensures stops { IfOk result (λ _. (all.new.stops.parts ≡ 0) × (all.new.stops.amount ≡ 0)) }
-    ensures log { (log.new.rows ≡ []) × (log.new.stopped ≡ false) }
+    ensures calls { IfOk result (λ _.
+        (tally.new.spare.calls.parts ≡ 0) × (tally.new.spare.calls.amount ≡ 0)) }
+    ensures stops { IfOk result (λ _.
+        (tally.new.spare.stops.parts ≡ 0) × (tally.new.spare.stops.amount ≡ 0)) }
+    ensures log { (tally.new.log.rows ≡ []) × (tally.new.log.stopped ≡ false) }
     ensures memory { IfErr result (λ why. why ≡ Memory) }
 {
     let most = most_repaired(n);
     let most_bytes = most_repaired_bytes(n);
     let mut passes = Vec::new(alloc);
     for number in 0..n {
-        let calls = all.calls.split_off(1, 0);
-        let stops = all.stops.split_off(1, 0);
+        let calls = tally.spare.calls.split_off(1, 0);
+        let stops = tally.spare.stops.split_off(1, 0);
         let reader = reader_of(writer)?;
-        let caller = Caller::new(number, calls, log.next_claim());
+        let caller = Caller::new(number, calls, tally.log.next_claim());
         let repaired = core.cache_for(alloc, most, most_bytes)?;
         passes.push(Pass::new(caller, stops, none.again(), reader, repaired, alloc))?;
     }
@@ -178,17 +179,20 @@ impl<J: FrontId> Front<J> {
         } = blank;
         let (calls, all_calls) = calls.open::<J>();
         let (stops, all_stops) = stops.open::<StopCount<J>>();
-        let mut all = Counts {
+        let spare = Counts {
             calls: all_calls,
             stops: all_stops,
         };
-        let mut log = log.named::<J>();
+        let mut tally = Tally {
+            spare,
+            log: log.named::<J>(),
+        };
         let (head, none) = rows.named::<J>();
         let mut writer = writer_of::<J, R>(rt, alloc, &core, &none, n as usize)?;
-        match passes_of(alloc, &core, n, &mut all, &mut log, &mut writer, &none) {
+        match passes_of(alloc, &core, n, &mut tally, &mut writer, &none) {
             Ok(passes) => {
                 let publisher = Publisher::new(head, none, writer);
-                let book = Book::new(alloc, core, calls, stops, all, log, publisher);
+                let book = Book::new(alloc, core, calls, stops, tally, publisher);
                 let front = Front {
                     book: Mutex::new(book),
                 };

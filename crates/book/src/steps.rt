@@ -64,30 +64,34 @@ fn show<J: FrontId, R: Wait>(
     }
 }
 
+/// An event of a pass, with its copy for the row, and what was made for it before.
+pub(crate) struct Asked {
+    pub(crate) pass: u64,
+    pub(crate) event: Event,
+    pub(crate) copy: Event,
+    pub(crate) ready: Ready,
+}
+
 /// Lets a core take an event and publishes the row, and gives its reply and the row, shared with what is
-/// published. There is none
-/// where the core has taken the event, and memory is refused for publishing the row. The error is the
-/// core's own want of memory, at which the core is as it was.
+/// published. There is none where the core has taken the event, and memory is refused for publishing
+/// the row. The error is the core's own want of memory, at which the core is as it was.
 #[tactic(auto, using(crate::proofs::ReplyLemmas::wants_memory))]
 pub(crate) fn step<J: FrontId, R: Wait>(
     rt: &R,
     alloc: Global,
     core: &mut Core,
     publisher: &mut Publisher<J>,
-    pass: u64,
-    event: Event,
-    asked: Event,
-    ready: Ready,
+    asked: Asked,
 ) -> Result<Option<(Reply, Arc<Row>)>, Refusal>
-    requires asked { asked ≡ event }
+    requires copy { asked.copy ≡ asked.event }
     requires whole { publisher.old.whole ≡ true }
     requires kept { Kept J.setup core.old false publisher.old.rows }
-    ensures row { IfOk result (λ found. IfSome found (λ p. arc_value p.1 ≡ row pass event p.0)) }
+    ensures row { IfOk result (λ found. IfSome found (λ p. arc_value p.1 ≡ row asked.pass asked.event p.0)) }
     ensures some { IfOk result (λ found. IfSome found (λ p. unrecorded p.0 ≡ false)) }
-    ensures step { IfOk result (λ found. IfSome found (λ p. Steps core.old event p.0 core.new)) }
+    ensures step { IfOk result (λ found. IfSome found (λ p. Steps core.old asked.event p.0 core.new)) }
     ensures shown { IfOk result (λ found. IfSome found (λ p.
         publisher.new ≡ record { rows = publisher.old.rows ++ arc_value p.1 ∷ []; whole = true })) }
-    ensures lost { IfOk result (λ found. IfNone found (TookEvent core.old event core.new)) }
+    ensures lost { IfOk result (λ found. IfNone found (TookEvent core.old asked.event core.new)) }
     ensures not_shown { IfOk result (λ found. IfNone found (publisher.new.rows ≡ publisher.old.rows)) }
     ensures given { setup_of core.new ≡ setup_of core.old }
     ensures refused { IfErr result (λ why. IsUnchanged core.old core.new) }
@@ -96,7 +100,12 @@ pub(crate) fn step<J: FrontId, R: Wait>(
 {
     isolation();
     timed_isolation();
-    let mut ready = ready;
+    let Asked {
+        pass,
+        event,
+        copy: event_again,
+        mut ready,
+    } = asked;
     let (reply, copy) = core
         .step_ready_with_copy(alloc, event, &mut ready)
         .into_both();
@@ -105,7 +114,7 @@ pub(crate) fn step<J: FrontId, R: Wait>(
     }
     let row = Row {
         pass,
-        event: asked,
+        event: event_again,
         reply: copy,
     };
     match show(rt, alloc, publisher, row, ready) {

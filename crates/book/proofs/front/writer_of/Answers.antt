@@ -1,4 +1,4 @@
-use Rattle.std.proofs.Common.{◌≡◌, [], ap, sym, ◌∙◌}
+use Rattle.std.proofs.Common.{ap, ◌∙◌}
 use Rattle.history.specs.declared.law.Shown.{Shown}
 use Rattle.history.specs.FrontId.{name_of}
 use Rattle.history.specs.Tied.{knower}
