@@ -14,7 +14,7 @@ use aterm::Text;
 use events::Output;
 use hex::FromHexError;
 use model::{MOST_GOALS, Refusal};
-use nar::{Tree, encode, read_tree_text};
+use nar::{Tree, decode_digits, encode, read_tree_text};
 use std::alloc::{AllocError, Global};
 use trust::{User, are_users};
 
@@ -100,7 +100,7 @@ fn read_raw(alloc: Global, digits: &[u8]) -> Result<Vec<u8>, Refusal>
     if !are_lower_digits(digits) {
         return Err(Refusal::BadLine);
     }
-    match hex::decode(alloc, digits) {
+    match decode_digits(alloc, digits) {
         Ok(bytes) => Ok(bytes),
         Err(FromHexError::OutOfMemory) => Err(Refusal::Memory),
         Err(_) => Err(Refusal::BadLine),

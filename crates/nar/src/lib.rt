@@ -18,6 +18,7 @@
 
 mod archive_reader;
 mod archive_writer;
+mod digits;
 mod faults;
 mod law;
 mod measures;
@@ -37,6 +38,7 @@ mod writing;
 
 pub use archive_reader::decode;
 pub use archive_writer::{Nar, encode, write_nar};
+pub use digits::decode_digits;
 pub use faults::{Faults, has_failed};
 pub use law::{archives_are_read, archives_differ, strings_are_read, texts_differ};
 pub use sink::Sink;
