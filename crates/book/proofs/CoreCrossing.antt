@@ -12,6 +12,7 @@ use Rattle.model.proofs.refusal.Refusal.TheSendSync as refusals
 use Rattle.storepath.specs.contracts.path.StorePath as StorePath
 use Rattle.storepath.proofs.path.StorePath.TheSendSync as paths
 use Rattle.storepath.proofs.name.Name.TheSendSync as names
+use Rattle.classes.proofs.admissions.Admissions.TheSendSync as admissions
 use Rattle.trust.proofs.pairs.Trust.TheSendSync as trusts
 use Rattle.trust.proofs.users.Users.TheSendSync as users
 use Rattle.records.specs.contracts.record.Record as Record
@@ -256,7 +257,7 @@ settlements_sync : IsSync Settlements.the_row
 settlements_sync = declared_sync Settlements.the_type (search (crosses, settlement_sync) depth 5, (search sendable, tt))
 
 ready_send : IsSend Ready.the_row
-ready_send = declared_send Ready.the_type (declared_send Work.the_type (sources_send, (settlements_send, (cache_send, tt))), tt)
+ready_send = declared_send Ready.the_type (declared_send Work.the_type (sources_send, (admissions.the_send, (settlements_send, (cache_send, tt)))), tt)
 
 -- ---- what is published
 

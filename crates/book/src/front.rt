@@ -315,8 +315,8 @@ impl<J: FrontId> Front<J> {
         self.book.lock(rt).sweep(rt, alloc)
     }
 
-    /// How many values the core had to make itself, under the lock: paths of sources, settled trees and
-    /// repaired records, as [`Core::computed`] counts them. It takes the lock, so it may wait.
+    /// How many values the core had to make itself, under the lock: paths of sources, admitted derivations,
+    /// settled trees and repaired records, as [`Core::computed`] counts them. It takes the lock, so it may wait.
     pub fn computed<R: Wait>(&self, rt: &R) -> u64 {
         self.book.lock(rt).core().computed()
     }

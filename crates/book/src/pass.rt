@@ -23,7 +23,9 @@ use history::{
 };
 use laws::{isolation, kept_closures_are_good, timed_isolation};
 use model::Refusal;
-use schedule::{Cache, Event, PrepareInput, Query, ReadResult, Ready, Reply, RunningJob, User};
+use schedule::{
+    Cache, Event, Preparation, PrepareInput, Query, ReadResult, Ready, Reply, RunningJob, User,
+};
 use std::alloc::Global;
 use std::marker::Model;
 use std::sync::Wait;
@@ -103,7 +105,7 @@ fn look_by(
 /// What an event needs to be made after the rows that are published, with these rows.
 fn need_by(
     reader: SnapshotReader,
-    event: &Event,
+    preparation: Preparation<'_>,
 ) -> (
     SnapshotReader,
     Option<(Result<PrepareInput, Refusal>, HistoryPrefix)>,
@@ -112,10 +114,10 @@ fn need_by(
     ensures view { view result.0.place ≡ view reader.place }
     ensures rows { IfSome result.1 (λ t. t.1.seen.book ≡ book_in (view reader.place).name) }
     ensures need { IfSome result.1 (λ t. IfOk t.0 (IsNeedAfter
-        (setup_in (view reader.place).name) t.1.seen.log (event_of event.now))) }
+        (setup_in (view reader.place).name) t.1.seen.log (event_of preparation.entry.event.now))) }
     ensures memory { IfSome result.1 (λ t. IfErr t.0 (λ why. why ≡ Memory)) }
 {
-    need(reader, event)
+    need(reader, preparation)
 }
 
 /// How many values the copy that is published had to make itself.
@@ -254,7 +256,8 @@ impl<J: FrontId> Pass<J> {
         ensures same { self.new ≡ seeing self.old self.new.seen }
         ensures memory { IfErr result (λ why. why ≡ Memory) }
     {
-        let Some((needed, rows)) = replace_with(&mut self.reader, event, need_by) else {
+        let preparation = Preparation::new(self.alloc, event)?;
+        let Some((needed, rows)) = replace_with(&mut self.reader, preparation, need_by) else {
             return Err(Refusal::Memory);
         };
         if self.see(rows) {
@@ -266,10 +269,10 @@ impl<J: FrontId> Pass<J> {
 
     /// Makes values that an event needs, so that [`Front::commit`](crate::Front::commit) need not make them
     /// under the lock. They are made after rows that are published, which begin with all that the pass had
-    /// seen, and are what it has seen then: the path of a source, what comes of a tree that is offered, and
-    /// what comes of the output of a job for the goal that leads it. It takes no lock, and waits for nobody;
-    /// and nobody waits for it while they are made. Where memory is refused, the records that it repaired are let
-    /// go.
+    /// seen, and are what it has seen then: the path of a source, what is known of a derivation, what comes of
+    /// a tree that is offered, and what comes of the output of a job for the goal that leads it. It takes no
+    /// lock, and waits for nobody; and nobody waits for it while a derivation is parsed, nor while they are made.
+    /// Where memory is refused, the records that it repaired are let go.
     ///
     /// # Errors
     ///

@@ -1,6 +1,6 @@
 -- The entries of a desk's tables, as lists of plain data.
-use Rattle.std.specs.Prelude.{◌≡◌, ℕ, false, List, [], ◌∷◌, ◌++◌, map, All}
-use Rattle.model.specs.Classes.{Admission, is_one_of}
+use Rattle.std.specs.Prelude.{◌≡◌, ℕ, List, map, All}
+use Rattle.model.specs.Classes.{Admission}
 
 -- an entry's key is its derivation's path
 abbrev pub IsKeyed : List ℕ × Admission → Type 0

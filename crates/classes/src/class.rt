@@ -1,8 +1,7 @@
-//! Output classes, and what is known of a derivation.
+//! Output classes.
 
 ghost use Rattle.std.specs.Prelude.{◌≡◌, ◌≤◌};
 
-use aterm::Derivation;
 use std::alloc::AllocError;
 use std::marker::Model;
 use storepath::StorePath;
@@ -65,80 +64,5 @@ impl Clone for Class {
         let path = self.path.clone()?;
         let rank = self.rank;
         Ok(Class { path, rank })
-    }
-}
-
-/// What is known of a derivation that was admitted.
-pub struct Admitted {
-    derivation: Derivation,
-    path: StorePath,
-    class: Class,
-    masked: [u8; 32],
-}
-
-impl Drop for Admitted {
-    fn drop(self) {
-        let Admitted {
-            derivation: _,
-            path: _,
-            class: _,
-            masked: _,
-        } = self;
-    }
-}
-
-impl Model for Admitted {
-    ghost use Rattle.model.specs.Classes.{Admission};
-
-    ghost Value = { Admission };
-
-    ghost view = { λ a. record { derivation = a.derivation; path = a.path; class = a.class; masked = a.masked } };
-}
-
-impl Admitted {
-    /// What is known of a derivation: itself, the path of its file, the class of its output, and the
-    /// SHA-256 digest (FIPS 180-4) of its masked text.
-    pub fn new(derivation: Derivation, path: StorePath, class: Class, masked: [u8; 32]) -> Admitted
-        ensures { result ≡ record {
-          derivation = derivation;
-          path = path;
-          class = class;
-          masked = masked;
-        } }
-    {
-        Admitted {
-            derivation,
-            path,
-            class,
-            masked,
-        }
-    }
-
-    /// The derivation.
-    pub fn derivation(&self) -> &Derivation
-        ensures { result.now ≡ self.now.derivation }
-    {
-        &self.derivation
-    }
-
-    /// The path of the derivation's file.
-    pub fn path(&self) -> &StorePath
-        ensures { result.now ≡ self.now.path }
-    {
-        &self.path
-    }
-
-    /// The class of the derivation's output.
-    pub fn class(&self) -> &Class
-        ensures { result.now ≡ self.now.class }
-    {
-        &self.class
-    }
-
-    /// The SHA-256 digest (FIPS 180-4) of the derivation's masked text.
-    pub fn masked(&self) -> &[u8; 32]
-        ensures { result.now ≡ self.now.masked }
-    {
-        &self.masked
     }
 }

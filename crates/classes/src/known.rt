@@ -5,7 +5,7 @@ ghost use Rattle.scan.specs.PathSets.{AreNew};
 ghost use Rattle.model.specs.Classes.{known_at, is_one_of};
 ghost use Rattle.model.specs.declared.refusal.Refusal.TheVariants.{Memory};
 
-use crate::class::Admitted;
+use crate::admitted::Admitted;
 use indexmap::IndexMap;
 use model::Refusal;
 use scan::PathSet;

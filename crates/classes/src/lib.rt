@@ -1,14 +1,21 @@
 //! The output classes of derivations, and their ranks, and what a desk knows of them (Dolstra 2006, chapter 6).
 #![tactic(auto)]
 
-mod admission;
+mod admission_input;
+mod admissions;
+mod admitted;
+mod admitted_text;
 mod class;
+mod file_path;
 mod inputs;
 mod known;
 mod paths;
 
-pub use admission::{admit, admit_at, path_of, path_of_text};
-pub use class::{Admitted, Class};
+pub use admission_input::AdmissionInput;
+pub use admissions::Admissions;
+pub use admitted::Admitted;
+pub use class::Class;
+pub use file_path::path_of_text;
 pub use inputs::input_classes;
 pub use known::Known;
 pub use paths::set_of;

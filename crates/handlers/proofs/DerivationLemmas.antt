@@ -1,6 +1,6 @@
 -- What the model says of a derivation that is added to a desk.
 use Rattle.std.proofs.Common.{◌≡◌, ℕ, ◌+◌, ◌⊎◌, inl, inr, Bool, true, false, List, length, refl, ◌∙◌, ap, Result, Ok, Err, Some, None}
-use Rattle.std.specs.Prelude.{nat_le, if◌then◌else◌}
+use Rattle.std.specs.Prelude.{nat_le, if◌then◌else◌, IfOk, IfErr}
 use Rattle.model.specs.declared.refusal.Refusal.{Refusal}
 use Rattle.model.specs.declared.refusal.Refusal.TheVariants.{Memory, MissingInput, RankTooHigh, TooLarge, BadDerivation, Quota}
 use Rattle.model.specs.Derivations.{Derivation}
@@ -15,7 +15,8 @@ use Rattle.aterm.specs.Refused.{IsNotRead}
 use Rattle.events.specs.declared.reply.Reply.{Reply}
 use Rattle.realise.specs.Holdings.{Holdings, holds_derivation}
 use Rattle.handlers.specs.Sound.{desk_of, IsSound, Beside}
-use Rattle.model.specs.Replies.{is_clash_refusal}
+use Rattle.model.specs.Replies.{is_clash_refusal, is_refused}
+use Rattle.events.specs.Terms.{reply_of}
 use Rattle.handlers.specs.Handling.{Fits, AddsDerivation, HasAddedDerivation, is_fault}
 use Rattle.handlers.proofs.DeskLemmas.{known_of-desk_of, is_within-derivation}
 
@@ -65,6 +66,21 @@ refused_added d derivation result e is clash adds =
       kept = refl;
       no_clash = clash;
     })
+
+-- a derivation that the desk has is only told
+pub had_added : (d : Holdings) (derivation : Derivation) (a : Admission) (result : Result Reply Refusal) → known_at d.known (derivation_path derivation) ≡ Some a
+    → IfOk result (λ r. reply_of r ≡ told_of_derivation a) → IfOk result (λ r. is_refused (reply_of r) ≡ false) → IfErr result (λ e. e ≡ Memory)
+    → HasAddedDerivation d derivation result d
+had_added d derivation a (Ok r) known told answered memory = record {
+  adds = λ table limit sound users beside. rw (known, told) refl;
+  sound = λ table limit sound. sound;
+  answered = answered;
+  gains = λ path class there. there;
+  kept = tt;
+  no_clash = tt;
+}
+had_added d derivation a (Err e) known told answered memory =
+    refused_added d derivation (Err e) e refl (rw memory refl) (λ table limit sound users beside own. (let wrong = rw memory at own in cc))
 
 -- ---- a text
 

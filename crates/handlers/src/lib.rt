@@ -16,7 +16,7 @@ mod taking;
 mod trusting;
 mod view;
 
-pub use derivations::add_derivation;
+pub use derivations::{add_derivation, derivation_in, input_for_derivation};
 pub use given::{closure, plan_for, serve_plan};
 pub use offers::{input_for_offer, offer};
 pub use pins::{pin, unpin};

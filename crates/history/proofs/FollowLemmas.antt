@@ -24,7 +24,7 @@ use Rattle.history.specs.Histories.{event_in, events_of}
 use Rattle.history.proofs.HistoryLemmas.{all_front, hashed_push, events_push, some_memory}
 use Rattle.schedule.specs.declared.work.Ready.{Ready}
 use Rattle.schedule.specs.declared.preparing.PrepareInput.{PrepareInput}
-use Rattle.schedule.specs.Preparing.{HasOutcome, IsPrepared, IsMade}
+use Rattle.schedule.specs.Preparing.{HasAdmissionFor, HasOutcome, IsPrepared, IsMade}
 use Rattle.schedule.specs.declared.read_result.ReadResult.{ReadResult}
 use Rattle.schedule.specs.ReadResults.{IsServedFrom}
 use Rattle.history.specs.Following.{HasReached, Follows, Takes, IsModelRead, FindsRead, IsPreparedAfter, IsNeedAfter}
@@ -118,6 +118,10 @@ prepares : (core : Core) (rows : List Row) (e : events.Event) (ready : Ready) �
     → IsPreparedAfter (setup_of core) rows e ready
 prepares core rows e ready f prepared = record {
   path = prepared.path;
+  admission = λ clean known.
+      let texts : List (List ℕ) = hashed (setup_of core) nothing (events_of rows) in
+      subst (λ (w : World). HasAdmissionFor (w e.actor) e.request ready.work.admissions) (f.reached texts clean (All-contains_itself texts)).world
+      (prepared.admission known);
   outcome = λ clean known.
       let texts : List (List ℕ) = hashed (setup_of core) nothing (events_of rows) in
       subst (λ (w : World). HasOutcome (w e.actor) e.actor e.request ready.work.settlements) (f.reached texts clean (All-contains_itself texts)).world

@@ -17,7 +17,7 @@ use crate::history_prefix::HistoryPrefix;
 use crate::law::{Looks, SnapshotReader, SnapshotWriter, Tells};
 use crate::snapshot::{NewRow, Operation};
 use model::Refusal;
-use schedule::{Event, PrepareInput, Query, ReadResult};
+use schedule::{Preparation, PrepareInput, Query, ReadResult};
 use std::alloc::AllocError;
 use std::sync::Wait;
 
@@ -51,7 +51,7 @@ pub fn look(
 /// and what is needed is made once the snapshot is left. There is no answer where the writer is gone.
 pub fn need(
     reader: SnapshotReader,
-    event: &Event,
+    preparation: Preparation<'_>,
 ) -> (
     SnapshotReader,
     Option<(Result<PrepareInput, Refusal>, HistoryPrefix)>,
@@ -60,13 +60,13 @@ pub fn need(
     ensures view { view result.0.place ≡ view reader.place }
     ensures rows { IfSome result.1 (λ t. t.1.seen.book ≡ book_in (view reader.place).name) }
     ensures need { IfSome result.1 (λ t. IfOk t.0 (IsNeedAfter
-        (setup_in (view reader.place).name) t.1.seen.log (event_of event.now))) }
+        (setup_in (view reader.place).name) t.1.seen.log (event_of preparation.entry.event.now))) }
     ensures memory { IfSome result.1 (λ t. IfErr t.0 (λ why. why ≡ Memory)) }
 {
     match reader.enter_as::<Looks>() {
         Ok(reading) => {
             let snapshot = reading.get();
-            let needed = snapshot.need(event);
+            let needed = snapshot.need(preparation);
             let rows = snapshot.seen();
             (reading.leave(), Some((needed, rows)))
         }

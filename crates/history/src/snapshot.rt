@@ -19,7 +19,7 @@ use crate::law::Shown;
 use crate::row::{Row, is_unrecorded};
 use left_right::Absorb;
 use model::Refusal;
-use schedule::{Core, Event, PrepareInput, Query, ReadResult, Ready};
+use schedule::{Core, Event, Preparation, PrepareInput, Query, ReadResult, Ready};
 use std::alloc::{AllocError, Global};
 use std::marker::Model;
 use std::sync::Arc;
@@ -192,12 +192,12 @@ impl Snapshot {
     }
 
     /// What an event needs to be made after the rows. The one error is memory.
-    pub fn need(&self, event: &Event) -> Result<PrepareInput, Refusal>
-        ensures need { IfOk result
-            (IsNeedAfter (setup_in self.now.name) self.now.rows (event_of event.now)) }
+    pub fn need(&self, preparation: Preparation<'_>) -> Result<PrepareInput, Refusal>
+        ensures need { IfOk result (IsNeedAfter
+            (setup_in self.now.name) self.now.rows (event_of preparation.entry.event.now)) }
         ensures memory { IfErr result (λ why. why ≡ Memory) }
     {
-        self.core.need(self.alloc, event)
+        self.core.need(self.alloc, preparation)
     }
 
     /// How many values its core had to make itself, as [`Core::computed`] counts them.

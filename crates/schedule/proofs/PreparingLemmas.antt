@@ -4,11 +4,13 @@ use Rattle.std.specs.Prelude.{IfOk, Option}
 use Rattle.model.specs.declared.refusal.Refusal.{Refusal}
 use Rattle.model.specs.Archives.{Tree}
 use Rattle.model.specs.Classes.{known_at}
-use Rattle.model.specs.Events.{Offer, Finish}
+use Rattle.model.specs.Events.{AddDerivation, Offer, Finish}
 use Rattle.model.specs.Worlds.{Source, Desk, Goal, Label, are_users}
 use Rattle.trust.specs.Naming.{place_of, name_at, IsWithin}
 use Rattle.trust.proofs.PlaceLemmas.{name_found}
 use Rattle.realise.specs.Holdings.{Holdings}
+use Rattle.classes.specs.Admitting.{Input as AdmissionInput, Made, HasMade, HasAdmission}
+use Rattle.classes.specs.declared.admissions.Admissions.{Admissions}
 use Rattle.outputs.specs.Kept.{HasOutput, HasNeeded}
 use Rattle.outputs.specs.declared.input.Input.{Input}
 use Rattle.outputs.specs.declared.settlement.Settlement.{Settlement}
@@ -21,7 +23,7 @@ use Rattle.handlers.specs.Viewing.{desk_at}
 use Rattle.handlers.proofs.DeskLemmas.{known_of-desk_of}
 use Rattle.handlers.proofs.ClosureLemmas.{his_desk}
 use Rattle.outputs.specs.declared.settlements.Settlements.{Settlements}
-use Rattle.schedule.specs.Preparing.{HasInput, HasOutcome}
+use Rattle.schedule.specs.Preparing.{HasAdmissionFor, HasInput, HasOutcome}
 
 -- ---- on one desk, as the model sees it
 
@@ -46,6 +48,15 @@ module _ (users : List (List ℕ)) (limit : ℕ) (trust : ℕ → ℕ → Bool) 
 
   his_is : his ≡ desk_of (beside_at users trust goals place) table (desk_at desks place)
   his_is = his_desk users limit trust goals table desks user place listed found paired within
+
+  pub admitted_by : (result : Result (Option AdmissionInput) Refusal) (text : List ℕ)
+      → IfOk result (λ input. (all : List Made) → HasMade all input → HasAdmission (desk_at desks place).known text all)
+      → IfOk result (λ input. (made : Admissions) → HasMade made.admitted.items input → HasAdmissionFor his (AddDerivation text) made)
+  admitted_by (Ok input) text needed = λ made has.
+      subst (λ d. HasAdmissionFor d (AddDerivation text) made) (sym his_is)
+      (subst (λ k. HasAdmission k text made.admitted.items) (sym (known_of-desk_of (beside_at users trust goals place) table (desk_at desks place)))
+      (needed made.admitted.items has))
+  admitted_by (Err why) text needed = tt
 
   pub offered_by : (result : Result (Option Input) Refusal) (path : List ℕ) (tree : Tree)
       → IfOk result (λ input. (t : Tree) (settled : List Settlement) → HasNeeded settled input t → HasOffered (desk_at desks place) path t settled)

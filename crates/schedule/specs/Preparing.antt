@@ -3,12 +3,14 @@ use Rattle.std.specs.Prelude.{◌≡◌, ℕ, true, List, Option, Some, None, Ok
 use Rattle.model.specs.Archives.{Tree}
 use Rattle.model.specs.ArchiveReading.{tree_of_archive}
 use Rattle.model.specs.Classes.{Admission, known_at}
-use Rattle.model.specs.Events.{Event, Request, AddSource, Offer, Finish}
+use Rattle.model.specs.Events.{Event, Request, AddSource, AddDerivation, Offer, Finish}
 use Rattle.model.specs.Goals.{goal_at}
 use Rattle.model.specs.Reach.{is_among}
 use Rattle.model.specs.References.{candidates}
 use Rattle.model.specs.Worlds.{Desk, Goal, known_of}
 use Rattle.jobs.specs.Leading.{leading}
+use Rattle.classes.specs.Admitting.{HasAdmission, HasMade}
+use Rattle.classes.specs.declared.admissions.Admissions.{Admissions}
 use Rattle.outputs.specs.Kept.{HasOutput, HasPlaced, HasNeeded}
 use Rattle.outputs.specs.declared.input.Input.{Input}
 use Rattle.outputs.specs.declared.settlements.Settlements.{Settlements}
@@ -23,6 +25,11 @@ use Rattle.schedule.specs.Standing.{world_of, setup_of}
 abbrev pub HasPath : Request → Sources → Type 0
 HasPath (AddSource name tree) sources = HasPlaced sources.placed.items name tree
 HasPath request sources = Unit {0}
+
+-- a derivation that a user with this desk adds, and which his desk admits, is there
+abbrev pub HasAdmissionFor : Desk → Request → Admissions → Type 0
+HasAdmissionFor d (AddDerivation text) admissions = HasAdmission (known_of d) text admissions.admitted.items
+HasAdmissionFor d request admissions = Unit {0}
 
 -- what comes of the tree that a user with this desk offers is there, and what comes of the output of a job for the goal that leads it
 abbrev pub HasOutcome : Desk → List ℕ → Request → Settlements → Type 0
@@ -46,9 +53,11 @@ HasInput request input settlements = (tree : Tree) → output_of request ≡ Som
 -- what a request needs was made
 pub record IsMade (need : PrepareInput) (request : Request) (ready : Ready) : Type 0 where
   pub path : HasPath request ready.work.sources
+  pub admission : HasMade ready.work.admissions.admitted.items need.admission
   pub output : HasInput request need.input ready.work.settlements
 
 -- the values that an event needs are there, which a user of the run asks in the world that the core stands for
 pub record IsPrepared (core : Core) (event : Event) (ready : Ready) : Type 0 where
   pub path : HasPath event.request ready.work.sources
+  pub admission : is_among event.actor (setup_of core).users ≡ true → HasAdmissionFor (world_of core event.actor) event.request ready.work.admissions
   pub outcome : is_among event.actor (setup_of core).users ≡ true → HasOutcome (world_of core event.actor) event.actor event.request ready.work.settlements

@@ -5,6 +5,7 @@
 #![tactic(auto)]
 
 mod holding;
+mod preparation;
 mod preparing;
 mod query;
 mod read_result;
@@ -22,6 +23,7 @@ mod work;
 pub use events::{CopiedReply, Event, Output, Reply, Request};
 pub use jobs::RunningJob;
 pub use model::LARGEST_CHARGE;
+pub use preparation::Preparation;
 pub use preparing::PrepareInput;
 pub use query::{Query, Question};
 pub use read_result::ReadResult;

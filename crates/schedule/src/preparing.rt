@@ -2,19 +2,23 @@
 
 ghost use Rattle.std.specs.Prelude.{◌≡◌, ◌<◌, ℕ, List, Some, length, IfOk, IfErr, OnOk};
 ghost use Rattle.model.specs.declared.refusal.Refusal.TheVariants.{Memory};
+ghost use Rattle.classes.specs.Admitting.{HasMade};
+ghost use Rattle.classes.specs.declared.admissions.Admissions.{Admissions as AdmissionsValue};
 ghost use Rattle.outputs.specs.declared.settlements.Settlements.{Settlements as SettlementsValue};
 ghost use Rattle.events.specs.Terms.{event_of, request_of};
 ghost use Rattle.trust.specs.Naming.{place_of};
 ghost use Rattle.handlers.specs.States.{HasPlace};
 ghost use Rattle.schedule.specs.declared.work.Ready.{Ready as ReadyValue};
 ghost use Rattle.schedule.specs.Standing.{world_of};
-ghost use Rattle.schedule.specs.Preparing.{output_of, HasPath, HasInput, HasOutcome, IsPrepared, IsMade};
+ghost use Rattle.schedule.specs.Preparing.{output_of, HasPath, HasAdmissionFor, HasInput, HasOutcome, IsPrepared, IsMade};
 
+use crate::preparation::Preparation;
 use crate::state::Core;
 use crate::work::{Ready, Work};
+use classes::{AdmissionInput, Admissions, path_of_text};
 use endings::{input_for_finish, tree_in};
 use events::{Event, Request};
-use handlers::input_for_offer;
+use handlers::{input_for_derivation, input_for_offer};
 use model::Refusal;
 use nar::Tree;
 use outputs::{Input, Settlements};
@@ -24,11 +28,16 @@ use std::alloc::Global;
 pub struct PrepareInput {
     /// What its output is settled by, if it has one that is.
     input: Option<Input>,
+    /// What its derivation is admitted by, if it has one that is.
+    admission: Option<AdmissionInput>,
 }
 
 impl Drop for PrepareInput {
     fn drop(self) {
-        let PrepareInput { input: _ } = self;
+        let PrepareInput {
+            input: _,
+            admission: _,
+        } = self;
     }
 }
 
@@ -75,9 +84,26 @@ fn prepare_output(
     Ok(())
 }
 
+/// Admits a derivation by an input, if there is one. The one error is memory.
+fn prepare_admission(
+    alloc: Global,
+    admissions: &mut Admissions,
+    input: Option<AdmissionInput>,
+) -> Result<(), Refusal>
+    ensures made { OnOk result (HasMade admissions.new.admitted.items input) }
+    ensures memory { IfErr result (λ why. why ≡ Memory) }
+{
+    let Some(input) = input else {
+        return Ok(());
+    };
+    let path = path_of_text(alloc, input.derivation(), input.text().bytes())?;
+    let _admitted = admissions.add(alloc, path, input)?;
+    Ok(())
+}
+
 impl PrepareInput {
-    /// Makes the values that the event needs. That takes long: the path of a source, and what comes of a tree
-    /// that is offered or built, are hashed.
+    /// Makes the values that the event needs. That takes long: the path of a source, a derivation with its class,
+    /// and what comes of a tree that is offered or built, are hashed.
     ///
     /// # Errors
     ///
@@ -86,9 +112,10 @@ impl PrepareInput {
         ensures made { IfOk result (IsMade self (event_of event.now).request) }
         ensures memory { IfErr result (λ why. why ≡ Memory) }
     {
-        let PrepareInput { input } = self;
+        let PrepareInput { input, admission } = self;
         let mut work = Work::none(alloc);
         prepare_source(alloc, &mut work, &event.request)?;
+        prepare_admission(alloc, &mut work.admissions, admission)?;
         prepare_output(alloc, &mut work.settlements, input, &event.request)?;
         Ok(Ready::of(work))
     }
@@ -117,26 +144,57 @@ impl Core {
         }
     }
 
+    /// What the derivation is admitted by that the user at a place adds. The one error is memory.
+    fn admission_for(
+        &self,
+        alloc: Global,
+        place: usize,
+        preparation: Preparation<'_>,
+    ) -> Result<Option<AdmissionInput>, Refusal>
+        requires of_run { HasPlace self.now.state place }
+        ensures needed { (user : List ℕ) → place_of self.now.state.users user ≡ Some place
+            → IfOk result (λ input. (admissions : AdmissionsValue)
+            → HasMade admissions.admitted.items input
+            → HasAdmissionFor (world_of self.now user)
+            (event_of preparation.entry.event.now).request admissions) }
+        ensures memory { IfErr result (λ why. why ≡ Memory) }
+    {
+        let Preparation { event, derivation } = preparation;
+        let Request::AddDerivation(text) = &event.request else {
+            return Ok(None);
+        };
+        let Some(derivation) = derivation else {
+            return Ok(None);
+        };
+        input_for_derivation(alloc, &self.state.desks[place], text, derivation)
+    }
+
     /// What an event needs to be made before a step. Whatever [`PrepareInput::make`] makes of that are the values that
     /// a step by this core needs. The core stays as it is, and may have taken other events when they are used.
     ///
     /// # Errors
     ///
     /// - `Memory` only where memory was refused.
-    pub fn need(&self, alloc: Global, event: &Event) -> Result<PrepareInput, Refusal>
+    pub fn need(&self, alloc: Global, preparation: Preparation<'_>) -> Result<PrepareInput, Refusal>
         ensures need { IfOk result (λ need. (ready : ReadyValue)
-            → IsMade need (event_of event.now).request ready → IsPrepared self.now (event_of event.now) ready) }
+            → IsMade need (event_of preparation.entry.event.now).request ready
+            → IsPrepared self.now (event_of preparation.entry.event.now) ready) }
         ensures memory { IfErr result (λ why. why ≡ Memory) }
     {
+        let event = preparation.event;
         let Some(place) = self.state.users.place_of(&event.actor) else {
-            return Ok(PrepareInput { input: None });
+            return Ok(PrepareInput {
+                input: None,
+                admission: None,
+            });
         };
         let input = self.input_for(alloc, place, &event.request)?;
-        Ok(PrepareInput { input })
+        let admission = self.admission_for(alloc, place, preparation)?;
+        Ok(PrepareInput { input, admission })
     }
 
     /// Makes values that a step needs for an event, so that [`Core::step_ready`] need not make them: the path
-    /// of a source, what comes of a tree that is offered, and what comes of the output of a job for the goal
+    /// of a source, a derivation with its class, what comes of a tree that is offered, and what comes of the output of a job for the goal
     /// that leads it. The core stays as it is, and may have taken other events when the values are used.
     ///
     /// # Errors
@@ -146,6 +204,7 @@ impl Core {
         ensures prepared { IfOk result (IsPrepared self.now (event_of event.now)) }
         ensures memory { IfErr result (λ why. why ≡ Memory) }
     {
-        self.need(alloc, event)?.make(alloc, event)
+        let preparation = Preparation::new(alloc, event)?;
+        self.need(alloc, preparation)?.make(alloc, event)
     }
 }

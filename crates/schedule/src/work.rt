@@ -2,16 +2,18 @@
 
 ghost use Rattle.std.specs.Prelude.{◌≡◌};
 
+use classes::Admissions;
 use outputs::{Settlements, Sources};
 use repair::Cache;
 use std::alloc::{AllocError, Global};
 
-/// What a step is done with: paths of sources, settled trees and repaired records that were made
-/// before. Each names all that it was made of, and is used only where that is at hand; else the step
+/// What a step is done with: paths of sources, admitted derivations, settled trees and repaired records that
+/// were made before. Each names all that it was made of, and is used only where that is at hand; else the step
 /// makes the value itself, and counts it.
 #[derive(Drop)]
 pub(crate) struct Work {
     pub(crate) sources: Sources,
+    pub(crate) admissions: Admissions,
     pub(crate) settlements: Settlements,
     pub(crate) cache: Cache,
 }
@@ -21,6 +23,7 @@ impl Work {
     pub(crate) fn none(alloc: Global) -> Work {
         Work {
             sources: Sources::none(alloc),
+            admissions: Admissions::none(alloc),
             settlements: Settlements::none(alloc),
             cache: Cache::none(alloc),
         }
@@ -30,6 +33,7 @@ impl Work {
     pub(crate) fn computed(&self) -> u64 {
         self.sources
             .computed()
+            .saturating_add(self.admissions.computed())
             .saturating_add(self.settlements.computed())
             .saturating_add(self.cache.computed())
     }
@@ -61,7 +65,8 @@ impl Ready {
         Ready { work }
     }
 
-    /// A copy of the paths of sources and of the settled trees. It shares what is large.
+    /// A copy of the paths of sources, of the admitted derivations and of the settled trees. It shares what is
+    /// large.
     ///
     /// # Errors
     ///
@@ -70,6 +75,7 @@ impl Ready {
         Ok(Ready {
             work: Work {
                 sources: self.work.sources.again(alloc)?,
+                admissions: self.work.admissions.again(alloc)?,
                 settlements: self.work.settlements.again(alloc)?,
                 cache: Cache::none(alloc),
             },

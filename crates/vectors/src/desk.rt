@@ -1,8 +1,8 @@
 //! What a desk knows.
 
 use crate::answer::Answer;
-use aterm::parse;
-use classes::{Admitted, Known, admit as admission, path_of};
+use aterm::{Text, parse};
+use classes::{AdmissionInput, Admissions, Admitted, Known, path_of_text};
 use model::Refusal;
 use std::alloc::Global;
 use storepath::{StorePath, read_path};
@@ -39,9 +39,12 @@ pub(crate) fn admit(
     text: &str,
     out: &mut Answer,
 ) -> Result<(), Refusal> {
-    let derivation = parse(alloc, text.as_bytes())?;
-    let path = path_of(alloc, &derivation)?;
-    add_derivation(known, admission(alloc, derivation, known)?)?;
+    let text = Text::new(Vec::from_slice(alloc, text.as_bytes())?)?;
+    let derivation = parse(alloc, text.bytes())?;
+    let path = path_of_text(alloc, &derivation, text.bytes())?;
+    let input = AdmissionInput::new(alloc, &text, derivation, known)?;
+    let admitted = Admissions::none(alloc).add(alloc, path.clone()?, input)?;
+    add_derivation(known, admitted)?;
     tell(known, &path, out)
 }
 

@@ -8,7 +8,7 @@ use Rattle.model.specs.Derivations.{Derivation}
 use Rattle.model.specs.Events as events
 use Rattle.model.specs.Outcomes.{becomes}
 use Rattle.model.specs.DerivationRequests.{told_of_derivation}
-use Rattle.model.specs.Classes.{Admission, Known, known_at, derivation_path, admit}
+use Rattle.model.specs.Classes.{Admission, known_at, derivation_path, admit}
 use Rattle.model.specs.Worlds.{Source}
 use Rattle.events.specs.Terms.{reply_of}
 use Rattle.handlers.specs.Sound.{desk_of, IsSound, Beside}
@@ -17,22 +17,8 @@ use Rattle.realise.specs.Holdings.{Holdings, holds_derivation}
 use Rattle.handlers.proofs.DeskLemmas.{sound-derivation}
 use Rattle.model.specs.Limits.{most_derivations}
 use Rattle.model.specs.Replies.{is_clash_refusal}
-use Rattle.laws.proofs.DerivationRequestLemmas.{admit_refusals}
-use Rattle.handlers.proofs.DerivationLemmas.{new_outcome, admitted_path, refused_added, refused_fits, over_fits, added_fits}
+use Rattle.handlers.proofs.DerivationLemmas.{new_outcome, admitted_path, refused_added, over_fits, added_fits}
 use Rattle.handlers.proofs.derivations.add_new.Goals as goal
-
--- no refusal of an admission is a clash
-admission_no_clash : (known : Known) (d : Derivation) (e : Refusal) → (e ≡ Memory) ⊎ (admit known d ≡ Err e) → is_clash_refusal e ≡ false
-admission_no_clash known d e (inl h) = rw h refl
-admission_no_clash known d e (inr h) = admit_refusals (λ why. is_clash_refusal why ≡ false) refl refl known d e h
-
-pub returns-in_err-admitted : goal.returns-in_err-admitted
-returns-in_err-admitted c =
-    let p = err_from_is_err_and c.from_residual.result c.from_residual.ensures.1 in
-    let known = c.args.desk.now.known in
-    let why : (p.0 ≡ Memory) ⊎ (admit known c.args.derivation ≡ Err p.0) = rw (p.2, ← c.known.ensures) c.in_err-admitted.ensures in
-    refused_added c.args.desk.now c.args.derivation c.from_residual.result p.0 p.1 (admission_no_clash known c.args.derivation p.0 why)
-    (λ table limit sound users beside. refused_fits users beside table limit c.args.desk.now c.args.derivation p.0 c.requires.absent why)
 
 -- no more than the limit is refused where memory is not
 over_fits_if : (users : List (List ℕ)) (beside : Beside) (table : List Source) (limit : ℕ) (d : Holdings) (derivation : Derivation) (a : Admission)
@@ -49,39 +35,39 @@ over_no_clash : (d : Holdings) (e : Refusal) → (e ≡ Memory) ⊎ ((e ≡ Quot
 over_no_clash d e (inl memory) = rw memory refl
 over_no_clash d e (inr quota) = rw quota.0 refl
 
+-- the desk has no derivation at the path of its file
+absent : (d : Holdings) (a : Admission) → known_at d.known a.path ≡ None → admit d.known a.derivation ≡ Ok a → known_at d.known (derivation_path a.derivation) ≡ None
+absent d a none ok = ap (known_at d.known) (sym (admitted_path d.known a.derivation a ok)) ∙ none
+
 pub returns-in_err-path : goal.returns-in_err-path
 returns-in_err-path c =
-    let p = err_from_is_err_and c.from_residual-in_err-path.result c.from_residual-in_err-path.ensures.1 in
+    let p = err_from_is_err_and c.from_residual.result c.from_residual.ensures.1 in
     let desk = c.args.desk.now in
-    let ok : admit desk.known c.args.derivation ≡ Ok c.in_ok-admitted.admitted = search rules in
+    let a = c.args.admitted in
+    let none = absent desk a c.requires.absent c.requires.admits in
     let why : (p.0 ≡ Memory) ⊎ ((p.0 ≡ Quota) × (most_derivations ≤ length desk.known.derivations)) = rw p.2 c.in_err-path.ensures.refused in
-    refused_added desk c.args.derivation c.from_residual-in_err-path.result p.0 p.1 (over_no_clash desk p.0 why)
-    (λ table limit sound users beside. over_fits_if users beside table limit desk c.args.derivation c.in_ok-admitted.admitted p.0 sound c.requires.absent ok why)
+    refused_added desk a.derivation c.from_residual.result p.0 p.1 (over_no_clash desk p.0 why)
+    (λ table limit sound users beside. over_fits_if users beside table limit desk a.derivation a p.0 sound none c.requires.admits why)
 
-pub add_derivation-requires : goal.add_derivation-requires
-add_derivation-requires c =
-    let known = c.args.desk.now.known in
-    let ok : admit known c.args.derivation ≡ Ok c.in_ok-admitted.admitted = search rules in
-    record { absent = ap (known_at known) (admitted_path known c.args.derivation c.in_ok-admitted.admitted ok) ∙ c.requires.absent }
-
-changed : (c : goal.In_ok-add_derivation) → c.add_derivation.new.self ≡ holds_derivation c.in_ok-admitted.admitted c.args.desk.now
+changed : (c : goal.In_ok-add_derivation) → c.add_derivation.new.self ≡ holds_derivation c.args.admitted c.args.desk.now
 changed c = search rules
 
 pub returns : goal.returns
 returns c =
     let known = c.args.desk.now.known in
-    let ok : admit known c.args.derivation ≡ Ok c.in_ok-admitted.admitted = search rules in
+    let a = c.args.admitted in
+    let none = absent c.args.desk.now a c.requires.absent c.requires.admits in
     let within : nat_le (length known.derivations + 1) most_derivations ≡ true = grind (arith, nat_tests, c.in_ok-path.ensures.within) in
-    let told : events.Derivation c.in_ok-path.path c.in_ok-path.class ≡ told_of_derivation c.in_ok-admitted.admitted =
+    let told : events.Derivation c.in_ok-path.path c.in_ok-path.class ≡ told_of_derivation a =
     ap (λ p. events.Derivation p c.in_ok-path.class) c.in_ok-path.ensures.file
-    ∙ ap (events.Derivation c.in_ok-admitted.admitted.path) c.in_ok-path.ensures.class in
+    ∙ ap (events.Derivation a.path) c.in_ok-path.ensures.class in
     record {
       adds = λ table limit sound users beside.
-          added_fits users beside table limit c.args.desk.now c.args.derivation c.in_ok-admitted.admitted sound c.requires.absent ok within
-          ∙ ap (λ d. becomes (desk_of beside table d) (told_of_derivation c.in_ok-admitted.admitted)) (sym (changed c))
+          added_fits users beside table limit c.args.desk.now a.derivation a sound none c.requires.admits within
+          ∙ ap (λ d. becomes (desk_of beside table d) (told_of_derivation a)) (sym (changed c))
           ∙ ap (becomes (desk_of beside table c.add_derivation.new.self)) (sym (ap reply_of c.in_ok-reply.ensures.reply ∙ told));
       sound = λ table limit sound.
-          rw (changed c) (sound-derivation table limit c.args.desk.now c.in_ok-admitted.admitted sound (omega (arith, c.in_ok-path.ensures.within)));
+          rw (changed c) (sound-derivation table limit c.args.desk.now a sound (omega (arith, c.in_ok-path.ensures.within)));
       answered = search rules;
       gains = search rules;
       kept = tt;

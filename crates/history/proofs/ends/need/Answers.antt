@@ -17,5 +17,5 @@ returns-in-Ok-clause-need c =
     let same = c.get-snapshot.ensures in
     let name = name_seen _ _ _ c.get-snapshot.result.now sees c.requires same in
     let rows = rows_seen _ _ _ c.get-snapshot.result.now c.seen-rows.result.seen.log sees same c.seen-rows.ensures.log in
-    subst (λ (t : Name × List Row). IfOk c.need-needed.result (IsNeedAfter (setup_in t.0) t.1 (event_of c.args.event.now))) (λ i. (name i, rows i))
+    subst (λ (t : Name × List Row). IfOk c.need-needed.result (IsNeedAfter (setup_in t.0) t.1 (event_of c.args.preparation.event.now))) (λ i. (name i, rows i))
     c.need-needed.ensures.need

@@ -7,4 +7,4 @@ use Rattle.history.proofs.snapshot.Snapshot.need.Goals as goal
 pub returns-clause-need : goal.returns-clause-need
 returns-clause-need c =
     let inside = c.self.inside in
-    rw (← c.self.view_is) (needs inside.core (map arc_value inside.rows.items) (event_of c.args.event.now) c.need.result c.self.invariant c.need.ensures.need)
+    rw (← c.self.view_is) (needs inside.core (map arc_value inside.rows.items) (event_of c.args.preparation.event.now) c.need.result c.self.invariant c.need.ensures.need)
