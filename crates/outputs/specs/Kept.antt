@@ -1,5 +1,5 @@
 -- What is kept of sources and of trees that were settled.
-use Rattle.std.specs.Prelude.{◌≡◌, ℕ, ◌+◌, min, List, Contains, Option, Some, None}
+use Rattle.std.specs.Prelude.{◌≡◌, ℕ, List, Contains, Option, Some, None}
 use Rattle.model.specs.Archives.{Tree}
 use Rattle.model.specs.Derivations.{Derivation}
 use Rattle.model.specs.Worlds.{Label}
@@ -7,10 +7,6 @@ use Rattle.outputs.specs.declared.input.Input.{Input}
 use Rattle.outputs.specs.declared.placed.Placed.{Placed}
 use Rattle.outputs.specs.declared.settlement.Settlement.{Settlement}
 use Rattle.outputs.specs.Outputs.{IsInputOf, IsSameInput}
-
--- one more is counted; at the greatest number the count stays
-abbrev pub one_more : ℕ → ℕ
-one_more n = min (n + 1) 18446744073709551615
 
 -- the path of a tree under a name is among these
 pub record HasPlaced (all : List Placed) (name : List ℕ) (tree : Tree) : Type 0 where

@@ -10,7 +10,8 @@ ghost use Rattle.model.specs.Settling.{hash_part_in, settled};
 ghost use Rattle.model.specs.Results.{unless_rewrite_refused};
 ghost use Rattle.model.specs.declared.refusal.Refusal.TheVariants.{Memory};
 ghost use Rattle.outputs.specs.Outputs.{input_settled};
-ghost use Rattle.outputs.specs.Kept.{HasOutput, HasSettled, one_more};
+ghost use Rattle.outputs.specs.Kept.{HasOutput, HasSettled};
+ghost use Rattle.classes.specs.Admitting.{one_more};
 
 use crate::candidates::Candidates;
 use crate::input::Input;

@@ -4,7 +4,8 @@ ghost use Rattle.std.specs.Prelude.{◌≡◌, [], IfOk, IfErr, IfSome, IfNone};
 ghost use Rattle.model.specs.Archives.{IsTree};
 ghost use Rattle.model.specs.Paths.{source_path};
 ghost use Rattle.model.specs.declared.refusal.Refusal.TheVariants.{Memory};
-ghost use Rattle.outputs.specs.Kept.{HasPlaced, one_more};
+ghost use Rattle.outputs.specs.Kept.{HasPlaced};
+ghost use Rattle.classes.specs.Admitting.{one_more};
 
 use crate::placed::Placed;
 use model::Refusal;

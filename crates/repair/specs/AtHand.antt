@@ -1,5 +1,5 @@
 -- Which repaired records are at hand.
-use Rattle.std.specs.Prelude.{◌≡◌, ℕ, ◌+◌, min, List, ◌∷◌, map, Contains, Option, Some, bytes_eq}
+use Rattle.std.specs.Prelude.{◌≡◌, ℕ, List, ◌∷◌, map, Contains, Option, Some, bytes_eq}
 use Rattle.std.specs.Global.{Vec}
 use Rattle.std.specs.Map.{lookup}
 use Rattle.std.specs.Cmp.Lexicographic.{pointwise}
@@ -33,7 +33,3 @@ pub record IsMade (made : List Repair) (chosen : Record) (moves : List Move) : T
   pub one : Repair
   pub among : Contains made one
   pub is : IsOf chosen moves one
-
--- one more is counted; at the greatest number the count stays
-abbrev pub one_more : ℕ → ℕ
-one_more n = min (n + 1) 18446744073709551615

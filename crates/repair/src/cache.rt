@@ -1,9 +1,10 @@
 //! Records that were repaired, so that none has to be repaired again soon.
 
 ghost use Rattle.std.specs.Prelude.{◌≡◌, ◌≢◌, ◌⊎◌, IfOk, IfErr, IfSome, IfNone, MatchResult, None, Some, [], Ok, Err};
+ghost use Rattle.classes.specs.Admitting.{one_more};
 ghost use Rattle.model.specs.Repairs.{repaired};
 ghost use Rattle.model.specs.declared.refusal.Refusal.TheVariants.{Memory};
-ghost use Rattle.repair.specs.AtHand.{IsMade, paths_of_key, one_more};
+ghost use Rattle.repair.specs.AtHand.{IsMade, paths_of_key};
 ghost use Rattle.repair.specs.Counting.{hits_of, bound_of, IsBounded, KeepsNone, IsAmongKept, IsAtHand};
 
 use crate::kept::Kept;

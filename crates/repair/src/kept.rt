@@ -1,8 +1,9 @@
 //! Repaired records that were used last, so many and so many bytes of them at most.
 
 ghost use Rattle.std.specs.Prelude.{◌≡◌, ◌+◌, ◌≤◌, [], Some, IfOk, IfSome, IfNone, option_copied};
+ghost use Rattle.classes.specs.Admitting.{one_more};
 ghost use Rattle.model.specs.Repairs.{repaired};
-ghost use Rattle.repair.specs.AtHand.{IsOf, IsKept, paths_of_key, one_more};
+ghost use Rattle.repair.specs.AtHand.{IsOf, IsKept, paths_of_key};
 ghost use Rattle.repair.specs.Keeping.{sizes};
 ghost use Rattle.repair.specs.declared.repair.Repair.{Repair as RepairValue};
 

@@ -1,6 +1,7 @@
 //! Records whose labels move.
 
 ghost use Rattle.std.specs.Prelude.{◌≡◌, ◌≢◌, ◌≤◌, ◌⊎◌, List, IfOk, MatchResult, Ok, Err};
+ghost use Rattle.classes.specs.Admitting.{one_more};
 ghost use Rattle.model.specs.Classes.{greatest_rank};
 ghost use Rattle.model.specs.Settling.{name_in};
 ghost use Rattle.model.specs.References.{paths_of_labels};
@@ -9,7 +10,6 @@ ghost use Rattle.model.specs.declared.refusal.Refusal.TheVariants.{Memory};
 ghost use Rattle.repair.specs.Moving.{IsRewritten, IsNotRewritten, IsResettled, IsNotResettled, settled_as};
 ghost use Rattle.records.specs.Recorded.{AreInPathOrder};
 ghost use Rattle.repair.specs.Served.{served_from, MovesTo};
-ghost use Rattle.repair.specs.AtHand.{one_more};
 ghost use Rattle.repair.specs.Counting.{bound_of, IsAtHand, IsBounded, IsToRepair};
 ghost use Rattle.records.specs.Sound.{IsSoundRecord};
 
