@@ -1,5 +1,7 @@
 -- Digits in lower case, looked up in a table.
-use Rattle.std.proofs.Common.{◌≡◌, ℕ, zero, suc, replicate, ◌+◌, ◌-◌, ◌*◌, ◌/◌, ◌%◌, ◌<◌, inl, inr, true, List, [], ◌∷◌, ◌++◌, length, get_or, set, slice_index, take, refl, ap, sym, ◌∙◌, arith, get_or-set_other, get_or-set_same, length-set}
+use Rattle.std.proofs.Common.{◌≡◌, ℕ, zero, suc, replicate, ◌+◌, ◌-◌, ◌*◌, ◌/◌, ◌%◌, ◌<◌, inl, inr, true, List, []}
+use Rattle.std.proofs.Common.{◌∷◌, ◌++◌, length, get_or, set, slice_index, take, refl, ap, sym, ◌∙◌, arith, get_or-set_other}
+use Rattle.std.proofs.Common.{get_or-set_same, length-set}
 use Rattle.std.specs.Prelude.{Bool}
 use Rattle.std.specs.List.{list_all}
 use Rattle.std.proofs.lemmas.Bool.{cases_lt, cases_eq, cases_Bool}
@@ -82,15 +84,19 @@ value_is values c are lower =
     let found : slice_index values c ≡ v.0 = ap (slice_index values) (sym v.2) ∙ are.digits v.0 v.1 in
     ap (slice_index lower_digits) found ∙ v.2
 
-encode_push : (first : List ℕ) (b : ℕ) → encode_lower (first ++ b ∷ []) ≡ encode_lower first ++ slice_index lower_digits (b / 16) ∷ slice_index lower_digits (b % 16) ∷ []
+encode_push : (first : List ℕ) (b : ℕ)
+    → encode_lower (first ++ b ∷ []) ≡ encode_lower first ++ slice_index lower_digits (b / 16) ∷ slice_index lower_digits (b % 16) ∷ []
 unfolding encode_with
 encode_push [] b = refl
 encode_push (f ∷ first) b = ap (λ rest. slice_index lower_digits (f / 16) ∷ slice_index lower_digits (f % 16) ∷ rest) (encode_push first b)
 
 -- the byte of the next two digits is put behind those of the digits before
-pub next_byte : (values digits bytes : List ℕ) (i : ℕ) → AreValues values → list_all is_lower_digit digits ≡ true → length digits ≡ 2 * length bytes → i < length bytes
+pub next_byte : (values digits bytes : List ℕ) (i : ℕ) → AreValues values → list_all is_lower_digit digits ≡ true
+    → length digits ≡ 2 * length bytes → i < length bytes
     → encode_lower (take i bytes) ≡ take (2 * i) digits
-    → encode_lower (take (i + 1) (set bytes i (slice_index values (slice_index digits (2 * i)) * 16 + slice_index values (slice_index digits (2 * i + 1))))) ≡ take (2 * (i + 1)) digits
+    → encode_lower (take (i + 1)
+    (set bytes i (slice_index values (slice_index digits (2 * i)) * 16 + slice_index values (slice_index digits (2 * i + 1)))))
+    ≡ take (2 * (i + 1)) digits
 next_byte values digits bytes i are lower long within before =
     let c = slice_index digits (2 * i) in
     let d = slice_index digits (2 * i + 1) in
@@ -102,7 +108,8 @@ next_byte values digits bytes i are lower long within before =
     let small = are.small d in
     let upper : b / 16 ≡ high = omega (arith, small) in
     let under : b % 16 ≡ low = omega (arith, small) in
-    let two : take (2 * (i + 1)) digits ≡ take (2 * i) digits ++ c ∷ d ∷ [] = take_two digits (2 * i) (2 * (i + 1)) (omega (arith, long, within)) (omega arith) in
+    let two : take (2 * (i + 1)) digits ≡ take (2 * i) digits ++ c ∷ d ∷ [] =
+    take_two digits (2 * i) (2 * (i + 1)) (omega (arith, long, within)) (omega arith) in
     ap encode_lower (take_more_set bytes i b within)
     ∙ encode_push (take i bytes) b
     ∙ ap (λ n. encode_lower (take i bytes) ++ slice_index lower_digits n ∷ slice_index lower_digits (b % 16) ∷ []) upper
@@ -118,7 +125,8 @@ next_byte values digits bytes i are lower long within before =
       | inr f ↦ cc (sym all ∙ list_all_at p xs k 0 within f)
     ]
 
-    take_two : (xs : List ℕ) (k n : ℕ) → k + 1 < length xs → n ≡ k + 2 → take n xs ≡ take k xs ++ slice_index xs k ∷ slice_index xs (k + 1) ∷ []
+    take_two : (xs : List ℕ) (k n : ℕ) → k + 1 < length xs → n ≡ k + 2
+        → take n xs ≡ take k xs ++ slice_index xs k ∷ slice_index xs (k + 1) ∷ []
     take_two xs k n within is =
         ap (λ m. take m xs) (is ∙ omega arith) ∙ take_more xs (k + 1) 0 within
         ∙ ap (λ first. first ++ slice_index xs (k + 1) ∷ []) (take_more xs k 0 (omega (arith, within)))

@@ -15,8 +15,10 @@ loop-i-preserved c =
     let room = c.requires.room in
     record {
       long = length-set c.loop-i.bytes c.loop-i.i _ ∙ before.long;
-      bytes = still_bytes c.args.values.now c.args.digits.now c.loop-i.bytes c.loop-i.i c.requires.values before.bytes (omega (arith, long, c.loop-i-test.true));
-      done = next_byte c.args.values.now c.args.digits.now c.loop-i.bytes c.loop-i.i c.requires.values c.requires.digits (omega (arith, long, room)) (omega (arith, long, c.loop-i-test.true)) before.done;
+      bytes = still_bytes c.args.values.now c.args.digits.now c.loop-i.bytes c.loop-i.i c.requires.values before.bytes
+          (omega (arith, long, c.loop-i-test.true));
+      done = next_byte c.args.values.now c.args.digits.now c.loop-i.bytes c.loop-i.i c.requires.values c.requires.digits
+          (omega (arith, long, room)) (omega (arith, long, c.loop-i-test.true)) before.done;
     }
 
 pub returns-clause-decoded : goal.returns-clause-decoded
