@@ -52,9 +52,11 @@ use Rattle.history.proofs.history_prefix.HistoryPrefix.TheSendSync as beginnings
 use Rattle.left_right.specs.contracts.reader.Reader as Reader
 use Rattle.left_right.proofs.reader.Reader.TheSendSync as readers
 use Rattle.left_right.proofs.writer.Writer.TheSendSync as writers
+use Rattle.book.specs.contracts.lag.Lag as Lag
+use Rattle.book.specs.contracts.cores.Cores as Cores
+use Rattle.book.specs.contracts.cores.Cores.TheInside as CoresInside
 use Rattle.history.specs.contracts.snapshot.Snapshot as Snapshot
 use Rattle.history.specs.contracts.snapshot.Snapshot.TheInside as Inside
-use Rattle.history.specs.contracts.snapshot.NewRow as NewRow
 use Rattle.history.specs.contracts.snapshot.Operation as Operation
 use Rattle.history.specs.contracts.snapshot.SnapshotAbsorbOperation.TheImpl as absorbing
 use Rattle.history.specs.contracts.law.End as End
@@ -212,10 +214,10 @@ state_sync = declared_sync State.the_type (
   (trusts.the_sync, (jobs_sync, (search (sendable, crosses, desk_sync) depth 60 fits 5000, (table_sync, (search sendable depth 20, tt))))),
 )
 
-pub core_send : IsSend Core.the_row
+core_send : IsSend Core.the_row
 core_send = declared_send Core.the_type (state_send, (cache_send, (search sendable, tt)))
 
-pub core_sync : IsSync Core.the_row
+core_sync : IsSync Core.the_row
 core_sync = declared_sync Core.the_type (state_sync, (cache_sync, (search sendable, tt)))
 
 -- ---- values that were made before a step
@@ -259,25 +261,34 @@ settlements_sync = declared_sync Settlements.the_type (search (crosses, settleme
 ready_send : IsSend Ready.the_row
 ready_send = declared_send Ready.the_type (declared_send Work.the_type (sources_send, (admissions.the_send, (settlements_send, (cache_send, tt)))), tt)
 
+-- ---- both cores
+
+lag_send : IsSend Lag.the_row
+lag_send = variants_send Lag.enum (tt, ((search (sendable, crosses, row_send, row_sync) depth 20, tt), (tt, (tt, tt))))
+
+pub cores_send : IsSend Cores.the_row
+cores_send =
+    let inside : IsSend CoresInside.the_row =
+    declared_send CoresInside.the_type
+    (search (sendable, crosses, core_send, core_sync) depth 20, (search (sendable, crosses, core_send, core_sync) depth 20, (lag_send, (ready_send, tt)))) in
+    search view_send depth 5
+
 -- ---- what is published
 
 snapshot_send : IsSend Snapshot.the_row
 snapshot_send =
     let inside : IsSend Inside.the_row =
-    declared_send Inside.the_type (core_send, (search (sendable, crosses, row_send, row_sync) depth 20, (beginnings.the_send, (heap.send, tt)))) in
+    declared_send Inside.the_type (search (sendable, crosses, core_send, core_sync) depth 20, (beginnings.the_send, (search sendable, (heap.send, tt)))) in
     search view_send depth 5
 
 snapshot_sync : IsSync Snapshot.the_row
 snapshot_sync =
     let inside : IsSync Inside.the_row =
-    declared_sync Inside.the_type (core_sync, (search (sendable, crosses, row_send, row_sync) depth 20, (beginnings.the_sync, (heap.sync, tt)))) in
+    declared_sync Inside.the_type (search (sendable, crosses, core_send, core_sync) depth 20, (beginnings.the_sync, (search sendable, (heap.sync, tt)))) in
     search view_sync depth 5
 
-new_row_send : IsSend NewRow.the_row
-new_row_send = declared_send NewRow.the_type (search (sendable, crosses, row_send, row_sync) depth 20, (ready_send, (beginnings.the_send, tt)))
-
 operation_send : IsSend Operation.the_row
-operation_send = variants_send Operation.enum ((new_row_send, tt), (tt, tt))
+operation_send = variants_send Operation.enum ((snapshot_send, tt), (tt, tt))
 
 -- ---- who publishes, and who looks
 

@@ -10,8 +10,8 @@ use Rattle.history.specs.FrontId.{setup_in}
 use Rattle.history.specs.Tied.{stranger, Tied}
 
 -- where nothing is shown yet, and nobody knows anything, the rule holds
-pub tied_first : (x : Shown) → x.rows ≡ [] → x.seen ≡ [] → Tied x (stranger ∷ [])
-tied_first x none unseen = (none ∙ sym unseen, subst (IsLegal (setup_in x.name)) (sym none) (legal_none (setup_in x.name)), nobody)
+pub tied_first : (x : Shown) → x.seen ≡ [] → Tied x (stranger ∷ [])
+tied_first x none = (subst (IsLegal (setup_in x.name)) (sym none) (legal_none (setup_in x.name)), nobody)
   where
     nobody : (seat : ℕ) (v : View) → get_elem? (stranger ∷ []) seat ≡ some v → v.knows ≡ true → v.name ≡ x.name
     nobody zero v is knows = (let same : stranger ≡ v = cc in absurd (true≢false (sym knows ∙ sym (ap (λ (u : View). u.knows) same))))

@@ -3,3 +3,4 @@ pub mod Asking
 pub mod Publishing
 pub mod Applying
 pub mod Closing
+pub mod Turns

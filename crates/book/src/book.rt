@@ -4,9 +4,7 @@ ghost use Rattle.std.specs.Prelude.{◌≡◌, ◌≢◌, ◌+◌, ◌++◌, ◌
 ghost use Rattle.std.specs.Vec.{vec_capacity};
 ghost use Rattle.std.specs.Arc.{arc_value};
 ghost use mathlib.Core.List.{IsPrefix};
-ghost use Rattle.model.specs.Paths.{NoClash};
 ghost use Rattle.model.specs.Worlds.{nothing};
-ghost use Rattle.model.specs.HashedTexts.{hashed};
 ghost use Rattle.model.specs.declared.refusal.Refusal.TheVariants.{Memory, Stopped};
 ghost use Rattle.schedule.specs.Standing.{world_of, setup_of, stored_in};
 ghost use Rattle.jobs.specs.Asking.{IsAnswerTo};
@@ -15,16 +13,17 @@ ghost use Rattle.schedule.specs.Sweeping.{is_held};
 ghost use Rattle.store.specs.Stored.{kept_at};
 ghost use Rattle.events.specs.declared.reply.Reply.TheVariants.{Refused};
 ghost use Rattle.history.specs.Callers.{told_stopped, knowing, stops_of, Matches};
-ghost use Rattle.history.specs.Histories.{IsLegal};
+ghost use Rattle.history.specs.Histories.{row, IsLegal};
 ghost use Rattle.book.specs.Applying.{IsApplied};
 ghost use Rattle.book.specs.Closing.{rows_in};
 ghost use Rattle.book.specs.Keeping.{IsNew, StandsFor};
 
 use crate::closed_history::History;
+use crate::cores::{Asked, Cores, event_again};
 use crate::counts::{Counts, Tally};
 use crate::pass::Pass;
 use crate::publisher::Publisher;
-use crate::steps::{Asked, step};
+use crate::steps::step;
 use history::{Caller, FrontId, HistoryPrefix, Log, Row, StopCount};
 use laws::{isolation, timed_isolation};
 use model::Refusal;
@@ -38,10 +37,11 @@ use std::sync::{Arc, Wait, ledger};
 ///
 /// Wherever no two texts that the history's events hash have one folded digest, its replies are
 /// those of private desks, and the core stands for the desks that the events reach. Each row is
-/// published before it is told. If memory is refused for that, once the core has taken the event, the
-/// book is stopped: the core is not used any more, and what was published before stays to be read.
+/// published before it is told, with the core, until memory is refused for that. If that is so once the core
+/// has taken an event, the book is stopped: the core is not used any more, and what was published before stays
+/// to be read.
 pub struct Book<J: FrontId> {
-    core: Core,
+    cores: Cores,
     history: Vec<Arc<Row>>,
     calls: ledger::Book<J>,
     stops: ledger::Book<StopCount<J>>,
@@ -54,7 +54,7 @@ pub struct Book<J: FrontId> {
 impl<J: FrontId> Drop for Book<J> {
     fn drop(self) {
         let Book {
-            core: _,
+            cores: _,
             history: _,
             calls: _,
             stops: _,
@@ -80,29 +80,37 @@ impl<J: FrontId> Model for Book<J> {
     ghost coded = { Prim.hlevel (codes, tree_code) };
 
     ghost view = { λ b. record {
-      core = b.core;
+      core = b.cores;
       rows = map arc_value b.history.items;
       stopped = b.stopped;
     } };
 
     ghost invariant = { λ b. let rows = map arc_value b.history.items in
-        Kept J.setup b.core b.stopped rows
+        Kept J.setup b.cores b.stopped rows
         × (length rows ≡ b.calls.total)
         × (b.spare.calls.parts ≡ 0) × (b.spare.calls.amount ≡ 0)
         × (b.log.rows ≡ rows) × (b.log.stopped ≡ b.stopped)
-        × (b.publisher.rows ≡ rows) × (b.stopped ≡ false → b.publisher.whole ≡ true)
+        × (b.publisher.rows ≡ rows)
+        × (b.stopped ≡ false → b.publisher.whole ≡ true → b.publisher.core ≡ b.cores)
         × (b.stops.total ≡ stops_of b.stopped)
         × (b.spare.stops.parts ≡ 0) × (b.spare.stops.amount ≡ 0) };
 }
 
-/// Makes room for a row, and copies the event that it is to have.
-fn hold(history: &mut Vec<Arc<Row>>, event: &Event) -> Result<Event, AllocError>
-    ensures copy { IfOk result (λ asked. asked ≡ event.now) }
+/// Makes room for one more row, and the row of an event with no reply yet. The one error is memory.
+fn draft(
+    alloc: Global,
+    history: &mut Vec<Arc<Row>>,
+    pass: u64,
+    event: &Event,
+) -> Result<Arc<Row>, AllocError>
+    ensures row { IfOk result (λ draft. arc_value draft ≡ row pass event.now (Refused Memory)) }
     ensures rows { history.new.items ≡ history.old.items }
     ensures room { OnOk result (vec_len history.new < vec_capacity history.new) }
 {
     history.reserve(1)?;
-    event.clone()
+    let event = event_again(event)?;
+    let reply = Reply::Refused(Refusal::Memory);
+    Ok(Arc::new(alloc, Row { pass, event, reply })?)
 }
 
 /// Puts a row behind the others.
@@ -124,24 +132,24 @@ impl<J: FrontId> Book<J> {
     /// A book of a new core, with an empty history.
     pub(crate) fn new(
         alloc: Global,
-        core: Core,
+        cores: Cores,
         calls: ledger::Book<J>,
         stops: ledger::Book<StopCount<J>>,
         tally: Tally<J>,
         publisher: Publisher<J>,
     ) -> Book<J>
-        requires core { IsNew J.setup core }
+        requires core { IsNew J.setup cores }
         requires calls { (calls.total ≡ 0)
             × (tally.spare.calls.parts ≡ 0) × (tally.spare.calls.amount ≡ 0) }
         requires stops { (stops.total ≡ 0)
             × (tally.spare.stops.parts ≡ 0) × (tally.spare.stops.amount ≡ 0) }
         requires log { (tally.log.rows ≡ []) × (tally.log.stopped ≡ false) }
-        requires publisher { (publisher.rows ≡ []) × (publisher.whole ≡ true) }
-        ensures { result ≡ record { core = core; rows = []; stopped = false } }
+        requires publisher { (publisher.rows ≡ []) × (publisher.core ≡ cores) }
+        ensures { result ≡ record { core = cores; rows = []; stopped = false } }
     {
         let Tally { spare, log } = tally;
         Book {
-            core,
+            cores,
             history: Vec::new(alloc),
             calls,
             stops,
@@ -193,7 +201,7 @@ impl<J: FrontId> Book<J> {
         isolation();
         timed_isolation();
         let Book {
-            core,
+            cores,
             history,
             calls,
             stops,
@@ -208,18 +216,16 @@ impl<J: FrontId> Book<J> {
         if *stopped {
             return refuse(Refusal::Stopped, event);
         }
-        let Ok(copy) = hold(history, &event) else {
-            core.empty_cache();
+        let Ok(draft) = draft(alloc, history, pass.number(), &event) else {
+            cores.empty_cache();
             return refuse(Refusal::Memory, event);
         };
-        let number = pass.number();
         let asked = Asked {
-            pass: number,
             event,
-            copy,
+            draft,
             ready,
         };
-        let answered = match step(rt, alloc, core, publisher, asked) {
+        let answered = match step(rt, alloc, cores, publisher, asked) {
             Ok(answered) => answered,
             Err(why) => return Reply::Refused(why),
         };
@@ -270,7 +276,7 @@ impl<J: FrontId> Book<J> {
         isolation();
         timed_isolation();
         let Book {
-            core,
+            cores,
             calls,
             stops,
             log,
@@ -283,17 +289,18 @@ impl<J: FrontId> Book<J> {
         if *stopped {
             return Err(Refusal::Stopped);
         }
-        core.request(user, number)
+        cores.shown().request(user, number)
     }
 
     /// Has the core keep the paths that a desk holds, or that a goal keeps which is planned or is being
-    /// built, and no others, as [`Core::sweep`] does, and then what is published. There is no row of it,
-    /// and no reply changes. It may wait for readers of what was published before.
+    /// built, and no others, as [`Core::sweep`] does, and publishes it. There is no row of it, and no reply
+    /// changes. It may wait for readers of what was published before. The core that was shown before, which
+    /// shares all trees, is swept by the next call that needs it.
     ///
     /// # Errors
     ///
     /// - `Stopped` exactly where the book is stopped. Nothing has changed then.
-    /// - `Memory` only where memory was refused. The core, or what is published, may not be swept then.
+    /// - `Memory` only where memory was refused. The core may not be swept then.
     pub fn sweep<R: Wait>(&mut self, rt: &R, alloc: Global) -> Result<(), Refusal>
         ensures swept { OnOk result (stored_in self.new.core
             ≡ kept_at (is_held self.old.core) (stored_in self.old.core)) }
@@ -307,15 +314,24 @@ impl<J: FrontId> Book<J> {
         ensures refused { IfErr result (λ e. (e ≡ Memory)
             ⊎ ((e ≡ Stopped) × (self.old.stopped ≡ true))) }
     {
+        isolation();
+        timed_isolation();
         if self.stopped {
             return Err(Refusal::Stopped);
         }
-        self.core.sweep(alloc)?;
-        if self.publisher.sweep(rt) {
-            Ok(())
-        } else {
-            Err(Refusal::Memory)
+        let Book {
+            cores,
+            publisher,
+            ..
+        } = self;
+        if !publisher.settle(rt) {
+            return Err(Refusal::Memory);
         }
+        cores.sweep(alloc)?;
+        if !publisher.change(rt, alloc, cores) {
+            return Err(Refusal::Memory);
+        }
+        Ok(())
     }
 
     /// The rows, the oldest first.
@@ -335,7 +351,12 @@ impl<J: FrontId> Book<J> {
         ensures reached { self.now.stopped ≡ false
             → StandsFor J.setup self.now.core self.now.rows }
     {
-        &self.core
+        self.cores.shown()
+    }
+
+    /// How many values the steps had to make, as [`Core::computed`] counts them.
+    pub(crate) fn computed(&self) -> u64 {
+        self.cores.computed()
     }
 
     /// Whether memory was refused once the core had taken an event. Then [`Book::apply`] answers 92.
@@ -375,7 +396,7 @@ impl<J: FrontId> Book<J> {
         isolation();
         timed_isolation();
         let Book {
-            core: _core,
+            cores: _cores,
             history,
             mut calls,
             mut stops,

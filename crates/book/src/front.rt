@@ -1,11 +1,11 @@
 //! What threads share.
 
-ghost use Rattle.std.specs.Prelude.{◌≡◌, ◌≢◌, ◌<◌, ◌≤◌, ◌++◌, ◌∷◌, ◌⊎◌, [], true, false, drop, length, map, sum, All, IfOk, IfErr, Err};
+ghost use Rattle.std.specs.Prelude.{◌≡◌, ◌<◌, ◌≤◌, ◌⊎◌, [], true, false, drop, length, map, sum, All, IfOk, IfErr, Err};
 ghost use mathlib.Core.List.{IsPrefix};
 ghost use Rattle.left_right.specs.Sides.{view};
 ghost use Rattle.model.specs.declared.refusal.Refusal.TheVariants.{Memory, Stopped};
 ghost use Rattle.events.specs.declared.reply.Reply.TheVariants.{Refused};
-ghost use Rattle.history.specs.Callers.{told_stopped, knowing, stops_of, below, rows_of, new_pass, with_caller, seeing};
+ghost use Rattle.history.specs.Callers.{knowing, stops_of, below, rows_of, new_pass};
 ghost use Rattle.history.specs.Tokens.{nothing_recorded};
 ghost use Rattle.history.specs.Histories.{IsLegal};
 ghost use Rattle.history.specs.FrontId.{name_of};
@@ -17,11 +17,12 @@ ghost use Rattle.book.specs.Keeping.{IsNew};
 
 use crate::book::{Book, refuse};
 use crate::closed_history::History;
+use crate::cores::Cores;
 use crate::counts::{Counts, Tally};
 use crate::pass::Pass;
 use crate::publisher::Publisher;
 use history::{
-    Caller, FrontId, FrontTokens, HistoryPrefix, Log, Snapshot, SnapshotWriter, StopCount, begin,
+    Caller, FrontId, FrontTokens, HistoryPrefix, Snapshot, SnapshotWriter, StopCount, begin,
     reader_of,
 };
 use model::Refusal;
@@ -34,8 +35,7 @@ use std::sync::{Mutex, MutexGuard, Wait};
 /// have entries.
 const MOST_REPAIRED: usize = 1_024;
 
-/// How many bytes they count at most: 40 MiB, so that it is 64 MiB with those of the core and of what is published
-/// of it, 8 MiB each.
+/// How many bytes they count at most: 40 MiB, so that it is 56 MiB with those of the two cores, 8 MiB each.
 const MOST_REPAIRED_BYTES: u32 = 41_943_040;
 
 /// A core with the history of its calls, under a lock, and what is published of it. Threads share it by
@@ -114,18 +114,19 @@ fn passes_of<J: FrontId>(
     Ok(passes)
 }
 
-/// A writer of two new copies of a core, which is new, with a place for each of so many readers.
+/// A writer of two snapshots of a core, which is new, with a place for each of so many readers.
 fn writer_of<J: FrontId, R: Wait>(
     rt: &R,
     alloc: Global,
-    core: &Core,
+    cores: &Cores,
     none: &HistoryPrefix,
     readers: usize,
 ) -> Result<SnapshotWriter, Refusal>
-    requires core { IsNew J.setup core.now }
+    requires core { IsNew J.setup cores.now }
     requires none { (none.now.seen.log ≡ []) × (none.now.seen.book ≡ J.book) }
     requires readers { (0 < readers) × (readers ≤ 64) }
-    ensures rows { IfOk result (λ writer. writer.desk.shown.value.rows ≡ []) }
+    ensures core { IfOk result (λ writer. writer.desk.shown.value.core ≡ cores.now) }
+    ensures rows { IfOk result (λ writer. writer.desk.shown.value.seen ≡ []) }
     ensures name { IfOk result (λ writer.
         writer.desk.shown.value.name ≡ name_of J.book J.setup) }
     ensures ready { IfOk result (λ writer. drop writer.behind writer.log.items ≡ []) }
@@ -133,8 +134,8 @@ fn writer_of<J: FrontId, R: Wait>(
         view writer.desk.place ≡ knower (name_of J.book J.setup)) }
     ensures memory { IfErr result (λ why. why ≡ Memory) }
 {
-    let first = Snapshot::new(alloc, core.another(alloc)?, none.again());
-    let second = Snapshot::new(alloc, core.another(alloc)?, none.again());
+    let first = Snapshot::new(alloc, cores.share()?, none.again());
+    let second = Snapshot::new(alloc, cores.share()?, none.again());
     let writer = SnapshotWriter::new(alloc, first, second, readers)?;
     let (writer, knows) = begin(rt, writer);
     if knows {
@@ -145,8 +146,8 @@ fn writer_of<J: FrontId, R: Wait>(
 }
 
 impl<J: FrontId> Front<J> {
-    /// A front over a new core, and its passes, of the numbers 0 to n - 1. It publishes two copies of the
-    /// core, so it may wait.
+    /// A front over a new core, and its passes, of the numbers 0 to n - 1. It makes another core, and publishes
+    /// this one, so it may wait.
     ///
     /// The core is as [`Core::new`] gave it, and the front is named for its users and limits. There
     /// are 1 to 64 passes, and the tokens have as many parts.
@@ -188,11 +189,12 @@ impl<J: FrontId> Front<J> {
             log: log.named::<J>(),
         };
         let (head, none) = rows.named::<J>();
-        let mut writer = writer_of::<J, R>(rt, alloc, &core, &none, n as usize)?;
-        match passes_of(alloc, &core, n, &mut tally, &mut writer, &none) {
+        let cores = Cores::new(alloc, core)?;
+        let mut writer = writer_of::<J, R>(rt, alloc, &cores, &none, n as usize)?;
+        match passes_of(alloc, cores.shown(), n, &mut tally, &mut writer, &none) {
             Ok(passes) => {
                 let publisher = Publisher::new(head, none, writer);
-                let book = Book::new(alloc, core, calls, stops, tally, publisher);
+                let book = Book::new(alloc, cores, calls, stops, tally, publisher);
                 let front = Front {
                     book: Mutex::new(book),
                 };
@@ -315,10 +317,10 @@ impl<J: FrontId> Front<J> {
         self.book.lock(rt).sweep(rt, alloc)
     }
 
-    /// How many values the core had to make itself, under the lock: paths of sources, admitted derivations,
-    /// settled trees and repaired records, as [`Core::computed`] counts them. It takes the lock, so it may wait.
+    /// How many values had to be made under the lock: paths of sources, admitted derivations, settled trees and
+    /// repaired records, as [`Core::computed`] counts them. It takes the lock, so it may wait.
     pub fn computed<R: Wait>(&self, rt: &R) -> u64 {
-        self.book.lock(rt).core().computed()
+        self.book.lock(rt).computed()
     }
 
     /// How many paths the core stores. It takes the lock, so it may wait.

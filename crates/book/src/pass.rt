@@ -1,13 +1,13 @@
 //! The callers of a front, with what they have seen.
 
-ghost use Rattle.std.specs.Prelude.{◌≡◌, ◌≢◌, ◌<◌, ◌++◌, ◌∷◌, [], true, false, length, IfOk, IfErr, IfSome, Err, MatchBool};
+ghost use Rattle.std.specs.Prelude.{◌≡◌, ◌≢◌, ◌<◌, [], true, false, length, IfOk, IfErr, IfSome, Err, MatchBool};
 ghost use mathlib.Core.List.{IsPrefix};
 ghost use Rattle.left_right.specs.Sides.{view};
 ghost use Rattle.model.specs.declared.refusal.Refusal.TheVariants.{Memory, Stopped};
 ghost use Rattle.events.specs.declared.reply.Reply.TheVariants.{Refused};
 ghost use Rattle.schedule.specs.Queries.{event_for};
-ghost use Rattle.history.specs.Callers.{told_stopped, knowing, rows_of, seeing, with_caller};
-ghost use Rattle.history.specs.Histories.{row, unrecorded, IsLegal, IsAnswered, IsReadAfter};
+ghost use Rattle.history.specs.Callers.{knowing, rows_of, seeing};
+ghost use Rattle.history.specs.Histories.{row, unrecorded, IsLegal, IsReadAfter};
 ghost use Rattle.events.specs.Terms.{event_of};
 ghost use Rattle.history.specs.Following.{FindsRead, IsNeedAfter, IsPreparedAfter};
 ghost use Rattle.history.specs.FrontId.{name_of, book_in, setup_in};
@@ -19,7 +19,7 @@ use crate::book::Book;
 use crate::publisher::insist;
 use core::mem::replace_with;
 use history::{
-    Caller, FrontId, HistoryPrefix, SnapshotReader, StopCount, computed, is_unrecorded, look, need,
+    Caller, FrontId, HistoryPrefix, SnapshotReader, StopCount, is_unrecorded, look, need,
 };
 use laws::{isolation, kept_closures_are_good, timed_isolation};
 use model::Refusal;
@@ -118,14 +118,6 @@ fn need_by(
     ensures memory { IfSome result.1 (λ t. IfErr t.0 (λ why. why ≡ Memory)) }
 {
     need(reader, preparation)
-}
-
-/// How many values the copy that is published had to make itself.
-fn computed_by(reader: SnapshotReader, _nothing: ()) -> (SnapshotReader, Option<u64>)
-    requires { (view reader.place).knows ≡ true }
-    ensures { view result.0.place ≡ view reader.place }
-{
-    computed(reader)
 }
 
 /// How many rows a pass is sure of after a reply: as many as before it, or where it has a row all.
@@ -295,15 +287,6 @@ impl<J: FrontId> Pass<J> {
     /// number it stays there. No reply depends on it.
     pub fn hits(&self) -> u64 {
         self.repaired.hits()
-    }
-
-    /// How many values the copy that is published now had to make itself, as
-    /// [`Front::computed`](crate::Front::computed) tells it of the core. It takes no lock, and waits for
-    /// nobody. There is no answer where the front is closed.
-    pub fn computed_there(&mut self) -> Option<u64>
-        ensures { self.new ≡ self.old }
-    {
-        replace_with(&mut self.reader, (), computed_by)
     }
 
     /// Answers one event of the pass by the book. Then it has seen all rows. Where memory is refused, the records

@@ -1,25 +1,25 @@
 //! What a book publishes.
 
-ghost use Rattle.std.specs.Prelude.{◌≡◌, ◌+◌, ◌<◌, ◌^◌, ◌++◌, ◌∷◌, [], drop, length, true, false, MatchBool};
-ghost use Rattle.std.specs.Arc.{arc_value};
+ghost use Rattle.std.specs.Prelude.{◌≡◌, ◌+◌, ◌<◌, ◌++◌, ◌∷◌, [], drop, true, false, MatchBool};
 ghost use Rattle.history.specs.Histories.{IsLegal};
-ghost use Rattle.history.specs.FrontId.{name_of, book_in, setup_in};
+ghost use Rattle.history.specs.FrontId.{name_of, setup_in};
 ghost use Rattle.history.specs.Tied.{IsQuiet};
-ghost use Rattle.book.specs.Publishing.{Published};
+ghost use Rattle.book.specs.Publishing.{Published, IsFollowing};
 
+use crate::cores::Cores;
 use core::mem::replace_with;
 use history::{
-    End, FrontId, HistoryLength, HistoryPrefix, NewRow, Row, SnapshotWriter, publish, sweep,
+    End, FrontId, HistoryLength, HistoryPrefix, Row, Snapshot, SnapshotWriter, publish, settle,
 };
-use schedule::Ready;
+use std::alloc::Global;
 use std::marker::Model;
-use std::sync::{Arc, Wait};
+use std::sync::Wait;
 
 /// No history is as long.
 const MOST_ROWS: u64 = 1 << 61;
 
 /// The writer of the snapshot, with the history as those see it who do not take the lock. Contracts see
-/// the rows that are published, and whether another can be: none can after one was refused.
+/// the core and the rows that are published, and whether others can be: none can after some were refused.
 pub(crate) struct Publisher<J: FrontId> {
     head: HistoryLength<J>,
     rows: HistoryPrefix,
@@ -51,10 +51,14 @@ impl<J: FrontId> Model for Publisher<J> {
 
     ghost coded = { Prim.hlevel (codes, tree_code) };
 
-    ghost view = { λ s. record { rows = s.rows.seen.log; whole = s.whole } };
+    ghost view = { λ s. record {
+      core = s.end.writer.desk.shown.value.core;
+      rows = s.rows.seen.log;
+      whole = s.whole;
+    } };
 
     ghost invariant = { λ s. (s.rows.seen.book ≡ J.book)
-        × (s.end.writer.desk.shown.value.rows ≡ s.rows.seen.log)
+        × (s.end.writer.desk.shown.value.seen ≡ s.rows.seen.log)
         × (s.end.writer.desk.shown.value.name ≡ name_of J.book J.setup)
         × (s.whole ≡ true → IsQuiet s.end.writer.desk.shown.value
         (drop s.end.writer.behind s.end.writer.log.items)) };
@@ -75,34 +79,31 @@ pub(crate) fn insist<R: Wait>(rt: &R, holds: bool)
 #[derive(Drop)]
 struct Publishing<'a, R> {
     rt: &'a R,
-    new: NewRow,
+    snapshot: Snapshot,
 }
 
 /// Publishes what is next.
 fn publish_next<R: Wait>(writer: SnapshotWriter, next: Publishing<R>) -> (SnapshotWriter, bool)
     requires quiet { IsQuiet writer.desk.shown.value (drop writer.behind writer.log.items) }
-    requires rows { next.new.after.seen.log
-        ≡ writer.desk.shown.value.rows ++ arc_value next.new.row ∷ [] }
-    requires book { next.new.after.seen.book ≡ book_in writer.desk.shown.value.name }
-    requires legal { IsLegal (setup_in writer.desk.shown.value.name) next.new.after.seen.log }
+    requires name { next.snapshot.name ≡ writer.desk.shown.value.name }
+    requires legal { IsLegal (setup_in next.snapshot.name) next.snapshot.seen }
     ensures { MatchBool result.1
-        ((result.0.desk.shown.value.rows ≡ next.entry.new.after.seen.log)
-        × (result.0.desk.shown.value.name ≡ writer.desk.shown.value.name)
+        ((result.0.desk.shown.value ≡ next.entry.snapshot)
         × IsQuiet result.0.desk.shown.value (drop result.0.behind result.0.log.items))
         (result.0.desk.shown.value ≡ writer.desk.shown.value) }
 {
-    let Publishing { rt, new } = next;
-    publish(rt, writer, new)
+    let Publishing { rt, snapshot } = next;
+    publish(rt, writer, snapshot)
 }
 
-/// Publishes a sweep.
-fn sweep_next<R: Wait>(writer: SnapshotWriter, rt: &R) -> (SnapshotWriter, bool)
+/// Has the copy that is not shown let go of its core.
+fn settle_next<R: Wait>(writer: SnapshotWriter, rt: &R) -> (SnapshotWriter, bool)
     requires quiet { IsQuiet writer.desk.shown.value (drop writer.behind writer.log.items) }
     ensures shown { result.0.desk.shown.value ≡ writer.desk.shown.value }
     ensures quiet { IsQuiet result.0.desk.shown.value
         (drop result.0.behind result.0.log.items) }
 {
-    sweep(rt, writer)
+    settle(rt, writer)
 }
 
 impl<J: FrontId> Publisher<J> {
@@ -113,10 +114,10 @@ impl<J: FrontId> Publisher<J> {
         writer: SnapshotWriter,
     ) -> Publisher<J>
         requires rows { (rows.seen.log ≡ []) × (rows.seen.book ≡ J.book) }
-        requires writer { (writer.desk.shown.value.rows ≡ [])
+        requires writer { (writer.desk.shown.value.seen ≡ [])
             × (writer.desk.shown.value.name ≡ name_of J.book J.setup)
             × (drop writer.behind writer.log.items ≡ []) }
-        ensures { result ≡ record { rows = []; whole = true } }
+        ensures { result ≡ record { core = writer.desk.shown.value.core; rows = []; whole = true } }
     {
         Publisher {
             head,
@@ -126,44 +127,65 @@ impl<J: FrontId> Publisher<J> {
         }
     }
 
-    /// Publishes a row behind the others, with the values that were made for its event, and says whether it
-    /// did. It did not where memory was refused; then no other row can be published.
-    pub(crate) fn put<R: Wait>(&mut self, rt: &R, row: Arc<Row>, ready: Ready) -> bool
-        requires whole { self.old.whole ≡ true }
-        requires legal { IsLegal J.setup (self.old.rows ++ arc_value row ∷ []) }
-        ensures { MatchBool result
-            (self.new ≡ record { rows = self.old.rows ++ arc_value row ∷ []; whole = true })
-            (self.new ≡ record { rows = self.old.rows; whole = false }) }
+    /// Has the copy that is not shown let go of its core, once each reader has left it, and says whether it
+    /// did: it did not where memory was refused, or nothing can be published any more. What readers see stays.
+    pub(crate) fn settle<R: Wait>(&mut self, rt: &R) -> bool
+        ensures whole { result ≡ true → self.old.whole ≡ true }
+        ensures same { self.new ≡ self.old }
     {
-        let Publisher {
-            head,
-            rows,
-            end,
-            whole,
-        } = self;
-        insist(rt, rows.len() < MOST_ROWS);
-        let mut after = rows.again();
-        insist(rt, after.add(head, &*row));
-        let new = NewRow {
-            row,
-            ready,
-            after: after.again(),
+        self.whole && replace_with(&mut self.end.writer, rt, settle_next::<R>)
+    }
+
+    /// Publishes the core that is to be shown, with rows whose events it has taken, and says whether it did.
+    /// It did not where memory was refused; then nothing can be published any more.
+    fn show<R: Wait>(&mut self, rt: &R, alloc: Global, cores: &Cores, rows: HistoryPrefix) -> bool
+        requires whole { self.old.whole ≡ true }
+        requires book { rows.seen.book ≡ J.book }
+        requires follows { IsFollowing J.setup cores.now rows.seen.log }
+        ensures { MatchBool result
+            (self.new ≡ record { core = cores.now; rows = rows.seen.log; whole = true })
+            (self.new ≡ record { core = self.old.core; rows = self.old.rows; whole = false }) }
+    {
+        let Ok(core) = cores.share() else {
+            self.whole = false;
+            return false;
         };
-        let next = Publishing { rt, new };
-        if !replace_with(&mut end.writer, next, publish_next::<R>) {
-            *whole = false;
+        let snapshot = Snapshot::new(alloc, core, rows.again());
+        let next = Publishing { rt, snapshot };
+        if !replace_with(&mut self.end.writer, next, publish_next::<R>) {
+            self.whole = false;
             return false;
         }
-        *rows = after;
+        self.rows = rows;
         true
     }
 
-    /// Publishes a sweep, and says whether it did. The rows that are published stay.
-    pub(crate) fn sweep<R: Wait>(&mut self, rt: &R) -> bool
-        requires { self.old.whole ≡ true }
-        ensures { self.new ≡ self.old }
+    /// Publishes a row behind the others, with the core that has taken its event, and says whether it did. It
+    /// did not where memory was refused; then nothing can be published any more.
+    pub(crate) fn put<R: Wait>(&mut self, rt: &R, alloc: Global, cores: &Cores, row: &Row) -> bool
+        requires whole { self.old.whole ≡ true }
+        requires follows { IsFollowing J.setup cores.now (self.old.rows ++ row.now ∷ []) }
+        ensures { MatchBool result
+            (self.new ≡ record { core = cores.now; rows = self.old.rows ++ row.now ∷ []; whole = true })
+            (self.new ≡ record { core = self.old.core; rows = self.old.rows; whole = false }) }
     {
-        replace_with(&mut self.end.writer, rt, sweep_next::<R>)
+        insist(rt, self.rows.len() < MOST_ROWS);
+        let mut after = self.rows.again();
+        insist(rt, after.add(&self.head, row));
+        self.show(rt, alloc, cores, after)
+    }
+
+    /// Publishes the core that is to be shown, with the rows that are published, whose events it has taken, and
+    /// says whether it did. It did not where memory was refused; then nothing can be published any more.
+    pub(crate) fn change<R: Wait>(&mut self, rt: &R, alloc: Global, cores: &Cores) -> bool
+        requires whole { self.old.whole ≡ true }
+        requires follows { IsFollowing J.setup cores.now self.old.rows }
+        ensures { MatchBool result
+            (self.new ≡ record { core = cores.now; rows = self.old.rows; whole = true })
+            (self.new ≡ record { core = self.old.core; rows = self.old.rows; whole = false }) }
+    {
+        let rows = self.rows.again();
+        self.show(rt, alloc, cores, rows)
     }
 
     /// All rows that are published.

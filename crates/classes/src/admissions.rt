@@ -11,7 +11,7 @@ use crate::admitted_text::AdmittedText;
 use crate::known::Known;
 use aterm::Text;
 use model::Refusal;
-use std::alloc::{AllocError, Global};
+use std::alloc::Global;
 use storepath::StorePath;
 
 /// What a desk will know of the derivation of a text, if it is among these.
@@ -54,21 +54,6 @@ impl Admissions {
             admitted: Vec::new(alloc),
             computed: 0,
         }
-    }
-
-    /// A copy, of which none counts as admitted since. It shares what is large. The one error is memory.
-    pub fn again(&self, alloc: Global) -> Result<Admissions, AllocError>
-        ensures admitted { IfOk result (λ copy. copy.admitted.items ≡ self.now.admitted.items) }
-        ensures computed { IfOk result (λ copy. copy.computed ≡ 0) }
-    {
-        let mut admitted = Vec::with_capacity(alloc, self.admitted.len())?;
-        for one in &self.admitted {
-            admitted.push(one.again()?)?;
-        }
-        Ok(Admissions {
-            admitted,
-            computed: 0,
-        })
     }
 
     /// How many derivations had to be admitted; at the greatest number it stays there.

@@ -1,6 +1,6 @@
 //! A derivation that was admitted, with what it was admitted by.
 
-ghost use Rattle.std.specs.Prelude.{◌≡◌, IfOk, MatchResult, true};
+ghost use Rattle.std.specs.Prelude.{◌≡◌, MatchResult, true};
 ghost use Rattle.classes.specs.Admitting.{IsKnownAs, AreKnownAs, Admits, IsMade, IsFor};
 ghost use Rattle.model.specs.declared.refusal.Refusal.TheVariants.{Memory};
 
@@ -9,7 +9,6 @@ use crate::admitted::Admitted;
 use crate::known::Known;
 use aterm::Text;
 use model::Refusal;
-use std::alloc::AllocError;
 use std::marker::Model;
 use std::sync::ArcSlice;
 
@@ -81,20 +80,6 @@ impl AdmittedText {
             (λ e. e ≡ Memory) }
     {
         let inputs = ArcSlice::from_vec(inputs)?;
-        Ok(AdmittedText {
-            text,
-            inputs,
-            admitted,
-        })
-    }
-
-    /// A copy, which shares all. The one error is memory.
-    pub(crate) fn again(&self) -> Result<AdmittedText, AllocError>
-        ensures { IfOk result (λ copy. copy ≡ self.now) }
-    {
-        let text = self.text.clone()?;
-        let inputs = self.inputs.clone()?;
-        let admitted = self.admitted.clone()?;
         Ok(AdmittedText {
             text,
             inputs,

@@ -129,8 +129,6 @@ fn answer_by_front<J: FrontId, R: Wait>(
     tell_lines(alloc, &mut store, lines.as_str(), out)?;
     out.add(&store.front.computed(rt));
     out.add_text(" made under the lock, ");
-    out.add(&store.pass.computed_there().unwrap_or(u64::MAX));
-    out.add_text(" in what is published, ");
     out.add(&store.pass.hits());
     out.add_text(" at hand");
     Ok(())

@@ -1,8 +1,8 @@
 -- A core follows the rows of a history.
-use Rattle.std.proofs.Common.{◌≡◌, ℕ, false, List, [], ◌∷◌, ◌++◌, refl, sym, ap, ◌∙◌, subst, Result, Ok, Err}
+use Rattle.std.proofs.Common.{◌≡◌, ℕ, false, List, [], ◌∷◌, ◌++◌, refl, ap, ◌∙◌, subst, Result, Ok, Err}
 use Rattle.std.specs.Prelude.{All, Contains, IfOk}
 use Rattle.model.specs.declared.refusal.Refusal.{Refusal}
-use Rattle.std.proofs.lemmas.List.Elements.{All-nil, All-contains_itself}
+use Rattle.std.proofs.lemmas.List.Elements.{All-contains_itself}
 use Rattle.model.specs.Paths.{NoClash}
 use Rattle.model.specs.Worlds.{Setup, World, nothing}
 use Rattle.model.specs.Events as events
@@ -10,50 +10,22 @@ use Rattle.model.specs.Steps.{world_after, after, reply_to}
 use Rattle.model.specs.Replies.{is_memory}
 use Rattle.model.specs.HashedTexts.{hashed, texts_of_event}
 use Rattle.model.specs.GivenClosures.{GivesGoodClosure, KeepsGoodClosure}
-use Rattle.laws.proofs.KnowledgeLemmas.{world_after-push}
 use Rattle.events.specs.declared.event.Event.{Event}
 use Rattle.events.specs.declared.reply.Reply.{Reply}
 use Rattle.events.specs.Terms.{event_of, reply_of}
 use Rattle.schedule.specs.declared.state.Core.{Core}
-use Rattle.handlers.specs.Sound.{IsHashed}
-use Rattle.schedule.specs.Standing.{world_of, setup_of, stored_in, HasHashed, IsUnchanged}
+use Rattle.schedule.specs.Standing.{world_of, setup_of, HasHashed}
 use Rattle.schedule.specs.Stepping.{IsCoreStep}
-use Rattle.schedule.proofs.RunLemmas.{hashed_kept, all_back}
+use Rattle.schedule.proofs.RunLemmas.{all_back}
 use Rattle.history.specs.declared.row.Row.{Row}
-use Rattle.history.specs.Histories.{event_in, events_of}
-use Rattle.history.proofs.HistoryLemmas.{all_front, hashed_push, events_push, some_memory}
+use Rattle.history.specs.Histories.{events_of}
+use Rattle.history.proofs.HistoryLemmas.{all_front, hashed_push, some_memory}
 use Rattle.schedule.specs.declared.work.Ready.{Ready}
 use Rattle.schedule.specs.declared.preparing.PrepareInput.{PrepareInput}
 use Rattle.schedule.specs.Preparing.{HasAdmissionFor, HasOutcome, IsPrepared, IsMade}
 use Rattle.schedule.specs.declared.read_result.ReadResult.{ReadResult}
 use Rattle.schedule.specs.ReadResults.{IsServedFrom}
-use Rattle.history.specs.Following.{HasReached, Follows, Takes, IsModelRead, FindsRead, IsPreparedAfter, IsNeedAfter}
-
--- a new core follows no rows
-pub starts : (core : Core) → world_of core ≡ nothing → stored_in core ≡ [] → Follows (setup_of core) core []
-unfolding world_after stored_in HasHashed
-starts core empty none = record { reached = λ texts clean inside. record { world = empty; hashes = rw none (All-nil (IsHashed texts)) } }
-
--- it follows them where nothing of it changed
-pub still : (old new : Core) (rows : List Row) → Follows (setup_of old) old rows → IsUnchanged old new → Follows (setup_of new) new rows
-still old new rows f same =
-    subst (λ s. Follows s new rows) (sym same.setup) (record {
-      reached = λ texts clean inside. record {
-        world = same.world ∙ (f.reached texts clean inside).world;
-        hashes = hashed_kept texts old new same.stored (f.reached texts clean inside).hashes;
-      };
-    })
-
--- nor where it is swept
-pub still_swept : (old new : Core) (rows : List Row) → Follows (setup_of old) old rows → setup_of new ≡ setup_of old → world_of new ≡ world_of old
-    → ((texts : List (List ℕ)) → HasHashed texts old → HasHashed texts new) → Follows (setup_of new) new rows
-still_swept old new rows f given same hashed =
-    subst (λ s. Follows s new rows) (sym given) (record {
-      reached = λ texts clean inside. record {
-        world = same ∙ (f.reached texts clean inside).world;
-        hashes = hashed texts (f.reached texts clean inside).hashes;
-      };
-    })
+use Rattle.history.specs.Following.{HasReached, Follows, IsModelRead, FindsRead, IsPreparedAfter, IsNeedAfter}
 
 -- the step, where no two texts clash
 record Goes (setup : Setup) (rows : List Row) (e : events.Event) (given : events.Reply) (new : Core) (texts : List (List ℕ)) : Type 0 where
@@ -80,21 +52,6 @@ goes old new rows e reply f some steps texts clean inside =
       hashes = steps.hashed texts before.hashes here;
       good = subst (λ (w : World). GivesGoodClosure setup w e × KeepsGoodClosure setup w e) before.world (steps.good texts clean before.hashes here some);
     }
-
--- and a row more, where it takes its event
-pub followed : (old new : Core) (rows : List Row) (r : Row) → Follows (setup_of old) old rows → Takes old r new → Follows (setup_of new) new (rows ++ r ∷ [])
-followed old new rows r f takes =
-    let setup : Setup = setup_of old in
-    let push : events_of (rows ++ r ∷ []) ≡ events_of rows ++ event_in r ∷ [] = events_push rows r in
-    subst (λ s. Follows s new (rows ++ r ∷ [])) (sym takes.step.setup) (record {
-      reached = λ texts clean inside.
-          let now = goes old new rows (event_in r) (reply_of takes.reply) f (some_memory takes.reply takes.some) takes.step texts clean
-          (subst (λ (es : List events.Event). All (Contains texts) (hashed setup nothing es)) push inside) in
-          record {
-            world = now.world ∙ sym (ap (world_after setup nothing) push ∙ world_after-push setup nothing (events_of rows) (event_in r));
-            hashes = now.hashes;
-          };
-    })
 
 -- what it answers to what is only read
 reads : (core : Core) (rows : List Row) (e : Event) (reply : Reply) → Follows (setup_of core) core rows → IsCoreStep core (event_of e) (reply_of reply) core

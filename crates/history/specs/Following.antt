@@ -1,5 +1,5 @@
 -- A core that has taken the events of rows.
-use Rattle.std.specs.Prelude.{◌≡◌, ◌≢◌, ℕ, true, false, List, [], All, Contains}
+use Rattle.std.specs.Prelude.{◌≡◌, ◌≢◌, ℕ, true, false, List, All, Contains}
 use Rattle.model.specs.declared.refusal.Refusal.TheVariants.{Stopped}
 use Rattle.model.specs.Events as events
 use Rattle.model.specs.Paths.{NoClash}
@@ -8,8 +8,7 @@ use Rattle.model.specs.Worlds.{Setup, nothing}
 use Rattle.model.specs.Steps.{world_after}
 use Rattle.model.specs.HashedTexts.{hashed}
 use Rattle.schedule.specs.declared.state.Core.{Core}
-use Rattle.schedule.specs.Standing.{world_of, stored_in, HasHashed}
-use Rattle.schedule.specs.Stepping.{IsCoreStep}
+use Rattle.schedule.specs.Standing.{world_of, HasHashed}
 use Rattle.schedule.specs.declared.work.Ready.{Ready}
 use Rattle.schedule.specs.declared.preparing.PrepareInput.{PrepareInput}
 use Rattle.schedule.specs.Preparing.{HasPath, HasAdmissionFor, HasOutcome, IsMade}
@@ -20,11 +19,7 @@ use Rattle.events.specs.declared.reply.Reply.{Reply}
 use Rattle.events.specs.declared.reply.Reply.TheVariants.{Refused}
 use Rattle.events.specs.Terms.{event_of, reply_of}
 use Rattle.history.specs.declared.row.Row.{Row}
-use Rattle.history.specs.Histories.{event_in, events_of, unrecorded, IsToldAfter}
-
--- a core that has taken no event
-abbrev pub IsFresh : Core → Type 0
-IsFresh core = (world_of core ≡ nothing) × (stored_in core ≡ [])
+use Rattle.history.specs.Histories.{events_of, unrecorded, IsToldAfter}
 
 -- the core is that of the world which the events reach, and its trees were made by texts that were hashed
 pub record HasReached (setup : Setup) (core : Core) (texts : List (List ℕ)) (rows : List Row) : Type 0 where
@@ -34,12 +29,6 @@ pub record HasReached (setup : Setup) (core : Core) (texts : List (List ℕ)) (r
 -- so it is wherever texts have no clash and all that the events hash is among them
 pub record Follows (setup : Setup) (core : Core) (rows : List Row) : Type 0 where
   pub reached : (texts : List (List ℕ)) → NoClash texts → All (Contains texts) (hashed setup nothing (events_of rows)) → HasReached setup core texts rows
-
--- a core takes the event of a row, whatever it replies
-pub record Takes (old : Core) (row : Row) (new : Core) : Type 0 where
-  pub reply : Reply
-  pub some : unrecorded reply ≡ false
-  pub step : IsCoreStep old (event_in row) (reply_of reply) new
 
 -- a reply to an event that is read after these rows: it is the model's, or that memory was refused
 pub record IsModelRead (setup : Setup) (rows : List Row) (event : Event) (reply : Reply) : Type 0 where

@@ -1,5 +1,6 @@
 pub mod FrontId
 pub mod Following
+pub mod Showing
 pub mod Tied
 pub mod Callers
 pub mod Tokens

@@ -1,16 +1,14 @@
 -- The rule of what is published.
-use Rattle.std.specs.Prelude.{◌≡◌, ℕ, List, [], ◌∷◌, ◌++◌, fold, true, false}
-use Rattle.std.specs.Arc.{arc_value}
+use Rattle.std.specs.Prelude.{◌≡◌, ℕ, List, [], fold, true, false}
 use mathlib.Core.Option.{some}
 use lib.ListN.{get_elem?}
 use Rattle.history.specs.declared.law.Name.{Name}
 use Rattle.history.specs.declared.law.Shown.{Shown}
 use Rattle.history.specs.declared.law.View.{View}
 use Rattle.history.specs.Histories.{IsLegal}
-use Rattle.history.specs.declared.snapshot.NewRow.{NewRow}
 use Rattle.history.specs.declared.snapshot.Operation.{Operation}
-use Rattle.history.specs.declared.snapshot.Operation.TheVariants.{Add, Sweep}
-use Rattle.history.specs.FrontId.{name_of, setup_in}
+use Rattle.history.specs.declared.snapshot.Operation.TheVariants.{Show, Wait}
+use Rattle.history.specs.FrontId.{setup_in}
 
 abbrev pub no_name : Name
 no_name = record { number = 0; log_name = 0; cells_name = 0; users = []; charge = 0 }
@@ -21,32 +19,22 @@ knower n = record { knows = true; name = n }
 abbrev pub stranger : View
 stranger = record { knows = false; name = no_name }
 
--- what is shown after a row more
-abbrev pub added : Shown → NewRow → Shown
-added t n = record {
-  rows = t.rows ++ arc_value n.row ∷ [];
-  seen = n.after.seen.log;
-  name = name_of n.after.seen.book (setup_in t.name);
-}
-
 -- after what is published next
 abbrev pub absorbed : Shown → Operation → Shown
-absorbed t (Add n) = added t n
-absorbed t Sweep = t
+absorbed t (Show next) = next
+absorbed t Wait = t
 
 -- what is pending changes nothing that is shown
 abbrev pub IsQuiet : Shown → List Operation → Type 0
 IsQuiet t pending = fold absorbed t pending ≡ t
 
--- the rows that were published are those whose events the core has taken, and are a legal history; who knows a name knows this one
+-- the rows that were published are a legal history; who knows a name knows this one
 abbrev pub Tied : Shown → List View → Type 0
-Tied x views =
-    (x.rows ≡ x.seen) × IsLegal (setup_in x.name) x.rows
-    × ((seat : ℕ) (v : View) → get_elem? views seat ≡ some v → v.knows ≡ true → v.name ≡ x.name)
+Tied x views = IsLegal (setup_in x.name) x.seen × ((seat : ℕ) (v : View) → get_elem? views seat ≡ some v → v.knows ≡ true → v.name ≡ x.name)
 
 -- so it is, the name is known, and is the one that was known
 abbrev pub Sees : View → Shown → Shown → View → Type 0
-Sees v x y w = (y.rows ≡ y.seen) × IsLegal (setup_in y.name) y.rows × (w ≡ knower y.name) × (v.knows ≡ true → w ≡ v)
+Sees v x y w = IsLegal (setup_in y.name) y.seen × (w ≡ knower y.name) × (v.knows ≡ true → w ≡ v)
 
 abbrev pub told : View → View → View
 told v w = w

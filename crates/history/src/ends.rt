@@ -1,7 +1,6 @@
 //! Publishing, and looking at what is published.
 
-ghost use Rattle.std.specs.Prelude.{◌≡◌, ◌++◌, ◌∷◌, [], drop, fold, true, false, IfSome, IfOk, IfErr, MatchBool};
-ghost use Rattle.std.specs.Arc.{arc_value};
+ghost use Rattle.std.specs.Prelude.{◌≡◌, [], drop, fold, true, false, IfSome, IfOk, IfErr, MatchBool};
 ghost use Rattle.left_right.specs.Sides.{view};
 ghost use Rattle.schedule.specs.Queries.{event_for};
 ghost use Rattle.history.specs.Histories.{IsLegal};
@@ -11,11 +10,11 @@ ghost use Rattle.history.specs.Following.{FindsRead, IsNeedAfter};
 ghost use Rattle.history.specs.FrontId.{book_in, setup_in};
 ghost use Rattle.crossbeam_utils.specs.Register.{TurnsAt};
 ghost use Rattle.history.specs.declared.law.Shown.{Shown};
-ghost use Rattle.history.specs.Tied.{knower, absorbed, added, IsQuiet, Tied, Sees};
+ghost use Rattle.history.specs.Tied.{knower, absorbed, IsQuiet, Tied, Sees};
 
 use crate::history_prefix::HistoryPrefix;
 use crate::law::{Looks, SnapshotReader, SnapshotWriter, Tells};
-use crate::snapshot::{NewRow, Operation};
+use crate::snapshot::{Operation, Snapshot};
 use model::Refusal;
 use schedule::{Preparation, PrepareInput, Query, ReadResult};
 use std::alloc::AllocError;
@@ -74,21 +73,6 @@ pub fn need(
     }
 }
 
-/// How many values the copy that is published had to make itself. It waits for nobody. There is no answer
-/// where the writer is gone.
-pub fn computed(reader: SnapshotReader) -> (SnapshotReader, Option<u64>)
-    requires { (view reader.place).knows ≡ true }
-    ensures { view result.0.place ≡ view reader.place }
-{
-    match reader.enter_as::<Looks>() {
-        Ok(reading) => {
-            let made = reading.get().computed();
-            (reading.leave(), Some(made))
-        }
-        Err(reader) => (reader, None),
-    }
-}
-
 /// Publishes what is pending, and says whether it did. Else it stays pending.
 fn publish_pending<R: Wait>(rt: &R, writer: SnapshotWriter) -> (SnapshotWriter, bool)
     requires { (next : Shown)
@@ -109,44 +93,45 @@ fn publish_pending<R: Wait>(rt: &R, writer: SnapshotWriter) -> (SnapshotWriter, 
     }
 }
 
-/// Publishes a row behind the others, with which they are a legal history, and says whether it did.
-/// What was pending before shows nothing.
-pub fn publish<R: Wait>(rt: &R, writer: SnapshotWriter, new: NewRow) -> (SnapshotWriter, bool)
+/// Publishes a snapshot, and says whether it did. What was pending before shows nothing.
+pub fn publish<R: Wait>(rt: &R, writer: SnapshotWriter, next: Snapshot) -> (SnapshotWriter, bool)
     requires quiet { IsQuiet writer.desk.shown.value (drop writer.behind writer.log.items) }
-    requires rows { new.after.seen.log
-        ≡ writer.desk.shown.value.rows ++ arc_value new.row ∷ [] }
-    requires book { new.after.seen.book ≡ book_in writer.desk.shown.value.name }
-    requires legal { IsLegal (setup_in writer.desk.shown.value.name) new.after.seen.log }
+    requires name { next.name ≡ writer.desk.shown.value.name }
+    requires legal { IsLegal (setup_in next.name) next.seen }
     ensures { MatchBool result.1
-        ((result.0.desk.shown.value ≡ added writer.desk.shown.value new)
-        × (drop result.0.behind result.0.log.items ≡ []))
+        ((result.0.desk.shown.value ≡ next) × (drop result.0.behind result.0.log.items ≡ []))
         (result.0.desk.shown.value ≡ writer.desk.shown.value) }
 {
     let mut writer = writer;
-    let Ok(()) = writer.append(Operation::Add(new)) else {
+    let Ok(()) = writer.append(Operation::Show(next)) else {
         return (writer, false);
     };
     publish_pending(rt, writer)
 }
 
-/// Publishes a sweep, and says whether it did. Else it may be pending, which shows nothing.
-pub fn sweep<R: Wait>(rt: &R, writer: SnapshotWriter) -> (SnapshotWriter, bool)
+/// Has the copy that is not shown let go of the core that it had, once each reader has left it, and says
+/// whether it did: it did not where memory was refused. What readers see stays. The next publish waits for
+/// nobody who came after the last one.
+pub fn settle<R: Wait>(rt: &R, writer: SnapshotWriter) -> (SnapshotWriter, bool)
     requires quiet { IsQuiet writer.desk.shown.value (drop writer.behind writer.log.items) }
     ensures shown { result.0.desk.shown.value ≡ writer.desk.shown.value }
     ensures quiet { IsQuiet result.0.desk.shown.value
         (drop result.0.behind result.0.log.items) }
 {
+    if writer.has_pending_operations() {
+        return (writer, true);
+    }
     let mut writer = writer;
-    let Ok(()) = writer.append(Operation::Sweep) else {
+    let Ok(()) = writer.append(Operation::Wait) else {
         return (writer, false);
     };
-    publish_pending(rt, writer)
+    let (writer, _turned) = publish_pending(rt, writer);
+    (writer, true)
 }
 
-/// Publishes what is there already, which has no rows, so that the writer knows the name.
+/// Publishes what is there already, so that the writer knows the name.
 pub fn begin<R: Wait>(rt: &R, writer: SnapshotWriter) -> (SnapshotWriter, bool)
     requires ready { drop writer.behind writer.log.items ≡ [] }
-    requires rows { (writer.desk.shown.value.rows ≡ []) × (writer.desk.shown.value.seen ≡ []) }
     ensures shown { result.0.desk.shown.value ≡ writer.desk.shown.value }
     ensures ready { drop result.0.behind result.0.log.items ≡ [] }
     ensures knows { result.1 ≡ true

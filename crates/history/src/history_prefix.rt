@@ -1,6 +1,6 @@
 //! Prefixes of the history that were seen, by whoever saw them.
 
-ghost use Rattle.std.specs.Prelude.{◌≡◌, ◌+◌, ◌<◌, ◌≤◌, ◌^◌, ◌++◌, ◌∷◌, [], length, true, MatchBool};
+ghost use Rattle.std.specs.Prelude.{◌≡◌, ◌+◌, ◌<◌, ◌^◌, ◌++◌, ◌∷◌, [], length, true, MatchBool};
 ghost use mathlib.Core.List.{IsPrefix};
 ghost use Rattle.history.specs.HistoryPrefixes.{head_of, IsLonger};
 

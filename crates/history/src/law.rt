@@ -6,6 +6,7 @@ use atomic_table::{Join, Split};
 use crossbeam_utils::rule::{Outcome, Protocol};
 use left_right::reader::Reader;
 use left_right::writer::Writer;
+use schedule::Core;
 use std::collections::LinkedList;
 use std::mem::ManuallyDrop;
 use std::sync::Wait;
@@ -27,9 +28,9 @@ pub struct Name {
 
 /// What a snapshot shows. No value of it is made.
 pub struct Shown {
-    /// The rows whose events its core has taken.
-    pub rows: LinkedList<Row>,
-    /// The rows of the history that were published with it.
+    /// Its core.
+    pub core: Core,
+    /// The rows of the history that were published with it, whose events the core has taken.
     pub seen: LinkedList<Row>,
     /// What it is a snapshot of.
     pub name: Name,
@@ -43,8 +44,8 @@ pub struct View {
     pub name: Name,
 }
 
-/// The rule: the core has taken the events of the rows that were published with it, which are a legal
-/// history, and who knows a name knows that of the snapshot.
+/// The rule: the rows that were published are a legal history, and who knows a name knows that of the
+/// snapshot.
 pub struct Law;
 
 impl Protocol<Snapshot, View> for Law {

@@ -5,8 +5,8 @@
 //! which have no bytes: the [`Log`] lies under the lock, and each caller has a claim.
 //!
 //! A [`Snapshot`] is a core that has taken the events of all rows up to a moment, with these rows. Its
-//! writer, an [`End`], publishes each row behind the others, and each sweep; a reader looks at what is
-//! published and waits for nobody.
+//! writer, an [`End`], publishes one after another; a reader looks at what is published and waits for
+//! nobody.
 #![tactic(auto)]
 
 mod caller;
@@ -19,10 +19,10 @@ mod row;
 mod snapshot;
 
 pub use caller::Caller;
-pub use ends::{begin, computed, look, need, publish, reader_of, sweep};
+pub use ends::{begin, look, need, publish, reader_of, settle};
 pub use front_id::{FrontId, StopCount};
 pub use history_prefix::{EmptyHistory, HistoryLength, HistoryPrefix, Lengths};
 pub use law::{End, Law, Looks, Name, Shown, SnapshotReader, SnapshotWriter, Tells, View};
 pub use log::{Claim, FrontTokens, Log, LogTable};
 pub use row::{Row, is_unrecorded};
-pub use snapshot::{NewRow, Operation, Snapshot};
+pub use snapshot::{Operation, Snapshot};

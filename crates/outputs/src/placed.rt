@@ -8,7 +8,7 @@ ghost use Rattle.model.specs.declared.refusal.Refusal.TheVariants.{Memory};
 use hashmod::nar_digest;
 use model::Refusal;
 use nar::Tree;
-use std::alloc::{AllocError, Global};
+use std::alloc::Global;
 use storepath::{Kind, Name, StorePath, make_path};
 
 /// The path of a source. Its tree is hashed as it is, and its archive is never made.
@@ -39,16 +39,6 @@ impl Placed {
         let path = path_of_source(alloc, name, tree)?;
         let tree = tree.clone()?;
         let name = name.clone()?;
-        Ok(Placed { tree, name, path })
-    }
-
-    /// A copy. It shares what is large.
-    pub(crate) fn again(&self) -> Result<Placed, AllocError>
-        ensures { IfOk result (λ copy. copy ≡ self.now) }
-    {
-        let tree = self.tree.clone()?;
-        let name = self.name.clone()?;
-        let path = self.path.clone()?;
         Ok(Placed { tree, name, path })
     }
 

@@ -57,21 +57,6 @@ impl Settlement {
         })
     }
 
-    /// A copy. It shares what is large.
-    pub(crate) fn again(&self, alloc: Global) -> Result<Settlement, AllocError>
-        ensures input { IfOk result (λ copy. IsSameInput copy.input self.now.input) }
-        ensures tree { IfOk result (λ copy. copy.tree ≡ self.now.tree) }
-    {
-        let input = self.input.again(alloc)?;
-        let tree = self.tree.clone()?;
-        let outcome = copy_of(&self.outcome)?;
-        Ok(Settlement {
-            input,
-            tree,
-            outcome,
-        })
-    }
-
     /// What came of it.
     pub(crate) fn outcome(&self) -> &Result<Output, Refusal>
         ensures { result.now ≡ self.now.outcome }

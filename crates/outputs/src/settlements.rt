@@ -20,7 +20,7 @@ use crate::settlement::{Settlement, copy_of};
 use aterm::Derivation;
 use model::Refusal;
 use nar::Tree;
-use std::alloc::{AllocError, Global};
+use std::alloc::Global;
 use storepath::StorePath;
 
 /// What came of a tree that was settled by an input, if it is among these.
@@ -66,20 +66,6 @@ impl Settlements {
             settled: Vec::new(alloc),
             computed: 0,
         }
-    }
-
-    /// A copy, of which none counts as settled since. It shares what is large. The one error is memory.
-    pub fn again(&self, alloc: Global) -> Result<Settlements, AllocError>
-        ensures { IfOk result (λ copy. copy.computed ≡ 0) }
-    {
-        let mut settled = Vec::with_capacity(alloc, self.settled.len())?;
-        for one in &self.settled {
-            settled.push(one.again(alloc)?)?;
-        }
-        Ok(Settlements {
-            settled,
-            computed: 0,
-        })
     }
 
     /// How many trees had to be settled; at the greatest number it stays there.

@@ -10,7 +10,7 @@ ghost use Rattle.classes.specs.Admitting.{one_more};
 use crate::placed::Placed;
 use model::Refusal;
 use nar::Tree;
-use std::alloc::{AllocError, Global};
+use std::alloc::Global;
 use storepath::{Name, StorePath};
 
 /// The path of a tree under a name, if it is among these.
@@ -52,21 +52,6 @@ impl Sources {
             placed: Vec::new(alloc),
             computed: 0,
         }
-    }
-
-    /// A copy, of which none counts as made since. It shares what is large. The one error is memory.
-    pub fn again(&self, alloc: Global) -> Result<Sources, AllocError>
-        ensures placed { IfOk result (λ copy. copy.placed.items ≡ self.now.placed.items) }
-        ensures computed { IfOk result (λ copy. copy.computed ≡ 0) }
-    {
-        let mut placed = Vec::with_capacity(alloc, self.placed.len())?;
-        for one in &self.placed {
-            placed.push(one.again()?)?;
-        }
-        Ok(Sources {
-            placed,
-            computed: 0,
-        })
     }
 
     /// How many paths had to be made; at the greatest number it stays there.

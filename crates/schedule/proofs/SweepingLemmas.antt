@@ -157,7 +157,7 @@ module _ (old : List Source) (test : List ℕ → Bool) where
 -- ---- a core
 
 -- a test that answers alike keeps the same
-kept_same : (f g : List ℕ → Bool) → ((p : List ℕ) → f p ≡ g p) → (sources : List Source) → kept_at f sources ≡ kept_at g sources
+pub kept_same : (f g : List ℕ → Bool) → ((p : List ℕ) → f p ≡ g p) → (sources : List Source) → kept_at f sources ≡ kept_at g sources
 kept_same f g same [] = refl
 kept_same f g same (s ∷ sources) = elim (either (g s.path)) [
   | inl t ↦ rw (same s.path, t) (ap (λ l. s ∷ l) (kept_same f g same sources))

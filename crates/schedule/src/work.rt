@@ -5,7 +5,7 @@ ghost use Rattle.std.specs.Prelude.{◌≡◌};
 use classes::Admissions;
 use outputs::{Settlements, Sources};
 use repair::Cache;
-use std::alloc::{AllocError, Global};
+use std::alloc::Global;
 
 /// What a step is done with: paths of sources, admitted derivations, settled trees and repaired records that
 /// were made before. Each names all that it was made of, and is used only where that is at hand; else the step
@@ -63,23 +63,6 @@ impl Ready {
         ensures { result.work ≡ work }
     {
         Ready { work }
-    }
-
-    /// A copy of the paths of sources, of the admitted derivations and of the settled trees. It shares what is
-    /// large.
-    ///
-    /// # Errors
-    ///
-    /// - `AllocError` only where memory was refused.
-    pub fn again(&self, alloc: Global) -> Result<Ready, AllocError> {
-        Ok(Ready {
-            work: Work {
-                sources: self.work.sources.again(alloc)?,
-                admissions: self.work.admissions.again(alloc)?,
-                settlements: self.work.settlements.again(alloc)?,
-                cache: Cache::none(alloc),
-            },
-        })
     }
 
     /// The values.

@@ -31,7 +31,7 @@ impl session::Answer for Prepared {
     }
 }
 
-/// A core, and another one that takes each event after it, with a copy of the values that the first one made.
+/// A core, and another one that takes each event after it, with the values that the first one made.
 #[derive(Drop)]
 struct Followers {
     core: Core,
@@ -44,8 +44,7 @@ impl Followers {
         let mut ready = Ready::none(alloc);
         let copy = event.clone()?;
         let _same = self.core.step_ready_with_copy(alloc, copy, &mut ready);
-        let values = ready.again(alloc)?;
-        Ok(self.behind.step_ready(alloc, event, values))
+        Ok(self.behind.step_ready(alloc, event, ready))
     }
 }
 

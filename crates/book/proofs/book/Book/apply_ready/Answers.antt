@@ -1,19 +1,21 @@
-use Rattle.std.proofs.Common.{◌≡◌, Bool, true, false, true≢false, List, [], ◌∷◌, ◌++◌, length, map, refl, ap, sym, ◌∙◌, subst, arith}
+use Rattle.std.proofs.Common.{◌≡◌, ℕ, Bool, true, false, true≢false, List, [], ◌∷◌, ◌++◌, length, map, refl, ap, sym, ◌∙◌, subst, arith}
 use Rattle.std.proofs.lemmas.List.{length_push, map_push}
 use Rattle.std.specs.Arc.{arc_value}
 use Rattle.model.specs.declared.refusal.Refusal.{Refusal}
 use Rattle.model.specs.declared.refusal.Refusal.TheVariants.{Memory, Stopped}
+use Rattle.events.specs.declared.event.Event.{Event}
 use Rattle.events.specs.declared.reply.Reply.{Reply}
 use Rattle.events.specs.declared.reply.Reply.TheVariants.{Refused}
 use Rattle.schedule.specs.declared.state.Core.{Core}
 use Rattle.schedule.specs.Standing.{world_of, setup_of, stored_in, IsUnchanged}
+use Rattle.model.specs.Worlds.{Setup}
 use Rattle.history.specs.declared.row.Row.{Row}
 use Rattle.history.specs.declared.log.Recorded.{Recorded}
 use Rattle.history.specs.Callers.{Caller, answered, stops_of, Matches}
 use Rattle.history.specs.Histories.{row, unrecorded, IsLegal}
 use Rattle.book.specs.Publishing.{Published}
 use Rattle.book.specs.Keeping.{Contents, Kept, Steps, IsModelReply, TookEvent}
-use Rattle.book.proofs.KeepingLemmas.{goes_on, stops, stays, replied, is_legal, sure_of_all}
+use Rattle.book.proofs.KeepingLemmas.{goes_on, stops, replied, is_legal, sure_of_all}
 use Rattle.book.proofs.book.Book.apply_ready.Given.{Over}
 use Rattle.book.proofs.book.Book.apply_ready.Goals.{After-audit-2}
 use Rattle.book.proofs.book.Book.apply_ready.Goals as goal
@@ -32,7 +34,11 @@ not_both reply memory stopped = cc
 is_unchanged : (old new : Core) → new ≡ old → IsUnchanged old new
 is_unchanged old new same = record { setup = ap setup_of same; world = ap world_of same; stored = ap stored_in same }
 
-core_then : (g : Over) (c : After-audit-2 g) → c.self.inside.core ≡ c.args.self.now.core
+-- a core that is the very same is kept
+kept_same : (setup : Setup) (old new : Core) (stopped : Bool) (rows : List Row) → Kept setup old stopped rows → new ≡ old → Kept setup new stopped rows
+kept_same setup old new stopped rows kept same = subst (λ (core : Core). Kept setup core stopped rows) (sym same) kept
+
+core_then : (g : Over) (c : After-audit-2 g) → c.self.inside.cores ≡ c.args.self.now.core
 core_then g c = ap (λ (b : Contents). b.core) c.self.view_is
 
 rows_then : (g : Over) (c : After-audit-2 g) → map arc_value c.self.inside.history.items ≡ c.args.self.now.rows
@@ -60,7 +66,7 @@ stop_counted g c one = c.audit-2.ensures.whole (c.requires.part ∙ sym one) ∙
 legal_then : (g : Over) (c : After-audit-2 g) → IsLegal g.J.FrontId.setup (map arc_value c.self.inside.history.items)
 legal_then g c =
     let inside = c.self.inside in
-    is_legal g.J.FrontId.setup inside.core inside.stopped (map arc_value inside.history.items) c.self.invariant.0 c.isolation.ensures c.timed_isolation.ensures
+    is_legal g.J.FrontId.setup inside.cores inside.stopped (map arc_value inside.history.items) c.self.invariant.0 c.isolation.ensures c.timed_isolation.ensures
 
 -- ---- where the book was stopped before
 
@@ -111,15 +117,15 @@ pass_then g c going = c.audit.ensures.same.0 ∙ c.compare.ensures.going (c.self
 pub invariant_of-self-in_default : goal.invariant_of-self-in_default
 invariant_of-self-in_default g c =
     let old = c.self.inside in (
-      rw c.hold.ensures.rows
-          (stays g.J.FrontId.setup old.core c.empty_cache.new.self old.stopped (map arc_value old.history.items) c.self.invariant.0 c.empty_cache.ensures),
-      ap (λ rows. length (map arc_value rows)) c.hold.ensures.rows ∙ (c.self.invariant.1 ∙ sym c.audit.ensures.same.1),
+      rw c.draft.ensures.rows
+          (kept_same g.J.FrontId.setup old.cores c.empty_cache.new.self old.stopped (map arc_value old.history.items) c.self.invariant.0 c.empty_cache.ensures),
+      ap (λ rows. length (map arc_value rows)) c.draft.ensures.rows ∙ (c.self.invariant.1 ∙ sym c.audit.ensures.same.1),
       c.self.invariant.2,
       c.self.invariant.3,
-      ap (λ (log : Recorded). log.rows) c.compare.ensures.same ∙ (c.self.invariant.4 ∙ sym (ap (map arc_value) c.hold.ensures.rows)),
+      ap (λ (log : Recorded). log.rows) c.compare.ensures.same ∙ (c.self.invariant.4 ∙ sym (ap (map arc_value) c.draft.ensures.rows)),
       ap (λ (log : Recorded). log.stopped) c.compare.ensures.same ∙ c.self.invariant.5,
-      c.self.invariant.6 ∙ sym (ap (map arc_value) c.hold.ensures.rows),
-      c.self.invariant.7,
+      c.self.invariant.6 ∙ sym (ap (map arc_value) c.draft.ensures.rows),
+      λ going whole. c.self.invariant.7 going whole ∙ sym c.empty_cache.ensures,
       c.audit-2.ensures.total ∙ c.self.invariant.8,
       c.self.invariant.9,
       c.self.invariant.10,
@@ -138,9 +144,9 @@ returns-in_default g c =
         counted = λ some. absurd (none some);
         matches = matching g then;
         alone = only_pass g then;
-        no_row = λ _. ap (map arc_value) c.hold.ensures.rows ∙ rows_then g then;
+        no_row = λ _. ap (map arc_value) c.draft.ensures.rows ∙ rows_then g then;
         memory = λ _. pass_then g then c.if-stopped.false;
-        unchanged = λ _ _. subst (λ (core : Core). IsUnchanged core c.empty_cache.new.self) (core_then g then) c.empty_cache.ensures;
+        unchanged = λ _ _. is_unchanged _ _ (c.empty_cache.ensures ∙ core_then g then);
         stopped = λ stopped. absurd (goes stopped);
         stays = λ stopped. absurd (goes stopped);
         only_then = λ stopped. absurd (not_both _ c.refuse-in_default.ensures stopped);
@@ -150,7 +156,7 @@ returns-in_default g c =
         counted_stop = λ stops. absurd (not_true c.if-stopped.false stops.1);
         no_stop = λ _. c.audit-2.ensures.amount;
         stops_alone = stop_counted g then;
-        legal = rw c.hold.ensures.rows (legal_then g then);
+        legal = rw c.draft.ensures.rows (legal_then g then);
       };
       part = c.audit-2.ensures.parts ∙ c.requires.part;
     }
@@ -160,15 +166,17 @@ returns-in_default g c =
 pub invariant_of-self-in-Err : goal.invariant_of-self-in-Err
 invariant_of-self-in-Err g c =
     let old = c.self.inside in (
-      rw c.hold.ensures.rows
-          (stays g.J.FrontId.setup old.core c.step.new.core old.stopped (map arc_value old.history.items) c.self.invariant.0 c.in-Err.ensures.refused),
-      ap (λ rows. length (map arc_value rows)) c.hold.ensures.rows ∙ (c.self.invariant.1 ∙ sym c.audit.ensures.same.1),
+      rw c.draft.ensures.rows
+          (kept_same g.J.FrontId.setup old.cores c.step.new.cores old.stopped (map arc_value old.history.items) c.self.invariant.0 c.in-Err.ensures.refused),
+      ap (λ rows. length (map arc_value rows)) c.draft.ensures.rows ∙ (c.self.invariant.1 ∙ sym c.audit.ensures.same.1),
       c.self.invariant.2,
       c.self.invariant.3,
-      ap (λ (log : Recorded). log.rows) c.compare.ensures.same ∙ (c.self.invariant.4 ∙ sym (ap (map arc_value) c.hold.ensures.rows)),
+      ap (λ (log : Recorded). log.rows) c.compare.ensures.same ∙ (c.self.invariant.4 ∙ sym (ap (map arc_value) c.draft.ensures.rows)),
       ap (λ (log : Recorded). log.stopped) c.compare.ensures.same ∙ c.self.invariant.5,
-      ap (λ (publisher : Published). publisher.rows) c.in-Err.ensures.kept ∙ (c.self.invariant.6 ∙ sym (ap (map arc_value) c.hold.ensures.rows)),
-      λ going. ap (λ (publisher : Published). publisher.whole) c.in-Err.ensures.kept ∙ c.self.invariant.7 going,
+      ap (λ (publisher : Published). publisher.rows) c.in-Err.ensures.kept ∙ (c.self.invariant.6 ∙ sym (ap (map arc_value) c.draft.ensures.rows)),
+      λ going whole.
+          ap (λ (publisher : Published). publisher.core) c.in-Err.ensures.kept
+          ∙ (c.self.invariant.7 going (sym (ap (λ (publisher : Published). publisher.whole) c.in-Err.ensures.kept) ∙ whole) ∙ sym c.in-Err.ensures.refused),
       c.audit-2.ensures.total ∙ c.self.invariant.8,
       c.self.invariant.9,
       c.self.invariant.10,
@@ -188,9 +196,9 @@ returns-in-Err g c =
         counted = λ some. absurd (none some);
         matches = matching g then;
         alone = only_pass g then;
-        no_row = λ _. ap (map arc_value) c.hold.ensures.rows ∙ rows_then g then;
+        no_row = λ _. ap (map arc_value) c.draft.ensures.rows ∙ rows_then g then;
         memory = λ _. pass_then g then c.if-stopped.false;
-        unchanged = λ _ _. subst (λ (core : Core). IsUnchanged core c.step.new.core) (core_then g then) c.in-Err.ensures.refused;
+        unchanged = λ _ _. is_unchanged _ _ (c.in-Err.ensures.refused ∙ core_then g then);
         stopped = λ stopped. absurd (goes stopped);
         stays = λ stopped. absurd (goes stopped);
         only_then = λ stopped. absurd (not_both _ memory stopped);
@@ -200,7 +208,7 @@ returns-in-Err g c =
         counted_stop = λ stops. absurd (not_true c.if-stopped.false stops.1);
         no_stop = λ _. c.audit-2.ensures.amount;
         stops_alone = stop_counted g then;
-        legal = rw c.hold.ensures.rows (legal_then g then);
+        legal = rw c.draft.ensures.rows (legal_then g then);
       };
       part = c.audit-2.ensures.parts ∙ c.requires.part;
     }
@@ -210,15 +218,15 @@ returns-in-Err g c =
 pub invariant_of-self-in_default-answered : goal.invariant_of-self-in_default-answered
 invariant_of-self-in_default-answered g c =
     let old = c.self.inside in (
-      rw c.hold.ensures.rows
-          (stops g.J.FrontId.setup old.core c.step.new.core old.stopped (map arc_value old.history.items) c.self.invariant.0 c.step.ensures.given),
-      ap (λ rows. length (map arc_value rows)) c.hold.ensures.rows ∙ (c.self.invariant.1 ∙ sym c.audit.ensures.same.1),
+      rw c.draft.ensures.rows
+          (stops g.J.FrontId.setup old.cores c.step.new.cores old.stopped (map arc_value old.history.items) c.self.invariant.0 c.step.ensures.given),
+      ap (λ rows. length (map arc_value rows)) c.draft.ensures.rows ∙ (c.self.invariant.1 ∙ sym c.audit.ensures.same.1),
       c.self.invariant.2,
       c.self.invariant.3,
       ap (λ (log : Recorded). log.rows) c.stop.ensures
-          ∙ (ap (λ (log : Recorded). log.rows) c.compare.ensures.same ∙ (c.self.invariant.4 ∙ sym (ap (map arc_value) c.hold.ensures.rows))),
+          ∙ (ap (λ (log : Recorded). log.rows) c.compare.ensures.same ∙ (c.self.invariant.4 ∙ sym (ap (map arc_value) c.draft.ensures.rows))),
       ap (λ (log : Recorded). log.stopped) c.stop.ensures,
-      (rw c.in_default-answered.is at c.in-Ok-step.ensures.not_shown) ∙ (c.self.invariant.6 ∙ sym (ap (map arc_value) c.hold.ensures.rows)),
+      (rw c.in_default-answered.is at c.in-Ok-step.ensures.not_shown) ∙ (c.self.invariant.6 ∙ sym (ap (map arc_value) c.draft.ensures.rows)),
       λ going. absurd (true≢false going),
       omega (arith, c.add.ensures.total, c.audit-2.ensures.total, rw c.if-stopped.false at c.self.invariant.8),
       c.self.invariant.9,
@@ -228,7 +236,7 @@ invariant_of-self-in_default-answered g c =
 pub returns-in_default-answered : goal.returns-in_default-answered
 returns-in_default-answered g c =
     let then = (goal.at.returns-in_default-answered g c).After-audit-2 in
-    let taken : TookEvent c.self.inside.core c.args.event c.step.new.core = rw c.in_default-answered.is at c.in-Ok-step.ensures.lost in
+    let taken : TookEvent c.self.inside.cores c.args.event c.step.new.cores = rw c.in_default-answered.is at c.in-Ok-step.ensures.lost in
     let goes : c.args.self.now.stopped ≡ true → ⊥ = not_stopped g then c.if-stopped.false in
     record {
       applied = record {
@@ -238,7 +246,7 @@ returns-in_default-answered g c =
         counted = λ some. absurd (true≢false some);
         matches = matching g then;
         alone = only_pass g then;
-        no_row = λ _. ap (map arc_value) c.hold.ensures.rows ∙ rows_then g then;
+        no_row = λ _. ap (map arc_value) c.draft.ensures.rows ∙ rows_then g then;
         memory = λ _. pass_then g then c.if-stopped.false;
         unchanged = λ _ same. absurd (goes (sym same));
         stopped = λ stopped. absurd (goes stopped);
@@ -246,48 +254,55 @@ returns-in_default-answered g c =
         only_then = λ stopped. absurd (not_both _ refl stopped);
         told = λ stopped. absurd (not_both _ refl stopped);
         stops = λ _. refl;
-        taken = λ _. subst (λ (core : Core). TookEvent core c.args.event c.step.new.core) (core_then g then) taken;
+        taken = λ _. subst (λ (core : Core). TookEvent core c.args.event c.step.new.cores) (core_then g then) taken;
         counted_stop = λ _. omega (arith, c.add.ensures.amount, c.audit-2.ensures.amount);
         no_stop = λ other. absurd (other refl);
         stops_alone = stop_counted g then;
-        legal = rw c.hold.ensures.rows (legal_then g then);
+        legal = rw c.draft.ensures.rows (legal_then g then);
       };
       part = c.add.ensures.parts ∙ (c.audit-2.ensures.parts ∙ c.requires.part);
     }
 
 -- ---- where the call has a row
 
+-- the row of an event that was drafted
+drafted : (draft found : Row) (number : ℕ) (event : Event) (reply : Reply) → draft ≡ row number event (Refused Memory) → found ≡ row draft.pass event reply
+    → found ≡ row number event reply
+drafted draft found number event reply is was = was ∙ ap (λ (r : Row). row r.pass event reply) is
+
 pub add_row-requires : goal.add_row-requires
 add_row-requires g c =
     let then = (goal.at.add_row-requires g c).After-audit-2 in
-    let last : arc_value c.in-Some.row ≡ row c.number-number.result c.args.event c.in-Some.reply = rw c.in-Some.is at c.in-Ok-step.ensures.row in
+    let last : arc_value c.in-Some.row ≡ row c.number.result c.args.event c.in-Some.reply =
+    drafted (arc_value c.in-Ok.draft) (arc_value c.in-Some.row) c.number.result c.args.event c.in-Some.reply c.in-Ok.ensures.row (rw c.in-Some.is at c.in-Ok-step.ensures.row) in
     let log : c.compare.new.log ≡ c.self.inside.log = c.compare.ensures.same in
     let pass : c.audit.new.self ≡ c.args.pass.now = pass_then g then c.if-stopped.false in
     let rows : length c.compare.new.log.rows ≡ c.self.inside.calls.total =
     ap (λ (l : Recorded). length l.rows) log ∙ (ap (λ (rows : List Row). length rows) c.self.invariant.4 ∙ c.self.invariant.1) in
     record {
-      mine = ap (λ (r : Row). r.pass) (c.deref.ensures ∙ last) ∙ c.number-number.ensures;
+      mine = ap (λ (r : Row). r.pass) (c.deref.ensures ∙ last) ∙ c.number.ensures;
       matches = subst (λ (x : Recorded × Caller). Matches x.0.rows x.0.stopped x.1) (λ i. (sym log i, sym pass i)) c.compare.ensures.matches;
       alone = λ one. rows ∙ (sym (c.audit.ensures.alone one).1 ∙ ap (λ (p : Caller). p.calls) (sym c.audit.ensures.same.0));
     }
 
-going : (g : Over) (c : goal.After-push g) → Kept g.J.FrontId.setup c.self.inside.core false (map arc_value c.self.inside.history.items)
+going : (g : Over) (c : goal.After-push g) → Kept g.J.FrontId.setup c.self.inside.cores false (map arc_value c.self.inside.history.items)
 going g c = rw c.if-stopped.false at c.self.invariant.0
 
-last_row : (g : Over) (c : goal.After-push g) → arc_value c.in-Some.row ≡ row c.number-number.result c.args.event c.in-Some.reply
-last_row g c = rw c.in-Some.is at c.in-Ok-step.ensures.row
+last_row : (g : Over) (c : goal.After-push g) → arc_value c.in-Some.row ≡ row c.number.result c.args.event c.in-Some.reply
+last_row g c =
+    drafted (arc_value c.in-Ok.draft) (arc_value c.in-Some.row) c.number.result c.args.event c.in-Some.reply c.in-Ok.ensures.row (rw c.in-Some.is at c.in-Ok-step.ensures.row)
 
 some_row : (g : Over) (c : goal.After-push g) → unrecorded (arc_value c.in-Some.row).reply ≡ false
 some_row g c = subst (λ (r : Row). unrecorded r.reply ≡ false) (sym (last_row g c)) (rw c.in-Some.is at c.in-Ok-step.ensures.some)
 
-step_of : (g : Over) (c : goal.After-push g) → Steps c.self.inside.core (arc_value c.in-Some.row).event (arc_value c.in-Some.row).reply c.step.new.core
-step_of g c = subst (λ (r : Row). Steps c.self.inside.core r.event r.reply c.step.new.core) (sym (last_row g c)) (rw c.in-Some.is at c.in-Ok-step.ensures.step)
+step_of : (g : Over) (c : goal.After-push g) → Steps c.self.inside.cores (arc_value c.in-Some.row).event (arc_value c.in-Some.row).reply c.step.new.cores
+step_of g c = subst (λ (r : Row). Steps c.self.inside.cores r.event r.reply c.step.new.cores) (sym (last_row g c)) (rw c.in-Some.is at c.in-Ok-step.ensures.step)
 
 rows_now : (g : Over) (c : goal.After-push g)
     → map arc_value c.push.new.history.items ≡ map arc_value c.self.inside.history.items ++ arc_value c.in-Some.row ∷ []
 rows_now g c =
     ap (map arc_value) c.push.ensures
-    ∙ (map_push arc_value c.hold.new.history.items c.in-Some.row ∙ ap (λ rows. map arc_value rows ++ arc_value c.in-Some.row ∷ []) c.hold.ensures.rows)
+    ∙ (map_push arc_value c.draft.new.history.items c.in-Some.row ∙ ap (λ rows. map arc_value rows ++ arc_value c.in-Some.row ∷ []) c.draft.ensures.rows)
 
 -- and what is recorded then
 recorded_now : (g : Over) (c : goal.After-push g) → c.compare.new.log.rows ++ c.deref.result.now ∷ [] ≡ map arc_value c.push.new.history.items
@@ -296,21 +311,19 @@ recorded_now g c =
     (λ i. log i ++ c.deref.ensures i ∷ []) ∙ sym (rows_now g c)
 
 kept_now : (g : Over) (c : goal.After-push g)
-    → Kept g.J.FrontId.setup c.step.new.core false (map arc_value c.self.inside.history.items ++ arc_value c.in-Some.row ∷ [])
+    → Kept g.J.FrontId.setup c.step.new.cores false (map arc_value c.self.inside.history.items ++ arc_value c.in-Some.row ∷ [])
 kept_now g c =
-    goes_on g.J.FrontId.setup c.self.inside.core c.step.new.core (map arc_value c.self.inside.history.items) (arc_value c.in-Some.row)
+    goes_on g.J.FrontId.setup c.self.inside.cores c.step.new.cores (map arc_value c.self.inside.history.items) (arc_value c.in-Some.row)
     (going g c) (some_row g c) (step_of g c)
 
 shown_now : (g : Over) (c : goal.After-push g)
-    → c.step.new.publisher ≡ record { rows = c.self.inside.publisher.rows ++ arc_value c.in-Some.row ∷ []; whole = true }
+    → c.step.new.publisher
+    ≡ record { core = c.step.new.cores; rows = c.self.inside.publisher.rows ++ arc_value c.in-Some.row ∷ []; whole = true }
 shown_now g c = rw c.in-Some.is at c.in-Ok-step.ensures.shown
-
-pub step-requires-clause-whole : goal.step-requires-clause-whole
-step-requires-clause-whole g c = c.self.invariant.7 c.if-stopped.false
 
 pub step-requires-clause-kept : goal.step-requires-clause-kept
 step-requires-clause-kept g c =
-    subst (λ (rows : List Row). Kept g.J.FrontId.setup c.self.inside.core false rows) (sym c.self.invariant.6) (rw c.if-stopped.false at c.self.invariant.0)
+    subst (λ (rows : List Row). Kept g.J.FrontId.setup c.self.inside.cores false rows) (sym c.self.invariant.6) (rw c.if-stopped.false at c.self.invariant.0)
 
 pub invariant_of-self-2 : goal.invariant_of-self-2
 invariant_of-self-2 g c =
@@ -324,7 +337,7 @@ invariant_of-self-2 g c =
       ap (λ (l : Recorded). l.rows) c.add_row.ensures.log ∙ recorded_now g c,
       ap (λ (l : Recorded). l.stopped) c.add_row.ensures.log ∙ (ap (λ (l : Recorded). l.stopped) c.compare.ensures.same ∙ c.self.invariant.5),
       ap (λ (publisher : Published). publisher.rows) (shown_now g c) ∙ (ap (λ (rows : List Row). rows ++ r ∷ []) c.self.invariant.6 ∙ sym (rows_now g c)),
-      λ _. ap (λ (publisher : Published). publisher.whole) (shown_now g c),
+      λ _ _. ap (λ (publisher : Published). publisher.core) (shown_now g c),
       c.audit-2.ensures.total ∙ c.self.invariant.8,
       c.self.invariant.9,
       c.self.invariant.10,
@@ -336,17 +349,17 @@ returns g c =
     let old = c.self.inside in
     let some : unrecorded c.in-Some.reply ≡ false = rw c.in-Some.is at c.in-Ok-step.ensures.some in
     let none : unrecorded c.in-Some.reply ≡ true → ⊥ = not_true some in
-    let stepped : Steps old.core c.args.event c.in-Some.reply c.step.new.core = rw c.in-Some.is at c.in-Ok-step.ensures.step in
+    let stepped : Steps old.cores c.args.event c.in-Some.reply c.step.new.cores = rw c.in-Some.is at c.in-Ok-step.ensures.step in
     let goes : c.args.self.now.stopped ≡ true → ⊥ = not_stopped g then c.if-stopped.false in
     let pass : c.audit.new.self ≡ c.args.pass.now = pass_then g then c.if-stopped.false in
-    let number : c.number-number.result ≡ c.args.pass.now.number = c.number-number.ensures ∙ ap (λ (p : Caller). p.number) pass in
+    let number : c.number.result ≡ c.args.pass.now.number = c.number.ensures ∙ ap (λ (p : Caller). p.number) pass in
     record {
       applied = record {
         row = λ _. rows_now g c ∙ (λ i. rows_then g then i ++ (last_row g c ∙ ap (λ n. row n c.args.event c.in-Some.reply) number) i ∷ []);
-        step = λ _. subst (λ (core : Core). Steps core c.args.event c.in-Some.reply c.step.new.core) (core_then g then) stepped;
+        step = λ _. subst (λ (core : Core). Steps core c.args.event c.in-Some.reply c.step.new.cores) (core_then g then) stepped;
         reply = λ _.
             subst (λ (x : List Row × Row). IsModelReply g.J.FrontId.setup x.0 x.1.event x.1.reply) (λ i. (rows_then g then i, last_row g c i))
-            (replied g.J.FrontId.setup old.core c.step.new.core (map arc_value old.history.items) (arc_value c.in-Some.row)
+            (replied g.J.FrontId.setup old.cores c.step.new.cores (map arc_value old.history.items) (arc_value c.in-Some.row)
             (going g c) (some_row g c) (step_of g c));
         counted = λ _. c.add_row.ensures.pass ∙ (λ i. answered (pass i) (recorded_now g c i));
         matches = matching g then;
@@ -363,7 +376,7 @@ returns g c =
         counted_stop = λ stops. absurd (not_true c.if-stopped.false stops.1);
         no_stop = λ _. c.audit-2.ensures.amount;
         stops_alone = stop_counted g then;
-        legal = rw (rows_now g c) (is_legal g.J.FrontId.setup c.step.new.core false _ (kept_now g c) c.isolation.ensures c.timed_isolation.ensures);
+        legal = rw (rows_now g c) (is_legal g.J.FrontId.setup c.step.new.cores false _ (kept_now g c) c.isolation.ensures c.timed_isolation.ensures);
       };
       part = c.audit-2.ensures.parts ∙ c.requires.part;
     }

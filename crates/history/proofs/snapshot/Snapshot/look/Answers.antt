@@ -1,8 +1,14 @@
-use Rattle.std.proofs.Common.{map}
-use Rattle.std.specs.Arc.{arc_value}
+use Rattle.std.proofs.Common.{sym, ap, subst}
+use Rattle.schedule.specs.declared.state.Core.{Core}
+use Rattle.schedule.specs.Standing.{setup_of}
 use Rattle.schedule.specs.Queries.{event_for}
+use Rattle.history.specs.Following.{Follows, FindsRead}
 use Rattle.history.proofs.FollowLemmas.{finds}
 use Rattle.history.proofs.snapshot.Snapshot.look.Goals as goal
 
 pub returns : goal.returns
-returns c = rw (← c.self.view_is) (finds c.self.inside.core (map arc_value c.self.inside.rows.items) (event_for c.args.query.now) c.look.result c.self.invariant c.look.ensures)
+returns c =
+    let rows = c.self.inside.seen.seen.log in
+    rw (← c.self.view_is) (subst (λ setup. FindsRead setup rows (event_for c.args.query.now) c.look.result) (ap setup_of c.deref.ensures)
+    (finds c.deref.result.now rows (event_for c.args.query.now) c.look.result
+    (subst (λ (core : Core). Follows (setup_of core) core rows) (sym c.deref.ensures) c.self.invariant) c.look.ensures))

@@ -1,10 +1,16 @@
-use Rattle.std.proofs.Common.{map}
-use Rattle.std.specs.Arc.{arc_value}
+use Rattle.std.proofs.Common.{sym, ap, subst}
+use Rattle.std.specs.Prelude.{IfOk}
+use Rattle.schedule.specs.declared.state.Core.{Core}
+use Rattle.schedule.specs.Standing.{setup_of}
 use Rattle.events.specs.Terms.{event_of}
+use Rattle.history.specs.Following.{Follows, IsNeedAfter}
 use Rattle.history.proofs.FollowLemmas.{needs}
 use Rattle.history.proofs.snapshot.Snapshot.need.Goals as goal
 
 pub returns-clause-need : goal.returns-clause-need
 returns-clause-need c =
-    let inside = c.self.inside in
-    rw (← c.self.view_is) (needs inside.core (map arc_value inside.rows.items) (event_of c.args.preparation.event.now) c.need.result c.self.invariant c.need.ensures.need)
+    let rows = c.self.inside.seen.seen.log in
+    let event = event_of c.args.preparation.event.now in
+    rw (← c.self.view_is) (subst (λ setup. IfOk c.need.result (IsNeedAfter setup rows event)) (ap setup_of c.deref.ensures)
+    (needs c.deref.result.now rows event c.need.result
+    (subst (λ (core : Core). Follows (setup_of core) core rows) (sym c.deref.ensures) c.self.invariant) c.need.ensures.need))

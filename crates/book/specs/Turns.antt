@@ -1,0 +1,36 @@
+-- What one core lacks of another.
+use Rattle.std.specs.Prelude.{◌≡◌}
+use Rattle.std.specs.Arc.{arc_value}
+use Rattle.model.specs.Events.{Event}
+use Rattle.model.specs.Steps.{after}
+use Rattle.store.specs.Stored.{kept_at}
+use Rattle.handlers.specs.Parts.{stored_after}
+use Rattle.schedule.specs.declared.state.Core.{Core}
+use Rattle.schedule.specs.Standing.{world_of, setup_of, stored_in, IsUnchanged}
+use Rattle.schedule.specs.Sweeping.{is_held}
+use Rattle.history.specs.Histories.{event_in}
+use Rattle.book.specs.declared.lag.Lag.{Lag}
+use Rattle.book.specs.declared.lag.Lag.TheVariants.{Nothing, Row, Sweep, Unknown}
+
+-- a core that has taken an event which was not refused
+pub record HasTaken (old : Core) (event : Event) (new : Core) : Type 0 where
+  pub setup : setup_of new ≡ setup_of old
+  pub world : world_of new ≡ after (setup_of old) (world_of old) event
+  pub stored : stored_in new ≡ stored_after (setup_of old) (world_of old) event (stored_in old)
+
+-- a core that was swept
+pub record IsSwept (old new : Core) : Type 0 where
+  pub setup : setup_of new ≡ setup_of old
+  pub world : world_of new ≡ world_of old
+  pub stored : stored_in new ≡ kept_at (is_held old) (stored_in old)
+
+-- a core is as another one will be that takes what it lacks
+abbrev pub Behind : Lag → Core → Core → Type 0
+Behind Nothing other shown = IsUnchanged other shown
+Behind (Row row) other shown = HasTaken other (event_in (arc_value row)) shown
+Behind Sweep other shown = IsSwept other shown
+Behind Unknown other shown = Unit {0}
+
+-- a core that lacks something of another one becomes as that
+abbrev pub CatchesUp : Lag → Core → Core → Type 0
+CatchesUp lag old new = (shown : Core) → Behind lag old shown → IsUnchanged shown new
