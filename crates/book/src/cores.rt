@@ -161,8 +161,9 @@ fn catch_up(alloc: Global, core: &mut Core, lag: &Lag, ready: &mut Ready) -> Res
     }
 }
 
-/// Lets a core that nobody else has take what it lacks of another one. The error is want of memory, or that it
-/// has another owner, at which it is as it was.
+/// Lets a core that nobody else has take what it lacks of another one, and lets what was made for that go, so
+/// that it shares nothing with the core any more. The error is want of memory, or that it has another owner, at
+/// which it is as it was.
 fn bring_up(
     alloc: Global,
     other: &mut Arc<Core>,
@@ -179,6 +180,7 @@ fn bring_up(
     };
     catch_up(alloc, core, &*lag, ready)?;
     *lag = Lag::Nothing;
+    *ready = Ready::none(alloc);
     Ok(())
 }
 
