@@ -143,10 +143,11 @@ held_same a b setup world p =
     let desks : length b.state.desks.items ≡ length a.state.users = b.state.run.paired ∙ ap length (sym users) in
     let goals : length b.state.jobs.goals ≡ length a.state.users = b.state.run.with_goals ∙ ap length (sym users) in
     let hold : hold_path a.state.desks.items p ≡ hold_path b.state.desks.items p =
-    hold_same a.state.table.sources b.state.table.sources with_a with_b a.state.users a.state.desks.items b.state.desks.items p distinct a.state.run.paired desks same in
+    hold_same a.state.table.sources b.state.table.sources with_a with_b a.state.users a.state.desks.items b.state.desks.items p distinct
+    a.state.run.paired desks same in
     let keep : keep_any_path a.state.jobs.goals p ≡ keep_any_path b.state.jobs.goals p =
-    keep_same a.state.table.sources b.state.table.sources with_a with_b a.state.users a.state.desks.items b.state.desks.items a.state.jobs.goals b.state.jobs.goals p
-    distinct a.state.run.paired desks a.state.run.with_goals goals (λ k. refl) (λ k. refl) same in
+    keep_same a.state.table.sources b.state.table.sources with_a with_b a.state.users a.state.desks.items b.state.desks.items a.state.jobs.goals
+    b.state.jobs.goals p distinct a.state.run.paired desks a.state.run.with_goals goals (λ k. refl) (λ k. refl) same in
     λ i. hold i || keep i
 
 -- and a sweep leaves them the same

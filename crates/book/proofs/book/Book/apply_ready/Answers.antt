@@ -274,7 +274,8 @@ pub add_row-requires : goal.add_row-requires
 add_row-requires g c =
     let then = (goal.at.add_row-requires g c).After-audit-2 in
     let last : arc_value c.in-Some.row ≡ row c.number.result c.args.event c.in-Some.reply =
-    drafted (arc_value c.in-Ok.draft) (arc_value c.in-Some.row) c.number.result c.args.event c.in-Some.reply c.in-Ok.ensures.row (rw c.in-Some.is at c.in-Ok-step.ensures.row) in
+    drafted (arc_value c.in-Ok.draft) (arc_value c.in-Some.row) c.number.result c.args.event c.in-Some.reply c.in-Ok.ensures.row
+    (rw c.in-Some.is at c.in-Ok-step.ensures.row) in
     let log : c.compare.new.log ≡ c.self.inside.log = c.compare.ensures.same in
     let pass : c.audit.new.self ≡ c.args.pass.now = pass_then g then c.if-stopped.false in
     let rows : length c.compare.new.log.rows ≡ c.self.inside.calls.total =
@@ -290,13 +291,16 @@ going g c = rw c.if-stopped.false at c.self.invariant.0
 
 last_row : (g : Over) (c : goal.After-push g) → arc_value c.in-Some.row ≡ row c.number.result c.args.event c.in-Some.reply
 last_row g c =
-    drafted (arc_value c.in-Ok.draft) (arc_value c.in-Some.row) c.number.result c.args.event c.in-Some.reply c.in-Ok.ensures.row (rw c.in-Some.is at c.in-Ok-step.ensures.row)
+    drafted (arc_value c.in-Ok.draft) (arc_value c.in-Some.row) c.number.result c.args.event c.in-Some.reply c.in-Ok.ensures.row
+    (rw c.in-Some.is at c.in-Ok-step.ensures.row)
 
 some_row : (g : Over) (c : goal.After-push g) → unrecorded (arc_value c.in-Some.row).reply ≡ false
 some_row g c = subst (λ (r : Row). unrecorded r.reply ≡ false) (sym (last_row g c)) (rw c.in-Some.is at c.in-Ok-step.ensures.some)
 
 step_of : (g : Over) (c : goal.After-push g) → Steps c.self.inside.cores (arc_value c.in-Some.row).event (arc_value c.in-Some.row).reply c.step.new.cores
-step_of g c = subst (λ (r : Row). Steps c.self.inside.cores r.event r.reply c.step.new.cores) (sym (last_row g c)) (rw c.in-Some.is at c.in-Ok-step.ensures.step)
+step_of g c =
+    subst (λ (r : Row). Steps c.self.inside.cores r.event r.reply c.step.new.cores) (sym (last_row g c))
+    (rw c.in-Some.is at c.in-Ok-step.ensures.step)
 
 rows_now : (g : Over) (c : goal.After-push g)
     → map arc_value c.push.new.history.items ≡ map arc_value c.self.inside.history.items ++ arc_value c.in-Some.row ∷ []

@@ -21,7 +21,9 @@ pub returns-clause-alone : goal.returns-clause-alone
 returns-clause-alone g c = only_pass g ((goal.at.returns-clause-alone g c).After-audit-2)
 
 pub returns-clause-legal : goal.returns-clause-legal
-returns-clause-legal g c = rw (← c.self.view_is) (is_legal g.J.FrontId.setup c.self.inside.cores c.self.inside.stopped (map arc_value c.self.inside.history.items) c.self.invariant.0 c.isolation.ensures c.timed_isolation.ensures)
+returns-clause-legal g c =
+    rw (← c.self.view_is) (is_legal g.J.FrontId.setup c.self.inside.cores c.self.inside.stopped (map arc_value c.self.inside.history.items)
+    c.self.invariant.0 c.isolation.ensures c.timed_isolation.ensures)
 
 pub returns-clause-reached : goal.returns-clause-reached
 returns-clause-reached g c = rw (← c.self.view_is) (λ going clean.
@@ -29,4 +31,6 @@ returns-clause-reached g c = rw (← c.self.view_is) (λ going clean.
     (c.self.invariant.0.reached going texts clean (All-contains_itself texts)).world)
 
 pub returns-then-stopped-clause-legal : goal.returns-then-stopped-clause-legal
-returns-then-stopped-clause-legal g c = rw (← c.self.view_is) (is_legal g.J.FrontId.setup c.self.inside.cores c.self.inside.stopped (map arc_value c.self.inside.history.items) c.self.invariant.0 c.isolation.ensures c.timed_isolation.ensures)
+returns-then-stopped-clause-legal g c =
+    rw (← c.self.view_is) (is_legal g.J.FrontId.setup c.self.inside.cores c.self.inside.stopped (map arc_value c.self.inside.history.items)
+    c.self.invariant.0 c.isolation.ensures c.timed_isolation.ensures)

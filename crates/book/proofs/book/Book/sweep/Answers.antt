@@ -21,7 +21,8 @@ change-requires-clause-follows g c =
 pub invariant_of-self-then-not-change : goal.invariant_of-self-then-not-change
 invariant_of-self-then-not-change g c =
     let old = c.self.inside in (
-      kept_swept g.J.FrontId.setup old.cores c.sweep.new.self old.stopped (map arc_value old.history.items) c.self.invariant.0 c.sweep.ensures.setup c.sweep.ensures.world c.sweep.ensures.hashed,
+      kept_swept g.J.FrontId.setup old.cores c.sweep.new.self old.stopped (map arc_value old.history.items) c.self.invariant.0
+          c.sweep.ensures.setup c.sweep.ensures.world c.sweep.ensures.hashed,
       c.self.invariant.1,
       c.self.invariant.2,
       c.self.invariant.3,
@@ -37,7 +38,8 @@ invariant_of-self-then-not-change g c =
 pub invariant_of-self-2 : goal.invariant_of-self-2
 invariant_of-self-2 g c =
     let old = c.self.inside in (
-      kept_swept g.J.FrontId.setup old.cores c.sweep.new.self old.stopped (map arc_value old.history.items) c.self.invariant.0 c.sweep.ensures.setup c.sweep.ensures.world c.sweep.ensures.hashed,
+      kept_swept g.J.FrontId.setup old.cores c.sweep.new.self old.stopped (map arc_value old.history.items) c.self.invariant.0
+          c.sweep.ensures.setup c.sweep.ensures.world c.sweep.ensures.hashed,
       c.self.invariant.1,
       c.self.invariant.2,
       c.self.invariant.3,
