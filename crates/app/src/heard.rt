@@ -252,7 +252,7 @@ impl Heard {
         trusted: bool,
         reply: &Reply,
     ) -> Result<(), Refusal> {
-        if !matches!(reply, Reply::Done) {
+        if !matches!(reply, Reply::Ok) {
             return Ok(());
         }
         let Some(other) = self.place_of(other)? else {
@@ -266,7 +266,7 @@ impl Heard {
 
     /// Hears what was answered to the user at a place, who asked that the derivation at a path be built.
     fn hear_goal(&mut self, user: usize, path: &StorePath, reply: &Reply) -> Result<(), Refusal> {
-        let Reply::GoalNumber(number) = reply else {
+        let Reply::Goal(number) = reply else {
             return Ok(());
         };
         let goal = Goal {
@@ -304,7 +304,7 @@ impl Heard {
 
     /// Hears how far the goal at a place is.
     fn hear_stage(&mut self, place: GoalPlace, reply: &Reply) -> Result<(), Refusal> {
-        let Reply::GoalStatus(status) = reply else {
+        let Reply::Status(status) = reply else {
             return Ok(());
         };
         let stage = self.stage_of(status);
@@ -341,7 +341,7 @@ impl Heard {
 
     /// Hears how far the goal at a place is, whose job has ended: the goals in it end as that one does.
     fn hear_end(&mut self, leader: GoalPlace, reply: &Reply) {
-        let Reply::GoalStatus(status) = reply else {
+        let Reply::Status(status) = reply else {
             return;
         };
         let ended = self.stage_of(status);

@@ -31,8 +31,8 @@ impl Display for Ended<'_> {
             write!(f, "{fault}, ")?;
         }
         match self.reply {
-            Reply::GoalStatus(Status::Done(path)) => write!(f, "done {}", text_of(path.bytes())),
-            Reply::GoalStatus(Status::Failed(why)) => write!(f, "failed {}", why.number()),
+            Reply::Status(Status::Done(path)) => write!(f, "done {}", text_of(path.bytes())),
+            Reply::Status(Status::Failed(why)) => write!(f, "failed {}", why.number()),
             Reply::Refused(why) => write!(f, "refused {}", why.number()),
             _ => f.write_str("its goal waits"),
         }?;
@@ -62,7 +62,7 @@ impl Display for Shown<'_> {
 
 /// Whether a reply says that a goal has failed.
 fn has_failed(reply: &Reply) -> bool {
-    matches!(reply, Reply::GoalStatus(Status::Failed(_)))
+    matches!(reply, Reply::Status(Status::Failed(_)))
 }
 
 /// The bytes of a name, as a text.

@@ -2,8 +2,8 @@
 use Rattle.std.proofs.Common.{◌≡◌, ℕ, List, false, refl, sym, ◌∙◌, subst, Result, Ok, Err}
 use Rattle.std.specs.Prelude.{OnOk}
 use Rattle.model.specs.Worlds.{Setup, World}
-use Rattle.model.specs.Events.{Event, Reply, Refused}
-use Rattle.model.specs.Replies.{is_memory, is_clash, is_refused}
+use Rattle.model.specs.Events.{Event}
+use Rattle.model.specs.Replies.{Reply, Refused, is_memory, is_clash, is_refused}
 use Rattle.model.specs.Steps.{after}
 use Rattle.handlers.specs.Parts.{IsStep, stored_after}
 use Rattle.schedule.specs.declared.state.Core.{Core}

@@ -7,7 +7,7 @@ ghost use Rattle.model.specs.declared.refusal.Refusal.TheVariants.{Memory};
 ghost use Rattle.model.specs.ArchiveReading.{tree_of_archive};
 ghost use Rattle.model.specs.Goals.{goal_at};
 ghost use Rattle.model.specs.Events.{Finish as FinishRequest};
-ghost use Rattle.events.specs.declared.reply.Reply.TheVariants.{GoalStatus};
+ghost use Rattle.events.specs.declared.reply.Reply.TheVariants.{Status as StatusReply};
 ghost use Rattle.events.specs.Statuses.{status_of};
 ghost use Rattle.trust.specs.Trusting.{trusts};
 ghost use Rattle.trust.specs.Naming.{name_at};
@@ -167,7 +167,7 @@ fn put_in_place(
     requires settable { (place : ℕ) → place < length jobs.old.goals
         → AreSettable (goals_of jobs.old.goals place) (statuses_for ending.delivered.items place) }
     requires new { AreNew table.old.sources (sources_of ending.trees.items) }
-    ensures told { IfOk result (λ reply. reply ≡ GoalStatus ending.told) }
+    ensures told { IfOk result (λ reply. reply ≡ StatusReply ending.told) }
     ensures table { OnOk result
         (table.new.sources ≡ table.old.sources ++ sources_of ending.trees.items) }
     ensures gained { OnOk result ((place : ℕ) → place < length desks.old → desk_at desks.new place
@@ -184,7 +184,7 @@ fn put_in_place(
     ensures memory { IfErr result (λ why. why ≡ Memory) }
 {
     table.reserve(ending.trees.len())?;
-    let reply = CopiedReply::new(Reply::GoalStatus(ending.told))?;
+    let reply = CopiedReply::new(Reply::Status(ending.told))?;
     add_to_each(alloc, desks, ending.additions)?;
     set_all(jobs, ending.delivered);
     table.put_all_reserved(ending.trees);

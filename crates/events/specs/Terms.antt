@@ -2,12 +2,13 @@
 use Rattle.std.specs.Prelude.{Bool, true, false}
 use Rattle.model.specs.Worlds as statuses
 use Rattle.model.specs.Events as events
+use Rattle.model.specs.Replies as replies
 use Rattle.trust.specs.declared.user.User.{User}
 use Rattle.events.specs.declared.event.Request.{Request}
 use Rattle.events.specs.declared.event.Request.TheVariants.{AddSource, AddDerivation, Offer, Fetch, Trust, Distrust, Pin, Unpin, Closure, Take, Build, Status, Plan, Start, Finish, Fail, Forget}
 use Rattle.events.specs.declared.event.Event.{Event}
 use Rattle.events.specs.declared.reply.Reply.{Reply}
-use Rattle.events.specs.declared.reply.Reply.TheVariants.{Done, Path, Derivation, Content, Entries, GoalNumber, GoalStatus, Refused}
+use Rattle.events.specs.declared.reply.Reply.TheVariants.{Ok as OkReply, Path, Derivation, Tree as TreeReply, Closure as ClosureReply, Goal as GoalReply, Status as StatusReply, Refused}
 use Rattle.events.specs.Statuses.{status_of}
 
 abbrev pub request_of : Request → events.Request
@@ -32,26 +33,26 @@ request_of (Forget class path) = events.Forget class path
 abbrev pub event_of : Event → events.Event
 event_of e = record { actor = e.actor; request = request_of e.request }
 
-abbrev pub reply_of : Reply → events.Reply
-reply_of Done = events.Done
-reply_of (Path path) = events.Path path
-reply_of (Derivation path class) = events.Derivation path class
-reply_of (Content tree) = events.Content tree
-reply_of (Entries entries) = events.Entries entries
-reply_of (GoalNumber number) = events.GoalNumber number
-reply_of (GoalStatus status) = events.GoalStatus (status_of status)
-reply_of (Refused why) = events.Refused why
+abbrev pub reply_of : Reply → replies.Reply
+reply_of OkReply = replies.Ok
+reply_of (Path path) = replies.Path path
+reply_of (Derivation path class) = replies.Derivation path class
+reply_of (TreeReply tree) = replies.Tree tree
+reply_of (ClosureReply entries) = replies.Closure entries
+reply_of (GoalReply number) = replies.Goal number
+reply_of (StatusReply status) = replies.Status (status_of status)
+reply_of (Refused why) = replies.Refused why
 
 -- a user with his reply
-abbrev pub answer_of : User × Reply → events.Answer
+abbrev pub answer_of : User × Reply → replies.Answer
 answer_of a = record { actor = a.0; reply = reply_of a.1 }
 
 -- whether a reply shares nothing with what is stored: it has no name, no path and no tree
-abbrev pub shares_nothing : events.Reply → Bool
-shares_nothing events.Done = true
-shares_nothing (events.GoalNumber number) = true
-shares_nothing (events.GoalStatus statuses.Waiting) = true
-shares_nothing (events.GoalStatus statuses.Planned) = true
-shares_nothing (events.GoalStatus (statuses.Failed why)) = true
-shares_nothing (events.Refused why) = true
+abbrev pub shares_nothing : replies.Reply → Bool
+shares_nothing replies.Ok = true
+shares_nothing (replies.Goal number) = true
+shares_nothing (replies.Status statuses.Waiting) = true
+shares_nothing (replies.Status statuses.Planned) = true
+shares_nothing (replies.Status (statuses.Failed why)) = true
+shares_nothing (replies.Refused why) = true
 shares_nothing reply = false

@@ -1,10 +1,10 @@
 //! Replies with their copies.
 
 ghost use Rattle.std.specs.Prelude.{◌≡◌, IfOk, IfErr, false};
-ghost use Rattle.model.specs.Events.{GoalStatus as GoalStatusReply};
+ghost use Rattle.model.specs.Replies as replies;
 ghost use Rattle.events.specs.Statuses.{status_of};
 ghost use Rattle.events.specs.Terms.{reply_of, shares_nothing};
-ghost use Rattle.events.specs.declared.reply.Reply.TheVariants.{Done, GoalNumber, GoalStatus, Refused};
+ghost use Rattle.events.specs.declared.reply.Reply.TheVariants.{Ok as OkReply, Goal as GoalReply, Status as StatusReply, Refused};
 ghost use Rattle.events.specs.declared.status.Status.TheVariants.{Planned, Failed};
 
 use crate::reply::Reply;
@@ -47,7 +47,7 @@ impl Model for CopiedReply {
 /// A copy of how far a goal is.
 fn copy_of_status(status: &Status) -> Result<Status, AllocError>
     ensures copy { IfOk result (λ copy. copy ≡ status.now) }
-    ensures shares { IfErr result (λ _. shares_nothing (GoalStatusReply (status_of status.now)) ≡ false) }
+    ensures shares { IfErr result (λ _. shares_nothing (replies.Status (status_of status.now)) ≡ false) }
 {
     match status {
         Status::Waiting => Ok(Status::Waiting),
@@ -63,11 +63,11 @@ fn copy_of(reply: &Reply) -> Result<Reply, AllocError>
     ensures shares { IfErr result (λ _. shares_nothing (reply_of reply.now) ≡ false) }
 {
     match reply {
-        Reply::Done => Ok(Reply::Done),
-        Reply::GoalNumber(number) => Ok(Reply::GoalNumber(*number)),
-        Reply::GoalStatus(status) => Ok(Reply::GoalStatus(copy_of_status(status)?)),
+        Reply::Ok => Ok(Reply::Ok),
+        Reply::Goal(number) => Ok(Reply::Goal(*number)),
+        Reply::Status(status) => Ok(Reply::Status(copy_of_status(status)?)),
         Reply::Refused(why) => Ok(Reply::Refused(*why)),
-        Reply::Path(_) | Reply::Derivation { .. } | Reply::Content(_) | Reply::Entries(_) => {
+        Reply::Path(_) | Reply::Derivation { .. } | Reply::Tree(_) | Reply::Closure(_) => {
             reply.clone()
         }
     }
@@ -86,41 +86,41 @@ impl CopiedReply {
 
     /// That it is done.
     pub fn done() -> CopiedReply
-        ensures { result ≡ Done }
+        ensures { result ≡ OkReply }
     {
         CopiedReply {
-            reply: Reply::Done,
-            copy: Reply::Done,
+            reply: Reply::Ok,
+            copy: Reply::Ok,
         }
     }
 
     /// The number of a new goal.
     pub fn goal_number(number: u16) -> CopiedReply
-        ensures { result ≡ GoalNumber number }
+        ensures { result ≡ GoalReply number }
     {
         CopiedReply {
-            reply: Reply::GoalNumber(number),
-            copy: Reply::GoalNumber(number),
+            reply: Reply::Goal(number),
+            copy: Reply::Goal(number),
         }
     }
 
     /// That a goal can start.
     pub fn planned() -> CopiedReply
-        ensures { result ≡ GoalStatus Planned }
+        ensures { result ≡ StatusReply Planned }
     {
         CopiedReply {
-            reply: Reply::GoalStatus(Status::Planned),
-            copy: Reply::GoalStatus(Status::Planned),
+            reply: Reply::Status(Status::Planned),
+            copy: Reply::Status(Status::Planned),
         }
     }
 
     /// That a goal came to nothing, and why.
     pub fn failed(why: Refusal) -> CopiedReply
-        ensures { result ≡ GoalStatus (Failed why) }
+        ensures { result ≡ StatusReply (Failed why) }
     {
         CopiedReply {
-            reply: Reply::GoalStatus(Status::Failed(why)),
-            copy: Reply::GoalStatus(Status::Failed(why)),
+            reply: Reply::Status(Status::Failed(why)),
+            copy: Reply::Status(Status::Failed(why)),
         }
     }
 

@@ -14,7 +14,7 @@ use storepath::StorePath;
 #[derive(Clone)]
 pub enum Reply {
     /// It is done, and there is nothing to tell.
-    Done,
+    Ok,
     /// The path of what was added.
     Path(StorePath),
     /// The path of the file of the derivation that was added, and the path of its output class.
@@ -25,13 +25,13 @@ pub enum Reply {
         class: StorePath,
     },
     /// The tree that was asked for.
-    Content(Tree),
+    Tree(Tree),
     /// The entries of a closure, by path, then by the path of the class, with a class before a source.
-    Entries(Closure),
+    Closure(Closure),
     /// The number of a new goal.
-    GoalNumber(u16),
+    Goal(u16),
     /// How far a goal is.
-    GoalStatus(Status),
+    Status(Status),
     /// Why nothing was done.
     Refused(Refusal),
 }
@@ -39,13 +39,13 @@ pub enum Reply {
 impl Drop for Reply {
     fn drop(self) {
         match self {
-            Reply::Done => {}
+            Reply::Ok => {}
             Reply::Path(_) => {}
             Reply::Derivation { path: _, class: _ } => {}
-            Reply::Content(_) => {}
-            Reply::Entries(_) => {}
-            Reply::GoalNumber(_) => {}
-            Reply::GoalStatus(_) => {}
+            Reply::Tree(_) => {}
+            Reply::Closure(_) => {}
+            Reply::Goal(_) => {}
+            Reply::Status(_) => {}
             Reply::Refused(_) => {}
         }
     }
@@ -57,13 +57,13 @@ impl Reply {
         ensures { record { path = result.0; class = result.1 } ≡ told_in (reply_of self) }
     {
         match self {
-            Reply::Path(path) | Reply::GoalStatus(Status::Done(path)) => (Some(path), None),
+            Reply::Path(path) | Reply::Status(Status::Done(path)) => (Some(path), None),
             Reply::Derivation { path, class } => (Some(path), Some(class)),
-            Reply::Done
-            | Reply::Content(_)
-            | Reply::Entries(_)
-            | Reply::GoalNumber(_)
-            | Reply::GoalStatus(_)
+            Reply::Ok
+            | Reply::Tree(_)
+            | Reply::Closure(_)
+            | Reply::Goal(_)
+            | Reply::Status(_)
             | Reply::Refused(_) => (None, None),
         }
     }

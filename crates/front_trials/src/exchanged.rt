@@ -50,7 +50,7 @@ impl<J: FrontId, R: Wait> session::Answer for Exchanged<'_, J, R> {
     }
 
     fn wait(&mut self, _alloc: Global, _goals: &[Job]) -> Reply {
-        Reply::Done
+        Reply::Ok
     }
 }
 

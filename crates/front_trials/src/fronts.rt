@@ -34,7 +34,7 @@ impl<J: FrontId, R: Wait> session::Answer for Called<'_, J, R> {
     }
 
     fn wait(&mut self, _alloc: Global, _goals: &[Job]) -> Reply {
-        Reply::Done
+        Reply::Ok
     }
 }
 

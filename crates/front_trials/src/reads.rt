@@ -94,7 +94,7 @@ impl<J: FrontId, R: Wait> session::Answer for Member<'_, J, R, Lines<'_>> {
     }
 
     fn wait(&mut self, _alloc: Global, _goals: &[Job]) -> Reply {
-        Reply::Done
+        Reply::Ok
     }
 }
 

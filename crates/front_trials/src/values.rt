@@ -30,7 +30,7 @@ impl session::Answer for Stepping {
     }
 
     fn wait(&mut self, _alloc: Global, _goals: &[Job]) -> Reply {
-        Reply::Done
+        Reply::Ok
     }
 }
 
@@ -78,7 +78,7 @@ impl<J: FrontId, R: Wait> session::Answer for Committing<'_, J, R> {
     }
 
     fn wait(&mut self, _alloc: Global, _goals: &[Job]) -> Reply {
-        Reply::Done
+        Reply::Ok
     }
 }
 

@@ -7,7 +7,7 @@ use Rattle.model.specs.Classes.{known_at}
 use Rattle.model.specs.Worlds.{Goal}
 use Rattle.model.specs.Goals.{new_goal}
 use Rattle.model.specs.Events as events
-use Rattle.events.specs.declared.reply.Reply.TheVariants.{GoalNumber}
+use Rattle.events.specs.declared.reply.Reply.TheVariants.{Goal as GoalReply}
 use Rattle.realise.specs.Holdings.{Holdings}
 use Rattle.jobs.specs.Owned.{OwnedByAll, goals_at, with_goals_at}
 use Rattle.handlers.specs.declared.state.State.{State}
@@ -24,10 +24,10 @@ pub run_added : (s : State) (place : ℕ) → HasPlace s place → (d : Holdings
     → OnOk result (new ≡ with_goals_at place (more s place path) s.jobs) → IfOk result (λ n. n ≡ length (goals_at place s.jobs) + 1)
     → IfOk result (λ n. n ≤ most_goals) → OnErr result (new ≡ s.jobs) → IsRun (record (parts_of s) { goals = new.goals })
 run_added s place below d path here known (Ok n) new added number most kept =
-    still_run (parts_of s) (record (parts_of s) { goals = new.goals }) place (events.Build path) (Ok (GoalNumber n)) s.run below
-    (by_goals_of (parts_of s) place d (events.Build path) (Ok (GoalNumber n)) (more s place path) new.goals s.run
+    still_run (parts_of s) (record (parts_of s) { goals = new.goals }) place (events.Build path) (Ok (GoalReply n)) s.run below
+    (by_goals_of (parts_of s) place d (events.Build path) (Ok (GoalReply n)) (more s place path) new.goals s.run
     (ap (λ (j : OwnedByAll). j.goals) added) here
-    (build_done d (goals_at place s.jobs) path known (more s place path) n (GoalNumber n) refl number most refl))
+    (build_done d (goals_at place s.jobs) path known (more s place path) n (GoalReply n) refl number most refl))
 run_added s place below d path here known (Err why) new added number most kept =
     subst (λ (j : OwnedByAll). IsRun (record (parts_of s) { goals = j.goals })) (sym kept) s.run
 

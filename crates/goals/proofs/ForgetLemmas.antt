@@ -12,6 +12,7 @@ use Rattle.model.specs.FinishedBuilds.{is_record_at}
 use Rattle.model.specs.ForgetRequests.{is_entry_at, is_built_from, builds_with, let_go, is_in_use, forget}
 use Rattle.model.specs.ForgetRequests as model
 use Rattle.model.specs.Events as events
+use Rattle.model.specs.Replies as replies
 use Rattle.model.specs.Replies.{is_clash_refusal}
 use Rattle.model.specs.Outcomes.{Observation, observation_of, becomes, check}
 use Rattle.model.specs.Steps.{outcome}
@@ -123,9 +124,9 @@ module _ (users : List (List ℕ)) (limit : ℕ) (trust : ℕ → ℕ → Bool) 
         ∙ (λ i. needed_as table class path d i || list_any (builds_with (sym reached i) class path) own)
 
   forget_is : (held used : Bool) → list_any (is_recorded_at class path) d.records ≡ held → is_in_use observation class path ≡ used
-      → forget observation class path ≡ check NotHeld held (check InUse (not used) (becomes (model.without_records class path observation.desk) events.Done))
+      → forget observation class path ≡ check NotHeld held (check InUse (not used) (becomes (model.without_records class path observation.desk) replies.Ok))
   forget_is held used there is =
-      λ i. check NotHeld ((there_is ∙ there) i) (check InUse (not (is i)) (becomes (model.without_records class path observation.desk) events.Done))
+      λ i. check NotHeld ((there_is ∙ there) i) (check InUse (not (is i)) (becomes (model.without_records class path observation.desk) replies.Ok))
 
   own_sound : AreGoalsSound table own
   own_sound = goals_sound_at table goals place goals_sound
@@ -155,13 +156,13 @@ module _ (users : List (List ℕ)) (limit : ℕ) (trust : ℕ → ℕ → Bool) 
 
     -- it is taken away
     pub forget_done : (is_needed class path d || list_any (builds_with (names users set) class path) own) ≡ false
-        → list_any (bytes_eq path) (paths_held d.archives) ≡ true → (reply : Rust.Reply) → reply_of reply ≡ events.Done
+        → list_any (bytes_eq path) (paths_held d.archives) ≡ true → (reply : Rust.Reply) → reply_of reply ≡ replies.Ok
         → IsHandledWithGoals setup w actor (trusted_at users trust place) own table d request (Ok reply) (map (let_go class path) own) table
         (without_records class path d)
     unfolding outcome
     forget_done free held reply told =
         let parts = or_parts (is_needed class path d) (list_any (builds_with (names users set) class path) own) free in
-        let is : forget observation class path ≡ becomes (model.without_records class path observation.desk) events.Done = forget_is true false there
+        let is : forget observation class path ≡ becomes (model.without_records class path observation.desk) replies.Ok = forget_is true false there
         (used_is set reach ∙ free) in
         let after : model.without_records class path observation.desk ≡ desk_of (beside (map (let_go class path) own)) table (without_records class path d) =
         ap (model.without_records class path) his ∙ desk_without table class path (beside own) d in

@@ -5,6 +5,7 @@ use Rattle.std.specs.List.{list_any}
 use Rattle.model.specs.Worlds.{Goal}
 use Rattle.model.specs.ForgetRequests.{builds_with, let_go}
 use Rattle.model.specs.Events as events
+use Rattle.model.specs.Replies as replies
 use Rattle.trust.specs.Trusting.{IsReach, trusts}
 use Rattle.trust.specs.Naming.{names}
 use Rattle.events.specs.declared.reply.Reply as Rust
@@ -28,7 +29,7 @@ module _ (s : State) (place : ℕ) (class path : List ℕ) where
 
   pub forgotten : (set : ℕ → Bool) → IsReach (trusts s.trust) place set → list_any (is_recorded_at class path) desk.records ≡ true
       → (is_needed class path desk || list_any (builds_with (names s.users set) class path) own) ≡ false
-      → list_any (bytes_eq path) (paths_held desk.archives) ≡ true → (reply : Rust.Reply) → reply_of reply ≡ events.Done
+      → list_any (bytes_eq path) (paths_held desk.archives) ≡ true → (reply : Rust.Reply) → reply_of reply ≡ replies.Ok
       → (jobs : OwnedByAll) (after : Holdings) → jobs ≡ with_goals_at place (map (let_go class path) own) s.jobs → after ≡ without_records class path desk
       → IsHandledByAll (parts_of s) place (events.Forget class path) (Ok reply)
       (record (parts_of s) { goals = jobs.goals; desks = slice_set s.desks.items place after })

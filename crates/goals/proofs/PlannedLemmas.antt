@@ -7,6 +7,7 @@ use Rattle.model.specs.Derivations.{Derivation}
 use Rattle.model.specs.Worlds.{Source, Planned, Failed, Resolved, Goal}
 use Rattle.model.specs.Goals.{goal_at, with_goal_at, in_status}
 use Rattle.model.specs.Events as events
+use Rattle.model.specs.Replies as replies
 use Rattle.trust.specs.Trusting.{IsReach, trusts}
 use Rattle.trust.specs.Naming.{names}
 use Rattle.store.specs.Stored.{put_all}
@@ -65,7 +66,7 @@ module _ (s : State) (place n : ℕ) (set : ℕ → Bool) (reach : IsReach (trus
     -- it fails
     pub failed_so : (why : Refusal) (new : OwnedByAll) (told : Rust.Reply)
         → AtPlace (trusts s.trust) old s.desks.items place (λ setup w u. IsNotResolvedFor setup w u d.now why) → fails why ≡ true
-        → ChangesGoal place n (in_status (Failed why)) s.jobs new → reply_of told ≡ events.GoalStatus (Failed why)
+        → ChangesGoal place n (in_status (Failed why)) s.jobs new → reply_of told ≡ replies.Status (Failed why)
         → IsHandledByAll (parts_of s) place (events.Plan n) (Ok told) (record (parts_of s) { goals = new.goals })
     failed_so why new told unresolved final changes is =
         goals_so s place (events.Plan n) (Ok told) new (with_goal_at n (in_status (Failed why) its.0) own) old (changes its.0 its.1) (λ actor found.
@@ -96,7 +97,7 @@ module _ (s : State) (place n : ℕ) (set : ℕ → Bool) (reach : IsReach (trus
         Keeps = (g : Goal) → goal_at n own ≡ Some g → new ≡ with_goals_at place (with_goal_at n (planned_with r g) own) s.jobs
 
         -- it is planned
-        pub planned_so : (told : Rust.Reply) → reply_of told ≡ events.GoalStatus Planned → Keeps → table ≡ put_all (map source_of_entry r.closure) old
+        pub planned_so : (told : Rust.Reply) → reply_of told ≡ replies.Status Planned → Keeps → table ≡ put_all (map source_of_entry r.closure) old
             → All (IsStored table) r.closure
             → IsHandledByAll (parts_of s) place (events.Plan n) (Ok told) (record (parts_of s) { goals = new.goals; table = table })
         planned_so told is keeps stored there =
@@ -122,9 +123,9 @@ module _ (s : State) (place n : ℕ) (set : ℕ → Bool) (reach : IsReach (trus
           → OnOk result (table ≡ put_all (map source_of_entry r.closure) old) → OnOk result (All (IsStored table) r.closure)
           → OnErr result ((new ≡ s.jobs) × (table ≡ old)) → IsRun (record (parts_of s) { goals = new.goals; table = table })
       run_kept (Ok done) keeps stored there left =
-          still_run (parts_of s) (record (parts_of s) { goals = new.goals; table = table }) place (events.Plan n) (Ok (reply.GoalStatus
+          still_run (parts_of s) (record (parts_of s) { goals = new.goals; table = table }) place (events.Plan n) (Ok (reply.Status
           status.Planned)) s.run below
-          (planned_so law r resolved closure new table (reply.GoalStatus status.Planned) refl keeps stored there)
+          (planned_so law r resolved closure new table (reply.Status status.Planned) refl keeps stored there)
       run_kept (Err why) keeps stored there left =
           subst (λ (t : List Source). IsRun (record (parts_of s) { goals = new.goals; table = t })) (sym left.1)
           (subst (λ (j : OwnedByAll). IsRun (record (parts_of s) { goals = j.goals })) (sym left.0) s.run)

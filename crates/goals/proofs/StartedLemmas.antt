@@ -7,6 +7,7 @@ use Rattle.model.specs.declared.refusal.Refusal.TheVariants.{Memory, Quota}
 use Rattle.model.specs.Worlds.{Source, Record, Entry, Resolved, Job, Status, Building, Done, Failed, Goal}
 use Rattle.model.specs.Goals.{with_goal_at, in_status, job_of}
 use Rattle.model.specs.Events as events
+use Rattle.model.specs.Replies as replies
 use Rattle.trust.specs.Trusting.{trusts}
 use Rattle.trust.specs.Naming.{name_at}
 use Rattle.trust.proofs.PlaceLemmas.{name_found}
@@ -110,7 +111,7 @@ module _ (s : State) (place n : ℕ) (below : HasPlace s place) (r : Resolved) (
   module _ (none : UsesAgain (parts_of s) place n r None) (job : Job) (joined : IsJoined (trusts s.trust) place (length s.users) n r s.jobs job)
       (entering : OwnedByAll) (enters : ChangesGoal place n (in_status (Building job)) s.jobs entering) (table : List Source) (after : Holdings) where
     -- it is built
-    pub entered_so : (reply : Rust.Reply) → reply_of reply ≡ events.GoalStatus (Building job) → Copies r.closure (Ok tt) table after
+    pub entered_so : (reply : Rust.Reply) → reply_of reply ≡ replies.Status (Building job) → Copies r.closure (Ok tt) table after
         → Starts (Ok reply) entering table after
     entered_so reply told copies =
         turned (Ok reply) entering (Building job) table after enters (copies.stored ∙ put_stored old r.closure its_closure) (λ actor found.
@@ -131,7 +132,7 @@ module _ (s : State) (place n : ℕ) (below : HasPlace s place) (r : Resolved) (
           (leaves (in_status (Building job) g) (entered_goal s.jobs entering place n g job there (with_goals s place below) (enters g there)))
 
       pub left_job : (result : Result Rust.Reply Refusal) → Copies r.closure (Err why) table after
-          → MatchResult result (λ reply. (fails why ≡ true) × (reply_of reply ≡ events.GoalStatus (Failed why))) (λ e. (fails why ≡ false) × (e ≡ why))
+          → MatchResult result (λ reply. (fails why ≡ true) × (reply_of reply ≡ replies.Status (Failed why))) (λ e. (fails why ≡ false) × (e ≡ why))
           → Starts result leaving table after
       left_job result copies told =
           turned result leaving (uncopied_status why) table after has_left copies.kept.sources (λ actor found.
@@ -148,7 +149,7 @@ module _ (s : State) (place n : ℕ) (below : HasPlace s place) (r : Resolved) (
     both_stored = built_stored old r.closure q its_closure (again.stored q refl)
 
     -- there is room for both
-    pub done_so : (new : OwnedByAll) (table : List Source) (after : Holdings) (reply : Rust.Reply) → reply_of reply ≡ events.GoalStatus (Done q.path)
+    pub done_so : (new : OwnedByAll) (table : List Source) (after : Holdings) (reply : Rust.Reply) → reply_of reply ≡ replies.Status (Done q.path)
         → ChangesGoal place n (in_status (Done q.path)) s.jobs new → Copies (with_built r.closure q) (Ok tt) table after → Starts (Ok reply) new table after
     done_so new table after reply told changes copies =
         turned (Ok reply) new (Done q.path) table after changes (copies.stored ∙ put_stored old (with_built r.closure q) both_stored) (λ actor found.
@@ -157,7 +158,7 @@ module _ (s : State) (place n : ℕ) (below : HasPlace s place) (r : Resolved) (
         (again.is it.goal it.there s.users s.limits.charge actor s.run.listed found s.run.paired s.run.within) (again.stored q refl) reply copies told)
 
   -- there is none
-  module _ (none : HasNoRoom (parts_of s) place n r) (reply : Rust.Reply) (told : reply_of reply ≡ events.GoalStatus (Failed Quota))
+  module _ (none : HasNoRoom (parts_of s) place n r) (reply : Rust.Reply) (told : reply_of reply ≡ replies.Status (Failed Quota))
       (new : OwnedByAll) (changes : ChangesGoal place n (in_status (Failed Quota)) s.jobs new) (table : List Source) (after : Holdings) where
     pub failed_so : Copies r.closure (Ok tt) table after ⊎ Copies r.closure (Err Quota) table after → Starts (Ok reply) new table after
     failed_so (inl copies) =

@@ -10,7 +10,7 @@ use Rattle.model.specs.Archives.{Tree, Link, nar}
 use Rattle.model.specs.Classes.{is_one_of}
 use Rattle.model.specs.Limits.{most_sources, most_derivations, most_records, most_pins}
 use Rattle.model.specs.Worlds.{Source, Record, Desk, tree_at, tree_of_record, held, charge_of, is_within, path_of_entry, has_entry, with_entry, same_record}
-use Rattle.model.specs.Events.{Path}
+use Rattle.model.specs.Replies.{Path}
 use Rattle.model.specs.Outcomes.{becomes, add_entry}
 use Rattle.model.specs.declared.refusal.Refusal.TheVariants.{Quota}
 use Rattle.model.proofs.BoolLemmas.{either, same_bytes, or_cases, both_parts}

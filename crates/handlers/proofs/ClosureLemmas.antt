@@ -13,6 +13,7 @@ use Rattle.model.specs.Results.{then_do, each}
 use Rattle.model.specs.Orders.{placed, set_of}
 use Rattle.model.specs.Worlds.{Source, Record, Setup, Desk, Pin, World, Goal, Entry, OfSource, OfRecord, are_users}
 use Rattle.model.specs.Events as events
+use Rattle.model.specs.Replies as replies
 use Rattle.model.specs.Outcomes.{Observation, observation_of, view_of, becomes}
 use Rattle.model.specs.ClosureRequests.{closure}
 use Rattle.model.specs.Choices.{Plan, choose, small_plan, plan_by, closure_plan}
@@ -182,14 +183,14 @@ closure_at_once s class result = closure_cases (λ o. RefusedAtOnce o result) s 
 
 pub closure_handled : (trust : ℕ → ℕ → Bool) (limit : ℕ) (table : List Source) (desks : List Holdings) (place : ℕ) (class : List ℕ) (entries : List
     Entry) (reply : Rust.Reply)
-    → AtPlace trust table desks place (λ setup w u. AreServed setup w u class entries) → reply_of reply ≡ events.Entries entries
+    → AtPlace trust table desks place (λ setup w u. AreServed setup w u class entries) → reply_of reply ≡ replies.Closure entries
     → IsHandledByObservation trust limit table desks place (events.Closure class) (Ok reply) table (desk_at desks place)
 unfolding outcome
 closure_handled trust limit table desks place class entries reply served told users goals actor listed found paired sound within =
     let s : Setup = record { users = users; charge = limit } in
     let w : World = world users limit trust goals table desks actor place listed found paired within in
     left_there users limit trust goals table desks actor place listed found paired within (events.Closure class) (Ok reply) sound
-    (ap (λ o. then_do o (λ es. becomes (w actor) (events.Entries es))) (served users limit goals actor listed found paired within).are
+    (ap (λ o. then_do o (λ es. becomes (w actor) (replies.Closure es))) (served users limit goals actor listed found paired within).are
     ∙ ap (becomes (w actor)) (sym told))
     (rw told refl) (closure_at_once (observation_of s w actor) class (Ok reply)) (λ reply. refl) (search rules) refl (served users limit goals actor
     listed found paired within).sound
@@ -205,7 +206,7 @@ closure_refused trust limit table desks place class why refused users goals acto
     left_there users limit trust goals table desks actor place listed found paired within (events.Closure class) (Err why) sound
     (λ own. elim none [
       | inl memory ↦ (let no = rw memory at own in cc)
-      | inr is ↦ ap (λ o. then_do o (λ es. becomes (w actor) (events.Entries es))) is
+      | inr is ↦ ap (λ o. then_do o (λ es. becomes (w actor) (replies.Closure es))) is
     ])
     (search rules) (closure_at_once (observation_of s w actor) class (Err why)) (λ reply. refl) (unserved_no_clash s w actor class why none) (search rules)
     (search rules)

@@ -13,7 +13,8 @@ use Rattle.model.specs.Derivations.{Derivation}
 use Rattle.model.specs.DerivationTexts.{derivation_of_text}
 use Rattle.model.specs.Limits.{most_derivation_bytes}
 use Rattle.model.specs.Worlds.{Source, Setup, Desk, World, Goal, is_user, are_users, held_at}
-use Rattle.model.specs.Events.{Request, AddSource, AddDerivation, Fetch, Event, Content}
+use Rattle.model.specs.Events.{Request, AddSource, AddDerivation, Fetch, Event}
+use Rattle.model.specs.Replies as replies
 use Rattle.model.specs.Outcomes.{Observation, observation_of, becomes, add_entry}
 use Rattle.model.specs.HashedTexts.{texts_of}
 use Rattle.model.specs.SourceRequests.{fetch}
@@ -359,11 +360,11 @@ source_handled beside limit old new before now name tree path result sound is wh
     (λ texts setup w u here inside. rw is (source_hashed texts name tree whole inside))
 
 fetch_fits : (setup : Setup) (d : Desk) (path : List ℕ) (tree : Tree) (result : Result Rust.Reply Refusal) → held_at path d ≡ Some tree
-    → IfOk result (λ r. reply_of r ≡ Content tree) → IfErr result (λ e. e ≡ Memory) → Fits (fetch d path) d result
+    → IfOk result (λ r. reply_of r ≡ replies.Tree tree) → IfErr result (λ e. e ≡ Memory) → Fits (fetch d path) d result
 fetch_fits setup d path tree (Ok r) there content memory = rw there (ap (becomes d) (sym content))
 fetch_fits setup d path tree (Err e) there content memory = λ own. let wrong = rw memory at own in cc
 
-fetch_answered : (tree : Tree) (result : Result Rust.Reply Refusal) → IfOk result (λ r. reply_of r ≡ Content tree)
+fetch_answered : (tree : Tree) (result : Result Rust.Reply Refusal) → IfOk result (λ r. reply_of r ≡ replies.Tree tree)
     → IfOk result (λ r. is_refused (reply_of r) ≡ false)
 fetch_answered tree (Ok r) content = rw content refl
 fetch_answered tree (Err e) content = search rules
@@ -376,7 +377,7 @@ no_clash_of_memory (Err e) memory = rw memory refl
 pub fetch_handled : (beside : Beside) (limit : ℕ) (table : List Source) (desk : Holdings) (path : List ℕ) (tree : Tree)
     (result : Result Rust.Reply Refusal)
     → IsSound table limit desk
-    → held_at path (desk_of beside table desk) ≡ Some tree → IfOk result (λ r. reply_of r ≡ Content tree) → IfErr result (λ e. e ≡ Memory)
+    → held_at path (desk_of beside table desk) ≡ Some tree → IfOk result (λ r. reply_of r ≡ replies.Tree tree) → IfErr result (λ e. e ≡ Memory)
     → IsHandledBeside beside limit table desk (Fetch path) result table desk
 unfolding outcome
 fetch_handled beside limit table desk path tree result sound there content memory =

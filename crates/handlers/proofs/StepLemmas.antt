@@ -7,10 +7,10 @@ use Rattle.model.specs.Classes.{known_at}
 use Rattle.model.specs.Settling.{given, MadeSource}
 use Rattle.model.specs.Worlds.{Source, Setup, Desk, World, is_user, held_at, known_of}
 use Rattle.model.specs.Limits.{most_derivation_bytes}
-use Rattle.model.specs.Events.{Request, AddSource, AddDerivation, Offer, Fetch, Event, Reply}
+use Rattle.model.specs.Events.{Request, AddSource, AddDerivation, Offer, Fetch, Event}
+use Rattle.model.specs.Replies.{Reply, is_refused}
 use Rattle.model.specs.Outcomes.{observation_of, Outcome, becomes, reply_of, desk_after, reaches}
 use Rattle.model.specs.Steps.{outcome, outcome_of, after}
-use Rattle.model.specs.Replies.{is_refused}
 use Rattle.model.specs.SourceRequests.{source_named, source_texts}
 use Rattle.model.specs.declared.refusal.Refusal.{Refusal}
 use Rattle.model.specs.declared.refusal.Refusal.TheVariants.{UnknownUser, TooLarge, UnknownDerivation, NotHeld}

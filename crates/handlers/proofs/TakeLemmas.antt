@@ -10,6 +10,7 @@ use Rattle.model.specs.Archives.{Tree, Link}
 use Rattle.model.specs.Results.{then_do}
 use Rattle.model.specs.Worlds.{Source, Record, Setup, Desk, World, Goal, Pin, Entry, tree_at, with_entries}
 use Rattle.model.specs.Events as events
+use Rattle.model.specs.Replies as replies
 use Rattle.model.specs.Choices.{Plan, choose, reached, most_steps, rank_before, source_before, source_among, needed_sources, plan_by, closure_plan, visible_sources}
 use Rattle.model.specs.Orders.{set_of}
 use Rattle.model.specs.Closures.{served_plan, texts_of_plan, closure, closure_texts, path_for}
@@ -176,10 +177,10 @@ take_at_once setup s class result =
 
 taken_outcome : (setup : Setup) (s : Observation) (class : List ℕ) (entries : List Entry) (path : List ℕ) → closure_for s class ≡ Ok entries
     → path_for class entries ≡ Some path
-    → take setup s class ≡ room setup (with_entries entries s.desk) (events.Path path)
+    → take setup s class ≡ room setup (with_entries entries s.desk) (replies.Path path)
 taken_outcome setup s class entries path is there =
     ap (λ o. then_do o (take_entries setup s.desk class)) is
-    ∙ ap (λ o. need NotRealised o (λ p. room setup (with_entries entries s.desk) (events.Path p))) there
+    ∙ ap (λ o. need NotRealised o (λ p. room setup (with_entries entries s.desk) (replies.Path p))) there
 
 module _ (law : ServedAreMade) (trust : ℕ → ℕ → Bool) (limit : ℕ) (old : List Source) (desks : List Holdings) (place : ℕ) (class : List ℕ) where
   -- it is not served
@@ -211,14 +212,14 @@ module _ (law : ServedAreMade) (trust : ℕ → ℕ → Bool) (limit : ℕ) (old
           | inl memory ↦ (let no = rw memory at own in cc)
           | inr none ↦
               ap (λ o. then_do o (take_entries s (w actor) class)) (served users limit goals actor listed found paired within).are
-              ∙ ap (λ o. need NotRealised o (λ p. room s (with_entries entries (w actor)) (events.Path p))) none.1 ∙ ap Err (sym none.0)
+              ∙ ap (λ o. need NotRealised o (λ p. room s (with_entries entries (w actor)) (replies.Path p))) none.1 ∙ ap Err (sym none.0)
         ])
         (search rules) (take_at_once s (observation_of s w actor) class (Err why)) (λ reply. refl)
         (elim refused [ inl memory ↦ rw memory refl | inr none ↦ rw none.0 refl ]) (search rules) (search rules)
 
     module _ (path : List ℕ) (named : path_for class entries ≡ Some path) (new : List Source) (after : Holdings) where
       -- it is taken
-      pub take_done : (reply : Rust.Reply) → reply_of reply ≡ events.Path path → CopiesEntries limit old (desk_at desks place) entries (Ok tt) new after
+      pub take_done : (reply : Rust.Reply) → reply_of reply ≡ replies.Path path → CopiesEntries limit old (desk_at desks place) entries (Ok tt) new after
           → IsHandledByObservation trust limit old desks place (events.Take class) (Ok reply) new after
       unfolding outcome
       take_done reply told copies users goals actor listed found paired sound within =
@@ -230,8 +231,8 @@ module _ (law : ServedAreMade) (trust : ℕ → ℕ → Bool) (limit : ℕ) (old
             handled = record {
               serves =
                   taken_outcome s (observation_of s w actor) class entries path mine.are named
-                  ∙ ap (λ d. room s (with_entries entries d) (events.Path path)) his
-                  ∙ copies.fits users (beside_at users trust goals place) (events.Path path)
+                  ∙ ap (λ d. room s (with_entries entries d) (replies.Path path)) his
+                  ∙ copies.fits users (beside_at users trust goals place) (replies.Path path)
                   ∙ ap (becomes (desk_of (beside_at users trust goals place) new after)) (sym told);
               answered = rw told refl;
               at_once = take_at_once s (observation_of s w actor) class (Ok reply);
@@ -263,8 +264,8 @@ module _ (law : ServedAreMade) (trust : ℕ → ℕ → Bool) (limit : ℕ) (old
             handled = record {
               serves = λ own.
                   taken_outcome s (observation_of s w actor) class entries path mine.are named
-                  ∙ ap (λ d. room s (with_entries entries d) (events.Path path)) his
-                  ∙ copies.fits users (beside_at users trust goals place) (events.Path path) own;
+                  ∙ ap (λ d. room s (with_entries entries d) (replies.Path path)) his
+                  ∙ copies.fits users (beside_at users trust goals place) (replies.Path path) own;
               answered = search rules;
               at_once = take_at_once s (observation_of s w actor) class (Err why);
               no_memory = λ free. cc;

@@ -6,6 +6,7 @@ use Rattle.model.specs.declared.refusal.Refusal.{Refusal}
 use Rattle.model.specs.declared.refusal.Refusal.TheVariants.{UnknownUser}
 use Rattle.model.specs.Worlds.{Source, Setup, World, Goal, is_user, are_users, are_distinct}
 use Rattle.model.specs.Events as events
+use Rattle.model.specs.Replies as replies
 use Rattle.model.specs.Outcomes.{Outcome, becomes}
 use Rattle.model.specs.Steps.{outcome, outcome_of}
 use Rattle.trust.specs.Trusting.{with_pair, without_pair}
@@ -55,17 +56,17 @@ module _ (users : List (List ℕ)) (limit : ℕ) (given : ℕ → ℕ → Bool) 
       → All (IsSound table limit) desks → All (AreGoalsSound table) goals
       → IsWithin (length users) now → ((k : ℕ) → k ≢ i → trusted_at users now k ≡ trusted_at users given k) → stored_by setup world actor request ≡ []
       → HasSoundPlan setup world actor request
-      → outcome_of setup world (record { actor = actor; request = request }) ≡ becomes (desk_of (beside_at users now goals i) table before) events.Done
-      → IsHandled (parts users limit given goals table desks) (record { actor = actor; request = request }) (Ok Rust.Done) (parts users limit now goals table desks)
+      → outcome_of setup world (record { actor = actor; request = request }) ≡ becomes (desk_of (beside_at users now goals i) table before) replies.Ok
+      → IsHandled (parts users limit given goals table desks) (record { actor = actor; request = request }) (Ok Rust.Ok) (parts users limit now goals table desks)
   trust_changed now request found paired sound goals_sound within others nothing plans is =
       let place : IsPlace users actor i = place_found users actor i found in
       let here : slice_get desks i ≡ Some before = place_there users desks actor i bare paired found in
       let Step : List Holdings → Type 0 = λ ds.
-      IsStep setup world (record { actor = actor; request = request }) events.Done (desk_among (beside_at users now goals) table users ds) in
+      IsStep setup world (record { actor = actor; request = request }) replies.Ok (desk_among (beside_at users now goals) table users ds) in
       let elsewhere : (k : ℕ) → k ≢ i → beside_at users now goals k ≡ beside_at users given goals k =
       λ k apart. ap (trusting (goals_of goals k)) (others k apart) in
       let step = step_done (beside_at users given goals) (beside_at users now goals) setup table table limit desks
-      (record { actor = actor; request = request }) i before before events.Done elsewhere (λ path there. refl) sound place here is in
+      (record { actor = actor; request = request }) i before before replies.Ok elsewhere (λ path there. refl) sound place here is in
       record {
         told = (refl, subst Step (set-get_or desks i bare) step);
         refused = search rules;
@@ -138,11 +139,11 @@ module _ (users : List (List ℕ)) (limit : ℕ) (given : ℕ → ℕ → Bool) 
 
     -- he trusts another
     pub trust_handled : (j == i) ≡ false
-        → IsHandled (parts users limit given goals table desks) (record { actor = actor; request = events.Trust other }) (Ok Rust.Done)
+        → IsHandled (parts users limit given goals table desks) (record { actor = actor; request = events.Trust other }) (Ok Rust.Ok)
         (parts users limit (with_pair i j given) goals table desks)
     unfolding outcome
     trust_handled differs =
-        let D : (List ℕ → Bool) → Outcome = λ t. becomes (desk_of (trusting (goals_of goals i) t) table before) events.Done in
+        let D : (List ℕ → Bool) → Outcome = λ t. becomes (desk_of (trusting (goals_of goals i) t) table before) replies.Ok in
         let more : trusted_at users (with_pair i j given) i ≡ (λ name. bytes_eq name other || trusted_at users given i name) =
         trusted_added users given i j distinct named.0 ∙ ap (λ who name. bytes_eq name who || trusted_at users given i name) named.1 in
         trust_changed (with_pair i j given) (events.Trust other) found paired sound goals_sound (within_added (length users) given i j named.0 within)
@@ -151,7 +152,7 @@ module _ (users : List (List ℕ)) (limit : ℕ) (given : ℕ → ℕ → Bool) 
 
     -- he trusts himself
     pub trust_own : (j == i) ≡ true
-        → IsHandled (parts users limit given goals table desks) (record { actor = actor; request = events.Trust other }) (Ok Rust.Done)
+        → IsHandled (parts users limit given goals table desks) (record { actor = actor; request = events.Trust other }) (Ok Rust.Ok)
         (parts users limit given goals table desks)
     unfolding outcome
     trust_own same =
@@ -159,11 +160,11 @@ module _ (users : List (List ℕ)) (limit : ℕ) (given : ℕ → ℕ → Bool) 
         (rw (known, also, same_user, same, his_desk found paired) refl)
 
     -- he no longer trusts another
-    pub distrust_handled : IsHandled (parts users limit given goals table desks) (record { actor = actor; request = events.Distrust other }) (Ok Rust.Done)
+    pub distrust_handled : IsHandled (parts users limit given goals table desks) (record { actor = actor; request = events.Distrust other }) (Ok Rust.Ok)
         (parts users limit (without_pair i j given) goals table desks)
     unfolding outcome
     distrust_handled =
-        let D : (List ℕ → Bool) → Outcome = λ t. becomes (desk_of (trusting (goals_of goals i) t) table before) events.Done in
+        let D : (List ℕ → Bool) → Outcome = λ t. becomes (desk_of (trusting (goals_of goals i) t) table before) replies.Ok in
         let less : trusted_at users (without_pair i j given) i ≡ (λ name. not (bytes_eq name other) && trusted_at users given i name) =
         trusted_removed users given i j distinct named.0 ∙ ap (λ who name. not (bytes_eq name who) && trusted_at users given i name) named.1 in
         trust_changed (without_pair i j given) (events.Distrust other) found paired sound goals_sound (within_removed (length users) given i j within)

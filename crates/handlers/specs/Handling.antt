@@ -6,7 +6,7 @@ use Rattle.model.specs.Archives.{Tree}
 use Rattle.model.specs.Derivations.{Derivation}
 use Rattle.model.specs.Classes.{known_at, derivation_path}
 use Rattle.model.specs.Worlds.{Source, Setup, Desk, World, Goal, are_users}
-use Rattle.model.specs.Events as events
+use Rattle.model.specs.Replies as replies
 use Rattle.model.specs.Events.{Request, Trust, Distrust, Unpin, Status, Fail, Forget, Event}
 use Rattle.model.specs.Replies.{is_memory_refusal, is_clash_refusal, is_refused, needs_no_memory}
 use Rattle.model.specs.Outcomes as outcomes
@@ -33,7 +33,7 @@ abbrev pub is_fault : Refusal → Bool
 is_fault why = is_memory_refusal why || is_clash_refusal why
 
 -- whether a request that is answered so takes no memory
-abbrev pub takes_no_memory : Request → events.Reply → Bool
+abbrev pub takes_no_memory : Request → replies.Reply → Bool
 takes_no_memory (Trust user) reply = true
 takes_no_memory (Distrust user) reply = true
 takes_no_memory (Unpin class) reply = true

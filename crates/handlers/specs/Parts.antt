@@ -3,6 +3,7 @@ use Rattle.std.specs.Prelude.{◌≡◌, ℕ, suc, Bool, if◌then◌else◌, Li
 use Rattle.model.specs.Worlds.{Source, Setup, Goal}
 use Rattle.model.specs.Worlds as worlds
 use Rattle.model.specs.Events as events
+use Rattle.model.specs.Replies as replies
 use Rattle.model.specs.Steps.{reply_to, after}
 use Rattle.trust.specs.Naming.{trusted_at}
 use Rattle.realise.specs.Holdings.{Holdings}
@@ -50,6 +51,6 @@ abbrev pub stored_after : Setup → worlds.World → events.Event → List Sourc
 stored_after setup w event sources = put_all (stored_by setup w event.actor event.request) sources
 
 -- the reply is the model's, and so is the world after it
-pub record IsStep (setup : Setup) (old : worlds.World) (event : events.Event) (reply : events.Reply) (new : worlds.World) : Type 0 where
+pub record IsStep (setup : Setup) (old : worlds.World) (event : events.Event) (reply : replies.Reply) (new : worlds.World) : Type 0 where
   pub told : reply ≡ reply_to setup old event
   pub world : new ≡ after setup old event

@@ -57,7 +57,7 @@ pub fn serve_plan(alloc: Global, plan: &Plan, cache: &mut Cache) -> Result<Reply
     ensures { IsServedOf plan.now result }
 {
     let entries = served_closure_with(alloc, plan, cache)?;
-    Ok(Reply::Entries(Closure::new(entries)?))
+    Ok(Reply::Closure(Closure::new(entries)?))
 }
 
 /// The entries of the closure of a class for the user at a place, of all that he sees.
@@ -97,5 +97,5 @@ pub fn closure(
     ensures { Handles state.now place (ClosureRequest class.now) result state.now }
 {
     let entries = entries_for(alloc, state, place, cache, class)?;
-    Ok(CopiedReply::new(Reply::Entries(Closure::new(entries)?))?)
+    Ok(CopiedReply::new(Reply::Closure(Closure::new(entries)?))?)
 }

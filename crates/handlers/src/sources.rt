@@ -4,7 +4,8 @@ ghost use Rattle.std.specs.Prelude.{◌≡◌, ◌≤◌, IfOk, IfErr, None, if�
 ghost use Rattle.std.specs.Option.{option_copied};
 ghost use Rattle.model.specs.Classes.{is_one_of};
 ghost use Rattle.model.specs.Worlds.{tree_at};
-ghost use Rattle.model.specs.Events.{AddSource as AddSourceRequest, Fetch as FetchRequest, Content};
+ghost use Rattle.model.specs.Events.{AddSource as AddSourceRequest, Fetch as FetchRequest};
+ghost use Rattle.model.specs.Replies as replies;
 ghost use Rattle.model.specs.declared.refusal.Refusal.TheVariants.{Memory};
 ghost use Rattle.realise.specs.Holdings.{paths_of};
 ghost use Rattle.events.specs.Terms.{reply_of};
@@ -68,10 +69,10 @@ fn held<'a>(table: &'a Table, desk: &Desk, path: &StorePath) -> Option<&'a Tree>
 
 /// A reply with a tree.
 fn reply_with(tree: &Tree) -> Result<CopiedReply, Refusal>
-    ensures content { IfOk result (λ r. reply_of r ≡ Content tree.now) }
+    ensures content { IfOk result (λ r. reply_of r ≡ replies.Tree tree.now) }
     ensures memory { IfErr result (λ e. e ≡ Memory) }
 {
-    Ok(CopiedReply::new(Reply::Content(tree.clone()?))?)
+    Ok(CopiedReply::new(Reply::Tree(tree.clone()?))?)
 }
 
 /// The tree at a path that a desk holds.

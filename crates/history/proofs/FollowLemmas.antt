@@ -6,6 +6,7 @@ use Rattle.std.proofs.lemmas.List.Elements.{All-contains_itself}
 use Rattle.model.specs.Paths.{NoClash}
 use Rattle.model.specs.Worlds.{Setup, World, nothing}
 use Rattle.model.specs.Events as events
+use Rattle.model.specs.Replies as replies
 use Rattle.model.specs.Steps.{world_after, after, reply_to}
 use Rattle.model.specs.Replies.{is_memory}
 use Rattle.model.specs.HashedTexts.{hashed, texts_of_event}
@@ -28,13 +29,13 @@ use Rattle.schedule.specs.ReadResults.{IsServedFrom}
 use Rattle.history.specs.Following.{HasReached, Follows, IsModelRead, FindsRead, IsPreparedAfter, IsNeedAfter}
 
 -- the step, where no two texts clash
-record Goes (setup : Setup) (rows : List Row) (e : events.Event) (given : events.Reply) (new : Core) (texts : List (List ℕ)) : Type 0 where
+record Goes (setup : Setup) (rows : List Row) (e : events.Event) (given : replies.Reply) (new : Core) (texts : List (List ℕ)) : Type 0 where
   reply : given ≡ reply_to setup (world_after setup nothing (events_of rows)) e
   world : world_of new ≡ after setup (world_after setup nothing (events_of rows)) e
   hashes : HasHashed texts new
   good : GivesGoodClosure setup (world_after setup nothing (events_of rows)) e × KeepsGoodClosure setup (world_after setup nothing (events_of rows)) e
 
-goes : (old new : Core) (rows : List Row) (e : events.Event) (reply : events.Reply) → Follows (setup_of old) old rows → is_memory reply ≡ false
+goes : (old new : Core) (rows : List Row) (e : events.Event) (reply : replies.Reply) → Follows (setup_of old) old rows → is_memory reply ≡ false
     → IsCoreStep old e reply new
     → (texts : List (List ℕ)) → NoClash texts → All (Contains texts) (hashed (setup_of old) nothing (events_of rows ++ e ∷ []))
     → Goes (setup_of old) rows e reply new texts

@@ -3,9 +3,9 @@ use Rattle.std.proofs.Common.{Bool, true, false, ◌≡◌, ℕ, List, [], ◌�
 use Rattle.std.specs.Prelude.{All}
 use Rattle.std.proofs.lemmas.List.{map_push}
 use Rattle.std.proofs.lemmas.List.Elements.{All-head, All-tail, All-nil, All-cons}
-use Rattle.model.specs.Replies.{is_memory, is_memory_refusal, is_stopped_refusal}
+use Rattle.model.specs.Replies.{is_memory, is_memory_refusal, is_stopped_refusal, Answer}
 use Rattle.model.specs.Worlds.{Setup, World}
-use Rattle.model.specs.Events.{Event, Answer}
+use Rattle.model.specs.Events.{Event}
 use Rattle.model.specs.Steps.{world_after, answers, after, reply_to, replies_to}
 use Rattle.model.specs.HashedTexts.{hashed, texts_of_event}
 use Rattle.model.specs.GivenClosures.{GiveGoodClosures}

@@ -4,6 +4,7 @@ use mathlib.Core.List.{IsPrefix}
 use Rattle.model.specs.Paths.{NoClash}
 use Rattle.model.specs.Worlds.{Setup, nothing}
 use Rattle.model.specs.Events as events
+use Rattle.model.specs.Replies as replies
 use Rattle.model.specs.Steps.{world_after, reply_to}
 use Rattle.model.specs.Replies.{is_unrecorded}
 use Rattle.model.specs.HashedTexts.{hashed}
@@ -26,10 +27,10 @@ event_in r = event_of r.event
 abbrev pub events_of : List Row → List events.Event
 events_of rows = map event_in rows
 
-abbrev pub answer_in : Row → events.Answer
+abbrev pub answer_in : Row → replies.Answer
 answer_in r = record { actor = r.event.actor; reply = reply_of r.reply }
 
-abbrev pub answers_of : List Row → List events.Answer
+abbrev pub answers_of : List Row → List replies.Answer
 answers_of rows = map answer_in rows
 
 -- ---- replies that have no row
@@ -59,7 +60,7 @@ pub record IsAnswered (setup : Setup) (old : Known) (event : Event) (reply : Rep
 
 -- where no two texts that the events of rows and one more hash have one folded digest, a reply to that one is the model's after these
 -- rows, and the closure that is given then, or that a goal is built from, is good
-pub record IsToldAfter (setup : Setup) (rows : List Row) (e : events.Event) (reply : events.Reply) : Type 0 where
+pub record IsToldAfter (setup : Setup) (rows : List Row) (e : events.Event) (reply : replies.Reply) : Type 0 where
   pub same : NoClash (hashed setup nothing (events_of rows ++ e ∷ [])) → reply ≡ reply_to setup (world_after setup nothing (events_of rows)) e
   pub good : NoClash (hashed setup nothing (events_of rows ++ e ∷ []))
       → GivesGoodClosure setup (world_after setup nothing (events_of rows)) e × KeepsGoodClosure setup (world_after setup nothing (events_of rows)) e

@@ -8,7 +8,7 @@ use Rattle.model.specs.declared.refusal.Refusal.TheVariants.{NotHeld, InUse}
 use Rattle.model.specs.Worlds.{Waiting, Goal}
 use Rattle.model.specs.Goals.{in_status, is_building}
 use Rattle.model.specs.FinishedBuilds.{is_record_at}
-use Rattle.model.specs.Events as events
+use Rattle.model.specs.Replies as replies
 use Rattle.model.specs.Outcomes.{Observation, Outcome, becomes, check}
 use Rattle.model.specs.ForgetRequests.{is_built_from, let_go, without_records, is_in_use, forget}
 use Rattle.laws.proofs.OutcomeLemmas.{checked}
@@ -16,9 +16,9 @@ use Rattle.laws.proofs.GoalLemmas.{Under}
 
 module _ (P : Outcome → Type 0) (s : Observation) (class path : List ℕ) where
   -- the records are taken out, or are not there, or are in use
-  pub forget_cases : P (becomes (without_records class path s.desk) events.Done) → P (Err NotHeld) → P (Err InUse) → P (forget s class path)
+  pub forget_cases : P (becomes (without_records class path s.desk) replies.Ok) → P (Err NotHeld) → P (Err InUse) → P (forget s class path)
   forget_cases gone absent used =
-      let done : Outcome = becomes (without_records class path s.desk) events.Done in
+      let done : Outcome = becomes (without_records class path s.desk) replies.Ok in
       checked P NotHeld (list_any (is_record_at class path) s.desk.records) (check InUse (not (is_in_use s class path)) done)
       (λ held. checked P InUse (not (is_in_use s class path)) done (λ free. gone) (λ needed. used)) (λ none. absent)
 

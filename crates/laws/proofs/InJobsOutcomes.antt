@@ -23,8 +23,9 @@ use Rattle.model.specs.FinishedBuilds.{built_in, built_on, is_labelled_by, finis
 use Rattle.model.specs.Orders.{least}
 use Rattle.model.specs.Goals.{goal_at, with_goal, with_new_goal, new_goal, in_status, as_seen, is_waiting, is_building, planned_in, same_job, job_of}
 use Rattle.model.specs.Endings.{End, Output, Failure}
-use Rattle.model.specs.Events as events
-use Rattle.model.specs.Events.{Request, AddSource, AddDerivation, Offer, Fetch, Trust, Distrust, Pin as PinIt, Unpin, Closure, Take, Build, Status as StatusRequest, Plan, Start, Finish, Fail, Forget, Reply, Path, Content, Entries, GoalNumber, GoalStatus}
+use Rattle.model.specs.Replies as replies
+use Rattle.model.specs.Events.{Request, AddSource, AddDerivation, Offer, Fetch, Trust, Distrust, Pin as PinIt, Unpin, Closure, Take, Build, Status as StatusRequest, Plan, Start, Finish, Fail, Forget}
+use Rattle.model.specs.Replies.{Reply, Path}
 use Rattle.model.specs.Outcomes.{Observation, Ended, Outcome, becomes, check, need, room, add_entry, delivered}
 use Rattle.model.specs.SourceRequests.{source_named}
 use Rattle.model.specs.DerivationRequests.{admit_new}
@@ -149,12 +150,12 @@ module _ (jobs : Job → Bool) where
 
     told_in : (o : Option Goal) → told_of s.reach (option_map (goal_in jobs) o) ≡ told_of s.reach o
     told_in None = refl
-    told_in (Some g) = ap GoalStatus (seen_in g.status)
+    told_in (Some g) = ap replies.Status (seen_in g.status)
 
     turned_in : (d e : Desk) (n : ℕ) (g : Goal) → d ≡ desk_in jobs e → goal_in jobs g ≡ g → turns t d n g ≡ outcome_in jobs (turns s e n g)
     turned_in d e n g is same =
         let desk : with_goal n g d ≡ desk_in jobs (with_goal n g e) = ap (with_goal n g) is ∙ goal_put jobs n g e same in
-        ap (λ x. becomes x (GoalStatus (as_seen s.reach g.status))) desk
+        ap (λ x. becomes x (replies.Status (as_seen s.reach g.status))) desk
 
     -- ---- planning and starting
 
@@ -281,7 +282,7 @@ module _ (jobs : Job → Bool) where
         let records : Bool = list_any (refers_to_class class path) (remaining class path s.desk.records) in
         checked_in NotHeld _ _ _ _ refl
         (checked_in InUse _ _ _ _ (ap (λ b. not (records || b)) (builds_in class path s.desk.goals))
-        (ap (λ gs. becomes (record s.desk { records = remaining class path s.desk.records; goals = gs }) events.Done) (all_let_go_in class path s.desk.goals)))
+        (ap (λ gs. becomes (record s.desk { records = remaining class path s.desk.records; goals = gs }) replies.Ok) (all_let_go_in class path s.desk.goals)))
 
     pub requested_in : (request : Request) → outcome setup t request ≡ outcome_in jobs (outcome setup s request)
     unfolding outcome
@@ -292,15 +293,15 @@ module _ (jobs : Job → Bool) where
     requested_in (Offer path tree) = offer_in path tree
     requested_in (Fetch path) = needed_in NotHeld (held_at path s.desk) _ _ (λ tree. refl)
     requested_in (Trust other) =
-        checked_in UnknownUser _ _ _ (becomes (if bytes_eq other s.user then s.desk else with_trust other s.desk) events.Done) refl
+        checked_in UnknownUser _ _ _ (becomes (if bytes_eq other s.user then s.desk else with_trust other s.desk) replies.Ok) refl
         (elim (either (bytes_eq other s.user)) [ inl is ↦ rw is refl | inr f ↦ rw f refl ])
-    requested_in (Distrust other) = checked_in UnknownUser _ _ _ (becomes (without_trust other s.desk) events.Done) refl refl
+    requested_in (Distrust other) = checked_in UnknownUser _ _ _ (becomes (without_trust other s.desk) replies.Ok) refl refl
     requested_in (PinIt class path) =
-        either_in (is_some (pin_of s.desk.pins class)) _ _ _ (becomes (with_pin class path s.desk) events.Done) (room setup (with_pin class path s.desk) events.Done) refl refl
+        either_in (is_some (pin_of s.desk.pins class)) _ _ _ (becomes (with_pin class path s.desk) replies.Ok) (room setup (with_pin class path s.desk) replies.Ok) refl refl
         (roomed_in setup _ (with_pin class path s.desk) _ refl)
     requested_in (Unpin class) = refl
     requested_in (Closure class) =
-        ap (λ o. then_do o (λ entries. becomes t.desk (Entries entries))) (closure_in s.view s.desk.pins (class ∷ []) [])
+        ap (λ o. then_do o (λ entries. becomes t.desk (replies.Closure entries))) (closure_in s.view s.desk.pins (class ∷ []) [])
         ∙ then_done_in (closure_for s class) _ _ (λ entries. refl)
     requested_in (Take class) =
         ap (λ o. then_do o (take_entries setup t.desk class)) (closure_in s.view s.desk.pins (class ∷ []) [])
@@ -308,10 +309,10 @@ module _ (jobs : Job → Bool) where
         needed_in NotRealised (path_for class entries) _ _ (λ path. roomed_in setup _ (with_entries entries s.desk) _ (entries_in jobs entries s.desk)))
     requested_in (Build path) =
         needed_in UnknownDerivation (known_at (known_of s.desk) path) _ _ (λ a.
-        ap (λ n. check Quota (nat_lt n most_goals) (becomes (with_new_goal path t.desk) (GoalNumber (suc n)))) (length-map s.desk.goals (goal_in jobs))
-        ∙ checked_in Quota _ _ _ (becomes (with_new_goal path s.desk) (GoalNumber (suc (length s.desk.goals)))) refl
-        (ap (λ gs. becomes (record t.desk { goals = gs }) (GoalNumber (suc (length s.desk.goals)))) (sym (map-append (goal_in jobs) s.desk.goals (new_goal path ∷ [])))))
-    requested_in (StatusRequest n) = goal_needed_in UnknownGoal n s.desk.goals _ _ (λ g. ap (λ status. becomes t.desk (GoalStatus status)) (seen_in g.status))
+        ap (λ n. check Quota (nat_lt n most_goals) (becomes (with_new_goal path t.desk) (replies.Goal (suc n)))) (length-map s.desk.goals (goal_in jobs))
+        ∙ checked_in Quota _ _ _ (becomes (with_new_goal path s.desk) (replies.Goal (suc (length s.desk.goals)))) refl
+        (ap (λ gs. becomes (record t.desk { goals = gs }) (replies.Goal (suc (length s.desk.goals)))) (sym (map-append (goal_in jobs) s.desk.goals (new_goal path ∷ [])))))
+    requested_in (StatusRequest n) = goal_needed_in UnknownGoal n s.desk.goals _ _ (λ g. ap (λ status. becomes t.desk (replies.Status status)) (seen_in g.status))
     requested_in (Plan n) = plan_in n
     requested_in (Start n) = start_in n
     requested_in (Finish n bytes) = end_in n (Output bytes)

@@ -16,7 +16,9 @@ use Rattle.model.specs.Endings.{End, Output, Failure, built_record, done_with, w
 use Rattle.model.specs.Choices as choices
 use Rattle.model.specs.Closures as closures
 use Rattle.model.specs.Resolutions.{input_classes, resolved_over, resolve}
-use Rattle.model.specs.Events.{Request, AddSource, AddDerivation, Offer, Fetch, Trust, Distrust, Pin, Unpin, Closure, Take, Build, Status as StatusRequest, Plan, Start, Finish, Fail, Forget, Event, Reply, GoalStatus}
+use Rattle.model.specs.Events.{Request, AddSource, AddDerivation, Offer, Fetch, Trust, Distrust, Pin, Unpin, Closure, Take, Build, Status as StatusRequest, Plan, Start, Finish, Fail, Forget, Event}
+use Rattle.model.specs.Replies as replies
+use Rattle.model.specs.Replies.{Reply}
 use Rattle.model.specs.Outcomes.{reaches, Observation, observation_of, Notification, NoNotification, Ended, Change, Outcome, becomes, check, need, reply_of, delivered, desk_after}
 use Rattle.model.specs.FinishedBuilds.{finished_build, for_class}
 use Rattle.model.specs.GoalRequests.{own_job, turns, plan_resolved, resolve_for, plan_goal, done_again, start_copied, start_goal}
@@ -228,7 +230,7 @@ record PlansGoal (s : Observation) (r : Request) (o : Outcome) : Type 0 where
   there : goal_at number s.desk.goals ≡ Some goal
   known : known_at (known_of s.desk) goal.derivation ≡ Some admission
   is : resolve_for s admission.derivation ≡ Ok resolved
-  outcome_is : o ≡ becomes (with_goal number (planned_goal goal resolved) s.desk) (GoalStatus Planned)
+  outcome_is : o ≡ becomes (with_goal number (planned_goal goal resolved) s.desk) (replies.Status Planned)
 
 -- what the goals keep was kept before, or the request is refused
 abbrev GoalsFollow : Observation → Outcome → Type 0
@@ -268,9 +270,9 @@ module _ (s : Observation) (n : ℕ) where
       resolved_so g a there known (Err why) is = failed_so g why there
 
   -- where it is answered that the goal is planned, it is
-  planned_so : reply_of (requests.plan s n) ≡ GoalStatus Planned → PlansGoal s (Plan n) (requests.plan s n)
+  planned_so : reply_of (requests.plan s n) ≡ replies.Status Planned → PlansGoal s (Plan n) (requests.plan s n)
   planned_so =
-      let P : Outcome → Type 0 = λ o. reply_of o ≡ GoalStatus Planned → PlansGoal s (Plan n) o in
+      let P : Outcome → Type 0 = λ o. reply_of o ≡ replies.Status Planned → PlansGoal s (Plan n) o in
       needed P UnknownGoal (goal_at n s.desk.goals) (λ g. check WrongState (is_waiting (as_seen s.reach g.status)) (plan_goal s n g))
       (λ g there. checked P WrongState (is_waiting (as_seen s.reach g.status)) (plan_goal s n g)
       (λ waits. needed P UnknownDerivation (known_at (known_of s.desk) g.derivation) (λ a. plan_resolved s n g (resolve_for s a.derivation))
@@ -278,7 +280,7 @@ module _ (s : Observation) (n : ℕ) where
       (λ none told. cc)
     where
       resolved_so : (g : Goal) (a : Admission) → goal_at n s.desk.goals ≡ Some g → known_at (known_of s.desk) g.derivation ≡ Some a
-          → (o : Result Resolved Refusal) → resolve_for s a.derivation ≡ o → reply_of (plan_resolved s n g o) ≡ GoalStatus Planned
+          → (o : Result Resolved Refusal) → resolve_for s a.derivation ≡ o → reply_of (plan_resolved s n g o) ≡ replies.Status Planned
           → PlansGoal s (Plan n) (plan_resolved s n g o)
       resolved_so g a there known (Ok r) is told = record {
         number = n;
@@ -475,11 +477,11 @@ abbrev PlansAgain : Setup → List Event → Event → List ℕ → ℕ → Type
 PlansAgain setup done e u n = (e ≡ planning u n) × IsPlanned setup (world_after setup nothing done) u n
 
 abbrev says_planned : Reply → Bool
-says_planned (GoalStatus Planned) = true
+says_planned (replies.Status Planned) = true
 says_planned reply = false
 
-planned_said : (reply : Reply) → says_planned reply ≡ true → reply ≡ GoalStatus Planned
-planned_said (GoalStatus Planned) says = refl
+planned_said : (reply : Reply) → says_planned reply ≡ true → reply ≡ replies.Status Planned
+planned_said (replies.Status Planned) says = refl
 planned_said reply says = absurd (true≢false (sym says))
 
 abbrev asks_plan : Request → ℕ → Bool
@@ -550,9 +552,9 @@ kept_now setup done e n r plans number same good =
     let s : Observation = observation_of setup w u in
     let d = plans.admission.derivation in
     let new : Goal = planned_goal plans.goal plans.resolved in
-    let told : reply_to setup w e ≡ GoalStatus Planned = ap reply_of plans.outcome_is in
+    let told : reply_to setup w e ≡ replies.Status Planned = ap reply_of plans.outcome_is in
     let there : goal_at plans.number (after setup w e u).goals ≡ Some new =
-    ap (goal_at plans.number) (goals_after setup w e (with_goal plans.number new s.desk) (GoalStatus Planned) plans.outcome_is)
+    ap (goal_at plans.number) (goals_after setup w e (with_goal plans.number new s.desk) (replies.Status Planned) plans.outcome_is)
     ∙ put_there plans.number new plans.goal s.desk.goals plans.there in
     let chosen = resolved_plan s.view s.desk.pins (known_of s.desk) d plans.resolved plans.is in
     let is_good : IsGoodFor setup w u (input_classes (known_of (w u)) d) d.sources plans.resolved.closure =
@@ -567,7 +569,7 @@ kept_now setup done e n r plans number same good =
       cut = ap (λ last. done ++ last ∷ []) event;
       world = w;
       reached = refl;
-      told = subst (λ (x : Event). reply_to setup w x ≡ GoalStatus Planned) event told;
+      told = subst (λ (x : Event). reply_to setup w x ≡ replies.Status Planned) event told;
       last = λ since rest same. absurd (not_cut since rest same);
       goal = plans.goal;
       there = plans.there;
@@ -590,7 +592,7 @@ goals_planned : (setup : Setup) (w : World) (e : Event) (u : List ℕ) (plans : 
 goals_planned setup w e u plans own =
     let new : Goal = planned_goal plans.goal plans.resolved in
     subst (λ x. (after setup w e x).goals ≡ with_goal_at plans.number new (w x).goals) (sym own)
-    (goals_after setup w e (with_goal plans.number new (w e.actor)) (GoalStatus Planned) plans.outcome_is)
+    (goals_after setup w e (with_goal plans.number new (w e.actor)) (replies.Status Planned) plans.outcome_is)
 
 -- what the goal keeps then is well kept
 kept_planned : (setup : Setup) (done : List Event) (e : Event) (u : List ℕ) (n : ℕ) (g : Goal) (r : Resolved)
@@ -601,7 +603,7 @@ kept_planned setup done e u n g r plans own number is kept good =
     let same : r ≡ plans.resolved = some_same r plans.resolved (sym kept ∙ ap (λ (y : Goal). y.resolved) (sym is)) in
     subst (λ x. IsWellKept setup (done ++ e ∷ []) x n r) (sym own) (kept_now setup done e n r plans number same good)
 
-outcome_planned : (setup : Setup) (s : Observation) (n : ℕ) → reply_of (outcome setup s (Plan n)) ≡ GoalStatus Planned → PlansGoal s (Plan n) (outcome setup s (Plan n))
+outcome_planned : (setup : Setup) (s : Observation) (n : ℕ) → reply_of (outcome setup s (Plan n)) ≡ replies.Status Planned → PlansGoal s (Plan n) (outcome setup s (Plan n))
 unfolding outcome
 outcome_planned setup s n = planned_so s n
 
@@ -609,7 +611,7 @@ outcome_planned setup s n = planned_so s n
 plans_it : (setup : Setup) (w : World) (u : List ℕ) (n : ℕ) → IsPlanned setup w u n → PlansGoal (observation_of setup w u) (Plan n) (outcome_of setup w (planning u n))
 plans_it setup w u n =
     let s : Observation = observation_of setup w u in
-    cond_both (is_user setup u) (outcome setup s (Plan n)) (Err UnknownUser) (λ (o : Outcome). reply_of o ≡ GoalStatus Planned → PlansGoal s (Plan n) o)
+    cond_both (is_user setup u) (outcome setup s (Plan n)) (Err UnknownUser) (λ (o : Outcome). reply_of o ≡ replies.Status Planned → PlansGoal s (Plan n) o)
     (λ yes. outcome_planned setup s n) (λ no told. absurd (cc))
 
 kept_again : (setup : Setup) (done : List Event) (u : List ℕ) (n : ℕ) (g : Goal) (r : Resolved) → IsPlanned setup (world_after setup nothing done) u n
@@ -667,7 +669,7 @@ asks_itself : (setup : Setup) (w : World) (e : Event) (u : List ℕ) (n : ℕ) �
     → n ≡ plans.number → (e ≡ planning u n) × IsPlanned setup w u n
 asks_itself setup w e u n own plans number =
     let event : e ≡ planning u n = λ j. record { actor = sym own j; request = (plans.asked ∙ ap Plan (sym number)) j } in
-    (event, subst (λ (x : Event). reply_to setup w x ≡ GoalStatus Planned) event (ap reply_of plans.outcome_is))
+    (event, subst (λ (x : Event). reply_to setup w x ≡ replies.Status Planned) event (ap reply_of plans.outcome_is))
 
 pub only_plans : OnlyPlansChangeKept
 only_plans setup w e u n old new was now = elim (after_follows setup w e u) [
@@ -719,7 +721,7 @@ stand_after setup w e u all = elim (after_follows setup w e u) [
       let new : Goal = planned_goal plans.goal plans.resolved in
       let goals : (after setup w e u).goals ≡ with_goal_at plans.number new (w u).goals =
       subst (λ x. (after setup w e x).goals ≡ with_goal_at plans.number new (w x).goals) (sym p.0)
-      (goals_after setup w e (with_goal plans.number new (w e.actor)) (GoalStatus Planned) plans.outcome_is) in
+      (goals_after setup w e (with_goal plans.number new (w e.actor)) (replies.Status Planned) plans.outcome_is) in
       subst (All Stands) (sym goals) (stand_put plans.number new (w u).goals (λ planned. refl) all)
 ]
   where

@@ -5,7 +5,7 @@ use Rattle.std.specs.List.{list_any, list_all}
 use Rattle.model.specs.declared.mode.Mode.TheVariants.{Service}
 use Rattle.model.specs.declared.refusal.Refusal.TheVariants.{BadUsers, BadLine, TooLarge}
 use Rattle.model.specs.Worlds.{Job, are_users}
-use Rattle.model.specs.Events.{Reply}
+use Rattle.model.specs.Replies.{Reply}
 use Rattle.model.specs.Lines.{LineResult, split, cut_at, filled}
 use Rattle.model.specs.Forms.{Form, Command, names_form, users_form, first_form, command_in, command_form, later_form, text_form, line_form, is_empty_word, is_quiet, is_printable, longest_line}
 use Rattle.model.specs.Forms as form

@@ -1,7 +1,8 @@
 -- The main theorem, from the laws.
 use Rattle.std.proofs.Common.{◌≡◌, ℕ, List, ap, ◌∙◌}
 use Rattle.model.specs.Worlds.{Setup, nothing}
-use Rattle.model.specs.Events.{Event, Answer}
+use Rattle.model.specs.Events.{Event}
+use Rattle.model.specs.Replies.{Answer}
 use Rattle.model.specs.Steps.{answers, replies_to}
 use Rattle.model.specs.GivenClosures.{GiveGoodClosures}
 use Rattle.model.specs.Laws.{IsIsolated, IsTimelyIsolated}

@@ -3,7 +3,9 @@ use Rattle.std.proofs.Common.{◌≡◌, ℕ, Bool, true, false, List, refl, Ok,
 use Rattle.std.specs.Prelude.{bytes_eq, if◌then◌else◌}
 use Rattle.model.specs.declared.refusal.Refusal.TheVariants.{UnknownUser}
 use Rattle.model.specs.Worlds.{Setup, Desk, World, is_user}
-use Rattle.model.specs.Events.{Request, AddSource, AddDerivation, Offer, Fetch, Trust, Distrust, Pin, Unpin, Closure, Take, Build, Status, Plan, Start, Finish, Fail, Forget, is_query, Event, Reply, Content, Entries, GoalStatus}
+use Rattle.model.specs.Events.{Request, AddSource, AddDerivation, Offer, Fetch, Trust, Distrust, Pin, Unpin, Closure, Take, Build, Status, Plan, Start, Finish, Fail, Forget, is_query, Event}
+use Rattle.model.specs.Replies as replies
+use Rattle.model.specs.Replies.{Reply}
 use Rattle.model.specs.Goals.{as_seen}
 use Rattle.model.specs.Outcomes.{reaches, Observation, observation_of, Outcome, becomes, desk_after}
 use Rattle.model.specs.Steps.{outcome, outcome_of, after}
@@ -29,10 +31,10 @@ told setup w u reply x reached = own (bytes_eq x u) refl
 -- so does what comes of a query
 leaves : (setup : Setup) (w : World) (u : List ℕ) (request : Request) → is_query request ≡ true → Leaves setup w u (outcome setup (observation_of setup w u) request)
 unfolding outcome
-leaves setup w u (Fetch path) asks = fetch_cases (Leaves setup w u) (w u) path (λ tree held. told setup w u (Content tree)) (λ absent x reached. refl)
+leaves setup w u (Fetch path) asks = fetch_cases (Leaves setup w u) (w u) path (λ tree held. told setup w u (replies.Tree tree)) (λ absent x reached. refl)
 leaves setup w u (Closure class) asks =
-    closure_cases (Leaves setup w u) (observation_of setup w u) class (λ entries. told setup w u (Entries entries)) (λ x reached. refl) (λ x reached. refl) (λ why x reached. refl)
-leaves setup w u (Status n) asks = status_cases (Leaves setup w u) (observation_of setup w u) n (λ g there. told setup w u (GoalStatus (as_seen (reaches setup w u) g.status))) (λ absent x reached. refl)
+    closure_cases (Leaves setup w u) (observation_of setup w u) class (λ entries. told setup w u (replies.Closure entries)) (λ x reached. refl) (λ x reached. refl) (λ why x reached. refl)
+leaves setup w u (Status n) asks = status_cases (Leaves setup w u) (observation_of setup w u) n (λ g there. told setup w u (replies.Status (as_seen (reaches setup w u) g.status))) (λ absent x reached. refl)
 leaves setup w u request asks = absurd (cc)
 
 pub no_change : QueriesChangeNothing

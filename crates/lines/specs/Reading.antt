@@ -12,7 +12,7 @@ use Rattle.model.specs.Forms as form
 use Rattle.model.specs.Talk.{Row, Silent, Names, Refuses, Asks, Waits, Gets}
 use Rattle.model.specs.Replies.{ends_wait}
 use Rattle.model.specs.Worlds.{Job}
-use Rattle.model.specs.Events as events
+use Rattle.model.specs.Replies as replies
 use Rattle.events.specs.declared.event.Event.{Event}
 use Rattle.events.specs.declared.event.Request.{Request}
 use Rattle.events.specs.Terms.{event_of, request_of}
@@ -49,16 +49,16 @@ abbrev pub IsRowOf : List Job → Reading → Row → Type 0
 IsRowOf goals reading.Silent row = row ≡ Silent
 IsRowOf goals (reading.Names users) row = row ≡ Names users.items
 IsRowOf goals (reading.Refuses why) row = row ≡ Refuses why
-IsRowOf goals (reading.Asks event) row = (reply : events.Reply) × (row ≡ Asks (event_of event) reply)
-IsRowOf goals reading.Waits row = (reply : events.Reply) × (ends_wait reply ≡ true) × (row ≡ Waits goals reply)
+IsRowOf goals (reading.Asks event) row = (reply : replies.Reply) × (row ≡ Asks (event_of event) reply)
+IsRowOf goals reading.Waits row = (reply : replies.Reply) × (ends_wait reply ≡ true) × (row ≡ Waits goals reply)
 
 -- a line of that form comes to this, whatever goals the lines before it got
 abbrev pub Becomes : Form → Reading → Type 0
 Becomes form reading.Silent = (goals : List Job) → Gets goals form Silent
 Becomes form (reading.Names users) = (goals : List Job) → Gets goals form (Names users.items)
 Becomes form (reading.Refuses why) = (goals : List Job) → Gets goals form (Refuses why)
-Becomes form (reading.Asks event) = (goals : List Job) (reply : events.Reply) → Gets goals form (Asks (event_of event) reply)
-Becomes form reading.Waits = (goals : List Job) (reply : events.Reply) → ends_wait reply ≡ true → Gets goals form (Waits goals reply)
+Becomes form (reading.Asks event) = (goals : List Job) (reply : replies.Reply) → Gets goals form (Asks (event_of event) reply)
+Becomes form reading.Waits = (goals : List Job) (reply : replies.Reply) → ends_wait reply ≡ true → Gets goals form (Waits goals reply)
 
 -- a line of any command that makes this event, or none for this, comes to this
 abbrev pub BecomesOfCommand : Result Event Refusal → Reading → Type 0

@@ -2,7 +2,7 @@
 
 ghost use Rattle.std.specs.Prelude.{◌≡◌, ◌++◌, ◌∷◌, [], OnOk, IfOk, IfErr, codes};
 ghost use Rattle.model.specs.declared.refusal.Refusal.TheVariants.{Memory};
-ghost use Rattle.model.specs.Events as events;
+ghost use Rattle.model.specs.Replies as replies;
 ghost use Rattle.model.specs.Talk.{job_text, status_text, reply_text, answer_text};
 ghost use Rattle.events.specs.Statuses.{status_of};
 ghost use Rattle.events.specs.Terms.{reply_of};
@@ -41,7 +41,7 @@ fn add_status(alloc: Global, text: &mut Vec<u8>, status: &Status) -> Result<(), 
 /// Adds the paths of a derivation and of its class.
 fn add_derivation(text: &mut Vec<u8>, path: &StorePath, class: &StorePath) -> Result<(), AllocError>
     ensures { OnOk result
-        (text.new.items ≡ text.old.items ++ reply_text (events.Derivation path.now class.now)) }
+        (text.new.items ≡ text.old.items ++ reply_text (replies.Derivation path.now class.now)) }
 {
     add(text, b"drv ", path.bytes())?;
     add(text, b" class ", class.bytes())
@@ -50,7 +50,7 @@ fn add_derivation(text: &mut Vec<u8>, path: &StorePath, class: &StorePath) -> Re
 /// Adds a tree.
 fn add_tree(alloc: Global, text: &mut Vec<u8>, tree: &Tree) -> Result<(), AllocError>
     ensures { OnOk result
-        (text.new.items ≡ text.old.items ++ reply_text (events.Content tree.now)) }
+        (text.new.items ≡ text.old.items ++ reply_text (replies.Tree tree.now)) }
 {
     match tree_text(alloc, tree) {
         Ok(words) => add(text, b"tree ", words.as_slice()),
@@ -61,7 +61,7 @@ fn add_tree(alloc: Global, text: &mut Vec<u8>, tree: &Tree) -> Result<(), AllocE
 /// Adds how many entries a closure has, and the entries.
 fn add_closure(alloc: Global, text: &mut Vec<u8>, entries: &[Entry]) -> Result<(), AllocError>
     ensures { OnOk result
-        (text.new.items ≡ text.old.items ++ reply_text (events.Entries entries.now)) }
+        (text.new.items ≡ text.old.items ++ reply_text (replies.Closure entries.now)) }
 {
     add_number(alloc, text, b"closure ", entries.len())?;
     add_entries(alloc, text, entries)
@@ -70,7 +70,7 @@ fn add_closure(alloc: Global, text: &mut Vec<u8>, entries: &[Entry]) -> Result<(
 /// Adds why nothing was done.
 fn add_refusal(alloc: Global, text: &mut Vec<u8>, why: Refusal) -> Result<(), AllocError>
     ensures { OnOk result
-        (text.new.items ≡ text.old.items ++ reply_text (events.Refused why)) }
+        (text.new.items ≡ text.old.items ++ reply_text (replies.Refused why)) }
 {
     let words = why.to_string(alloc)?;
     add(text, b"refused ", words.as_bytes())
@@ -81,13 +81,13 @@ fn add_reply(alloc: Global, text: &mut Vec<u8>, reply: &Reply) -> Result<(), All
     ensures { OnOk result (text.new.items ≡ text.old.items ++ reply_text (reply_of reply.now)) }
 {
     match reply {
-        Reply::Done => text.extend_from_slice(b"ok"),
+        Reply::Ok => text.extend_from_slice(b"ok"),
         Reply::Path(path) => add(text, b"path ", path.bytes()),
         Reply::Derivation { path, class } => add_derivation(text, path, class),
-        Reply::Content(tree) => add_tree(alloc, text, tree),
-        Reply::Entries(closure) => add_closure(alloc, text, closure.entries()),
-        Reply::GoalNumber(number) => add_number(alloc, text, b"goal ", usize::from(*number)),
-        Reply::GoalStatus(status) => add_status(alloc, text, status),
+        Reply::Tree(tree) => add_tree(alloc, text, tree),
+        Reply::Closure(closure) => add_closure(alloc, text, closure.entries()),
+        Reply::Goal(number) => add_number(alloc, text, b"goal ", usize::from(*number)),
+        Reply::Status(status) => add_status(alloc, text, status),
         Reply::Refused(why) => add_refusal(alloc, text, *why),
     }
 }

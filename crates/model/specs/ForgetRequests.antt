@@ -6,7 +6,7 @@ use Rattle.model.specs.Classes.{Class}
 use Rattle.model.specs.Worlds.{Record, Entry, OfSource, OfRecord, Resolved, Waiting, Goal, Desk}
 use Rattle.model.specs.Goals.{in_status, as_seen, is_building}
 use Rattle.model.specs.FinishedBuilds.{is_record_at}
-use Rattle.model.specs.Events as events
+use Rattle.model.specs.Replies as replies
 use Rattle.model.specs.Outcomes.{Observation, Outcome, becomes, check}
 
 -- ---- what needs a record
@@ -56,4 +56,4 @@ is_in_use s class path =
 abbrev pub forget : Observation → List ℕ → List ℕ → Outcome
 forget s class path =
     check NotHeld (list_any (is_record_at class path) s.desk.records)
-    (check InUse (not (is_in_use s class path)) (becomes (without_records class path s.desk) events.Done))
+    (check InUse (not (is_in_use s class path)) (becomes (without_records class path s.desk) replies.Ok))

@@ -6,7 +6,8 @@ use Rattle.model.specs.Choices as choices
 use Rattle.model.specs.Closures.{IsWhole, KeepsNoReplaced}
 use Rattle.model.specs.Goals.{goal_at}
 use Rattle.model.specs.Resolutions.{input_classes, resolve}
-use Rattle.model.specs.Events.{Plan, Event, GoalStatus}
+use Rattle.model.specs.Events.{Plan, Event}
+use Rattle.model.specs.Replies as replies
 use Rattle.model.specs.Outcomes.{view_of}
 use Rattle.model.specs.Steps.{reply_to, after, world_after}
 use Rattle.model.specs.GivenClosures.{GiveGoodClosures}
@@ -17,7 +18,7 @@ planning u n = record { actor = u; request = Plan n }
 
 -- it is answered that the goal is planned
 abbrev pub IsPlanned : Setup → World → List ℕ → ℕ → Type 0
-IsPlanned setup w u n = reply_to setup w (planning u n) ≡ GoalStatus Planned
+IsPlanned setup w u n = reply_to setup w (planning u n) ≡ replies.Status Planned
 
 -- what the goal of a number keeps was found by the last event that planned it: it is what the goal's derivation, as its user knew it then,
 -- is built from, as he saw it then; and its closure serves no class by two paths, holds an entry for each label, and keeps no replaced hash

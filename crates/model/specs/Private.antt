@@ -1,7 +1,8 @@
 -- The main theorem: what is promised of the answers to the events of a run.
 use Rattle.std.specs.Prelude.{◌≡◌, ℕ, List}
 use Rattle.model.specs.Worlds.{Setup, nothing}
-use Rattle.model.specs.Events.{Event, Answer}
+use Rattle.model.specs.Events.{Event}
+use Rattle.model.specs.Replies.{Answer}
 use Rattle.model.specs.Steps.{answers, replies_to, replies}
 use Rattle.model.specs.Striking.{strike}
 use Rattle.model.specs.Timed.{strike_timed}

@@ -1,10 +1,31 @@
--- Tests of refusals and of replies.
-use Rattle.std.specs.Prelude.{Bool, true, false, ◌||◌}
+-- What users are answered, and tests of refusals and of replies.
+use Rattle.std.specs.Prelude.{ℕ, Bool, true, false, ◌||◌, List}
 use Rattle.model.specs.declared.refusal.Refusal.{Refusal}
 use Rattle.model.specs.declared.refusal.Refusal.TheVariants.{UnknownUser, TooLarge, UnknownDerivation, UnknownGoal, WrongState, NotHeld, InUse, Memory, Clash, Stopped}
-use Rattle.model.specs.Events.{Reply, Done, Refused}
+use Rattle.model.specs.Archives as archives
+use Rattle.model.specs.Worlds.{Entry}
+use Rattle.model.specs.Worlds as worlds
 
--- ---- refusals
+-- ---- replies
+
+-- what a request is answered: that it is done, a path that was added, the path of a derivation's file with that of its class, a tree, the
+-- entries of a closure, the number of a new goal, how far a goal is, or why nothing was done
+pub data Reply : Type 0 where
+  Ok : Reply
+  Path : (path : List ℕ) → Reply
+  Derivation : (path class : List ℕ) → Reply
+  Tree : (tree : archives.Tree) → Reply
+  Closure : (entries : List Entry) → Reply
+  Goal : (number : ℕ) → Reply
+  Status : (status : worlds.Status) → Reply
+  Refused : (why : Refusal) → Reply
+
+-- a reply and the user who gets it
+pub record Answer : Type 0 where
+  pub actor : List ℕ
+  pub reply : Reply
+
+-- ---- tests of refusals
 
 abbrev pub is_memory_refusal : Refusal → Bool
 is_memory_refusal Memory = true
@@ -34,7 +55,7 @@ needs_no_memory UnknownGoal = true
 needs_no_memory WrongState = true
 needs_no_memory why = false
 
--- ---- replies
+-- ---- tests of replies
 
 -- whether it is a refusal of a kind
 abbrev pub is_refusal : (Refusal → Bool) → Reply → Bool
@@ -62,5 +83,5 @@ is_unrecorded = is_refusal (λ why. is_memory_refusal why || is_stopped_refusal 
 
 -- what a wait may be answered: that there is nothing left to wait for, that memory was refused, or that an earlier want of memory stopped the store
 abbrev pub ends_wait : Reply → Bool
-ends_wait Done = true
+ends_wait Ok = true
 ends_wait reply = is_unrecorded reply

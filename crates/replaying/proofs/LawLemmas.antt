@@ -8,9 +8,9 @@ use Rattle.std.proofs.lemmas.List.Elements.{All-contains}
 use Rattle.model.specs.declared.refusal.Refusal.{Refusal}
 use Rattle.model.specs.Paths.{NoClash}
 use Rattle.model.specs.Worlds.{Setup, nothing}
-use Rattle.model.specs.Events.{is_query, Event, Reply, Refused}
+use Rattle.model.specs.Events.{is_query, Event}
+use Rattle.model.specs.Replies.{Reply, Refused, is_memory, is_unrecorded}
 use Rattle.model.specs.Steps.{answers, replies_to, replies}
-use Rattle.model.specs.Replies.{is_memory, is_unrecorded}
 use Rattle.model.specs.Private.{ArePrivate}
 use Rattle.model.specs.HashedTexts.{hashed}
 use Rattle.model.specs.Striking.{strike}

@@ -5,7 +5,8 @@ use Rattle.std.proofs.lemmas.List.{same_from_push}
 use Rattle.std.proofs.lemmas.List.Elements.{All-contains, All-append, All-weaker, All-contains_itself, Contains-append_left, Contains-append_right}
 use Rattle.model.specs.Paths.{NoClash}
 use Rattle.model.specs.Worlds.{Setup, World, nothing}
-use Rattle.model.specs.Events.{is_query, Event, Answer}
+use Rattle.model.specs.Events.{is_query, Event}
+use Rattle.model.specs.Replies.{Answer}
 use Rattle.model.specs.Steps.{world_after, after, answers, reply_to}
 use Rattle.model.specs.HashedTexts.{hashed, texts_of_event}
 use Rattle.model.specs.GivenClosures.{GivesGoodClosure, KeepsGoodClosure, GiveGoodClosures}

@@ -7,7 +7,9 @@ use Rattle.model.specs.declared.mode.Mode.TheVariants.{Service}
 use Rattle.std.specs.Global.{Vec}
 use Rattle.model.specs.Worlds.{Setup, Job}
 use Rattle.model.specs.Reach.{is_among}
-use Rattle.model.specs.Events.{Event as ModelEvent, Reply, Done}
+use Rattle.model.specs.Events.{Event as ModelEvent}
+use Rattle.model.specs.Replies as replies
+use Rattle.model.specs.Replies.{Reply}
 use Rattle.model.specs.Lines.{lines_of}
 use Rattle.model.specs.Talk.{Row, Silent, Names, Refuses, Asks, Waits, Seen, fresh, form_of, seen_after, after_all, Gets, GetsNext, Talks, users_in}
 use Rattle.events.specs.declared.event.Event.{Event}
@@ -71,7 +73,7 @@ module _ {A : Type 0} (setup : Setup) (store : A → Only) (events : A → List 
   answers old event reply new = Keeps setup (store old) (events old) (lost old) event reply (store new) (events new) (lost new)
 
   abbrev pub waited : A → List Job → Reply → A → Type 0
-  waited old goals reply new = (new ≡ old) × (reply ≡ Done)
+  waited old goals reply new = (new ≡ old) × (reply ≡ replies.Ok)
 
   abbrev IsKept : A → Row → A → Type 0
   IsKept old row new = LinksOnly setup (store old) row (store new) × (events new ≡ events old ++ events_in (row ∷ []))

@@ -5,8 +5,8 @@ use Rattle.std.specs.List.{list_any}
 use Rattle.std.proofs.lemmas.List.{map_push, append-nil}
 use Rattle.std.proofs.lemmas.List.Elements.{All-nil, All-cons}
 use Rattle.model.specs.Worlds.{Setup}
-use Rattle.model.specs.Events.{is_query, Event, Reply}
-use Rattle.model.specs.Replies.{is_unrecorded}
+use Rattle.model.specs.Events.{is_query, Event}
+use Rattle.model.specs.Replies.{Reply, is_unrecorded}
 use Rattle.model.specs.Talk as talk
 use Rattle.model.specs.Talk.{Silent, Names, Refuses, Asks, Waits, asked_in}
 use Rattle.session.specs.Serving.{Chain}

@@ -2,7 +2,8 @@
 use Rattle.std.proofs.Common.{◌≡◌, ℕ, ◌+◌, Bool, true, false, List, [], ◌∷◌, ◌++◌, length, map, refl, sym, ap, ◌∙◌, arith, append_assoc}
 use Rattle.std.specs.Prelude.{if◌then◌else◌, bytes_eq}
 use Rattle.std.proofs.lemmas.List.{map-append}
-use Rattle.model.specs.Events.{Event, Reply, Answer}
+use Rattle.model.specs.Events.{Event}
+use Rattle.model.specs.Replies.{Reply, Answer}
 use Rattle.model.specs.Steps.{replies_to}
 use Rattle.model.specs.Talk.{Row, Silent, Names, Refuses, Asks, Waits, answer_text, asked_of, asked_in}
 use Rattle.model.proofs.BoolLemmas.{same_bytes}

@@ -1,8 +1,9 @@
 -- What the one pass of a store is told.
 use Rattle.std.specs.Prelude.{◌≡◌, Bool, true, false, not, ◌&&◌, ◌||◌, if◌then◌else◌, List, [], ◌∷◌, ◌++◌}
 use Rattle.model.specs.Worlds.{Setup, Job}
-use Rattle.model.specs.Events.{is_query, Event, Reply, Done}
-use Rattle.model.specs.Replies.{is_refusal, is_stopped_refusal, is_memory, is_unrecorded}
+use Rattle.model.specs.Events.{is_query, Event}
+use Rattle.model.specs.Replies as replies
+use Rattle.model.specs.Replies.{Reply, is_refusal, is_stopped_refusal, is_memory, is_unrecorded}
 use Rattle.events.specs.Terms.{reply_of}
 use Rattle.history.specs.declared.row.Row.{Row}
 use Rattle.history.specs.Callers.{Known}
@@ -49,4 +50,4 @@ pub record IsOnlyAnswer (setup : Setup) (old : Only) (event : Event) (reply : Re
 
 -- a wait does nothing, since no line of the service waits
 abbrev pub DoesNothing : Only → List Job → Reply → Only → Type 0
-DoesNothing old goals reply new = (new ≡ old) × (reply ≡ Done)
+DoesNothing old goals reply new = (new ≡ old) × (reply ≡ replies.Ok)

@@ -4,7 +4,8 @@ use Rattle.std.specs.Global.{Vec}
 use Rattle.model.specs.declared.mode.Mode.TheVariants.{Service}
 use Rattle.model.specs.Lines.{lines_of}
 use Rattle.model.specs.Worlds.{Setup}
-use Rattle.model.specs.Events.{Event, Reply}
+use Rattle.model.specs.Events.{Event}
+use Rattle.model.specs.Replies.{Reply}
 use Rattle.model.specs.Talk.{Row, Names, Seen, fresh, seen_after, after_all, GetsNext, Talks, users_in}
 use Rattle.events.specs.declared.event.Event.{Event as AskedEvent}
 use Rattle.events.specs.Terms.{event_of}

@@ -7,7 +7,8 @@ use Rattle.model.specs.declared.mode.Mode.TheVariants.{Service}
 use Rattle.model.specs.declared.refusal.Refusal.{Refusal}
 use Rattle.model.specs.declared.refusal.Refusal.TheVariants.{BadUsers, OutputFault}
 use Rattle.model.specs.Worlds.{Setup}
-use Rattle.model.specs.Events.{is_query, Event, Reply}
+use Rattle.model.specs.Events.{is_query, Event}
+use Rattle.model.specs.Replies.{Reply, is_unrecorded}
 use Rattle.model.specs.Lines.{lines_of}
 use Rattle.model.specs.Talk as talk
 use Rattle.model.specs.Talk.{fresh, after_all, Talks, text_from, asked_in, users_in}
@@ -15,7 +16,6 @@ use Rattle.events.specs.Terms.{reply_of}
 use Rattle.session.specs.Serving.{Link, Finished, EndedEarly, HasRefused}
 use Rattle.history.specs.declared.row.Row.{Row}
 use Rattle.history.specs.Histories.{event_in, IsLegal}
-use Rattle.model.specs.Replies.{is_unrecorded}
 use Rattle.replaying.specs.OnlyPass.{Only, unasked, lacks_memory, says_stopped, IsOnlyAnswer, DoesNothing}
 
 -- the events that the lines made, with their replies, but for those that were answered 90 or 92

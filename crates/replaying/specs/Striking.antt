@@ -8,11 +8,11 @@ use Rattle.model.specs.declared.refusal.Refusal.TheVariants.{BadUsers, UnknownUs
 use Rattle.model.specs.Paths.{NoClash}
 use Rattle.model.specs.Reach.{is_among}
 use Rattle.model.specs.Worlds.{Setup, nothing}
-use Rattle.model.specs.Events.{Event, Reply}
+use Rattle.model.specs.Events.{Event}
+use Rattle.model.specs.Replies.{Reply, is_memory}
 use Rattle.model.specs.Steps.{answers, replies_to}
 use Rattle.model.specs.Striking.{strike}
 use Rattle.model.specs.Timed.{strike_timed}
-use Rattle.model.specs.Replies.{is_memory}
 use Rattle.model.specs.HashedTexts.{hashed}
 use Rattle.model.specs.Talk.{Row, Asks, fresh, after_all, Talks, answer_text, row_text, asked_in, users_in}
 use Rattle.trust.specs.declared.user.User.{User}

@@ -33,13 +33,13 @@ fn keep(events: &mut Vec<Event>, event: &Event) -> Result<(), AllocError>
 impl<J: FrontId, R: Wait> Answer for Recorder<'_, J, R> {
     ghost use Rattle.std.specs.Prelude.{◌≡◌, map};
     ghost use Rattle.events.specs.Terms.{event_of};
-    ghost use Rattle.model.specs.Events.{Done};
+    ghost use Rattle.model.specs.Replies as replies;
     ghost use Rattle.replaying.specs.Recording.{Keeps};
 
     ghost answers = { λ old event reply new. Keeps J.setup old.store (map event_of old.events.items) old.has_lost
         event reply new.store (map event_of new.events.items) new.has_lost };
 
-    ghost waited = { λ old goals reply new. (new ≡ old) × (reply ≡ Done) };
+    ghost waited = { λ old goals reply new. (new ≡ old) × (reply ≡ replies.Ok) };
 
     fn call(&mut self, alloc: Global, event: Event) -> Reply {
         match keep(&mut self.events, &event) {
@@ -52,6 +52,6 @@ impl<J: FrontId, R: Wait> Answer for Recorder<'_, J, R> {
     }
 
     fn wait(&mut self, _alloc: Global, _goals: &[Job]) -> Reply {
-        Reply::Done
+        Reply::Ok
     }
 }

@@ -10,7 +10,8 @@ use Rattle.model.specs.Forms.{Form}
 use Rattle.model.specs.Forms as form
 use Rattle.model.specs.Talk.{Seen, Row, Silent, Names, Refuses, Asks, Waits, Gets, GetsNext, Talks, seen_after, after_all, fresh, form_of, users_in}
 use Rattle.model.specs.Talk.{answer_text, reply_text, row_text}
-use Rattle.model.specs.Events.{Reply, Done, Refused}
+use Rattle.model.specs.Replies as replies
+use Rattle.model.specs.Replies.{Reply, Refused}
 use Rattle.lines.proofs.CutLemmas.{split-one, split-more}
 use Rattle.session.specs.Ahead.{LooksAhead}
 use Rattle.running.specs.InputHeads.{FirstNames, BeginsWithUsers, BeginsOtherwise}
@@ -32,7 +33,7 @@ answered n actor reply none = some_text (decimal n ++ 32 ∷ actor ++ 32 ∷ rep
 -- a line for which nothing is printed is silent
 silent_row : (n : ℕ) (row : Row) → row_text n row ≡ [] → row ≡ Silent
 silent_row n Silent none = refl
-silent_row n (Names users) none = absurd (answered n (codes "-") Done none)
+silent_row n (Names users) none = absurd (answered n (codes "-") replies.Ok none)
 silent_row n (Refuses why) none = absurd (answered n (codes "-") (Refused why) none)
 silent_row n (Asks event reply) none = absurd (answered n event.actor reply none)
 silent_row n (Waits goals reply) none = absurd (answered n (codes "-") reply none)

@@ -5,7 +5,7 @@ use Rattle.std.proofs.lemmas.List.Elements.{All-head, All-tail}
 use Rattle.model.specs.declared.refusal.Refusal.{Refusal}
 use Rattle.model.specs.declared.refusal.Refusal.TheVariants as why
 use Rattle.model.specs.Worlds.{Setup, Job}
-use Rattle.model.specs.Events as model
+use Rattle.model.specs.Replies as replies
 use Rattle.model.specs.Goals.{Running}
 use Rattle.model.specs.Replies.{is_refusal, is_memory_refusal, is_stopped_refusal}
 use Rattle.model.specs.Talk as talk
@@ -43,10 +43,10 @@ told_92 (Refused w) is = refused w is
     refused w is = absurd (cc)
 told_92 told is = absurd (cc)
 
-reply_92 : (reply : model.Reply) → is_refusal is_stopped_refusal reply ≡ true → reply ≡ model.Refused why.Stopped
-reply_92 (model.Refused w) is = refused w is
+reply_92 : (reply : replies.Reply) → is_refusal is_stopped_refusal reply ≡ true → reply ≡ replies.Refused why.Stopped
+reply_92 (replies.Refused w) is = refused w is
   where
-    refused : (w : Refusal) → is_stopped_refusal w ≡ true → model.Refused w ≡ model.Refused why.Stopped
+    refused : (w : Refusal) → is_stopped_refusal w ≡ true → replies.Refused w ≡ replies.Refused why.Stopped
     refused why.Stopped is = refl
     refused w is = absurd (cc)
 reply_92 reply is = absurd (cc)

@@ -4,6 +4,7 @@ use Rattle.std.specs.List.{list_any, find}
 use Rattle.model.specs.Worlds.{Job as Goal}
 use Rattle.model.specs.Goals.{same_job}
 use Rattle.model.specs.Events as events
+use Rattle.model.specs.Replies as replies
 use Rattle.events.specs.Terms.{request_of, reply_of}
 use Rattle.history.specs.declared.row.Row.{Row}
 
@@ -18,8 +19,8 @@ abbrev pub none_given : Given
 none_given goal = None
 
 -- the number of the goal that is given to a user who asks for one to be built, if it is
-abbrev pub number_given : events.Request → events.Reply → Option ℕ
-number_given (events.Build derivation) (events.GoalNumber number) = Some number
+abbrev pub number_given : events.Request → replies.Reply → Option ℕ
+number_given (events.Build derivation) (replies.Goal number) = Some number
 number_given request reply = None
 
 -- the goal of a number, of the user who asks in a row

@@ -6,6 +6,7 @@ use Rattle.model.specs.declared.refusal.Refusal.{Refusal}
 use Rattle.model.specs.declared.refusal.Refusal.TheVariants.{Memory, Stopped, Quota, BadUsers, InputFault, OutputFault}
 use Rattle.model.specs.Worlds.{Job}
 use Rattle.model.specs.Events as model
+use Rattle.model.specs.Replies as replies
 use Rattle.model.specs.Lines.{lines_of}
 use Rattle.events.specs.declared.event.Event.{Event}
 use Rattle.events.specs.declared.event.Request.TheVariants.{Status}
@@ -60,7 +61,7 @@ HasTold old new answer = new.has_met_memory ≡ true → (old.has_met_memory ≡
 
 module _ {S : Type 0} (called : S → Event → Reply → S → Type 0) where
   -- the store was handed an event and gave a reply, in the terms of the model
-  abbrev pub Answers : S × Bool → model.Event → model.Reply → S × Bool → Type 0
+  abbrev pub Answers : S × Bool → model.Event → replies.Reply → S × Bool → Type 0
   Answers old event reply new =
       (asked : Event) × (told : Reply) × (event_of asked ≡ event) × (reply_of told ≡ reply) × called old.0 asked told new.0 × (new.1 ≡ old.1)
 
@@ -73,10 +74,10 @@ module _ {S : Type 0} (called : S → Event → Reply → S → Type 0) (met : S
 module _ {S : Type 0} (called : S → Event → Reply → S → Type 0) (met : S → S → Type 0) (stopped : S → Bool) where
   -- in a wait for goals a session asks how far they are and meets others, and nothing else; it is told 92 only where its store was told,
   -- and 90 where a round was answered so
-  abbrev pub Waits : S × Bool → List Job → model.Reply → S × Bool → Type 0
+  abbrev pub Waits : S × Bool → List Job → replies.Reply → S × Bool → Type 0
   Waits old goals reply new =
-      (calls : List Call) × AsksStatus goals calls × Calls called met old.0 calls new.0 × (reply ≡ model.Refused Stopped → stopped new.0 ≡ true)
-      × (new.1 ≡ true → (old.1 ≡ true) ⊎ (reply ≡ model.Refused Memory))
+      (calls : List Call) × AsksStatus goals calls × Calls called met old.0 calls new.0 × (reply ≡ replies.Refused Stopped → stopped new.0 ≡ true)
+      × (new.1 ≡ true → (old.1 ≡ true) ⊎ (reply ≡ replies.Refused Memory))
 
   -- all lines of an input were answered, the events of them by calls of a store, and this is the text of all replies
   pub record Served (first last : S × Bool) (start : Option (List ℕ)) (text : List ℕ) : Type 0 where

@@ -22,7 +22,7 @@ fn number_given(request: &Request, reply: &Reply) -> Option<u16>
     ensures { result ≡ number_given (request_of request.now) (reply_of reply.now) }
 {
     match (request, reply) {
-        (Request::Build(_), Reply::GoalNumber(number)) => Some(*number),
+        (Request::Build(_), Reply::Goal(number)) => Some(*number),
         _ => None,
     }
 }

@@ -62,8 +62,8 @@ enum Progress {
 /// How far a reply says that a goal is.
 fn progress_in(reply: &Reply) -> Progress {
     match reply {
-        Reply::GoalStatus(Status::Waiting) => Progress::Waiting,
-        Reply::GoalStatus(Status::Building(_)) => Progress::Building,
+        Reply::Status(Status::Waiting) => Progress::Waiting,
+        Reply::Status(Status::Building(_)) => Progress::Building,
         _ => Progress::Over,
     }
 }
@@ -212,7 +212,7 @@ impl<S: Meet + Drop, Q: Runner + Drop, R: Wait> Answer for BuildingSession<'_, S
 
     fn wait(&mut self, alloc: Global, goals: &[Job]) -> Reply {
         match build_all(self.rt, alloc, &mut self.store, &mut self.pool, goals) {
-            Ok(()) => Reply::Done,
+            Ok(()) => Reply::Ok,
             Err(why) => Reply::Refused(why),
         }
     }

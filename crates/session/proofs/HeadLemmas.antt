@@ -4,6 +4,7 @@ use Rattle.std.proofs.Common.{◌≡◌, ℕ, true, false, inl, inr, refl, sym, 
 use Rattle.model.specs.declared.mode.Mode.{Mode}
 use Rattle.model.specs.declared.refusal.Refusal.{Refusal}
 use Rattle.model.specs.Events as events
+use Rattle.model.specs.Replies as replies
 use Rattle.model.specs.Worlds.{Job}
 use Rattle.model.specs.Forms.{Form}
 use Rattle.model.specs.Talk.{Row, Silent, Names, Refuses, Asks, Waits, Seen, fresh, form_of, Gets, GetsNext, seen_after, after_all, users_in}
@@ -156,7 +157,7 @@ module _ (written between : Option (List ℕ)) (seen half : Seen) (held part fro
 
 -- ---- what asks nobody leaves everybody alone
 
-module _ {A : Type 0} (R : A → events.Event → events.Reply → A → Type 0) (W : A → List Job → events.Reply → A → Type 0) (one : A) where
+module _ {A : Type 0} (R : A → events.Event → replies.Reply → A → Type 0) (W : A → List Job → replies.Reply → A → Type 0) (one : A) where
   alone : (row : Row) → Idle tt row tt → Link R W one row one
   alone Silent h = refl
   alone (Names users) h = refl

@@ -12,7 +12,7 @@ use Rattle.model.specs.declared.refusal.Refusal.{Refusal}
 use Rattle.model.specs.declared.refusal.Refusal.TheVariants.{BadUsers, InputFault, OutputFault, Memory}
 use Rattle.model.specs.Forms.{longest_line}
 use Rattle.model.specs.Lines.{lines_of}
-use Rattle.model.specs.Events.{Reply, Refused}
+use Rattle.model.specs.Replies.{Reply, Refused}
 use Rattle.model.specs.Talk.{Row, Silent, Names, Refuses, Asks, Waits, Seen, fresh, GetsNext, seen_after, after_all, Talks, text_from, row_text, answer_text, reply_text}
 use Rattle.session.specs.Serving.{Progress, EndedEarly, Finished, NotShown, HasNoNewline, HoldsMore, Gives, StopsAt, IsFault, IsOwn, MayBeFault, GoesOn, EndsIn, EndsBehind}
 use Rattle.session.proofs.LineLemmas.{nothing-held, lines-newline, lines-last}

@@ -4,6 +4,7 @@ use Rattle.std.specs.Global.{Vec}
 use Rattle.model.specs.declared.mode.Mode.{Mode}
 use Rattle.model.specs.declared.refusal.Refusal.{Refusal}
 use Rattle.model.specs.Events as events
+use Rattle.model.specs.Replies as replies
 use Rattle.model.specs.Worlds.{Job}
 use Rattle.model.specs.Lines.{LineResult, nothing_told}
 use Rattle.model.specs.Forms.{Form}
@@ -30,29 +31,29 @@ row-gets goals form reading.Waits row b e = rw e.2 (b goals e.0 e.1)
 -- a row with neither an event nor a wait
 module _ (mode : Mode) (begun refused : Bool) (told told' : List LineResult) (goals : List Job) (n : ℕ) (one : LineResult) (e₁ : told' ≡ told ++ one ∷ [])
     (e₂ : one ≡ nothing_told) (e₃ : n ≡ length told + 1) where
-  pub row-named : (result : Result (Vec ℕ) Refusal) → IfOk result (λ text. text.items ≡ answer_text n (codes "-") events.Done)
+  pub row-named : (result : Result (Vec ℕ) Refusal) → IfOk result (λ text. text.items ≡ answer_text n (codes "-") replies.Ok)
       → IfOk result (λ text. (users : List (List ℕ))
       → GivesRow (Names users) (seen_by mode begun refused told goals) (seen_by mode true refused told' goals) text.items)
   row-named (Ok text) e₄ = λ users. (
     ap (λ ts. seen_by mode true refused ts goals) (e₁ ∙ ap (λ x. told ++ x ∷ []) e₂),
-    e₄ ∙ ap (λ k. answer_text k (codes "-") events.Done) e₃,
+    e₄ ∙ ap (λ k. answer_text k (codes "-") replies.Ok) e₃,
   )
   row-named (Err why) e₄ = tt
 
   pub row-refused : (why : Refusal) (refused' : Bool) (result : Result (Vec ℕ) Refusal) → refused' ≡ (is_bad_users why || refused)
-      → IfOk result (λ text. text.items ≡ answer_text n (codes "-") (events.Refused why))
+      → IfOk result (λ text. text.items ≡ answer_text n (codes "-") (replies.Refused why))
       → IfOk result (λ text. GivesRow (Refuses why) (seen_by mode begun refused told goals) (seen_by mode begun refused' told' goals) text.items)
   row-refused why refused' (Ok text) f e₄ = (
     ap (λ x. seen_by mode begun x told' goals) f
         ∙ ap (λ ts. seen_by mode begun (is_bad_users why || refused) ts goals) (e₁ ∙ ap (λ x. told ++ x ∷ []) e₂),
-    e₄ ∙ ap (λ k. answer_text k (codes "-") (events.Refused why)) e₃,
+    e₄ ∙ ap (λ k. answer_text k (codes "-") (replies.Refused why)) e₃,
   )
   row-refused why refused' (Err _) f e₄ = tt
 
-module _ {A : Type 0} (R : A → events.Event → events.Reply → A → Type 0) (W : A → List Job → events.Reply → A → Type 0) where
+module _ {A : Type 0} (R : A → events.Event → replies.Reply → A → Type 0) (W : A → List Job → replies.Reply → A → Type 0) where
   -- the row of an event
   pub gives-asked : (mode : Mode) (begun refused : Bool) (told told' : List LineResult) (goals goals' : List Job) (text : List ℕ) (n : ℕ) (event : Event)
-      (reply : events.Reply) (one : LineResult) (goal : Option Job) (now next : A)
+      (reply : replies.Reply) (one : LineResult) (goal : Option Job) (now next : A)
       → told' ≡ told ++ one ∷ [] → one ≡ told_in reply → goals' ≡ with_asked goals goal → goal ≡ goal_by event.actor reply → n ≡ length told + 1
       → text ≡ answer_text n event.actor reply → R now (event_of event) reply next
       → Gives (IsRowOf goals (reading.Asks event)) (Link R W) (seen_by mode begun refused told goals) (seen_by mode begun refused told' goals') now next text
@@ -67,7 +68,7 @@ module _ {A : Type 0} (R : A → events.Event → events.Reply → A → Type 0)
 
   -- the row of a wait
   pub gives-waited : (mode : Mode) (begun refused : Bool) (told told' : List LineResult) (goals shown : List Job) (text : List ℕ) (n : ℕ)
-      (reply : events.Reply) (one : LineResult) (now next : A)
+      (reply : replies.Reply) (one : LineResult) (now next : A)
       → told' ≡ told ++ one ∷ [] → one ≡ nothing_told → shown ≡ goals → n ≡ length told + 1 → ends_wait reply ≡ true
       → text ≡ answer_text n (codes "-") reply → W now shown reply next
       → Gives (IsRowOf goals reading.Waits) (Link R W) (seen_by mode begun refused told goals) (seen_by mode begun refused told' goals) now next text
@@ -86,7 +87,7 @@ module _ {A : Type 0} (R : A → events.Event → events.Reply → A → Type 0)
   gives-row r row seen next now (Ok text) is l h = (row, is, h.0, h.1, l)
   gives-row r row seen next now (Err why) is l h = tt
 
-  pub asked-part : (goals : List Job) (event : Event) (now next : A) → ((next ≡ now) ⊎ ((reply : events.Reply) × R now (event_of event) reply next))
+  pub asked-part : (goals : List Job) (event : Event) (now next : A) → ((next ≡ now) ⊎ ((reply : replies.Reply) × R now (event_of event) reply next))
       → StopsAt (IsRowOf goals (reading.Asks event)) (Link R W) now next
   asked-part goals event now next d = elim d [
     | inl e ↦ inl e
@@ -94,7 +95,7 @@ module _ {A : Type 0} (R : A → events.Event → events.Reply → A → Type 0)
   ]
 
   pub waited-part : (goals shown : List Job) (now next : A) → shown ≡ goals
-      → ((reply : events.Reply) × (ends_wait reply ≡ true) × W now shown reply next) → StopsAt (IsRowOf goals reading.Waits) (Link R W) now next
+      → ((reply : replies.Reply) × (ends_wait reply ≡ true) × W now shown reply next) → StopsAt (IsRowOf goals reading.Waits) (Link R W) now next
   waited-part goals shown now next f w = inr (Waits goals w.0, (w.0, w.1, refl), subst (λ gs. W now gs w.0 next) f w.2)
 
 module _ {A : Type 0} (L : A → Row → A → Type 0) where

@@ -5,7 +5,8 @@ use Rattle.std.specs.Io.KnownBytes.{Appends, Consumes, IsAtEnd}
 use Rattle.model.specs.declared.mode.Mode.{Mode}
 use Rattle.model.specs.declared.refusal.Refusal.{Refusal}
 use Rattle.model.specs.declared.refusal.Refusal.TheVariants.{InputFault, OutputFault, Memory, BadUsers}
-use Rattle.model.specs.Events.{Event, Reply}
+use Rattle.model.specs.Events.{Event}
+use Rattle.model.specs.Replies.{Reply}
 use Rattle.model.specs.Worlds.{Job}
 use Rattle.model.specs.Lines.{lines_of}
 use Rattle.model.specs.Forms.{longest_line}

@@ -2,6 +2,7 @@
 
 ghost use Rattle.std.specs.Prelude.{◌≡◌, true, List};
 ghost use Rattle.model.specs.Events as events;
+ghost use Rattle.model.specs.Replies as replies;
 ghost use Rattle.model.specs.Replies.{ends_wait};
 ghost use Rattle.model.specs.Worlds.{Job as Goal};
 ghost use Rattle.events.specs.Terms.{event_of, reply_of};
@@ -13,10 +14,10 @@ use std::alloc::Global;
 /// What answers the events of a session, and waits for its goals.
 pub trait Answer {
     /// Relates the answer before an event, the event, its reply, and the answer after it.
-    ghost answers: { Self → events.Event → events.Reply → Self → Type 0 };
+    ghost answers: { Self → events.Event → replies.Reply → Self → Type 0 };
 
     /// Relates the answer before a wait, the goals, the reply, and the answer after it.
-    ghost waited: { Self → List Goal → events.Reply → Self → Type 0 };
+    ghost waited: { Self → List Goal → replies.Reply → Self → Type 0 };
 
     /// Takes an event and gives its reply.
     fn call(&mut self, alloc: Global, event: Event) -> Reply
@@ -37,17 +38,18 @@ pub struct NoUsers;
 impl Answer for NoUsers {
     ghost use Rattle.std.specs.Prelude.{◌≡◌};
     ghost use Rattle.model.specs.Events as events;
+    ghost use Rattle.model.specs.Replies as replies;
     ghost use Rattle.model.specs.declared.refusal.Refusal.TheVariants.{UnknownUser};
 
-    ghost answers = { λ _ _ reply _. reply ≡ events.Refused UnknownUser };
+    ghost answers = { λ _ _ reply _. reply ≡ replies.Refused UnknownUser };
 
-    ghost waited = { λ _ _ reply _. reply ≡ events.Done };
+    ghost waited = { λ _ _ reply _. reply ≡ replies.Ok };
 
     fn call(&mut self, _alloc: Global, _event: Event) -> Reply {
         Reply::Refused(Refusal::UnknownUser)
     }
 
     fn wait(&mut self, _alloc: Global, _goals: &[Job]) -> Reply {
-        Reply::Done
+        Reply::Ok
     }
 }

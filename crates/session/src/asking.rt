@@ -4,7 +4,7 @@ ghost use Rattle.std.specs.Prelude.{◌≡◌, ◌⊎◌, true, codes, IfOk, IfE
 ghost use Rattle.model.specs.declared.refusal.Refusal.TheVariants.{Memory};
 ghost use Rattle.model.specs.Replies.{ends_wait};
 ghost use Rattle.model.specs.Talk.{answer_text, goal_by};
-ghost use Rattle.model.specs.Events as events;
+ghost use Rattle.model.specs.Replies as replies;
 ghost use Rattle.events.specs.Terms.{event_of, reply_of};
 ghost use Rattle.session.specs.Answered.{IsAnswered};
 
@@ -31,7 +31,7 @@ fn goal_by(actor: User, reply: &Reply) -> Option<Job>
     ensures { result ≡ goal_by actor (reply_of reply.now) }
 {
     match reply {
-        Reply::GoalNumber(number) => Some(Job::new(actor, *number)),
+        Reply::Goal(number) => Some(Job::new(actor, *number)),
         _ => None,
     }
 }
@@ -55,10 +55,10 @@ fn ask_by<A: Answer>(
     event: Event,
     answer: &mut A,
 ) -> Result<Answered, Refusal>
-    ensures ok { IfOk result (λ r. (reply : events.Reply) × IsAnswered number actor reply r
+    ensures ok { IfOk result (λ r. (reply : replies.Reply) × IsAnswered number actor reply r
         × A.answers answer.old (event_of event) reply answer.new) }
     ensures memory { IfErr result (λ why. why ≡ Memory) }
-    ensures asked { (reply : events.Reply)
+    ensures asked { (reply : replies.Reply)
         × A.answers answer.old (event_of event) reply answer.new }
 {
     let reply = answer.call(alloc, event);
@@ -77,11 +77,11 @@ pub fn ask<A: Answer>(
     event: Event,
     answer: &mut A,
 ) -> Result<Answered, Refusal>
-    ensures ok { IfOk result (λ r. (reply : events.Reply) × IsAnswered number event.actor reply r
+    ensures ok { IfOk result (λ r. (reply : replies.Reply) × IsAnswered number event.actor reply r
         × A.answers answer.old (event_of event) reply answer.new) }
     ensures memory { IfErr result (λ why. why ≡ Memory) }
     ensures err { OnErr result ((answer.new ≡ answer.old)
-        ⊎ ((reply : events.Reply) × A.answers answer.old (event_of event) reply answer.new)) }
+        ⊎ ((reply : replies.Reply) × A.answers answer.old (event_of event) reply answer.new)) }
 {
     let actor = event.actor.clone()?;
     ask_by(alloc, number, actor, event, answer)
@@ -99,11 +99,11 @@ pub fn wait<A: Answer>(
     goals: &[Job],
     answer: &mut A,
 ) -> Result<Vec<u8>, Refusal>
-    ensures ok { IfOk result (λ text. (reply : events.Reply) × (ends_wait reply ≡ true)
+    ensures ok { IfOk result (λ text. (reply : replies.Reply) × (ends_wait reply ≡ true)
         × (text.items ≡ answer_text number (codes "-") reply)
         × A.waited answer.old goals.now reply answer.new) }
     ensures memory { IfErr result (λ why. why ≡ Memory) }
-    ensures waited { (reply : events.Reply) × (ends_wait reply ≡ true)
+    ensures waited { (reply : replies.Reply) × (ends_wait reply ≡ true)
         × A.waited answer.old goals.now reply answer.new }
 {
     let reply = answer.wait(alloc, goals);

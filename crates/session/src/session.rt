@@ -136,7 +136,7 @@ impl Session {
         let number = self.told.len() + 1;
         self.told.push(LineResult::nothing())?;
         self.begun = true;
-        answer_text(alloc, number, b"-", &Reply::Done)
+        answer_text(alloc, number, b"-", &Reply::Ok)
     }
 
     /// Answers a line that is refused.

@@ -86,7 +86,7 @@ pub fn core_for(alloc: Global, hashing: RandomState, input: &str) -> Result<Core
 pub fn tell(alloc: Global, reply: &Reply, out: &mut Answer) -> Result<(), Refusal> {
     match reply {
         Reply::Path(path) => out.add(path),
-        Reply::Content(tree) => out.add_bytes(&tree_text(alloc, tree)?),
+        Reply::Tree(tree) => out.add_bytes(&tree_text(alloc, tree)?),
         Reply::Refused(refusal) => out.add(refusal),
         _ => return Err(Refusal::BadLine),
     }

@@ -39,7 +39,7 @@ impl session::Answer for Recorder {
     }
 
     fn wait(&mut self, _alloc: Global, _goals: &[Job]) -> Reply {
-        Reply::Done
+        Reply::Ok
     }
 }
 

@@ -27,7 +27,7 @@ impl session::Answer for Prepared {
     }
 
     fn wait(&mut self, _alloc: Global, _goals: &[Job]) -> Reply {
-        Reply::Done
+        Reply::Ok
     }
 }
 
@@ -62,7 +62,7 @@ impl session::Answer for Followers {
     }
 
     fn wait(&mut self, _alloc: Global, _goals: &[Job]) -> Reply {
-        Reply::Done
+        Reply::Ok
     }
 }
 

@@ -25,7 +25,7 @@ impl session::Answer for Store {
     }
 
     fn wait(&mut self, _alloc: Global, _goals: &[Job]) -> Reply {
-        Reply::Done
+        Reply::Ok
     }
 }
 

@@ -10,7 +10,7 @@ use Rattle.events.specs.declared.event.Request.{Request}
 use Rattle.events.specs.declared.event.Request.TheVariants.{Plan, Start, Finish, Fail}
 use Rattle.events.specs.declared.event.Event.{Event}
 use Rattle.events.specs.declared.reply.Reply.{Reply}
-use Rattle.events.specs.declared.reply.Reply.TheVariants.{GoalStatus, Refused}
+use Rattle.events.specs.declared.reply.Reply.TheVariants.{Status as StatusReply, Refused}
 use Rattle.workers.specs.declared.ticket.Ticket.{Ticket}
 use Rattle.workers.specs.declared.ticket.Ticket.TheVariants.{Goal, Stop}
 use Rattle.workers.specs.declared.runner.RunFault.{RunFault}
@@ -29,12 +29,12 @@ asking user request = record { actor = user; request = request }
 
 -- whether a reply says that the goal is planned
 abbrev pub is_planned : Reply → Bool
-is_planned (GoalStatus Planned) = true
+is_planned (StatusReply Planned) = true
 is_planned reply = false
 
 -- whether a reply says that the job which is built is led by the user's goal of that number
 abbrev pub leads_own : List ℕ → ℕ → Reply → Bool
-leads_own user number (GoalStatus status) = is_in (record { leader = user; number = number }) (status_of status)
+leads_own user number (StatusReply status) = is_in (record { leader = user; number = number }) (status_of status)
 leads_own user number reply = false
 
 -- what a worker meets in a refusal: 90 and 92, and nothing in any other

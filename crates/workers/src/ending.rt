@@ -54,7 +54,7 @@ pub(crate) fn is_planned(reply: &Reply) -> bool
     ensures { result ≡ is_planned reply.now }
 {
     match reply {
-        Reply::GoalStatus(Status::Planned) => true,
+        Reply::Status(Status::Planned) => true,
         _ => false,
     }
 }
@@ -64,7 +64,7 @@ pub(crate) fn leads_own(user: &User, number: u16, reply: &Reply) -> bool
     ensures { result ≡ leads_own user.now number reply.now }
 {
     match reply {
-        Reply::GoalStatus(Status::Building(job)) => job.is_led_by(user, number),
+        Reply::Status(Status::Building(job)) => job.is_led_by(user, number),
         _ => false,
     }
 }

@@ -5,7 +5,7 @@ use Rattle.model.specs.declared.refusal.Refusal.TheVariants.{NotHeld, InUse}
 use Rattle.model.specs.Events as events
 use Rattle.trust.specs.Trusting.{holds, trusts}
 use Rattle.jobs.specs.Owned.{OwnedByAll}
-use Rattle.events.specs.declared.reply.Reply.TheVariants.{Done}
+use Rattle.events.specs.declared.reply.Reply.TheVariants.{Ok as OkReply}
 use Rattle.events.specs.Terms.{reply_of}
 use Rattle.realise.specs.Held.{paths_held}
 use Rattle.realise.specs.Holdings.{Holdings, is_recorded_at, without_records}
@@ -62,10 +62,10 @@ invariant_of-state c =
     ap (λ (x : Holdings). list_any (bytes_eq path) (paths_held x.archives)) (sym own) ∙ c.forget.ensures.held in
     let after : c.forget.new.self ≡ without_records class path (desk_at s.desks.items c.args.place) =
     c.forget.ensures.value ∙ ap (without_records class path) own in
-    let handled = forgotten s c.args.place class path (holds c.closure-reached.result) c.closure-reached.ensures there free held Done refl c.let_go.new.self
+    let handled = forgotten s c.args.place class path (holds c.closure-reached.result) c.closure-reached.ensures there free held OkReply refl c.let_go.new.self
     c.forget.new.self c.let_go.ensures after in
     record {
-      run = still_run (parts_of s) _ c.args.place (events.Forget class path) (Ok Done) s.run c.requires handled;
+      run = still_run (parts_of s) _ c.args.place (events.Forget class path) (Ok OkReply) s.run c.requires handled;
       owned = ap (λ (j : OwnedByAll). j.users) c.let_go.ensures ∙ s.owned;
     }
 

@@ -5,7 +5,7 @@ use Rattle.model.specs.declared.refusal.Refusal.{Refusal}
 use Rattle.model.specs.declared.refusal.Refusal.TheVariants.{Quota}
 use Rattle.model.specs.Goals.{in_status}
 use Rattle.model.specs.Worlds.{Failed}
-use Rattle.events.specs.declared.reply.Reply.TheVariants.{GoalStatus}
+use Rattle.events.specs.declared.reply.Reply.TheVariants.{Status as StatusReply}
 use Rattle.events.specs.declared.status.Status.TheVariants as status
 use Rattle.events.specs.Terms.{reply_of}
 use Rattle.handlers.specs.Sound.{IsSound}
@@ -86,10 +86,10 @@ invariant_of-state-2 c =
     c.closure.result.now c.copy_all.result c.copy_all.new.table.sources c.copy_all.new.desk c.closure.ensures c.copy_all.ensures in
     let either : P (Ok tt) ⊎ P (Err Quota) =
     elim c.in_ok-unless_full.ensures [ inl done ↦ inl (subst P done copies) | inr full ↦ inr (subst P full copies) ] in
-    let starts = failed_so s place n below r it c.requires.full (GoalStatus (status.Failed Quota)) refl c.set_status.new.self c.set_status.ensures
+    let starts = failed_so s place n below r it c.requires.full (StatusReply (status.Failed Quota)) refl c.set_status.new.self c.set_status.ensures
     c.copy_all.new.table.sources c.copy_all.new.desk either in
     record {
-      run = run_started s place n below r it (Ok (GoalStatus (status.Failed Quota))) c.set_status.new.self c.copy_all.new.table.sources
+      run = run_started s place n below r it (Ok (StatusReply (status.Failed Quota))) c.set_status.new.self c.copy_all.new.table.sources
           c.copy_all.new.desk starts;
       owned = owned_started s place n below r it (in_status (Failed Quota)) c.set_status.new.self c.set_status.ensures;
     }

@@ -3,7 +3,7 @@ use Rattle.std.proofs.lemmas.Result.{err_from_is_err_and}
 use Rattle.std.proofs.lemmas.List.Elements.{All-get_or}
 use Rattle.model.specs.Goals.{in_status, is_building}
 use Rattle.model.specs.Worlds.{Building}
-use Rattle.model.specs.Events.{GoalStatus}
+use Rattle.model.specs.Replies as replies
 use Rattle.events.specs.Terms.{reply_of}
 use Rattle.handlers.specs.Sound.{IsSound}
 use Rattle.handlers.proofs.TakeLemmas.{copied_here}
@@ -86,7 +86,7 @@ invariant_of-state-in-Ok c =
     (Ok tt) c.copy_all.new.table.sources c.copy_all.new.desk c.closure.ensures (rw result at c.copy_all.ensures) in
     let starts = entered_so s place n below r it c.requires.none c.in_ok-job.job c.in_ok-job.ensures.value
     c.enter.new.self c.in_ok-enter.ensures.entered c.copy_all.new.table.sources c.copy_all.new.desk c.in_ok-reply.reply
-    (ap reply_of c.in_ok-reply.ensures.reply ∙ ap (λ j. GoalStatus (Building j)) c.in_ok-clone.ensures.cases) copies in
+    (ap reply_of c.in_ok-reply.ensures.reply ∙ ap (λ j. replies.Status (Building j)) c.in_ok-clone.ensures.cases) copies in
     record {
       run = run_started s place n below r it (Ok c.in_ok-reply.reply) c.enter.new.self c.copy_all.new.table.sources c.copy_all.new.desk starts;
       owned = owned_started s place n below r it (in_status (Building c.in_ok-job.job)) c.enter.new.self c.in_ok-enter.ensures.entered;
@@ -105,7 +105,7 @@ returns-in-Ok c =
     (Ok tt) c.copy_all.new.table.sources c.copy_all.new.desk c.closure.ensures (rw result at c.copy_all.ensures) in
     entered_so s place n below r it c.requires.none c.in_ok-job.job c.in_ok-job.ensures.value
     c.enter.new.self c.in_ok-enter.ensures.entered c.copy_all.new.table.sources c.copy_all.new.desk c.in_ok-reply.reply
-    (ap reply_of c.in_ok-reply.ensures.reply ∙ ap (λ j. GoalStatus (Building j)) c.in_ok-clone.ensures.cases) copies
+    (ap reply_of c.in_ok-reply.ensures.reply ∙ ap (λ j. replies.Status (Building j)) c.in_ok-clone.ensures.cases) copies
 
 pub invariant_of-state-in-Err-1 : goal.invariant_of-state-in-Err-1
 invariant_of-state-in-Err-1 c =

@@ -5,6 +5,7 @@ use Rattle.model.specs.declared.refusal.Refusal.TheVariants.{Quota}
 use Rattle.model.specs.Worlds.{Entry, Done}
 use Rattle.model.specs.Goals.{in_status}
 use Rattle.model.specs.Events as events
+use Rattle.model.specs.Replies as replies
 use Rattle.events.specs.Terms.{reply_of}
 use Rattle.jobs.specs.Owned.{ChangesGoal}
 use Rattle.handlers.specs.Parts.{Parts}
@@ -71,7 +72,7 @@ invariant_of-state c =
     (with_built c.closure.result.now c.args.built) (Ok tt) c.copy_with.new.table.sources c.copy_with.new.desk
     (ap (λ (es : List Entry). with_built es c.args.built) c.closure.ensures) (rw result at c.copy_with.ensures) in
     let path : c.in_ok-path.path ≡ c.args.built.path = c.in_ok-path.ensures.cases ∙ c.path.ensures in
-    let told = ap reply_of c.in_ok-reply.ensures.reply ∙ ap (λ p. events.GoalStatus (Done p)) (c.in_ok-clone.ensures.cases ∙ path) in
+    let told = ap reply_of c.in_ok-reply.ensures.reply ∙ ap (λ p. replies.Status (Done p)) (c.in_ok-clone.ensures.cases ∙ path) in
     let turns = subst (λ p. ChangesGoal place n (in_status (Done p)) s.jobs c.set_status.new.self) path c.set_status.ensures in
     let starts = done_so s place n below r it c.args.built c.requires.built c.set_status.new.self c.copy_with.new.table.sources c.copy_with.new.desk
     c.in_ok-reply.reply told turns copies in
@@ -94,7 +95,7 @@ returns-in-Ok c =
     (with_built c.closure.result.now c.args.built) (Ok tt) c.copy_with.new.table.sources c.copy_with.new.desk
     (ap (λ (es : List Entry). with_built es c.args.built) c.closure.ensures) (rw result at c.copy_with.ensures) in
     let path : c.in_ok-path.path ≡ c.args.built.path = c.in_ok-path.ensures.cases ∙ c.path.ensures in
-    let told = ap reply_of c.in_ok-reply.ensures.reply ∙ ap (λ p. events.GoalStatus (Done p)) (c.in_ok-clone.ensures.cases ∙ path) in
+    let told = ap reply_of c.in_ok-reply.ensures.reply ∙ ap (λ p. replies.Status (Done p)) (c.in_ok-clone.ensures.cases ∙ path) in
     let turns = subst (λ p. ChangesGoal place n (in_status (Done p)) s.jobs c.set_status.new.self) path c.set_status.ensures in
     done_so s place n below r it c.args.built c.requires.built c.set_status.new.self c.copy_with.new.table.sources c.copy_with.new.desk
     c.in_ok-reply.reply told turns copies

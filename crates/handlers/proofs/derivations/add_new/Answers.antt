@@ -5,7 +5,7 @@ use Rattle.std.proofs.lemmas.Result.{err_from_is_err_and}
 use Rattle.model.specs.declared.refusal.Refusal.{Refusal}
 use Rattle.model.specs.declared.refusal.Refusal.TheVariants.{Memory, Quota}
 use Rattle.model.specs.Derivations.{Derivation}
-use Rattle.model.specs.Events as events
+use Rattle.model.specs.Replies as replies
 use Rattle.model.specs.Outcomes.{becomes}
 use Rattle.model.specs.DerivationRequests.{told_of_derivation}
 use Rattle.model.specs.Classes.{Admission, known_at, derivation_path, admit}
@@ -58,9 +58,9 @@ returns c =
     let a = c.args.admitted in
     let none = absent c.args.desk.now a c.requires.absent c.requires.admits in
     let within : nat_le (length known.derivations + 1) most_derivations ≡ true = grind (arith, nat_tests, c.in_ok-path.ensures.within) in
-    let told : events.Derivation c.in_ok-path.path c.in_ok-path.class ≡ told_of_derivation a =
-    ap (λ p. events.Derivation p c.in_ok-path.class) c.in_ok-path.ensures.file
-    ∙ ap (events.Derivation a.path) c.in_ok-path.ensures.class in
+    let told : replies.Derivation c.in_ok-path.path c.in_ok-path.class ≡ told_of_derivation a =
+    ap (λ p. replies.Derivation p c.in_ok-path.class) c.in_ok-path.ensures.file
+    ∙ ap (replies.Derivation a.path) c.in_ok-path.ensures.class in
     record {
       adds = λ table limit sound users beside.
           added_fits users beside table limit c.args.desk.now a.derivation a sound none c.requires.admits within

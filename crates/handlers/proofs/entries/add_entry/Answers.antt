@@ -4,7 +4,7 @@ use Rattle.std.proofs.lemmas.Result.{err_from_is_err_and}
 use Rattle.model.specs.declared.refusal.Refusal.{Refusal}
 use Rattle.model.specs.declared.refusal.Refusal.TheVariants.{Memory, Clash}
 use Rattle.model.specs.Archives.{Tree, nar}
-use Rattle.model.specs.Events.{Path}
+use Rattle.model.specs.Replies.{Path}
 use Rattle.model.specs.Outcomes.{becomes}
 use Rattle.handlers.specs.Handling.{is_fault}
 use Rattle.model.specs.Worlds.{Source, tree_at}

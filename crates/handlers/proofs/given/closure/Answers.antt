@@ -2,6 +2,7 @@ use Rattle.std.proofs.Common.{◌∙◌, ap, inl, refl, Err}
 use Rattle.std.proofs.lemmas.Result.{err_from_is_err_and}
 use Rattle.model.specs.declared.refusal.Refusal.TheVariants.{Memory}
 use Rattle.model.specs.Events as events
+use Rattle.model.specs.Replies as replies
 use Rattle.events.specs.Terms.{reply_of}
 use Rattle.trust.specs.Trusting.{trusts}
 use Rattle.handlers.proofs.ClosureLemmas.{closure_handled, closure_refused}
@@ -38,4 +39,4 @@ returns c =
     let s = c.args.state.now in
     by_sight s c.args.place (events.Closure c.args.class.now) _
     (closure_handled (trusts s.trust) s.limits.charge s.table.sources s.desks.items c.args.place c.args.class.now c.in_ok-entries.entries.items _
-    c.in_ok-entries.ensures.served (ap reply_of c.in_ok-new-2.ensures.reply ∙ ap events.Entries c.in_ok-new.ensures))
+    c.in_ok-entries.ensures.served (ap reply_of c.in_ok-new-2.ensures.reply ∙ ap replies.Closure c.in_ok-new.ensures))

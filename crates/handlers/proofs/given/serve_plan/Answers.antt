@@ -1,11 +1,11 @@
 use Rattle.std.proofs.Common.{ap}
-use Rattle.model.specs.Events as events
+use Rattle.model.specs.Replies as replies
 use Rattle.handlers.proofs.given.serve_plan.Goals as goal
 
 pub returns : goal.returns
 returns c = record {
   entries = c.in_ok-entries.entries.items;
   are = c.in_ok-entries.ensures.served;
-  told = ap events.Entries c.in_ok-new.ensures;
+  told = ap replies.Closure c.in_ok-new.ensures;
   sound = c.in_ok-entries.ensures.sound;
 }

@@ -5,7 +5,7 @@ use Rattle.model.specs.Events.{Trust}
 use Rattle.trust.specs.Trusting.{trusts}
 use Rattle.trust.specs.Naming.{place_of}
 use Rattle.trust.proofs.PlaceLemmas.{name_found}
-use Rattle.events.specs.declared.reply.Reply.TheVariants.{Done}
+use Rattle.events.specs.declared.reply.Reply.TheVariants.{Ok as OkReply}
 use Rattle.handlers.specs.Parts.{parts}
 use Rattle.handlers.specs.Handling.{IsHandled}
 use Rattle.trust.proofs.UsersLemmas.{few_users}
@@ -34,7 +34,7 @@ returns-clause-handled c limit goals table desks actor found paired sound goals_
     let old : ℕ → ℕ → Bool = trusts c.args.trust.now in
     let its : place_of users c.args.other.now ≡ Some c.in-Some.other = sym c.place_of.ensures ∙ c.in-Some.is in
     let Handled : (ℕ → ℕ → Bool)
-    → Type 0 = λ now. IsHandled (parts users limit old goals table desks) (record { actor = actor; request = Trust c.args.other.now }) (Ok Done)
+    → Type 0 = λ now. IsHandled (parts users limit old goals table desks) (record { actor = actor; request = Trust c.args.other.now }) (Ok OkReply)
     (parts users limit now goals table desks) in
     rw c.done.ensures (elim c.if-other-place.branch [
       | then-other-place w ↦

@@ -3,7 +3,7 @@ use Rattle.model.specs.Events.{Distrust}
 use Rattle.trust.specs.Trusting.{trusts}
 use Rattle.trust.specs.Naming.{place_of}
 use Rattle.trust.proofs.PlaceLemmas.{name_found}
-use Rattle.events.specs.declared.reply.Reply.TheVariants.{Done}
+use Rattle.events.specs.declared.reply.Reply.TheVariants.{Ok as OkReply}
 use Rattle.handlers.specs.Parts.{parts}
 use Rattle.handlers.specs.Handling.{IsHandled}
 use Rattle.trust.proofs.UsersLemmas.{few_users}
@@ -31,7 +31,7 @@ returns-clause-handled c limit goals table desks actor found paired sound goals_
     let old : ℕ → ℕ → Bool = trusts c.args.trust.now in
     let its : place_of users c.args.other.now ≡ Some c.in-Some.other = sym c.place_of.ensures ∙ c.in-Some.is in
     let Handled : (ℕ → ℕ → Bool) → Type 0 = λ now.
-    IsHandled (parts users limit old goals table desks) (record { actor = actor; request = Distrust c.args.other.now }) (Ok Done)
+    IsHandled (parts users limit old goals table desks) (record { actor = actor; request = Distrust c.args.other.now }) (Ok OkReply)
     (parts users limit now goals table desks) in
     rw c.done.ensures (subst Handled (sym c.remove.ensures)
     (distrust_handled users limit old goals table desks actor c.args.place c.args.other.now c.in-Some.other c.requires.listed found its paired sound
