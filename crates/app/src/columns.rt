@@ -237,16 +237,16 @@ fn first_fault(line: &[u8]) -> Option<usize> {
 
 /// What the replies so far say: whether there are users, and which lines told a path and a class.
 #[derive(Drop)]
-pub(crate) struct Known {
+pub(crate) struct SeenReplies {
     has_users: bool,
     named: Vec<(u64, bool)>,
     is_whole: bool,
 }
 
-impl Known {
+impl SeenReplies {
     /// There was no reply yet.
-    pub(crate) fn new(alloc: Global) -> Known {
-        Known {
+    pub(crate) fn new(alloc: Global) -> SeenReplies {
+        SeenReplies {
             has_users: false,
             named: Vec::new(alloc),
             is_whole: true,

@@ -1,6 +1,6 @@
 //! Replies, and what each refusal among them means.
 
-use crate::columns::Known;
+use crate::columns::SeenReplies;
 use crate::meanings::{Meaning, meaning_of};
 use std::alloc::Global;
 use std::fmt::{Display, Formatter};
@@ -67,7 +67,7 @@ pub(crate) struct Explained<W, B> {
     alloc: Global,
     writer: W,
     lines: Option<Lines<B>>,
-    known: Known,
+    known: SeenReplies,
     kept: Vec<u8>,
 }
 
@@ -78,7 +78,7 @@ impl<W: Write + Drop, B: BufRead + Drop> Explained<W, B> {
             alloc,
             writer,
             lines,
-            known: Known::new(alloc),
+            known: SeenReplies::new(alloc),
             kept: Vec::new(alloc),
         }
     }

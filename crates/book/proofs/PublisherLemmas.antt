@@ -5,7 +5,7 @@ use lib.ListN.{get_elem?}
 use Rattle.history.specs.Histories.{IsLegal}
 use Rattle.history.proofs.HistoryLemmas.{legal_none}
 use Rattle.history.specs.declared.law.Shown.{Shown}
-use Rattle.history.specs.declared.law.View.{View}
+use Rattle.history.specs.declared.law.KnownName.{KnownName}
 use Rattle.history.specs.FrontId.{setup_in}
 use Rattle.history.specs.Tied.{stranger, Tied}
 
@@ -13,6 +13,6 @@ use Rattle.history.specs.Tied.{stranger, Tied}
 pub tied_first : (x : Shown) → x.seen ≡ [] → Tied x (stranger ∷ [])
 tied_first x none = (subst (IsLegal (setup_in x.name)) (sym none) (legal_none (setup_in x.name)), nobody)
   where
-    nobody : (seat : ℕ) (v : View) → get_elem? (stranger ∷ []) seat ≡ some v → v.knows ≡ true → v.name ≡ x.name
-    nobody zero v is knows = (let same : stranger ≡ v = cc in absurd (true≢false (sym knows ∙ sym (ap (λ (u : View). u.knows) same))))
+    nobody : (seat : ℕ) (v : KnownName) → get_elem? (stranger ∷ []) seat ≡ some v → v.knows ≡ true → v.name ≡ x.name
+    nobody zero v is knows = (let same : stranger ≡ v = cc in absurd (true≢false (sym knows ∙ sym (ap (λ (u : KnownName). u.knows) same))))
     nobody (suc k) v is knows = absurd (cc)

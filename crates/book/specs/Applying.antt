@@ -6,7 +6,7 @@ use Rattle.model.specs.Worlds.{Setup}
 use Rattle.events.specs.declared.event.Event.{Event}
 use Rattle.events.specs.declared.reply.Reply.{Reply}
 use Rattle.events.specs.declared.reply.Reply.TheVariants.{Refused}
-use Rattle.history.specs.Callers.{Caller, Known, answered, told_stopped, stops_of, Matches}
+use Rattle.history.specs.Callers.{Caller, PassKnowledge, answered, told_stopped, stops_of, Matches}
 use Rattle.history.specs.Histories.{unrecorded, IsLegal, IsAnswered}
 use Rattle.history.specs.Histories as histories
 use Rattle.book.specs.Keeping.{Contents, Steps, IsModelReply, TookEvent, Stops, KeepsCore}
@@ -40,7 +40,7 @@ pub record IsApplied
   pub legal : IsLegal setup new.rows
 
 -- an event of a pass was answered by the front, of so many passes, under its lock
-pub record HasCalled (setup : Setup) (parts : ℕ) (old : Known) (event : Event) (result : Reply) (new : Known) : Type 0 where
+pub record HasCalled (setup : Setup) (parts : ℕ) (old : PassKnowledge) (event : Event) (result : Reply) (new : PassKnowledge) : Type 0 where
   pub answered : unrecorded result ≡ false → IsAnswered setup old event result new
   -- the only pass is sure of what it was sure of, and of this row
   pub alone : unrecorded result ≡ false → parts ≡ 1 → new.caller.sure ≡ old.caller.sure ++ histories.row old.caller.number event result ∷ []

@@ -12,7 +12,7 @@ use Rattle.model.specs.Steps.{world_after}
 use Rattle.model.specs.HashedTexts.{hashed}
 use Rattle.jobs.specs.Asking.{IsAnswerTo}
 use Rattle.history.specs.declared.row.Row.{Row}
-use Rattle.history.specs.Callers.{Known, told_stopped, seeing, with_caller}
+use Rattle.history.specs.Callers.{PassKnowledge, told_stopped, seeing, with_caller}
 use Rattle.history.specs.Histories.{events_of, IsLegal}
 
 -- what is told is so after these rows, which are a legal history: where no two texts that their events hash have one folded digest, it is
@@ -24,7 +24,7 @@ pub record IsAskedAfter (setup : Setup) (rows : List Row) (user : List ℕ) (num
   pub kept : NoClash (hashed setup nothing (events_of rows)) → (job : Running) → told ≡ Ok job → IsWellKept setup (events_of rows) user number job.resolved
 
 -- the front was asked through a pass for the job that a user's goal leads: what is told is so after the rows that the pass has seen then
-pub record IsAskedBy (setup : Setup) (old : Known) (user : List ℕ) (number : ℕ) (told : Result Running Refusal) (new : Known) : Type 0 where
+pub record IsAskedBy (setup : Setup) (old : PassKnowledge) (user : List ℕ) (number : ℕ) (told : Result Running Refusal) (new : PassKnowledge) : Type 0 where
   pub asked : told ≢ Err Stopped → IsAskedAfter setup new.seen user number told
   pub seen : IsPrefix old.seen new.seen
   pub going : told ≢ Err Stopped → new ≡ seeing old new.seen
@@ -32,7 +32,7 @@ pub record IsAskedBy (setup : Setup) (old : Known) (user : List ℕ) (number : �
   pub remains : old.caller.stopped ≡ true → told ≡ Err Stopped
 
 -- the front was asked so through one of so many passes: the only pass is told what is so after the rows that it is sure of
-pub record HasAsked (setup : Setup) (parts : ℕ) (old : Known) (user : List ℕ) (number : ℕ) (told : Result Running Refusal) (new : Known) : Type 0 where
+pub record HasAsked (setup : Setup) (parts : ℕ) (old : PassKnowledge) (user : List ℕ) (number : ℕ) (told : Result Running Refusal) (new : PassKnowledge) : Type 0 where
   pub by : IsAskedBy setup old user number told new
   pub alone : told ≢ Err Stopped → parts ≡ 1 → IsAskedAfter setup old.caller.sure user number told
   pub stopped_alone : parts ≡ 1 → told ≡ Err Stopped → old.stops ≡ 1

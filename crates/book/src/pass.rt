@@ -64,11 +64,11 @@ impl<J: FrontId> Drop for Pass<J> {
 impl<J: FrontId> Model for Pass<J> {
     ghost use Rattle.std.specs.Prelude.{◌≡◌, length};
     ghost use mathlib.Core.List.{IsPrefix};
-    ghost use Rattle.history.specs.Callers.{Known};
+    ghost use Rattle.history.specs.Callers.{PassKnowledge};
     ghost use Rattle.history.specs.FrontId.{name_of};
     ghost use Rattle.history.specs.Tied.{knower};
 
-    ghost Value = { Known };
+    ghost Value = { PassKnowledge };
 
     ghost use Rattle.std.specs.Coded.{codes};
     ghost use Rattle.model.specs.TreeCode.{tree_code};

@@ -6,12 +6,12 @@ use Rattle.model.specs.declared.refusal.Refusal.{Refusal}
 use Rattle.model.specs.declared.refusal.Refusal.TheVariants.{Quota}
 use Rattle.model.specs.Worlds.{Status, Done, Failed}
 use Rattle.realise.specs.Holdings.{Holdings}
-use Rattle.endings.specs.DeskDeltas.{Output, DeskDelta, with_delta, is_had, is_free, charged_with, status_with, one_more, delta_with}
+use Rattle.endings.specs.DeskDeltas.{BuiltOutput, DeskDelta, with_delta, is_had, is_free, charged_with, status_with, one_more, delta_with}
 use Rattle.endings.specs.DeskDeltas.{status_of_built, delta_of, all_delta, all_statuses}
 
 module _ (limit : ℕ) (d : Holdings) where
   abbrev Built : Type 0
-  Built = Result Output Refusal
+  Built = Result BuiltOutput Refusal
 
   pub delta_next : (xs rest : List (ℕ × Built)) (x : ℕ × Built) (g new : DeskDelta) → xs ≡ x ∷ rest → new ≡ delta_of limit d x.1 g
       → all_delta limit d rest new ≡ all_delta limit d xs g
@@ -38,7 +38,7 @@ nothing_left left (x ∷ xs) counted none = absurd (omega arith)
 
 -- ---- one record
 
-module _ (limit : ℕ) (d : Holdings) (o : Output) (g : DeskDelta) where
+module _ (limit : ℕ) (d : Holdings) (o : BuiltOutput) (g : DeskDelta) where
   -- a desk that has the record gets nothing
   pub delta_had : is_had o.0 (with_delta g d) ≡ true → g ≡ delta_with limit d o g
   delta_had had = rw had refl
@@ -70,7 +70,7 @@ room_left true charge was more limit free = grind (arith, nat_tests)
 room_left false charge was more limit free = absurd (true≢false (sym free))
 
 -- and so it is once that is charged
-pub charge_then : {T E : Type 0} (result : Result T E) (charge limit : ℕ) (o : Output) (more : ℕ) (g new : DeskDelta) → charge + (g.more + more) ≤ limit
+pub charge_then : {T E : Type 0} (result : Result T E) (charge limit : ℕ) (o : BuiltOutput) (more : ℕ) (g new : DeskDelta) → charge + (g.more + more) ≤ limit
     → IfOk result (λ _. new ≡ one_more o more g) → IfOk result (λ _. charge + new.more ≤ limit)
 charge_then (Ok x) charge limit o more g new within made = rw made within
 charge_then (Err e) charge limit o more g new within made = tt

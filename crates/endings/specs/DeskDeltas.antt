@@ -17,8 +17,8 @@ use Rattle.endings.specs.declared.delta.DeskDelta as Rust
 -- ---- what a desk gets
 
 -- a record with its tree
-abbrev pub Output : Type 0
-Output = Recorded × Tree
+abbrev pub BuiltOutput : Type 0
+BuiltOutput = Recorded × Tree
 
 -- records, their trees with their paths, and the bytes that are charged for them
 pub record DeskDelta : Type 0 where
@@ -63,21 +63,21 @@ abbrev pub is_free : ℕ → ℕ → Holdings → Bool
 is_free more limit d = nat_lt (length d.records) most_records && nat_le (d.charge + more) limit
 
 -- what it is charged for a record with its tree
-abbrev pub charged_with : Output → Holdings → ℕ
+abbrev pub charged_with : BuiltOutput → Holdings → ℕ
 charged_with o d = charged_more o.0.path (length (nar o.1)) d
 
 -- how far a goal is on a desk once that is built for it
-abbrev pub status_with : ℕ → Output → Holdings → Status
+abbrev pub status_with : ℕ → BuiltOutput → Holdings → Status
 status_with limit o d =
     if is_had o.0 d then Done o.0.path
     else if is_free (charged_with o d) limit d then Done o.0.path
     else Failed Quota
 
-abbrev pub one_more : Output → ℕ → DeskDelta → DeskDelta
+abbrev pub one_more : BuiltOutput → ℕ → DeskDelta → DeskDelta
 one_more o more g = record { records = g.records ++ o.0 ∷ []; trees = g.trees ++ (o.0.path, o.1) ∷ []; more = g.more + more }
 
 -- what a desk gets with it
-abbrev pub delta_with : ℕ → Holdings → Output → DeskDelta → DeskDelta
+abbrev pub delta_with : ℕ → Holdings → BuiltOutput → DeskDelta → DeskDelta
 delta_with limit d o g =
     let now : Holdings = with_delta g d in
     if is_had o.0 now then g
@@ -85,23 +85,23 @@ delta_with limit d o g =
     else g
 
 -- the same of what was built for a goal, or why nothing was
-abbrev pub status_of_built : ℕ → Result Output Refusal → Holdings → Status
+abbrev pub status_of_built : ℕ → Result BuiltOutput Refusal → Holdings → Status
 status_of_built limit (Ok o) d = status_with limit o d
 status_of_built limit (Err why) d = Failed why
 
-abbrev pub delta_of : ℕ → Holdings → Result Output Refusal → DeskDelta → DeskDelta
+abbrev pub delta_of : ℕ → Holdings → Result BuiltOutput Refusal → DeskDelta → DeskDelta
 delta_of limit d (Ok o) g = delta_with limit d o g
 delta_of limit d (Err why) g = g
 
 -- ---- all goals of a job
 
 -- what a desk gets of what was built for goals, one after another
-unfoldable pub all_delta : ℕ → Holdings → List (ℕ × Result Output Refusal) → DeskDelta → DeskDelta
+unfoldable pub all_delta : ℕ → Holdings → List (ℕ × Result BuiltOutput Refusal) → DeskDelta → DeskDelta
 all_delta limit d [] g = g
 all_delta limit d (x ∷ xs) g = all_delta limit d xs (delta_of limit d x.1 g)
 
 -- and how far each goal is then
-unfoldable pub all_statuses : ℕ → Holdings → List (ℕ × Result Output Refusal) → DeskDelta → List (ℕ × Status)
+unfoldable pub all_statuses : ℕ → Holdings → List (ℕ × Result BuiltOutput Refusal) → DeskDelta → List (ℕ × Status)
 all_statuses limit d [] g = []
 all_statuses limit d (x ∷ xs) g = (x.0, status_of_built limit x.1 (with_delta g d)) ∷ all_statuses limit d xs (delta_of limit d x.1 g)
 

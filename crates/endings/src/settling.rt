@@ -18,7 +18,7 @@ use handlers::State;
 use jobs::Goal;
 use model::Refusal;
 use nar::Tree;
-use outputs::{Candidates, Output, Settlements, record_of};
+use outputs::{Candidates, SettledTree, Settlements, record_of};
 use realise::Desk;
 use records::{Record, Resolved};
 use std::alloc::Global;
@@ -32,7 +32,7 @@ fn built_by(
     alloc: Global,
     admitted: &Admitted,
     candidates: &Candidates,
-    settled: Result<Output, Refusal>,
+    settled: Result<SettledTree, Refusal>,
 ) -> Result<Built, Refusal>
     ensures built { IfOk result (IsBuiltBy candidates.now admitted.now settled) }
     ensures memory { IfErr result (λ why. why ≡ Memory) }

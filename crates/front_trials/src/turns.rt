@@ -45,9 +45,9 @@ pub(crate) struct Member<'a, J: FrontId, R, T> {
 impl<'a, J: FrontId, R, T> Model for Member<'a, J, R, T> {
     ghost use Rattle.std.specs.Coded.{codes};
     ghost use Rattle.model.specs.TreeCode.{tree_code};
-    ghost use Rattle.history.specs.Callers.{Known};
+    ghost use Rattle.history.specs.Callers.{PassKnowledge};
 
-    ghost Value = { Known };
+    ghost Value = { PassKnowledge };
 
     ghost coded = { Prim.hlevel (codes, tree_code) };
 

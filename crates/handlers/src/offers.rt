@@ -22,7 +22,7 @@ use classes::Admitted;
 use events::CopiedReply;
 use model::Refusal;
 use nar::Tree;
-use outputs::{Candidates, Input, Output, Settlements, record_of};
+use outputs::{Candidates, Input, SettledTree, Settlements, record_of};
 use realise::Desk;
 use records::{DeskEntry, Record};
 use std::alloc::Global;
@@ -35,7 +35,7 @@ fn settled_output(
     admitted: &Admitted,
     candidates: &Candidates,
     tree: &Tree,
-) -> Result<Result<Output, Refusal>, Refusal>
+) -> Result<Result<SettledTree, Refusal>, Refusal>
     ensures tree { IfOk result (λ _. IsTree tree.now) }
     ensures paths { IfOk result (λ _. All IsPath (paths_of_labels candidates.now)) }
     ensures own { IfOk result (λ _. IsHashPart (hash_part_in admitted.now.class.path)) }
@@ -54,7 +54,7 @@ fn output_of(
     admitted: &Admitted,
     candidates: &Candidates,
     tree: &Tree,
-) -> Result<Output, Refusal>
+) -> Result<SettledTree, Refusal>
     ensures tree { IfOk result (λ _. IsTree tree.now) }
     ensures paths { IfOk result (λ _. All IsPath (paths_of_labels candidates.now)) }
     ensures own { IfOk result (λ _. IsHashPart (hash_part_in admitted.now.class.path)) }
@@ -69,7 +69,7 @@ fn recorded(
     alloc: Global,
     admitted: &Admitted,
     candidates: &Candidates,
-    output: &Output,
+    output: &SettledTree,
 ) -> Result<(Record, Tree), Refusal>
     ensures record { IfOk result (λ o. IsRecordOf candidates.now admitted.now output.now o.0) }
     ensures tree { IfOk result (λ o. o.1 ≡ output.now.tree) }

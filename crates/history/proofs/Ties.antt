@@ -4,9 +4,9 @@ use mathlib.Core.Option.{some}
 use lib.ListN.{get_elem?}
 use Rattle.crossbeam_utils.specs.Register.{Admits, TurnsAt, Forks, Merges}
 use Rattle.atomic_table.proofs.Lists.{at_set, at_snoc}
-use Rattle.history.specs.declared.law.Name.{Name}
+use Rattle.history.specs.declared.law.FrontName.{FrontName}
 use Rattle.history.specs.declared.law.Shown.{Shown}
-use Rattle.history.specs.declared.law.View.{View}
+use Rattle.history.specs.declared.law.KnownName.{KnownName}
 use Rattle.std.specs.Prelude.{MatchBool}
 use Rattle.std.proofs.lemmas.List.Sums.{fold-append}
 use Rattle.history.specs.Histories.{IsLegal}
@@ -15,10 +15,10 @@ use Rattle.history.specs.declared.snapshot.Operation.TheVariants.{Wait}
 use Rattle.history.specs.FrontId.{setup_in}
 use Rattle.history.specs.Tied.{knower, stranger, absorbed, IsQuiet, Tied, Sees}
 
-abbrev Fits : Name → View → Type 0
+abbrev Fits : FrontName → KnownName → Type 0
 Fits n v = v.knows ≡ true → v.name ≡ n
 
-fits_set : (n : Name) (views : List View) (seat : ℕ) (w : View) → ((j : ℕ) (u : View) → get_elem? views j ≡ some u → Fits n u) → Fits n w → (j : ℕ) (u : View)
+fits_set : (n : FrontName) (views : List KnownName) (seat : ℕ) (w : KnownName) → ((j : ℕ) (u : KnownName) → get_elem? views j ≡ some u → Fits n u) → Fits n w → (j : ℕ) (u : KnownName)
     → get_elem? (set views seat w) j ≡ some u → Fits n u
 fits_set n views seat w others mine j u e =
     ⊎_elim
@@ -26,17 +26,17 @@ fits_set n views seat w others mine j u e =
     (λ (x : (j ≢ seat) × (get_elem? views j ≡ some u)). others j u x.1)
     (at_set views seat j w u e)
 
-fits_snoc : (n : Name) (views : List View) (w : View) → ((j : ℕ) (u : View) → get_elem? views j ≡ some u → Fits n u) → Fits n w → (j : ℕ) (u : View)
+fits_snoc : (n : FrontName) (views : List KnownName) (w : KnownName) → ((j : ℕ) (u : KnownName) → get_elem? views j ≡ some u → Fits n u) → Fits n w → (j : ℕ) (u : KnownName)
     → get_elem? (views ++ w ∷ []) j ≡ some u → Fits n u
 fits_snoc n views w others mine j u e = ⊎_elim (λ was. others j u was) (λ (same : w ≡ u). subst (Fits n) same mine) (at_snoc views w u j e)
 
-estranged : (n : Name) → Fits n stranger
+estranged : (n : FrontName) → Fits n stranger
 estranged n k = absurd (true≢false (sym k))
 
-knower_is : (v : View) (n : Name) → v.knows ≡ true → v.name ≡ n → knower n ≡ v
+knower_is : (v : KnownName) (n : FrontName) → v.knows ≡ true → v.name ≡ n → knower n ≡ v
 knower_is v n k e i = record { knows = sym k i; name = sym e i }
 
-pub turns : (seat : ℕ) (v : View) (x y : Shown) → (IsLegal (setup_in x.name) x.seen → IsLegal (setup_in y.name) y.seen) → y.name ≡ x.name
+pub turns : (seat : ℕ) (v : KnownName) (x y : Shown) → (IsLegal (setup_in x.name) x.seen → IsLegal (setup_in y.name) y.seen) → y.name ≡ x.name
     → TurnsAt Tied seat v x y Sees
 turns seat v x y legal name views h at = (
   knower y.name,
@@ -45,19 +45,19 @@ turns seat v x y legal name views h at = (
 )
 
 -- nothing that is shown changes
-pub turns_still : (seat : ℕ) (v : View) (x y : Shown) → y ≡ x → TurnsAt Tied seat v x y Sees
+pub turns_still : (seat : ℕ) (v : KnownName) (x y : Shown) → y ≡ x → TurnsAt Tied seat v x y Sees
 turns_still seat v x y same =
     turns seat v x y (λ h. subst (λ (t : Shown). IsLegal (setup_in t.name) t.seen) (sym same) h) (ap (λ (t : Shown). t.name) same)
 
 pub admits : Admits Tied stranger
 admits x views h = (h.0, fits_snoc x.name views stranger h.1 (estranged x.name))
 
-pub forks : (seat : ℕ) (v : View) → Forks Tied seat v v v
+pub forks : (seat : ℕ) (v : KnownName) → Forks Tied seat v v v
 forks seat v x views h at =
     let mine = h.1 seat v at in
     (h.0, fits_snoc x.name (set views seat v) v (fits_set x.name views seat v h.1 mine) mine)
 
-pub merges : (seat : ℕ) (v : View) (other : ℕ) (w : View) → Merges Tied seat v other w w stranger
+pub merges : (seat : ℕ) (v : KnownName) (other : ℕ) (w : KnownName) → Merges Tied seat v other w w stranger
 merges seat v other w x views h at apart there =
     let theirs : Fits x.name w =
     ⊎_elim (λ (t : (other ≡ seat) × (w ≡ w)). absurd (apart t.0)) (λ (t : (other ≢ seat) × (get_elem? views other ≡ some w)). h.1 other w t.1)
@@ -99,5 +99,5 @@ is_settled x y next pending all false left same quiet are is =
 -- ---- what a look sees
 
 -- the name that was seen is the one that was known
-pub name_seen : (v w : View) (x s : Shown) → Sees v x x w → v.knows ≡ true → s ≡ x → s.name ≡ v.name
-name_seen v w x s sees knows same = ap (λ (t : Shown). t.name) same ∙ (ap (λ (u : View). u.name) (sym sees.1) ∙ ap (λ (u : View). u.name) (sees.2 knows))
+pub name_seen : (v w : KnownName) (x s : Shown) → Sees v x x w → v.knows ≡ true → s ≡ x → s.name ≡ v.name
+name_seen v w x s sees knows same = ap (λ (t : Shown). t.name) same ∙ (ap (λ (u : KnownName). u.name) (sym sees.1) ∙ ap (λ (u : KnownName). u.name) (sees.2 knows))

@@ -47,21 +47,21 @@ below (suc n) = below n ++ n ∷ []
 -- ---- what a pass has seen
 
 -- a pass: its calls, what it has seen of the history, and how many of its calls stopped the front
-pub record Known : Type 0 where
+pub record PassKnowledge : Type 0 where
   pub caller : Caller
   pub seen : List Row
   pub stops : ℕ
 
 -- a pass of this number that has made no call, and seen nothing
-abbrev pub new_pass : ℕ → Known
+abbrev pub new_pass : ℕ → PassKnowledge
 new_pass number = record { caller = newcomer number; seen = []; stops = 0 }
 
 -- the same but for its calls
-abbrev pub with_caller : Known → Caller → Known
+abbrev pub with_caller : PassKnowledge → Caller → PassKnowledge
 with_caller p caller = record { caller = caller; seen = p.seen; stops = p.stops }
 
 -- the same but for what it has seen
-abbrev pub seeing : Known → List Row → Known
+abbrev pub seeing : PassKnowledge → List Row → PassKnowledge
 seeing p rows = record { caller = p.caller; seen = rows; stops = p.stops }
 
 -- a front is stopped once, or not at all

@@ -14,7 +14,7 @@ use Rattle.events.specs.declared.event.Event.{Event}
 use Rattle.events.specs.declared.reply.Reply.{Reply}
 use Rattle.events.specs.Terms.{event_of, reply_of}
 use Rattle.history.specs.declared.row.Row.{Row}
-use Rattle.history.specs.Callers.{Known, answered}
+use Rattle.history.specs.Callers.{PassKnowledge, answered}
 
 -- ---- rows in the terms of the model
 
@@ -49,7 +49,7 @@ pub record IsLegal (setup : Setup) (rows : List Row) : Type 0 where
 
 -- a call was answered: its row comes after rows that begin with what the pass had seen, and with it they are a legal history, of
 -- which the pass is sure now, and which it has seen
-pub record IsAnswered (setup : Setup) (old : Known) (event : Event) (reply : Reply) (new : Known) : Type 0 where
+pub record IsAnswered (setup : Setup) (old : PassKnowledge) (event : Event) (reply : Reply) (new : PassKnowledge) : Type 0 where
   pub before : List Row
   pub longer : IsPrefix old.seen before
   pub sure : new.caller ≡ answered old.caller (before ++ row old.caller.number event reply ∷ [])

@@ -2,21 +2,21 @@
 use Rattle.std.specs.Prelude.{◌≡◌, ℕ, List, [], fold, true, false}
 use mathlib.Core.Option.{some}
 use lib.ListN.{get_elem?}
-use Rattle.history.specs.declared.law.Name.{Name}
+use Rattle.history.specs.declared.law.FrontName.{FrontName}
 use Rattle.history.specs.declared.law.Shown.{Shown}
-use Rattle.history.specs.declared.law.View.{View}
+use Rattle.history.specs.declared.law.KnownName.{KnownName}
 use Rattle.history.specs.Histories.{IsLegal}
 use Rattle.history.specs.declared.snapshot.Operation.{Operation}
 use Rattle.history.specs.declared.snapshot.Operation.TheVariants.{Show, Wait}
 use Rattle.history.specs.FrontId.{setup_in}
 
-abbrev pub no_name : Name
+abbrev pub no_name : FrontName
 no_name = record { number = 0; log_name = 0; cells_name = 0; users = []; charge = 0 }
 
-abbrev pub knower : Name → View
+abbrev pub knower : FrontName → KnownName
 knower n = record { knows = true; name = n }
 
-abbrev pub stranger : View
+abbrev pub stranger : KnownName
 stranger = record { knows = false; name = no_name }
 
 -- after what is published next
@@ -29,12 +29,12 @@ abbrev pub IsQuiet : Shown → List Operation → Type 0
 IsQuiet t pending = fold absorbed t pending ≡ t
 
 -- the rows that were published are a legal history; who knows a name knows this one
-abbrev pub Tied : Shown → List View → Type 0
-Tied x views = IsLegal (setup_in x.name) x.seen × ((seat : ℕ) (v : View) → get_elem? views seat ≡ some v → v.knows ≡ true → v.name ≡ x.name)
+abbrev pub Tied : Shown → List KnownName → Type 0
+Tied x views = IsLegal (setup_in x.name) x.seen × ((seat : ℕ) (v : KnownName) → get_elem? views seat ≡ some v → v.knows ≡ true → v.name ≡ x.name)
 
 -- so it is, the name is known, and is the one that was known
-abbrev pub Sees : View → Shown → Shown → View → Type 0
+abbrev pub Sees : KnownName → Shown → Shown → KnownName → Type 0
 Sees v x y w = IsLegal (setup_in y.name) y.seen × (w ≡ knower y.name) × (v.knows ≡ true → w ≡ v)
 
-abbrev pub told : View → View → View
+abbrev pub told : KnownName → KnownName → KnownName
 told v w = w

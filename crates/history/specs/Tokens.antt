@@ -8,7 +8,7 @@ use Rattle.atomic_table.specs.Seated.{TableId}
 use Rattle.history.specs.declared.row.Row.{Row}
 use Rattle.history.specs.declared.log.Recorded.{Recorded}
 use Rattle.history.specs.declared.log.Claimed.{Claimed}
-use Rattle.history.specs.declared.log.View.{View}
+use Rattle.history.specs.declared.log.TokenKnowledge.{TokenKnowledge}
 use Rattle.history.specs.Callers.{rows_of}
 
 -- the name of no table
@@ -25,19 +25,19 @@ abbrev pub nothing_claimed : Claimed
 nothing_claimed = record { number = 0; rows = []; stopped = false }
 
 -- the token that keeps the book
-abbrev pub keeper : Recorded → View
+abbrev pub keeper : Recorded → TokenKnowledge
 keeper book = record { keeps = true; recorded = book; claims = false; claimed = nothing_claimed }
 
 -- the token of a caller
-abbrev pub holder : Claimed → View
+abbrev pub holder : Claimed → TokenKnowledge
 holder claim = record { keeps = false; recorded = nothing_recorded; claims = true; claimed = claim }
 
 -- the token that keeps the book and has that of a caller beside it
-abbrev pub both : Recorded → Claimed → View
+abbrev pub both : Recorded → Claimed → TokenKnowledge
 both book claim = record { keeps = true; recorded = book; claims = true; claimed = claim }
 
 -- the same token without what a caller claims
-abbrev pub without_claim : View → View
+abbrev pub without_claim : TokenKnowledge → TokenKnowledge
 without_claim v = record { keeps = v.keeps; recorded = v.recorded; claims = false; claimed = nothing_claimed }
 
 -- ---- what changes
@@ -73,27 +73,27 @@ pub record Agrees (book : Recorded) (claim : Claimed) : Type 0 where
   pub stopped : claim.stopped ≡ true → book.stopped ≡ true
 
 -- a token keeps the book only at the place of the log, and claims a number only at that of the number's owner
-pub record Fits (keeper : ℕ) (book : Recorded) (owner : ℕ → ℕ) (place : ℕ) (v : View) : Type 0 where
+pub record Fits (keeper : ℕ) (book : Recorded) (owner : ℕ → ℕ) (place : ℕ) (v : TokenKnowledge) : Type 0 where
   pub keeps : v.keeps ≡ true → (place ≡ keeper) × (v.recorded ≡ book)
   pub claims : v.claims ≡ true → (place ≡ owner v.claimed.number) × (v.claimed.number < book.next) × Agrees book v.claimed
 
 -- there is one book, and each number has one owner
-pub record HaveOneBook (views : List View) : Type 0 where
+pub record HaveOneBook (views : List TokenKnowledge) : Type 0 where
   pub keeper : ℕ
   pub book : Recorded
   pub owner : ℕ → ℕ
-  pub fits : (place : ℕ) (v : View) → get_elem? views place ≡ some v → Fits keeper book owner place v
+  pub fits : (place : ℕ) (v : TokenKnowledge) → get_elem? views place ≡ some v → Fits keeper book owner place v
 
 -- ---- the steps of the log
 
 -- with the token of a caller beside it, it compares what that caller knows, and tells whether the book is stopped
-abbrev pub Compares : {S : Type 0} → Step S → Me S View → ℕ → Me S View → Type 0
+abbrev pub Compares : {S : Type 0} → Step S → Me S TokenKnowledge → ℕ → Me S TokenKnowledge → Type 0
 Compares s v n w = (w ≡ (both v.0.recorded (told v.0.recorded.stopped v.0.claimed), [])) × Agrees v.0.recorded v.0.claimed
 
 -- with the token of a caller beside it, it records these rows, which that caller knows now
-abbrev pub Grows : {S : Type 0} → List Row → Step S → Me S View → ℕ → Me S View → Type 0
+abbrev pub Grows : {S : Type 0} → List Row → Step S → Me S TokenKnowledge → ℕ → Me S TokenKnowledge → Type 0
 Grows rows s v n w = w ≡ (both (with_rows v.0.recorded rows) (claim_of v.0.claimed rows), [])
 
 -- it records that the book is stopped
-abbrev pub Stops : {S : Type 0} → Step S → Me S View → ℕ → Me S View → Type 0
+abbrev pub Stops : {S : Type 0} → Step S → Me S TokenKnowledge → ℕ → Me S TokenKnowledge → Type 0
 Stops s v n w = w ≡ (keeper (stopped_book v.0.recorded), [])

@@ -13,7 +13,7 @@ use std::sync::Wait;
 use trust::User;
 
 /// The name of a front: its history, and what its run was given. No value of it is made.
-pub struct Name {
+pub struct FrontName {
     /// The first of the three that name the history.
     pub number: u64,
     /// The second.
@@ -33,22 +33,22 @@ pub struct Shown {
     /// The rows of the history that were published with it, whose events the core has taken.
     pub seen: LinkedList<Row>,
     /// What it is a snapshot of.
-    pub name: Name,
+    pub name: FrontName,
 }
 
 /// What a reader and the writer know: a name, or nothing. No value of it is made.
-pub struct View {
+pub struct KnownName {
     /// Whether it knows a name.
     pub knows: bool,
     /// The name, if it does.
-    pub name: Name,
+    pub name: FrontName,
 }
 
 /// The rule: the rows that were published are a legal history, and who knows a name knows that of the
 /// snapshot.
-pub struct Law;
+pub struct PublishedRule;
 
-impl Protocol<Snapshot, View> for Law {
+impl Protocol<Snapshot, KnownName> for PublishedRule {
     ghost use Rattle.history.specs.Tied.{Tied, stranger};
 
     ghost holds = { Tied };
@@ -59,7 +59,7 @@ impl Protocol<Snapshot, View> for Law {
 /// A publish, or a look.
 pub struct Looks;
 
-impl Outcome<Snapshot, View> for Looks {
+impl Outcome<Snapshot, KnownName> for Looks {
     ghost use Rattle.history.specs.Tied.{Sees};
 
     ghost then = { Sees };
@@ -68,13 +68,13 @@ impl Outcome<Snapshot, View> for Looks {
 /// The writer tells a new reader the name.
 pub struct Tells;
 
-impl Split<View> for Tells {
+impl Split<KnownName> for Tells {
     ghost left = { λ v. v };
 
     ghost right = { λ v. v };
 }
 
-impl Join<View> for Tells {
+impl Join<KnownName> for Tells {
     ghost use Rattle.history.specs.Tied.{told, stranger};
 
     ghost both = { told };
@@ -83,10 +83,10 @@ impl Join<View> for Tells {
 }
 
 /// Who looks at what is published.
-pub type SnapshotReader = Reader<Snapshot, View, Law>;
+pub type SnapshotReader = Reader<Snapshot, KnownName, PublishedRule>;
 
 /// Who publishes.
-pub type SnapshotWriter = Writer<Snapshot, Operation, View, Law>;
+pub type SnapshotWriter = Writer<Snapshot, Operation, KnownName, PublishedRule>;
 
 /// The writer, which may be let go. Where `take` does not end it, its memory is never freed.
 pub struct End {

@@ -22,7 +22,9 @@ pub use caller::Caller;
 pub use ends::{begin, look, need, publish, reader_of, settle};
 pub use front_id::{FrontId, StopCount};
 pub use history_prefix::{EmptyHistory, HistoryLength, HistoryPrefix, Lengths};
-pub use law::{End, Law, Looks, Name, Shown, SnapshotReader, SnapshotWriter, Tells, View};
+pub use law::{
+    End, FrontName, KnownName, Looks, PublishedRule, Shown, SnapshotReader, SnapshotWriter, Tells,
+};
 pub use log::{Claim, FrontTokens, Log, LogTable};
 pub use row::{Row, is_unrecorded};
 pub use snapshot::{Operation, Snapshot};

@@ -37,7 +37,7 @@ pub struct Claimed {
 }
 
 /// What a token knows. No value of it is made.
-pub struct View {
+pub struct TokenKnowledge {
     /// Whether it knows what is recorded.
     pub keeps: bool,
     /// All that is recorded, if it does.
@@ -50,9 +50,9 @@ pub struct View {
 
 /// The rule of the tokens: there is one book, with which each claim agrees, and one claim of each
 /// number.
-pub struct Law;
+pub struct TokenRule;
 
-impl TableRule<(), View, ()> for Law {
+impl TableRule<(), TokenKnowledge, ()> for TokenRule {
     ghost use Rattle.history.specs.Tokens.{keeper, nothing_recorded, HaveOneBook};
 
     ghost holds = { λ _ s. HaveOneBook s.views };
@@ -79,7 +79,7 @@ pub struct Grow<K: Rows> {
     of: PhantomData<K>,
 }
 
-impl<K: Rows> Play<(), View> for Grow<K> {
+impl<K: Rows> Play<(), TokenKnowledge> for Grow<K> {
     ghost use Rattle.history.specs.Tokens.{Grows};
 
     ghost then = { Grows K.rows };
@@ -88,7 +88,7 @@ impl<K: Rows> Play<(), View> for Grow<K> {
 /// The step by which the log compares the claim beside it.
 pub struct Compare;
 
-impl Play<(), View> for Compare {
+impl Play<(), TokenKnowledge> for Compare {
     ghost use Rattle.history.specs.Tokens.{Compares};
 
     ghost then = { Compares };
@@ -97,7 +97,7 @@ impl Play<(), View> for Compare {
 /// The step by which the log records that the book is stopped.
 pub struct Stop;
 
-impl Play<(), View> for Stop {
+impl Play<(), TokenKnowledge> for Stop {
     ghost use Rattle.history.specs.Tokens.{Stops};
 
     ghost then = { Stops };
@@ -106,7 +106,7 @@ impl Play<(), View> for Stop {
 /// A new token takes the claim out of another one.
 pub struct TakeClaim;
 
-impl Split<View> for TakeClaim {
+impl Split<TokenKnowledge> for TakeClaim {
     ghost use Rattle.history.specs.Tokens.{holder, without_claim};
 
     ghost left = { without_claim };
@@ -117,7 +117,7 @@ impl Split<View> for TakeClaim {
 /// The log makes the claim of the next caller.
 pub struct NextClaim;
 
-impl Split<View> for NextClaim {
+impl Split<TokenKnowledge> for NextClaim {
     ghost use Rattle.history.specs.Tokens.{keeper, holder, with_pass, first_claim};
 
     ghost left = { λ v. keeper (with_pass v.recorded) };
@@ -128,7 +128,7 @@ impl Split<View> for NextClaim {
 /// The log takes a claim beside it.
 pub struct AddClaim;
 
-impl Join<View> for AddClaim {
+impl Join<TokenKnowledge> for AddClaim {
     ghost use Rattle.history.specs.Tokens.{both, holder, nothing_claimed, without_claim};
 
     ghost both = { λ v w. both v.recorded w.claimed };
@@ -139,8 +139,8 @@ impl Join<View> for AddClaim {
 /// The tokens of a new front, which has no name yet.
 pub struct LogTable {
     /// The table of the tokens.
-    pub table: Table<(), View, (), Law, Global>,
-    seat: Seat<(), View>,
+    pub table: Table<(), TokenKnowledge, (), TokenRule, Global>,
+    seat: Seat<(), TokenKnowledge>,
     ghost word: { table.shared.table_id.words ≡ 1 },
     ghost here: { seat.table_id ≡ table.shared.table_id },
     ghost empty: { seat.me ≡ (keeper nothing_recorded, []) },
@@ -208,8 +208,8 @@ impl FrontTokens {
 
 /// The one token that knows all that is recorded. Contracts see it as that.
 pub struct Log<J: FrontId> {
-    table: Table<(), View, (), Law, Global>,
-    seat: Seat<(), View>,
+    table: Table<(), TokenKnowledge, (), TokenRule, Global>,
+    seat: Seat<(), TokenKnowledge>,
     of: PhantomData<J>,
 }
 
@@ -244,7 +244,7 @@ impl<J: FrontId> Model for Log<J> {
 
 /// The one token of a caller. Contracts see it as what the caller knows.
 pub struct Claim<J: FrontId> {
-    seat: Seat<(), View>,
+    seat: Seat<(), TokenKnowledge>,
     of: PhantomData<J>,
 }
 

@@ -9,7 +9,7 @@ use Rattle.model.specs.Replies.{Reply}
 use Rattle.model.specs.Lines.{LineResult, split, cut_at, filled}
 use Rattle.model.specs.Forms.{Form, Command, names_form, users_form, first_form, command_in, command_form, later_form, text_form, line_form, is_empty_word, is_quiet, is_printable, longest_line}
 use Rattle.model.specs.Forms as form
-use Rattle.model.specs.Talk.{Row, Silent, Names, Refuses, Asks, Waits, Seen, seen_after, form_of, Gets, GetsNext, Talks, awaited_in}
+use Rattle.model.specs.Talk.{LineRow, Silent, Names, Refuses, Asks, Waits, Seen, seen_after, form_of, Gets, GetsNext, Talks, awaited_in}
 
 -- a form of no wait
 abbrev IsNoWait : Form → Type 0
@@ -63,7 +63,7 @@ no_wait-next seen line awaited reply service g =
     no_wait-row seen.goals awaited (form_of seen line) reply (rw service (no_wait-line seen.begun seen.told line)) g
 
 -- where the session knows the lines of the service, none of them waits
-pub never_waits : (seen : Seen) (lines : List (List ℕ)) (rows : List Row) → seen.mode ≡ Service → Talks seen lines rows → awaited_in rows ≡ []
+pub never_waits : (seen : Seen) (lines : List (List ℕ)) (rows : List LineRow) → seen.mode ≡ Service → Talks seen lines rows → awaited_in rows ≡ []
 never_waits seen [] [] service t = refl
 never_waits seen [] (r ∷ rows) service t = absurd t
 never_waits seen (l ∷ lines) [] service t = refl

@@ -9,7 +9,7 @@ use Rattle.model.specs.Words.{AreWell, FirstIll, number_in}
 use Rattle.model.specs.Verbs.{kinds_of, IsRequestOf}
 use Rattle.model.specs.Forms.{Form, Command}
 use Rattle.model.specs.Forms as form
-use Rattle.model.specs.Talk.{Row, Silent, Names, Refuses, Asks, Waits, Gets}
+use Rattle.model.specs.Talk.{LineRow, Silent, Names, Refuses, Asks, Waits, Gets}
 use Rattle.model.specs.Replies.{ends_wait}
 use Rattle.model.specs.Worlds.{Job}
 use Rattle.model.specs.Replies as replies
@@ -45,7 +45,7 @@ abbrev pub IsNoEvent : List ℕ → Command → Refusal → Type 0
 IsNoEvent user command why = (why ≡ Memory) ⊎ FirstIll (kind.User ∷ kinds_of command.verb) (user ∷ command.words) why
 
 -- the row of what a line comes to, where the lines before it got these goals
-abbrev pub IsRowOf : List Job → Reading → Row → Type 0
+abbrev pub IsRowOf : List Job → Reading → LineRow → Type 0
 IsRowOf goals reading.Silent row = row ≡ Silent
 IsRowOf goals (reading.Names users) row = row ≡ Names users.items
 IsRowOf goals (reading.Refuses why) row = row ≡ Refuses why

@@ -16,7 +16,7 @@ mod sources;
 pub use below::records_below;
 pub use candidates::Candidates;
 pub use input::Input;
-pub use output::Output;
+pub use output::SettledTree;
 pub use record::record_of;
 pub use settlements::Settlements;
 pub use sources::Sources;

@@ -11,18 +11,18 @@ use std::marker::Model;
 use std::sync::Arc;
 
 /// A settled tree with its path and its references. A copy shares them.
-pub struct Output {
+pub struct SettledTree {
     named: Arc<Named>,
     tree: Tree,
 }
 
-impl Drop for Output {
+impl Drop for SettledTree {
     fn drop(self) {
-        let Output { named: _, tree: _ } = self;
+        let SettledTree { named: _, tree: _ } = self;
     }
 }
 
-impl Model for Output {
+impl Model for SettledTree {
     ghost use Rattle.std.specs.Prelude.{◌≡◌};
     ghost use Rattle.std.specs.Arc.{arc_value};
     ghost use Rattle.model.specs.Settling.{Settled, settled_code};
@@ -36,15 +36,15 @@ impl Model for Output {
     ghost invariant = { λ o. o.tree ≡ (arc_value o.named).tree };
 }
 
-impl Output {
+impl SettledTree {
     /// A settled tree. It is decoded here, once for all who keep it. The one error is memory.
-    pub fn new(alloc: Global, named: Named) -> Result<Output, Refusal>
+    pub fn new(alloc: Global, named: Named) -> Result<SettledTree, Refusal>
         ensures output { IfOk result (λ o. o ≡ named) }
         ensures memory { IfErr result (λ why. why ≡ Memory) }
     {
         let tree = named.tree(alloc)?;
         let named = Arc::new(alloc, named)?;
-        Ok(Output { named, tree })
+        Ok(SettledTree { named, tree })
     }
 
     /// The settled tree as its archive, with its path and its references.
@@ -63,14 +63,14 @@ impl Output {
 }
 
 /// The copy is equal, and shares all that it has. The one error is memory.
-impl Clone for Output {
+impl Clone for SettledTree {
     ghost use Rattle.std.specs.Prelude.{◌≡◌};
 
     ghost is_clone = { λ original copy. copy ≡ original };
 
-    fn clone(&self) -> Result<Output, AllocError> {
+    fn clone(&self) -> Result<SettledTree, AllocError> {
         let named = self.named.clone()?;
         let tree = self.tree.clone()?;
-        Ok(Output { named, tree })
+        Ok(SettledTree { named, tree })
     }
 }

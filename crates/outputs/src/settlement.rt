@@ -10,7 +10,7 @@ ghost use Rattle.model.specs.TreeCode.{tree_code};
 ghost use Rattle.model.specs.Settling.{settled_code};
 
 use crate::input::Input;
-use crate::output::Output;
+use crate::output::SettledTree;
 use model::Refusal;
 use nar::{Tree, encode};
 use std::alloc::{AllocError, Global};
@@ -20,14 +20,14 @@ use std::alloc::{AllocError, Global};
 pub(crate) struct Settlement {
     input: Input,
     tree: Tree,
-    outcome: Result<Output, Refusal>,
+    outcome: Result<SettledTree, Refusal>,
     ghost is: { outcome ≡ unless_rewrite_refused (input_settled input tree) } by { Prim.hlevel (props, codes, tree_code, settled_code) },
 }
 
 /// A copy of what came of a tree. It shares what is large.
 pub(crate) fn copy_of(
-    outcome: &Result<Output, Refusal>,
-) -> Result<Result<Output, Refusal>, AllocError>
+    outcome: &Result<SettledTree, Refusal>,
+) -> Result<Result<SettledTree, Refusal>, AllocError>
     ensures { IfOk result (λ copy. copy ≡ outcome.now) }
 {
     match outcome {
@@ -46,7 +46,7 @@ impl Settlement {
         let archive = encode(alloc, tree)?;
         let tree = tree.clone()?;
         let outcome = match input.settle(alloc, &archive) {
-            Ok(named) => Ok(Output::new(alloc, named)?),
+            Ok(named) => Ok(SettledTree::new(alloc, named)?),
             Err(Refusal::Memory) => return Err(Refusal::Memory),
             Err(why) => Err(why),
         };
@@ -58,14 +58,14 @@ impl Settlement {
     }
 
     /// What came of it.
-    pub(crate) fn outcome(&self) -> &Result<Output, Refusal>
+    pub(crate) fn outcome(&self) -> &Result<SettledTree, Refusal>
         ensures { result.now ≡ self.now.outcome }
     {
         &self.outcome
     }
 
     /// What came of it, if it is that of this tree by this input.
-    pub(crate) fn outcome_for(&self, input: &Input, tree: &Tree) -> Option<&Result<Output, Refusal>>
+    pub(crate) fn outcome_for(&self, input: &Input, tree: &Tree) -> Option<&Result<SettledTree, Refusal>>
         ensures outcome { IfSome result (λ o.
             o.now ≡ unless_rewrite_refused (input_settled input.now tree.now)) }
         ensures input { IfSome result (λ _. IsSameInput self.now.input input.now) }

@@ -15,7 +15,7 @@ ghost use Rattle.classes.specs.Admitting.{one_more};
 
 use crate::candidates::Candidates;
 use crate::input::Input;
-use crate::output::Output;
+use crate::output::SettledTree;
 use crate::settlement::{Settlement, copy_of};
 use aterm::Derivation;
 use model::Refusal;
@@ -28,7 +28,7 @@ fn found<'a>(
     settled: &'a [Settlement],
     input: &Input,
     tree: &Tree,
-) -> Option<&'a Result<Output, Refusal>>
+) -> Option<&'a Result<SettledTree, Refusal>>
     ensures outcome { IfSome result (λ o.
         o.now ≡ unless_rewrite_refused (input_settled input.now tree.now)) }
     ensures has { IfSome result (λ _. HasSettled settled.now input.now tree.now) }
@@ -83,7 +83,7 @@ impl Settlements {
         alloc: Global,
         input: Input,
         tree: &Tree,
-    ) -> Result<Result<Output, Refusal>, Refusal>
+    ) -> Result<Result<SettledTree, Refusal>, Refusal>
         ensures tree { IsTree tree.now }
         ensures outcome { IfOk result (λ o. o ≡ unless_rewrite_refused (input_settled input tree.now)) }
         ensures kept { IfOk result (λ _. HasSettled self.new.settled.items input tree.now) }
@@ -112,7 +112,7 @@ impl Settlements {
         candidates: &Candidates,
         derivation: &Derivation,
         tree: &Tree,
-    ) -> Result<Result<Output, Refusal>, Refusal>
+    ) -> Result<Result<SettledTree, Refusal>, Refusal>
         ensures tree { IfOk result (λ _. IsTree tree.now) }
         ensures own { IfOk result (λ _. IsHashPart (hash_part_in own.now)) }
         ensures paths { IfOk result (λ _. All IsPath (paths_of_labels candidates.now)) }

@@ -7,7 +7,7 @@ use Rattle.model.specs.declared.refusal.Refusal.{Refusal}
 use Rattle.model.specs.declared.refusal.Refusal.TheVariants.{BadUsers}
 use Rattle.model.specs.Worlds.{Setup}
 use Rattle.model.specs.Lines.{lines_of}
-use Rattle.model.specs.Talk.{Row, Seen, fresh, Talks}
+use Rattle.model.specs.Talk.{LineRow, Seen, fresh, Talks}
 use Rattle.session.specs.Serving.{Chain, Finished, EndedEarly, AnsweredSoFar, Progress}
 use Rattle.session.specs.Ahead.{LooksAhead}
 use Rattle.session.specs.Heads.{Idle, IsBegun}
@@ -22,7 +22,7 @@ use Rattle.replaying.proofs.ReplayLemmas.{one_store}
 use Rattle.replaying.proofs.InputLemmas.{are_answered, consumed, consumed_all}
 
 -- rows that ask nobody are those of any store that was not asked
-quiet_answered : (charge : ℕ) (done : List (List ℕ)) (rows : List Row) → Talks (fresh Service) done rows → Chain Idle tt rows tt → AreAnswered charge rows
+quiet_answered : (charge : ℕ) (done : List (List ℕ)) (rows : List LineRow) → Talks (fresh Service) done rows → Chain Idle tt rows tt → AreAnswered charge rows
 quiet_answered charge done rows t quiet = are_answered charge done rows t (λ users named.
     let setup : Setup = record { users = users; charge = charge } in
     one_store setup unasked unasked rows refl (alone-chain (IsOnlyAnswer setup) DoesNothing unasked rows quiet))

@@ -10,7 +10,7 @@ use Rattle.model.specs.declared.refusal.Refusal.{Refusal}
 use Rattle.model.specs.declared.refusal.Refusal.TheVariants.{BadUsers, OutputFault}
 use Rattle.model.specs.Worlds.{Setup, are_users}
 use Rattle.model.specs.Lines.{lines_of}
-use Rattle.model.specs.Talk.{Row, fresh, Talks, text_from, asked_in, users_in}
+use Rattle.model.specs.Talk.{LineRow, fresh, Talks, text_from, asked_in, users_in}
 use Rattle.laws.proofs.TalkLemmas.{none_asked, named_are_users, same_users}
 use Rattle.session.specs.Serving.{Finished}
 use Rattle.session.specs.Ahead.{LooksAhead}
@@ -20,18 +20,18 @@ use Rattle.replaying.proofs.ReplayLemmas.{one_store}
 
 -- ---- answers
 
-answered_as : (charge : ℕ) (rows : List Row) (named : Option (List (List ℕ))) → (named ≡ None → asked_in rows ≡ [])
+answered_as : (charge : ℕ) (rows : List LineRow) (named : Option (List (List ℕ))) → (named ≡ None → asked_in rows ≡ [])
     → ((users : List (List ℕ)) → named ≡ Some users → AreOfOneStore (record { users = users; charge = charge }) rows)
     → MatchOption named (asked_in rows ≡ []) (λ users. AreOfOneStore (record { users = users; charge = charge }) rows)
 answered_as charge rows None none some = none refl
 answered_as charge rows (Some users) none some = some users refl
 
-pub are_answered : (charge : ℕ) (done : List (List ℕ)) (rows : List Row) → Talks (fresh Service) done rows
+pub are_answered : (charge : ℕ) (done : List (List ℕ)) (rows : List LineRow) → Talks (fresh Service) done rows
     → ((users : List (List ℕ)) → users_in rows ≡ Some users → AreOfOneStore (record { users = users; charge = charge }) rows) → AreAnswered charge rows
 are_answered charge done rows t some = answered_as charge rows (users_in rows) (none_asked (fresh Service) done rows refl t) some
 
 -- by a store for the users that were found ahead
-pub by_store : (charge : ℕ) (users : List (List ℕ)) (all : List ℕ) (done rest : List (List ℕ)) (rows : List Row) → LooksAhead Service all (Some users) → done ++ rest ≡ lines_of all
+pub by_store : (charge : ℕ) (users : List (List ℕ)) (all : List ℕ) (done rest : List (List ℕ)) (rows : List LineRow) → LooksAhead Service all (Some users) → done ++ rest ≡ lines_of all
     → Talks (fresh Service) done rows → AreOfOneStore (record { users = users; charge = charge }) rows → AreAnswered charge rows
 by_store charge users all done rest rows found cut t one = are_answered charge done rows t (λ named n.
     let same : users ≡ named = same_users (fresh Service) found.done done found.rest rest found.rows rows refl found.talks t (sym found.cut ∙ sym cut) users named found.named n in

@@ -101,7 +101,7 @@ history_answers : (history : List Row) → map answer_to (map pair_of history) �
 history_answers [] = refl
 history_answers (r ∷ history) = ap (λ t. answer_in r ∷ t) (history_answers history)
 
-module _ (setup : Setup) (user : List ℕ) (rows : List talk.Row) where
+module _ (setup : Setup) (user : List ℕ) (rows : List talk.LineRow) where
   -- his replies in a legal history
   legal_replies : (timed : Bool) (history : List Row) → IsLegal setup history → NoClash (hashed setup nothing (events_of history))
       → replies_to user (answers_of history) ≡ replies setup user (struck timed setup user (events_of history))

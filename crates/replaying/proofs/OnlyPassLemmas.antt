@@ -15,7 +15,7 @@ use Rattle.schedule.specs.declared.query.Question.{Question}
 use Rattle.schedule.specs.declared.query.Question.TheVariants.{Status, Closure, Fetch}
 use Rattle.schedule.specs.declared.query.Query.{Query}
 use Rattle.schedule.specs.Queries.{request_in, event_for}
-use Rattle.history.specs.Callers.{Caller, Known, told_stopped, seeing}
+use Rattle.history.specs.Callers.{Caller, PassKnowledge, told_stopped, seeing}
 use Rattle.history.specs.Histories.{row, unrecorded, IsAnswered, IsReadAfter, IsLegal}
 use Rattle.history.proofs.HistoryLemmas.{some_memory}
 use Rattle.replaying.specs.OnlyPass.{known_by, says_stopped, IsOnlyAnswer}
@@ -36,7 +36,7 @@ or_not : (a : Bool) → (a || false) ≡ a
 or_not true = refl
 or_not false = refl
 
-module _ (setup : Setup) (old new : Known) (lacked : Bool) (query : Query) (same : new ≡ seeing old new.seen) where
+module _ (setup : Setup) (old new : PassKnowledge) (lacked : Bool) (query : Query) (same : new ≡ seeing old new.seen) where
   abbrev event : Event
   event = event_for query
 
@@ -44,7 +44,7 @@ module _ (setup : Setup) (old new : Known) (lacked : Bool) (query : Query) (same
   is_asked = asks_question query.question
 
   same_caller : new.caller ≡ old.caller
-  same_caller = ap (λ (p : Known). p.caller) same
+  same_caller = ap (λ (p : PassKnowledge). p.caller) same
 
   same_sure : new.caller.sure ≡ old.caller.sure
   same_sure = ap (λ (c : Caller). c.sure) same_caller
@@ -82,7 +82,7 @@ module _ (setup : Setup) (old new : Known) (lacked : Bool) (query : Query) (same
 -- ---- other events
 
 -- what a call of the only pass of a front promises
-pub record IsCalled (setup : Setup) (old new : Known) (event : Event) (reply : Reply) : Type 0 where
+pub record IsCalled (setup : Setup) (old new : PassKnowledge) (event : Event) (reply : Reply) : Type 0 where
   pub answered : unrecorded reply ≡ false → IsAnswered setup old event reply new
   pub alone : unrecorded reply ≡ false → new.caller.sure ≡ old.caller.sure ++ row old.caller.number event reply ∷ []
   pub memory : reply ≡ Refused Memory → new.caller ≡ old.caller
@@ -104,7 +104,7 @@ still_lacked : (lacked other memory : Bool) → (lacked ≡ false → memory ≡
 still_lacked true other memory none = refl
 still_lacked false other memory none = rw (none refl) (sym (and_not other))
 
-module _ (setup : Setup) (old new : Known) (lacked : Bool) (event : Event) (reply : Reply) (called : IsCalled setup old new event reply)
+module _ (setup : Setup) (old new : PassKnowledge) (lacked : Bool) (event : Event) (reply : Reply) (called : IsCalled setup old new event reply)
     (before : old.caller.stopped ≡ true → lacked ≡ true) where
   -- a reply that is no first want of memory is told as it is
   pub only_answer : is_query (request_of event.request) ≡ false → (unrecorded reply ≡ true → lacked ≡ true)

@@ -11,7 +11,7 @@ use Rattle.model.specs.Events.{Event as ModelEvent}
 use Rattle.model.specs.Replies as replies
 use Rattle.model.specs.Replies.{Reply}
 use Rattle.model.specs.Lines.{lines_of}
-use Rattle.model.specs.Talk.{Row, Silent, Names, Refuses, Asks, Waits, Seen, fresh, form_of, seen_after, after_all, Gets, GetsNext, Talks, users_in}
+use Rattle.model.specs.Talk.{LineRow, Silent, Names, Refuses, Asks, Waits, Seen, fresh, form_of, seen_after, after_all, Gets, GetsNext, Talks, users_in}
 use Rattle.events.specs.declared.event.Event.{Event}
 use Rattle.events.specs.Terms.{event_of}
 use Rattle.session.specs.Serving.{Link, Chain, IsHeld}
@@ -59,7 +59,7 @@ next_of user (o ∷ old) (x ∷ new) found his e h =
     next_of user old new found his rest h
 
 -- the event behind those that were kept before a line is the line's
-pub his_line : (user : List ℕ) (old new : List Event) (row : Row) (his : Bool) → map event_of new ≡ map event_of old ++ events_in (row ∷ [])
+pub his_line : (user : List ℕ) (old new : List Event) (row : LineRow) (his : Bool) → map event_of new ≡ map event_of old ++ events_in (row ∷ [])
     → MatchOption (slice_get new (length old)) (his ≡ false) (λ event. his ≡ bytes_eq event.actor user) → his ≡ is_of user row
 his_line user old new Silent his e h = next_of user old new [] his e h
 his_line user old new (Names users) his e h = next_of user old new [] his e h
@@ -75,14 +75,14 @@ module _ {A : Type 0} (setup : Setup) (store : A → Only) (events : A → List 
   abbrev pub waited : A → List Job → Reply → A → Type 0
   waited old goals reply new = (new ≡ old) × (reply ≡ replies.Ok)
 
-  abbrev IsKept : A → Row → A → Type 0
+  abbrev IsKept : A → LineRow → A → Type 0
   IsKept old row new = LinksOnly setup (store old) row (store new) × (events new ≡ events old ++ events_in (row ∷ []))
 
   stays : (old new : A) → new ≡ old → events new ≡ events old ++ []
   stays old new same = ap events same ∙ sym (append-nil (events old))
 
   -- a line that was answered is one link of the store's chain, and its event is kept
-  pub link_kept : (old new : A) (row : Row) → Link answers waited old row new → lost new ≡ false → IsKept old row new
+  pub link_kept : (old new : A) (row : LineRow) → Link answers waited old row new → lost new ≡ false → IsKept old row new
   link_kept old new Silent h f = (ap store h, stays old new h)
   link_kept old new (Names users) h f = (ap store h, stays old new h)
   link_kept old new (Refuses why) h f = (ap store h, stays old new h)
@@ -90,13 +90,13 @@ module _ {A : Type 0} (setup : Setup) (store : A → Only) (events : A → List 
   link_kept old new (Asks event reply) h f = let k = h f in (k.1, k.2)
 
 -- the same of who answered and who does then
-pub link_at : {A : Type 0} (old new : A) (setup : Setup) (store : A → Only) (events : A → List ModelEvent) (lost : A → Bool) (row : Row)
+pub link_at : {A : Type 0} (old new : A) (setup : Setup) (store : A → Only) (events : A → List ModelEvent) (lost : A → Bool) (row : LineRow)
     → Link (answers setup store events lost) (waited setup store events lost) old row new → lost new ≡ false
     → LinksOnly setup (store old) row (store new) × (events new ≡ events old ++ events_in (row ∷ []))
 link_at old new setup store events lost row h f = link_kept setup store events lost old new row h f
 
 -- the event at a place where this many were kept before a line
-pub his_at : (user : List ℕ) (old new items : List Event) (n : ℕ) (row : Row) (his : Bool) → items ≡ new → n ≡ length old
+pub his_at : (user : List ℕ) (old new items : List Event) (n : ℕ) (row : LineRow) (his : Bool) → items ≡ new → n ≡ length old
     → map event_of new ≡ map event_of old ++ events_in (row ∷ [])
     → MatchOption (slice_get items n) (his ≡ false) (λ event. his ≡ bytes_eq event.actor user) → his ≡ is_of user row
 his_at user old new items n row his same count e h =
@@ -105,7 +105,7 @@ his_at user old new items n row his same count e h =
     (subst (λ es. MatchOption (slice_get es n) (his ≡ false) (λ event. his ≡ bytes_eq event.actor user)) same h))
 
 -- a line is refused with 25 where it comes to that
-pub bad_row : (goals : List Job) (r : Reading) (row : Row) (bad : Bool) → IsRowOf goals r row → bad ≡ is_bad_reading r → bad ≡ is_bad_line row
+pub bad_row : (goals : List Job) (r : Reading) (row : LineRow) (bad : Bool) → IsRowOf goals r row → bad ≡ is_bad_reading r → bad ≡ is_bad_line row
 bad_row goals reading.Silent row bad is e = rw is e
 bad_row goals (reading.Names users) row bad is e = rw is e
 bad_row goals (reading.Refuses why) row bad is e = rw is e
@@ -113,7 +113,7 @@ bad_row goals (reading.Asks event) row bad is e = rw is.1 e
 bad_row goals reading.Waits row bad is e = rw is.2 e
 
 -- whether a row names users, by what its line comes to
-pub names_in : (goals : List Job) (r : Reading) (seen : Seen) (row : Row) (users : Option (Vec (List ℕ))) → IsNamedBy r users → IsRowOf goals r row
+pub names_in : (goals : List Job) (r : Reading) (seen : Seen) (row : LineRow) (users : Option (Vec (List ℕ))) → IsNamedBy r users → IsRowOf goals r row
     → seen.begun ≡ false → NamesIn row (seen_after seen row) users
 names_in goals reading.Silent seen row None n e b = rw e (refl, b)
 names_in goals (reading.Names named) seen row None n e b = absurd n
@@ -127,11 +127,11 @@ names_in goals (reading.Asks event) seen row (Some users) n e b = absurd n
 names_in goals reading.Waits seen row (Some users) n e b = absurd n
 
 -- what is held of a line gets the line's row
-pub gets_held : (seen : Seen) (full held : List ℕ) (row : Row) → IsHeld full held → GetsNext seen held row → GetsNext seen full row
+pub gets_held : (seen : Seen) (full held : List ℕ) (row : LineRow) → IsHeld full held → GetsNext seen held row → GetsNext seen full row
 gets_held seen full held row is g = subst (λ f. Gets seen.goals f row) (ap (form_of seen) is ∙ form_of-held seen full) g
 
 -- the number of one line more, where a test of its row says so
-numbered : (test : Row → Bool) (rows : List Row) (row : Row) (seen' : Seen) (so : Bool) → seen' ≡ after_all (fresh Service) (rows ++ row ∷ [])
+numbered : (test : LineRow → Bool) (rows : List LineRow) (row : LineRow) (seen' : Seen) (so : Bool) → seen' ≡ after_all (fresh Service) (rows ++ row ∷ [])
     → so ≡ test row → numbers_where test 1 rows ++ (if so then length seen'.told ∷ [] else []) ≡ numbers_where test 1 (rows ++ row ∷ [])
 numbered test rows row seen' so seen_is so_is =
     let after_row : length seen'.told ≡ 0 + length (rows ++ row ∷ []) =
@@ -200,7 +200,7 @@ module _ (all : List (List ℕ)) (bytes : List ℕ) (left : Option (List ℕ)) (
   names_users named is session_is bad_is =
       let n : NamesIn h.row seen' (Some named.users) = subst (NamesIn h.row seen') is h.named in
       let b : Begins all (lines_of cut.rest) (Some named.users.items) seen' bad' =
-      begins_line (Some named.users.items) (ap (λ (r : Row). users_in (r ∷ [])) n) in
+      begins_line (Some named.users.items) (ap (λ (r : LineRow). users_in (r ∷ [])) n) in
       record {
         rest = cut.rest;
         left_is = cut.left_is;
@@ -211,7 +211,7 @@ module _ (all : List (List ℕ)) (bytes : List ℕ) (left : Option (List ℕ)) (
 
 -- ---- the lines behind it
 
-quiet_events : (rows : List Row) → Chain Idle tt rows tt → events_in rows ≡ []
+quiet_events : (rows : List LineRow) → Chain Idle tt rows tt → events_in rows ≡ []
 quiet_events [] h = refl
 quiet_events (Silent ∷ rows) h = quiet_events rows h.2
 quiet_events (Names users ∷ rows) h = quiet_events rows h.2
@@ -219,7 +219,7 @@ quiet_events (Refuses why ∷ rows) h = quiet_events rows h.2
 quiet_events (Asks event reply ∷ rows) h = absurd h.1
 quiet_events (Waits goals reply ∷ rows) h = absurd h.1
 
-quiet_numbers : (user : List ℕ) (n : ℕ) (rows : List Row) → Chain Idle tt rows tt → numbers_of user n rows ≡ []
+quiet_numbers : (user : List ℕ) (n : ℕ) (rows : List LineRow) → Chain Idle tt rows tt → numbers_of user n rows ≡ []
 quiet_numbers user n [] h = refl
 quiet_numbers user n (Silent ∷ rows) h = quiet_numbers user (n + 1) rows h.2
 quiet_numbers user n (Names users ∷ rows) h = quiet_numbers user (n + 1) rows h.2
@@ -248,7 +248,7 @@ run_begins setup user all rest users seen bad notes of_users b session_is bad_is
   user_is = user_is;
 }
 
-named_still : (rows : List Row) (row : Row) (users : List (List ℕ)) → users_in rows ≡ Some users → users_in (rows ++ row ∷ []) ≡ Some users
+named_still : (rows : List LineRow) (row : LineRow) (users : List (List ℕ)) → users_in rows ≡ Some users → users_in (rows ++ row ∷ []) ≡ Some users
 named_still [] row users e = cc
 named_still (Silent ∷ rows) row users e = named_still rows row users e
 named_still (Names named ∷ rows) row users e = e
@@ -258,7 +258,7 @@ named_still (Waits goals reply ∷ rows) row users e = named_still rows row user
 
 module _ (setup : Setup) (user : List ℕ) where
   -- both numbers
-  are_numbered : (rows : List Row) (line : List ℕ) (notes notes' : Notes) (mid new : Only) (events events' : List ModelEvent)
+  are_numbered : (rows : List LineRow) (line : List ℕ) (notes notes' : Notes) (mid new : Only) (events events' : List ModelEvent)
       → (h : AsksOn setup line notes mid events notes' new events') → notes.user ≡ user
       → notes'.session ≡ after_all (fresh Service) (rows ++ h.asked.row ∷ []) → AreNumbers user rows notes.numbers
       → AreNumbers user (rows ++ h.asked.row ∷ []) notes'.numbers

@@ -42,7 +42,7 @@ module _ (setup : Setup) where
   IsTold old (p ∷ pairs) new = (mid : Only) × IsOnlyAnswer setup old p.0 p.1 mid × IsTold mid pairs new
 
   -- so were those of lines
-  told_of : (old new : Only) (rows : List talk.Row) → Chain (LinksOnly setup) old rows new → IsTold old (asked_in rows) new
+  told_of : (old new : Only) (rows : List talk.LineRow) → Chain (LinksOnly setup) old rows new → IsTold old (asked_in rows) new
   told_of old new [] h = h
   told_of old new (Silent ∷ rows) h = subst (λ (o : Only). IsTold o (asked_in rows) new) h.1 (told_of h.0 new rows h.2)
   told_of old new (Names users ∷ rows) h = subst (λ (o : Only). IsTold o (asked_in rows) new) h.1 (told_of h.0 new rows h.2)
@@ -140,7 +140,7 @@ module _ (setup : Setup) where
   -- ---- all lines
 
   -- what the lines were told by the one pass of a store that was asked nothing before
-  pub one_store : (old new : Only) (rows : List talk.Row) → old ≡ unasked → Chain (LinksOnly setup) old rows new → AreOfOneStore setup rows
+  pub one_store : (old new : Only) (rows : List talk.LineRow) → old ≡ unasked → Chain (LinksOnly setup) old rows new → AreOfOneStore setup rows
   one_store old new rows none h =
       let told : IsTold unasked (asked_in rows) new = subst (λ (o : Only). IsTold o (asked_in rows) new) none (told_of old new rows h) in
       let one = goes_on unasked new (asked_in rows) [] told (no_reads setup) in

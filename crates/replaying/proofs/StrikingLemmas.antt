@@ -5,7 +5,7 @@ use Rattle.std.proofs.lemmas.List.{map-append}
 use Rattle.model.specs.Events.{Event}
 use Rattle.model.specs.Replies.{Reply, Answer}
 use Rattle.model.specs.Steps.{replies_to}
-use Rattle.model.specs.Talk.{Row, Silent, Names, Refuses, Asks, Waits, answer_text, asked_of, asked_in}
+use Rattle.model.specs.Talk.{LineRow, Silent, Names, Refuses, Asks, Waits, answer_text, asked_of, asked_in}
 use Rattle.model.proofs.BoolLemmas.{same_bytes}
 use Rattle.replaying.specs.BadLines.{numbers_where}
 use Rattle.replaying.specs.Striking.{events_in, numbers_of, text_for, lines_under}
@@ -17,7 +17,7 @@ number-step : (n : ℕ) (b : Bool) (rest rest' last : List ℕ) → rest ≡ res
 number-step n true rest rest' last h = ap (λ t. n ∷ t) h
 number-step n false rest rest' last h = h
 
-pub numbers-more : (test : Row → Bool) (n : ℕ) (rows : List Row) (row : Row)
+pub numbers-more : (test : LineRow → Bool) (n : ℕ) (rows : List LineRow) (row : LineRow)
     → numbers_where test n (rows ++ row ∷ []) ≡ numbers_where test n rows ++ (if test row then (n + length rows) ∷ [] else [])
 numbers-more test n [] row = ap (λ (k : ℕ). if test row then k ∷ [] else []) (omega arith)
 numbers-more test n (r ∷ rows) row =
@@ -26,12 +26,12 @@ numbers-more test n (r ∷ rows) row =
     number-step n (test r) (numbers_where test (n + 1) (rows ++ row ∷ [])) behind (last (n + length (r ∷ rows)))
     (numbers-more test (n + 1) rows row ∙ ap (λ (k : ℕ). behind ++ last k) (omega arith))
 
-asked-more : (rows : List Row) (row : Row) → asked_in (rows ++ row ∷ []) ≡ asked_in rows ++ asked_in (row ∷ [])
+asked-more : (rows : List LineRow) (row : LineRow) → asked_in (rows ++ row ∷ []) ≡ asked_in rows ++ asked_in (row ∷ [])
 asked-more [] row = refl
 asked-more (r ∷ rows) row =
     ap (λ t. asked_of r ++ t) (asked-more rows row) ∙ sym (append_assoc (asked_of r) (asked_in rows) (asked_in (row ∷ [])))
 
-pub events-more : (rows : List Row) (row : Row) → events_in (rows ++ row ∷ []) ≡ events_in rows ++ events_in (row ∷ [])
+pub events-more : (rows : List LineRow) (row : LineRow) → events_in (rows ++ row ∷ []) ≡ events_in rows ++ events_in (row ∷ [])
 events-more rows row =
     ap (λ (t : List (Event × Reply)). map (λ p. p.0) t) (asked-more rows row)
     ∙ map-append (λ (p : Event × Reply). p.0) (asked_in rows) (asked_in (row ∷ []))
@@ -51,7 +51,7 @@ asked-line user n event reply rest numbers replies true is h =
 asked-line user n event reply rest numbers replies false is h = h
 
 -- the user's lines are his replies, each under its number
-pub text-lines : (user : List ℕ) (n : ℕ) (rows : List Row)
+pub text-lines : (user : List ℕ) (n : ℕ) (rows : List LineRow)
     → text_for user n rows ≡ lines_under user (numbers_of user n rows) (replies_to user (map answer_to (asked_in rows)))
 unfolding replies_to
 text-lines user n [] = refl

@@ -8,7 +8,7 @@ use Rattle.model.specs.declared.refusal.Refusal.TheVariants.{BadUsers, UnknownUs
 use Rattle.model.specs.Reach.{is_among}
 use Rattle.model.specs.Worlds.{are_users}
 use Rattle.model.specs.Lines.{lines_of}
-use Rattle.model.specs.Talk.{Row, Silent, Names, Refuses, Asks, Waits, Seen, fresh, seen_after, after_all, GetsNext, users_in}
+use Rattle.model.specs.Talk.{LineRow, Silent, Names, Refuses, Asks, Waits, Seen, fresh, seen_after, after_all, GetsNext, users_in}
 use Rattle.laws.proofs.TalkLemmas.{named_are_users}
 use Rattle.schedule.specs.Ever.{why_untold}
 use Rattle.schedule.specs.Standing.{IsRefusedFor}
@@ -27,7 +27,7 @@ use Rattle.replaying.proofs.WholeLemmas.{Told}
 -- ---- what the lines say of the users
 
 -- a line after which one of users was refused, and none before it, names nobody
-refused_row : (seen : Seen) (row : Row) → seen.refused ≡ false → (seen_after seen row).refused ≡ true → users_in (row ∷ []) ≡ None
+refused_row : (seen : Seen) (row : LineRow) → seen.refused ≡ false → (seen_after seen row).refused ≡ true → users_in (row ∷ []) ≡ None
 refused_row seen Silent going refused = refl
 refused_row seen (Names users) going refused = absurd (true≢false (sym refused ∙ going))
 refused_row seen (Refuses why) going refused = refl

@@ -2,13 +2,13 @@
 use Rattle.std.specs.Prelude.{◌≡◌, ℕ, ◌+◌, min, Bool, true, false, if◌then◌else◌, List, [], ◌∷◌, length, slice_get, Option, None, Some, Result, Ok, Err}
 use Rattle.model.specs.declared.refusal.Refusal.{Refusal}
 use Rattle.model.specs.declared.refusal.Refusal.TheVariants.{BadLine}
-use Rattle.model.specs.Talk.{Row, Refuses}
+use Rattle.model.specs.Talk.{LineRow, Refuses}
 use Rattle.lines.specs.declared.line.Reading.{Reading}
 use Rattle.lines.specs.declared.line.Reading.TheVariants as reading
 use Rattle.replaying.specs.declared.bad_lines.BadLines.{BadLines}
 
 -- the numbers of the lines of which this is so, where the first line has this one
-abbrev pub numbers_where : (Row → Bool) → ℕ → List Row → List ℕ
+abbrev pub numbers_where : (LineRow → Bool) → ℕ → List LineRow → List ℕ
 numbers_where test n [] = []
 numbers_where test n (row ∷ rows) = if test row then n ∷ numbers_where test (n + 1) rows else numbers_where test (n + 1) rows
 
@@ -17,7 +17,7 @@ is_bad BadLine = true
 is_bad why = false
 
 -- whether a line was refused with 25 by the session itself
-abbrev pub is_bad_line : Row → Bool
+abbrev pub is_bad_line : LineRow → Bool
 is_bad_line (Refuses why) = is_bad why
 is_bad_line row = false
 
@@ -27,7 +27,7 @@ is_bad_reading (reading.Refuses why) = is_bad why
 is_bad_reading other = false
 
 -- their numbers, where the first line has this one
-abbrev pub bad_numbers : ℕ → List Row → List ℕ
+abbrev pub bad_numbers : ℕ → List LineRow → List ℕ
 bad_numbers n rows = numbers_where is_bad_line n rows
 
 -- these are the lines of those numbers: how many there are, at most the greatest number, and the first

@@ -6,7 +6,7 @@ use Rattle.model.specs.Replies as replies
 use Rattle.model.specs.Replies.{Reply, is_refusal, is_stopped_refusal, is_memory, is_unrecorded}
 use Rattle.events.specs.Terms.{reply_of}
 use Rattle.history.specs.declared.row.Row.{Row}
-use Rattle.history.specs.Callers.{Known}
+use Rattle.history.specs.Callers.{PassKnowledge}
 use Rattle.history.specs.Histories.{event_in, IsLegal}
 
 -- a store as its one pass knows it: the rows that the pass is sure of, which are the whole history; whether memory was refused
@@ -21,7 +21,7 @@ abbrev pub unasked : Only
 unasked = record { sure = []; has_lacked = false; has_stopped = false }
 
 -- what a pass knows, and whether memory was refused to one of its calls
-abbrev pub known_by : Known → Bool → Only
+abbrev pub known_by : PassKnowledge → Bool → Only
 known_by pass has_lacked = record { sure = pass.caller.sure; has_lacked = has_lacked; has_stopped = pass.caller.stopped }
 
 -- whether memory was refused to an event that is no query

@@ -6,7 +6,7 @@ use Rattle.model.specs.Lines.{lines_of}
 use Rattle.model.specs.Worlds.{Setup}
 use Rattle.model.specs.Events.{Event}
 use Rattle.model.specs.Replies.{Reply}
-use Rattle.model.specs.Talk.{Row, Names, Seen, fresh, seen_after, after_all, GetsNext, Talks, users_in}
+use Rattle.model.specs.Talk.{LineRow, Names, Seen, fresh, seen_after, after_all, GetsNext, Talks, users_in}
 use Rattle.events.specs.declared.event.Event.{Event as AskedEvent}
 use Rattle.events.specs.Terms.{event_of}
 use Rattle.session.specs.Serving.{Chain}
@@ -26,13 +26,13 @@ use Rattle.replaying.specs.declared.numbers.FirstRun.{FirstRun}
 -- ---- the lines up to the one that names the users
 
 -- a row names these users, or none, and then still nobody is named
-abbrev pub NamesIn : Row → Seen → Option (Vec (List ℕ)) → Type 0
+abbrev pub NamesIn : LineRow → Seen → Option (Vec (List ℕ)) → Type 0
 NamesIn row next None = (users_in (row ∷ []) ≡ None) × (next.begun ≡ false)
 NamesIn row next (Some users) = row ≡ Names users.items
 
 -- one line was answered before which nobody was named
 pub record IsFirst (line : List ℕ) (seen seen' : Seen) (first : First) : Type 0 where
-  pub row : Row
+  pub row : LineRow
   pub gets : GetsNext seen line row
   pub seen_is : seen' ≡ seen_after seen row
   pub going : seen'.refused ≡ false
@@ -41,11 +41,11 @@ pub record IsFirst (line : List ℕ) (seen seen' : Seen) (first : First) : Type 
 
 -- the line is one of users that is refused
 abbrev pub RefusesFirst : (line : List ℕ) → Seen → Type 0
-RefusesFirst line seen = (row : Row) × GetsNext seen line row × ((seen_after seen row).refused ≡ true)
+RefusesFirst line seen = (row : LineRow) × GetsNext seen line row × ((seen_after seen row).refused ≡ true)
 
 -- the first of all lines were answered, and asked nobody; they name these users, or none, and the rest is left
 pub record Begins (all rest : List (List ℕ)) (users : Option (List (List ℕ))) (seen : Seen) (bad : Option BadLines) : Type 0 where
-  pub rows : List Row
+  pub rows : List LineRow
   pub done : List (List ℕ)
   pub cut : all ≡ done ++ rest
   pub talks : Talks (fresh Service) done rows
@@ -71,7 +71,7 @@ Keeps setup old events lost event reply new events' lost' =
 -- one line was answered by the only pass of a store, and its event is kept
 pub record Asked (setup : Setup) (user line : List ℕ) (seen seen' : Seen) (old : Only) (events : List Event) (new : Only) (events' : List Event)
     (came : Line) : Type 0 where
-  pub row : Row
+  pub row : LineRow
   pub gets : GetsNext seen line row
   pub seen_is : seen' ≡ seen_after seen row
   pub going : seen'.refused ≡ false
@@ -96,14 +96,14 @@ pub record AsksOn (setup : Setup) (line : List ℕ) (notes : Notes) (old : Only)
 -- ---- all lines
 
 -- these are the numbers of the user's lines of these rows, and of those that were refused with 25
-pub record AreNumbers (user : List ℕ) (rows : List Row) (numbers : Numbers) : Type 0 where
+pub record AreNumbers (user : List ℕ) (rows : List LineRow) (numbers : Numbers) : Type 0 where
   pub his : numbers.his.items ≡ numbers_of user 1 rows
   pub bad : AreBad numbers.bad (bad_numbers 1 rows)
 
 -- the first of all lines were answered for a user by a store that was asked nothing before, which is one for the users whom they name, and the
 -- rest is left
 pub record RunSoFar (setup : Setup) (user : List ℕ) (all rest : List (List ℕ)) (notes : Notes) (only : Only) (events : List Event) : Type 0 where
-  pub rows : List Row
+  pub rows : List LineRow
   pub done : List (List ℕ)
   pub cut : all ≡ done ++ rest
   pub talks : Talks (fresh Service) done rows
@@ -127,7 +127,7 @@ IsAsked setup left notes notes' events = (user : List ℕ) (all : List (List ℕ
 
 -- what a first run of these lines gives
 pub record IsFirstRun (charge : ℕ) (user : List ℕ) (lines : List (List ℕ)) (run : FirstRun) : Type 0 where
-  pub rows : List Row
+  pub rows : List LineRow
   pub first : Answered charge user lines run.users.items rows
   pub user_is : run.user ≡ user
   pub events_are : map event_of run.events.items ≡ events_in rows

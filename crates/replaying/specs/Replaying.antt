@@ -19,7 +19,7 @@ use Rattle.history.specs.Histories.{event_in, IsLegal}
 use Rattle.replaying.specs.OnlyPass.{Only, unasked, lacks_memory, says_stopped, IsOnlyAnswer, DoesNothing}
 
 -- the events that the lines made, with their replies, but for those that were answered 90 or 92
-abbrev pub recorded_in : List talk.Row → List (Event × Reply)
+abbrev pub recorded_in : List talk.LineRow → List (Event × Reply)
 recorded_in rows = filter (λ p. not (is_unrecorded p.1)) (asked_in rows)
 
 -- a row of a history in the terms of the model
@@ -46,18 +46,18 @@ StopsByMemory pairs = (before later : List (Event × Reply)) (event : Event) (re
 
 -- one store answered all lines: one legal history has the events that were recorded, queries among them where they were read, and the store
 -- was stopped by want of memory alone
-pub record AreOfOneStore (setup : Setup) (rows : List talk.Row) : Type 0 where
+pub record AreOfOneStore (setup : Setup) (rows : List talk.LineRow) : Type 0 where
   pub recorded : IsOneHistory setup (recorded_in rows)
   pub stopped : StopsByMemory (asked_in rows)
 
 -- the replies are those of one store, for the users whom the lines name and under that charge; where they name none, no event was made
-abbrev pub AreAnswered : ℕ → List talk.Row → Type 0
+abbrev pub AreAnswered : ℕ → List talk.LineRow → Type 0
 AreAnswered charge rows =
     MatchOption (users_in rows) (asked_in rows ≡ []) (λ users. AreOfOneStore (record { users = users; charge = charge }) rows)
 
 -- all of these lines were answered, and all of their text was written
 pub record Replayed (charge : ℕ) (blank written : Option (List ℕ)) (lines : List (List ℕ)) : Type 0 where
-  pub rows : List talk.Row
+  pub rows : List talk.LineRow
   pub talks : Talks (fresh Service) lines rows
   pub going : (after_all (fresh Service) rows).refused ≡ false
   pub text : Appends blank written (text_from 1 rows)
@@ -66,7 +66,7 @@ pub record Replayed (charge : ℕ) (blank written : Option (List ℕ)) (lines : 
 -- the first of these lines were answered, and a beginning of their text was written;
 -- it ends with 14 only where a line of users was refused and all of the text was written, and with 14 or 72 there
 pub record ReplayedInPart (charge : ℕ) (blank written : Option (List ℕ)) (lines : List (List ℕ)) (why : Refusal) : Type 0 where
-  pub rows : List talk.Row
+  pub rows : List talk.LineRow
   pub done : List (List ℕ)
   pub first : IsPrefix done lines
   pub talks : Talks (fresh Service) done rows
@@ -79,7 +79,7 @@ pub record ReplayedInPart (charge : ℕ) (blank written : Option (List ℕ)) (li
 -- ---- on the way there
 
 -- what a row is to the one pass of a store
-abbrev pub LinksOnly : Setup → Only → talk.Row → Only → Type 0
+abbrev pub LinksOnly : Setup → Only → talk.LineRow → Only → Type 0
 LinksOnly setup = Link (IsOnlyAnswer setup) DoesNothing
 
 -- all that a reader gave was answered by a new store, through its one pass

@@ -14,7 +14,7 @@ use Rattle.model.specs.Steps.{answers, replies_to}
 use Rattle.model.specs.Striking.{strike}
 use Rattle.model.specs.Timed.{strike_timed}
 use Rattle.model.specs.HashedTexts.{hashed}
-use Rattle.model.specs.Talk.{Row, Asks, fresh, after_all, Talks, answer_text, row_text, asked_in, users_in}
+use Rattle.model.specs.Talk.{LineRow, Asks, fresh, after_all, Talks, answer_text, row_text, asked_in, users_in}
 use Rattle.trust.specs.declared.user.User.{User}
 use Rattle.events.specs.declared.event.Event.{Event as AskedEvent}
 use Rattle.events.specs.declared.reply.Reply.{Reply as GivenReply}
@@ -27,7 +27,7 @@ use Rattle.replaying.specs.BadLines.{numbers_where, bad_numbers, AreBad}
 use Rattle.replaying.specs.Replaying.{AreOfOneStore}
 
 -- the events that the lines made, in their order
-abbrev pub events_in : List Row → List Event
+abbrev pub events_in : List LineRow → List Event
 events_in rows = map (λ p. p.0) (asked_in rows)
 
 -- of these events, those that can reach a user: by trust that is ever given, or where it is timed by trust that is held at the times concerned
@@ -37,16 +37,16 @@ struck timed setup user events = if timed then strike_timed setup user events el
 -- ---- the lines of a user
 
 -- whether a line made an event of the user
-abbrev pub is_of : (user : List ℕ) → Row → Bool
+abbrev pub is_of : (user : List ℕ) → LineRow → Bool
 is_of user (Asks event reply) = bytes_eq event.actor user
 is_of user row = false
 
 -- the numbers of those of the user
-abbrev pub numbers_of : (user : List ℕ) → ℕ → List Row → List ℕ
+abbrev pub numbers_of : (user : List ℕ) → ℕ → List LineRow → List ℕ
 numbers_of user n rows = numbers_where (is_of user) n rows
 
 -- what is printed for those lines, where the first line has this number
-abbrev pub text_for : (user : List ℕ) → ℕ → List Row → List ℕ
+abbrev pub text_for : (user : List ℕ) → ℕ → List LineRow → List ℕ
 text_for user n [] = []
 text_for user n (row ∷ rows) = if is_of user row then row_text n row ++ text_for user (n + 1) rows else text_for user (n + 1) rows
 
@@ -59,11 +59,11 @@ lines_under user (n ∷ numbers) (reply ∷ replies) = answer_text n user reply 
 -- ---- what is promised
 
 -- memory was refused to none of the events that the lines made
-abbrev pub HadMemoryFor : List Row → Type 0
+abbrev pub HadMemoryFor : List LineRow → Type 0
 HadMemoryFor rows = list_any (λ p. is_memory p.1) (asked_in rows) ≡ false
 
 -- the lines were answered by one store, as `replay` answers them, for the users whom they name; the user is one of these
-pub record Answered (charge : ℕ) (user : List ℕ) (lines : List (List ℕ)) (users : List (List ℕ)) (rows : List Row) : Type 0 where
+pub record Answered (charge : ℕ) (user : List ℕ) (lines : List (List ℕ)) (users : List (List ℕ)) (rows : List LineRow) : Type 0 where
   pub talks : Talks (fresh Service) lines rows
   pub going : (after_all (fresh Service) rows).refused ≡ false
   pub named : users_in rows ≡ Some users
@@ -72,7 +72,7 @@ pub record Answered (charge : ℕ) (user : List ℕ) (lines : List (List ℕ)) (
 
 -- no two of the texts that are hashed where all of the events are run have one folded digest; and none of those that are hashed where only the
 -- events are run that can reach the user by trust that is timed: a goal may then stay in a job that it leaves where all are run
-abbrev pub HaveOneText : Setup → (timed : Bool) → (user : List ℕ) → List Row → Type 0
+abbrev pub HaveOneText : Setup → (timed : Bool) → (user : List ℕ) → List LineRow → Type 0
 HaveOneText setup timed user rows =
     NoClash (hashed setup nothing (events_in rows)) × (timed ≡ true → NoClash (hashed setup nothing (strike_timed setup user (events_in rows))))
 
@@ -89,7 +89,7 @@ pub record Rerun (setup : Setup) (user : List ℕ) (timed : Bool) (events : List
 -- the events of either run, it is what is printed for his lines where all events are run
 pub record IsStruck (charge : ℕ) (user : List ℕ) (timed : Bool) (lines : List (List ℕ)) (text : List ℕ) : Type 0 where
   pub users : List (List ℕ)
-  pub rows : List Row
+  pub rows : List LineRow
   pub first : Answered charge user lines users rows
   pub given : List (User × GivenReply)
   pub second : Rerun (record { users = users; charge = charge }) user timed (events_in rows) given

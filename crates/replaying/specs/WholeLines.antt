@@ -3,7 +3,7 @@ use Rattle.std.specs.Prelude.{◌≡◌, ℕ, List, Option, Some}
 use Rattle.std.specs.Io.KnownBytes.{Appends, Consumes}
 use Rattle.model.specs.declared.mode.Mode.TheVariants.{Service}
 use Rattle.model.specs.Worlds.{Setup}
-use Rattle.model.specs.Talk.{Row, text_from}
+use Rattle.model.specs.Talk.{LineRow, text_from}
 use Rattle.session.specs.Serving.{WholeLines, AnsweredSoFar}
 use Rattle.replaying.specs.OnlyPass.{Only, unasked}
 use Rattle.replaying.specs.Replaying.{AreAnswered, LinksOnly}
@@ -12,7 +12,7 @@ use Rattle.replaying.specs.Replaying.{AreAnswered, LinksOnly}
 pub record ReplayedSoFar (charge : ℕ) (blank written : Option (List ℕ)) (all : List ℕ) (left : Option (List ℕ)) : Type 0 where
   pub input : List ℕ
   pub read : Consumes (Some all) left input
-  pub rows : List Row
+  pub rows : List LineRow
   pub lines : WholeLines Service input rows
   pub text : Appends blank written (text_from 1 rows)
   pub answered : AreAnswered charge rows

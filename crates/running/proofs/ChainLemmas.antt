@@ -9,7 +9,7 @@ use Rattle.model.proofs.BoolLemmas.{either}
 use Rattle.events.specs.declared.event.Event.{Event}
 use Rattle.events.specs.declared.reply.Reply.{Reply}
 use Rattle.history.specs.declared.row.Row.{Row}
-use Rattle.history.specs.Callers.{Caller, Known, answered, told_stopped, rows_of}
+use Rattle.history.specs.Callers.{Caller, PassKnowledge, answered, told_stopped, rows_of}
 use Rattle.history.proofs.Prefixes.{prefix_self, prefix_trans}
 use Rattle.history.proofs.RowLemmas.{rows_of-append, one_more}
 use Rattle.history.specs.Histories.{row, unrecorded, IsReadAfter}
@@ -73,7 +73,7 @@ answered_own old new e r before counted counted_now longer same =
 
 module _ (setup : Setup) where
   -- a call that has no row leaves what the pass knows of its calls, but that the front may be stopped
-  told_same : (old new : Known) (e : Event) (r : Reply) → IsTold setup old e r new → has_row (e, r) ≡ false
+  told_same : (old new : PassKnowledge) (e : Event) (r : Reply) → IsTold setup old e r new → has_row (e, r) ≡ false
       → (new.caller ≡ old.caller) ⊎ (new.caller ≡ told_stopped old.caller)
   told_same old new e r told none = elim (either (unrecorded r)) [
     | inl gave ↦ elim (unrecorded_cases r gave) [
@@ -81,7 +81,7 @@ module _ (setup : Setup) where
       | inr stopped ↦ inr (told.stopped stopped)
     ]
     | inr some ↦ elim (either (is_read e)) [
-      | inl read ↦ inl (ap (λ (k : Known). k.caller) (told.only_read read).0)
+      | inl read ↦ inl (ap (λ (k : PassKnowledge). k.caller) (told.only_read read).0)
       | inr called ↦ absurd (let is : has_row (e, r) ≡ true = rw (some, called) refl in cc)
     ]
   ]
@@ -105,7 +105,7 @@ module _ (setup : Setup) where
         ∙ ap (λ rows. own_rows a.number a.sure ++ rows) (sym (rows_append a.number cs ds));
   }
 
-  adds_called : (old new : Known) (e : Event) (r : Reply) → IsTold setup old e r new → Adds old.caller ((e, r) ∷ []) new.caller
+  adds_called : (old new : PassKnowledge) (e : Event) (r : Reply) → IsTold setup old e r new → Adds old.caller ((e, r) ∷ []) new.caller
   adds_called old new e r told = elim (either (has_row (e, r))) [
     | inl some ↦
         let a = told.answered some in
@@ -127,45 +127,45 @@ module _ (setup : Setup) where
         record { number = same.number; own = same.own ∙ ap (λ rows. own_rows n old.caller.sure ++ rows) (sym no_row) }
   ]
 
-  adds_met : (old new : Known) → HasMet old new → Adds old.caller [] new.caller
+  adds_met : (old new : PassKnowledge) → HasMet old new → Adds old.caller [] new.caller
   adds_met old new met = adds_none old.caller new.caller (ap (λ (p : Caller). p.number) met.caller) (ap (λ (p : Caller). p.sure) met.caller)
 
   -- ---- many calls
 
-  abbrev Chain : Known → List Call → Known → Type 0
+  abbrev Chain : PassKnowledge → List Call → PassKnowledge → Type 0
   Chain = Calls (IsTold setup) HasMet
 
-  pub chain_adds : (old : Known) (calls : List Call) (new : Known) → Chain old calls new → Adds old.caller calls new.caller
+  pub chain_adds : (old : PassKnowledge) (calls : List Call) (new : PassKnowledge) → Chain old calls new → Adds old.caller calls new.caller
   chain_adds old [] new chain = adds_met old new chain
   chain_adds old (c ∷ cs) new chain =
       adds_more old.caller chain.0.caller new.caller [] (c ∷ cs) (adds_met old chain.0 chain.2)
       (adds_more chain.0.caller chain.1.caller new.caller (c ∷ []) cs (adds_called chain.0 chain.1 c.0 c.1 chain.3) (chain_adds chain.1 cs new chain.4))
 
   -- what was counted is counted
-  pub chain_counts : (old : Known) (calls : List Call) (new : Known) → Chain old calls new
+  pub chain_counts : (old : PassKnowledge) (calls : List Call) (new : PassKnowledge) → Chain old calls new
       → rows_of old.caller.number old.caller.sure ≡ old.caller.calls → rows_of new.caller.number new.caller.sure ≡ new.caller.calls
   chain_counts old [] new chain counted =
       subst (λ (p : Caller). rows_of p.number p.sure ≡ p.calls) (sym chain.caller) counted
   chain_counts old (c ∷ cs) new chain counted = chain_counts chain.1 cs new chain.4 chain.3.after.rows
 
-  pub chain_seen : (old : Known) (calls : List Call) (new : Known) → Chain old calls new → IsPrefix old.seen new.seen
+  pub chain_seen : (old : PassKnowledge) (calls : List Call) (new : PassKnowledge) → Chain old calls new → IsPrefix old.seen new.seen
   chain_seen old [] new chain = chain.seen
   chain_seen old (c ∷ cs) new chain =
       prefix_trans old.seen chain.0.seen new.seen chain.2.seen
       (prefix_trans chain.0.seen chain.1.seen new.seen chain.3.seen (chain_seen chain.1 cs new chain.4))
 
-  pub chain_stopped : (old : Known) (calls : List Call) (new : Known) → Chain old calls new → is_stopped old ≡ true → is_stopped new ≡ true
+  pub chain_stopped : (old : PassKnowledge) (calls : List Call) (new : PassKnowledge) → Chain old calls new → is_stopped old ≡ true → is_stopped new ≡ true
   chain_stopped old [] new chain is = stopped_met old new chain is
   chain_stopped old (c ∷ cs) new chain is =
       chain_stopped chain.1 cs new chain.4 (stopped_called setup chain.0 chain.1 c.0 c.1 chain.3 (stopped_met old chain.0 chain.2 is))
 
   -- each call was answered by what the pass has seen then
-  pub chain_order : (history : List Row) (n : ℕ) (known : List Row) (old : Known) (calls : List Call) (new : Known) → old.caller.number ≡ n
+  pub chain_order : (history : List Row) (n : ℕ) (known : List Row) (old : PassKnowledge) (calls : List Call) (new : PassKnowledge) → old.caller.number ≡ n
       → IsPrefix known old.seen → IsPrefix new.seen history → Chain old calls new → AnsweredInOrder setup history n known calls
   chain_order history n known old [] new number knows within chain = tt
   chain_order history n known old (c ∷ cs) new number knows within chain =
-      let ready : Known = chain.0 in
-      let between : Known = chain.1 in
+      let ready : PassKnowledge = chain.0 in
+      let between : PassKnowledge = chain.1 in
       let told = chain.3 in
       let at_call : ready.caller.number ≡ n = (adds_met old ready chain.2).number ∙ number in
       let behind : between.caller.number ≡ n = (adds_called ready between c.0 c.1 told).number ∙ at_call in

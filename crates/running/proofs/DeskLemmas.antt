@@ -14,12 +14,12 @@ use Rattle.model.specs.Worlds.{Setup}
 use Rattle.model.specs.Goals.{Running}
 use Rattle.events.specs.declared.event.Event.{Event}
 use Rattle.events.specs.declared.reply.Reply.{Reply}
-use Rattle.history.specs.Callers.{Known, new_pass, below, rows_of, stops_of}
+use Rattle.history.specs.Callers.{PassKnowledge, new_pass, below, rows_of, stops_of}
 use Rattle.book.specs.declared.closed_history.History.{History}
 use Rattle.book.specs.Closing.{rows_in}
-use Rattle.running.specs.declared.sessions.Desk.{Desk}
+use Rattle.running.specs.declared.sessions.ServedSession.{ServedSession}
 use Rattle.running.specs.declared.sessions.Left.{Left}
-use Rattle.running.specs.declared.sessions.Output.{Output}
+use Rattle.running.specs.declared.sessions.SessionOutput.{SessionOutput}
 use Rattle.running.specs.declared.sessions.Part.{Part}
 use Rattle.running.specs.Calling.{IsTold}
 use Rattle.running.specs.Meeting.{HasMet, IsNew, is_stopped, stops_by}
@@ -47,23 +47,23 @@ below_length (suc n) =
     length-append (below n) (n ∷ []) ∙ e
 
 -- those that a new front gives are the first
-pub new_first : (passes : List Known) (n : ℕ) → passes ≡ map new_pass (below n) → (length passes ≡ n) × AreFirst passes
+pub new_first : (passes : List PassKnowledge) (n : ℕ) → passes ≡ map new_pass (below n) → (length passes ≡ n) × AreFirst passes
 new_first passes n same =
     let long : length passes ≡ n = ap length same ∙ length-map (below n) new_pass ∙ below_length n in
     (long, same ∙ ap (λ k. map new_pass (below k)) (sym long))
 
 -- lists with a last item
-last_same : (xs ys : List Known) (a b : Known) → length xs ≡ length ys → xs ++ a ∷ [] ≡ ys ++ b ∷ [] → (xs ≡ ys) × (a ≡ b)
-last_same [] [] a b long same = (refl, ap (λ (l : List Known). get_or l 0 a) same)
+last_same : (xs ys : List PassKnowledge) (a b : PassKnowledge) → length xs ≡ length ys → xs ++ a ∷ [] ≡ ys ++ b ∷ [] → (xs ≡ ys) × (a ≡ b)
+last_same [] [] a b long same = (refl, ap (λ (l : List PassKnowledge). get_or l 0 a) same)
 last_same (x ∷ xs) (y ∷ ys) a b long same =
     let rest = last_same xs ys a b (omega (arith, long)) (ap (drop 1) same) in
-    let head : x ≡ y = ap (λ (l : List Known). get_or l 0 x) same in
-    (ap (λ (l : List Known). x ∷ l) rest.0 ∙ ap (λ (k : Known). k ∷ ys) head, rest.1)
+    let head : x ≡ y = ap (λ (l : List PassKnowledge). get_or l 0 x) same in
+    (ap (λ (l : List PassKnowledge). x ∷ l) rest.0 ∙ ap (λ (k : PassKnowledge). k ∷ ys) head, rest.1)
 last_same [] (y ∷ ys) a b long same = absurd (omega (arith, long))
 last_same (x ∷ xs) [] a b long same = absurd (omega (arith, long))
 
 -- the last of the first passes, and those before it
-pub first_last : (passes rest : List Known) (p : Known) → passes ≡ rest ++ p ∷ [] → AreFirst passes
+pub first_last : (passes rest : List PassKnowledge) (p : PassKnowledge) → passes ≡ rest ++ p ∷ [] → AreFirst passes
     → (length passes ≡ length rest + 1) × (p ≡ new_pass (length rest)) × AreFirst rest
 first_last passes rest p split first =
     let n : ℕ = length rest in
@@ -75,20 +75,20 @@ first_last passes rest p split first =
     (long, both.1, both.0)
 
 -- a pass that has made no call, by its number
-pub is_new : (p : Known) (n : ℕ) → p ≡ new_pass n → IsNew p
-is_new p n same = same ∙ ap new_pass (sym (ap (λ (k : Known). k.caller.number) same))
+pub is_new : (p : PassKnowledge) (n : ℕ) → p ≡ new_pass n → IsNew p
+is_new p n same = same ∙ ap new_pass (sym (ap (λ (k : PassKnowledge). k.caller.number) same))
 
-new_push : {Q : Type 0} (ws : List (Worker Known Q)) (w : Worker Known Q) → AllNew IsNew ws → IsNew w.store → AllNew IsNew (ws ++ w ∷ [])
+new_push : {Q : Type 0} (ws : List (Worker PassKnowledge Q)) (w : Worker PassKnowledge Q) → AllNew IsNew ws → IsNew w.store → AllNew IsNew (ws ++ w ∷ [])
 new_push [] w all one = (one, tt)
 new_push (v ∷ vs) w all one = (all.0, new_push vs w all.1 one)
 
 -- one more such worker
-pub new_more : {Q : Type 0} (ws vs : List (Worker Known Q)) (w : Worker Known Q) (n : ℕ) → vs ≡ ws ++ w ∷ [] → AllNew IsNew ws → w.store ≡ new_pass n
+pub new_more : {Q : Type 0} (ws vs : List (Worker PassKnowledge Q)) (w : Worker PassKnowledge Q) (n : ℕ) → vs ≡ ws ++ w ∷ [] → AllNew IsNew ws → w.store ≡ new_pass n
     → AllNew IsNew vs
 new_more ws vs w n same all one = subst (AllNew IsNew) (sym same) (new_push ws w all (is_new w.store n one))
 
 -- there is none
-pub first_none : (passes : List Known) → passes ≡ [] → AreFirst passes
+pub first_none : (passes : List PassKnowledge) → passes ≡ [] → AreFirst passes
 first_none passes none = rw none refl
 
 -- ---- how many are needed
@@ -120,17 +120,17 @@ module _ {I Q : Type 0} where
 
 module _ {Q : Type 0} (history : History) where
   -- the passes of the workers of a session were
-  pub own_back : (l : Left Known Q) (ls : List (Left Known Q)) → All (IsGivenBack history) (all_passes (l ∷ ls))
+  pub own_back : (l : Left PassKnowledge Q) (ls : List (Left PassKnowledge Q)) → All (IsGivenBack history) (all_passes (l ∷ ls))
       → All (IsGivenBack history) (map (λ w. w.store) l.team.workers)
   own_back l ls back =
-      let own : List Known = map (λ w. w.store) l.team.workers in
+      let own : List PassKnowledge = map (λ w. w.store) l.team.workers in
       subst (All (IsGivenBack history)) (take-append_seam own (all_passes ls))
       (All-take (IsGivenBack history) (length own) (own ++ all_passes ls) (All-tail (IsGivenBack history) l.store (own ++ all_passes ls) back))
 
   -- and those of the sessions behind it
-  pub rest_back : (l : Left Known Q) (ls : List (Left Known Q)) → All (IsGivenBack history) (all_passes (l ∷ ls)) → All (IsGivenBack history) (all_passes ls)
+  pub rest_back : (l : Left PassKnowledge Q) (ls : List (Left PassKnowledge Q)) → All (IsGivenBack history) (all_passes (l ∷ ls)) → All (IsGivenBack history) (all_passes ls)
   rest_back l ls back =
-      let own : List Known = map (λ w. w.store) l.team.workers in
+      let own : List PassKnowledge = map (λ w. w.store) l.team.workers in
       subst (All (IsGivenBack history)) (drop-append_seam own (all_passes ls))
       (All-drop (IsGivenBack history) (length own) (own ++ all_passes ls) (All-tail (IsGivenBack history) l.store (own ++ all_passes ls) back))
 
@@ -146,7 +146,7 @@ module _ {I Q : Type 0} where
   left_push count [] part = refl
   left_push count (p ∷ ps) part = left_push (count - passes_for p) ps part
 
-  pub desks_push : (count : ℕ) (parts : List (Part I Q)) (part : Part I Q) (desks : List (Desk Known Q I)) (desk : Desk Known Q I)
+  pub desks_push : (count : ℕ) (parts : List (Part I Q)) (part : Part I Q) (desks : List (ServedSession PassKnowledge Q I)) (desk : ServedSession PassKnowledge Q I)
       → AreDesksOf (session_passes count parts) parts desks → IsDeskOf (left_behind count parts - passes_for part) part desk
       → AreDesksOf (session_passes count (parts ++ part ∷ [])) (parts ++ part ∷ []) (desks ++ desk ∷ [])
   desks_push count [] part [] desk all one = (one, tt)
@@ -155,11 +155,11 @@ module _ {I Q : Type 0} where
   desks_push count (p ∷ ps) part [] desk all one = absurd all
 
   -- the numbers of their passes
-  pub desk_numbers : (numbers : List ℕ) (parts : List (Part I Q)) (desks : List (Desk Known Q I)) → AreDesksOf numbers parts desks
-      → map (λ (d : Desk Known Q I). d.store.caller.number) desks ≡ numbers
+  pub desk_numbers : (numbers : List ℕ) (parts : List (Part I Q)) (desks : List (ServedSession PassKnowledge Q I)) → AreDesksOf numbers parts desks
+      → map (λ (d : ServedSession PassKnowledge Q I). d.store.caller.number) desks ≡ numbers
   desk_numbers [] [] [] all = refl
   desk_numbers (n ∷ ns) (p ∷ ps) (d ∷ ds) all =
-      ap (λ k. k ∷ map (λ (d : Desk Known Q I). d.store.caller.number) ds) (ap (λ (k : Known). k.caller.number) all.0.2)
+      ap (λ k. k ∷ map (λ (d : ServedSession PassKnowledge Q I). d.store.caller.number) ds) (ap (λ (k : PassKnowledge). k.caller.number) all.0.2)
       ∙ ap (λ ks. n ∷ ks) (desk_numbers ns ps ds all.1)
   desk_numbers [] [] (d ∷ ds) all = absurd all
   desk_numbers [] (p ∷ ps) ds all = absurd all
@@ -170,17 +170,17 @@ module _ {I Q : Type 0} where
 
   -- what the desks of files leave stands in the history of the front to which all passes were given back
   pub outputs_of : (setup : Setup) (gives : Q → Running → Result (List ℕ) RunFault → Q → Type 0) (remaining : I → Option (List ℕ))
-      (history : History) (numbers : List ℕ) (parts : List (Part I Q)) (desks : List (Desk Known Q I)) (lefts : List (Left Known Q))
+      (history : History) (numbers : List ℕ) (parts : List (Part I Q)) (desks : List (ServedSession PassKnowledge Q I)) (lefts : List (Left PassKnowledge Q))
       → AreDesksOf numbers parts desks → AllOutputs (IsTold setup) HasMet is_stopped remaining desks lefts → ArePools setup gives lefts
       → All (IsGivenBack history) (all_passes lefts)
-      → AreOutputs setup remaining history numbers (map stops_left lefts) parts (map (λ (l : Left Known Q). l.output) lefts)
+      → AreOutputs setup remaining history numbers (map stops_left lefts) parts (map (λ (l : Left PassKnowledge Q). l.output) lefts)
   outputs_of setup gives remaining history [] [] [] [] are all pools back = tt
   outputs_of setup gives remaining history (n ∷ ns) (p ∷ ps) (d ∷ ds) (l ∷ ls) are all pools back =
-      let last : Known × Bool = (l.store, l.team.has_met_memory) in (
+      let last : PassKnowledge × Bool = (l.store, l.team.has_met_memory) in (
         output_ran setup history n l.store l.team.has_met_memory (stops_in stops_by l.team.workers) pools.0.1
             (All-head (IsGivenBack history) l.store (map (λ w. w.store) l.team.workers ++ all_passes ls) back)
             (prepend_known p.bytes.items (remaining p.reader)) l.output.ended l.output.text.items
-            (subst (λ (first : Known × Bool). Outputs (IsTold setup) HasMet is_stopped first last (prepend_known p.bytes.items (remaining p.reader)) l.output)
+            (subst (λ (first : PassKnowledge × Bool). Outputs (IsTold setup) HasMet is_stopped first last (prepend_known p.bytes.items (remaining p.reader)) l.output)
             (λ i. (are.0.2 i, are.0.3 i))
             (subst (λ (reader : I). Outputs (IsTold setup) HasMet is_stopped (d.store, d.team.has_met_memory) last
             (prepend_known p.bytes.items (remaining reader)) l.output) are.0.1
@@ -199,10 +199,10 @@ module _ {I Q : Type 0} where
 
 module _ {Q : Type 0} where
   -- so many calls stopped the front in all
-  pub stops_all : (lefts : List (Left Known Q)) → sum_by stops_left lefts ≡ sum_by stops_by (all_passes lefts)
+  pub stops_all : (lefts : List (Left PassKnowledge Q)) → sum_by stops_left lefts ≡ sum_by stops_by (all_passes lefts)
   stops_all [] = refl
   stops_all (l ∷ ls) =
-      let own : List Known = map (λ w. w.store) l.team.workers in
+      let own : List PassKnowledge = map (λ w. w.store) l.team.workers in
       let rest : sum_by stops_left ls ≡ sum_by stops_by (all_passes ls) = stops_all ls in
       let named : sum_by stops_by own ≡ stops_in stops_by l.team.workers =
       sym (sum-map stops_by own) ∙ ap sum (map-map stops_by (λ w. w.store) l.team.workers) ∙ sum-map (λ w. stops_by w.store) l.team.workers in
@@ -212,7 +212,7 @@ module _ {Q : Type 0} where
       omega (arith, rest, named, first, both, all)
 
   -- the workers of all sessions stand in the history
-  pub pools_stand : (setup : Setup) (gives : Q → Running → Result (List ℕ) RunFault → Q → Type 0) (history : History) (lefts : List (Left Known Q))
+  pub pools_stand : (setup : Setup) (gives : Q → Running → Result (List ℕ) RunFault → Q → Type 0) (history : History) (lefts : List (Left PassKnowledge Q))
       → ArePools setup gives lefts → All (IsGivenBack history) (all_passes lefts) → ∥ WorkersStand setup gives history (all_numbers lefts) ∥₁
   pools_stand setup gives history [] pools back = ∣ tt ∣₁
   pools_stand setup gives history (l ∷ ls) pools back =
@@ -222,10 +222,10 @@ module _ {Q : Type 0} where
       (workers_stand setup gives history l.team.workers (own_back history l ls back) worked) rest))
 
 -- what a front says at its end, of each pass
-pub given_back : (history : History) (passes : List Known)
-    → All (λ (p : Known). IsPrefix p.caller.sure (rows_in history)) passes → All (λ (p : Known). IsPrefix p.seen (rows_in history)) passes
-    → All (λ (p : Known). rows_of p.caller.number (rows_in history) ≡ p.caller.calls) passes
-    → All (λ (p : Known). p.caller.stopped ≡ true → history.stopped ≡ true) passes → All (IsGivenBack history) passes
+pub given_back : (history : History) (passes : List PassKnowledge)
+    → All (λ (p : PassKnowledge). IsPrefix p.caller.sure (rows_in history)) passes → All (λ (p : PassKnowledge). IsPrefix p.seen (rows_in history)) passes
+    → All (λ (p : PassKnowledge). rows_of p.caller.number (rows_in history) ≡ p.caller.calls) passes
+    → All (λ (p : PassKnowledge). p.caller.stopped ≡ true → history.stopped ≡ true) passes → All (IsGivenBack history) passes
 given_back history passes sure seen each stopped = λ k d inside. record {
   sure = sure k d inside;
   seen = seen k d inside;
@@ -235,35 +235,35 @@ given_back history passes sure seen each stopped = λ k d inside. record {
 
 -- one session more
 
-pub numbers_push : {Q : Type 0} (lefts : List (Left Known Q)) (left : Left Known Q)
+pub numbers_push : {Q : Type 0} (lefts : List (Left PassKnowledge Q)) (left : Left PassKnowledge Q)
     → all_numbers (lefts ++ left ∷ []) ≡ all_numbers lefts ++ numbers_in left.team.workers
 numbers_push [] left = append-nil (numbers_in left.team.workers)
 numbers_push (l ∷ ls) left =
     let own : List ℕ = numbers_in l.team.workers in
     ap (λ (ns : List ℕ). own ++ ns) (numbers_push ls left) ∙ sym (append_assoc own (all_numbers ls) (numbers_in left.team.workers))
 
-pub pools_push : {Q : Type 0} (setup : Setup) (gives : Q → Running → Result (List ℕ) RunFault → Q → Type 0) (lefts : List (Left Known Q)) (left : Left Known Q)
+pub pools_push : {Q : Type 0} (setup : Setup) (gives : Q → Running → Result (List ℕ) RunFault → Q → Type 0) (lefts : List (Left PassKnowledge Q)) (left : Left PassKnowledge Q)
     → ArePools setup gives lefts → IsPool setup gives left.team → ArePools setup gives (lefts ++ left ∷ [])
 pools_push setup gives [] left all one = (one, tt)
 pools_push setup gives (l ∷ ls) left all one = (all.0, pools_push setup gives ls left all.1 one)
 
-pub all_push : {Q : Type 0} (lefts : List (Left Known Q)) (left : Left Known Q) → all_passes (lefts ++ left ∷ []) ≡ all_passes lefts ++ passes_left left
+pub all_push : {Q : Type 0} (lefts : List (Left PassKnowledge Q)) (left : Left PassKnowledge Q) → all_passes (lefts ++ left ∷ []) ≡ all_passes lefts ++ passes_left left
 all_push [] left = append-nil (passes_left left)
 all_push (l ∷ ls) left =
-    ap (λ (ps : List Known). passes_left l ++ ps) (all_push ls left) ∙ sym (append_assoc (passes_left l) (all_passes ls) (passes_left left))
+    ap (λ (ps : List PassKnowledge). passes_left l ++ ps) (all_push ls left) ∙ sym (append_assoc (passes_left l) (all_passes ls) (passes_left left))
 
 -- ---- outputs that threads gave
 
 module _ {S Q I : Type 0} (called : S → Event → Reply → S → Type 0) (met : S → S → Type 0) (stopped : S → Bool) (remaining : I → Option (List ℕ)) where
   -- where each place has what its desk leaves, all have
-  pub each_output : (desks : List (Desk S Q I)) (lefts : List (Left S Q)) → length lefts ≡ length desks
+  pub each_output : (desks : List (ServedSession S Q I)) (lefts : List (Left S Q)) → length lefts ≡ length desks
       → ((i : ℕ) (d : Left S Q) → i < length desks
-      → (desk : Desk S Q I) × ((e : Desk S Q I) → slice_index_or desks i e ≡ desk) × OutputOf called met stopped remaining desk (slice_index_or lefts i d))
+      → (desk : ServedSession S Q I) × ((e : ServedSession S Q I) → slice_index_or desks i e ≡ desk) × OutputOf called met stopped remaining desk (slice_index_or lefts i d))
       → AllOutputs called met stopped remaining desks lefts
   each_output [] [] same each = tt
   each_output (d ∷ ds) (l ∷ ls) same each =
       let first = each 0 l (omega arith) in (
-        subst (λ (desk : Desk S Q I). OutputOf called met stopped remaining desk l) (sym (first.1 d)) first.2,
+        subst (λ (desk : ServedSession S Q I). OutputOf called met stopped remaining desk l) (sym (first.1 d)) first.2,
         each_output ds ls (omega (arith, same)) (λ i e inside. each (suc i) e (omega (arith, inside))),
       )
   each_output [] (l ∷ ls) same each = absurd (omega (arith, same))
@@ -273,17 +273,17 @@ module _ {S Q I : Type 0} (called : S → Event → Reply → S → Type 0) (met
 
 module _ {I Q : Type 0} (setup : Setup) (gives : Q → Running → Result (List ℕ) RunFault → Q → Type 0) (remaining : I → Option (List ℕ)) where
   -- what sessions left by these desks
-  pub all_served : (numbers : List ℕ) (parts : List (Part I Q)) (desks : List (Desk Known Q I)) (lefts : List (Left Known Q))
-      (sessions workers : List ℕ) (passes : List Known) (outputs : List Output)
+  pub all_served : (numbers : List ℕ) (parts : List (Part I Q)) (desks : List (ServedSession PassKnowledge Q I)) (lefts : List (Left PassKnowledge Q))
+      (sessions workers : List ℕ) (passes : List PassKnowledge) (outputs : List SessionOutput)
       → AreDesksOf numbers parts desks → AllOutputs (IsTold setup) HasMet is_stopped remaining desks lefts → ArePools setup gives lefts
-      → sessions ≡ map (λ (d : Desk Known Q I). d.store.caller.number) desks → workers ≡ all_numbers lefts → passes ≡ all_passes lefts
-      → outputs ≡ map (λ (l : Left Known Q). l.output) lefts → AreServed setup gives remaining numbers parts sessions workers passes outputs
+      → sessions ≡ map (λ (d : ServedSession PassKnowledge Q I). d.store.caller.number) desks → workers ≡ all_numbers lefts → passes ≡ all_passes lefts
+      → outputs ≡ map (λ (l : Left PassKnowledge Q). l.output) lefts → AreServed setup gives remaining numbers parts sessions workers passes outputs
   all_served numbers parts desks lefts sessions workers passes outputs are all pools named numbered back gave = record {
     named = named ∙ desk_numbers numbers parts desks are;
     stops = map stops_left lefts;
     all = sum-map stops_left lefts ∙ stops_all lefts ∙ ap (sum_by stops_by) (sym back);
     outputs_are = λ history given.
-        subst (λ (os : List Output). AreOutputs setup remaining history numbers (map stops_left lefts) parts os) (sym gave)
+        subst (λ (os : List SessionOutput). AreOutputs setup remaining history numbers (map stops_left lefts) parts os) (sym gave)
         (outputs_of setup gives remaining history numbers parts desks lefts are all pools (subst (All (IsGivenBack history)) back given));
     workers_are = λ history given.
         subst (λ (ns : List ℕ). ∥ WorkersStand setup gives history ns ∥₁) (sym numbered)
@@ -291,7 +291,7 @@ module _ {I Q : Type 0} (setup : Setup) (gives : Q → Running → Result (List 
   }
 
   -- and what came of them where the front was closed
-  pub results_of : (parts : List (Part I Q)) (count : ℕ) (sessions workers : List ℕ) (passes : List Known) (outputs : Vec Output) (results : Results)
+  pub results_of : (parts : List (Part I Q)) (count : ℕ) (sessions workers : List ℕ) (passes : List PassKnowledge) (outputs : Vec SessionOutput) (results : Results)
       → count ≡ passes_needed parts
       → AreServed setup gives remaining (session_passes count parts) parts sessions workers passes outputs.items
       → IsClosed setup sessions workers passes results.history → results.outputs ≡ outputs → AreResults setup gives remaining parts results
@@ -300,7 +300,7 @@ module _ {I Q : Type 0} (setup : Setup) (gives : Q → Running → Result (List 
     stops = served.stops;
     outputs =
         subst (λ (n : ℕ). AreOutputs setup remaining results.history (session_passes n parts) served.stops parts results.outputs.items) needed
-        (subst (λ (os : Vec Output). AreOutputs setup remaining results.history (session_passes count parts) served.stops parts os.items) (sym same)
+        (subst (λ (os : Vec SessionOutput). AreOutputs setup remaining results.history (session_passes count parts) served.stops parts os.items) (sym same)
         (served.outputs_are results.history closed.back));
     stopped = served.all ∙ closed.stopped;
     workers = workers;
@@ -313,7 +313,7 @@ module _ {I Q : Type 0} (setup : Setup) (gives : Q → Running → Result (List 
         (subst (λ (ns : List ℕ). are_asked ns (rows_in results.history) ≡ true) served.named closed.asked);
   }
 
-  pub if_results : (parts : List (Part I Q)) (count : ℕ) (sessions workers : List ℕ) (passes : List Known) (outputs : Vec Output)
+  pub if_results : (parts : List (Part I Q)) (count : ℕ) (sessions workers : List ℕ) (passes : List PassKnowledge) (outputs : Vec SessionOutput)
       → count ≡ passes_needed parts
       → AreServed setup gives remaining (session_passes count parts) parts sessions workers passes outputs.items
       → (r : Result Results Refusal) → IfOk r (λ results. IsClosed setup sessions workers passes results.history × (results.outputs ≡ outputs))
@@ -329,7 +329,7 @@ module _ {I Q : Type 0} (setup : Setup) (gives : Q → Running → Result (List 
     legal = subst (IsLegal setup) (sym rows) (legal_none setup);
     stops = [];
     outputs =
-        subst (λ (os : List Output). AreOutputs setup remaining results.history (session_passes (passes_needed parts) parts) [] parts os) (sym outputs)
+        subst (λ (os : List SessionOutput). AreOutputs setup remaining results.history (session_passes (passes_needed parts) parts) [] parts os) (sym outputs)
         (subst (λ (ps : List (Part I Q)). AreOutputs setup remaining results.history (session_passes (passes_needed ps) ps) [] ps []) (sym none) tt);
     stopped = ap stops_of (sym going);
     workers = [];

@@ -8,7 +8,7 @@ use Rattle.model.specs.Worlds.{Job}
 use Rattle.model.specs.Lines.{split, cut_at, lines_of, onto_first}
 use Rattle.model.specs.Forms.{Form}
 use Rattle.model.specs.Forms as form
-use Rattle.model.specs.Talk.{Seen, Row, Silent, Names, Refuses, Asks, Waits, Gets, GetsNext, Talks, seen_after, after_all, fresh, form_of, users_in}
+use Rattle.model.specs.Talk.{Seen, LineRow, Silent, Names, Refuses, Asks, Waits, Gets, GetsNext, Talks, seen_after, after_all, fresh, form_of, users_in}
 use Rattle.model.specs.Talk.{answer_text, reply_text, row_text}
 use Rattle.model.specs.Replies as replies
 use Rattle.model.specs.Replies.{Reply, Refused}
@@ -31,7 +31,7 @@ answered : (n : ℕ) (actor : List ℕ) (reply : Reply) → answer_text n actor 
 answered n actor reply none = some_text (decimal n ++ 32 ∷ actor ++ 32 ∷ reply_text reply) 10 none
 
 -- a line for which nothing is printed is silent
-silent_row : (n : ℕ) (row : Row) → row_text n row ≡ [] → row ≡ Silent
+silent_row : (n : ℕ) (row : LineRow) → row_text n row ≡ [] → row ≡ Silent
 silent_row n Silent none = refl
 silent_row n (Names users) none = absurd (answered n (codes "-") replies.Ok none)
 silent_row n (Refuses why) none = absurd (answered n (codes "-") (Refused why) none)
@@ -39,7 +39,7 @@ silent_row n (Asks event reply) none = absurd (answered n event.actor reply none
 silent_row n (Waits goals reply) none = absurd (answered n (codes "-") reply none)
 
 -- a line after which there are users named them
-naming_row : (seen : Seen) (row : Row) → seen.begun ≡ false → (seen_after seen row).begun ≡ true → (users : List (List ℕ)) × (row ≡ Names users)
+naming_row : (seen : Seen) (row : LineRow) → seen.begun ≡ false → (seen_after seen row).begun ≡ true → (users : List (List ℕ)) × (row ≡ Names users)
 naming_row seen (Names users) none some = (users, refl)
 naming_row seen Silent none some = absurd (true≢false (sym some ∙ none))
 naming_row seen (Refuses why) none some = absurd (true≢false (sym some ∙ none))
@@ -47,7 +47,7 @@ naming_row seen (Asks event reply) none some = absurd (true≢false (sym some �
 naming_row seen (Waits goals reply) none some = absurd (true≢false (sym some ∙ none))
 
 -- one line more got no reply
-pub next_silent : (seen next : Seen) (rest line behind : List ℕ) (n : ℕ) (row : Row) (text : List ℕ) → cut_at 10 rest ≡ Some (line, behind)
+pub next_silent : (seen next : Seen) (rest line behind : List ℕ) (n : ℕ) (row : LineRow) (text : List ℕ) → cut_at 10 rest ≡ Some (line, behind)
     → GetsNext seen line row → next ≡ seen_after seen row → text ≡ row_text n row → text ≡ [] → seen.begun ≡ false
     → (next.begun ≡ false) × (FirstNames next (split 10 behind) → FirstNames seen (split 10 rest))
 next_silent seen next rest line behind n row text cut gets same printed none going =
@@ -59,14 +59,14 @@ next_silent seen next rest line behind n row text cut gets same printed none goi
     )
 
 -- the next line names users
-pub next_names : (seen next : Seen) (rest line behind : List ℕ) (row : Row) → cut_at 10 rest ≡ Some (line, behind)
+pub next_names : (seen next : Seen) (rest line behind : List ℕ) (row : LineRow) → cut_at 10 rest ≡ Some (line, behind)
     → GetsNext seen line row → next ≡ seen_after seen row → seen.begun ≡ false → next.begun ≡ true → FirstNames seen (split 10 rest)
 next_names seen next rest line behind row cut gets same going begun =
     let named = naming_row seen row going (ap (λ (s : Seen). s.begun) (sym same) ∙ begun) in
     subst (FirstNames seen) (sym (split-more 10 rest line behind cut)) (inl (named.0, subst (GetsNext seen line) named.1 gets))
 
 -- the last one does
-pub last_names : (seen next : Seen) (rest : List ℕ) (row : Row) → cut_at 10 rest ≡ None
+pub last_names : (seen next : Seen) (rest : List ℕ) (row : LineRow) → cut_at 10 rest ≡ None
     → GetsNext seen rest row → next ≡ seen_after seen row → seen.begun ≡ false → next.begun ≡ true → FirstNames seen (split 10 rest)
 last_names seen next rest row cut gets same going begun =
     let named = naming_row seen row going (ap (λ (s : Seen). s.begun) (sym same) ∙ begun) in
@@ -76,7 +76,7 @@ last_names seen next rest row cut gets same going begun =
 
 module _ (goals : List Job) where
   -- a line that may get nothing gets nothing else
-  silent_only : (f : Form) (row : Row) → Gets goals f Silent → Gets goals f row → row ≡ Silent
+  silent_only : (f : Form) (row : LineRow) → Gets goals f Silent → Gets goals f row → row ≡ Silent
   silent_only form.Silent Silent s g = refl
   silent_only form.Silent (Names users) s g = absurd g
   silent_only form.Silent (Refuses why) s g = absurd g
@@ -88,7 +88,7 @@ module _ (goals : List Job) where
   silent_only form.Waits row s g = absurd s
 
   -- one that may name users names users
-  names_only : (f : Form) (users : List (List ℕ)) (row : Row) → Gets goals f (Names users) → Gets goals f row
+  names_only : (f : Form) (users : List (List ℕ)) (row : LineRow) → Gets goals f (Names users) → Gets goals f row
       → (named : List (List ℕ)) × (row ≡ Names named)
   names_only (form.Names named) users (Names others) n g = (others, refl)
   names_only (form.Names named) users Silent n g = absurd g
@@ -101,13 +101,13 @@ module _ (goals : List Job) where
   names_only form.Waits users row n g = absurd n
 
 -- where the first line that gets a reply names users, and this is the row of the first line: that names them, or gets nothing
-first_row : (seen : Seen) (line : List ℕ) (lines : List (List ℕ)) (row : Row) → GetsNext seen line row → FirstNames seen (line ∷ lines)
+first_row : (seen : Seen) (line : List ℕ) (lines : List (List ℕ)) (row : LineRow) → GetsNext seen line row → FirstNames seen (line ∷ lines)
     → ((users : List (List ℕ)) × (row ≡ Names users)) ⊎ ((row ≡ Silent) × FirstNames (seen_after seen Silent) lines)
 first_row seen line lines row g (inl names) = inl (names_only seen.goals (form_of seen line) names.0 row names.1 g)
 first_row seen line lines row g (inr silent) = inr (silent_only seen.goals (form_of seen line) row silent.0 g, silent.1)
 
 -- a line that got no reply stands before it
-pub still_first : (seen next : Seen) (rest line behind : List ℕ) (n : ℕ) (row : Row) (text : List ℕ) → cut_at 10 rest ≡ Some (line, behind)
+pub still_first : (seen next : Seen) (rest line behind : List ℕ) (n : ℕ) (row : LineRow) (text : List ℕ) → cut_at 10 rest ≡ Some (line, behind)
     → GetsNext seen line row → next ≡ seen_after seen row → text ≡ row_text n row → text ≡ []
     → FirstNames seen (split 10 rest) → FirstNames next (split 10 behind)
 still_first seen next rest line behind n row text cut gets same printed none first =
@@ -118,7 +118,7 @@ still_first seen next rest line behind n row text cut gets same printed none fir
     ]
 
 -- one that got a reply and names no users is the first that gets one
-not_these : (seen next : Seen) (line : List ℕ) (lines : List (List ℕ)) (n : ℕ) (row : Row) (text : List ℕ) → GetsNext seen line row
+not_these : (seen next : Seen) (line : List ℕ) (lines : List (List ℕ)) (n : ℕ) (row : LineRow) (text : List ℕ) → GetsNext seen line row
     → next ≡ seen_after seen row → text ≡ row_text n row → next.begun ≡ false → (text ≡ [] → ⊥) → FirstNames seen (line ∷ lines) → ⊥
 not_these seen next line lines n row text gets same printed begun some first = elim (first_row seen line lines row gets first) [
   | inl names ↦
@@ -127,7 +127,7 @@ not_these seen next line lines n row text gets same printed begun some first = e
   | inr s ↦ some (printed ∙ ap (row_text n) s.0)
 ]
 
-pub next_others : (seen next : Seen) (rest line behind : List ℕ) (n : ℕ) (row : Row) (text : List ℕ) → cut_at 10 rest ≡ Some (line, behind)
+pub next_others : (seen next : Seen) (rest line behind : List ℕ) (n : ℕ) (row : LineRow) (text : List ℕ) → cut_at 10 rest ≡ Some (line, behind)
     → GetsNext seen line row → next ≡ seen_after seen row → text ≡ row_text n row → next.begun ≡ false → (text ≡ [] → ⊥)
     → FirstNames seen (split 10 rest) → ⊥
 next_others seen next rest line behind n row text cut gets same printed begun some first =
@@ -135,7 +135,7 @@ next_others seen next rest line behind n row text cut gets same printed begun so
     (subst (FirstNames seen) (split-more 10 rest line behind cut) first)
 
 -- the last one names none
-pub last_others : (seen next : Seen) (rest : List ℕ) (row : Row) → cut_at 10 rest ≡ None → GetsNext seen rest row → next ≡ seen_after seen row
+pub last_others : (seen next : Seen) (rest : List ℕ) (row : LineRow) → cut_at 10 rest ≡ None → GetsNext seen rest row → next ≡ seen_after seen row
     → next.begun ≡ false → FirstNames seen (split 10 rest) → ⊥
 last_others seen next rest row cut gets same begun first =
     elim (first_row seen rest [] row gets (subst (FirstNames seen) (split-one 10 rest cut) first)) [
@@ -179,7 +179,7 @@ first_of_lines bytes first = elim (parts_or_lines bytes) [
 ]
 
 -- lines that name nobody get nothing, where the first that gets a reply names users
-all_silent : (seen : Seen) (done rest : List (List ℕ)) (rows : List Row) → Talks seen done rows → users_in rows ≡ None
+all_silent : (seen : Seen) (done rest : List (List ℕ)) (rows : List LineRow) → Talks seen done rows → users_in rows ≡ None
     → FirstNames seen (done ++ rest) → ((after_all seen rows).refused ≡ seen.refused) × FirstNames (after_all seen rows) rest
 all_silent seen [] rest [] t none first = (refl, first)
 all_silent seen [] rest (row ∷ rows) t none first = absurd t
@@ -239,7 +239,7 @@ parts_cut : (bytes more : List ℕ) → PartsCut bytes more
 parts_cut [] more = record { front = []; last = []; here = refl; on = refl }
 parts_cut (b ∷ bytes) more = let c = parts_cut bytes more in cut_next b bytes more (b == 10) refl c.front c.last c.here c.on
 
-names_row : (row : Row) (users : List (List ℕ)) → users_in (row ∷ []) ≡ Some users → row ≡ Names users
+names_row : (row : LineRow) (users : List (List ℕ)) → users_in (row ∷ []) ≡ Some users → row ≡ Names users
 names_row Silent users named = cc
 names_row (Names others) users named = cc
 names_row (Refuses why) users named = cc
@@ -247,7 +247,7 @@ names_row (Asks event reply) users named = cc
 names_row (Waits goals reply) users named = cc
 
 -- lines that name users begin with them where they do so with others behind the last but one
-first_part : (seen : Seen) (front : List (List ℕ)) (last : List ℕ) (others done rest : List (List ℕ)) (rows : List Row) (users : List (List ℕ))
+first_part : (seen : Seen) (front : List (List ℕ)) (last : List ℕ) (others done rest : List (List ℕ)) (rows : List LineRow) (users : List (List ℕ))
     → done ++ rest ≡ front ++ last ∷ [] → Talks seen done rows → users_in rows ≡ Some users → FirstNames seen (front ++ others)
     → FirstNames seen (front ++ last ∷ [])
 first_part seen front last others [] rest [] users cut t named first = cc

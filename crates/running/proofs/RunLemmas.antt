@@ -15,7 +15,7 @@ use Rattle.events.specs.declared.reply.Reply.{Reply}
 use Rattle.events.specs.declared.reply.Reply.TheVariants.{Refused}
 use Rattle.events.specs.Terms.{reply_of}
 use Rattle.history.specs.declared.row.Row.{Row}
-use Rattle.history.specs.Callers.{Known, new_pass, rows_of}
+use Rattle.history.specs.Callers.{PassKnowledge, new_pass, rows_of}
 use Rattle.book.specs.declared.closed_history.History.{History}
 use Rattle.book.specs.Closing.{rows_in}
 use Rattle.workers.specs.declared.runner.RunFault.{RunFault}
@@ -64,13 +64,13 @@ none_of false b is = (refl, is)
 module _ (setup : Setup) where
   -- a session: its pass, and whether a round of its workers was answered 90
   abbrev Seat : Type 0
-  Seat = Known × Bool
+  Seat = PassKnowledge × Bool
 
   -- a row is a call, or the calls of a wait, or none
-  abbrev RowLink : Seat → talk.Row → Seat → Type 0
+  abbrev RowLink : Seat → talk.LineRow → Seat → Type 0
   RowLink = Link (Answers (IsTold setup)) (Waits (IsTold setup) HasMet is_stopped)
 
-  abbrev CallChain : Known → List Call → Known → Type 0
+  abbrev CallChain : PassKnowledge → List Call → PassKnowledge → Type 0
   CallChain = Calls (IsTold setup) HasMet
 
   -- ---- the calls of rows
@@ -79,7 +79,7 @@ module _ (setup : Setup) where
   behind : (calls : List Call) (old mid new : Seat) → mid ≡ old → CallChain mid.0 calls new.0 → CallChain old.0 calls new.0
   behind calls old mid new same chain = subst (λ (k : Seat). CallChain k.0 calls new.0) same chain
 
-  rows_calls : (rows : List talk.Row) (old new : Seat) → Chain RowLink old rows new → (calls : List Call) × Makes rows calls × CallChain old.0 calls new.0
+  rows_calls : (rows : List talk.LineRow) (old new : Seat) → Chain RowLink old rows new → (calls : List Call) × Makes rows calls × CallChain old.0 calls new.0
   rows_calls [] old new same = ([], refl, subst (λ (k : Seat). HasMet old.0 k.0) (sym same) (met_none old.0))
   rows_calls (talk.Silent ∷ rows) old new chain =
       let rest = rows_calls rows chain.0 new chain.2 in (rest.0, rest.1, behind rest.0 old chain.0 new chain.1 rest.2)
@@ -104,11 +104,11 @@ module _ (setup : Setup) where
 
   -- ---- where the front was stopped
 
-  stays : (rows : List talk.Row) (old new : Seat) → Chain RowLink old rows new → is_stopped old.0 ≡ true → is_stopped new.0 ≡ true
+  stays : (rows : List talk.LineRow) (old new : Seat) → Chain RowLink old rows new → is_stopped old.0 ≡ true → is_stopped new.0 ≡ true
   stays rows old new chain is = let all = rows_calls rows old new chain in chain_stopped setup old.0 all.0 new.0 all.2 is
 
   -- a line that was told 92 leaves a pass that knows it
-  row_stopped : (row : talk.Row) (old new : Seat) → RowLink old row new → is_told is_stopped_refusal row ≡ true → is_stopped new.0 ≡ true
+  row_stopped : (row : talk.LineRow) (old new : Seat) → RowLink old row new → is_told is_stopped_refusal row ≡ true → is_stopped new.0 ≡ true
   row_stopped talk.Silent old new link is = absurd (cc)
   row_stopped (talk.Names users) old new link is = absurd (cc)
   row_stopped (talk.Refuses w) old new link is = absurd (cc)
@@ -117,7 +117,7 @@ module _ (setup : Setup) where
       stopped_told setup old.0 new.0 link.0 (subst (λ (r : Reply). IsTold setup old.0 link.0 r new.0) told link.4)
   row_stopped (talk.Waits goals reply) old new link is = link.3 (reply_92 reply is)
 
-  rows_stopped : (rows : List talk.Row) (old new : Seat) → Chain RowLink old rows new → tell is_stopped_refusal rows ≡ true → is_stopped new.0 ≡ true
+  rows_stopped : (rows : List talk.LineRow) (old new : Seat) → Chain RowLink old rows new → tell is_stopped_refusal rows ≡ true → is_stopped new.0 ≡ true
   rows_stopped [] old new chain is = absurd (cc)
   rows_stopped (row ∷ rows) old new chain is = elim (either_of (is_told is_stopped_refusal row) (tell is_stopped_refusal rows) is) [
     | inl here ↦ stays rows chain.0 new chain.2 (row_stopped row old chain.0 chain.1 here)
@@ -140,14 +140,14 @@ module _ (setup : Setup) where
   status_read : (goals : List Job) (event : Event) → IsStatusOf goals event → is_read event ≡ true
   status_read goals event is = ap is_read is.4
 
-  statuses_stop : (goals : List Job) (calls : List Call) (old new : Known) → AsksStatus goals calls → CallChain old calls new → stops_by new ≡ stops_by old
+  statuses_stop : (goals : List Job) (calls : List Call) (old new : PassKnowledge) → AsksStatus goals calls → CallChain old calls new → stops_by new ≡ stops_by old
   statuses_stop goals [] old new asks chain = chain.stops
   statuses_stop goals (c ∷ cs) old new asks chain =
       statuses_stop goals cs chain.1 new asks.1 chain.4
       ∙ ap stops_by (chain.3.only_read (status_read goals c.0 asks.0)).0 ∙ chain.2.stops
 
   -- a line that was told something else than 90 stopped nothing
-  row_quiet : (row : talk.Row) (old new : Seat) → RowLink old row new → is_told is_memory_refusal row ≡ false → IsQuiet old new
+  row_quiet : (row : talk.LineRow) (old new : Seat) → RowLink old row new → is_told is_memory_refusal row ≡ false → IsQuiet old new
   row_quiet talk.Silent old new link without = quiet_as old new link
   row_quiet (talk.Names users) old new link without = quiet_as old new link
   row_quiet (talk.Refuses w) old new link without = quiet_as old new link
@@ -163,7 +163,7 @@ module _ (setup : Setup) where
     ],
   )
 
-  rows_quiet : (rows : List talk.Row) (old new : Seat) → Chain RowLink old rows new → tell is_memory_refusal rows ≡ false → IsQuiet old new
+  rows_quiet : (rows : List talk.LineRow) (old new : Seat) → Chain RowLink old rows new → tell is_memory_refusal rows ≡ false → IsQuiet old new
   rows_quiet [] old new chain without = quiet_as old new chain
   rows_quiet (row ∷ rows) old new chain without =
       let both = none_of (is_told is_memory_refusal row) (tell is_memory_refusal rows) without in
@@ -171,7 +171,7 @@ module _ (setup : Setup) where
 
   -- ---- in the history
 
-  module _ (history : History) (number : ℕ) (last : Known) (back : IsGivenBack history last) where
+  module _ (history : History) (number : ℕ) (last : PassKnowledge) (back : IsGivenBack history last) where
     -- calls from a pass that had made none
     pub calls_stand : (calls : List Call) → CallChain (new_pass number) calls last → Stand setup (rows_in history) number calls
     calls_stand calls chain =
@@ -185,7 +185,7 @@ module _ (setup : Setup) where
           order = chain_order setup rows number [] (new_pass number) calls last refl ([], refl) back.seen chain;
         }
 
-  module _ (history : History) (number : ℕ) (last : Known) (told : Bool) (others : ℕ) (clean : told ≡ false → others ≡ 0) (back : IsGivenBack history last) where
+  module _ (history : History) (number : ℕ) (last : PassKnowledge) (told : Bool) (others : ℕ) (clean : told ≡ false → others ≡ 0) (back : IsGivenBack history last) where
     -- the session before its first line
     abbrev first : Seat
     first = (new_pass number, false)
@@ -194,7 +194,7 @@ module _ (setup : Setup) where
     abbrev all_stops : ℕ
     all_stops = stops_by last + others
 
-    rows_memory : (rows : List talk.Row) → Chain RowLink first rows (last, told) → 0 < all_stops → tell is_memory_refusal rows ≡ true
+    rows_memory : (rows : List talk.LineRow) → Chain RowLink first rows (last, told) → 0 < all_stops → tell is_memory_refusal rows ≡ true
     rows_memory rows chain some = elim (either (tell is_memory_refusal rows)) [
       | inl has ↦ has
       | inr without ↦
@@ -207,7 +207,7 @@ module _ (setup : Setup) where
           absurd (omega (arith, some, none, own))
     ]
 
-    lines_stand : (rows : List talk.Row) → Chain RowLink first rows (last, told) → LinesStand setup history number all_stops rows
+    lines_stand : (rows : List talk.LineRow) → Chain RowLink first rows (last, told) → LinesStand setup history number all_stops rows
     lines_stand rows chain =
         let all = rows_calls rows first (last, told) chain in
         record {
@@ -260,10 +260,10 @@ module _ (setup : Setup) where
   -- ---- workers
 
   module _ {Q : Type 0} (gives : Q → Running → Result (List ℕ) RunFault → Q → Type 0) (history : History) where
-    abbrev DidWork : Worker Known Q → Type 0
+    abbrev DidWork : Worker PassKnowledge Q → Type 0
     DidWork = HasWorked (IsTold setup) (IsAskedBy setup) gives HasMet IsNew
 
-    worker_stands : (w : Worker Known Q) → IsGivenBack history w.store → DidWork w → WorkerStands setup gives history w.store.caller.number
+    worker_stands : (w : Worker PassKnowledge Q) → IsGivenBack history w.store → DidWork w → WorkerStands setup gives history w.store.caller.number
     worker_stands w back worked =
         let n : ℕ = w.store.caller.number in
         let chain : CallChain worked.first.store worked.calls w.store =
@@ -277,10 +277,10 @@ module _ (setup : Setup) where
           rounds = worked.rounds;
           calls = worked.calls;
           works = worked.works;
-          stand = calls_stand history n w.store back worked.calls (subst (λ (k : Known). CallChain k worked.calls w.store) new chain);
+          stand = calls_stand history n w.store back worked.calls (subst (λ (k : PassKnowledge). CallChain k worked.calls w.store) new chain);
         }
 
-    pub workers_stand : (ws : List (Worker Known Q)) → All (IsGivenBack history) (map (λ w. w.store) ws)
+    pub workers_stand : (ws : List (Worker PassKnowledge Q)) → All (IsGivenBack history) (map (λ w. w.store) ws)
         → AllWorked (IsTold setup) (IsAskedBy setup) gives HasMet IsNew ws → WorkersStand setup gives history (numbers_in ws)
     workers_stand [] back worked = tt
     workers_stand (w ∷ ws) back worked = (

@@ -11,7 +11,7 @@ use Rattle.events.specs.declared.event.Event.{Event}
 use Rattle.events.specs.declared.reply.Reply.{Reply}
 use Rattle.session.specs.Serving.{Link, Finished, EndedEarly, IsOwn}
 use Rattle.session.proofs.RowLemmas.{appends-none, consumes-none, consumes-behind}
-use Rattle.running.specs.declared.sessions.Output.{Output}
+use Rattle.running.specs.declared.sessions.SessionOutput.{SessionOutput}
 use Rattle.running.specs.Sessions.{Answers, Waits, Served, ServedInPart, Outputs, EndsBy, kept_fault}
 
 module _ {S : Type 0} (called : S → Event → Reply → S → Type 0) (met : S → S → Type 0) (stopped : S → Bool) where
@@ -72,7 +72,7 @@ module _ {S : Type 0} (called : S → Event → Reply → S → Type 0) (met : S
       (bytes ++ err.0, consumes-behind bytes start end err.0 err.1, (rw (← none, ← all) err.2)) by is
 
   -- no line of it was answered
-  pub none_served : (first : S × Bool) (start : Option (List ℕ)) (output : Output) → output.text.items ≡ []
+  pub none_served : (first : S × Bool) (start : Option (List ℕ)) (output : SessionOutput) → output.text.items ≡ []
       → output.ended ≡ Err Memory → Outputs called met stopped first first start output
   none_served first start output empty ended = rw (ended, empty) (record {
     input = [];

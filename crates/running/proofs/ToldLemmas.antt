@@ -14,7 +14,7 @@ use Rattle.schedule.specs.declared.query.Query.{Query}
 use Rattle.schedule.specs.declared.query.Question.{Question}
 use Rattle.schedule.specs.declared.query.Question.TheVariants.{Status, Closure, Fetch}
 use Rattle.schedule.specs.Queries.{request_in, event_for}
-use Rattle.history.specs.Callers.{Known, seeing, told_stopped}
+use Rattle.history.specs.Callers.{PassKnowledge, seeing, told_stopped}
 use Rattle.history.specs.Histories.{unrecorded, IsAnswered, IsReadAfter}
 use Rattle.running.specs.Calling.{is_read, IsCounted, IsTold}
 
@@ -33,7 +33,7 @@ is_asked q = asked q.question
     asked (Fetch path) = refl
 
 -- a query was read
-pub told_read : (setup : Setup) (old new : Known) (q : Query) (reply : Reply)
+pub told_read : (setup : Setup) (old new : PassKnowledge) (q : Query) (reply : Reply)
     → (unrecorded reply ≡ false → IsReadAfter setup old.caller.number new.seen (event_for q) reply)
     → IsPrefix old.seen new.seen → new ≡ seeing old new.seen → reply ≢ Refused Stopped → IsCounted old → IsCounted new
     → IsTold setup old (event_for q) reply new
@@ -41,17 +41,17 @@ told_read setup old new q reply read longer same going before after = record {
   answered = λ some. absurd (false≢true (sym (neither (unrecorded reply) (is_read (event_for q)) some).1 ∙ is_asked q));
   read = λ asks some. read some;
   only_read = λ asks. (same, going);
-  memory = λ none. ap (λ (k : Known). k.caller) same;
+  memory = λ none. ap (λ (k : PassKnowledge). k.caller) same;
   stopped = λ is. absurd (going is);
   remains = λ other was. absurd (false≢true (sym other ∙ is_asked q));
-  no_stop = λ _. ap (λ (k : Known). k.stops) same;
+  no_stop = λ _. ap (λ (k : PassKnowledge). k.stops) same;
   seen = longer;
   before = before;
   after = after;
 }
 
 -- any other event was handed to the front
-pub told_called : (setup : Setup) (old new : Known) (e : Event) (reply : Reply) → is_read e ≡ false
+pub told_called : (setup : Setup) (old new : PassKnowledge) (e : Event) (reply : Reply) → is_read e ≡ false
     → (unrecorded reply ≡ false → IsAnswered setup old e reply new) → (reply ≡ Refused Memory → new.caller ≡ old.caller)
     → (reply ≡ Refused Stopped → new.caller ≡ told_stopped old.caller)
     → (old.caller.stopped ≡ true → (reply ≡ Refused Stopped) ⊎ (reply ≡ Refused Memory))

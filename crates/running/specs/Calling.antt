@@ -9,7 +9,7 @@ use Rattle.events.specs.declared.event.Event.{Event}
 use Rattle.events.specs.declared.reply.Reply.{Reply}
 use Rattle.events.specs.declared.reply.Reply.TheVariants.{Refused}
 use Rattle.history.specs.declared.row.Row.{Row}
-use Rattle.history.specs.Callers.{Known, told_stopped, seeing, rows_of}
+use Rattle.history.specs.Callers.{PassKnowledge, told_stopped, seeing, rows_of}
 use Rattle.workers.specs.Working.{Call}
 use Rattle.history.specs.Histories.{row, unrecorded, IsAnswered, IsReadAfter}
 
@@ -24,14 +24,14 @@ abbrev pub has_row : Call → Bool
 has_row c = not (unrecorded c.1) && not (is_read c.0)
 
 -- a pass has seen what it is sure of, and its calls are counted
-pub record IsCounted (p : Known) : Type 0 where
+pub record IsCounted (p : PassKnowledge) : Type 0 where
   pub seen : IsPrefix p.caller.sure p.seen
   pub rows : rows_of p.caller.number p.caller.sure ≡ p.caller.calls
 
 -- an event was handed to a front through a pass. What is only read is answered after rows that begin with all that the pass had seen, and
 -- are what it has seen then, and else the pass is as it was; any other event has its row, which is the last of the sure rows, at any reply
 -- but 90 and 92: at 90 the pass is as it was, but that it may have stopped the front, and at 92 it knows that the front is stopped
-pub record IsTold (setup : Setup) (old : Known) (event : Event) (reply : Reply) (new : Known) : Type 0 where
+pub record IsTold (setup : Setup) (old : PassKnowledge) (event : Event) (reply : Reply) (new : PassKnowledge) : Type 0 where
   pub answered : has_row (event, reply) ≡ true → IsAnswered setup old event reply new
   pub read : is_read event ≡ true → unrecorded reply ≡ false → IsReadAfter setup old.caller.number new.seen event reply
   pub only_read : is_read event ≡ true → (new ≡ seeing old new.seen) × (reply ≢ Refused Stopped)

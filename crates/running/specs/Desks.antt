@@ -5,20 +5,20 @@ use Rattle.model.specs.Worlds.{Setup}
 use Rattle.model.specs.Goals.{Running}
 use Rattle.events.specs.declared.event.Event.{Event}
 use Rattle.events.specs.declared.reply.Reply.{Reply}
-use Rattle.history.specs.Callers.{Known, new_pass, below}
+use Rattle.history.specs.Callers.{PassKnowledge, new_pass, below}
 use Rattle.workers.specs.declared.runner.RunFault.{RunFault}
 use Rattle.workers.specs.declared.worker.Worker.{Worker}
 use Rattle.book.specs.Asking.{IsAskedBy}
 use Rattle.running.specs.Calling.{IsTold}
 use Rattle.running.specs.Meeting.{HasMet, IsNew, stops_by}
 use Rattle.running.specs.Teams.{TeamView, IsTeam, stops_in}
-use Rattle.running.specs.declared.sessions.Desk.{Desk}
+use Rattle.running.specs.declared.sessions.ServedSession.{ServedSession}
 use Rattle.running.specs.declared.sessions.Left.{Left}
 use Rattle.running.specs.declared.sessions.Part.{Part}
 use Rattle.running.specs.Sessions.{Outputs}
 
 -- these are the first of all passes, so many as they are, and none of them has made a call
-abbrev pub AreFirst : List Known → Type 0
+abbrev pub AreFirst : List PassKnowledge → Type 0
 AreFirst passes = passes ≡ map new_pass (below (length passes))
 
 module _ {I Q : Type 0} where
@@ -39,57 +39,57 @@ module _ {I Q : Type 0} where
 
   -- what a session is served with is what there is of its file, the pass of that number, which has made no call, and workers of whom no
   -- round was answered 90
-  abbrev pub IsDeskOf : ℕ → Part I Q → Desk Known Q I → Type 0
+  abbrev pub IsDeskOf : ℕ → Part I Q → ServedSession PassKnowledge Q I → Type 0
   IsDeskOf number part desk =
       (desk.bytes ≡ part.bytes) × (desk.reader ≡ part.reader) × (desk.store ≡ new_pass number) × (desk.team.has_met_memory ≡ false)
 
   -- one for each file, in their order, with the passes of these numbers
-  abbrev pub AreDesksOf : List ℕ → List (Part I Q) → List (Desk Known Q I) → Type 0
+  abbrev pub AreDesksOf : List ℕ → List (Part I Q) → List (ServedSession PassKnowledge Q I) → Type 0
   AreDesksOf [] [] [] = Unit {0}
   AreDesksOf (number ∷ numbers) (part ∷ parts) (desk ∷ desks) = IsDeskOf number part desk × AreDesksOf numbers parts desks
   AreDesksOf numbers parts desks = ⊥
 
 module _ {Q : Type 0} where
   -- the passes that a session leaves: its own, and those of its workers
-  abbrev pub passes_left : Left Known Q → List Known
+  abbrev pub passes_left : Left PassKnowledge Q → List PassKnowledge
   passes_left left = left.store ∷ map (λ w. w.store) left.team.workers
 
   -- those that all leave
-  abbrev pub all_passes : List (Left Known Q) → List Known
+  abbrev pub all_passes : List (Left PassKnowledge Q) → List PassKnowledge
   all_passes [] = []
   all_passes (left ∷ lefts) = passes_left left ++ all_passes lefts
 
   -- the numbers of the passes of workers
-  abbrev pub numbers_in : List (Worker Known Q) → List ℕ
+  abbrev pub numbers_in : List (Worker PassKnowledge Q) → List ℕ
   numbers_in workers = map (λ w. w.store.caller.number) workers
 
   -- those of the workers whom all leave
-  abbrev pub all_numbers : List (Left Known Q) → List ℕ
+  abbrev pub all_numbers : List (Left PassKnowledge Q) → List ℕ
   all_numbers [] = []
   all_numbers (left ∷ lefts) = numbers_in left.team.workers ++ all_numbers lefts
 
   -- how many calls of a session and of its workers stopped the store
-  abbrev pub stops_left : Left Known Q → ℕ
+  abbrev pub stops_left : Left PassKnowledge Q → ℕ
   stops_left left = left.store.stops + stops_in stops_by left.team.workers
 
   module _ (setup : Setup) (gives : Q → Running → Result (List ℕ) RunFault → Q → Type 0) where
     -- what is known of the workers of a session
-    abbrev pub IsPool : TeamView Known Q → Type 0
+    abbrev pub IsPool : TeamView PassKnowledge Q → Type 0
     IsPool = IsTeam (IsTold setup) (IsAskedBy setup) gives HasMet IsNew stops_by
 
     -- of those whom all leave
-    abbrev pub ArePools : List (Left Known Q) → Type 0
+    abbrev pub ArePools : List (Left PassKnowledge Q) → Type 0
     ArePools [] = Unit {0}
     ArePools (left ∷ lefts) = IsPool left.team × ArePools lefts
 
 -- each session leaves the output of its file, in their order
 module _ {S Q I : Type 0} (called : S → Event → Reply → S → Type 0) (met : S → S → Type 0) (stopped : S → Bool) (remaining : I → Option (List ℕ)) where
-  abbrev pub OutputOf : Desk S Q I → Left S Q → Type 0
+  abbrev pub OutputOf : ServedSession S Q I → Left S Q → Type 0
   OutputOf desk left =
       Outputs called met stopped (desk.store, desk.team.has_met_memory) (left.store, left.team.has_met_memory)
       (prepend_known desk.bytes.items (remaining desk.reader)) left.output
 
-  abbrev pub AllOutputs : List (Desk S Q I) → List (Left S Q) → Type 0
+  abbrev pub AllOutputs : List (ServedSession S Q I) → List (Left S Q) → Type 0
   AllOutputs [] [] = Unit {0}
   AllOutputs (desk ∷ desks) (left ∷ lefts) = OutputOf desk left × AllOutputs desks lefts
   AllOutputs desks lefts = ⊥

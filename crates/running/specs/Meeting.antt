@@ -11,33 +11,33 @@ use Rattle.model.proofs.BoolLemmas.{either}
 use Rattle.events.specs.declared.event.Event.{Event}
 use Rattle.events.specs.declared.reply.Reply.{Reply}
 use Rattle.events.specs.declared.reply.Reply.TheVariants.{Refused}
-use Rattle.history.specs.Callers.{Caller, Known, knowing, told_stopped, new_pass}
+use Rattle.history.specs.Callers.{Caller, PassKnowledge, knowing, told_stopped, new_pass}
 use Rattle.history.specs.Histories.{unrecorded}
 use Rattle.history.proofs.Prefixes.{prefix_self, prefix_trans}
 use Rattle.book.specs.Asking.{IsAskedBy}
 use Rattle.running.specs.Calling.{is_read, IsTold}
 
 -- a pass met others, or none: of its own calls it knows what it knew, but that the front may be stopped, and it has seen what it had seen
-pub record HasMet (old new : Known) : Type 0 where
+pub record HasMet (old new : PassKnowledge) : Type 0 where
   pub caller : new.caller ≡ knowing new.caller.stopped old.caller
   pub remains : old.caller.stopped ≡ true → new.caller.stopped ≡ true
   pub seen : IsPrefix old.seen new.seen
   pub stops : new.stops ≡ old.stops
 
 -- a pass that has made no call, and seen nothing
-abbrev pub IsNew : Known → Type 0
+abbrev pub IsNew : PassKnowledge → Type 0
 IsNew p = p ≡ new_pass p.caller.number
 
 -- a pass has seen all rows that another one is sure of
-abbrev pub HasSeen : Known → Known → Type 0
+abbrev pub HasSeen : PassKnowledge → PassKnowledge → Type 0
 HasSeen pass other = IsPrefix other.caller.sure pass.seen
 
 -- ---- what follows
 
-pub met_none : (p : Known) → HasMet p p
+pub met_none : (p : PassKnowledge) → HasMet p p
 met_none p = record { caller = refl; remains = λ is. is; seen = prefix_self p.seen; stops = refl }
 
-pub met_more : (p q r : Known) → HasMet p q → HasMet q r → HasMet p r
+pub met_more : (p q r : PassKnowledge) → HasMet p q → HasMet q r → HasMet p r
 met_more p q r first next = record {
   caller = next.caller ∙ ap (λ (c : Caller). knowing r.caller.stopped c) first.caller;
   remains = λ is. next.remains (first.remains is);
@@ -46,26 +46,26 @@ met_more p q r first next = record {
 }
 
 -- who asks for a job adds no row, as who meets others
-pub met_asking : (setup : Setup) (p q : Known) (user : List ℕ) (number : ℕ) (told : Result Running Refusal) → IsAskedBy setup p user number told q → HasMet p q
+pub met_asking : (setup : Setup) (p q : PassKnowledge) (user : List ℕ) (number : ℕ) (told : Result Running Refusal) → IsAskedBy setup p user number told q → HasMet p q
 met_asking setup p q user number told asked = elim (either (is_told_stopped told)) [
   | inl stops ↦
       let same = asked.stopped (stopped_if told stops) in
-      let caller : q.caller ≡ told_stopped p.caller = ap (λ (k : Known). k.caller) same in
+      let caller : q.caller ≡ told_stopped p.caller = ap (λ (k : PassKnowledge). k.caller) same in
       let knows : q.caller.stopped ≡ true = ap (λ (c : Caller). c.stopped) caller in
       record {
         caller = caller ∙ ap (λ b. knowing b p.caller) (sym knows);
         remains = λ _. knows;
         seen = asked.seen;
-        stops = ap (λ (k : Known). k.stops) same;
+        stops = ap (λ (k : PassKnowledge). k.stops) same;
       }
   | inr goes ↦
       let same = asked.going (λ is. true≢false (sym (ap is_told_stopped is) ∙ goes)) in
-      let caller : q.caller ≡ p.caller = ap (λ (k : Known). k.caller) same in
+      let caller : q.caller ≡ p.caller = ap (λ (k : PassKnowledge). k.caller) same in
       record {
         caller = caller ∙ ap (λ b. knowing b p.caller) (sym (ap (λ (c : Caller). c.stopped) caller));
         remains = λ is. ap (λ (c : Caller). c.stopped) caller ∙ is;
         seen = asked.seen;
-        stops = ap (λ (k : Known). k.stops) same;
+        stops = ap (λ (k : PassKnowledge). k.stops) same;
       }
 ]
   where
@@ -81,10 +81,10 @@ met_asking setup p q user number told asked = elim (either (is_told_stopped told
 
 -- of what it has seen nothing is lost
 
-pub seen_met : (p q other : Known) → HasMet p q → HasSeen p other → HasSeen q other
+pub seen_met : (p q other : PassKnowledge) → HasMet p q → HasSeen p other → HasSeen q other
 seen_met p q other met has = prefix_trans other.caller.sure p.seen q.seen has met.seen
 
-pub seen_told : (setup : Setup) (p q other : Known) (event : Event) (reply : Reply) → IsTold setup p event reply q → HasSeen p other → HasSeen q other
+pub seen_told : (setup : Setup) (p q other : PassKnowledge) (event : Event) (reply : Reply) → IsTold setup p event reply q → HasSeen p other → HasSeen q other
 seen_told setup p q other event reply told has = prefix_trans other.caller.sure p.seen q.seen has told.seen
 
 -- ---- where the front was stopped
@@ -100,23 +100,23 @@ unrecorded_cases (Refused why) gave = refusal_cases why gave
 unrecorded_cases reply gave = absurd (cc)
 
 -- whether a pass was told that the front is stopped
-abbrev pub is_stopped : Known → Bool
+abbrev pub is_stopped : PassKnowledge → Bool
 is_stopped p = p.caller.stopped
 
-pub stopped_met : (p q : Known) → HasMet p q → is_stopped p ≡ true → is_stopped q ≡ true
+pub stopped_met : (p q : PassKnowledge) → HasMet p q → is_stopped p ≡ true → is_stopped q ≡ true
 stopped_met p q met is = met.remains is
 
-pub stopped_told : (setup : Setup) (p q : Known) (event : Event) → IsTold setup p event (Refused Stopped) q → is_stopped q ≡ true
+pub stopped_told : (setup : Setup) (p q : PassKnowledge) (event : Event) → IsTold setup p event (Refused Stopped) q → is_stopped q ≡ true
 stopped_told setup p q event told = ap (λ (c : Caller). c.stopped) (told.stopped refl)
 
-pub stopped_called : (setup : Setup) (p q : Known) (event : Event) (reply : Reply) → IsTold setup p event reply q → is_stopped p ≡ true → is_stopped q ≡ true
+pub stopped_called : (setup : Setup) (p q : PassKnowledge) (event : Event) (reply : Reply) → IsTold setup p event reply q → is_stopped p ≡ true → is_stopped q ≡ true
 stopped_called setup p q event reply told is = elim (either (unrecorded reply)) [
   | inl gave ↦ elim (unrecorded_cases reply gave) [
     | inl memory ↦ ap (λ (c : Caller). c.stopped) (told.memory memory) ∙ is
     | inr stopped ↦ ap (λ (c : Caller). c.stopped) (told.stopped stopped)
   ]
   | inr some ↦ elim (either (is_read event)) [
-    | inl read ↦ ap (λ (k : Known). k.caller.stopped) (told.only_read read).0 ∙ is
+    | inl read ↦ ap (λ (k : PassKnowledge). k.caller.stopped) (told.only_read read).0 ∙ is
     | inr called ↦ ap (λ (c : Caller). c.stopped) (told.answered (rw (some, called) refl)).sure ∙ is
   ]
 ]
@@ -124,14 +124,14 @@ stopped_called setup p q event reply told is = elim (either (unrecorded reply)) 
 -- ---- which calls stopped the front
 
 -- how many calls of a pass did
-abbrev pub stops_by : Known → ℕ
+abbrev pub stops_by : PassKnowledge → ℕ
 stops_by p = p.stops
 
-pub stops_met : (p q : Known) → HasMet p q → stops_by q ≡ stops_by p
+pub stops_met : (p q : PassKnowledge) → HasMet p q → stops_by q ≡ stops_by p
 stops_met p q met = met.stops
 
-pub stops_called : (setup : Setup) (p q : Known) (event : Event) (reply : Reply) → IsTold setup p event reply q → reply ≢ Refused Memory → stops_by q ≡ stops_by p
+pub stops_called : (setup : Setup) (p q : PassKnowledge) (event : Event) (reply : Reply) → IsTold setup p event reply q → reply ≢ Refused Memory → stops_by q ≡ stops_by p
 stops_called setup p q event reply told other = told.no_stop other
 
-pub stops_new : (p : Known) → IsNew p → stops_by p ≡ 0
-stops_new p new = ap (λ (k : Known). k.stops) new
+pub stops_new : (p : PassKnowledge) → IsNew p → stops_by p ≡ 0
+stops_new p new = ap (λ (k : PassKnowledge). k.stops) new

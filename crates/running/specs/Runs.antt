@@ -16,7 +16,7 @@ use Rattle.events.specs.declared.event.Event.{Event}
 use Rattle.events.specs.declared.reply.Reply.{Reply}
 use Rattle.events.specs.Terms.{event_of, reply_of}
 use Rattle.history.specs.declared.row.Row.{Row}
-use Rattle.history.specs.Callers.{Known, new_pass, rows_of, stops_of}
+use Rattle.history.specs.Callers.{PassKnowledge, new_pass, rows_of, stops_of}
 use Rattle.history.specs.Histories.{IsLegal}
 use Rattle.book.specs.declared.closed_history.History.{History}
 use Rattle.book.specs.Closing.{rows_in}
@@ -25,7 +25,7 @@ use Rattle.workers.specs.declared.ticket.Ticket.{Ticket}
 use Rattle.workers.specs.declared.worker.Worker.{Worker}
 use Rattle.workers.specs.Working.{Call}
 use Rattle.session.specs.Serving.{HasRefused}
-use Rattle.running.specs.declared.sessions.Output.{Output}
+use Rattle.running.specs.declared.sessions.SessionOutput.{SessionOutput}
 use Rattle.running.specs.declared.sessions.Part.{Part}
 use Rattle.book.specs.Asking.{IsAskedBy}
 use Rattle.running.specs.Calling.{Stand, IsTold}
@@ -38,7 +38,7 @@ use Rattle.running.specs.declared.runs.Results.{Results}
 
 -- these are the calls that lines of these rows make, in their order: the event of a line with the reply that is printed for it, and
 -- for a wait events that ask how far its goals are
-abbrev pub Makes : List talk.Row → List Call → Type 0
+abbrev pub Makes : List talk.LineRow → List Call → Type 0
 Makes [] calls = calls ≡ []
 Makes (talk.Asks event reply ∷ rows) calls =
     (asked : Event) × (told : Reply) × (rest : List Call)
@@ -48,19 +48,19 @@ Makes (talk.Waits goals reply ∷ rows) calls =
 Makes (row ∷ rows) calls = Makes rows calls
 
 -- whether a line was told one of some refusals
-abbrev pub is_told : (Refusal → Bool) → talk.Row → Bool
+abbrev pub is_told : (Refusal → Bool) → talk.LineRow → Bool
 is_told which (talk.Asks event reply) = is_refusal which reply
 is_told which (talk.Waits goals reply) = is_refusal which reply
 is_told which row = false
 
 -- whether one of them was
-abbrev pub tell : (Refusal → Bool) → List talk.Row → Bool
+abbrev pub tell : (Refusal → Bool) → List talk.LineRow → Bool
 tell which [] = false
 tell which (row ∷ rows) = is_told which row || tell which rows
 
 -- the calls of these lines stand in the history of a store under the pass of a number. Where a line was told 92 the store was stopped; and
 -- where calls of these lines or of those who built for them stopped it, so many as are said, a line was told 90
-pub record LinesStand (setup : Setup) (history : History) (number stops : ℕ) (rows : List talk.Row) : Type 0 where
+pub record LinesStand (setup : Setup) (history : History) (number stops : ℕ) (rows : List talk.LineRow) : Type 0 where
   pub calls : List Call
   pub makes : Makes rows calls
   pub stand : Stand setup (rows_in history) number calls
@@ -73,7 +73,7 @@ pub record Ran (setup : Setup) (history : History) (number stops : ℕ) (start :
   pub end : Option (List ℕ)
   pub read : Consumes start end input
   pub ended : IsAtEnd end
-  pub rows : List talk.Row
+  pub rows : List talk.LineRow
   pub talks : Talks (fresh Run) (lines_of input) rows
   pub going : (after_all (fresh Run) rows).refused ≡ false
   pub text : Appends (Some []) (Some printed) (text_from 1 rows)
@@ -85,7 +85,7 @@ pub record RanInPart (setup : Setup) (history : History) (number stops : ℕ) (s
   pub input : List ℕ
   pub end : Option (List ℕ)
   pub read : Consumes start end input
-  pub rows : List talk.Row
+  pub rows : List talk.LineRow
   pub done : List (List ℕ)
   pub cut : (more : List ℕ) → (IsAtEnd end → more ≡ []) → IsPrefix done (lines_of (input ++ more))
   pub talks : Talks (fresh Run) done rows
@@ -98,14 +98,14 @@ pub record RanInPart (setup : Setup) (history : History) (number stops : ℕ) (s
 
 module _ {I Q : Type 0} (setup : Setup) (remaining : I → Option (List ℕ)) (history : History) where
   -- the output of a file: what was read of it, and then what its reader gave, was run, or the first lines of it were
-  abbrev pub IsOutputOf : ℕ → ℕ → Part I Q → Output → Type 0
+  abbrev pub IsOutputOf : ℕ → ℕ → Part I Q → SessionOutput → Type 0
   IsOutputOf number stops part output =
       let start = prepend_known part.bytes.items (remaining part.reader) in
       MatchResult output.ended (λ _. Ran setup history number stops start output.text.items)
       (RanInPart setup history number stops start output.text.items)
 
   -- each file has its output, in their order, under the passes of these numbers; and so many calls of each stopped the store
-  abbrev pub AreOutputs : List ℕ → List ℕ → List (Part I Q) → List Output → Type 0
+  abbrev pub AreOutputs : List ℕ → List ℕ → List (Part I Q) → List SessionOutput → Type 0
   AreOutputs [] [] [] [] = Unit {0}
   AreOutputs (number ∷ numbers) (own ∷ stops) (part ∷ parts) (output ∷ outputs) =
       IsOutputOf number own part output × AreOutputs numbers stops parts outputs
@@ -117,9 +117,9 @@ module _ {Q : Type 0} (setup : Setup) (gives : Q → Running → Result (List �
   -- a worker with the pass of a number did nothing but work on tickets, in rounds, and its calls stand in the history: it plans a goal, starts
   -- it, asks what the job that it leads is built from, has that built once by its runner, and ends the job with what this gave
   pub record WorkerStands (number : ℕ) : Type 0 where
-    pub first : Worker Known Q
+    pub first : Worker PassKnowledge Q
     pub new : first.store ≡ new_pass number
-    pub last : Worker Known Q
+    pub last : Worker PassKnowledge Q
     pub rounds : List (List Ticket)
     pub calls : List Call
     pub works : WorksInRounds (IsTold setup) (IsAskedBy setup) gives HasMet first rounds calls last
@@ -140,7 +140,7 @@ are_accounted sessions workers rows = list_all (is_accounted sessions workers) r
 -- ---- all files
 
 -- what a front says in its history, when it is closed, of a pass that was given back
-pub record IsGivenBack (history : History) (pass : Known) : Type 0 where
+pub record IsGivenBack (history : History) (pass : PassKnowledge) : Type 0 where
   pub sure : IsPrefix pass.caller.sure (rows_in history)
   pub seen : IsPrefix pass.seen (rows_in history)
   pub each : rows_of pass.caller.number (rows_in history) ≡ pass.caller.calls
@@ -149,7 +149,7 @@ pub record IsGivenBack (history : History) (pass : Known) : Type 0 where
 module _ {I Q : Type 0} (setup : Setup) (gives : Q → Running → Result (List ℕ) RunFault → Q → Type 0) (remaining : I → Option (List ℕ)) where
   -- the sessions of files, of the passes of these numbers, were served: whatever the history is when all passes were given back, each file has
   -- its output in it, and each worker stands in it
-  pub record AreServed (numbers : List ℕ) (parts : List (Part I Q)) (sessions workers : List ℕ) (passes : List Known) (outputs : List Output) : Type 0 where
+  pub record AreServed (numbers : List ℕ) (parts : List (Part I Q)) (sessions workers : List ℕ) (passes : List PassKnowledge) (outputs : List SessionOutput) : Type 0 where
     pub named : sessions ≡ numbers
     pub stops : List ℕ
     pub all : sum stops ≡ sum_by stops_by passes
@@ -171,7 +171,7 @@ module _ {I Q : Type 0} (setup : Setup) (gives : Q → Running → Result (List 
     pub asked : are_asked (session_passes (passes_needed parts) parts) (rows_in results.history) ≡ true
 
 -- a front was closed with these passes, of which these are the sessions' and those the workers', who went on with goals of their own files
-pub record IsClosed (setup : Setup) (sessions workers : List ℕ) (passes : List Known) (history : History) : Type 0 where
+pub record IsClosed (setup : Setup) (sessions workers : List ℕ) (passes : List PassKnowledge) (history : History) : Type 0 where
   pub legal : IsLegal setup (rows_in history)
   pub back : All (IsGivenBack history) passes
   pub stopped : sum_by stops_by passes ≡ stops_of history.stopped

@@ -16,7 +16,7 @@ use Rattle.workers.specs.declared.ticket.Ticket.{Ticket}
 use Rattle.workers.specs.declared.ticket.Ticket.TheVariants.{Goal}
 use Rattle.workers.specs.Working.{Call, asking}
 use Rattle.session.specs.Serving.{Link, Finished, EndedEarly}
-use Rattle.running.specs.declared.sessions.Output.{Output}
+use Rattle.running.specs.declared.sessions.SessionOutput.{SessionOutput}
 use Rattle.running.specs.Teams.{TeamView}
 
 -- ---- one store
@@ -96,6 +96,6 @@ module _ {S : Type 0} (called : S → Event → Reply → S → Type 0) (met : S
     pub by : EndsBy why
 
   -- the session of an input has this output, and is as the last one then
-  abbrev pub Outputs : S × Bool → S × Bool → Option (List ℕ) → Output → Type 0
+  abbrev pub Outputs : S × Bool → S × Bool → Option (List ℕ) → SessionOutput → Type 0
   Outputs first last start output =
       MatchResult output.ended (λ _. Served first last start output.text.items) (ServedInPart first last start output.text.items)

@@ -8,7 +8,7 @@ ghost use Rattle.running.specs.Meeting.{IsNew};
 ghost use Rattle.running.specs.Teams.{AllNew};
 ghost use Rattle.running.specs.Desks.{AreFirst, IsDeskOf, AreDesksOf, IsPool, ArePools, session_passes, passes_for as needed_for, passes_left, all_passes, numbers_in, all_numbers};
 
-use crate::sessions::{Desk, Left, Output, Part};
+use crate::sessions::{ServedSession, Left, SessionOutput, Part};
 use crate::shared::SharedStore;
 use crate::teams::Team;
 use book::{Front, FrontId, Pass};
@@ -21,7 +21,7 @@ use workers::{Runner, Worker};
 type SharedWorker<'a, J, R, Q> = Worker<SharedStore<'a, J, R>, Q>;
 
 /// The desk of such a session.
-pub(crate) type SharedDesk<'a, J, R, Q, I> = Desk<SharedStore<'a, J, R>, Q, I>;
+pub(crate) type SharedSession<'a, J, R, Q, I> = ServedSession<SharedStore<'a, J, R>, Q, I>;
 
 /// What such a session leaves.
 pub(crate) type SharedLeft<'a, J, R, Q> = Left<SharedStore<'a, J, R>, Q>;
@@ -77,7 +77,7 @@ fn desk_for<'a, J: FrontId, R: Wait, Q: Runner + Drop, I: Drop>(
     front: &'a Front<J>,
     passes: &mut Vec<Pass<J>>,
     part: Part<I, Q>,
-) -> Result<SharedDesk<'a, J, R, Q, I>, Refusal>
+) -> Result<SharedSession<'a, J, R, Q, I>, Refusal>
     requires { AreFirst passes.old.items }
     ensures desk { IfOk result (IsDeskOf (length passes.new.items) part) }
     ensures count { IfOk result (λ _. length passes.old.items
@@ -93,7 +93,7 @@ fn desk_for<'a, J: FrontId, R: Wait, Q: Runner + Drop, I: Drop>(
     } = part;
     let workers = workers_with(rt, alloc, front, passes, runners)?;
     let own = next_pass(passes)?;
-    Ok(Desk {
+    Ok(ServedSession {
         store: SharedStore {
             rt,
             front,
@@ -113,7 +113,7 @@ pub(crate) fn desks_for<'a, J: FrontId, R: Wait, Q: Runner + Drop, I: Drop>(
     front: &'a Front<J>,
     passes: Vec<Pass<J>>,
     parts: Vec<Part<I, Q>>,
-) -> Result<Vec<SharedDesk<'a, J, R, Q, I>>, Refusal>
+) -> Result<Vec<SharedSession<'a, J, R, Q, I>>, Refusal>
     requires { AreFirst passes.items }
     ensures desks { IfOk result (λ desks. AreDesksOf
         (session_passes (length passes.items) parts.items) parts.items desks.items) }
@@ -131,7 +131,7 @@ pub(crate) fn desks_for<'a, J: FrontId, R: Wait, Q: Runner + Drop, I: Drop>(
 #[derive(Drop)]
 pub(crate) struct Back<J: FrontId> {
     /// What each file gave, in their order.
-    pub(crate) outputs: Vec<Output>,
+    pub(crate) outputs: Vec<SessionOutput>,
     /// The passes of the sessions and of their workers.
     pub(crate) passes: Vec<Pass<J>>,
     /// The numbers of the passes of the workers.
@@ -201,7 +201,7 @@ pub(crate) fn end_sessions<J: FrontId, R: Wait, Q: Runner + Drop>(
 /// The numbers of the passes of sessions.
 pub(crate) fn numbers_of<J: FrontId, R: Wait, Q: Runner + Drop, I: Drop>(
     alloc: Global,
-    desks: &[SharedDesk<'_, J, R, Q, I>],
+    desks: &[SharedSession<'_, J, R, Q, I>],
 ) -> Result<Vec<u64>, AllocError>
     ensures { IfOk result (λ numbers. numbers.items ≡ map (λ desk. desk.store.caller.number) desks.now) }
 {

@@ -14,9 +14,9 @@ ghost use Rattle.running.specs.Desks.{AreFirst, AllOutputs, passes_needed, sessi
 ghost use Rattle.running.specs.Runs.{AreServed, IsClosed, AreResults, are_accounted};
 
 use crate::asked::are_asked;
-use crate::pass_lists::{Back, SharedDesk, SharedLeft, desks_for, end_sessions, numbers_of};
+use crate::pass_lists::{Back, SharedSession, SharedLeft, desks_for, end_sessions, numbers_of};
 use crate::rounds::Rounds;
-use crate::sessions::{Output, Part, all_at_once};
+use crate::sessions::{SessionOutput, Part, all_at_once};
 use book::{Front, FrontId, FrontTokens, History, Pass, Row};
 use model::Refusal;
 use schedule::{Core, Limits, User};
@@ -33,7 +33,7 @@ use workers::Runner;
 #[derive(Drop)]
 pub struct Results {
     /// What each file gave, in their order.
-    pub outputs: Vec<Output>,
+    pub outputs: Vec<SessionOutput>,
     /// The history of the store that they shared.
     pub history: History,
 }
@@ -74,7 +74,7 @@ fn serve_all<
 >(
     rt: &R,
     alloc: Global,
-    desks: Vec<SharedDesk<'a, J, R, Q, I>>,
+    desks: Vec<SharedSession<'a, J, R, Q, I>>,
 ) -> Result<Vec<SharedLeft<'a, J, R, Q>>, Refusal>
     ensures outputs { IfOk result (λ lefts. AllOutputs (IsTold J.setup) HasMet is_stopped I.remaining desks.entry.items lefts.items) }
     ensures memory { IfErr result (λ why. why ≡ Memory) }

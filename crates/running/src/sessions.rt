@@ -36,7 +36,7 @@ pub struct Part<I: Drop, Q: Drop> {
 
 /// What the lines of a file gave.
 #[derive(Drop)]
-pub struct Output {
+pub struct SessionOutput {
     /// What is printed for them.
     pub text: Vec<u8>,
     /// How they ended.
@@ -45,7 +45,7 @@ pub struct Output {
 
 /// A session that is to be served: the store that answers it, and the workers that build for it.
 #[derive(Drop)]
-pub(crate) struct Desk<S: Meet + Drop, Q: Runner + Drop, I: Drop> {
+pub(crate) struct ServedSession<S: Meet + Drop, Q: Runner + Drop, I: Drop> {
     /// What answers.
     pub(crate) store: S,
     /// Who builds.
@@ -61,7 +61,7 @@ pub(crate) struct Desk<S: Meet + Drop, Q: Runner + Drop, I: Drop> {
 #[derive(Drop)]
 pub(crate) struct Left<S: Meet + Drop, Q: Runner + Drop> {
     /// What its lines gave.
-    pub(crate) output: Output,
+    pub(crate) output: SessionOutput,
     /// What answered.
     pub(crate) store: S,
     /// Who built.
@@ -84,7 +84,7 @@ fn serve_lines<S: Meet + Drop, Q: Runner + Drop, I: Read + Faults + Drop, R: Wai
     bytes: Vec<u8>,
     reader: I,
     building_session: &mut BuildingSession<'_, S, Q, R>,
-) -> Output
+) -> SessionOutput
     ensures { Outputs S.called S.met S.stopped building_session.old building_session.new
         (prepend_known bytes.items (I.remaining reader)) result }
 {
@@ -98,17 +98,17 @@ fn serve_lines<S: Meet + Drop, Q: Runner + Drop, I: Read + Faults + Drop, R: Wai
         &mut writer,
         building_session,
     );
-    Output {
+    SessionOutput {
         text: writer.into_inner(),
         ended: kept_end(ended),
     }
 }
 
 /// What a file gave whose session could not begin for want of memory.
-fn nothing_served(alloc: Global) -> Output
+fn nothing_served(alloc: Global) -> SessionOutput
     ensures { (result.text.items ≡ []) × (result.ended ≡ Err Memory) }
 {
-    Output {
+    SessionOutput {
         text: Vec::new(alloc),
         ended: Err(Refusal::Memory),
     }
@@ -120,10 +120,10 @@ fn serve_beside<
     Q: Runner + Send + Drop,
     I: Read + Faults + Send + Drop,
     R: Threads + Wait + Sync,
->(rt: &R, alloc: Global, rounds: &Rounds, desk: Desk<S, Q, I>) -> Left<S, Q>
+>(rt: &R, alloc: Global, rounds: &Rounds, desk: ServedSession<S, Q, I>) -> Left<S, Q>
     ensures { OutputOf S.called S.met S.stopped I.remaining desk result }
 {
-    let Desk {
+    let ServedSession {
         store,
         team,
         bytes,
@@ -170,12 +170,12 @@ pub(crate) fn all_at_once<
     rt: &R,
     alloc: Global,
     rounds: &Rounds,
-    desks: Vec<Desk<S, Q, I>>,
+    desks: Vec<ServedSession<S, Q, I>>,
 ) -> Result<Vec<Left<S, Q>>, Refusal>
     ensures outputs { IfOk result (λ lefts. AllOutputs S.called S.met S.stopped I.remaining desks.items lefts.items) }
     ensures memory { IfErr result (λ why. why ≡ Memory) }
 {
-    let serve = |desk: Desk<S, Q, I>| -> Left<S, Q>
+    let serve = |desk: ServedSession<S, Q, I>| -> Left<S, Q>
         ensures { OutputOf S.called S.met S.stopped I.remaining desk result }
     { serve_beside(rt, alloc, rounds, desk) };
     Ok(thread::map_vec(rt, desks, &serve)?)

@@ -32,9 +32,9 @@ pub(crate) struct SharedStore<'a, J: FrontId, R: Wait> {
 impl<'a, J: FrontId, R: Wait> Model for SharedStore<'a, J, R> {
     ghost use Rattle.std.specs.Coded.{codes};
     ghost use Rattle.model.specs.TreeCode.{tree_code};
-    ghost use Rattle.history.specs.Callers.{Known};
+    ghost use Rattle.history.specs.Callers.{PassKnowledge};
 
-    ghost Value = { Known };
+    ghost Value = { PassKnowledge };
 
     ghost coded = { Prim.hlevel (codes, tree_code) };
 

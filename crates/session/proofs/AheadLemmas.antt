@@ -4,14 +4,14 @@ use Rattle.std.proofs.lemmas.List.{append-nil}
 use Rattle.model.specs.declared.mode.Mode.{Mode}
 use Rattle.model.specs.Lines.{lines_of}
 use Rattle.model.specs.Forms.{longest_line}
-use Rattle.model.specs.Talk.{Row, Silent, Names, Refuses, Asks, Waits, Seen, fresh, GetsNext, seen_after, after_all, users_in}
+use Rattle.model.specs.Talk.{LineRow, Silent, Names, Refuses, Asks, Waits, Seen, fresh, GetsNext, seen_after, after_all, users_in}
 use Rattle.session.specs.Serving.{HasNoNewline, HoldsMore}
 use Rattle.session.specs.Ahead.{Searched, LooksAhead}
 use Rattle.session.proofs.LineLemmas.{nothing-held, lines-last}
 use Rattle.session.proofs.WholeLinesLemmas.{no_lines, line-grown, ended-cut, held-gets, ended-talks, line-ended, seen-more, refused-same}
 
 -- the users that more rows name
-pub users_in-more : (rows : List Row) (row : Row) → users_in rows ≡ None → users_in (rows ++ row ∷ []) ≡ users_in (row ∷ [])
+pub users_in-more : (rows : List LineRow) (row : LineRow) → users_in rows ≡ None → users_in (rows ++ row ∷ []) ≡ users_in (row ∷ [])
 users_in-more [] row e = refl
 users_in-more (Silent ∷ rows) row e = users_in-more rows row e
 users_in-more (Names users ∷ rows) row e = cc
@@ -34,7 +34,7 @@ searched-held {mode} input seen held bytes held' p w h = record {
   seen_is = p.seen_is;
 }
 
-pub searched-line : {mode : Mode} (input : List ℕ) (seen next : Seen) (held : List ℕ) (row : Row) → Searched mode input seen held → GetsNext seen held row
+pub searched-line : {mode : Mode} (input : List ℕ) (seen next : Seen) (held : List ℕ) (row : LineRow) → Searched mode input seen held → GetsNext seen held row
     → next ≡ seen_after seen row → users_in (row ∷ []) ≡ None → next.refused ≡ seen.refused → Searched mode (input ++ 10 ∷ []) next []
 searched-line {mode} input seen next held row p g s n f =
     let rows = p.so_far.rows in
@@ -52,7 +52,7 @@ searched-line {mode} input seen next held row p g s n f =
     }
 
 -- the line that is held ends the search
-pub found-line : {mode : Mode} (input : List ℕ) (seen : Seen) (held : List ℕ) (row : Row) (users : Option (List (List ℕ))) (more : List ℕ)
+pub found-line : {mode : Mode} (input : List ℕ) (seen : Seen) (held : List ℕ) (row : LineRow) (users : Option (List (List ℕ))) (more : List ℕ)
     → Searched mode input seen held → GetsNext seen held row → users_in (row ∷ []) ≡ users → (users ≡ None → (seen_after seen row).refused ≡ true)
     → LooksAhead mode (input ++ 10 ∷ more) users
 found-line {mode} input seen held row users more p g n f =
@@ -88,7 +88,7 @@ last_line [] w h = absurd (omega arith)
 last_line (b ∷ partial) w h = ap lines_of (append-nil (b ∷ partial)) ∙ lines-last b partial w
 
 -- or with a last line
-pub found-last : {mode : Mode} (input : List ℕ) (seen : Seen) (held : List ℕ) (row : Row) (users : Option (List (List ℕ))) → 0 < length held
+pub found-last : {mode : Mode} (input : List ℕ) (seen : Seen) (held : List ℕ) (row : LineRow) (users : Option (List (List ℕ))) → 0 < length held
     → Searched mode input seen held → GetsNext seen held row → users_in (row ∷ []) ≡ users → LooksAhead mode input users
 found-last {mode} input seen held row users h p g n =
     let l = p.so_far.lines in

@@ -8,7 +8,7 @@ use Rattle.model.specs.Worlds.{Job, are_users}
 use Rattle.model.specs.Lines.{LineResult, split, filled}
 use Rattle.model.specs.Forms.{Form, names_form, users_form, text_form, line_form, is_empty_word, is_quiet, is_printable, longest_line}
 use Rattle.model.specs.Forms as form
-use Rattle.model.specs.Talk.{Row, Silent, Names, Refuses, Asks, Waits, Seen, form_of, Gets, GetsNext}
+use Rattle.model.specs.Talk.{LineRow, Silent, Names, Refuses, Asks, Waits, Seen, form_of, Gets, GetsNext}
 use Rattle.session.specs.Heads.{Idle}
 
 -- a form of a line that asks nobody
@@ -42,7 +42,7 @@ quiet_line mode told line =
     (quiet_if (is_quiet line) form.Silent printable tt
     (quiet_if (not (list_all is_printable line)) (form.Refuses BadLine) text tt (quiet_text mode (filled told line))))
 
-quiet_row : (goals : List Job) (f : Form) (row : Row) → IsQuiet f → Gets goals f row → Idle tt row tt
+quiet_row : (goals : List Job) (f : Form) (row : LineRow) → IsQuiet f → Gets goals f row → Idle tt row tt
 quiet_row goals f Silent q g = tt
 quiet_row goals f (Names users) q g = tt
 quiet_row goals f (Refuses why) q g = tt
@@ -54,5 +54,5 @@ quiet_row goals form.Waits (Waits awaited reply) q g = absurd q
 quiet_row goals f (Waits awaited reply) q g = absurd g
 
 -- the row of such a line
-pub quiet : (seen : Seen) (line : List ℕ) (row : Row) → seen.begun ≡ false → GetsNext seen line row → Idle tt row tt
+pub quiet : (seen : Seen) (line : List ℕ) (row : LineRow) → seen.begun ≡ false → GetsNext seen line row → Idle tt row tt
 quiet seen line row b g = quiet_row seen.goals (form_of seen line) row (rw b (quiet_line seen.mode seen.told line)) g

@@ -7,7 +7,7 @@ use Rattle.model.specs.Events as events
 use Rattle.model.specs.Replies as replies
 use Rattle.model.specs.Worlds.{Job}
 use Rattle.model.specs.Forms.{Form}
-use Rattle.model.specs.Talk.{Row, Silent, Names, Refuses, Asks, Waits, Seen, fresh, form_of, Gets, GetsNext, seen_after, after_all, users_in}
+use Rattle.model.specs.Talk.{LineRow, Silent, Names, Refuses, Asks, Waits, Seen, fresh, form_of, Gets, GetsNext, seen_after, after_all, users_in}
 use Rattle.std.specs.Global.{Vec}
 use Rattle.lines.specs.declared.line.Reading.{Reading}
 use Rattle.lines.specs.declared.line.Reading.TheVariants as reading
@@ -24,28 +24,28 @@ use Rattle.session.proofs.EarlyLemmas.{quiet}
 -- ---- rows before the users are named
 
 -- what a line gives asks nobody, whoever was there to be asked
-pub idle-gives : {A : Type 0} (L : A → Row → A → Type 0) (seen seen' : Seen) (line : List ℕ) (now next : A) (text : List ℕ) → seen.begun ≡ false
+pub idle-gives : {A : Type 0} (L : A → LineRow → A → Type 0) (seen seen' : Seen) (line : List ℕ) (now next : A) (text : List ℕ) → seen.begun ≡ false
     → Gives (GetsNext seen line) L seen seen' now next text → Gives (GetsNext seen line) Idle seen seen' tt tt text
 idle-gives L seen seen' line now next text b w = (w.0, w.1, w.2, w.3, quiet seen line w.0 b w.1)
 
-pub idle-stops : {A : Type 0} (L : A → Row → A → Type 0) (seen : Seen) (line : List ℕ) (now next : A) → seen.begun ≡ false
+pub idle-stops : {A : Type 0} (L : A → LineRow → A → Type 0) (seen : Seen) (line : List ℕ) (now next : A) → seen.begun ≡ false
     → StopsAt (GetsNext seen line) L now next → StopsAt (GetsNext seen line) Idle tt tt
 idle-stops L seen line now next b d = elim d [ inl e ↦ inl refl | inr w ↦ inr (w.0, w.1, quiet seen line w.0 b w.1) ]
 
 -- ---- nobody is named yet
 
-begun-stays : (seen : Seen) (row : Row) → seen.begun ≡ true → (seen_after seen row).begun ≡ true
+begun-stays : (seen : Seen) (row : LineRow) → seen.begun ≡ true → (seen_after seen row).begun ≡ true
 begun-stays seen Silent b = b
 begun-stays seen (Names users) b = refl
 begun-stays seen (Refuses why) b = b
 begun-stays seen (Asks event reply) b = b
 begun-stays seen (Waits goals reply) b = b
 
-begun-all : (seen : Seen) (rows : List Row) → seen.begun ≡ true → (after_all seen rows).begun ≡ true
+begun-all : (seen : Seen) (rows : List LineRow) → seen.begun ≡ true → (after_all seen rows).begun ≡ true
 begun-all seen [] b = b
 begun-all seen (row ∷ rows) b = begun-all (seen_after seen row) rows (begun-stays seen row b)
 
-nobody : (seen : Seen) (rows : List Row) → (after_all seen rows).begun ≡ false → users_in rows ≡ None
+nobody : (seen : Seen) (rows : List LineRow) → (after_all seen rows).begun ≡ false → users_in rows ≡ None
 nobody seen [] b = refl
 nobody seen (Silent ∷ rows) b = nobody (seen_after seen Silent) rows b
 nobody seen (Names users ∷ rows) b = let no : true ≡ false = sym (begun-all (seen_after seen (Names users)) rows refl) ∙ b in absurd (cc)
@@ -75,7 +75,7 @@ names-line {mode} blank written input seen held users b p g more =
     (found-line input seen held (Names users) (Some users) more (searched-of blank written input seen held b p) g refl (λ e. cc))
 
 -- whether users are named by a row, by what its line comes to
-row-begins : (goals : List Job) (r : Reading) (seen : Seen) (row : Row) → IsNamedBy r None → IsRowOf goals r row → seen.begun ≡ false → (seen_after seen row).begun ≡ false
+row-begins : (goals : List Job) (r : Reading) (seen : Seen) (row : LineRow) → IsNamedBy r None → IsRowOf goals r row → seen.begun ≡ false → (seen_after seen row).begun ≡ false
 row-begins goals reading.Silent seen row n e b = rw e b
 row-begins goals (reading.Names users) seen row n e b = absurd n
 row-begins goals (reading.Refuses why) seen row n e b = rw e b
@@ -91,7 +91,7 @@ row-names goals form reading.Waits users n b = absurd n
 
 -- the line that is held was answered
 pub head-line : (seen seen' : Seen) (held line : List ℕ) (written written' : Option (List ℕ)) (r : Reading) (users : Option (Vec (List ℕ))) → seen.begun ≡ false
-    → line ≡ held → Becomes (form_of seen line) r → IsNamedBy r users → (row : Row) → IsRowOf seen.goals r row → seen' ≡ seen_after seen row
+    → line ≡ held → Becomes (form_of seen line) r → IsNamedBy r users → (row : LineRow) → IsRowOf seen.goals r row → seen' ≡ seen_after seen row
     → GoesIdle written written' seen seen' held [] (10 ∷ []) → IsHeadLine written written' seen seen' held users
 head-line seen seen' held line written written' r None b same is named row of next goes =
     (ap (λ (s : Seen). s.begun) next ∙ row-begins seen.goals r seen row named of b, goes)
@@ -158,14 +158,14 @@ module _ (written between : Option (List ℕ)) (seen half : Seen) (held part fro
 -- ---- what asks nobody leaves everybody alone
 
 module _ {A : Type 0} (R : A → events.Event → replies.Reply → A → Type 0) (W : A → List Job → replies.Reply → A → Type 0) (one : A) where
-  alone : (row : Row) → Idle tt row tt → Link R W one row one
+  alone : (row : LineRow) → Idle tt row tt → Link R W one row one
   alone Silent h = refl
   alone (Names users) h = refl
   alone (Refuses why) h = refl
   alone (Asks event reply) h = absurd h
   alone (Waits goals reply) h = absurd h
 
-  pub alone-chain : (rows : List Row) → Chain Idle tt rows tt → Chain (Link R W) one rows one
+  pub alone-chain : (rows : List LineRow) → Chain Idle tt rows tt → Chain (Link R W) one rows one
   alone-chain [] h = refl
   alone-chain (row ∷ rows) h = (one, alone row h.1, alone-chain rows h.2)
 

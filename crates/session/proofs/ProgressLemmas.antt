@@ -13,7 +13,7 @@ use Rattle.model.specs.declared.refusal.Refusal.TheVariants.{BadUsers, InputFaul
 use Rattle.model.specs.Forms.{longest_line}
 use Rattle.model.specs.Lines.{lines_of}
 use Rattle.model.specs.Replies.{Reply, Refused}
-use Rattle.model.specs.Talk.{Row, Silent, Names, Refuses, Asks, Waits, Seen, fresh, GetsNext, seen_after, after_all, Talks, text_from, row_text, answer_text, reply_text}
+use Rattle.model.specs.Talk.{LineRow, Silent, Names, Refuses, Asks, Waits, Seen, fresh, GetsNext, seen_after, after_all, Talks, text_from, row_text, answer_text, reply_text}
 use Rattle.session.specs.Serving.{Progress, EndedEarly, Finished, NotShown, HasNoNewline, HoldsMore, Gives, StopsAt, IsFault, IsOwn, MayBeFault, GoesOn, EndsIn, EndsBehind}
 use Rattle.session.proofs.LineLemmas.{nothing-held, lines-newline, lines-last}
 use Rattle.session.proofs.RowLemmas.{chain-more, length-after_all, text-more, appends-none, appends-more, appends-flushed, take-seam}
@@ -26,7 +26,7 @@ answer_printed : (n : ℕ) (actor : List ℕ) (reply : Reply) → length (answer
 answer_printed n actor reply h = some_text (decimal n ++ 32 ∷ actor ++ 32 ∷ reply_text reply) [] 10 h
 
 -- a line of users that is refused has a text
-refusal_printed : (mode : Mode) (rows : List Row) (seen : Seen) (row : Row) → seen ≡ after_all (fresh mode) rows → (after_all (fresh mode) rows).refused ≡ false
+refusal_printed : (mode : Mode) (rows : List LineRow) (seen : Seen) (row : LineRow) → seen ≡ after_all (fresh mode) rows → (after_all (fresh mode) rows).refused ≡ false
     → (seen_after seen row).refused ≡ true → (n : ℕ) → length (row_text n row) ≤ 0 → ⊥
 refusal_printed mode rows seen Silent is going r n h = true≢false (sym r ∙ ap (λ (s : Seen). s.refused) is ∙ going)
 refusal_printed mode rows seen (Names users) is going r n h = true≢false (sym r ∙ ap (λ (s : Seen). s.refused) is ∙ going)
@@ -38,7 +38,7 @@ last_line : (partial : List ℕ) → HasNoNewline partial → 0 < length partial
 last_line [] w h = absurd (omega arith)
 last_line (b ∷ partial) w h = lines-newline (b ∷ partial) [] w ∙ sym (lines-last b partial w) ∙ ap lines_of (sym (append-nil (b ∷ partial)))
 
-module _ {mode : Mode} {A : Type 0} (L : A → Row → A → Type 0) (first : A) (blank : Option (List ℕ)) where
+module _ {mode : Mode} {A : Type 0} (L : A → LineRow → A → Type 0) (first : A) (blank : Option (List ℕ)) where
   -- nothing was read yet
   pub progress-none : Progress mode L first first blank blank [] (fresh mode) []
   progress-none = record {
@@ -78,7 +78,7 @@ module _ {mode : Mode} {A : Type 0} (L : A → Row → A → Type 0) (first : A)
 
   -- the row of the line which is held
   line_gets : (now : A) (written : Option (List ℕ)) (input : List ℕ) (seen : Seen) (held : List ℕ)
-      (p : Progress mode L first now blank written input seen held) (row : Row) → GetsNext seen held row
+      (p : Progress mode L first now blank written input seen held) (row : LineRow) → GetsNext seen held row
       → GetsNext (after_all (fresh mode) p.so_far.rows) p.so_far.lines.partial row
   line_gets now written input seen held p row g = held-gets p.so_far.lines seen held row p.held_is p.seen_is g
 
@@ -87,7 +87,7 @@ module _ {mode : Mode} {A : Type 0} (L : A → Row → A → Type 0) (first : A)
   line_number now written input seen held p = omega (arith, ap (λ (s : Seen). length s.told) p.seen_is, length-after_all (fresh mode) p.so_far.rows)
 
   line_text : (now : A) (written written' : Option (List ℕ)) (input : List ℕ) (seen : Seen) (held : List ℕ)
-      (p : Progress mode L first now blank written input seen held) (row : Row) (n : ℕ)
+      (p : Progress mode L first now blank written input seen held) (row : LineRow) (n : ℕ)
       → Appends written written' (take n (row_text (length seen.told + 1) row))
       → Appends blank written' (take (length (text_from 1 p.so_far.rows) + n) (text_from 1 (p.so_far.rows ++ row ∷ [])))
   line_text now written written' input seen held p row n a =
@@ -99,7 +99,7 @@ module _ {mode : Mode} {A : Type 0} (L : A → Row → A → Type 0) (first : A)
       subst (λ t. Appends blank written' t) (sym e) (appends-more blank written written' _ _ p.so_far.text b)
 
   line_length : (now : A) (written : Option (List ℕ)) (input : List ℕ) (seen : Seen) (held : List ℕ)
-      (p : Progress mode L first now blank written input seen held) (row : Row) (n : ℕ) → length (row_text (length seen.told + 1) row) ≤ n
+      (p : Progress mode L first now blank written input seen held) (row : LineRow) (n : ℕ) → length (row_text (length seen.told + 1) row) ≤ n
       → length (text_from 1 (p.so_far.rows ++ row ∷ [])) ≤ length (text_from 1 p.so_far.rows) + n
   line_length now written input seen held p row n h =
       let rows = p.so_far.rows in
@@ -111,7 +111,7 @@ module _ {mode : Mode} {A : Type 0} (L : A → Row → A → Type 0) (first : A)
       )
 
   line_written : (now : A) (written : Option (List ℕ)) (input : List ℕ) (seen : Seen) (held : List ℕ)
-      (p : Progress mode L first now blank written input seen held) (row : Row) (n : ℕ)
+      (p : Progress mode L first now blank written input seen held) (row : LineRow) (n : ℕ)
       → length (text_from 1 (p.so_far.rows ++ row ∷ [])) ≤ length (text_from 1 p.so_far.rows) + n → length (row_text (length seen.told + 1) row) ≤ n
   line_written now written input seen held p row n h =
       let rows = p.so_far.rows in
@@ -125,13 +125,13 @@ module _ {mode : Mode} {A : Type 0} (L : A → Row → A → Type 0) (first : A)
 
   -- whether users were refused once the line that is held is answered
   line_refused : (now : A) (written : Option (List ℕ)) (input : List ℕ) (seen : Seen) (held : List ℕ)
-      (p : Progress mode L first now blank written input seen held) (row : Row)
+      (p : Progress mode L first now blank written input seen held) (row : LineRow)
       → (after_all (fresh mode) (p.so_far.rows ++ row ∷ [])).refused ≡ (seen_after seen row).refused
   line_refused now written input seen held p row =
       refused-same mode (p.so_far.rows ++ row ∷ []) (seen_after seen row) (seen-more mode p.so_far.rows seen (seen_after seen row) row p.seen_is refl)
 
   -- the line that is held was answered, and a beginning of its text written
-  pub early-line : (now next : A) (written written' : Option (List ℕ)) (input : List ℕ) (seen : Seen) (held : List ℕ) (row : Row) (n : ℕ)
+  pub early-line : (now next : A) (written written' : Option (List ℕ)) (input : List ℕ) (seen : Seen) (held : List ℕ) (row : LineRow) (n : ℕ)
       (more : List ℕ) (why : Refusal) → Progress mode L first now blank written input seen held → GetsNext seen held row → L now row next
       → Appends written written' (take n (row_text (length seen.told + 1) row))
       → (why ≡ BadUsers → ((seen_after seen row).refused ≡ true) × (length (row_text (length seen.told + 1) row) ≤ n))
@@ -150,7 +150,7 @@ module _ {mode : Mode} {A : Type 0} (L : A → Row → A → Type 0) (first : A)
   }
 
   -- and all of its text
-  pub progress-line : (now next : A) (written written' : Option (List ℕ)) (input : List ℕ) (seen seen' : Seen) (held : List ℕ) (row : Row)
+  pub progress-line : (now next : A) (written written' : Option (List ℕ)) (input : List ℕ) (seen seen' : Seen) (held : List ℕ) (row : LineRow)
       → Progress mode L first now blank written input seen held → GetsNext seen held row → L now row next → seen' ≡ seen_after seen row
       → Appends written written' (row_text (length seen.told + 1) row) → seen'.refused ≡ false
       → Progress mode L first next blank written' (input ++ 10 ∷ []) seen' []
@@ -320,7 +320,7 @@ module _ (reader reader' writer writer' : ℕ) (why : Refusal) (fault : IsFault 
   more_output e = elim fault [ inl i ↦ let bad : InputFault ≡ OutputFault = sym i.0 ∙ e in cc | inr o ↦ o.1 ]
 
 -- by another fact that says where the input is at its end
-pub early-weakened : {mode : Mode} {A : Type 0} (L : A → Row → A → Type 0) (first now : A) (blank written : Option (List ℕ)) (input : List ℕ) (at_end at_end' : Type 0) (why : Refusal) → (at_end → at_end')
+pub early-weakened : {mode : Mode} {A : Type 0} (L : A → LineRow → A → Type 0) (first now : A) (blank written : Option (List ℕ)) (input : List ℕ) (at_end at_end' : Type 0) (why : Refusal) → (at_end → at_end')
     → EndedEarly mode L first now blank written input at_end why → EndedEarly mode L first now blank written input at_end' why
 early-weakened L first now blank written input at_end at_end' why f s = record {
   rows = s.rows;
@@ -339,7 +339,7 @@ lines-all : (input more : List ℕ) → more ≡ [] → lines_of input ≡ lines
 lines-all input more e = ap lines_of (sym (append-nil input) ∙ ap (λ t. input ++ t) (sym e))
 
 -- ended in the last line, which lacks its newline
-pub early-closed : {mode : Mode} {A : Type 0} (L : A → Row → A → Type 0) (first now : A) (blank written : Option (List ℕ)) (input : List ℕ) (why : Refusal) → lines_of (input ++ 10 ∷ []) ≡ lines_of input
+pub early-closed : {mode : Mode} {A : Type 0} (L : A → LineRow → A → Type 0) (first now : A) (blank written : Option (List ℕ)) (input : List ℕ) (why : Refusal) → lines_of (input ++ 10 ∷ []) ≡ lines_of input
     → EndedEarly mode L first now blank written (input ++ 10 ∷ []) ⊥ why → EndedEarly mode L first now blank written input (Unit {0}) why
 early-closed L first now blank written input why same s = record {
   rows = s.rows;
@@ -354,7 +354,7 @@ early-closed L first now blank written input why same s = record {
 }
 
 -- then the text was flushed
-pub early-flushed : {mode : Mode} {A : Type 0} (L : A → Row → A → Type 0) (first now : A) (blank written written' : Option (List ℕ)) (input : List ℕ) (at_end : Type 0) (why : Refusal)
+pub early-flushed : {mode : Mode} {A : Type 0} (L : A → LineRow → A → Type 0) (first now : A) (blank written written' : Option (List ℕ)) (input : List ℕ) (at_end : Type 0) (why : Refusal)
     → EndedEarly mode L first now blank written input at_end why → Appends written written' [] → EndedEarly mode L first now blank written' input at_end why
 early-flushed L first now blank written written' input at_end why s k = record {
   rows = s.rows;
@@ -369,7 +369,7 @@ early-flushed L first now blank written written' input at_end why s k = record {
 }
 
 -- want of memory is told as another fault
-pub early-other : {mode : Mode} {A : Type 0} (L : A → Row → A → Type 0) (first now : A) (blank written : Option (List ℕ)) (input : List ℕ) (at_end : Type 0) (other : Refusal)
+pub early-other : {mode : Mode} {A : Type 0} (L : A → LineRow → A → Type 0) (first now : A) (blank written : Option (List ℕ)) (input : List ℕ) (at_end : Type 0) (other : Refusal)
     → (other ≡ BadUsers → ⊥) → EndedEarly mode L first now blank written input at_end Memory → EndedEarly mode L first now blank written input at_end other
 early-other L first now blank written input at_end other own s = record {
   rows = s.rows;
@@ -383,7 +383,7 @@ early-other L first now blank written input at_end other own s = record {
   told = λ h. absurd (by_memory Memory refl (s.told h));
 }
 
-pub finished-flushed : {mode : Mode} {A : Type 0} (L : A → Row → A → Type 0) (first now : A) (blank written written' : Option (List ℕ)) (all : List (List ℕ)) → Finished mode L first now blank written all
+pub finished-flushed : {mode : Mode} {A : Type 0} (L : A → LineRow → A → Type 0) (first now : A) (blank written written' : Option (List ℕ)) (all : List (List ℕ)) → Finished mode L first now blank written all
     → Appends written written' [] → Finished mode L first now blank written' all
 finished-flushed L first now blank written written' all f k = record {
   rows = f.rows;
@@ -394,7 +394,7 @@ finished-flushed L first now blank written written' all f k = record {
 }
 
 -- all was written, and the flush failed
-pub not-shown : {mode : Mode} {A : Type 0} (L : A → Row → A → Type 0) (first now : A) (blank written written' start end : Option (List ℕ)) (at_end : Type 0) (why : Refusal)
+pub not-shown : {mode : Mode} {A : Type 0} (L : A → LineRow → A → Type 0) (first now : A) (blank written written' start end : Option (List ℕ)) (at_end : Type 0) (why : Refusal)
     (ended : Result (Unit {0}) Refusal)
     → (ended ≡ Ok tt) ⊎ (ended ≡ Err BadUsers)
     → OnOk ended ((input : List ℕ) × Consumes start end input × at_end × Finished mode L first now blank written (lines_of input))
@@ -430,7 +430,7 @@ counted-output (Err why) e old new (inr other) q = λ _. other.1.1
 
 -- ---- one piece after another
 
-module _ {A : Type 0} (L : A → Row → A → Type 0) where
+module _ {A : Type 0} (L : A → LineRow → A → Type 0) where
   -- nothing more was read
   pub goes-nowhere : (now next : A) (written written' : Option (List ℕ)) (seen seen' : Seen) (held held' bytes : List ℕ)
       → GoesOn L now next written written' seen seen' held held' bytes → GoesOn L now next written written' seen seen' held held' (bytes ++ [])

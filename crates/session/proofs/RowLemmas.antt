@@ -5,38 +5,38 @@ use Rattle.std.specs.Result.{OnOk, IfErr, IsErrAnd}
 use Rattle.std.proofs.lemmas.List.{append-nil}
 use Rattle.std.specs.Io.KnownBytes.{Appends, Consumes, Keeps, prepend_known}
 use Rattle.model.specs.Lines.{LineResult}
-use Rattle.model.specs.Talk.{Row, Silent, Names, Refuses, Asks, Waits, Seen, GetsNext, seen_after, after_all, Talks, text_from, row_text}
+use Rattle.model.specs.Talk.{LineRow, Silent, Names, Refuses, Asks, Waits, Seen, GetsNext, seen_after, after_all, Talks, text_from, row_text}
 use Rattle.session.specs.Serving.{Chain}
 pub use Rattle.nar.proofs.WritingLemmas.{appends-none, appends-more, take-seam, on_err}
 
-pub talks-more : (seen : Seen) (done : List (List ℕ)) (rows : List Row) (line : List ℕ) (row : Row) → Talks seen done rows
+pub talks-more : (seen : Seen) (done : List (List ℕ)) (rows : List LineRow) (line : List ℕ) (row : LineRow) → Talks seen done rows
     → (after_all seen rows).refused ≡ false → GetsNext (after_all seen rows) line row → Talks seen (done ++ line ∷ []) (rows ++ row ∷ [])
 talks-more seen [] [] line row t f g = (f, g, tt)
 talks-more seen [] (r ∷ rows) line row t f g = absurd t
 talks-more seen (l ∷ done) [] line row t f g = absurd t
 talks-more seen (l ∷ done) (r ∷ rows) line row t f g = (t.0, t.1, talks-more (seen_after seen r) done rows line row t.2 f g)
 
-pub after_all-more : (seen : Seen) (rows : List Row) (row : Row) → after_all seen (rows ++ row ∷ []) ≡ seen_after (after_all seen rows) row
+pub after_all-more : (seen : Seen) (rows : List LineRow) (row : LineRow) → after_all seen (rows ++ row ∷ []) ≡ seen_after (after_all seen rows) row
 after_all-more seen [] row = refl
 after_all-more seen (r ∷ rows) row = after_all-more (seen_after seen r) rows row
 
-pub chain-more : {A : Type 0} (L : A → Row → A → Type 0) (a : A) (rows : List Row) (b : A) (row : Row) (c : A) → Chain L a rows b
+pub chain-more : {A : Type 0} (L : A → LineRow → A → Type 0) (a : A) (rows : List LineRow) (b : A) (row : LineRow) (c : A) → Chain L a rows b
     → L b row c → Chain L a (rows ++ row ∷ []) c
 chain-more L a [] b row c h l = (c, subst (λ x. L x row c) h l, refl)
 chain-more L a (r ∷ rows) b row c h l = (h.0, h.1, chain-more L h.0 rows b row c h.2 l)
 
-length-after : (seen : Seen) (row : Row) → length (seen_after seen row).told ≡ length seen.told + 1
+length-after : (seen : Seen) (row : LineRow) → length (seen_after seen row).told ≡ length seen.told + 1
 length-after seen Silent = omega (arith, length-append {A = LineResult})
 length-after seen (Names users) = omega (arith, length-append {A = LineResult})
 length-after seen (Refuses why) = omega (arith, length-append {A = LineResult})
 length-after seen (Asks event reply) = omega (arith, length-append {A = LineResult})
 length-after seen (Waits goals reply) = omega (arith, length-append {A = LineResult})
 
-pub length-after_all : (seen : Seen) (rows : List Row) → length (after_all seen rows).told ≡ length seen.told + length rows
+pub length-after_all : (seen : Seen) (rows : List LineRow) → length (after_all seen rows).told ≡ length seen.told + length rows
 length-after_all seen [] = omega arith
 length-after_all seen (r ∷ rows) = omega (arith, length-after_all (seen_after seen r) rows, length-after seen r)
 
-pub text-more : (n : ℕ) (rows : List Row) (row : Row) → text_from n (rows ++ row ∷ []) ≡ text_from n rows ++ row_text (n + length rows) row
+pub text-more : (n : ℕ) (rows : List LineRow) (row : LineRow) → text_from n (rows ++ row ∷ []) ≡ text_from n rows ++ row_text (n + length rows) row
 text-more n [] row = append-nil _ ∙ ap (λ k. row_text k row) (omega arith)
 text-more n (r ∷ rows) row =
     ap (λ t. row_text n r ++ t) (text-more (n + 1) rows row ∙ ap (λ k. text_from (n + 1) rows ++ row_text k row) (omega arith))

@@ -9,7 +9,7 @@ use Rattle.model.specs.Worlds.{Job}
 use Rattle.model.specs.Lines.{LineResult, nothing_told}
 use Rattle.model.specs.Forms.{Form}
 use Rattle.model.specs.Replies.{ends_wait}
-use Rattle.model.specs.Talk.{Row, Names, Refuses, Asks, Waits, Seen, form_of, Gets, GetsNext, answer_text, told_in, goal_by, with_asked, is_bad_users}
+use Rattle.model.specs.Talk.{LineRow, Names, Refuses, Asks, Waits, Seen, form_of, Gets, GetsNext, answer_text, told_in, goal_by, with_asked, is_bad_users}
 use Rattle.events.specs.declared.event.Event.{Event}
 use Rattle.events.specs.Terms.{event_of}
 use Rattle.lines.specs.declared.line.Reading.{Reading}
@@ -21,7 +21,7 @@ abbrev pub seen_by : Mode → Bool → Bool → List LineResult → List Job →
 seen_by mode begun refused told goals = record { mode = mode; begun = begun; refused = refused; told = told; goals = goals }
 
 -- what a line may be, where its row is that of what it comes to
-pub row-gets : (goals : List Job) (form : Form) (r : Reading) (row : Row) → Becomes form r → IsRowOf goals r row → Gets goals form row
+pub row-gets : (goals : List Job) (form : Form) (r : Reading) (row : LineRow) → Becomes form r → IsRowOf goals r row → Gets goals form row
 row-gets goals form reading.Silent row b e = rw e (b goals)
 row-gets goals form (reading.Names users) row b e = rw e (b goals)
 row-gets goals form (reading.Refuses why) row b e = rw e (b goals)
@@ -81,7 +81,7 @@ module _ {A : Type 0} (R : A → events.Event → replies.Reply → A → Type 0
   )
 
   -- a row with neither leaves the answer alone
-  pub gives-row : (r : Reading) (row : Row) (seen next : Seen) (now : A) (result : Result (Vec ℕ) Refusal) → IsRowOf seen.goals r row
+  pub gives-row : (r : Reading) (row : LineRow) (seen next : Seen) (now : A) (result : Result (Vec ℕ) Refusal) → IsRowOf seen.goals r row
       → Link R W now row now → IfOk result (λ text. GivesRow row seen next text.items)
       → IfOk result (λ text. Gives (IsRowOf seen.goals r) (Link R W) seen next now now text.items)
   gives-row r row seen next now (Ok text) is l h = (row, is, h.0, h.1, l)
@@ -98,7 +98,7 @@ module _ {A : Type 0} (R : A → events.Event → replies.Reply → A → Type 0
       → ((reply : replies.Reply) × (ends_wait reply ≡ true) × W now shown reply next) → StopsAt (IsRowOf goals reading.Waits) (Link R W) now next
   waited-part goals shown now next f w = inr (Waits goals w.0, (w.0, w.1, refl), subst (λ gs. W now gs w.0 next) f w.2)
 
-module _ {A : Type 0} (L : A → Row → A → Type 0) where
+module _ {A : Type 0} (L : A → LineRow → A → Type 0) where
   -- from what a line comes to, to the line
   pub part-gets : (seen : Seen) (line : List ℕ) (r : Reading) (now next : A) → Becomes (form_of seen line) r → StopsAt (IsRowOf seen.goals r) L now next
       → StopsAt (GetsNext seen line) L now next

@@ -2,7 +2,7 @@
 use Rattle.std.proofs.Common.{◌≡◌, ℕ, false, List, [], ◌∷◌, ◌++◌, refl, sym, ap, ◌∙◌, subst, append_assoc}
 use Rattle.model.specs.declared.mode.Mode.{Mode}
 use Rattle.model.specs.Lines.{lines_of}
-use Rattle.model.specs.Talk.{Row, Seen, fresh, Gets, GetsNext, seen_after, after_all, Talks, form_of}
+use Rattle.model.specs.Talk.{LineRow, Seen, fresh, Gets, GetsNext, seen_after, after_all, Talks, form_of}
 use Rattle.session.specs.Serving.{WholeLines, HasNoNewline, IsHeld}
 use Rattle.session.proofs.LineLemmas.{lines-newline, HasNoNewline-append, form_of-held}
 use Rattle.session.proofs.RowLemmas.{talks-more, after_all-more}
@@ -18,7 +18,7 @@ no_lines = record {
   going = refl;
 }
 
-module _ {mode : Mode} {input : List ℕ} {rows : List Row} (l : WholeLines mode input rows) where
+module _ {mode : Mode} {input : List ℕ} {rows : List LineRow} (l : WholeLines mode input rows) where
   -- the line begun goes on
   abbrev pub line-grown : (bytes : List ℕ) → HasNoNewline bytes → WholeLines mode (input ++ bytes) rows
   line-grown bytes w = record {
@@ -36,7 +36,7 @@ module _ {mode : Mode} {input : List ℕ} {rows : List Row} (l : WholeLines mode
   ended-cut more = l.cut (10 ∷ more) ∙ ap (λ t. l.done ++ t) (lines-newline l.partial more l.begun) ∙ sym (append_assoc l.done (l.partial ∷ []) (lines_of more))
 
   -- what is held of it reads as it does
-  pub held-gets : (seen : Seen) (held : List ℕ) (row : Row) → IsHeld l.partial held → seen ≡ after_all (fresh mode) rows → GetsNext seen held row
+  pub held-gets : (seen : Seen) (held : List ℕ) (row : LineRow) → IsHeld l.partial held → seen ≡ after_all (fresh mode) rows → GetsNext seen held row
       → GetsNext (after_all (fresh mode) rows) l.partial row
   held-gets seen held row held_is seen_is g =
       let all : Seen = after_all (fresh mode) rows in
@@ -44,10 +44,10 @@ module _ {mode : Mode} {input : List ℕ} {rows : List Row} (l : WholeLines mode
       subst (λ f. Gets all.goals f row) e (subst (λ (s : Seen). Gets s.goals (form_of seen held) row) seen_is g)
 
   -- the rows with its row
-  pub ended-talks : (row : Row) → GetsNext (after_all (fresh mode) rows) l.partial row → Talks (fresh mode) (l.done ++ l.partial ∷ []) (rows ++ row ∷ [])
+  pub ended-talks : (row : LineRow) → GetsNext (after_all (fresh mode) rows) l.partial row → Talks (fresh mode) (l.done ++ l.partial ∷ []) (rows ++ row ∷ [])
   ended-talks row g = talks-more (fresh mode) l.done rows l.partial row l.talks l.going g
 
-  abbrev pub line-ended : (row : Row) → GetsNext (after_all (fresh mode) rows) l.partial row → (after_all (fresh mode) (rows ++ row ∷ [])).refused ≡ false
+  abbrev pub line-ended : (row : LineRow) → GetsNext (after_all (fresh mode) rows) l.partial row → (after_all (fresh mode) (rows ++ row ∷ [])).refused ≡ false
       → WholeLines mode (input ++ 10 ∷ []) (rows ++ row ∷ [])
   line-ended row g f = record {
     done = l.done ++ l.partial ∷ [];
@@ -59,10 +59,10 @@ module _ {mode : Mode} {input : List ℕ} {rows : List Row} (l : WholeLines mode
   }
 
 -- what is kept with one more row
-pub seen-more : (mode : Mode) (rows : List Row) (seen next : Seen) (row : Row) → seen ≡ after_all (fresh mode) rows → next ≡ seen_after seen row
+pub seen-more : (mode : Mode) (rows : List LineRow) (seen next : Seen) (row : LineRow) → seen ≡ after_all (fresh mode) rows → next ≡ seen_after seen row
     → next ≡ after_all (fresh mode) (rows ++ row ∷ [])
 seen-more mode rows seen next row e s = s ∙ ap (λ x. seen_after x row) e ∙ sym (after_all-more (fresh mode) rows row)
 
 -- whether users were refused, by what is kept
-pub refused-same : (mode : Mode) (rows : List Row) (seen : Seen) → seen ≡ after_all (fresh mode) rows → (after_all (fresh mode) rows).refused ≡ seen.refused
+pub refused-same : (mode : Mode) (rows : List LineRow) (seen : Seen) → seen ≡ after_all (fresh mode) rows → (after_all (fresh mode) rows).refused ≡ seen.refused
 refused-same mode rows seen e = ap (λ (s : Seen). s.refused) (sym e)

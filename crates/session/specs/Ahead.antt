@@ -4,7 +4,7 @@ use Rattle.std.specs.Global.{Vec}
 use Rattle.model.specs.declared.mode.Mode.{Mode}
 use Rattle.model.specs.declared.refusal.Refusal.TheVariants.{BadUsers}
 use Rattle.model.specs.Lines.{lines_of}
-use Rattle.model.specs.Talk.{Row, Names, Refuses, Seen, fresh, seen_after, after_all, GetsNext, Talks, users_in}
+use Rattle.model.specs.Talk.{LineRow, Names, Refuses, Seen, fresh, seen_after, after_all, GetsNext, Talks, users_in}
 use Rattle.session.specs.Serving.{WholeLines, IsHeld}
 use Rattle.session.specs.declared.ahead.Look.{Look}
 use Rattle.session.specs.declared.ahead.Look.TheVariants.{Users, Refused, Other}
@@ -13,11 +13,11 @@ use Rattle.session.specs.declared.ahead.Look.TheVariants.{Users, Refused, Other}
 abbrev pub IsLook : List ℕ → Seen → Seen → Look → Type 0
 IsLook line seen next (Users users) = GetsNext seen line (Names users.items)
 IsLook line seen next Refused = GetsNext seen line (Refuses BadUsers)
-IsLook line seen next Other = (row : Row) × GetsNext seen line row × (next ≡ seen_after seen row) × (users_in (row ∷ []) ≡ None) × (next.refused ≡ seen.refused)
+IsLook line seen next Other = (row : LineRow) × GetsNext seen line row × (next ≡ seen_after seen row) × (users_in (row ∷ []) ≡ None) × (next.refused ≡ seen.refused)
 
 -- the whole lines of an input of which more may come name no users
 pub record NoUsersSoFar (mode : Mode) (input : List ℕ) : Type 0 where
-  pub rows : List Row
+  pub rows : List LineRow
   pub lines : WholeLines mode input rows
   pub none : users_in rows ≡ None
 
@@ -30,7 +30,7 @@ pub record Searched (mode : Mode) (input : List ℕ) (seen : Seen) (held : List 
 -- the first lines of an input name these users;
 -- where there are none, they are all of its lines, or the last of them is a line of users that is refused
 pub record LooksAhead (mode : Mode) (input : List ℕ) (users : Option (List (List ℕ))) : Type 0 where
-  pub rows : List Row
+  pub rows : List LineRow
   pub done : List (List ℕ)
   pub rest : List (List ℕ)
   pub cut : lines_of input ≡ done ++ rest

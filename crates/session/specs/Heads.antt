@@ -3,7 +3,7 @@ use Rattle.std.specs.Prelude.{◌≡◌, ℕ, false, List, [], ◌∷◌, ◌++�
 use Rattle.std.specs.Global.{Vec}
 use Rattle.model.specs.declared.mode.Mode.{Mode}
 use Rattle.model.specs.Lines.{lines_of}
-use Rattle.model.specs.Talk.{Row, Silent, Names, Refuses, Asks, Waits, Seen, GetsNext}
+use Rattle.model.specs.Talk.{LineRow, Silent, Names, Refuses, Asks, Waits, Seen, GetsNext}
 use Rattle.lines.specs.declared.line.Reading.{Reading}
 use Rattle.lines.specs.declared.line.Reading.TheVariants as reading
 use Rattle.session.specs.Serving.{Progress, Finished, GoesOn}
@@ -11,7 +11,7 @@ use Rattle.session.specs.Ahead.{LooksAhead}
 use Rattle.session.specs.declared.head.Found.{Found}
 
 -- a row of a line that asks nobody: it makes no event and waits for nothing
-abbrev pub Idle : Unit {0} → Row → Unit {0} → Type 0
+abbrev pub Idle : Unit {0} → LineRow → Unit {0} → Type 0
 Idle old Silent new = Unit {0}
 Idle old (Names users) new = Unit {0}
 Idle old (Refuses why) new = Unit {0}

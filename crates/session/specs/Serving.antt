@@ -11,10 +11,10 @@ use Rattle.model.specs.Worlds.{Job}
 use Rattle.model.specs.Lines.{lines_of}
 use Rattle.model.specs.Forms.{longest_line}
 pub use Rattle.nar.specs.Writing.{HasFailed, IsFault, MayBeFault, IsUnwritten}
-use Rattle.model.specs.Talk.{Row, Silent, Names, Refuses, Asks, Waits, Seen, fresh, seen_after, after_all, Talks, row_text, text_from}
+use Rattle.model.specs.Talk.{LineRow, Silent, Names, Refuses, Asks, Waits, Seen, fresh, seen_after, after_all, Talks, row_text, text_from}
 
 -- one row's link of the chain: an event is one answer, a wait is one wait for its goals, and any other line leaves the answer alone
-abbrev pub Link : {A : Type 0} → (A → Event → Reply → A → Type 0) → (A → List Job → Reply → A → Type 0) → A → Row → A → Type 0
+abbrev pub Link : {A : Type 0} → (A → Event → Reply → A → Type 0) → (A → List Job → Reply → A → Type 0) → A → LineRow → A → Type 0
 Link answers waited old Silent new = new ≡ old
 Link answers waited old (Names users) new = new ≡ old
 Link answers waited old (Refuses why) new = new ≡ old
@@ -22,14 +22,14 @@ Link answers waited old (Asks event reply) new = answers old event reply new
 Link answers waited old (Waits goals reply) new = waited old goals reply new
 
 -- the links of the rows form one chain from old to new
-abbrev pub Chain : {A : Type 0} → (A → Row → A → Type 0) → A → List Row → A → Type 0
+abbrev pub Chain : {A : Type 0} → (A → LineRow → A → Type 0) → A → List LineRow → A → Type 0
 Chain link old [] new = new ≡ old
 Chain {A} link old (row ∷ rows) new = (mid : A) × link old row mid × Chain link mid rows new
 
 -- what a session has done with all of these lines, read and answered one after another
-pub record Finished (mode : Mode) {A : Type 0} (link : A → Row → A → Type 0) (first now : A) (blank written : Option (List ℕ))
+pub record Finished (mode : Mode) {A : Type 0} (link : A → LineRow → A → Type 0) (first now : A) (blank written : Option (List ℕ))
     (all : List (List ℕ)) : Type 0 where
-  pub rows : List Row
+  pub rows : List LineRow
   pub talks : Talks (fresh mode) all rows
   pub going : (after_all (fresh mode) rows).refused ≡ false
   pub chain : Chain link first rows now
@@ -42,7 +42,7 @@ HasNoNewline (b ∷ bytes) = ((b == 10) ≡ false) × HasNoNewline bytes
 
 -- the rows of the whole lines of an input of which more may come:
 -- whatever comes, the lines of all are the done ones, and then those of the line begun with what comes
-pub record WholeLines (mode : Mode) (input : List ℕ) (rows : List Row) : Type 0 where
+pub record WholeLines (mode : Mode) (input : List ℕ) (rows : List LineRow) : Type 0 where
   pub done : List (List ℕ)
   pub partial : List ℕ
   pub cut : (more : List ℕ) → lines_of (input ++ more) ≡ done ++ lines_of (partial ++ more)
@@ -51,23 +51,23 @@ pub record WholeLines (mode : Mode) (input : List ℕ) (rows : List Row) : Type 
   pub going : (after_all (fresh mode) rows).refused ≡ false
 
 -- what a session has done with an input of which more may come: its whole lines are answered
-pub record AnsweredSoFar (mode : Mode) {A : Type 0} (link : A → Row → A → Type 0) (first now : A) (blank written : Option (List ℕ))
+pub record AnsweredSoFar (mode : Mode) {A : Type 0} (link : A → LineRow → A → Type 0) (first now : A) (blank written : Option (List ℕ))
     (input : List ℕ) : Type 0 where
-  pub rows : List Row
+  pub rows : List LineRow
   pub lines : WholeLines mode input rows
   pub chain : Chain link first rows now
   pub text : Appends blank written (text_from 1 rows)
 
 -- a line of users was refused in these rows, and so many bytes are all of their text
-abbrev pub HasRefused : Mode → List Row → ℕ → Type 0
+abbrev pub HasRefused : Mode → List LineRow → ℕ → Type 0
 HasRefused mode rows count = ((after_all (fresh mode) rows).refused ≡ true) × (length (text_from 1 rows) ≤ count)
 
 -- what it has done where it ended early: the first lines were answered, and a beginning of their text is written;
 -- they are the first lines whatever comes after what was read, and nothing comes where that is at the input's end;
 -- it ends with 14 just where a line of users was refused and all of the text is written
-pub record EndedEarly (mode : Mode) {A : Type 0} (link : A → Row → A → Type 0) (first now : A) (blank written : Option (List ℕ)) (input : List ℕ)
+pub record EndedEarly (mode : Mode) {A : Type 0} (link : A → LineRow → A → Type 0) (first now : A) (blank written : Option (List ℕ)) (input : List ℕ)
     (at_end : Type 0) (why : Refusal) : Type 0 where
-  pub rows : List Row
+  pub rows : List LineRow
   pub done : List (List ℕ)
   pub cut : (more : List ℕ) → (at_end → more ≡ []) → IsPrefix done (lines_of (input ++ more))
   pub talks : Talks (fresh mode) done rows
@@ -78,7 +78,7 @@ pub record EndedEarly (mode : Mode) {A : Type 0} (link : A → Row → A → Typ
   pub told : HasRefused mode rows count → why ≡ BadUsers
 
 -- all of its text is written, of all lines or up to the users that were refused, and it could not be shown
-abbrev pub NotShown : (mode : Mode) {A : Type 0} (link : A → Row → A → Type 0) (first now : A) (blank written : Option (List ℕ)) (input : List ℕ)
+abbrev pub NotShown : (mode : Mode) {A : Type 0} (link : A → LineRow → A → Type 0) (first now : A) (blank written : Option (List ℕ)) (input : List ℕ)
     (at_end : Type 0) → Refusal → Type 0
 NotShown mode link first now blank written input at_end why = (why ≡ OutputFault)
     × ((at_end × Finished mode link first now blank written (lines_of input)) ⊎ EndedEarly mode link first now blank written input at_end BadUsers)
@@ -92,32 +92,32 @@ abbrev pub HoldsMore : (held bytes held' : List ℕ) → Type 0
 HoldsMore held bytes held' = (partial : List ℕ) → IsHeld partial held → IsHeld (partial ++ bytes) held'
 
 -- a session on its way: after this input it keeps seen, and holds the beginning of a line
-pub record Progress (mode : Mode) {A : Type 0} (link : A → Row → A → Type 0) (first now : A) (blank written : Option (List ℕ)) (input : List ℕ)
+pub record Progress (mode : Mode) {A : Type 0} (link : A → LineRow → A → Type 0) (first now : A) (blank written : Option (List ℕ)) (input : List ℕ)
     (seen : Seen) (held : List ℕ) : Type 0 where
   pub so_far : AnsweredSoFar mode link first now blank written input
   pub held_is : IsHeld so_far.lines.partial held
   pub seen_is : seen ≡ after_all (fresh mode) so_far.rows
 
 -- from any start on: a session that is on its way is on its way after these bytes more
-abbrev pub GoesOn : {A : Type 0} → (A → Row → A → Type 0)
+abbrev pub GoesOn : {A : Type 0} → (A → LineRow → A → Type 0)
     → (now next : A) (written written' : Option (List ℕ)) (seen seen' : Seen) (held held' bytes : List ℕ) → Type 0
 GoesOn {A} link now next written written' seen seen' held held' bytes = (mode : Mode) (first : A) (blank : Option (List ℕ)) (input : List ℕ)
     → Progress mode link first now blank written input seen held → Progress mode link first next blank written' (input ++ bytes) seen' held'
 
 -- it ends early in these bytes, of which more may come
-abbrev pub EndsIn : {A : Type 0} → (A → Row → A → Type 0)
+abbrev pub EndsIn : {A : Type 0} → (A → LineRow → A → Type 0)
     → (now next : A) (written written' : Option (List ℕ)) (seen : Seen) (held bytes : List ℕ) → Refusal → Type 0
 EndsIn {A} link now next written written' seen held bytes why = (mode : Mode) (first : A) (blank : Option (List ℕ)) (input : List ℕ)
     → Progress mode link first now blank written input seen held → EndedEarly mode link first next blank written' (input ++ bytes) ⊥ why
 
 -- it comes to its end
-abbrev pub Finishes : {A : Type 0} → (A → Row → A → Type 0)
+abbrev pub Finishes : {A : Type 0} → (A → LineRow → A → Type 0)
     → (now next : A) (written written' : Option (List ℕ)) (seen : Seen) (held : List ℕ) → Type 0
 Finishes {A} link now next written written' seen held = (mode : Mode) (first : A) (blank : Option (List ℕ)) (input : List ℕ)
     → Progress mode link first now blank written input seen held → Finished mode link first next blank written' (lines_of input)
 
 -- it ends early in the last line of its input
-abbrev pub EndsAtLast : {A : Type 0} → (A → Row → A → Type 0)
+abbrev pub EndsAtLast : {A : Type 0} → (A → LineRow → A → Type 0)
     → (now next : A) (written written' : Option (List ℕ)) (seen : Seen) (held : List ℕ) → Refusal → Type 0
 EndsAtLast {A} link now next written written' seen held why = (mode : Mode) (first : A) (blank : Option (List ℕ)) (input : List ℕ)
     → Progress mode link first now blank written input seen held → EndedEarly mode link first next blank written' input ⊤ why
@@ -125,19 +125,19 @@ EndsAtLast {A} link now next written written' seen held why = (mode : Mode) (fir
 -- ---- from any way on, to the end of the input
 
 -- a session that is on its way has finished all where these bytes are what is left of it
-abbrev pub FinishesBehind : {A : Type 0} → (A → Row → A → Type 0)
+abbrev pub FinishesBehind : {A : Type 0} → (A → LineRow → A → Type 0)
     → (now next : A) (written written' : Option (List ℕ)) (seen : Seen) (held bytes : List ℕ) → Type 0
 FinishesBehind {A} link now next written written' seen held bytes = (mode : Mode) (first : A) (blank : Option (List ℕ)) (input : List ℕ)
     → Progress mode link first now blank written input seen held → Finished mode link first next blank written' (lines_of (input ++ bytes))
 
 -- it ends early in them
-abbrev pub EndsBehind : {A : Type 0} → (A → Row → A → Type 0)
+abbrev pub EndsBehind : {A : Type 0} → (A → LineRow → A → Type 0)
     → (now next : A) (written written' : Option (List ℕ)) (seen : Seen) (held bytes : List ℕ) → (at_end : Type 0) → Refusal → Type 0
 EndsBehind {A} link now next written written' seen held bytes at_end why = (mode : Mode) (first : A) (blank : Option (List ℕ)) (input : List ℕ)
     → Progress mode link first now blank written input seen held → EndedEarly mode link first next blank written' (input ++ bytes) at_end why
 
 -- it has answered the whole lines up to their end
-abbrev pub StopsBehind : {A : Type 0} → (A → Row → A → Type 0)
+abbrev pub StopsBehind : {A : Type 0} → (A → LineRow → A → Type 0)
     → (now next : A) (written written' : Option (List ℕ)) (seen : Seen) (held bytes : List ℕ) → Type 0
 StopsBehind {A} link now next written written' seen held bytes = (mode : Mode) (first : A) (blank : Option (List ℕ)) (input : List ℕ)
     → Progress mode link first now blank written input seen held → AnsweredSoFar mode link first next blank written' (input ++ bytes)
@@ -145,17 +145,17 @@ StopsBehind {A} link now next written written' seen held bytes = (mode : Mode) (
 -- ---- one line
 
 -- what a line of that row gives: what is kept of it, and what is printed for it
-abbrev pub GivesRow : Row → (seen next : Seen) → List ℕ → Type 0
+abbrev pub GivesRow : LineRow → (seen next : Seen) → List ℕ → Type 0
 GivesRow row seen next text = (next ≡ seen_after seen row) × (text ≡ row_text (length seen.told + 1) row)
 
 -- what a line gives of which these may be the rows: a row, what is kept of it, what is printed for it, and what became of the answer
-abbrev pub Gives : {A : Type 0} → (Row → Type 0) → (A → Row → A → Type 0) → (seen next : Seen) (old new : A) → List ℕ → Type 0
+abbrev pub Gives : {A : Type 0} → (LineRow → Type 0) → (A → LineRow → A → Type 0) → (seen next : Seen) (old new : A) → List ℕ → Type 0
 Gives Is link seen next old new text =
-    (row : Row) × Is row × (next ≡ seen_after seen row) × (text ≡ row_text (length seen.told + 1) row) × link old row new
+    (row : LineRow) × Is row × (next ≡ seen_after seen row) × (text ≡ row_text (length seen.told + 1) row) × link old row new
 
 -- where it gives none, its event was answered or not, and its wait has ended or not begun
-abbrev pub StopsAt : {A : Type 0} → (Row → Type 0) → (A → Row → A → Type 0) → (old new : A) → Type 0
-StopsAt Is link old new = (new ≡ old) ⊎ ((row : Row) × Is row × link old row new)
+abbrev pub StopsAt : {A : Type 0} → (LineRow → Type 0) → (A → LineRow → A → Type 0) → (old new : A) → Type 0
+StopsAt Is link old new = (new ≡ old) ⊎ ((row : LineRow) × Is row × link old row new)
 
 -- where it is 90, the count shows no failure
 abbrev pub IsNoFault : (old new : ℕ) → Refusal → Type 0

@@ -4,7 +4,7 @@ use Rattle.std.proofs.lemmas.List.Sums.{sum_by-append, sum_by-cons}
 use Rattle.std.proofs.lemmas.List.Elements.{All-push}
 use mathlib.Core.List.{IsPrefix}
 use Rattle.history.specs.Callers.{Caller, Matches}
-use Rattle.history.specs.Callers.{Known}
+use Rattle.history.specs.Callers.{PassKnowledge}
 use Rattle.book.proofs.book.merged.Goals as goal
 
 -- the sum of a list with one number more
@@ -16,13 +16,13 @@ loop-pass-preserved g c =
     let i = c.loop-pass.invariant in
     let pass = c.in-Some.pass in
     let left = c.pop.new.self.items in
-    let items = ap (λ (ps : List Known). sum (map (λ p. p.caller.calls) ps)) c.in-Some.ensures.items ∙ (ap sum (map_push (λ (p : Known). p.caller.calls) left pass) ∙ sum_push (map (λ (p : Known). p.caller.calls) left) pass.caller.calls) in
-    let stops = ap (λ (ps : List Known). sum (map (λ p. p.stops) ps)) c.in-Some.ensures.items ∙ (ap sum (map_push (λ (p : Known). p.stops) left pass) ∙ sum_push (map (λ (p : Known). p.stops) left) pass.stops) in (
+    let items = ap (λ (ps : List PassKnowledge). sum (map (λ p. p.caller.calls) ps)) c.in-Some.ensures.items ∙ (ap sum (map_push (λ (p : PassKnowledge). p.caller.calls) left pass) ∙ sum_push (map (λ (p : PassKnowledge). p.caller.calls) left) pass.caller.calls) in
+    let stops = ap (λ (ps : List PassKnowledge). sum (map (λ p. p.stops) ps)) c.in-Some.ensures.items ∙ (ap sum (map_push (λ (p : PassKnowledge). p.stops) left pass) ∙ sum_push (map (λ (p : PassKnowledge). p.stops) left) pass.stops) in (
       omega (arith, i.0, c.merge.ensures.parts, c.into_calls.ensures.0, c.in-Some.ensures.len),
       omega (arith, i.1, c.merge.ensures.amount, c.into_calls.ensures.1, items, c.compare.ensures.calls, ap (λ (p : Caller). p.calls) c.into_caller-caller.ensures.caller),
       c.compare.ensures.same ∙ i.2,
-      λ rest. i.3 (rw c.in-Some.ensures.items (All-push (λ (p : Known). Matches c.args.log.now.rows c.args.log.now.stopped p.caller) left pass rest (rw (i.2, c.into_caller-caller.ensures.caller) at c.compare.ensures.matches))),
-      λ rest. i.4 (rw c.in-Some.ensures.items (All-push (λ (p : Known). IsPrefix p.seen c.args.rows.now.seen.log) left pass rest c.into_caller-caller.ensures.seen)),
+      λ rest. i.3 (rw c.in-Some.ensures.items (All-push (λ (p : PassKnowledge). Matches c.args.log.now.rows c.args.log.now.stopped p.caller) left pass rest (rw (i.2, c.into_caller-caller.ensures.caller) at c.compare.ensures.matches))),
+      λ rest. i.4 (rw c.in-Some.ensures.items (All-push (λ (p : PassKnowledge). IsPrefix p.seen c.args.rows.now.seen.log) left pass rest c.into_caller-caller.ensures.seen)),
       omega (arith, i.5, c.merge-in-Some.ensures.parts, c.into_caller-caller.ensures.stops.0, c.in-Some.ensures.len),
       omega (arith, i.6, c.merge-in-Some.ensures.amount, c.into_caller-caller.ensures.stops.1, stops),
     )

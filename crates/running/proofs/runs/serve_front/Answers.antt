@@ -1,7 +1,7 @@
 use Rattle.std.proofs.Common.{◌∙◌, ap, List, ◌++◌, ℕ, length}
 use Rattle.std.specs.Prelude.{map}
-use Rattle.history.specs.Callers.{Known}
-use Rattle.running.specs.declared.sessions.Output.{Output}
+use Rattle.history.specs.Callers.{PassKnowledge}
+use Rattle.running.specs.declared.sessions.SessionOutput.{SessionOutput}
 use Rattle.running.specs.Desks.{session_passes, all_passes, all_numbers}
 use Rattle.running.proofs.DeskLemmas.{all_served}
 use Rattle.running.proofs.runs.serve_front.Goals as goal
@@ -14,5 +14,5 @@ returns-clause-served g c =
     c.end_sessions.new.back.outputs.items c.in-Ok.ensures.desks c.in_ok-lefts.ensures.outputs c.in_ok-end_sessions.ensures.pools
     (c.in_ok-sessions.ensures ∙ ap (map (λ d. d.store.caller.number)) c.deref.ensures.value)
     (c.in_ok-end_sessions.ensures.numbers ∙ ap (λ (ns : List ℕ). ns ++ all_numbers lefts) c.in_ok-back.ensures.workers)
-    (c.in_ok-end_sessions.ensures.passes ∙ ap (λ (ps : List Known). ps ++ all_passes lefts) c.in_ok-back.ensures.passes)
-    (c.in_ok-end_sessions.ensures.outputs ∙ ap (λ (os : List Output). os ++ map (λ l. l.output) lefts) c.in_ok-back.ensures.outputs)
+    (c.in_ok-end_sessions.ensures.passes ∙ ap (λ (ps : List PassKnowledge). ps ++ all_passes lefts) c.in_ok-back.ensures.passes)
+    (c.in_ok-end_sessions.ensures.outputs ∙ ap (λ (os : List SessionOutput). os ++ map (λ l. l.output) lefts) c.in_ok-back.ensures.outputs)

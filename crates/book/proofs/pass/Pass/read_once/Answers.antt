@@ -1,7 +1,7 @@
 use Rattle.std.proofs.Common.{List, [], ◌∷◌, ◌++◌, ap, sym, ◌∙◌, subst}
 use Rattle.model.specs.Worlds.{Setup}
 use Rattle.history.specs.declared.row.Row.{Row}
-use Rattle.history.specs.Callers.{Known}
+use Rattle.history.specs.Callers.{PassKnowledge}
 use Rattle.history.specs.Histories.{row, IsLegal}
 use Rattle.schedule.specs.Queries.{event_for}
 use Rattle.history.specs.FrontId.{setup_in}
@@ -19,7 +19,7 @@ returns-then-see-clause-read g c some =
     let legal = subst (λ (s : Setup). IsLegal s rows) setup (rw c.in-Some.is at c.replace_with.ensures.1.1.0) in
     let finds = subst (λ (s : Setup). FindsRead s rows event c.in-Some.found) setup (rw c.in-Some.is at c.replace_with.ensures.1.1.1) in
     let told = finds reply c.serve.ensures in
-    let seen = ap (λ (k : Known). k.seen) (c.self-2.view_is ∙ (rw c.if-see.true at c.see.ensures).1) in
+    let seen = ap (λ (k : PassKnowledge). k.seen) (c.self-2.view_is ∙ (rw c.if-see.true at c.see.ensures).1) in
     subst (λ (all : List Row). IsLegal g.J.FrontId.setup (all ++ r ∷ [])) (sym seen)
     (legal_with g.J.FrontId.setup rows r legal (told.told some) c.isolation.ensures c.timed_isolation.ensures some)
 
