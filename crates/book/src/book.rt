@@ -23,7 +23,6 @@ use crate::cores::{Asked, Cores, event_again};
 use crate::counts::{Counts, Tally};
 use crate::pass::Pass;
 use crate::publisher::Publisher;
-use crate::steps::step;
 use history::{Caller, FrontId, HistoryPrefix, Log, Row, StopCount};
 use laws::{isolation, timed_isolation};
 use model::Refusal;
@@ -225,7 +224,7 @@ impl<J: FrontId> Book<J> {
             draft,
             ready,
         };
-        let answered = match step(rt, alloc, cores, publisher, asked) {
+        let answered = match cores.take(rt, alloc, publisher, asked) {
             Ok(answered) => answered,
             Err(why) => return Reply::Refused(why),
         };
@@ -328,7 +327,7 @@ impl<J: FrontId> Book<J> {
             return Err(Refusal::Memory);
         }
         cores.sweep(alloc)?;
-        if !publisher.change(rt, alloc, cores) {
+        if !publisher.change(rt, alloc, cores.owner()) {
             return Err(Refusal::Memory);
         }
         Ok(())

@@ -1,6 +1,6 @@
 //! The two cores of a book, which are shown in turn.
 
-ghost use Rattle.std.specs.Prelude.{◌≡◌, [], true, false, IfOk, IfErr, IfSome, IfNone, MatchBool, OnOk, OnErr, List, ℕ};
+ghost use Rattle.std.specs.Prelude.{◌≡◌, ◌++◌, ◌∷◌, [], true, false, IfOk, IfErr, IfSome, IfNone, MatchBool, OnOk, OnErr, List, ℕ};
 ghost use Rattle.std.specs.Arc.{arc_value};
 ghost use Rattle.model.specs.declared.refusal.Refusal.TheVariants.{Memory};
 ghost use Rattle.model.specs.Worlds.{nothing};
@@ -11,18 +11,20 @@ ghost use Rattle.schedule.specs.Standing.{world_of, setup_of, stored_in, HasHash
 ghost use Rattle.schedule.specs.Sweeping.{is_held};
 ghost use Rattle.store.specs.Stored.{kept_at};
 ghost use Rattle.history.specs.Histories.{row, event_in, unrecorded};
-ghost use Rattle.book.specs.Keeping.{Steps, TookEvent};
+ghost use Rattle.book.specs.Keeping.{Kept, Steps, TookEvent};
 ghost use Rattle.book.specs.Turns.{HasTaken, IsSwept, CatchesUp};
 ghost use Rattle.book.specs.declared.lag.Lag.TheVariants.{Nothing, Row as LackedRow};
 
 use crate::lag::Lag;
-use history::Row;
+use crate::publisher::Publisher;
+use history::{FrontId, Row};
+use laws::{isolation, timed_isolation};
 use model::Refusal;
 use schedule::{Core, Event, Ready, Reply};
 use std::alloc::{AllocError, Global};
 use std::marker::Model;
 use std::mem::swap;
-use std::sync::Arc;
+use std::sync::{Arc, Wait};
 
 /// Two cores of one run. What is published has the one that is shown; the other one takes the next event, once
 /// it has taken what it lacks and nothing that is published has it, and then it is the one that is shown.
@@ -218,11 +220,11 @@ impl Cores {
         &*self.shown
     }
 
-    /// The core that is shown, to be shared. It takes no memory; it fails only where 2^63 - 1 have it.
-    pub(crate) fn share(&self) -> Result<Arc<Core>, AllocError>
-        ensures { IfOk result (λ core. arc_value core ≡ self.now) }
+    /// The core that is shown, to be shared.
+    pub(crate) fn owner(&self) -> &Arc<Core>
+        ensures { arc_value result.now ≡ self.now }
     {
-        Arc::try_clone(&self.shown)
+        &self.shown
     }
 
     /// How many values the steps of both had to make, as [`Core::computed`] counts them.
@@ -237,9 +239,9 @@ impl Cores {
         empty_cache_of(&mut self.other);
     }
 
-    /// Lets the other core take an event, once it has taken what it lacks, and shows it. Its reply is given
-    /// with the row, to be shared. There is none where the row cannot be shared; then no event can be
-    /// taken any more.
+    /// Lets the other core take an event, once it has taken what it lacks, shows it, and publishes it with the
+    /// row. The reply is given with the row, to be shared. There is none where the core has taken the event, and
+    /// memory is refused for sharing the row or publishing it; then no event can be taken any more.
     ///
     /// # Errors
     ///
@@ -247,22 +249,31 @@ impl Cores {
     ///
     /// - `Memory` where memory was refused, or what is published has the other core still.
     #[tactic(auto, using(crate::proofs::ReplyLemmas::wants_memory))]
-    pub(crate) fn take(
+    pub(crate) fn take<J: FrontId, R: Wait>(
         &mut self,
+        rt: &R,
         alloc: Global,
+        publisher: &mut Publisher<J>,
         asked: Asked,
     ) -> Result<Option<(Reply, Arc<Row>)>, Refusal>
         requires draft { (arc_value asked.draft).event ≡ asked.event }
+        requires kept { Kept J.setup self.old false publisher.old.rows }
         ensures row { IfOk result (λ found. IfSome found (λ p.
             arc_value p.1 ≡ row (arc_value asked.draft).pass asked.event p.0)) }
         ensures some { IfOk result (λ found. IfSome found (λ p. unrecorded p.0 ≡ false)) }
         ensures step { IfOk result (λ found. IfSome found (λ p.
             Steps self.old asked.event p.0 self.new)) }
+        ensures shown { IfOk result (λ found. IfSome found (λ p. publisher.new
+            ≡ record { core = self.new; rows = publisher.old.rows ++ arc_value p.1 ∷ []; whole = true })) }
         ensures lost { IfOk result (λ found. IfNone found (TookEvent self.old asked.event self.new)) }
+        ensures not_shown { IfOk result (λ found. IfNone found (publisher.new.rows ≡ publisher.old.rows)) }
         ensures given { setup_of self.new ≡ setup_of self.old }
-        ensures kept { IfErr result (λ why. self.new ≡ self.old) }
+        ensures refused { IfErr result (λ why. self.new ≡ self.old) }
+        ensures kept { IfErr result (λ why. publisher.new ≡ publisher.old) }
         ensures memory { IfErr result (λ why. why ≡ Memory) }
     {
+        isolation();
+        timed_isolation();
         let Cores {
             shown,
             other,
@@ -274,6 +285,9 @@ impl Cores {
             mut draft,
             mut ready,
         } = asked;
+        if !publisher.settle(rt) {
+            return Err(Refusal::Memory);
+        }
         bring_up(alloc, other, lag, made)?;
         let Some(core) = Arc::get_mut(other) else {
             return Err(Refusal::Memory);
@@ -291,7 +305,11 @@ impl Cores {
             return Ok(None);
         };
         *lag = lag_after(&reply, row);
-        Ok(Some((reply, draft)))
+        if publisher.put(rt, alloc, shown, &*draft) {
+            Ok(Some((reply, draft)))
+        } else {
+            Ok(None)
+        }
     }
 
     /// Sweeps the other core, once it has taken what it lacks, and shows it.

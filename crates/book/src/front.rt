@@ -29,7 +29,7 @@ use model::Refusal;
 use schedule::{Core, Event, Ready, Reply, RunningJob, User};
 use std::alloc::Global;
 use std::num::NonZeroUsize;
-use std::sync::{Mutex, MutexGuard, Wait};
+use std::sync::{Arc, Mutex, MutexGuard, Wait};
 
 /// How many repaired records the passes of a front keep at most, all together: as many as a closure may
 /// have entries.
@@ -134,8 +134,8 @@ fn writer_of<J: FrontId, R: Wait>(
         view writer.desk.place ≡ knower (name_of J.book J.setup)) }
     ensures memory { IfErr result (λ why. why ≡ Memory) }
 {
-    let first = Snapshot::new(alloc, cores.share()?, none.again());
-    let second = Snapshot::new(alloc, cores.share()?, none.again());
+    let first = Snapshot::new(alloc, Arc::try_clone(cores.owner())?, none.again());
+    let second = Snapshot::new(alloc, Arc::try_clone(cores.owner())?, none.again());
     let writer = SnapshotWriter::new(alloc, first, second, readers)?;
     let (writer, knows) = begin(rt, writer);
     if knows {
@@ -222,7 +222,7 @@ impl<J: FrontId> Front<J> {
             → (result ≡ Refused Stopped) ⊎ (result ≡ Refused Memory) }
     {
         match pass.prepare(&event) {
-            Ok(ready) => self.commit(rt, alloc, pass, event, ready),
+            Ok(ready) => pass.call(rt, alloc, &mut *self.book.lock(rt), event, ready),
             Err(why) => refuse(why, event),
         }
     }

@@ -1,19 +1,20 @@
 //! What a book publishes.
 
+ghost use Rattle.std.specs.Arc.{arc_value};
 ghost use Rattle.std.specs.Prelude.{◌≡◌, ◌+◌, ◌<◌, ◌++◌, ◌∷◌, [], drop, true, false, MatchBool};
 ghost use Rattle.history.specs.Histories.{IsLegal};
 ghost use Rattle.history.specs.FrontId.{name_of, setup_in};
 ghost use Rattle.history.specs.Tied.{IsQuiet};
 ghost use Rattle.book.specs.Publishing.{Published, IsFollowing};
 
-use crate::cores::Cores;
 use core::mem::replace_with;
 use history::{
     End, FrontId, HistoryLength, HistoryPrefix, Row, Snapshot, SnapshotWriter, publish, settle,
 };
+use schedule::Core;
 use std::alloc::Global;
 use std::marker::Model;
-use std::sync::Wait;
+use std::sync::{Arc, Wait};
 
 /// No history is as long.
 const MOST_ROWS: u64 = 1 << 61;
@@ -138,15 +139,21 @@ impl<J: FrontId> Publisher<J> {
 
     /// Publishes the core that is to be shown, with rows whose events it has taken, and says whether it did.
     /// It did not where memory was refused; then nothing can be published any more.
-    fn show<R: Wait>(&mut self, rt: &R, alloc: Global, cores: &Cores, rows: HistoryPrefix) -> bool
+    fn show<R: Wait>(
+        &mut self,
+        rt: &R,
+        alloc: Global,
+        core: &Arc<Core>,
+        rows: HistoryPrefix,
+    ) -> bool
         requires whole { self.old.whole ≡ true }
         requires book { rows.seen.book ≡ J.book }
-        requires follows { IsFollowing J.setup cores.now rows.seen.log }
+        requires follows { IsFollowing J.setup (arc_value core.now) rows.seen.log }
         ensures { MatchBool result
-            (self.new ≡ record { core = cores.now; rows = rows.seen.log; whole = true })
+            (self.new ≡ record { core = arc_value core.now; rows = rows.seen.log; whole = true })
             (self.new ≡ record { core = self.old.core; rows = self.old.rows; whole = false }) }
     {
-        let Ok(core) = cores.share() else {
+        let Ok(core) = Arc::try_clone(core) else {
             self.whole = false;
             return false;
         };
@@ -162,30 +169,36 @@ impl<J: FrontId> Publisher<J> {
 
     /// Publishes a row behind the others, with the core that has taken its event, and says whether it did. It
     /// did not where memory was refused; then nothing can be published any more.
-    pub(crate) fn put<R: Wait>(&mut self, rt: &R, alloc: Global, cores: &Cores, row: &Row) -> bool
+    pub(crate) fn put<R: Wait>(
+        &mut self,
+        rt: &R,
+        alloc: Global,
+        core: &Arc<Core>,
+        row: &Row,
+    ) -> bool
         requires whole { self.old.whole ≡ true }
-        requires follows { IsFollowing J.setup cores.now (self.old.rows ++ row.now ∷ []) }
+        requires follows { IsFollowing J.setup (arc_value core.now) (self.old.rows ++ row.now ∷ []) }
         ensures { MatchBool result
-            (self.new ≡ record { core = cores.now; rows = self.old.rows ++ row.now ∷ []; whole = true })
+            (self.new ≡ record { core = arc_value core.now; rows = self.old.rows ++ row.now ∷ []; whole = true })
             (self.new ≡ record { core = self.old.core; rows = self.old.rows; whole = false }) }
     {
         insist(rt, self.rows.len() < MOST_ROWS);
         let mut after = self.rows.again();
         insist(rt, after.add(&self.head, row));
-        self.show(rt, alloc, cores, after)
+        self.show(rt, alloc, core, after)
     }
 
     /// Publishes the core that is to be shown, with the rows that are published, whose events it has taken, and
     /// says whether it did. It did not where memory was refused; then nothing can be published any more.
-    pub(crate) fn change<R: Wait>(&mut self, rt: &R, alloc: Global, cores: &Cores) -> bool
+    pub(crate) fn change<R: Wait>(&mut self, rt: &R, alloc: Global, core: &Arc<Core>) -> bool
         requires whole { self.old.whole ≡ true }
-        requires follows { IsFollowing J.setup cores.now self.old.rows }
+        requires follows { IsFollowing J.setup (arc_value core.now) self.old.rows }
         ensures { MatchBool result
-            (self.new ≡ record { core = cores.now; rows = self.old.rows; whole = true })
+            (self.new ≡ record { core = arc_value core.now; rows = self.old.rows; whole = true })
             (self.new ≡ record { core = self.old.core; rows = self.old.rows; whole = false }) }
     {
         let rows = self.rows.again();
-        self.show(rt, alloc, cores, rows)
+        self.show(rt, alloc, core, rows)
     }
 
     /// All rows that are published.

@@ -92,7 +92,7 @@ impl Settlements {
             → IfOk result (λ _. self.new.computed ≡ one_more self.old.computed) }
         ensures memory { IfErr result (λ why. why ≡ Memory) }
     {
-        let _len = tree.nar_len();
+        tree.well_formed();
         if let Some(outcome) = found(self.settled.as_slice(), &input, tree) {
             return Ok(copy_of(outcome)?);
         }

@@ -72,7 +72,7 @@ impl Sources {
             → IfOk result (λ _. self.new.computed ≡ one_more self.old.computed) }
         ensures memory { IfErr result (λ e. e ≡ Memory) }
     {
-        let _len = tree.nar_len();
+        tree.well_formed();
         if let Some(path) = found(self.placed.as_slice(), name, tree) {
             return Ok(path.clone()?);
         }

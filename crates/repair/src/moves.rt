@@ -156,7 +156,7 @@ pub(crate) fn moves_of(
 {
     let mut moves = Vec::new(alloc);
     for label in labels {
-        let _part = label.path().hash_part();
+        label.path().well_formed();
         let path = path_for(served, rank, label)?;
         let label = label.clone()?;
         moves.push(Move { label, path })?;

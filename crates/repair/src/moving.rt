@@ -181,8 +181,8 @@ pub fn serve(
     ensures bounded { IsBounded cache.new.kept }
     ensures bound { bound_of cache.new.kept ≡ bound_of cache.old.kept }
 {
-    let _len = chosen.tree().nar_len();
-    let _part = chosen.path().hash_part();
+    chosen.tree().well_formed();
+    chosen.path().well_formed();
     let moves = moves_of(alloc, chosen.labels(), served, chosen.class().rank())?;
     moved(alloc, chosen, moves, cache)
 }

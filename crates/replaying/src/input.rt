@@ -2,8 +2,8 @@
 
 ghost use Rattle.std.specs.Prelude.{◌≡◌, ◌≤◌, ◌⊎◌, [], true, OnOk, IfErr};
 ghost use Rattle.model.specs.Limits.{most_charge};
-ghost use Rattle.model.specs.Worlds.{are_users, nothing};
-ghost use Rattle.schedule.specs.Standing.{setup_for, setup_of, world_of, stored_in};
+ghost use Rattle.model.specs.Worlds.{nothing};
+ghost use Rattle.schedule.specs.Standing.{setup_of, world_of, stored_in};
 ghost use Rattle.model.specs.declared.refusal.Refusal.TheVariants.{InputFault, OutputFault};
 ghost use Rattle.session.specs.Serving.{EndsByCounts, HasFailed, IsOwn, IsShown, MayBeFault};
 ghost use Rattle.replaying.specs.ServingOn.{ServesOn, ServesOnInPart, ServesOnSoFar};
@@ -13,24 +13,13 @@ use crate::one_pass::OnePass;
 use crate::settings::Settings;
 use book::{Front, FrontId, FrontTokens};
 use model::Refusal;
-use schedule::{Core, User};
+use schedule::Core;
 use session::{Begun, Faults, Head, Mode, flush_after, serve_head, serve_on};
 use std::alloc::Global;
 use std::io::{Read, Write};
 use std::marker::Brand;
 use std::mem;
 use std::sync::Wait;
-
-/// What a new store is made of.
-#[derive(Drop)]
-struct NewStore {
-    /// The keys of its hashers, and its limits.
-    settings: Settings,
-    /// Its users.
-    users: Vec<User>,
-    /// Whether it is swept after each event that is no query.
-    sweeps: bool,
-}
 
 /// What a new front begins with.
 #[derive(Drop)]
@@ -90,45 +79,6 @@ fn serve_core<J: FrontId, H: Wait, R: Read + Faults, W: Write + Faults>(
     ended
 }
 
-/// Answers the lines behind the first ones, of what was read behind those and of the reader, by a new store
-/// for the users whom the first ones name, whose charge is limited.
-fn serve_users<H: Wait, R: Read + Faults, W: Write + Faults>(
-    rt: &H,
-    alloc: Global,
-    new: NewStore,
-    begun: &mut Begun,
-    reader: &mut R,
-    writer: &mut W,
-) -> Result<(), Refusal>
-    requires { new.settings.limits.charge ≤ most_charge }
-    ensures ok { OnOk result (ServesOn (setup_for new.users new.settings.limits)
-        begun.old.session begun.old.rest.items
-        (R.remaining reader.old) (R.remaining reader.new) (W.contents writer.old) (W.contents writer.new)) }
-    ensures err { IfErr result (λ why. are_users new.users.items ≡ true
-        → ServesOnInPart (setup_for new.users new.settings.limits) begun.old.session begun.old.rest.items
-        (R.remaining reader.old) (R.remaining reader.new) (W.contents writer.old) (W.contents writer.new) why) }
-    ensures failed { IfErr result (λ why. why ≡ InputFault
-        → ServesOnSoFar (setup_for new.users new.settings.limits) begun.old.session begun.old.rest.items
-        (R.remaining reader.old) (R.remaining reader.new) (W.contents writer.old) (W.contents writer.new)) }
-    ensures whole { OnOk result (¬ HasFailed begun.old.reader_failures (R.failed reader.new)) }
-    ensures errors { IfErr result (λ why. (why ≡ InputFault) ⊎ IsOwn why) }
-    ensures output_fault { IfErr result (MayBeFault OutputFault begun.old.writer_failures (W.failed writer.new)) }
-{
-    let NewStore {
-        settings,
-        users,
-        sweeps,
-    } = new;
-    let core = Core::new(alloc, settings.hashing, users, settings.limits)?;
-    let blank = FrontTokens::new(alloc, 1)?;
-    let new = NewFront {
-        blank,
-        core,
-        sweeps,
-    };
-    serve_core::<Brand, _, _, _>(rt, alloc, new, begun, reader, writer)
-}
-
 /// Answers the lines that a reader gives, in a store for the users whom they name first and under these
 /// limits, and writes the replies. The writer is left to be flushed.
 fn answer_input<H: Wait, R: Read + Faults, W: Write + Faults>(
@@ -155,12 +105,14 @@ fn answer_input<H: Wait, R: Read + Faults, W: Write + Faults>(
     let Some(users) = users else {
         return Ok(());
     };
-    let new = NewStore {
-        settings,
-        users,
+    let core = Core::new(alloc, settings.hashing, users, settings.limits)?;
+    let blank = FrontTokens::new(alloc, 1)?;
+    let new = NewFront {
+        blank,
+        core,
         sweeps,
     };
-    serve_users(rt, alloc, new, &mut begun, reader, writer)
+    serve_core::<Brand, _, _, _>(rt, alloc, new, &mut begun, reader, writer)
 }
 
 /// Answers the lines that a reader gives, in a store for the users whom they name first and under

@@ -80,6 +80,13 @@ impl PathSet {
         PathSet { shared: None }
     }
 
+    /// Its members are store paths.
+    pub fn well_formed(&self)
+        ensures { All IsPath self.now }
+    {
+        let _ = self.as_slice();
+    }
+
     /// The paths, in the order in which they were added.
     pub fn as_slice(&self) -> &[StorePath]
         ensures value { result.now ≡ self.now }

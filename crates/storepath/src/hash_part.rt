@@ -67,6 +67,14 @@ impl HashPart {
         Ok(HashPart::from_digits(text))
     }
 
+    /// It has 32 digits of base 32.
+    pub fn well_formed(&self)
+        ensures length { length self.now ≡ 32 }
+        ensures digits { list_all is_digit_32 self.now ≡ true }
+    {
+        let _ = &self.digits;
+    }
+
     /// The 32 digits.
     pub fn bytes(&self) -> &[u8]
         ensures value { result.now ≡ self.now }

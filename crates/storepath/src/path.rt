@@ -53,6 +53,13 @@ impl Model for StorePath {
 }
 
 impl StorePath {
+    /// It is a store path as the definition has it.
+    pub fn well_formed(&self)
+        ensures { IsPath self.now }
+    {
+        let _ = &self.text;
+    }
+
     /// The bytes of the path.
     pub fn bytes(&self) -> &[u8]
         ensures value { result.now ≡ self.now }

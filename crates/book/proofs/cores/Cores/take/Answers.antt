@@ -1,19 +1,24 @@
-use Rattle.std.proofs.Common.{sym, ap, subst}
+use Rattle.std.proofs.Common.{◌≡◌, false, List, [], ◌∷◌, ◌++◌, sym, ap, ◌∙◌, subst}
 use Rattle.std.specs.Arc.{arc_value}
 use Rattle.events.specs.Terms.{reply_of}
 use Rattle.schedule.specs.declared.state.Core.{Core}
 use Rattle.schedule.specs.Standing.{IsUnchanged}
+use Rattle.history.specs.declared.row.Row.{Row}
+use Rattle.history.specs.Histories.{unrecorded}
+use Rattle.book.specs.Keeping.{Steps}
+use Rattle.book.specs.Publishing.{Published, IsFollowing}
+use Rattle.book.proofs.KeepingLemmas.{goes_on, may_follow}
 use Rattle.book.proofs.TurnLemmas.{behind_kept, taken_over}
 use Rattle.book.proofs.cores.Cores.take.Goals as goal
 
 pub invariant_of-self : goal.invariant_of-self
-invariant_of-self c =
+invariant_of-self g c =
     let inside = c.self.inside in
     behind_kept inside.lag c.bring_up.new.lag (arc_value inside.other) (arc_value c.bring_up.new.other) (arc_value inside.shown) c.self.invariant
     c.in_err-bring_up.ensures.kept c.in_err-bring_up.ensures.same
 
 pub returns-in_default-complete-clause-lost : goal.returns-in_default-complete-clause-lost
-returns-in_default-complete-clause-lost c =
+returns-in_default-complete-clause-lost g c =
     let shown : Core = arc_value c.self.inside.shown in
     let same = subst (λ (core : Core). IsUnchanged shown core) (sym c.in-Some.ensures.value) (c.in_ok-bring_up.ensures.caught shown c.self.invariant) in
     record {
@@ -23,7 +28,7 @@ returns-in_default-complete-clause-lost c =
     }
 
 pub returns-clause-step : goal.returns-clause-step
-returns-clause-step c =
+returns-clause-step g c =
     let shown : Core = arc_value c.self.inside.shown in
     let same = subst (λ (core : Core). IsUnchanged shown core) (sym c.in-Some.ensures.value) (c.in_ok-bring_up.ensures.caught shown c.self.invariant) in
     taken_over shown c.in-Some.core.now c.step_ready_with_copy.new.self _ _ _ _ _ same c.step_ready_with_copy.ensures.step c.self.view_is

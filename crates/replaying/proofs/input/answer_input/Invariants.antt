@@ -1,5 +1,5 @@
 use Rattle.schedule.specs.Standing.{setup_of}
-use Rattle.replaying.proofs.input.serve_users.Given as goal
+use Rattle.replaying.proofs.input.answer_input.Given as goal
 
 abbrev pub ghosts-serve_core-J-Ledger : goal.ghosts-serve_core-J-Ledger
 ghosts-serve_core-J-Ledger g a = record { name = a.new.blank.calls.name; parts = a.new.blank.calls.parts }
