@@ -84,7 +84,7 @@ fn built_for(
     ensures input { IfOk result (HasInput tree.now goal.now.resolved) }
     ensures memory { IfErr result (λ why. why ≡ Memory) }
 {
-    tree.well_formed();
+    tree.sound();
     let Some(admitted) = desk.derivation(goal.derivation()) else {
         return Ok(Err(Refusal::UnknownDerivation));
     };

@@ -50,12 +50,12 @@ abbrev Stands : Goal → Type 0
 Stands g = is_planned g.status ≡ true → is_some g.resolved ≡ true
 
 -- what a goal of a number keeps the goal of that number kept before; and a goal that was not there keeps nothing
-abbrev HasKept : List Goal → ℕ → Goal → Type 0
+abbrev pub HasKept : List Goal → ℕ → Goal → Type 0
 HasKept old n g = ((goal_at n old ≡ None) × (g.resolved ≡ None)) ⊎ ((h : Goal) × (goal_at n old ≡ Some h) × (g.resolved ≡ h.resolved))
 
 -- each of the goals does
-record Follows (old later : List Goal) : Type 0 where
-  kept : (n : ℕ) (g : Goal) → goal_at n later ≡ Some g → HasKept old n g
+pub record Follows (old later : List Goal) : Type 0 where
+  pub kept : (n : ℕ) (g : Goal) → goal_at n later ≡ Some g → HasKept old n g
   none : (n : ℕ) → goal_at n later ≡ None → goal_at n old ≡ None
   stand : All Stands old → All Stands later
 
@@ -221,16 +221,16 @@ follows_delivered setup actor reached (Ended n end) d = follows_all_ended setup 
 -- ---- what a request does to the goals of its user
 
 -- a goal that waited is planned: it keeps what a derivation that is known was resolved to
-record PlansGoal (s : Observation) (r : Request) (o : Outcome) : Type 0 where
-  number : ℕ
-  asked : r ≡ Plan number
-  goal : Goal
-  admission : Admission
-  resolved : Resolved
-  there : goal_at number s.desk.goals ≡ Some goal
-  known : known_at (known_of s.desk) goal.derivation ≡ Some admission
-  is : resolve_for s admission.derivation ≡ Ok resolved
-  outcome_is : o ≡ becomes (with_goal number (planned_goal goal resolved) s.desk) (replies.Status Planned)
+pub record PlansGoal (s : Observation) (r : Request) (o : Outcome) : Type 0 where
+  pub number : ℕ
+  pub asked : r ≡ Plan number
+  pub goal : Goal
+  pub admission : Admission
+  pub resolved : Resolved
+  pub there : goal_at number s.desk.goals ≡ Some goal
+  pub known : known_at (known_of s.desk) goal.derivation ≡ Some admission
+  pub is : resolve_for s admission.derivation ≡ Ok resolved
+  pub outcome_is : o ≡ becomes (with_goal number (planned_goal goal resolved) s.desk) (GoalStatus Planned)
 
 -- what the goals keep was kept before, or the request is refused
 abbrev GoalsFollow : Observation → Outcome → Type 0
@@ -297,7 +297,7 @@ module _ (s : Observation) (n : ℕ) where
       resolved_so g a there known (Err why) is told = absurd (cc)
 
 -- a planned goal keeps what it is started with
-kept_in : (s : Status) (kept : Option Resolved) (r : Resolved) → planned_in s kept ≡ Some r → kept ≡ Some r
+pub kept_in : (s : Status) (kept : Option Resolved) (r : Resolved) → planned_in s kept ≡ Some r → kept ≡ Some r
 kept_in Waiting kept r e = absurd (cc)
 kept_in Planned kept r e = e
 kept_in (Building job) kept r e = absurd (cc)
@@ -387,7 +387,7 @@ outcome_fits setup s (Forget class path) = inl (forget_cases (GoalsFollow s) s c
 -- ---- one event
 
 -- what the goals of a user keep was kept before, or the event is his own and plans one
-abbrev FollowsOrPlans : Setup → World → Event → List ℕ → Desk → Type 0
+abbrev pub FollowsOrPlans : Setup → World → Event → List ℕ → Desk → Type 0
 FollowsOrPlans setup w e u later = Follows (w u).goals later.goals ⊎ ((u ≡ e.actor) × PlansGoal (observation_of setup w e.actor) e.request (outcome_of setup w e))
 
 module _ (setup : Setup) (w : World) (e : Event) (u : List ℕ) (reached : Bool) where
@@ -410,7 +410,7 @@ module _ (setup : Setup) (w : World) (e : Event) (u : List ℕ) (reached : Bool)
     | inr other ↦ inl (delivered_follows c (subst (λ (b : Bool). Follows (w u).goals (if b then c.desk else w u).goals) (sym other) (follows_itself (w u).goals)))
   ]
 
-after_follows : (setup : Setup) (w : World) (e : Event) (u : List ℕ) → FollowsOrPlans setup w e u (after setup w e u)
+pub after_follows : (setup : Setup) (w : World) (e : Event) (u : List ℕ) → FollowsOrPlans setup w e u (after setup w e u)
 after_follows setup w e u =
     after_outcome setup w e u (reaches setup w u e.actor) (outcome_of setup w e) refl
     (cond_both (is_user setup e.actor) (outcome setup (observation_of setup w e.actor) e.request) (Err UnknownUser) (Fits (observation_of setup w e.actor) e.request)
@@ -419,7 +419,7 @@ after_follows setup w e u =
 -- ---- what is kept after events
 
 -- a goal of a number in the place of another
-put_cases : (m n : ℕ) (x g y : Goal) (goals : List Goal) → goal_at m goals ≡ Some g → goal_at n (with_goal_at m x goals) ≡ Some y
+pub put_cases : (m n : ℕ) (x g y : Goal) (goals : List Goal) → goal_at m goals ≡ Some g → goal_at n (with_goal_at m x goals) ≡ Some y
     → ((n ≡ m) × (x ≡ y)) ⊎ (goal_at n goals ≡ Some y)
 put_cases zero n x g y goals there at = absurd (cc)
 put_cases (suc i) zero x g y goals there at = absurd (cc)
@@ -434,7 +434,7 @@ put_cases (suc i) (suc j) x g y goals there at = elim (set_cases i j x g y goals
     set_cases (suc i) (suc j) x g y (z ∷ goals) there at = elim (set_cases i j x g y goals there at) [ inl p ↦ inl (ap suc p.0, p.1) | inr other ↦ inr other ]
 
 -- the one that was put is there
-put_there : (n : ℕ) (x g : Goal) (goals : List Goal) → goal_at n goals ≡ Some g → goal_at n (with_goal_at n x goals) ≡ Some x
+pub put_there : (n : ℕ) (x g : Goal) (goals : List Goal) → goal_at n goals ≡ Some g → goal_at n (with_goal_at n x goals) ≡ Some x
 put_there zero x g goals there = absurd (cc)
 put_there (suc i) x g goals there = set_there i goals there
   where
@@ -453,7 +453,7 @@ resolved_plan view pins known d r is =
     (two.0, two.1)
 
 -- the goals of the actor after a change of which nothing is delivered
-goals_after : (setup : Setup) (w : World) (e : Event) (d : Desk) (reply : Reply) → outcome_of setup w e ≡ becomes d reply → (after setup w e e.actor).goals ≡ d.goals
+pub goals_after : (setup : Setup) (w : World) (e : Event) (d : Desk) (reply : Reply) → outcome_of setup w e ≡ becomes d reply → (after setup w e e.actor).goals ≡ d.goals
 goals_after setup w e d reply o =
     ap (λ (p : Outcome). (desk_after setup e.actor p e.actor (reaches setup w e.actor e.actor) (w e.actor)).goals) o
     ∙ ap (λ (b : Bool). (if b then d else w e.actor).goals) (bytes_same e.actor)

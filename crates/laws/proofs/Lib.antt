@@ -34,3 +34,13 @@ pub mod LabelLemmas
 pub mod ClosureLemmas
 pub mod WholeLemmas
 pub mod PrivateLemmas
+pub mod HashedForLemmas
+pub mod HashedClosureLemmas
+pub mod HashedRequestLemmas
+pub mod HashedEndLemmas
+pub mod HashedValueLemmas
+pub mod HashedTreeLemmas
+pub mod HashedDeskLemmas
+pub mod HashedAfterLemmas
+pub mod HashedNewLemmas
+pub mod HashedRefusalLemmas

@@ -5,6 +5,7 @@
 
 mod closures;
 mod events;
+mod hashing;
 mod reach;
 mod settling;
 mod talk;
@@ -15,6 +16,7 @@ pub use events::{
     only_plans_change_kept, planned_goals_keep, queries_change_nothing, striking_hashes_no_more,
     timed_isolation, trust_follows,
 };
+pub use hashing::{each_new_value_is_named, each_text_names_a_value, other_refusals_hash_nothing};
 pub use reach::reach_is_least;
 pub use settling::{putting_is_by_map, settling_is_by_set};
 pub use talk::service_never_waits;

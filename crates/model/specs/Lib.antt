@@ -41,6 +41,7 @@ pub mod Steps
 pub mod Striking
 pub mod Timed
 pub mod HashedTexts
+pub mod HashedValues
 pub mod RunningJobs
 pub mod GivenClosures
 pub mod KeptClosures

@@ -92,7 +92,7 @@ impl Settlements {
             → IfOk result (λ _. self.new.computed ≡ one_more self.old.computed) }
         ensures memory { IfErr result (λ why. why ≡ Memory) }
     {
-        tree.well_formed();
+        tree.sound();
         if let Some(outcome) = found(self.settled.as_slice(), &input, tree) {
             return Ok(copy_of(outcome)?);
         }

@@ -72,7 +72,7 @@ impl Sources {
             → IfOk result (λ _. self.new.computed ≡ one_more self.old.computed) }
         ensures memory { IfErr result (λ e. e ≡ Memory) }
     {
-        tree.well_formed();
+        tree.sound();
         if let Some(path) = found(self.placed.as_slice(), name, tree) {
             return Ok(path.clone()?);
         }

@@ -156,7 +156,7 @@ pub(crate) fn moves_of(
 {
     let mut moves = Vec::new(alloc);
     for label in labels {
-        label.path().well_formed();
+        label.path().sound();
         let path = path_for(served, rank, label)?;
         let label = label.clone()?;
         moves.push(Move { label, path })?;

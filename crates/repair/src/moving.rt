@@ -181,8 +181,8 @@ pub fn serve(
     ensures bounded { IsBounded cache.new.kept }
     ensures bound { bound_of cache.new.kept ≡ bound_of cache.old.kept }
 {
-    chosen.tree().well_formed();
-    chosen.path().well_formed();
+    chosen.tree().sound();
+    chosen.path().sound();
     let moves = moves_of(alloc, chosen.labels(), served, chosen.class().rank())?;
     moved(alloc, chosen, moves, cache)
 }

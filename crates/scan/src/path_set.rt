@@ -81,7 +81,7 @@ impl PathSet {
     }
 
     /// Its members are store paths.
-    pub fn well_formed(&self)
+    pub fn sound(&self)
         ensures { All IsPath self.now }
     {
         let _ = self.as_slice();

@@ -68,7 +68,7 @@ impl HashPart {
     }
 
     /// It has 32 digits of base 32.
-    pub fn well_formed(&self)
+    pub fn sound(&self)
         ensures length { length self.now ≡ 32 }
         ensures digits { list_all is_digit_32 self.now ≡ true }
     {

@@ -54,7 +54,7 @@ impl Model for StorePath {
 
 impl StorePath {
     /// It is a store path as the definition has it.
-    pub fn well_formed(&self)
+    pub fn sound(&self)
         ensures { IsPath self.now }
     {
         let _ = &self.text;

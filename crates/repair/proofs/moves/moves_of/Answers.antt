@@ -37,7 +37,7 @@ loop-label-preserved c =
           c.loop-label-test.true c.label-item.is c.loop-label.invariant.moves
           (c.in_ok-path.ensures ∙ ap (λ (m : Label). Ok (record { label = m; path = path })) (sym c.in_ok-label.ensures.cases)) c.in_ok-push.ensures.items;
       sound = paths_step c.args.labels.now c.loop-label.label-index l c.loop-label-test.true c.label-item.is c.loop-label.invariant.sound
-          (subst IsPath c.path.ensures c.well_formed.ensures);
+          (subst IsPath c.path.ensures c.sound.ensures);
     }
 
 pub returns-clause-moves : goal.returns-clause-moves

@@ -15,8 +15,8 @@ pub returns-clause-sound : goal.returns-clause-sound
 returns-clause-sound c =
     let r = c.args.chosen.now in
     if_any c.moved.result (IsSoundRecord r) (record {
-      tree = subst IsTree c.tree.ensures c.well_formed.ensures;
-      path = subst IsPath c.path.ensures c.well_formed-2.ensures;
+      tree = subst IsTree c.tree.ensures c.sound.ensures;
+      path = subst IsPath c.path.ensures c.sound-2.ensures;
       labels = label_paths r.labels (rw (← c.labels.ensures.labels) (c.in_ok-moves.ensures.sound));
       once = once r.labels c.labels.ensures.in_order;
     })
