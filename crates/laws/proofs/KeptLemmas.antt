@@ -230,7 +230,7 @@ pub record PlansGoal (s : Observation) (r : Request) (o : Outcome) : Type 0 wher
   pub there : goal_at number s.desk.goals ≡ Some goal
   pub known : known_at (known_of s.desk) goal.derivation ≡ Some admission
   pub is : resolve_for s admission.derivation ≡ Ok resolved
-  pub outcome_is : o ≡ becomes (with_goal number (planned_goal goal resolved) s.desk) (GoalStatus Planned)
+  pub outcome_is : o ≡ becomes (with_goal number (planned_goal goal resolved) s.desk) (replies.Status Planned)
 
 -- what the goals keep was kept before, or the request is refused
 abbrev GoalsFollow : Observation → Outcome → Type 0

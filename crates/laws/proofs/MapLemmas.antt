@@ -1,5 +1,5 @@
 -- Images are a map, and candidates a set: their order does not matter, nor how often one is listed.
-use Rattle.std.proofs.Common.{◌≡◌, ℕ, Bool, true, false, inl, inr, refl, sym, ◌∙◌, ap, subst, List, [], ◌∷◌, map, Result, Ok, Err}
+use Rattle.std.proofs.Common.{◌≡◌, ℕ, zero, suc, Bool, true, false, inl, inr, refl, sym, ◌∙◌, ap, subst, List, [], ◌∷◌, ◌++◌, take, map, Result, Ok, Err}
 use Rattle.std.specs.Prelude.{◌||◌, ◌&&◌, not, bytes_eq, if◌then◌else◌}
 use Rattle.std.specs.List.{list_any}
 use Rattle.std.specs.Cmp.Lexicographic.{pointwise}
@@ -10,8 +10,8 @@ use Rattle.model.specs.declared.refusal.RewriteFault.{RewriteFault}
 use Rattle.model.specs.declared.refusal.RewriteFault.TheVariants.{Accidental}
 use Rattle.model.specs.Archives.{Tree, File, Link, Directory, Entries, NoEntries, Entry, nar}
 use Rattle.model.specs.Paths.{Output, store_path, with_fingerprint}
-use Rattle.model.specs.Occurrences.{Keys, among, Place, places_in, occurrences, fault}
-use Rattle.model.specs.Substitutions.{Images, image_of, keys_of, parts_of, is_replaced, imaged, written, put_text, put, put_entries, same_place, is_true_put}
+use Rattle.model.specs.Occurrences.{Keys, among, Place, occurrences, fault}
+use Rattle.model.specs.Substitutions.{Images, image_of, keys_of, parts_of, is_replaced, imaged, put_from, put_text, put, put_entries, same_place, is_true_put}
 use Rattle.model.specs.Settling.{Settled, blanked_text, hash_part_in, sought, own_offsets_of, references_of, stands_in, settled_path, settling, settled_at, unless, settled, path_texts, unless_refused, settling_texts}
 use Rattle.model.specs.Laws.{AreOneSet, SettlingIsBySet, AreOneMap, PutTheSame, PuttingIsByMap}
 use Rattle.model.proofs.BoolLemmas.{either, or_cases, same_bytes, bytes_same}
@@ -95,8 +95,15 @@ module _ (some others : Images) (one : AreOneMap some others) where
   parts_same : among (parts_of some) ≡ among (parts_of others)
   parts_same = λ i w. (part_same w) i
 
+  from_same : (k : ℕ) (text : List ℕ) → put_from some k text ≡ put_from others k text
+  unfolding put_from
+  from_same k [] = refl
+  from_same (suc k) (b ∷ bs) = from_same k bs
+  from_same zero (b ∷ bs) = λ i.
+      if keys_same i (take 32 (b ∷ bs)) then images_same i (take 32 (b ∷ bs)) ++ from_same 31 bs i else b ∷ from_same zero bs i
+
   text_same : (text : List ℕ) → put_text some text ≡ put_text others text
-  text_same text = λ i. written 0 (map (λ (p : Place). (p.0, images_same i p.1)) (places_in (keys_same i) 0 text)) text
+  text_same text = from_same zero text
 
   mutual
     tree_same : (tree : Tree) → put some tree ≡ put others tree

@@ -18,7 +18,7 @@ use Rattle.scan.proofs.PieceLemmas.{places_in-nar}
 use Rattle.rewrite.specs.Laws.{window_at}
 use Rattle.rewrite.proofs.ApartLemmas.{one_among, settled_parts, settling_leaves_others}
 use Rattle.rewrite.proofs.KeepLemmas.{Standing, standing_in}
-use Rattle.rewrite.proofs.PutLemmas.{Found, Found-places_in}
+use Rattle.rewrite.proofs.KeyLemmas.{Found, Found-places_in}
 use Rattle.rewrite.proofs.StayLemmas.{none_in_pieces, none_stays}
 use Rattle.records.specs.Sound.{IsSoundRecord}
 use Rattle.repair.specs.SoundPlans.{AreMoves, PartsTellApart}

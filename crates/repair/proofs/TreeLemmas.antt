@@ -7,7 +7,7 @@ use Rattle.model.specs.declared.refusal.RewriteFault.{RewriteFault}
 use Rattle.model.specs.declared.refusal.RewriteFault.TheVariants.{Accidental}
 use Rattle.model.specs.Archives.{Tree, File, Link, Directory, Entries, NoEntries, Entry, HasBytes, HaveBytes, IsTree, bytes_before}
 use Rattle.model.specs.Paths.{IsPath, is_name}
-use Rattle.model.specs.Occurrences.{AreKeys, IsHashPart, among, places_in, fault}
+use Rattle.model.specs.Occurrences.{AreKeys, IsHashPart, among, fault}
 use Rattle.model.specs.Substitutions.{Images, AreImages, keys_of, put, put_entries, is_true_put}
 use Rattle.model.specs.Settling.{Settled, hash_part_in, name_in, sought, settling, settled}
 use Rattle.model.specs.Worlds.{Label, Record}
@@ -17,8 +17,7 @@ use Rattle.model.proofs.BoolLemmas.{either, same_bytes}
 use Rattle.laws.proofs.MemberLemmas.{In, contains_of, from_map}
 use Rattle.storepath.proofs.PathLemmas.{name_of-path_text}
 use Rattle.rewrite.proofs.ApartLemmas.{are_settling, length-put, path_of_settled, settled_parts}
-use Rattle.rewrite.proofs.PutLemmas.{Found-places_in}
-use Rattle.rewrite.proofs.PutTrees.{bytes_written, sound-put, depth-put}
+use Rattle.rewrite.proofs.PutTrees.{bytes_put, sound-put, depth-put}
 use Rattle.rewrite.proofs.SettleLemmas.{keys-settling}
 use Rattle.rewrite.proofs.OneTreeLemmas.{path_part}
 use Rattle.records.specs.Sound.{IsSoundRecord}
@@ -30,10 +29,8 @@ use Rattle.laws.proofs.LabelLemmas.{from_least_label}
 
 mutual
   bytes-put : (images : Images) → AreImages images → (tree : Tree) → HasBytes tree → HasBytes (put images tree)
-  bytes-put images are (File executable bytes) h =
-      bytes_written images are 0 (places_in (among (keys_of images)) 0 bytes) bytes (Found-places_in (among (keys_of images)) 0 bytes) h
-  bytes-put images are (Link target) h =
-      bytes_written images are 0 (places_in (among (keys_of images)) 0 target) target (Found-places_in (among (keys_of images)) 0 target) h
+  bytes-put images are (File executable bytes) h = bytes_put images are 0 bytes h
+  bytes-put images are (Link target) h = bytes_put images are 0 target h
   bytes-put images are (Directory entries) h = bytes_entries-put images are entries h
 
   bytes_entries-put : (images : Images) → AreImages images → (entries : Entries) → HaveBytes entries → HaveBytes (put_entries images entries)

@@ -122,7 +122,7 @@ pub fn occurrences(alloc: Global, archive: &Nar, keys: &Keys) -> Result<Places, 
     ensures sound { IfOk result (λ places. fault (among keys.now) archive.now ≡ None) }
     ensures refused { IfErr result (IsFault (fault (among keys.now) archive.now)) }
 {
-    let _bytes = archive.bytes();
+    archive.sound();
     occurrences_by(alloc, archive, &mut Sought { keys, asked: 0 })
 }
 

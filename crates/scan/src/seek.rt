@@ -47,7 +47,7 @@ impl Seek for Sought<'_> {
     }
 
     fn looks(&self) -> u64 {
-        let _parts = self.keys.parts();
+        self.keys.sound();
         self.asked
     }
 }
@@ -75,8 +75,8 @@ impl Seek for SoughtBeside<'_> {
     }
 
     fn looks(&self) -> u64 {
-        let _parts = self.keys.parts();
-        let _parts_of_paths = self.paths.has_part(&[0; 32]);
+        self.keys.sound();
+        let _ = self.paths.has_part(&[0; 32]);
         self.asked
     }
 }

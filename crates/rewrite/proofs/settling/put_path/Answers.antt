@@ -5,7 +5,7 @@ use Rattle.model.specs.Settling.{settling, sought}
 use Rattle.model.specs.Substitutions.{Images, AreImages, keys_of, parts_of, put, are_true, is_true_put}
 use Rattle.rewrite.specs.Laws.{text_with}
 use Rattle.rewrite.proofs.OwnImageLemmas.{images_are, text_same}
-use Rattle.rewrite.proofs.PutLemmas.{AreKeys-images}
+use Rattle.rewrite.proofs.KeyLemmas.{AreKeys-images}
 use Rattle.rewrite.proofs.PutTrees.{occurrence_fits, written_archive}
 use Rattle.rewrite.proofs.SettleLemmas.{keys-settling}
 use Rattle.rewrite.proofs.settling.put_path.Goals as goal
