@@ -1,15 +1,15 @@
 //! What builders write.
 
-ghost use Rattle.std.specs.Prelude.{◌≡◌, IfOk};
+ghost use Rattle.std.specs.Prelude.{◌≡◌, List, ℕ, IfOk};
 
+use model::SharedBytes;
 use std::alloc::AllocError;
 use std::marker::Model;
-use std::sync::ArcSlice;
 
 /// What a builder wrote: any bytes, of which those are an output that are the archive of a tree. A
 /// copy shares them.
 pub struct Output {
-    bytes: ArcSlice<u8>,
+    bytes: SharedBytes,
 }
 
 impl Drop for Output {
@@ -19,12 +19,9 @@ impl Drop for Output {
 }
 
 impl Model for Output {
-    ghost use Rattle.std.specs.Prelude.{List, ℕ};
-    ghost use Rattle.std.specs.Arc.{arc_slice_items};
-
     ghost Value = { List ℕ };
 
-    ghost view = { λ output. arc_slice_items output.bytes };
+    ghost view = { λ output. output.bytes };
 }
 
 impl Output {
@@ -32,7 +29,7 @@ impl Output {
     pub fn new(bytes: Vec<u8>) -> Result<Output, AllocError>
         ensures { IfOk result (λ output. output ≡ bytes.items) }
     {
-        let bytes = ArcSlice::from_vec(bytes)?;
+        let bytes = SharedBytes::from_vec(bytes)?;
         Ok(Output { bytes })
     }
 
@@ -44,11 +41,9 @@ impl Output {
     }
 }
 
-/// The copy is equal, and shares the bytes. It fails only where memory is refused.
+/// The copy is equal, and shares the bytes. It takes no memory.
 impl Clone for Output {
-    ghost use Rattle.std.specs.Prelude.{◌≡◌};
-
-    ghost is_clone = { λ original copy. copy ≡ original };
+    ghost is_clone = { λ output copy. copy ≡ output };
 
     fn clone(&self) -> Result<Output, AllocError> {
         let bytes = self.bytes.clone()?;

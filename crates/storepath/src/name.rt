@@ -1,12 +1,11 @@
 //! Names of store paths (Nix Reference Manual, "Store Path").
 
-ghost use Rattle.std.specs.Prelude.{◌≡◌, ◌↔◌, ◌⊎◌, true, false, IfOk, IfErr};
+ghost use Rattle.std.specs.Prelude.{◌≡◌, ◌↔◌, ◌⊎◌, ℕ, List, true, false, IfOk, IfErr};
 ghost use Rattle.model.specs.Paths.{is_name, is_name_byte};
 
-use model::Refusal;
+use model::{Refusal, SharedBytes};
 use std::alloc::{AllocError, Global};
 use std::marker::Model;
-use std::sync::ArcSlice;
 use std::{fmt, str};
 
 /// The greatest length of a name, in bytes.
@@ -33,7 +32,7 @@ pub fn is_name(text: &[u8]) -> bool
 /// shares the bytes.
 #[derive(Debug)]
 pub struct Name {
-    text: ArcSlice<u8>,
+    text: SharedBytes,
 }
 
 impl Drop for Name {
@@ -43,15 +42,11 @@ impl Drop for Name {
 }
 
 impl Model for Name {
-    ghost use Rattle.std.specs.Prelude.{◌≡◌, List, ℕ, true};
-    ghost use Rattle.std.specs.Arc.{arc_slice_items};
-    ghost use Rattle.model.specs.Paths.{is_name};
-
     ghost Value = { List ℕ };
 
-    ghost view = { λ name. arc_slice_items name.text };
+    ghost view = { λ name. name.text };
 
-    ghost invariant = { λ name. is_name (arc_slice_items name.text) ≡ true };
+    ghost invariant = { λ name. is_name name.text ≡ true };
 }
 
 impl Name {
@@ -69,7 +64,7 @@ impl Name {
         if !is_name(text) {
             return Err(Refusal::BadName);
         }
-        let text = ArcSlice::from_slice(alloc, text)?;
+        let text = SharedBytes::from_slice(alloc, text)?;
         Ok(Name { text })
     }
 
@@ -82,11 +77,8 @@ impl Name {
     }
 }
 
-/// The copy is equal, and shares the bytes. It takes no memory; it fails only where there are 2^63 - 1
-/// copies.
+/// The copy is equal, and shares the bytes. It takes no memory.
 impl Clone for Name {
-    ghost use Rattle.std.specs.Prelude.{◌≡◌};
-
     ghost is_clone = { λ name copy. copy ≡ name };
 
     fn clone(&self) -> Result<Name, AllocError> {

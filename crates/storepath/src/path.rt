@@ -1,18 +1,18 @@
 //! The texts of store paths (Nix Reference Manual, "Store Path").
 
 ghost use Rattle.std.specs.Prelude.{◌≡◌, ◌↔◌, ◌⊎◌, ℕ, List, true, false, IfOk, IfErr, IsTrue};
+ghost use Rattle.std.specs.Cmp.Rules.{comparing};
+ghost use Rattle.std.specs.Str.{bytes_eq};
+ghost use Rattle.std.proofs.Common.{rules};
 ghost use Rattle.model.specs.Paths.{base32, is_name, is_path, path_text, IsPath};
 ghost use Rattle.storepath.specs.Parts.{hash_part_of, name_of};
 
 use crate::base32::to_base32;
 use crate::hash_part::{HashPart, is_hash_part};
 use crate::name::{Name, is_name};
-use model::Refusal;
+use model::{Refusal, SharedBytes};
 use std::alloc::{AllocError, Global};
-use std::cmp::Ordering;
-use std::hash::{Hash, Hasher};
 use std::marker::Model;
-use std::sync::ArcSlice;
 use std::{fmt, str};
 
 /// What stands before each hash part.
@@ -28,10 +28,10 @@ const DASH: usize = 43;
 const NAME: usize = 44;
 
 /// The text of a store path: `/nix/store/`, a hash part of 32 digits, `-` and a name, in all 45 to 255
-/// bytes. A copy shares the text.
-#[derive(Debug)]
+/// bytes. A copy shares the text. Paths stand in the order of their bytes.
+#[derive(Debug, Eq, PartialOrd, Ord, Hash)]
 pub struct StorePath {
-    text: ArcSlice<u8>,
+    text: SharedBytes,
 }
 
 impl Drop for StorePath {
@@ -41,15 +41,13 @@ impl Drop for StorePath {
 }
 
 impl Model for StorePath {
-    ghost use Rattle.std.specs.Prelude.{List, ℕ};
-    ghost use Rattle.std.specs.Arc.{arc_slice_items};
-    ghost use Rattle.model.specs.Paths.{IsPath};
-
     ghost Value = { List ℕ };
 
-    ghost view = { λ path. arc_slice_items path.text };
+    ghost view = { λ path. path.text };
 
-    ghost invariant = { λ path. IsPath (arc_slice_items path.text) };
+    ghost invariant = { λ path. IsPath path.text };
+
+    ghost inverse = { λ text. record { text = text } };
 }
 
 impl StorePath {
@@ -74,7 +72,7 @@ impl StorePath {
         ensures value { result ≡ hash_part_of self.now }
         ensures part { (path : IsPath self.now) × (result ≡ base32 path.hash_part) }
     {
-        HashPart::from_digits(&self.text[HASH_PART..DASH])
+        HashPart::from_digits(&self.bytes()[HASH_PART..DASH])
     }
 
     /// The bytes of the name.
@@ -82,7 +80,7 @@ impl StorePath {
         ensures value { result.now ≡ name_of self.now }
         ensures part { (path : IsPath self.now) × (result.now ≡ path.name) }
     {
-        &self.text[NAME..]
+        &self.bytes()[NAME..]
     }
 }
 
@@ -99,7 +97,7 @@ pub(crate) fn path_of(
     text.extend_from_slice(&to_base32(hash_part))?;
     text.extend_from_slice(b"-")?;
     text.extend_from_slice(name.bytes())?;
-    let text = ArcSlice::from_vec(text)?;
+    let text = SharedBytes::from_vec(text)?;
     Ok(StorePath { text })
 }
 
@@ -138,88 +136,24 @@ pub fn read_path(alloc: Global, text: &[u8]) -> Result<StorePath, Refusal>
     if !is_path(text) {
         return Err(Refusal::BadPath);
     }
-    let text = ArcSlice::from_slice(alloc, text)?;
+    let text = SharedBytes::from_slice(alloc, text)?;
     Ok(StorePath { text })
 }
 
-/// Paths are equal where their texts are.
+/// Paths are equal where their texts are. It is written, since proofs that search among paths need
+/// `bytes_eq` by its name.
 impl PartialEq for StorePath {
-    ghost use Rattle.std.specs.Str.{bytes_eq};
-    ghost use Rattle.std.proofs.Common.{rules};
-    ghost use Rattle.std.specs.Cmp.Rules.{comparing};
-
     ghost eq = { bytes_eq };
 
     ghost laws = { Prim.search (comparing, rules) };
 
     fn eq(&self, other: &StorePath) -> bool {
-        self.bytes() == other.bytes()
+        self.text == other.text
     }
 }
 
-impl Eq for StorePath {
-    ghost use Rattle.std.proofs.Common.{rules};
-    ghost use Rattle.std.specs.Cmp.Rules.{comparing};
-
-    ghost laws = { Prim.search (comparing, rules) };
-}
-
-/// Paths stand in the order of their bytes.
-impl Ord for StorePath {
-    ghost use Rattle.std.proofs.Common.{rules};
-    ghost use Rattle.std.specs.Cmp.Lexicographic.{slice_cmp};
-    ghost use Rattle.std.specs.Cmp.Rules.{comparing};
-    ghost use Rattle.std.specs.Ordering.{nat_cmp};
-
-    ghost cmp = { slice_cmp nat_cmp };
-
-    ghost total = { Prim.search (comparing, rules) };
-
-    ghost matches_partial_cmp = { Prim.search (comparing, rules) };
-
-    ghost matches_eq = { Prim.search (comparing, rules) };
-
-    fn cmp(&self, other: &StorePath) -> Ordering {
-        self.bytes().cmp(other.bytes())
-    }
-}
-
-impl PartialOrd for StorePath {
-    ghost use Rattle.std.proofs.Common.{rules};
-    ghost use Rattle.std.specs.Cmp.{partial_order_from_own_ties};
-    ghost use Rattle.std.specs.Cmp.Lexicographic.{slice_cmp};
-    ghost use Rattle.std.specs.Cmp.Rules.{comparing};
-    ghost use Rattle.std.specs.Ordering.{as_partial_cmp, nat_cmp};
-
-    ghost partial_cmp = { as_partial_cmp (slice_cmp nat_cmp) };
-
-    ghost laws = { partial_order_from_own_ties (Prim.search (comparing, rules)) (Prim.search (comparing, rules)) };
-
-    fn partial_cmp(&self, other: &StorePath) -> Option<Ordering> {
-        Some(self.cmp(other))
-    }
-}
-
-/// Paths that are equal have one hash, that of the text, which is written at once.
-impl Hash for StorePath {
-    ghost use Rattle.std.proofs.Common.{rules};
-    ghost use Rattle.std.specs.Cmp.Rules.{hashing};
-    ghost use Rattle.std.specs.Prelude.{[], ◌∷◌};
-
-    ghost hash_input = { λ text. text ∷ [] };
-
-    ghost respects_eq = { Prim.search (hashing, rules) };
-
-    fn hash<H: Hasher>(&self, state: &mut H) {
-        state.write(self.bytes());
-    }
-}
-
-/// The copy is equal, and shares the text. It takes no memory; it fails only where there are 2^63 - 1
-/// copies.
+/// The copy is equal, and shares the text. It takes no memory.
 impl Clone for StorePath {
-    ghost use Rattle.std.specs.Prelude.{◌≡◌};
-
     ghost is_clone = { λ path copy. copy ≡ path };
 
     fn clone(&self) -> Result<StorePath, AllocError> {

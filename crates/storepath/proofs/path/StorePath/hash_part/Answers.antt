@@ -1,5 +1,4 @@
 use Rattle.std.proofs.Common.{◌≡◌, ◌≤◌, ℕ, List, length, arith, ◌∙◌, ap, sym}
-use Rattle.std.specs.Arc.{arc_slice_items}
 use Rattle.model.specs.Paths.{base32, IsPath}
 use Rattle.storepath.specs.Parts.{hash_part_of}
 use Rattle.storepath.proofs.PathLemmas.{length-IsPath, hash_part_of-path_text}
@@ -12,15 +11,16 @@ hash_part_of-path text path = ap hash_part_of path.is ∙ hash_part_of-path_text
 
 pub slice_bounds-from_digits-end : goal.slice_bounds-from_digits-end
 slice_bounds-from_digits-end c =
-    let long : 44 ≤ length c.deref.result.now = rw c.deref.ensures.value (length-IsPath (arc_slice_items c.self.inside.text) c.self.invariant) in
+    let long : 44 ≤ length c.bytes.result.now = rw c.bytes.ensures.value (length-IsPath c.args.self.now c.bytes.ensures.path) in
     omega arith
 
 pub from_digits-requires : goal.from_digits-requires
 from_digits-requires c =
-    let text = arc_slice_items c.self.inside.text in
-    rw c.deref.ensures.value (base32_is_hash_part c.self.invariant.hash_part (hash_part_of text) (sym (hash_part_of-path text c.self.invariant)))
+    let text = c.args.self.now in
+    let path = c.bytes.ensures.path in
+    rw c.bytes.ensures.value (base32_is_hash_part path.hash_part (hash_part_of text) (sym (hash_part_of-path text path)))
 
 pub returns-clause-part : goal.returns-clause-part
 returns-clause-part c =
-    let text = arc_slice_items c.self.inside.text in
-    rw (← c.self.view_is, c.from_digits.ensures, c.deref.ensures.value) (c.self.invariant, hash_part_of-path text c.self.invariant)
+    let path = c.bytes.ensures.path in
+    rw (c.from_digits.ensures, c.bytes.ensures.value) (path, hash_part_of-path c.args.self.now path)
