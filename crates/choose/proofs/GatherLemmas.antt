@@ -1,18 +1,18 @@
 -- How what is gathered grows.
-use Rattle.std.proofs.Common.{◌≡◌, ℕ, suc, ◌+◌, ◌<◌, ◌≤◌, true, false, ◌⊎◌, inl, inr, refl, sym, ◌∙◌, ap, subst, arith, List, [], ◌∷◌, ◌++◌, length, get_or, length-append, Option, Some, None}
+use Rattle.std.proofs.Common.{◌≡◌, ℕ, true, false, ◌⊎◌, inl, inr, refl, sym, ◌∙◌, ap, subst, List, [], ◌∷◌, ◌++◌, Option, Some, None}
 use Rattle.std.specs.Prelude.{bytes_eq}
 use Rattle.std.specs.List.{list_any}
 use Rattle.model.specs.Worlds.{Source, Label, Record}
 use Rattle.model.specs.Classes.{Class}
-use Rattle.model.specs.Choices.{rank_before, source_before, is_of, class_path_of, classes_below, source_path_of, sources_below, reached, Plan}
+use Rattle.model.specs.Choices.{rank_before, source_before, is_of, class_path_of, classes_below, source_path_of, sources_below, needed_records, Plan}
 use Rattle.model.proofs.BoolLemmas.{either, same_bytes, bytes_same}
 use Rattle.laws.proofs.MemberLemmas.{In, in_left, in_right, in_append, in_filter_map, from_filter_map}
-use Rattle.laws.proofs.ClosureLemmas.{some_same, IsOfClass}
+use Rattle.laws.proofs.ClosureLemmas.{some_same}
 use Rattle.choose.specs.Visible.{Visible, source_in}
-use Rattle.choose.specs.Gathering.{has_class, with_chosen, with_class, has_source, with_found, with_source, with_named, with_label, with_labels, IsGathered}
+use Rattle.choose.specs.Gathering.{has_class, with_chosen, with_class, has_source, with_found, with_source, with_named, with_label, with_labels, IsChoiceAmong, IsGathered}
 use Rattle.choose.proofs.SetLemmas.{apart_push}
 use Rattle.choose.proofs.OrderLemmas.{classes_apart, sources_apart}
-use Rattle.choose.proofs.ReachedLemmas.{reached_more, reached_first, reached_next, reached_at, reached_push, source_own}
+use Rattle.choose.proofs.ReachedLemmas.{needed_first, needed_next, source_own}
 use Rattle.choose.proofs.ChoosingLemmas.{false_true}
 
 -- ---- looking up
@@ -64,7 +64,7 @@ labels_end view choice ms p e = ap (λ xs. with_labels view choice xs p) e
 
 -- ---- one class more
 
-module _ (view : Visible) (choice : List ℕ → Option Record) (own : IsOfClass choice) (classes sources : List (List ℕ)) where
+module _ (view : Visible) (choice : List ℕ → Option Record) (own : IsChoiceAmong view.records choice) (classes sources : List (List ℕ)) where
   abbrev G : List (List ℕ) → List (List ℕ) → List Record → Plan → Type 0
   G A P D p = IsGathered view choice classes sources A P D p
 
@@ -72,19 +72,17 @@ module _ (view : Visible) (choice : List ℕ → Option Record) (own : IsOfClass
   pub record Grows (p q : Plan) : Type 0 where
     pub keeps : (r : Record) → In r p.records → In r q.records
     pub keeps_sources : (s : Source) → In s p.sources → In s q.sources
-    pub longer : length p.records ≤ length q.records
 
   unchanged : (p : Plan) → Grows p p
-  unchanged p = record { keeps = λ r h. h; keeps_sources = λ s h. h; longer = omega arith }
+  unchanged p = record { keeps = λ r h. h; keeps_sources = λ s h. h }
 
-  -- the next record is reached
-  abbrev Next : Plan → Record → Type 0
-  Next p r = In r (reached choice (suc (length p.records)) classes)
+  abbrev IsReached : Record → Type 0
+  IsReached r = In r (needed_records view.records choice classes)
 
   pub nothing : G [] [] [] (record { records = []; sources = [] })
   nothing = record {
     chosen = λ r h. absurd h;
-    reach = tt;
+    reach = λ r h. absurd h;
     apart = tt;
     asked = λ c s h e. absurd h;
     below = λ r s c h b e. absurd h;
@@ -95,16 +93,15 @@ module _ (view : Visible) (choice : List ℕ → Option Record) (own : IsOfClass
     sources_below = λ r q s h b e. absurd h;
   }
 
-  push_record : (A P : List (List ℕ)) (D : List Record) (p : Plan) (c : List ℕ) (r : Record) → G A P D p → choice c ≡ Some r → Next p r
+  push_record : (A P : List (List ℕ)) (D : List Record) (p : Plan) (c : List ℕ) (r : Record) → G A P D p → choice c ≡ Some r → IsReached r
       → has_class c p ≡ false → G A P D (with_chosen (Some r) p)
   push_record A P D p c r g e reach absent =
-      let is : r.class.path ≡ c = own c r e in
+      let is : r.class.path ≡ c = (own c r e).1 in
       let at : choice r.class.path ≡ Some r = subst (λ z. choice z ≡ Some r) (sym is) e in
       record {
         chosen = λ x h. elim (in_append x p.records (r ∷ []) h)
             [ inl a ↦ g.chosen x a | inr b ↦ elim b [ inl same ↦ subst (λ (z : Record). choice z.class.path ≡ Some z) same at | inr n ↦ absurd n ] ];
-        reach = reached_push choice classes 0 p.records r g.reach
-            (reached_more choice (suc (length p.records)) (suc (0 + length p.records)) classes r (omega arith) reach);
+        reach = λ x h. elim (in_append x p.records (r ∷ []) h) [ inl a ↦ g.reach x a | inr b ↦ elim b [ inl same ↦ subst IsReached same reach | inr n ↦ absurd n ] ];
         apart = apart_push rank_before p.records r g.apart (λ y h. classes_apart y r (λ k. none_of c p.records absent y h (k ∙ is)));
         asked = λ d s h k. in_left s p.records (r ∷ []) (g.asked d s h k);
         below = λ x s d h b k. in_left s p.records (r ∷ []) (g.below x s d h b k);
@@ -119,16 +116,16 @@ module _ (view : Visible) (choice : List ℕ → Option Record) (own : IsOfClass
   AfterClass A P D c p q = G A P D q × ((s : Record) → choice c ≡ Some s → In s q.records) × Grows p q × (choice c ≡ None → has_class c q ≡ false)
 
   class_absent : (A P : List (List ℕ)) (D : List Record) (p : Plan) (c : List ℕ) (o : Option Record) → G A P D p → choice c ≡ o
-      → ((s : Record) → choice c ≡ Some s → Next p s) → has_class c p ≡ false → AfterClass A P D c p (with_chosen o p)
+      → ((s : Record) → choice c ≡ Some s → IsReached s) → has_class c p ≡ false → AfterClass A P D c p (with_chosen o p)
   class_absent A P D p c None g e reach absent = (g, λ s k. (let no = sym e ∙ k in absurd (cc)), unchanged p, λ n. absent)
   class_absent A P D p c (Some r) g e reach absent = (
     push_record A P D p c r g e (reach r e) absent,
     λ s k. in_right s p.records (r ∷ []) (inl (some_same r s (sym e ∙ k))),
-    record { keeps = λ x h. in_left x p.records (r ∷ []) h; keeps_sources = λ s h. h; longer = omega (arith, length-append p.records (r ∷ [])) },
+    record { keeps = λ x h. in_left x p.records (r ∷ []) h; keeps_sources = λ s h. h },
     λ n. (let no = sym e ∙ n in absurd (cc)),
   )
 
-  pub class_more : (A P : List (List ℕ)) (D : List Record) (p : Plan) (c : List ℕ) → G A P D p → ((s : Record) → choice c ≡ Some s → Next p s)
+  pub class_more : (A P : List (List ℕ)) (D : List Record) (p : Plan) (c : List ℕ) → G A P D p → ((s : Record) → choice c ≡ Some s → IsReached s)
       → AfterClass A P D c p (with_class choice c p)
   class_more A P D p c g reach = elim (either (has_class c p)) [
     | inl t ↦
@@ -177,7 +174,7 @@ module _ (view : Visible) (choice : List ℕ → Option Record) (own : IsOfClass
   source_absent A P D p q (Some s) g e needed absent = (
     push_source A P D p q s g e (source_own view.sources q s e) needed absent,
     λ x k. in_right x p.sources (s ∷ []) (inl (some_same s x (sym e ∙ k))),
-    record { keeps = λ r h. h; keeps_sources = λ x h. in_left x p.sources (s ∷ []) h; longer = omega arith },
+    record { keeps = λ r h. h; keeps_sources = λ x h. in_left x p.sources (s ∷ []) h },
   )
 
   pub source_more : (A P : List (List ℕ)) (D : List Record) (p : Plan) (q : List ℕ) → G A P D p → IsNeeded q p → AfterSource A P D q p (with_source view q p)
@@ -199,39 +196,28 @@ module _ (view : Visible) (choice : List ℕ → Option Record) (own : IsOfClass
   abbrev AfterLabels : List (List ℕ) → List (List ℕ) → List Record → List Label → Plan → Plan → Type 0
   AfterLabels A P D ls p q = G A P D q × Covers ls q × Grows p q
 
-  -- a record that is reached in no more steps than there are records
-  abbrev IsBefore : Record → Plan → Type 0
-  IsBefore x p = (n : ℕ) × (n ≤ length p.records) × In x (reached choice n classes)
-
-  stays : (x : Record) (p q : Plan) → IsBefore x p → length p.records ≤ length q.records → IsBefore x q
-  stays x p q b l = (b.0, omega (arith, b.1, l), b.2)
-
-  next : (p : Plan) (x s : Record) (c : List ℕ) → IsBefore x p → In c (classes_below x) → choice c ≡ Some s → Next p s
-  next p x s c b down e = reached_more choice (suc b.0) (suc (length p.records)) classes s (omega (arith, b.1))
-      (reached_next choice b.0 classes x s c b.2 down e)
-
   one_label : (A P : List (List ℕ)) (D : List Record) (p : Plan) (x : Record) (path : List ℕ) (class : Option Class) → G A P D p → In x p.records
-      → IsBefore x p → In (record { path = path; class = class }) x.labels
+      → In (record { path = path; class = class }) x.labels
       → G A P D (with_named view choice path class p) × ((c : List ℕ) (s : Record) → class_path_of (record { path = path; class = class }) ≡ Some c
       → choice c ≡ Some s → In s (with_named view choice path class p).records)
       × ((z : List ℕ) (s : Source) → source_path_of (record { path = path; class = class }) ≡ Some z → source_in view z ≡ Some s
       → In s (with_named view choice path class p).sources) × Grows p (with_named view choice path class p)
-  one_label A P D p x path None g there reach i =
+  one_label A P D p x path None g there i =
       let w = source_more A P D p path g (inr (x, there, in_filter_map source_path_of (record { path = path; class = None }) path x.labels i refl)) in
       (w.0, λ c s e k. absurd (cc), λ z s e k. w.1 s (subst (λ q. source_in view q ≡ Some s) (sym (some_same path z e)) k), w.2)
-  one_label A P D p x path (Some class) g there reach i =
+  one_label A P D p x path (Some class) g there i =
       let down = in_filter_map class_path_of (record { path = path; class = Some class }) class.path x.labels i refl in
-      let w = class_more A P D p class.path g (λ s e. next p x s class.path reach down e) in
+      let w = class_more A P D p class.path g (λ s e. needed_next view.records choice own classes x s class.path (g.reach x there) down e) in
       (w.0, λ c s e k. w.1 s (subst (λ q. choice q ≡ Some s) (sym (some_same class.path c e)) k), λ z s e k. absurd (cc), w.2)
 
-  pub labels_more : (A P : List (List ℕ)) (D : List Record) (x : Record) (ls : List Label) (p : Plan) → G A P D p → In x p.records → IsBefore x p
+  pub labels_more : (A P : List (List ℕ)) (D : List Record) (x : Record) (ls : List Label) (p : Plan) → G A P D p → In x p.records
       → ((l : Label) → In l ls → In l x.labels) → AfterLabels A P D ls p (with_labels view choice ls p)
   unfolding with_labels
-  labels_more A P D x [] p g there reach sub = (g, (λ l c s h. absurd h, λ l z s h. absurd h), unchanged p)
-  labels_more A P D x (l ∷ ls) p g there reach sub =
-      let one = one_label A P D p x l.path l.class g there reach (sub l (inl refl)) in
+  labels_more A P D x [] p g there sub = (g, (λ l c s h. absurd h, λ l z s h. absurd h), unchanged p)
+  labels_more A P D x (l ∷ ls) p g there sub =
+      let one = one_label A P D p x l.path l.class g there (sub l (inl refl)) in
       let q : Plan = with_label view choice l p in
-      let rest = labels_more A P D x ls q one.0 (one.3.keeps x there) (stays x p q reach one.3.longer) (λ m h. sub m (inr h)) in (
+      let rest = labels_more A P D x ls q one.0 (one.3.keeps x there) (λ m h. sub m (inr h)) in (
         rest.0,
         (
           λ m c s h e k. elim h [
@@ -246,7 +232,6 @@ module _ (view : Visible) (choice : List ℕ → Option Record) (own : IsOfClass
         record {
           keeps = λ r h. rest.2.keeps r (one.3.keeps r h);
           keeps_sources = λ s h. rest.2.keeps_sources s (one.3.keeps_sources s h);
-          longer = omega (arith, one.3.longer, rest.2.longer);
         },
       )
 
@@ -256,7 +241,7 @@ module _ (view : Visible) (choice : List ℕ → Option Record) (own : IsOfClass
   pub asked_more : (A : List (List ℕ)) (p : Plan) (c : List ℕ) → In c classes → G A [] [] p → G (A ++ c ∷ []) [] [] (with_class choice c p)
       × (choice c ≡ None → has_class c (with_class choice c p) ≡ false)
   asked_more A p c i g =
-      let w = class_more A [] [] p c g (λ s e. reached_more choice 1 (suc (length p.records)) classes s (omega arith) (reached_first choice classes c s i e)) in
+      let w = class_more A [] [] p c g (λ s e. needed_first view.records choice own classes c s i e) in
       let h : G A [] [] (with_class choice c p) = w.0 in (
         record {
           chosen = h.chosen;
@@ -297,16 +282,10 @@ module _ (view : Visible) (choice : List ℕ → Option Record) (own : IsOfClass
       }
 
   -- what is below one record more
-  pub below_more : (A P : List (List ℕ)) (D : List Record) (p : Plan) (k : ℕ) (x : Record) → k < length p.records → x ≡ get_or p.records k x → In x p.records
-      → G A P D p → G A P (D ++ x ∷ []) (with_labels view choice x.labels p)
-  below_more A P D p k x lt is there g =
+  pub below_more : (A P : List (List ℕ)) (D : List Record) (p : Plan) (x : Record) → In x p.records → G A P D p → G A P (D ++ x ∷ []) (with_labels view choice x.labels p)
+  below_more A P D p x there g =
       let q : Plan = with_labels view choice x.labels p in
-      let w = labels_more A P D x x.labels p g there (
-        suc k,
-        omega (arith, lt),
-        reached_more choice (suc (0 + k)) (suc k) classes x (omega arith)
-            (reached_at choice classes 0 p.records k x g.reach lt is),
-      ) (λ l h. h) in
+      let w = labels_more A P D x x.labels p g there (λ l h. h) in
       let h : G A P D q = w.0 in
       record {
         chosen = h.chosen;

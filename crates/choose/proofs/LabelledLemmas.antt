@@ -1,7 +1,6 @@
 -- What labels name on closed desks is visible.
-use Rattle.std.proofs.Common.{◌≡◌, ℕ, Bool, true, inl, inr, refl, sym, ◌∙◌, ap, subst, List, [], ◌∷◌, Contains, Option, Some, None}
+use Rattle.std.proofs.Common.{◌≡◌, ℕ, true, refl, sym, ◌∙◌, ap, subst, List, Contains, Option, Some, None}
 use Rattle.std.specs.Prelude.{bytes_eq, map, is_some, is_none, All, if◌then◌else◌}
-use Rattle.std.specs.List.{list_any}
 use Rattle.std.specs.List.Sorted.{IsPermutation}
 use Rattle.std.proofs.lemmas.List.Elements.{All-contains}
 use Rattle.std.proofs.lemmas.List.Sorted.{IsPermutation-sym, Contains-permutation}
@@ -9,8 +8,8 @@ use Rattle.model.specs.Classes.{Class}
 use Rattle.model.specs.Worlds.{Source, Label, Record, Desk, Pin}
 use Rattle.model.specs.Choices.{Plan, source_path_of, sources_below}
 use Rattle.model.specs.Closures.{SeesSources}
-use Rattle.model.proofs.BoolLemmas.{either, both_parts, same_bytes}
-use Rattle.laws.proofs.MemberLemmas.{In, in_of, contains_of, in_left, in_right, in_map, from_map, from_filter_map, in_flat_map, from_flat_map}
+use Rattle.model.proofs.BoolLemmas.{both_parts, same_bytes}
+use Rattle.laws.proofs.MemberLemmas.{In, in_of, contains_of, any_true, from_any, in_left, in_right, in_map, from_map, from_filter_map, in_flat_map, from_flat_map}
 use Rattle.records.specs.Recorded.{Recorded}
 use Rattle.realise.specs.Holdings.{Holdings, is_at, has_labelled, IsClosed, IsClosedWith}
 use Rattle.choose.specs.Visible.{Visible, visible_on, seen, choose_in, SeesSourcesOf, SeesSourcesIn, paths_in, LabelsAreVisible, is_source_on}
@@ -18,16 +17,8 @@ use Rattle.records.specs.Trees.{source_at, record_at}
 use Rattle.choose.specs.Gathering.{IsGathered}
 use Rattle.laws.proofs.ClosureLemmas.{chosen_among}
 use Rattle.choose.proofs.SourceLemmas.{some_desk}
-use Rattle.choose.proofs.PlanLemmas.{any_true}
 
--- ---- members
-
-any_member : {X : Type 0} (p : X → Bool) (xs : List X) → list_any p xs ≡ true → (x : X) × In x xs × (p x ≡ true)
-any_member p [] h = absurd (cc)
-any_member p (x ∷ xs) h = elim (either (p x)) [
-  | inl t ↦ (x, inl refl, t)
-  | inr f ↦ let w = any_member p xs (rw f at h) in (w.0, inr w.1, w.2)
-]
+-- ---- records
 
 -- a record that is seen is on a desk
 on_desk : (table : List Source) (desks : List Holdings) (r : Record) → In r (seen table desks).records
@@ -82,14 +73,14 @@ planned_sees view pins classes sources p records g moved h r path there k =
 path_in : (table : List Source) (desks : List Holdings) (d : Holdings) → In d desks → (path : List ℕ) (class : Option Class)
     → has_labelled d path class ≡ true → In path (paths_in (seen table desks))
 path_in table desks d h path None e =
-    let w = any_member (λ p. bytes_eq p path) d.known.sources e in
+    let w = from_any (λ p. bytes_eq p path) d.known.sources e in
     let named : In path d.known.sources = subst (λ p. In p d.known.sources) (same_bytes w.0 path w.2) w.1 in
     let source = in_flat_map (λ (d : Holdings). map (source_at table) d.known.sources) d (source_at table path) desks h
     (in_map (source_at table) path d.known.sources named) in
     in_right path (map (λ (r : Record). r.path) (seen table desks).records) (map (λ (s : Source). s.path) (seen table desks).sources)
     (in_map (λ (s : Source). s.path) (source_at table path) (seen table desks).sources source)
 path_in table desks d h path (Some class) e =
-    let w = any_member (is_at path class) d.records e in
+    let w = from_any (is_at path class) d.records e in
     let there = in_flat_map (λ (d : Holdings). map (record_at table) d.records) d (record_at table w.0) desks h
     (in_map (record_at table) w.0 d.records w.1) in
     subst (λ p. In p (paths_in (seen table desks))) (same_bytes w.0.path path (both_parts _ _ w.2).0)

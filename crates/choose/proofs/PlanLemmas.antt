@@ -13,10 +13,10 @@ use Rattle.model.specs.Classes.{Class}
 use Rattle.model.specs.Worlds.{Source, Label, Record, Pin}
 use Rattle.model.specs.Choices.{rank_before, source_before, is_of, Plan, small_plan}
 use Rattle.model.proofs.BoolLemmas.{either, bytes_same}
-use Rattle.laws.proofs.MemberLemmas.{In, in_of, contains_of, in_right}
-use Rattle.laws.proofs.ClosureLemmas.{IsOfClass, choose_own}
+use Rattle.laws.proofs.MemberLemmas.{In, in_of, contains_of, any_true, in_right}
+use Rattle.laws.proofs.ClosureLemmas.{chosen_among}
 use Rattle.choose.specs.Visible.{Visible, choose_in, source_in, plan_in}
-use Rattle.choose.specs.Gathering.{has_class, with_chosen, with_class, has_source, with_found, with_source, with_named, with_label, with_labels, IsGathered, IsTooMuch, IsInOrder}
+use Rattle.choose.specs.Gathering.{has_class, with_chosen, with_class, has_source, with_found, with_source, with_named, with_label, with_labels, IsChoiceAmong, IsGathered, IsTooMuch, IsInOrder}
 use Rattle.choose.proofs.SetLemmas.{sorted_ascends}
 use Rattle.choose.proofs.OrderLemmas.{rank_before-Weak, source_before-Weak}
 use Rattle.choose.proofs.ReachedLemmas.{one_of_class, planned, too_many, none_chosen}
@@ -40,13 +40,6 @@ any_push p (y ∷ xs) x h k = elim (either (p y)) [
   | inr f ↦ rw f (any_push p xs x (rw f at h) k)
 ]
 
-pub any_true : {X : Type 0} (p : X → Bool) (xs : List X) (x : X) → In x xs → p x ≡ true → list_any p xs ≡ true
-any_true p [] x h t = absurd h
-any_true p (y ∷ xs) x h t = elim h [
-  | inl e ↦ (let u : p y ≡ true = ap p e ∙ t in rw u refl)
-  | inr r ↦ elim (either (p y)) [ inl u ↦ rw u refl | inr f ↦ rw f (any_true p xs x r t) ]
-]
-
 -- ---- classes asked for
 
 has_of : (c : List ℕ) (rs : List Record) (s : Record) → In s rs → s.class.path ≡ c → list_any (is_of c) rs ≡ true
@@ -66,7 +59,7 @@ pub classes_step : (view : Visible) (pins : List Pin) (classes sources : List (L
     → IsGathered view (choose_in view pins) classes sources (take (k + 1) classes) [] [] q
 classes_step view pins classes sources k c p q lt is e g =
     let choice = choose_in view pins in
-    let w = asked_more view choice (choose_own view.records pins) classes sources (take k classes) p c (in_at classes k c lt is) g in
+    let w = asked_more view choice (chosen_among view.records pins) classes sources (take k classes) p c (in_at classes k c lt is) g in
     subst (λ A. IsGathered view choice classes sources A [] [] q) (sym (take_step classes k c lt is))
     (subst (λ r. IsGathered view choice classes sources (take k classes ++ c ∷ []) [] [] r) (sym e) w.0)
 
@@ -78,7 +71,7 @@ pub class_chosen : (view : Visible) (pins : List Pin) (classes : List (List ℕ)
     → list_any (λ d. is_none (choose_in view pins d)) (take (k + 1) classes) ≡ false
 class_chosen view pins classes k c p q lt is e g there before =
     let choice = choose_in view pins in
-    let w = asked_more view choice (choose_own view.records pins) classes [] (take k classes) p c (in_at classes k c lt is) g in
+    let w = asked_more view choice (chosen_among view.records pins) classes [] (take k classes) p c (in_at classes k c lt is) g in
     let some : is_none (choice c) ≡ false = elim (none_or (choice c)) [
       | inl f ↦ f
       | inr n ↦ absurd (false_true (sym (w.1 n) ∙ ap (has_class c) (sym e) ∙ sym there))
@@ -96,12 +89,12 @@ class_missing view pins classes k c p q lt is e g absent =
     let here : In c (take (k + 1) classes) = subst (λ A. In c A) (sym (take_step classes k c lt is)) (in_right c (take k classes) (c ∷ []) (inl refl)) in
     any_true (λ d. is_none (choice d)) classes c (in_at classes k c lt is) (elim (none_cases (choice c)) [
       | inl t ↦ t
-      | inr w ↦ absurd (false_true (absent ∙ has_of c q.records w.0 (after.asked c w.0 here w.1) (choose_own view.records pins c w.0 w.1)))
+      | inr w ↦ absurd (false_true (absent ∙ has_of c q.records w.0 (after.asked c w.0 here w.1) (chosen_among view.records pins c w.0 w.1).1))
     ])
 
 -- ---- sources asked for
 
-pub sources_step : (view : Visible) (choice : List ℕ → Option Record) → IsOfClass choice
+pub sources_step : (view : Visible) (choice : List ℕ → Option Record) → IsChoiceAmong view.records choice
     → (classes sources A : List (List ℕ)) (k : ℕ) (c : List ℕ) (p q : Plan) → k < length sources → c ≡ get_or sources k c → q ≡ with_source view c p
     → IsGathered view choice classes sources A (take k sources) [] p → IsGathered view choice classes sources A (take (k + 1) sources) [] q
 sources_step view choice own classes sources A k c p q lt is e g =
@@ -152,7 +145,7 @@ pub below_step : (view : Visible) (pins : List Pin) (classes sources A P : List 
     → IsGathered view (choose_in view pins) classes sources A P (take (k + 1) q.records) q
 below_step view pins classes sources A P k r p q lt is e g =
     let choice = choose_in view pins in
-    let after = below_more view choice (choose_own view.records pins) classes sources A P (take k p.records) p k r lt is (in_at p.records k r lt is) g in
+    let after = below_more view choice (chosen_among view.records pins) classes sources A P (take k p.records) p r (in_at p.records k r lt is) g in
     let long = labels_lengthen view choice r.labels p in
     let few : k + 1 ≤ length p.records = omega arith in
     let same : take (k + 1) q.records ≡ take k p.records ++ r ∷ [] = ap (λ (z : Plan). take (k + 1) z.records) e ∙ ap (take (k + 1)) long.1
@@ -189,7 +182,7 @@ pub plan_missing : (view : Visible) (pins : List Pin) (classes sources : List (L
 plan_missing view pins classes sources e h = elim h [
   | inl m ↦ inl m
   | inr n ↦
-      inr (none_chosen view.sources (choose_in view pins) classes sources n.1 ∙ ap Err (sym n.0))
+      inr (none_chosen view.records view.sources (choose_in view pins) classes sources n.1 ∙ ap Err (sym n.0))
 ]
 
 pub plan_too_large : (view : Visible) (pins : List Pin) (classes sources : List (List ℕ)) (e : Refusal)
@@ -197,7 +190,7 @@ pub plan_too_large : (view : Visible) (pins : List Pin) (classes sources : List 
     → (e ≡ Memory) ⊎ ((e ≡ ClosureTooLarge) × IsTooMuch view (choose_in view pins) classes sources) → (e ≡ Memory) ⊎ (plan_in view pins classes sources ≡ Err e)
 plan_too_large view pins classes sources e all h = elim h [
   | inl m ↦ inl m
-  | inr n ↦ inr (too_many view (choose_in view pins) (choose_own view.records pins) classes sources n.1.asked_classes n.1.asked_sources n.1.below n.1.plan
+  | inr n ↦ inr (too_many view (choose_in view pins) (chosen_among view.records pins) classes sources n.1.asked_classes n.1.asked_sources n.1.below n.1.plan
       n.1.gathered all n.1.many ∙ ap Err (sym n.0))
 ]
 
@@ -213,7 +206,7 @@ pub plan_found : (view : Visible) (pins : List Pin) (classes sources : List (Lis
     → IsPermutation p.records q.records → IsSortedBy rank_before q.records → IsPermutation p.sources q.sources → IsSortedBy source_before q.sources
     → plan_in view pins classes sources ≡ Ok q
 plan_found view pins classes sources p q all g few rp rs sp ss =
-    planned view (choose_in view pins) (choose_own view.records pins) classes sources p q g all (grind (arith, nat_tests))
+    planned view (choose_in view pins) (chosen_among view.records pins) classes sources p q g all
     (sorted_ascends rank_before rank_before-Weak p.records q.records g.apart rp rs)
     (up q.records p.records (IsPermutation-sym p.records q.records rp)) (up p.records q.records rp)
     (sorted_ascends source_before source_before-Weak p.sources q.sources g.sources_apart sp ss)

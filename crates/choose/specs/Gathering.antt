@@ -1,10 +1,10 @@
 -- What is gathered for a plan, one class and one source after another.
-use Rattle.std.specs.Prelude.{◌≡◌, ℕ, suc, ◌+◌, ◌<◌, ◌⊎◌, Bool, true, if◌then◌else◌, List, [], ◌∷◌, ◌++◌, length, map, bytes_eq, Option, Some, None}
+use Rattle.std.specs.Prelude.{◌≡◌, ℕ, ◌+◌, ◌<◌, ◌⊎◌, Bool, true, if◌then◌else◌, List, [], ◌∷◌, ◌++◌, length, map, bytes_eq, Option, Some, None}
 use Rattle.std.specs.List.{list_any}
 use Rattle.model.specs.Limits.{most_entries}
 use Rattle.model.specs.Worlds.{Source, Label, Record}
 use Rattle.model.specs.Classes.{Class}
-use Rattle.model.specs.Choices.{is_of, rank_before, source_before, reached, classes_below, sources_below, Plan}
+use Rattle.model.specs.Choices.{is_of, rank_before, source_before, needed_records, classes_below, sources_below, Plan}
 use Rattle.laws.proofs.MemberLemmas.{In}
 use Rattle.laws.proofs.SetLemmas.{Ascends}
 use Rattle.choose.specs.Visible.{Visible, source_in}
@@ -60,15 +60,14 @@ abbrev pub AreApart : {X : Type 0} → (X → X → Bool) → List X → Type 0
 AreApart before [] = Unit {0}
 AreApart {X = X} before (x ∷ xs) = ((y : X) → In y xs → IsApart before x y) × AreApart before xs
 
--- each is reached in one step more than it has before it, from k on
-abbrev pub AreReached : (List ℕ → Option Record) → List (List ℕ) → ℕ → List Record → Type 0
-AreReached choice classes k [] = Unit {0}
-AreReached choice classes k (r ∷ rs) = In r (reached choice (suc k) classes) × AreReached choice classes (suc k) rs
+-- what is chosen for a class is one of these records, and is of the class
+abbrev pub IsChoiceAmong : List Record → (List ℕ → Option Record) → Type 0
+IsChoiceAmong records choice = (c : List ℕ) (r : Record) → choice c ≡ Some r → In r records × (r.class.path ≡ c)
 
 -- what has been found for a plan, when the classes A and the sources P have been looked at, and what is below the records D
 pub record IsGathered (view : Visible) (choice : List ℕ → Option Record) (classes sources A P : List (List ℕ)) (D : List Record) (p : Plan) : Type 0 where
   pub chosen : (r : Record) → In r p.records → choice r.class.path ≡ Some r
-  pub reach : AreReached choice classes 0 p.records
+  pub reach : (r : Record) → In r p.records → In r (needed_records view.records choice classes)
   pub apart : AreApart rank_before p.records
   pub asked : (c : List ℕ) (s : Record) → In c A → choice c ≡ Some s → In s p.records
   pub below : (r s : Record) (c : List ℕ) → In r D → In c (classes_below r) → choice c ≡ Some s → In s p.records

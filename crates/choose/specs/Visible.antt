@@ -59,7 +59,7 @@ abbrev pub source_in : Visible → List ℕ → Option Source
 source_in view path = source_among view.sources path
 
 abbrev pub plan_in : Visible → List Pin → List (List ℕ) → List (List ℕ) → Result Plan Refusal
-plan_in view pins classes sources = plan_by view.sources (choose_in view pins) classes sources
+plan_in view pins classes sources = plan_by view.records view.sources (choose_in view pins) classes sources
 
 -- each path that one of these records labels as that of a source is that of a visible source
 abbrev pub SeesSourcesOf : Visible → List Record → Type 0

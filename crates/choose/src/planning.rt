@@ -7,9 +7,8 @@ ghost use Rattle.model.specs.Limits.{most_entries};
 ghost use Rattle.model.specs.Worlds.{Record as RecordValue, Desk as DeskValue};
 ghost use Rattle.model.specs.Choices.{rank_before, source_before, closure_plan};
 ghost use Rattle.model.specs.declared.refusal.Refusal.TheVariants.{Memory, NotRealised, ClosureTooLarge};
-ghost use Rattle.laws.proofs.ClosureLemmas.{IsOfClass};
 ghost use Rattle.choose.specs.Visible.{visible_on, choose_in, SeesSourcesOf, SeesSourcesIn, LabelsAreVisible};
-ghost use Rattle.choose.specs.Gathering.{IsGathered, HasClasses, IsTooMuch};
+ghost use Rattle.choose.specs.Gathering.{IsChoiceAmong, IsGathered, HasClasses, IsTooMuch};
 
 use crate::gathering::Gathering;
 use crate::order::{compare_records, compare_sources};
@@ -50,7 +49,8 @@ fn gather_sources(
     sources: &[StorePath],
     gathering: &mut Gathering,
 ) -> Result<(), Refusal>
-    ensures { (choice : List ℕ → Option RecordValue) (classes A : List (List ℕ)) → IsOfClass choice
+    ensures { (choice : List ℕ → Option RecordValue) (classes A : List (List ℕ))
+        → IsChoiceAmong view.now.records choice
         → IsGathered view.now choice classes sources.now A [] [] gathering.old
         → MatchResult result
         (λ _. IsGathered view.now choice classes sources.now A sources.now [] gathering.new)

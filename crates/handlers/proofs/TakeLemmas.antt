@@ -1,8 +1,7 @@
 -- A closure that is taken.
 use Rattle.std.proofs.Common.{◌≡◌, ℕ, suc, ◌<◌, get_or, ◌⊎◌, Bool, List, [], ◌∷◌, refl, sym, ◌∙◌, ap, subst, inl, inr, rules, Some, None, Result, Ok, Err}
 use Rattle.std.proofs.lemmas.List.{get_or_default}
-use Rattle.std.specs.Prelude.{All, Contains, map, flat_map, filter_map, bytes_eq, unwrap_or, length, is_none}
-use Rattle.std.specs.List.{list_any}
+use Rattle.std.specs.Prelude.{All, Contains, map, flat_map, filter_map, bytes_eq, unwrap_or, length}
 use Rattle.std.proofs.lemmas.List.Elements.{All-nil, All-cons, All-head, All-tail, All-contains}
 use Rattle.model.specs.declared.refusal.Refusal.{Refusal}
 use Rattle.model.specs.declared.refusal.Refusal.TheVariants.{Memory, Clash, NotRealised}
@@ -11,7 +10,7 @@ use Rattle.model.specs.Results.{then_do}
 use Rattle.model.specs.Worlds.{Source, Record, Setup, Desk, World, Goal, Pin, Entry, tree_at, with_entries}
 use Rattle.model.specs.Events as events
 use Rattle.model.specs.Replies as replies
-use Rattle.model.specs.Choices.{Plan, choose, reached, most_steps, rank_before, source_before, source_among, needed_sources, plan_by, closure_plan, visible_sources}
+use Rattle.model.specs.Choices.{Plan, choose, source_before, source_among, needed_sources, closure_plan, visible_records, visible_sources}
 use Rattle.model.specs.Orders.{set_of}
 use Rattle.model.specs.Closures.{served_plan, texts_of_plan, closure, closure_texts, path_for}
 use Rattle.model.specs.ClosureRequests.{closure_for, take_entries, take}
@@ -20,7 +19,7 @@ use Rattle.model.specs.Steps.{outcome}
 use Rattle.model.proofs.BoolLemmas.{either}
 use Rattle.laws.proofs.MemberLemmas.{In, in_of, contains_of, in_map, from_map, from_flat_map, from_filter_map, from_set}
 use Rattle.laws.proofs.ServedLemmas.{then_ok, find_in}
-use Rattle.laws.proofs.ClosureLemmas.{plan_visible, small_is}
+use Rattle.laws.proofs.ClosureLemmas.{plan_visible, plan_is, chosen_for}
 use Rattle.laws.proofs.ClosureRequestLemmas.{take_cases}
 use Rattle.store.specs.Stored.{put_all}
 use Rattle.store.proofs.TableLemmas.{found_holds}
@@ -101,17 +100,14 @@ seen_on f x w users h =
 -- a source of a plan is visible
 planned_source : (view : List Desk) (pins : List Pin) (classes sources : List (List ℕ)) (p : Plan) → closure_plan view pins classes sources ≡ Ok p
     → (s : Source) → In s p.sources → In s (visible_sources view)
-unfolding plan_by
-planned_source view pins classes sources p e s h = elim (either (list_any (λ c. is_none (choose view pins c)) classes)) [
-  | inl t ↦ absurd (let no = rw t at e in cc)
-  | inr f ↦
-      let chosen = set_of rank_before (reached (choose view pins) most_steps classes) in
-      let found : List Source = filter_map (source_among (visible_sources view)) (needed_sources sources chosen) in
-      let is = small_is p (record { records = chosen; sources = set_of source_before found }) (rw f at e) in
-      let in_set : In s (set_of source_before found) = subst (λ (q : Plan). In s q.sources) (sym is) h in
-      let w = from_filter_map (source_among (visible_sources view)) s (needed_sources sources chosen) (from_set source_before s found in_set) in
-      (find_in (λ (t : Source). bytes_eq t.path w.0) (visible_sources view) s w.2).0
-]
+planned_source view pins classes sources p e s h =
+    let visible = visible_sources view in
+    let is = plan_is (visible_records view) visible (choose view pins) classes sources p e in
+    let paths = needed_sources sources (chosen_for (visible_records view) (choose view pins) classes) in
+    let found : List Source = filter_map (source_among visible) paths in
+    let in_set : In s (set_of source_before found) = subst (λ (q : Plan). In s q.sources) (sym is) h in
+    let w = from_filter_map (source_among visible) s paths (from_set source_before s found in_set) in
+    (find_in (λ (t : Source). bytes_eq t.path w.0) visible s w.2).0
 
 -- ---- what is served was hashed
 

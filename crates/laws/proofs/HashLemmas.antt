@@ -20,7 +20,7 @@ use Rattle.model.specs.HashedTexts.{texts_of, texts_of_event, hashed}
 use Rattle.model.specs.Striking.{gives_trust, ever, strike}
 use Rattle.model.specs.Laws.{StrikingHashesNoMore}
 use Rattle.model.proofs.BoolLemmas.{either, same_bytes}
-use Rattle.model.proofs.ReachLemmas.{leads-IsLeast}
+use Rattle.model.proofs.ReachLemmas.{leads-IsLeastSet}
 use Rattle.laws.proofs.GoalLemmas.{Under, delivered_nothing}
 use Rattle.laws.proofs.AgreeLemmas.{Agree, leads_agree, observation_agree}
 use Rattle.laws.proofs.StrikeLemmas.{IsInward, after_agree, after_stranger, gives_user}
@@ -153,7 +153,7 @@ module _ (P : List ℕ → Type 0) where
 pub hashes_no_more : StrikingHashesNoMore
 hashes_no_more setup events u =
     let set : List ℕ → Bool = ever setup events u in
-    let law = leads-IsLeast (λ x y. list_any (gives_trust setup x y) events) setup.users u in
+    let law = leads-IsLeastSet (λ x y. list_any (gives_trust setup x y) events) setup.users u in
     let all : List (List ℕ) = hashed setup nothing events in
     run_within (Contains all) setup set events nothing nothing (λ x y s g. law.closed x y (gives_user setup x y events g) s g)
     (record { desks = λ x s. refl; closed = λ x y s t. cc; goals = λ x s. All-nil (Under set) }) (λ x outside. refl) (All-contains_itself all)

@@ -1,6 +1,6 @@
 -- What the texts of a closure are hashed for: a path of an entry, or the closure is refused; and each class asked for has its entry.
 use Rattle.std.proofs.Common.{◌≡◌, ℕ, suc, Bool, true, false, inl, inr, refl, sym, ◌∙◌, ap, subst, List, [], ◌∷◌, ◌++◌, Option, Some, Result, Ok, Err}
-use Rattle.std.specs.Prelude.{All, map, option_map, is_ok, is_none, filter_map, nat_lt}
+use Rattle.std.specs.Prelude.{All, map, option_map, is_ok, is_none, nat_lt, bytes_eq}
 use Rattle.std.specs.List.{list_any}
 use Rattle.std.proofs.lemmas.List.{append_assoc}
 use Rattle.std.proofs.lemmas.List.Elements.{All-nil, All-push}
@@ -8,21 +8,21 @@ use Rattle.std.proofs.lemmas.Bool.{or_parts}
 use Rattle.model.specs.declared.refusal.RewriteFault.{RewriteFault}
 use Rattle.model.specs.declared.refusal.Refusal.{Refusal}
 use Rattle.model.specs.declared.refusal.Refusal.TheVariants.{NotRealised}
-use Rattle.model.specs.Limits.{most_entries}
 use Rattle.model.specs.Archives.{Tree, bytes_before}
 use Rattle.model.specs.Settling.{hash_part_in, name_in, settled}
 use Rattle.model.specs.Worlds.{Desk, Pin, Record, Entry, OfSource, OfRecord, path_of_entry}
 use Rattle.model.specs.References.{paths_of_labels}
-use Rattle.model.specs.Choices.{visible_records, visible_sources, rank_before, choose, reached, most_steps, Plan, plan_by, closure_plan}
+use Rattle.model.specs.Choices.{visible_records, visible_sources, rank_before, choose, is_of, is_of_any, names_class_of, all_chosen, needed_records, Plan, plan_by, closure_plan}
 use Rattle.model.specs.Repairs.{Move, moves_of, changes_path, is_replaced_by, moved_labels, rewritten, moved, serve, chosen_in, serve_all, resettling_texts, moved_texts, texts_of_moves, texts_unless, texts_in_turn}
 use Rattle.model.specs.Results.{then_do}
 use Rattle.model.specs.Closures.{class_of_entry, is_for, path_for, path_of_class, entries_with, served_entries, served_plan, closure, texts_of_plan, closure_texts}
 use Rattle.model.specs.HashedValues.{IsRepairPath, IsClosureRefused, IsRepairedEntry}
 use Rattle.model.proofs.BoolLemmas.{either, bytes_same}
-use Rattle.laws.proofs.MemberLemmas.{In, in_of, contains_of, in_left, in_right, in_map, in_filter_map, Stands, in_set}
+use Rattle.laws.proofs.MemberLemmas.{In, in_of, contains_of, in_left, in_right, in_map, in_filter_map, any_true, Stands, in_set}
+use Rattle.laws.proofs.AllReachedLemmas.{reached_first}
 use Rattle.laws.proofs.OrderLemmas.{bytes_apart, first_apart}
 use Rattle.laws.proofs.ServedLemmas.{then_ok, ok_is, not_both, some_same, option_cases, serve_class, find_some, chosen_in_class, each_member, moved_cases, serve_moves, OneForEach, chosen_in_one}
-use Rattle.laws.proofs.ClosureLemmas.{choose_own, plan_is, plan_chosen}
+use Rattle.laws.proofs.ClosureLemmas.{chosen_among, plan_is, plan_chosen}
 use Rattle.laws.proofs.WholeLemmas.{record_there}
 use Rattle.laws.proofs.HashedForLemmas.{AreHashedFor, for_none, for_both, for_settling, PathIn, path_in}
 
@@ -177,10 +177,6 @@ not_none p (z ∷ xs) x none h =
     let w = or_parts (p z) (list_any p xs) none in
     elim h [ inl e ↦ subst (λ v. p v ≡ false) e w.0 | inr r ↦ not_none p xs x w.1 r ]
 
-reached_first : (choice : List ℕ → Option Record) (k : ℕ) (classes : List (List ℕ)) (r : Record) → In r (filter_map choice classes) → In r (reached choice (suc k) classes)
-unfolding reached
-reached_first choice k classes r h = in_left r (filter_map choice classes) _ h
-
 same_rank : (q r : Record) → Stands rank_before q r → q.class.path ≡ r.class.path
 same_rank q r s = elim s [
   | inl e ↦ ap (λ (z : Record). z.class.path) e
@@ -210,10 +206,17 @@ module _ (view : List Desk) (pins : List Pin) (classes sources : List (List ℕ)
     | inl t ↦ absurd (not_both p NotRealised (Err NotRealised) refl (rw t at planned))
     | inr f ↦
         let w = is_chosen (choose view pins) c (not_none (λ d. is_none (choose view pins d)) classes c f h) in
-        let first : In w.0 (filter_map (choose view pins) classes) = in_filter_map (choose view pins) c w.0 classes h w.1 in
-        let t = in_set rank_before w.0 (reached (choose view pins) most_steps classes) (reached_first (choose view pins) most_entries classes w.0 first) in
-        let there : In t.0 p.records = subst (In t.0) (plan_is (visible_sources view) (choose view pins) classes sources p planned).0 t.1 in
-        (t.0, there, sym (same_rank w.0 t.0 t.2) ∙ choose_own (visible_records view) pins c w.0 w.1)
+        let choice = choose view pins in
+        let records = visible_records view in
+        let of = chosen_among records pins c w.0 w.1 in
+        let own : choice w.0.class.path ≡ Some w.0 = subst (λ z. choice z ≡ Some w.0) (sym of.1) w.1 in
+        let chosen : In w.0 (all_chosen choice records) = in_filter_map (λ (r : Record). choice r.class.path) w.0 w.0 records of.0 own in
+        let asked : is_of_any classes w.0 ≡ true = any_true (λ d. is_of d w.0) classes c h (subst (λ z. bytes_eq z c ≡ true) (sym of.1) (bytes_same c)) in
+        let needed = reached_first (is_of_any classes) names_class_of (all_chosen choice records) w.0 chosen asked in
+        let t = in_set rank_before w.0 (needed_records records choice classes) needed in
+        let is = plan_is records (visible_sources view) choice classes sources p planned in
+        let there : In t.0 p.records = subst (λ (q : Plan). In t.0 q.records) is t.1 in
+        (t.0, there, sym (same_rank w.0 t.0 t.2) ∙ of.1)
   ]
 
   -- and its entry in the closure

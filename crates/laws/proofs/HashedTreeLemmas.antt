@@ -53,8 +53,8 @@ module _ (view : List Desk) (pins : List Pin) (classes sources : List (List ℕ)
   module _ (p : Plan) (planned : closure_plan view pins classes sources ≡ Ok p) where
     plan_source : (s : Source) → In s p.sources → Q s
     plan_source s h =
-        let is = (plan_is (visible_sources view) (choose view pins) classes sources p planned).1 in
-        let there = from_set source_before s _ (subst (In s) (sym is) h) in
+        let is = plan_is (visible_records view) (visible_sources view) (choose view pins) classes sources p planned in
+        let there = from_set source_before s _ (subst (λ (q : Plan). In s q.sources) (sym is) h) in
         let w = from_filter_map (source_among (visible_sources view)) s _ there in
         visible_source s (find_in (λ (z : Source). bytes_eq z.path w.0) (visible_sources view) s w.2).0
 

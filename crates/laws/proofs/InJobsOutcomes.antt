@@ -85,7 +85,7 @@ module _ (jobs : Job → Bool) where
   closure_in view pins classes sources =
       let records : visible_records (map (desk_in jobs) view) ≡ visible_records view = flat_map-map (λ d. d.records) (desk_in jobs) view in
       let trees : visible_sources (map (desk_in jobs) view) ≡ visible_sources view = flat_map-map (λ d. d.sources) (desk_in jobs) view in
-      λ i. then_do (plan_by (trees i) (λ class. choose_among (records i) pins class) classes sources) served_plan
+      λ i. then_do (plan_by (records i) (trees i) (λ class. choose_among (records i) pins class) classes sources) served_plan
 
   resolve_in : (view : List Desk) (pins : List Pin) (known : Known) (d : Derivation) → resolve (map (desk_in jobs) view) pins known d ≡ resolve view pins known d
   resolve_in view pins known d =

@@ -29,6 +29,7 @@ pub mod MemberLemmas
 pub mod ServedLemmas
 pub mod OrderLemmas
 pub mod SetLemmas
+pub mod AllReachedLemmas
 pub mod MapLemmas
 pub mod LabelLemmas
 pub mod ClosureLemmas

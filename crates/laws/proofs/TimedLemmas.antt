@@ -5,7 +5,7 @@ use Rattle.std.specs.List.{list_any}
 use Rattle.std.proofs.lemmas.Bool.{or_left, or_right, and_from}
 use Rattle.std.proofs.lemmas.Simd.{map-map}
 use Rattle.model.specs.declared.refusal.Refusal.TheVariants.{UnknownUser}
-use Rattle.model.specs.Reach.{leads, is_among}
+use Rattle.model.specs.Reach.{leads_by, leads, is_among}
 use Rattle.model.specs.Worlds.{Setup, is_user, Resolved, Job, Status, Goal, Desk, World, nothing}
 use Rattle.model.specs.Goals.{same_job, running_in, led_by}
 use Rattle.model.specs.Events.{Event}
@@ -14,7 +14,7 @@ use Rattle.model.specs.Steps.{outcome, outcome_of, reply_to, after, world_after,
 use Rattle.model.specs.Timed.{reached_from, near, kept_from, status_in, goal_in, desk_in, AgreesOn}
 use Rattle.model.specs.Laws.{IsTimed}
 use Rattle.model.proofs.BoolLemmas.{either, or_cases, both_parts, same_bytes, bytes_same, bytes_eq_sym}
-use Rattle.model.proofs.ReachLemmas.{leads_link, leads_least, leads-IsLeast}
+use Rattle.model.proofs.ReachLemmas.{leads_link, leads_least, leads-IsLeastSet}
 use Rattle.laws.proofs.GoalLemmas.{keeps_delivered}
 use Rattle.laws.proofs.AgreeLemmas.{and_agree, map_agree, flat_map_agree, observation_sound}
 use Rattle.laws.proofs.StrikeLemmas.{told}
@@ -54,18 +54,18 @@ from_closed setup w known set x y h t =
       | inr others ↦
           let s = some_of (λ z. set z && reaches setup w z x) setup.users others in
           let parts = both_parts (set s.0) (reaches setup w s.0 x) s.2 in
-          let on : reaches setup w s.0 y ≡ true = (leads-IsLeast (trusts w) setup.users s.0).closed x y user parts.1 t in
+          let on : reaches setup w s.0 y ≡ true = (leads-IsLeastSet (trusts w) setup.users s.0).closed x y user parts.1 t in
           or_right (set y) _ (any_of (λ z. set z && reaches setup w z y) s.0 setup.users s.1 (and_from (set s.0) (reaches setup w s.0 y) parts.0 on))
     ]
 
 near_closed : (setup : Setup) (u : List ℕ) (w : World) (events : List Event) → IsOfUsers setup w → IsClosed (near setup u w events) w
 unfolding near
-near_closed setup u w [] known x y h t = (leads-IsLeast (trusts w) setup.users u).closed x y (known x y t) h t
+near_closed setup u w [] known x y h t = (leads-IsLeastSet (trusts w) setup.users u).closed x y (known x y t) h t
 near_closed setup u w (e ∷ events) known x y h t = from_closed setup w known (near setup u (after setup w e) events) x y h t
 
 near_self : (setup : Setup) (u : List ℕ) (w : World) (events : List Event) → near setup u w events u ≡ true
 unfolding near
-near_self setup u w [] = (leads-IsLeast (trusts w) setup.users u).holds
+near_self setup u w [] = (leads-IsLeastSet (trusts w) setup.users u).holds
 near_self setup u w (e ∷ events) = or_left (near setup u (after setup w e) events u) _ (near_self setup u (after setup w e) events)
 
 near_before : (setup : Setup) (u : List ℕ) (w : World) (e : Event) (events : List Event) (x : List ℕ)
@@ -98,7 +98,7 @@ users_after setup w e known x y t = elim (either (is_user setup e.actor)) [
 
 module _ (setup : Setup) (set : List ℕ → Bool) (w v : World) (agree : AgreesOn set w v) (closed : IsClosed set w) where
   leads_same : (ks : List (List ℕ)) (x y : List ℕ) → set x ≡ true → leads (trusts w) ks x y ≡ leads (trusts v) ks x y
-  unfolding leads
+  unfolding leads_by
   leads_same [] x y h = ap (λ (d : Desk). bytes_eq x y || d.trusted y) (agree.desks x h)
   leads_same (k ∷ ks) x y h =
       rw (← leads_same ks x y h)

@@ -7,7 +7,7 @@ use Rattle.model.specs.Settling.{settled, settling_texts}
 use Rattle.model.specs.Derivations.{Derivation, is_derivation}
 use Rattle.model.specs.DerivationTexts.{derivation_of_text}
 use Rattle.model.specs.Classes.{Admission, Known, known_at, derivation_path, admission_of, has_all, admit}
-use Rattle.model.specs.Reach.{leads, is_among}
+use Rattle.model.specs.Reach.{leads_by}
 use Rattle.model.specs.Worlds.{Setup, Source, Desk, World, nothing, known_of}
 use Rattle.model.specs.Events.{AddDerivation, is_query, Event}
 use Rattle.model.specs.Replies.{is_failure}
@@ -17,14 +17,20 @@ use Rattle.model.specs.HashedTexts.{hashed}
 use Rattle.model.specs.Striking.{strike}
 use Rattle.model.specs.Timed.{near, kept_from, strike_timed, trusts_after, AgreesOn}
 
--- a set of users is the least that holds u and is closed under the links of the users
-pub record IsLeast (link : List ℕ → List ℕ → Bool) (users : List (List ℕ)) (u : List ℕ) (set : List ℕ → Bool) : Type 0 where
-  pub holds : set u ≡ true
-  pub closed : (v x : List ℕ) → is_among v users ≡ true → set v ≡ true → link v x ≡ true → set x ≡ true
-  pub least : (other : List ℕ → Bool) → other u ≡ true → ((v x : List ℕ) → other v ≡ true → link v x ≡ true → other x ≡ true) → (v : List ℕ) → set v ≡ true → other v ≡ true
+-- what is related to a member is related to all that the member is related to
+abbrev pub IsTransitive : {X : Type 0} → List X → (X → X → Bool) → Type 0
+IsTransitive {X} members relation = (x y z : X) → Contains members y → relation x y ≡ true → relation y z ≡ true → relation x z ≡ true
 
-abbrev pub ReachIsLeast : Type 0
-ReachIsLeast = (link : List ℕ → List ℕ → Bool) (users : List (List ℕ)) (u : List ℕ) → IsLeast link users u (leads link users u)
+-- a relation is the least that holds the links and is transitive by way of the members; where each thing is linked to itself, it is reflexive
+pub record IsLeast {X : Type 0} (link : X → X → Bool) (members : List X) (relation : X → X → Bool) : Type 0 where
+  pub holds : (x y : X) → link x y ≡ true → relation x y ≡ true
+  pub reflexive : ((x : X) → link x x ≡ true) → (x : X) → relation x x ≡ true
+  pub transitive : IsTransitive members relation
+  pub least : (other : X → X → Bool) → ((x y : X) → link x y ≡ true → other x y ≡ true) → IsTransitive members other
+      → (x y : X) → relation x y ≡ true → other x y ≡ true
+
+abbrev pub ReachIsLeast : Type 0 → Type 0
+ReachIsLeast X = (link : X → X → Bool) (members : List X) → IsLeast link members (leads_by link members)
 
 -- two lists are one set
 abbrev pub AreOneSet : List (List ℕ) → List (List ℕ) → Type 0

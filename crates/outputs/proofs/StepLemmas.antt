@@ -1,27 +1,23 @@
 -- The records below a derivation, one step after another.
-use Rattle.std.proofs.Common.{◌≡◌, ℕ, zero, suc, ◌+◌, ◌≤◌, Bool, true, false, ◌&&◌, ◌||◌, not, inl, inr, List, [], ◌∷◌, ◌++◌, map, length, drop, take, get_or, ◌<◌, cond, append-nil, append_assoc, length-append, refl, sym, ap, ◌∙◌, arith}
-use Rattle.std.specs.Prelude.{bytes_eq, nat_le, filter, Option, Some, None, if◌then◌else◌}
+use Rattle.std.proofs.Common.{◌≡◌, ℕ, zero, suc, ◌+◌, ◌≤◌, Bool, true, false, ◌&&◌, ◌||◌, not, inl, inr, List, [], ◌∷◌, ◌++◌, length, drop, take, get_or, ◌<◌, cond, append-nil, append_assoc, length-append, refl, sym, ap, ◌∙◌, arith}
+use Rattle.std.specs.Prelude.{bytes_eq, nat_le, filter, Some, if◌then◌else◌}
 use Rattle.std.specs.List.{list_any, IsDistinct}
 use Rattle.std.proofs.Math.Seq.{drop-append_seam}
 use Rattle.std.proofs.lemmas.Bool.Decides.{nat_tests}
 use Rattle.std.proofs.lemmas.Bool.{or_parts, or_left, or_right}
-use Rattle.std.proofs.lemmas.List.{length-map, take_more}
+use Rattle.std.proofs.lemmas.List.{take_more}
 use Rattle.std.proofs.lemmas.List.Folds.{list_any_none}
 use Rattle.std.proofs.lemmas.List.Elements.{filter-append, All-from_recursion}
 use Rattle.std.proofs.lemmas.Map.Keys.{IsDistinct-tail, IsDistinct-head}
-use Rattle.model.specs.Derivations.{Derivation}
-use Rattle.model.specs.Classes.{Class, Known}
-use Rattle.model.specs.Worlds.{Source, Label, Record}
-use Rattle.model.specs.References.{is_of_class, is_label_of, refers_to, is_input_class, is_below, label_of_source, label_of_record, labels_in_order, candidates}
+use Rattle.model.specs.Classes.{Class}
+use Rattle.model.specs.Worlds.{Label}
 use Rattle.model.proofs.BoolLemmas.{either, or_cases, both_parts, same_bytes}
-use Rattle.records.specs.Recorded.{Recorded, without_tree}
-use Rattle.records.specs.Ordered.{source_label, record_label}
+use Rattle.records.specs.Recorded.{Recorded}
 use Rattle.realise.specs.Holdings.{is_recorded_at, is_record_of}
 use Rattle.realise.proofs.ForgettingLemmas.{any_kept}
-use Rattle.outputs.specs.Below.{AreBelow, AreCandidates}
 use Rattle.outputs.specs.Reaching.{is_for, is_label_for, is_named_in, has_class, is_named, is_record_named, is_known, is_news, chosen, AreSame, below_at, fresh_at, IsReached}
 use Rattle.outputs.specs.declared.below.Reached.{Reached}
-use Rattle.outputs.proofs.SameLemmas.{here_itself, same_order, same_behind}
+use Rattle.outputs.proofs.SameLemmas.{here_itself}
 
 pub or_false : (b : Bool) → (b || false) ≡ b
 or_false true = refl
@@ -35,32 +31,10 @@ pub and_false : (b : Bool) → (b && false) ≡ false
 and_false true = refl
 and_false false = refl
 
-same_tests : (a b : Bool) → (a ≡ true → b ≡ true) → (b ≡ true → a ≡ true) → a ≡ b
+pub same_tests : (a b : Bool) → (a ≡ true → b ≡ true) → (b ≡ true → a ≡ true) → a ≡ b
 same_tests true b f g = sym (f refl)
 same_tests false true f g = g refl
 same_tests false false f g = refl
-
--- ---- what the definition says of records without their trees
-
-of_class : (c : Class) (o : Option Class) → is_for c.path o ≡ is_of_class c o
-of_class c None = refl
-of_class c (Some d) = refl
-
-named_labels : (r : Record) (ls : List Label) → list_any (is_label_for r.path r.class.path) ls ≡ list_any (is_label_of r) ls
-named_labels r [] = refl
-named_labels r (l ∷ ls) = λ i. (bytes_eq l.path r.path && of_class r.class l.class i) || named_labels r ls i
-
-refer_too : (p : Record → Bool) (q : List ℕ → List ℕ → Bool) → ((a : Record) → p a ≡ q a.class.path a.path) → (r : Record) (xs : List Record)
-    → list_any (λ a. p a && refers_to a r) xs ≡ list_any (λ (a : Recorded). q a.class.path a.path && list_any (is_label_for r.path r.class.path) a.labels) (map without_tree xs)
-refer_too p q same r [] = refl
-refer_too p q same r (x ∷ xs) = λ i. (same x i && sym (named_labels r x.labels) i) || refer_too p q same r xs i
-
-is_below_at : (whole : List Record) (inputs : List ℕ → Bool) (k : ℕ) (r : Record)
-    → is_below whole inputs k r ≡ below_at (map without_tree whole) inputs k r.class.path r.path
-unfolding is_below below_at
-is_below_at whole inputs zero r = refl
-is_below_at whole inputs (suc k) r =
-    λ i. is_below_at whole inputs k r i || refer_too (is_below whole inputs k) (below_at (map without_tree whole) inputs k) (λ a. is_below_at whole inputs k a) r whole i
 
 -- ---- one step more
 
@@ -393,49 +367,3 @@ module _ (records : List Recorded) (inputs : List (List ℕ)) (k : ℕ) (old new
         ∙ (λ i. at.known class path i || (named_fresh class path ∙ fresh_is class path) i)
         ∙ so_far (in_steps k class path) (then_named class path) ∙ sym (more class path);
   }
-
--- ---- the records below, and labels
-
-chosen_without : (p : Record → Bool) (test : List ℕ → List ℕ → Bool) → ((r : Record) → p r ≡ test r.class.path r.path) → (xs : List Record)
-    → chosen test (map without_tree xs) ≡ map without_tree (filter p xs)
-chosen_without p test same [] = refl
-chosen_without p test same (x ∷ xs) =
-    let rest = chosen_without p test same xs in
-    elim (either (p x)) [
-      | inl t ↦ let u = sym (same x) ∙ t in rw (t, u) (ap (λ rs. without_tree x ∷ rs) rest)
-      | inr n ↦ let m = sym (same x) ∙ n in rw (n, m) rest
-    ]
-
--- what is reached where nothing more is is below
-pub below_are : (known : Known) (x : Derivation) (records found : List Recorded) (inputs : List (List ℕ))
-    → ((class : List ℕ) → has_class inputs class ≡ is_input_class known x class)
-    → AreSame found (chosen (below_at records (has_class inputs) (length records)) records) → AreBelow known x records found
-below_are known x records found inputs are same whole e class path =
-    let own = is_input_class known x in
-    let long : length records ≡ length whole = ap length (sym e) ∙ length-map whole without_tree in
-    let steps : chosen (below_at records (has_class inputs) (length records)) records ≡ chosen (below_at (map without_tree whole) own (length whole)) (map without_tree whole) =
-    ap (λ rs. chosen (below_at rs (has_class inputs) (length records)) rs) (sym e)
-    ∙ (λ i. chosen (below_at (map without_tree whole) (λ c. are c i) (long i)) (map without_tree whole)) in
-    same class path ∙ ap (filter (is_recorded_at class path)) (steps ∙ chosen_without (is_below whole own (length whole)) (below_at (map without_tree whole) own (length whole))
-    (is_below_at whole own (length whole)) whole)
-
-source_labels : (sources : List Source) → map source_label (map (λ s. s.path) sources) ≡ map label_of_source sources
-source_labels [] = refl
-source_labels (s ∷ sources) = ap (λ rest. label_of_source s ∷ rest) (source_labels sources)
-
-record_labels : (records : List Record) → map record_label (map without_tree records) ≡ map label_of_record records
-record_labels [] = refl
-record_labels (r ∷ records) = ap (λ rest. label_of_record r ∷ rest) (record_labels records)
-
-pub are_candidates : (known : Known) (x : Derivation) (records found : List Recorded) (labels ordered : List Label) → AreBelow known x records found
-    → labels ≡ map source_label known.sources ++ map record_label found → ordered ≡ labels_in_order labels → AreCandidates known x records ordered
-unfolding candidates
-are_candidates known x records found labels ordered below are put d knows has =
-    let model = filter (is_below d.records (is_input_class known x) (length d.records)) d.records in
-    let sources : map source_label known.sources ≡ map label_of_source d.sources =
-    ap (λ (k : Known). map source_label k.sources) (sym knows) ∙ source_labels d.sources in
-    let below_known = λ (k : Known). map label_of_record (filter (is_below d.records (is_input_class k x) (length d.records)) d.records) in
-    put ∙ ap labels_in_order are
-    ∙ same_behind (map source_label known.sources) (map record_label found) (map record_label (map without_tree model))
-    (same_order found (map without_tree model) (below d.records has))
-    ∙ ap labels_in_order ((λ i. sources i ++ record_labels model i) ∙ ap (λ ls. map label_of_source d.sources ++ ls) (ap below_known (sym knows)))

@@ -1,9 +1,10 @@
 -- What an output of a derivation may refer to, in the terms of the model, whatever the trees of the records are.
-use Rattle.std.specs.Prelude.{◌≡◌, List, map, filter, length}
+use Rattle.std.specs.Prelude.{◌≡◌, List, map}
+use Rattle.model.specs.Reach.{all_reached}
 use Rattle.model.specs.Derivations.{Derivation}
 use Rattle.model.specs.Classes.{Known}
 use Rattle.model.specs.Worlds.{Label, Record, Desk, known_of}
-use Rattle.model.specs.References.{is_input_class, is_below, candidates}
+use Rattle.model.specs.References.{is_input_class, refers_to, candidates}
 use Rattle.records.specs.Recorded.{Recorded, without_tree}
 use Rattle.outputs.specs.Reaching.{AreSame}
 
@@ -11,7 +12,7 @@ use Rattle.outputs.specs.Reaching.{AreSame}
 abbrev pub AreBelow : Known → Derivation → List Recorded → List Recorded → Type 0
 AreBelow known x records found =
     (whole : List Record) → map without_tree whole ≡ records
-    → AreSame found (map without_tree (filter (is_below whole (is_input_class known x) (length whole)) whole))
+    → AreSame found (map without_tree (all_reached (λ r. is_input_class known x r.class.path) refers_to whole))
 
 -- the labels are the candidates, on each desk that knows this and has these records
 abbrev pub AreCandidates : Known → Derivation → List Recorded → List Label → Type 0

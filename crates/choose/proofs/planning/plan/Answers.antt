@@ -3,7 +3,7 @@ use Rattle.std.proofs.lemmas.Result.{err_from_is_err_and}
 use Rattle.std.specs.List.Sorted.{IsPermutation}
 use Rattle.model.specs.declared.refusal.Refusal.TheVariants.{Memory}
 use Rattle.model.specs.Choices.{Plan}
-use Rattle.laws.proofs.ClosureLemmas.{choose_own}
+use Rattle.laws.proofs.ClosureLemmas.{chosen_among}
 use Rattle.choose.specs.Visible.{choose_in, plan_in, desks_of}
 use Rattle.choose.proofs.PlanLemmas.{plan_missing, plan_too_large, plan_found, plan_in_order}
 use Rattle.choose.proofs.LabelledLemmas.{sees_in, labels_in, planned_sees}
@@ -21,7 +21,7 @@ pub returns-in_err-gather_sources-clause-planned : goal.returns-in_err-gather_so
 returns-in_err-gather_sources-clause-planned c desks is =
     let p = err_from_is_err_and c.from_residual-in_err-gather_sources.result c.from_residual-in_err-gather_sources.ensures.1 in
     let choice = choose_in c.args.view.now c.args.pins.now in
-    rw (p.1, p.2) (inl (c.in_err-gather_sources.ensures choice c.args.classes.now c.args.classes.now (choose_own c.args.view.now.records c.args.pins.now)
+    rw (p.1, p.2) (inl (c.in_err-gather_sources.ensures choice c.args.classes.now c.args.classes.now (chosen_among c.args.view.now.records c.args.pins.now)
     (c.in_ok-gathering.ensures.1 c.args.sources.now)))
 
 pub returns-in_err-gather_below-clause-planned : goal.returns-in_err-gather_below-clause-planned
@@ -33,7 +33,7 @@ returns-in_err-gather_below-clause-planned c desks is =
     let classes = c.args.classes.now in
     let sources = c.args.sources.now in
     let e = c.in_err-gather_below.field-0.0 in
-    let g = c.in_ok-gather_sources.ensures choice classes classes (choose_own view.records pins) (c.in_ok-gathering.ensures.1 sources) in
+    let g = c.in_ok-gather_sources.ensures choice classes classes (chosen_among view.records pins) (c.in_ok-gathering.ensures.1 sources) in
     rw (p.1, p.2) (subst (λ v. (e ≡ Memory) ⊎ (plan_in v pins classes sources ≡ Err e)) (sym is)
     (plan_too_large view pins classes sources e c.in_ok-gathering.ensures.0 (c.in_err-gather_below.ensures classes sources classes sources g)))
 
@@ -44,7 +44,7 @@ invariant_of-result c =
     let choice = choose_in view pins in
     let classes = c.args.classes.now in
     let sources = c.args.sources.now in
-    let g = c.in_ok-gather_sources.ensures choice classes classes (choose_own view.records pins) (c.in_ok-gathering.ensures.1 sources) in
+    let g = c.in_ok-gather_sources.ensures choice classes classes (chosen_among view.records pins) (c.in_ok-gathering.ensures.1 sources) in
     let h = c.in_ok-gather_below.ensures classes sources classes sources g in
     let made : Plan = record { records = c.in_ok-records.records.items; sources = c.in_ok-sources.sources.items } in
     plan_in_order view pins classes sources c.gather_below.new.gathering made h.0
@@ -60,7 +60,7 @@ returns-clause-planned c desks is =
     let choice = choose_in view pins in
     let classes = c.args.classes.now in
     let sources = c.args.sources.now in
-    let g = c.in_ok-gather_sources.ensures choice classes classes (choose_own view.records pins) (c.in_ok-gathering.ensures.1 sources) in
+    let g = c.in_ok-gather_sources.ensures choice classes classes (chosen_among view.records pins) (c.in_ok-gathering.ensures.1 sources) in
     let h = c.in_ok-gather_below.ensures classes sources classes sources g in
     let made : Plan = record { records = c.in_ok-records.records.items; sources = c.in_ok-sources.sources.items } in
     subst (λ v. plan_in v pins classes sources ≡ Ok made) (sym is)
@@ -77,7 +77,7 @@ returns-clause-seen c =
     let choice = choose_in view pins in
     let classes = c.args.classes.now in
     let sources = c.args.sources.now in
-    let g = c.in_ok-gather_sources.ensures choice classes classes (choose_own view.records pins) (c.in_ok-gathering.ensures.1 sources) in
+    let g = c.in_ok-gather_sources.ensures choice classes classes (chosen_among view.records pins) (c.in_ok-gathering.ensures.1 sources) in
     let h = c.in_ok-gather_below.ensures classes sources classes sources g in
     let moved = subst (λ xs. IsPermutation xs c.in_ok-records.records.items) c.into_parts-found_records.ensures.records c.in_ok-records.ensures.0 in
     planned_sees view pins classes sources c.gather_below.new.gathering c.in_ok-records.records.items h.0 moved

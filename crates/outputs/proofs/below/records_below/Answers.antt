@@ -2,7 +2,7 @@ use Rattle.std.proofs.Common.{ap, ◌∙◌}
 use Rattle.std.proofs.lemmas.Result.{MatchResult-weaker}
 use Rattle.model.specs.Classes.{Known}
 use Rattle.model.specs.References.{is_input_class}
-use Rattle.outputs.proofs.StepLemmas.{below_are}
+use Rattle.outputs.proofs.BelowLemmas.{below_are}
 use Rattle.outputs.proofs.below.records_below.Goals as goal
 
 pub returns : goal.returns

@@ -2,7 +2,7 @@ use Rattle.std.proofs.Common.{◌≡◌, ◌++◌, List, map, refl, ap, ◌∙�
 use Rattle.model.specs.Worlds.{Label}
 use Rattle.records.specs.Ordered.{source_label, record_label}
 use Rattle.outputs.specs.Outputs.{candidates_of}
-use Rattle.outputs.proofs.StepLemmas.{are_candidates}
+use Rattle.outputs.proofs.BelowLemmas.{are_candidates}
 use Rattle.outputs.proofs.candidates.Candidates.of_desk.Goals as goal
 
 pub returns : goal.returns
