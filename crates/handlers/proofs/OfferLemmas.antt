@@ -7,7 +7,8 @@ use Rattle.model.specs.declared.refusal.Refusal.TheVariants.{Clash, UnknownDeriv
 use Rattle.model.specs.Archives.{Tree}
 use Rattle.model.specs.Derivations.{name_of}
 use Rattle.model.specs.Classes.{Admission, known_at}
-use Rattle.model.specs.Settling.{Settled, MadeOutput, hash_part_in, settling_texts}
+use Rattle.model.specs.Settling.{Settled, hash_part_in, settling_texts}
+use Rattle.model.specs.SettledTrees.{MadeOutput}
 use Rattle.model.specs.Worlds.{Source, Label, Record, OfRecord, Setup, known_of}
 use Rattle.model.specs.References.{candidates, paths_of_labels}
 use Rattle.model.specs.Events.{Offer}

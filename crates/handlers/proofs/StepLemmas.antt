@@ -4,7 +4,8 @@ use Rattle.std.specs.Prelude.{All, Contains, OnOk, OnErr, IfOk, IfErr, bytes_eq,
 use Rattle.std.proofs.lemmas.Option.{slice_get_within}
 use Rattle.model.specs.Archives.{Tree, IsTree}
 use Rattle.model.specs.Classes.{known_at}
-use Rattle.model.specs.Settling.{given, MadeSource}
+use Rattle.model.specs.Settling.{given}
+use Rattle.model.specs.SettledTrees.{MadeSource}
 use Rattle.model.specs.Worlds.{Source, Setup, Desk, World, is_user, held_at, known_of}
 use Rattle.model.specs.Limits.{most_derivation_bytes}
 use Rattle.model.specs.Events.{Request, AddSource, AddDerivation, Offer, Fetch, Event}

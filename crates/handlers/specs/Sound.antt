@@ -2,7 +2,8 @@
 use Rattle.std.specs.Prelude.{◌≡◌, ◌≢◌, ℕ, ◌≤◌, Bool, true, List, [], length, map, is_some, option_map, All, Some}
 use Rattle.model.specs.Archives.{nar}
 use Rattle.model.specs.Limits.{most_sources, most_derivations, most_records, most_pins, most_entries}
-use Rattle.model.specs.Settling.{Settled, IsMade}
+use Rattle.model.specs.Settling.{Settled}
+use Rattle.model.specs.SettledTrees.{IsMade}
 use Rattle.model.specs.Worlds.{Source, Record, Desk, Entry, path_of_entry, Resolved, Goal, tree_at, charge_of}
 use Rattle.model.specs.KeptClosures.{is_planned}
 use Rattle.model.specs.Closures.{tree_of_entry, entry_before, IsWhole}

@@ -8,6 +8,7 @@ pub mod Paths
 pub mod Occurrences
 pub mod Substitutions
 pub mod Settling
+pub mod SettledTrees
 pub mod Derivations
 pub mod DerivationTexts
 pub mod Reach

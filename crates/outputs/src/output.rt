@@ -25,7 +25,8 @@ impl Drop for SettledTree {
 impl Model for SettledTree {
     ghost use Rattle.std.specs.Prelude.{◌≡◌};
     ghost use Rattle.std.specs.Arc.{arc_value};
-    ghost use Rattle.model.specs.Settling.{Settled, settled_code};
+    ghost use Rattle.model.specs.Settling.{Settled};
+    ghost use Rattle.model.specs.SettledTrees.{settled_code};
 
     ghost Value = { Settled };
 

@@ -7,7 +7,7 @@ ghost use Rattle.outputs.specs.Outputs.{input_settled, IsSameInput};
 ghost use Rattle.std.specs.Coded.{codes};
 ghost use Rattle.std.proofs.Props.{props};
 ghost use Rattle.model.specs.TreeCode.{tree_code};
-ghost use Rattle.model.specs.Settling.{settled_code};
+ghost use Rattle.model.specs.SettledTrees.{settled_code};
 
 use crate::input::Input;
 use crate::output::SettledTree;

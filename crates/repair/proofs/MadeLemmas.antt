@@ -4,7 +4,8 @@ use Rattle.std.specs.Prelude.{map, All}
 use Rattle.std.proofs.lemmas.List.Elements.{All-nil, All-cons, All-contains}
 use Rattle.model.specs.Results.{each}
 use Rattle.model.specs.Paths.{IsPath}
-use Rattle.model.specs.Settling.{Settled, IsMade, MadeOutput, hash_part_in, name_in, settling_texts}
+use Rattle.model.specs.Settling.{Settled, hash_part_in, name_in, settling_texts}
+use Rattle.model.specs.SettledTrees.{IsMade, MadeOutput}
 use Rattle.model.specs.Worlds.{Record, OfSource, OfRecord}
 use Rattle.model.specs.References.{paths_of_labels}
 use Rattle.model.specs.Repairs.{Move, moves_of, moved_labels, moved_texts, texts_of_moves, texts_unless, texts_in_turn, serve, chosen_in, serve_all, serving_texts}

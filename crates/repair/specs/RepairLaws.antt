@@ -2,7 +2,8 @@
 use Rattle.std.specs.Prelude.{◌≡◌, ℕ, ◌⊎◌, false, List, [], ◌∷◌, ◌++◌, map, flat_map, bytes_eq, All, Contains, Ok}
 use Rattle.model.specs.Archives.{IsTree}
 use Rattle.model.specs.Paths.{IsPath}
-use Rattle.model.specs.Settling.{Settled, IsGone, IsMade}
+use Rattle.model.specs.Settling.{Settled, IsGone}
+use Rattle.model.specs.SettledTrees.{IsMade}
 use Rattle.model.specs.Worlds.{Desk, Pin, Record, Source, Entry, OfSource, OfRecord, path_of_entry}
 use Rattle.model.specs.References.{paths_of_labels}
 use Rattle.model.specs.Choices.{Plan, closure_plan}
