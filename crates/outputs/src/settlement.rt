@@ -65,7 +65,11 @@ impl Settlement {
     }
 
     /// What came of it, if it is that of this tree by this input.
-    pub(crate) fn outcome_for(&self, input: &Input, tree: &Tree) -> Option<&Result<SettledTree, Refusal>>
+    pub(crate) fn outcome_for(
+        &self,
+        input: &Input,
+        tree: &Tree,
+    ) -> Option<&Result<SettledTree, Refusal>>
         ensures outcome { IfSome result (λ o.
             o.now ≡ unless_rewrite_refused (input_settled input.now tree.now)) }
         ensures input { IfSome result (λ _. IsSameInput self.now.input input.now) }

@@ -8,4 +8,4 @@ mod InputHeadLemmas
 mod ServedLemmas
 mod RunLemmas
 mod AskedLemmas
-mod DeskLemmas
+mod ServedSessionLemmas

@@ -27,7 +27,7 @@ use Rattle.running.specs.Calling.{IsTold, Stand, is_read}
 use Rattle.running.specs.Meeting.{HasMet, IsNew, is_stopped, met_none, met_more, met_asking, stopped_told, stops_by}
 use Rattle.running.specs.Sessions.{Answers, Waits, IsStatusOf, AsksStatus, Calls, Served, ServedInPart}
 use Rattle.running.specs.Teams.{HasWorked, AllWorked}
-use Rattle.running.specs.Desks.{numbers_in}
+use Rattle.running.specs.ServedSessions.{numbers_in}
 use Rattle.running.specs.Runs.{Makes, is_told, tell, LinesStand, Ran, RanInPart, WorkerStands, WorkersStand, IsGivenBack}
 use Rattle.running.proofs.WaitLemmas.{calls_append}
 use Rattle.running.proofs.TeamLemmas.{rounds_chain}

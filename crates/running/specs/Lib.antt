@@ -3,6 +3,6 @@ pub mod Meeting
 pub mod Teams
 pub mod Sessions
 pub mod InputHeads
-pub mod Desks
+pub mod ServedSessions
 pub mod Asked
 pub mod Runs

@@ -32,7 +32,7 @@ use Rattle.running.specs.Calling.{Stand, IsTold}
 use Rattle.running.specs.Meeting.{HasMet, stops_by}
 use Rattle.running.specs.Teams.{WorksInRounds}
 use Rattle.running.specs.Sessions.{AsksStatus, EndsBy}
-use Rattle.running.specs.Desks.{passes_needed, session_passes}
+use Rattle.running.specs.ServedSessions.{passes_needed, session_passes}
 use Rattle.running.specs.Asked.{are_asked}
 use Rattle.running.specs.declared.runs.Results.{Results}
 

@@ -20,4 +20,4 @@ mod waiting;
 
 pub use input_head::{InputHead, look_ahead};
 pub use runs::{Results, run};
-pub use sessions::{SessionOutput, Part};
+pub use sessions::{Part, SessionOutput};

@@ -6,9 +6,9 @@ ghost use Rattle.history.specs.Callers.{new_pass};
 ghost use Rattle.running.specs.Sessions.{CannotBegin};
 ghost use Rattle.running.specs.Meeting.{IsNew};
 ghost use Rattle.running.specs.Teams.{AllNew};
-ghost use Rattle.running.specs.Desks.{AreFirst, IsDeskOf, AreDesksOf, IsPool, ArePools, session_passes, passes_for as needed_for, passes_left, all_passes, numbers_in, all_numbers};
+ghost use Rattle.running.specs.ServedSessions.{AreFirst, IsSessionFor, AreSessionsFor, IsPool, ArePools, session_passes, passes_for as needed_for, passes_left, all_passes, numbers_in, all_numbers};
 
-use crate::sessions::{ServedSession, Left, SessionOutput, Part};
+use crate::sessions::{Left, Part, ServedSession, SessionOutput};
 use crate::shared::SharedStore;
 use crate::teams::Team;
 use book::{Front, FrontId, Pass};
@@ -20,7 +20,7 @@ use workers::{Runner, Worker};
 /// A worker of a session that shares a front with others.
 type SharedWorker<'a, J, R, Q> = Worker<SharedStore<'a, J, R>, Q>;
 
-/// The desk of such a session.
+/// Such a session.
 pub(crate) type SharedSession<'a, J, R, Q, I> = ServedSession<SharedStore<'a, J, R>, Q, I>;
 
 /// What such a session leaves.
@@ -69,9 +69,9 @@ fn workers_with<'a, J: FrontId, R: Wait, Q: Runner + Drop>(
     Ok(workers)
 }
 
-/// The desk of a file: the last passes are those of its workers, and the one before them is that of its
+/// The session of a file: the last passes are those of its workers, and the one before them is that of its
 /// session.
-fn desk_for<'a, J: FrontId, R: Wait, Q: Runner + Drop, I: Drop>(
+fn session_for<'a, J: FrontId, R: Wait, Q: Runner + Drop, I: Drop>(
     rt: &'a R,
     alloc: Global,
     front: &'a Front<J>,
@@ -79,7 +79,7 @@ fn desk_for<'a, J: FrontId, R: Wait, Q: Runner + Drop, I: Drop>(
     part: Part<I, Q>,
 ) -> Result<SharedSession<'a, J, R, Q, I>, Refusal>
     requires { AreFirst passes.old.items }
-    ensures desk { IfOk result (IsDeskOf (length passes.new.items) part) }
+    ensures session { IfOk result (IsSessionFor (length passes.new.items) part) }
     ensures count { IfOk result (λ _. length passes.old.items
         ≡ length passes.new.items + needed_for part) }
     ensures left { AreFirst passes.new.items }
@@ -106,8 +106,8 @@ fn desk_for<'a, J: FrontId, R: Wait, Q: Runner + Drop, I: Drop>(
     })
 }
 
-/// The desks of files.
-pub(crate) fn desks_for<'a, J: FrontId, R: Wait, Q: Runner + Drop, I: Drop>(
+/// The sessions of files.
+pub(crate) fn sessions_for<'a, J: FrontId, R: Wait, Q: Runner + Drop, I: Drop>(
     rt: &'a R,
     alloc: Global,
     front: &'a Front<J>,
@@ -115,16 +115,16 @@ pub(crate) fn desks_for<'a, J: FrontId, R: Wait, Q: Runner + Drop, I: Drop>(
     parts: Vec<Part<I, Q>>,
 ) -> Result<Vec<SharedSession<'a, J, R, Q, I>>, Refusal>
     requires { AreFirst passes.items }
-    ensures desks { IfOk result (λ desks. AreDesksOf
-        (session_passes (length passes.items) parts.items) parts.items desks.items) }
+    ensures served_sessions { IfOk result (λ served_sessions. AreSessionsFor
+        (session_passes (length passes.items) parts.items) parts.items served_sessions.items) }
     ensures why { IfErr result CannotBegin }
 {
     let mut passes = passes;
-    let mut desks = Vec::new(alloc);
+    let mut served_sessions = Vec::new(alloc);
     for part in parts {
-        desks.push(desk_for(rt, alloc, front, &mut passes, part)?)?;
+        served_sessions.push(session_for(rt, alloc, front, &mut passes, part)?)?;
     }
-    Ok(desks)
+    Ok(served_sessions)
 }
 
 /// What sessions give back as they end.
@@ -201,13 +201,13 @@ pub(crate) fn end_sessions<J: FrontId, R: Wait, Q: Runner + Drop>(
 /// The numbers of the passes of sessions.
 pub(crate) fn numbers_of<J: FrontId, R: Wait, Q: Runner + Drop, I: Drop>(
     alloc: Global,
-    desks: &[SharedSession<'_, J, R, Q, I>],
+    served_sessions: &[SharedSession<'_, J, R, Q, I>],
 ) -> Result<Vec<u64>, AllocError>
-    ensures { IfOk result (λ numbers. numbers.items ≡ map (λ desk. desk.store.caller.number) desks.now) }
+    ensures { IfOk result (λ numbers. numbers.items ≡ map (λ session. session.store.caller.number) served_sessions.now) }
 {
     let mut numbers = Vec::new(alloc);
-    for desk in desks {
-        numbers.push(desk.store.pass.number())?;
+    for session in served_sessions {
+        numbers.push(session.store.pass.number())?;
     }
     Ok(numbers)
 }

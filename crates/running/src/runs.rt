@@ -10,13 +10,13 @@ ghost use Rattle.book.specs.Keeping.{IsNew};
 ghost use Rattle.running.specs.Calling.{IsTold};
 ghost use Rattle.running.specs.Meeting.{HasMet, is_stopped};
 ghost use Rattle.running.specs.Sessions.{CannotBegin};
-ghost use Rattle.running.specs.Desks.{AreFirst, AllOutputs, passes_needed, session_passes};
+ghost use Rattle.running.specs.ServedSessions.{AreFirst, AllOutputs, passes_needed, session_passes};
 ghost use Rattle.running.specs.Runs.{AreServed, IsClosed, AreResults, are_accounted};
 
 use crate::asked::are_asked;
-use crate::pass_lists::{Back, SharedSession, SharedLeft, desks_for, end_sessions, numbers_of};
+use crate::pass_lists::{Back, SharedLeft, SharedSession, end_sessions, numbers_of, sessions_for};
 use crate::rounds::Rounds;
-use crate::sessions::{SessionOutput, Part, all_at_once};
+use crate::sessions::{Part, SessionOutput, all_at_once};
 use book::{Front, FrontId, FrontTokens, History, Pass, Row};
 use model::Refusal;
 use schedule::{Core, Limits, User};
@@ -74,13 +74,13 @@ fn serve_all<
 >(
     rt: &R,
     alloc: Global,
-    desks: Vec<SharedSession<'a, J, R, Q, I>>,
+    served_sessions: Vec<SharedSession<'a, J, R, Q, I>>,
 ) -> Result<Vec<SharedLeft<'a, J, R, Q>>, Refusal>
-    ensures outputs { IfOk result (λ lefts. AllOutputs (IsTold J.setup) HasMet is_stopped I.remaining desks.entry.items lefts.items) }
+    ensures outputs { IfOk result (λ lefts. AllOutputs (IsTold J.setup) HasMet is_stopped I.remaining served_sessions.entry.items lefts.items) }
     ensures memory { IfErr result (λ why. why ≡ Memory) }
 {
-    let rounds = Rounds::new(alloc, desks.len())?;
-    all_at_once(rt, alloc, &rounds, desks)
+    let rounds = Rounds::new(alloc, served_sessions.len())?;
+    all_at_once(rt, alloc, &rounds, served_sessions)
 }
 
 /// Room for what sessions give back, taken before they begin: for so many passes, and for the outputs of so
@@ -126,11 +126,11 @@ fn serve_front<
     ensures memory { IfErr result (λ why. why ≡ Memory) }
 {
     let mut back = room_for::<J>(alloc, passes.len(), parts.len())?;
-    let Ok(desks) = desks_for(rt, alloc, front, passes, parts) else {
+    let Ok(served_sessions) = sessions_for(rt, alloc, front, passes, parts) else {
         return Err(Refusal::Memory);
     };
-    let sessions = numbers_of(alloc, &desks)?;
-    let lefts = serve_all(rt, alloc, desks)?;
+    let sessions = numbers_of(alloc, &served_sessions)?;
+    let lefts = serve_all(rt, alloc, served_sessions)?;
     end_sessions(lefts, &mut back)?;
     Ok(Ended { back, sessions })
 }

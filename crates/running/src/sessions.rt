@@ -4,7 +4,7 @@ ghost use Rattle.std.specs.Prelude.{◌≡◌, [], Ok, Err, IfOk, IfErr, MatchRe
 ghost use Rattle.std.specs.Io.KnownBytes.{prepend_known};
 ghost use Rattle.model.specs.declared.refusal.Refusal.TheVariants.{Memory};
 ghost use Rattle.running.specs.Sessions.{Outputs, kept_fault};
-ghost use Rattle.running.specs.Desks.{OutputOf, AllOutputs};
+ghost use Rattle.running.specs.ServedSessions.{OutputOf, AllOutputs};
 
 use crate::meeting::Meet;
 use crate::pools::{WorkerPool, start_building};
@@ -120,15 +120,15 @@ fn serve_beside<
     Q: Runner + Send + Drop,
     I: Read + Faults + Send + Drop,
     R: Threads + Wait + Sync,
->(rt: &R, alloc: Global, rounds: &Rounds, desk: ServedSession<S, Q, I>) -> Left<S, Q>
-    ensures { OutputOf S.called S.met S.stopped I.remaining desk result }
+>(rt: &R, alloc: Global, rounds: &Rounds, session: ServedSession<S, Q, I>) -> Left<S, Q>
+    ensures { OutputOf S.called S.met S.stopped I.remaining session result }
 {
     let ServedSession {
         store,
         team,
         bytes,
         reader,
-    } = desk;
+    } = session;
     let (pool, pool_thread) = match WorkerPool::new(alloc, rounds, team) {
         Ok(made) => made,
         Err(team) => {
@@ -170,13 +170,13 @@ pub(crate) fn all_at_once<
     rt: &R,
     alloc: Global,
     rounds: &Rounds,
-    desks: Vec<ServedSession<S, Q, I>>,
+    served_sessions: Vec<ServedSession<S, Q, I>>,
 ) -> Result<Vec<Left<S, Q>>, Refusal>
-    ensures outputs { IfOk result (λ lefts. AllOutputs S.called S.met S.stopped I.remaining desks.items lefts.items) }
+    ensures outputs { IfOk result (λ lefts. AllOutputs S.called S.met S.stopped I.remaining served_sessions.items lefts.items) }
     ensures memory { IfErr result (λ why. why ≡ Memory) }
 {
-    let serve = |desk: ServedSession<S, Q, I>| -> Left<S, Q>
-        ensures { OutputOf S.called S.met S.stopped I.remaining desk result }
-    { serve_beside(rt, alloc, rounds, desk) };
-    Ok(thread::map_vec(rt, desks, &serve)?)
+    let serve = |session: ServedSession<S, Q, I>| -> Left<S, Q>
+        ensures { OutputOf S.called S.met S.stopped I.remaining session result }
+    { serve_beside(rt, alloc, rounds, session) };
+    Ok(thread::map_vec(rt, served_sessions, &serve)?)
 }

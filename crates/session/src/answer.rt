@@ -23,7 +23,7 @@ pub trait Answer {
     fn call(&mut self, alloc: Global, event: Event) -> Reply
         ensures { answers self.old (event_of event) (reply_of result) self.new };
 
-    /// Waits for goals, each named as the job that it would lead. The reply is `Done`, or a refusal with
+    /// Waits for goals, each named as the job that it would lead. The reply is `Ok`, or a refusal with
     /// 90 `Memory` or 92 `Stopped`.
     fn wait(&mut self, alloc: Global, goals: &[Job]) -> Reply
         ensures waited { waited self.old goals.now (reply_of result) self.new }

@@ -3,8 +3,8 @@ use Rattle.std.specs.Prelude.{map}
 use Rattle.std.proofs.lemmas.List.{append_assoc, map-append}
 use Rattle.history.specs.Callers.{PassKnowledge}
 use Rattle.running.specs.declared.sessions.SessionOutput.{SessionOutput}
-use Rattle.running.specs.Desks.{passes_left, all_passes, numbers_in, all_numbers}
-use Rattle.running.proofs.DeskLemmas.{all_push, numbers_push, pools_push}
+use Rattle.running.specs.ServedSessions.{passes_left, all_passes, numbers_in, all_numbers}
+use Rattle.running.proofs.ServedSessionLemmas.{all_push, numbers_push, pools_push}
 use Rattle.running.proofs.pass_lists.end_sessions.Goals as goal
 
 pub loop-left-preserved : goal.loop-left-preserved

@@ -1,5 +1,5 @@
 use Rattle.std.specs.Prelude.{◌≡◌, ◌++◌, map}
-use Rattle.running.specs.Desks.{ArePools, all_passes, all_numbers}
+use Rattle.running.specs.ServedSessions.{ArePools, all_passes, all_numbers}
 use Rattle.running.proofs.pass_lists.end_sessions.Given as goal
 
 -- those of the sessions so far are back, and their outputs are there

@@ -1,4 +1,4 @@
-use Rattle.running.proofs.DeskLemmas.{first_last}
+use Rattle.running.proofs.ServedSessionLemmas.{first_last}
 use Rattle.running.proofs.pass_lists.next_pass.Goals as goal
 
 pub returns-in-Some-clause-pass : goal.returns-in-Some-clause-pass

@@ -1,5 +1,5 @@
 use Rattle.std.specs.Prelude.{◌≡◌, ◌++◌, map}
-use Rattle.running.specs.Desks.{numbers_in}
+use Rattle.running.specs.ServedSessions.{numbers_in}
 use Rattle.running.proofs.pass_lists.take_back.Given as goal
 
 -- those of the workers so far are back

@@ -1,6 +1,6 @@
 use Rattle.std.proofs.Common.{◌∷◌, [], arith}
 use Rattle.std.proofs.lemmas.List.{length-append}
-use Rattle.running.proofs.DeskLemmas.{new_more}
+use Rattle.running.proofs.ServedSessionLemmas.{new_more}
 use Rattle.running.proofs.pass_lists.workers_with.Goals as goal
 
 pub loop-runner-preserved : goal.loop-runner-preserved

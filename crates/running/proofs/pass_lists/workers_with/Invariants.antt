@@ -1,7 +1,7 @@
 use Rattle.std.specs.Prelude.{◌≡◌, ◌+◌, length}
 use Rattle.running.specs.Meeting.{IsNew}
 use Rattle.running.specs.Teams.{AllNew}
-use Rattle.running.specs.Desks.{AreFirst}
+use Rattle.running.specs.ServedSessions.{AreFirst}
 use Rattle.running.proofs.pass_lists.workers_with.Given as goal
 
 -- each runner so far has taken a pass

@@ -1,7 +1,7 @@
 use Rattle.std.proofs.Common.{refl, sym, ◌∙◌}
 use Rattle.std.proofs.lemmas.List.Sums.{sum-map}
 use Rattle.running.specs.Meeting.{stops_by}
-use Rattle.running.proofs.DeskLemmas.{given_back}
+use Rattle.running.proofs.ServedSessionLemmas.{given_back}
 use Rattle.running.proofs.runs.close_front.Goals as goal
 
 pub returns-clause-closed : goal.returns-clause-closed

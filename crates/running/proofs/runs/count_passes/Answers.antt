@@ -1,5 +1,5 @@
 use Rattle.std.proofs.Common.{◌∙◌, ◌-◌, ◌^◌}
-use Rattle.running.proofs.DeskLemmas.{count_more}
+use Rattle.running.proofs.ServedSessionLemmas.{count_more}
 use Rattle.running.proofs.runs.count_passes.Goals as goal
 
 pub loop-part-preserved : goal.loop-part-preserved

@@ -1,5 +1,5 @@
 use Rattle.std.specs.Prelude.{◌≡◌, ◌-◌, ◌^◌, min, take}
-use Rattle.running.specs.Desks.{passes_needed}
+use Rattle.running.specs.ServedSessions.{passes_needed}
 use Rattle.running.proofs.runs.count_passes.Given as goal
 
 -- those of the files so far are counted

@@ -1,7 +1,7 @@
 use Rattle.std.proofs.Common.{rules, arith, ◌≡◌, ◌-◌, ◌^◌, map, refl, sym, ap, ◌∙◌}
 use Rattle.std.specs.Arc.{arc_value}
 use Rattle.schedule.specs.Standing.{setup_for}
-use Rattle.running.proofs.DeskLemmas.{none_counted, no_results}
+use Rattle.running.proofs.ServedSessionLemmas.{none_counted, no_results}
 use Rattle.running.proofs.runs.run.Goals as goal
 
 pub returns-then-count-eq0-clause-results : goal.returns-then-count-eq0-clause-results

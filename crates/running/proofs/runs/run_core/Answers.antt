@@ -1,5 +1,5 @@
 use Rattle.std.proofs.Common.{◌∙◌, length}
-use Rattle.running.proofs.DeskLemmas.{new_first, if_results}
+use Rattle.running.proofs.ServedSessionLemmas.{new_first, if_results}
 use Rattle.running.proofs.runs.run_core.Goals as goal
 
 pub serve_front-requires-after_bounds : goal.serve_front-requires-after_bounds

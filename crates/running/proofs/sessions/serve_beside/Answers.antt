@@ -6,8 +6,8 @@ use Rattle.running.proofs.sessions.serve_beside.Goals as goal
 
 pub returns-in-Err : goal.returns-in-Err
 returns-in-Err g c =
-    let first : _ × Bool = (c.args.desk.store, c.args.desk.team.has_met_memory) in
-    let start = prepend_known c.args.desk.bytes.items (g.I.Read.remaining c.args.desk.reader) in
-    subst (λ t. Outputs g.S.Store.called g.S.Meet.met g.S.Meet.stopped first (c.args.desk.store, t.has_met_memory) start c.nothing_served.result)
+    let first : _ × Bool = (c.args.session.store, c.args.session.team.has_met_memory) in
+    let start = prepend_known c.args.session.bytes.items (g.I.Read.remaining c.args.session.reader) in
+    subst (λ t. Outputs g.S.Store.called g.S.Meet.met g.S.Meet.stopped first (c.args.session.store, t.has_met_memory) start c.nothing_served.result)
     (sym c.in-Err.ensures)
     (none_served g.S.Store.called g.S.Meet.met g.S.Meet.stopped first start c.nothing_served.result c.nothing_served.ensures.0 c.nothing_served.ensures.1)

@@ -1,4 +1,4 @@
--- Desks of sessions, their passes, and what they give.
+-- Sessions that are served, their passes, and what they give.
 use Rattle.std.proofs.Common.{Result, Ok, Err, ◌≡◌, ℕ, zero, suc, ◌+◌, ◌-◌, ◌<◌, true, false, refl, sym, ◌∙◌, ap, subst, arith, List, [], ◌∷◌, ◌++◌, length, drop, Bool, Option}
 use Rattle.std.specs.Prelude.{map, sum, sum_by, slice_index_or, get_or, take, min, All, IfOk}
 use Rattle.std.proofs.lemmas.List.{length-map, length-append, map-append, append_assoc, append-nil, take_more}
@@ -25,7 +25,7 @@ use Rattle.running.specs.Calling.{IsTold}
 use Rattle.running.specs.Meeting.{HasMet, IsNew, is_stopped, stops_by}
 use Rattle.running.specs.Sessions.{Outputs}
 use Rattle.running.specs.Teams.{AllNew, stops_in}
-use Rattle.running.specs.Desks.{AreFirst, IsDeskOf, AreDesksOf, passes_for, passes_needed, session_passes, passes_left, all_passes, numbers_in, all_numbers, stops_left, IsPool, ArePools, OutputOf, AllOutputs}
+use Rattle.running.specs.ServedSessions.{AreFirst, IsSessionFor, AreSessionsFor, passes_for, passes_needed, session_passes, passes_left, all_passes, numbers_in, all_numbers, stops_left, IsPool, ArePools, OutputOf, AllOutputs}
 use Rattle.running.specs.Runs.{IsGivenBack, AreOutputs, WorkersStand, AreServed, IsClosed, AreResults, are_accounted}
 use Rattle.running.specs.Asked.{are_asked}
 use Rattle.running.specs.declared.runs.Results.{Results}
@@ -134,7 +134,7 @@ module _ {Q : Type 0} (history : History) where
       subst (All (IsGivenBack history)) (drop-append_seam own (all_passes ls))
       (All-drop (IsGivenBack history) (length own) (own ++ all_passes ls) (All-tail (IsGivenBack history) l.store (own ++ all_passes ls) back))
 
--- ---- desks
+-- ---- sessions
 
 module _ {I Q : Type 0} where
   -- so many passes are left behind some files
@@ -146,32 +146,32 @@ module _ {I Q : Type 0} where
   left_push count [] part = refl
   left_push count (p ∷ ps) part = left_push (count - passes_for p) ps part
 
-  pub desks_push : (count : ℕ) (parts : List (Part I Q)) (part : Part I Q) (desks : List (ServedSession PassKnowledge Q I)) (desk : ServedSession PassKnowledge Q I)
-      → AreDesksOf (session_passes count parts) parts desks → IsDeskOf (left_behind count parts - passes_for part) part desk
-      → AreDesksOf (session_passes count (parts ++ part ∷ [])) (parts ++ part ∷ []) (desks ++ desk ∷ [])
-  desks_push count [] part [] desk all one = (one, tt)
-  desks_push count (p ∷ ps) part (d ∷ ds) desk all one = (all.0, desks_push (count - passes_for p) ps part ds desk all.1 one)
-  desks_push count [] part (d ∷ ds) desk all one = absurd all
-  desks_push count (p ∷ ps) part [] desk all one = absurd all
+  pub sessions_push : (count : ℕ) (parts : List (Part I Q)) (part : Part I Q) (served_sessions : List (ServedSession PassKnowledge Q I)) (session : ServedSession PassKnowledge Q I)
+      → AreSessionsFor (session_passes count parts) parts served_sessions → IsSessionFor (left_behind count parts - passes_for part) part session
+      → AreSessionsFor (session_passes count (parts ++ part ∷ [])) (parts ++ part ∷ []) (served_sessions ++ session ∷ [])
+  sessions_push count [] part [] session all one = (one, tt)
+  sessions_push count (p ∷ ps) part (d ∷ ds) session all one = (all.0, sessions_push (count - passes_for p) ps part ds session all.1 one)
+  sessions_push count [] part (d ∷ ds) session all one = absurd all
+  sessions_push count (p ∷ ps) part [] session all one = absurd all
 
   -- the numbers of their passes
-  pub desk_numbers : (numbers : List ℕ) (parts : List (Part I Q)) (desks : List (ServedSession PassKnowledge Q I)) → AreDesksOf numbers parts desks
-      → map (λ (d : ServedSession PassKnowledge Q I). d.store.caller.number) desks ≡ numbers
-  desk_numbers [] [] [] all = refl
-  desk_numbers (n ∷ ns) (p ∷ ps) (d ∷ ds) all =
+  pub session_numbers : (numbers : List ℕ) (parts : List (Part I Q)) (served_sessions : List (ServedSession PassKnowledge Q I)) → AreSessionsFor numbers parts served_sessions
+      → map (λ (d : ServedSession PassKnowledge Q I). d.store.caller.number) served_sessions ≡ numbers
+  session_numbers [] [] [] all = refl
+  session_numbers (n ∷ ns) (p ∷ ps) (d ∷ ds) all =
       ap (λ k. k ∷ map (λ (d : ServedSession PassKnowledge Q I). d.store.caller.number) ds) (ap (λ (k : PassKnowledge). k.caller.number) all.0.2)
-      ∙ ap (λ ks. n ∷ ks) (desk_numbers ns ps ds all.1)
-  desk_numbers [] [] (d ∷ ds) all = absurd all
-  desk_numbers [] (p ∷ ps) ds all = absurd all
-  desk_numbers (n ∷ ns) [] ds all = absurd all
-  desk_numbers (n ∷ ns) (p ∷ ps) [] all = absurd all
+      ∙ ap (λ ks. n ∷ ks) (session_numbers ns ps ds all.1)
+  session_numbers [] [] (d ∷ ds) all = absurd all
+  session_numbers [] (p ∷ ps) ds all = absurd all
+  session_numbers (n ∷ ns) [] ds all = absurd all
+  session_numbers (n ∷ ns) (p ∷ ps) [] all = absurd all
 
   -- ---- what they give
 
-  -- what the desks of files leave stands in the history of the front to which all passes were given back
+  -- what the sessions of files leave stands in the history of the front to which all passes were given back
   pub outputs_of : (setup : Setup) (gives : Q → Running → Result (List ℕ) RunFault → Q → Type 0) (remaining : I → Option (List ℕ))
-      (history : History) (numbers : List ℕ) (parts : List (Part I Q)) (desks : List (ServedSession PassKnowledge Q I)) (lefts : List (Left PassKnowledge Q))
-      → AreDesksOf numbers parts desks → AllOutputs (IsTold setup) HasMet is_stopped remaining desks lefts → ArePools setup gives lefts
+      (history : History) (numbers : List ℕ) (parts : List (Part I Q)) (served_sessions : List (ServedSession PassKnowledge Q I)) (lefts : List (Left PassKnowledge Q))
+      → AreSessionsFor numbers parts served_sessions → AllOutputs (IsTold setup) HasMet is_stopped remaining served_sessions lefts → ArePools setup gives lefts
       → All (IsGivenBack history) (all_passes lefts)
       → AreOutputs setup remaining history numbers (map stops_left lefts) parts (map (λ (l : Left PassKnowledge Q). l.output) lefts)
   outputs_of setup gives remaining history [] [] [] [] are all pools back = tt
@@ -255,15 +255,15 @@ all_push (l ∷ ls) left =
 -- ---- outputs that threads gave
 
 module _ {S Q I : Type 0} (called : S → Event → Reply → S → Type 0) (met : S → S → Type 0) (stopped : S → Bool) (remaining : I → Option (List ℕ)) where
-  -- where each place has what its desk leaves, all have
-  pub each_output : (desks : List (ServedSession S Q I)) (lefts : List (Left S Q)) → length lefts ≡ length desks
-      → ((i : ℕ) (d : Left S Q) → i < length desks
-      → (desk : ServedSession S Q I) × ((e : ServedSession S Q I) → slice_index_or desks i e ≡ desk) × OutputOf called met stopped remaining desk (slice_index_or lefts i d))
-      → AllOutputs called met stopped remaining desks lefts
+  -- where each place has what its session leaves, all have
+  pub each_output : (served_sessions : List (ServedSession S Q I)) (lefts : List (Left S Q)) → length lefts ≡ length served_sessions
+      → ((i : ℕ) (d : Left S Q) → i < length served_sessions
+      → (session : ServedSession S Q I) × ((e : ServedSession S Q I) → slice_index_or served_sessions i e ≡ session) × OutputOf called met stopped remaining session (slice_index_or lefts i d))
+      → AllOutputs called met stopped remaining served_sessions lefts
   each_output [] [] same each = tt
   each_output (d ∷ ds) (l ∷ ls) same each =
       let first = each 0 l (omega arith) in (
-        subst (λ (desk : ServedSession S Q I). OutputOf called met stopped remaining desk l) (sym (first.1 d)) first.2,
+        subst (λ (session : ServedSession S Q I). OutputOf called met stopped remaining session l) (sym (first.1 d)) first.2,
         each_output ds ls (omega (arith, same)) (λ i e inside. each (suc i) e (omega (arith, inside))),
       )
   each_output [] (l ∷ ls) same each = absurd (omega (arith, same))
@@ -272,19 +272,19 @@ module _ {S Q I : Type 0} (called : S → Event → Reply → S → Type 0) (met
 -- ---- all files
 
 module _ {I Q : Type 0} (setup : Setup) (gives : Q → Running → Result (List ℕ) RunFault → Q → Type 0) (remaining : I → Option (List ℕ)) where
-  -- what sessions left by these desks
-  pub all_served : (numbers : List ℕ) (parts : List (Part I Q)) (desks : List (ServedSession PassKnowledge Q I)) (lefts : List (Left PassKnowledge Q))
+  -- what sessions left by these sessions
+  pub all_served : (numbers : List ℕ) (parts : List (Part I Q)) (served_sessions : List (ServedSession PassKnowledge Q I)) (lefts : List (Left PassKnowledge Q))
       (sessions workers : List ℕ) (passes : List PassKnowledge) (outputs : List SessionOutput)
-      → AreDesksOf numbers parts desks → AllOutputs (IsTold setup) HasMet is_stopped remaining desks lefts → ArePools setup gives lefts
-      → sessions ≡ map (λ (d : ServedSession PassKnowledge Q I). d.store.caller.number) desks → workers ≡ all_numbers lefts → passes ≡ all_passes lefts
+      → AreSessionsFor numbers parts served_sessions → AllOutputs (IsTold setup) HasMet is_stopped remaining served_sessions lefts → ArePools setup gives lefts
+      → sessions ≡ map (λ (d : ServedSession PassKnowledge Q I). d.store.caller.number) served_sessions → workers ≡ all_numbers lefts → passes ≡ all_passes lefts
       → outputs ≡ map (λ (l : Left PassKnowledge Q). l.output) lefts → AreServed setup gives remaining numbers parts sessions workers passes outputs
-  all_served numbers parts desks lefts sessions workers passes outputs are all pools named numbered back gave = record {
-    named = named ∙ desk_numbers numbers parts desks are;
+  all_served numbers parts served_sessions lefts sessions workers passes outputs are all pools named numbered back gave = record {
+    named = named ∙ session_numbers numbers parts served_sessions are;
     stops = map stops_left lefts;
     all = sum-map stops_left lefts ∙ stops_all lefts ∙ ap (sum_by stops_by) (sym back);
     outputs_are = λ history given.
         subst (λ (os : List SessionOutput). AreOutputs setup remaining history numbers (map stops_left lefts) parts os) (sym gave)
-        (outputs_of setup gives remaining history numbers parts desks lefts are all pools (subst (All (IsGivenBack history)) back given));
+        (outputs_of setup gives remaining history numbers parts served_sessions lefts are all pools (subst (All (IsGivenBack history)) back given));
     workers_are = λ history given.
         subst (λ (ns : List ℕ). ∥ WorkersStand setup gives history ns ∥₁) (sym numbered)
         (pools_stand setup gives history lefts pools (subst (All (IsGivenBack history)) back given));

@@ -39,15 +39,15 @@ module _ {I Q : Type 0} where
 
   -- what a session is served with is what there is of its file, the pass of that number, which has made no call, and workers of whom no
   -- round was answered 90
-  abbrev pub IsDeskOf : ℕ → Part I Q → ServedSession PassKnowledge Q I → Type 0
-  IsDeskOf number part desk =
-      (desk.bytes ≡ part.bytes) × (desk.reader ≡ part.reader) × (desk.store ≡ new_pass number) × (desk.team.has_met_memory ≡ false)
+  abbrev pub IsSessionFor : ℕ → Part I Q → ServedSession PassKnowledge Q I → Type 0
+  IsSessionFor number part session =
+      (session.bytes ≡ part.bytes) × (session.reader ≡ part.reader) × (session.store ≡ new_pass number) × (session.team.has_met_memory ≡ false)
 
   -- one for each file, in their order, with the passes of these numbers
-  abbrev pub AreDesksOf : List ℕ → List (Part I Q) → List (ServedSession PassKnowledge Q I) → Type 0
-  AreDesksOf [] [] [] = Unit {0}
-  AreDesksOf (number ∷ numbers) (part ∷ parts) (desk ∷ desks) = IsDeskOf number part desk × AreDesksOf numbers parts desks
-  AreDesksOf numbers parts desks = ⊥
+  abbrev pub AreSessionsFor : List ℕ → List (Part I Q) → List (ServedSession PassKnowledge Q I) → Type 0
+  AreSessionsFor [] [] [] = Unit {0}
+  AreSessionsFor (number ∷ numbers) (part ∷ parts) (session ∷ served_sessions) = IsSessionFor number part session × AreSessionsFor numbers parts served_sessions
+  AreSessionsFor numbers parts served_sessions = ⊥
 
 module _ {Q : Type 0} where
   -- the passes that a session leaves: its own, and those of its workers
@@ -85,11 +85,11 @@ module _ {Q : Type 0} where
 -- each session leaves the output of its file, in their order
 module _ {S Q I : Type 0} (called : S → Event → Reply → S → Type 0) (met : S → S → Type 0) (stopped : S → Bool) (remaining : I → Option (List ℕ)) where
   abbrev pub OutputOf : ServedSession S Q I → Left S Q → Type 0
-  OutputOf desk left =
-      Outputs called met stopped (desk.store, desk.team.has_met_memory) (left.store, left.team.has_met_memory)
-      (prepend_known desk.bytes.items (remaining desk.reader)) left.output
+  OutputOf session left =
+      Outputs called met stopped (session.store, session.team.has_met_memory) (left.store, left.team.has_met_memory)
+      (prepend_known session.bytes.items (remaining session.reader)) left.output
 
   abbrev pub AllOutputs : List (ServedSession S Q I) → List (Left S Q) → Type 0
   AllOutputs [] [] = Unit {0}
-  AllOutputs (desk ∷ desks) (left ∷ lefts) = OutputOf desk left × AllOutputs desks lefts
-  AllOutputs desks lefts = ⊥
+  AllOutputs (session ∷ served_sessions) (left ∷ lefts) = OutputOf session left × AllOutputs served_sessions lefts
+  AllOutputs served_sessions lefts = ⊥
