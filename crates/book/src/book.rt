@@ -20,7 +20,7 @@ ghost use Rattle.book.specs.Keeping.{IsNew, StandsFor};
 
 use crate::closed_history::History;
 use crate::cores::{Asked, Cores, event_again};
-use crate::counts::{Counts, Tally};
+use crate::counts::{Account, Counts, Tally};
 use crate::pass::Pass;
 use crate::publisher::Publisher;
 use history::{Caller, FrontId, HistoryPrefix, Log, Row, StopCount};
@@ -29,7 +29,6 @@ use model::Refusal;
 use schedule::{Core, Event, Ready, Reply, RunningJob, User};
 use std::alloc::{AllocError, Global};
 use std::marker::Model;
-use std::sync::ledger::Share;
 use std::sync::{Arc, Wait, ledger};
 
 /// A core with the history of its calls. Whoever holds it may call [`Book::apply`] for any pass.
@@ -129,7 +128,7 @@ pub(crate) fn refuse(why: Refusal, _event: Event) -> Reply
 
 impl<J: FrontId> Book<J> {
     /// A book of a new core, with an empty history.
-    pub(crate) fn new(
+    pub(crate) fn of_parts(
         alloc: Global,
         cores: Cores,
         calls: ledger::Book<J>,
@@ -159,44 +158,25 @@ impl<J: FrontId> Book<J> {
         }
     }
 
-    /// Answers one event of a pass. It may wait for readers of what was published before.
-    ///
-    /// The reply is the core's, and a row of the history has it, which is the last of the sure rows
-    /// of the pass, and is published. There is no row at 90 `Memory`, where memory was refused, and at
-    /// 92 `Stopped`, where the book was stopped before. At 90 nothing has changed, or the core had taken
-    /// the event and the book is stopped now. At 92 the pass knows that it is.
-    pub fn apply<R: Wait>(
+    /// Answers one event of a caller, with values that were made before, as [`Book::apply_ready`] does that of a
+    /// pass.
+    pub(crate) fn answer<R: Wait>(
         &mut self,
         rt: &R,
         alloc: Global,
-        pass: &mut Caller<J>,
-        part: &mut Share<StopCount<J>>,
-        event: Event,
-    ) -> Reply
-        requires part { part.old.parts ≡ 1 }
-        ensures applied { IsApplied J.setup J.parts event result
-            self.old pass.old part.old.amount self.new pass.new part.new.amount }
-        ensures part { part.new.parts ≡ 1 }
-    {
-        self.apply_ready(rt, alloc, pass, part, event, Ready::none(alloc))
-    }
-
-    /// Answers one event of a pass as [`Book::apply`] does, with values that were made before. Whatever
-    /// they are, they make no difference but that the core need not make them itself.
-    pub fn apply_ready<R: Wait>(
-        &mut self,
-        rt: &R,
-        alloc: Global,
-        pass: &mut Caller<J>,
-        part: &mut Share<StopCount<J>>,
+        account: &mut Account<J>,
         event: Event,
         ready: Ready,
     ) -> Reply
-        requires part { part.old.parts ≡ 1 }
-        ensures applied { IsApplied J.setup J.parts event result
-            self.old pass.old part.old.amount self.new pass.new part.new.amount }
-        ensures part { part.new.parts ≡ 1 }
+        requires part { account.old.stops.parts ≡ 1 }
+        ensures applied { IsApplied J.setup J.parts event result self.old account.old.caller
+            account.old.stops.amount self.new account.new.caller account.new.stops.amount }
+        ensures part { account.new.stops.parts ≡ 1 }
     {
+        let Account {
+            caller: pass,
+            stops: part,
+        } = account;
         isolation();
         timed_isolation();
         let Book {
@@ -246,26 +226,27 @@ impl<J: FrontId> Book<J> {
     ///
     /// - `Stopped` exactly where the book is stopped. The pass knows it then.
     /// - Else those of [`Core::request`].
-    pub fn request(
+    pub(crate) fn request(
         &mut self,
-        pass: &mut Caller<J>,
-        part: &mut Share<StopCount<J>>,
+        account: &mut Account<J>,
         user: &User,
         number: u16,
     ) -> Result<RunningJob, Refusal>
-        requires part { part.old.parts ≡ 1 }
+        requires part { account.old.stops.parts ≡ 1 }
         ensures value { self.old.stopped ≡ false
             → IsAnswerTo (job_asked_for self.old.core user.now number) result }
         ensures stopped { self.old.stopped ≡ true → result ≡ Err Stopped }
         ensures only_then { result ≡ Err Stopped → self.old.stopped ≡ true }
-        ensures matches { Matches self.old.rows self.old.stopped pass.old }
+        ensures matches { Matches self.old.rows self.old.stopped account.old.caller }
         // The only pass knows all rows.
-        ensures alone { J.parts ≡ 1 → pass.old.sure ≡ self.old.rows }
-        ensures told { result ≡ Err Stopped → pass.new ≡ told_stopped pass.old }
-        ensures going { result ≢ Err Stopped → pass.new ≡ pass.old }
+        ensures alone { J.parts ≡ 1 → account.old.caller.sure ≡ self.old.rows }
+        ensures told { result ≡ Err Stopped
+            → account.new.caller ≡ told_stopped account.old.caller }
+        ensures going { result ≢ Err Stopped → account.new.caller ≡ account.old.caller }
         // The only pass knows whether the book is stopped: a call of its own stopped it.
-        ensures stops_alone { J.parts ≡ 1 → part.old.amount ≡ stops_of self.old.stopped }
-        ensures part { (part.new.parts ≡ 1) × (part.new.amount ≡ part.old.amount) }
+        ensures stops_alone { J.parts ≡ 1 → account.old.stops.amount ≡ stops_of self.old.stopped }
+        ensures part { (account.new.stops.parts ≡ 1)
+            × (account.new.stops.amount ≡ account.old.stops.amount) }
         ensures stays { self.new ≡ self.old }
         ensures legal { IsLegal J.setup self.old.rows }
         ensures given { setup_of self.old.core ≡ J.setup }
@@ -274,6 +255,10 @@ impl<J: FrontId> Book<J> {
     {
         isolation();
         timed_isolation();
+        let Account {
+            caller: pass,
+            stops: part,
+        } = account;
         let Book {
             cores,
             calls,
@@ -436,7 +421,7 @@ fn merged<J: FrontId, R: Wait>(
     ensures seen { All (λ p. IsPrefix p.seen rows.now.seen.log) passes.items }
 {
     while let Some(pass) = passes.pop() {
-        let (mut caller, stops) = pass.into_caller(rt, rows);
+        let Account { mut caller, stops } = pass.into_account(rt, rows);
         caller.compare(log);
         all.calls.merge(caller.into_calls());
         all.stops.merge(stops);

@@ -1,6 +1,6 @@
 //! What is counted of the calls of a front.
 
-use history::{FrontId, Log, StopCount};
+use history::{Caller, FrontId, Log, StopCount};
 use std::sync::ledger::Share;
 
 /// Some parts of both counts.
@@ -15,6 +15,13 @@ impl<J: FrontId> Drop for Counts<J> {
     fn drop(self) {
         let Counts { calls: _, stops: _ } = self;
     }
+}
+
+/// A caller, and its part of the count of stops.
+#[derive(Drop)]
+pub(crate) struct Account<J: FrontId> {
+    pub(crate) caller: Caller<J>,
+    pub(crate) stops: Share<StopCount<J>>,
 }
 
 /// What passes are given parts of: both counts, and the log.

@@ -18,7 +18,7 @@ ghost use Rattle.book.specs.Keeping.{IsNew};
 use crate::book::{Book, refuse};
 use crate::closed_history::History;
 use crate::cores::Cores;
-use crate::counts::{Counts, Tally};
+use crate::counts::{Account, Counts, Tally};
 use crate::pass::Pass;
 use crate::publisher::Publisher;
 use history::{
@@ -109,7 +109,8 @@ fn passes_of<J: FrontId>(
         let reader = reader_of(writer)?;
         let caller = Caller::new(number, calls, tally.log.next_claim());
         let repaired = core.cache_for(alloc, most, most_bytes)?;
-        passes.push(Pass::new(caller, stops, none.again(), reader, repaired, alloc))?;
+        let account = Account { caller, stops };
+        passes.push(Pass::new(account, none.again(), reader, repaired, alloc))?;
     }
     Ok(passes)
 }
@@ -145,11 +146,11 @@ fn writer_of<J: FrontId, R: Wait>(
     Err(Refusal::Memory)
 }
 
-impl<J: FrontId> Front<J> {
-    /// A front over a new core, and its passes, of the numbers 0 to n - 1. It makes another core, and publishes
+impl<J: FrontId> Book<J> {
+    /// A book over a new core, and its passes, of the numbers 0 to n - 1. It makes another core, and publishes
     /// this one, so it may wait.
     ///
-    /// The core is as [`Core::new`] gave it, and the front is named for its users and limits. There
+    /// The core is as [`Core::new`] gave it, and the book is named for its users and limits. There
     /// are 1 to 64 passes, and the tokens have as many parts.
     ///
     /// # Errors
@@ -161,7 +162,7 @@ impl<J: FrontId> Front<J> {
         blank: FrontTokens,
         core: Core,
         n: u64,
-    ) -> Result<(Front<J>, Vec<Pass<J>>), Refusal>
+    ) -> Result<(Book<J>, Vec<Pass<J>>), Refusal>
         requires core { IsNew J.setup core }
         requires blank { (blank.calls.name ≡ J.name) × (blank.calls.parts ≡ J.parts) }
         requires stops { blank.stops.name ≡ J.stops }
@@ -169,6 +170,7 @@ impl<J: FrontId> Front<J> {
         requires log { blank.log.table.shared.table_id ≡ J.table }
         requires rows { blank.rows.seen.book ≡ J.book }
         requires some { (0 < n) × (n ≤ 64) }
+        ensures book { IfOk result (λ made. made.0 ≡ record { core = core; rows = []; stopped = false }) }
         ensures passes { IfOk result (λ made. made.1.items ≡ map new_pass (below n)) }
         ensures memory { IfErr result (λ why. why ≡ Memory) }
     {
@@ -194,17 +196,47 @@ impl<J: FrontId> Front<J> {
         match passes_of(alloc, cores.shown(), n, &mut tally, &mut writer, &none) {
             Ok(passes) => {
                 let publisher = Publisher::new(head, none, writer);
-                let book = Book::new(alloc, cores, calls, stops, tally, publisher);
-                let front = Front {
-                    book: Mutex::new(book),
-                };
-                Ok((front, passes))
+                let book = Book::of_parts(alloc, cores, calls, stops, tally, publisher);
+                Ok((book, passes))
             }
             Err(why) => {
                 writer.take(rt);
                 Err(why)
             }
         }
+    }
+}
+
+impl<J: FrontId> Front<J> {
+    /// A front over a new core, and its passes, of the numbers 0 to n - 1: the book that [`Book::new`] gives,
+    /// under a lock. It may wait.
+    ///
+    /// The core is as [`Core::new`] gave it, and the front is named for its users and limits. There
+    /// are 1 to 64 passes, and the tokens have as many parts.
+    ///
+    /// # Errors
+    ///
+    /// - `Memory` only where memory was refused.
+    pub fn new<R: Wait>(
+        rt: &R,
+        alloc: Global,
+        blank: FrontTokens,
+        core: Core,
+        n: u64,
+    ) -> Result<(Front<J>, Vec<Pass<J>>), Refusal>
+        requires core { IsNew J.setup core }
+        requires blank { (blank.calls.name ≡ J.name) × (blank.calls.parts ≡ J.parts) }
+        requires stops { blank.stops.name ≡ J.stops }
+        requires parts { blank.calls.parts ≡ n }
+        requires log { blank.log.table.shared.table_id ≡ J.table }
+        requires rows { blank.rows.seen.book ≡ J.book }
+        requires some { (0 < n) × (n ≤ 64) }
+        ensures passes { IfOk result (λ made. made.1.items ≡ map new_pass (below n)) }
+        ensures memory { IfErr result (λ why. why ≡ Memory) }
+    {
+        let (book, passes) = Book::new(rt, alloc, blank, core, n)?;
+        let book = Mutex::new(book);
+        Ok((Front { book }, passes))
     }
 
     /// Answers one event of a pass. It makes what the event needs ([`Pass::prepare`]), then takes the lock
@@ -222,7 +254,10 @@ impl<J: FrontId> Front<J> {
             → (result ≡ Refused Stopped) ⊎ (result ≡ Refused Memory) }
     {
         match pass.prepare(&event) {
-            Ok(ready) => pass.call(rt, alloc, &mut *self.book.lock(rt), event, ready),
+            Ok(ready) => self
+                .book
+                .lock(rt)
+                .apply_ready(rt, alloc, pass, event, ready),
             Err(why) => refuse(why, event),
         }
     }
@@ -241,7 +276,9 @@ impl<J: FrontId> Front<J> {
         ensures called { HasCalled J.setup J.parts pass.old event result pass.new }
         ensures remains { pass.old.caller.stopped ≡ true → result ≡ Refused Stopped }
     {
-        pass.call(rt, alloc, &mut *self.book.lock(rt), event, ready)
+        self.book
+            .lock(rt)
+            .apply_ready(rt, alloc, pass, event, ready)
     }
 
     /// The job that a user's goal of a number leads, and what it is built from, for a pass. It takes

@@ -12,15 +12,14 @@ ghost use Rattle.events.specs.Terms.{event_of};
 ghost use Rattle.history.specs.Following.{FindsRead, IsNeedAfter, IsPreparedAfter};
 ghost use Rattle.history.specs.FrontId.{name_of, book_in, setup_in};
 ghost use Rattle.history.specs.Tied.{knower};
-ghost use Rattle.book.specs.Applying.{HasCalled};
+ghost use Rattle.book.specs.Applying.{IsApplied, HasCalled};
 ghost use Rattle.book.specs.Asking.{HasAsked};
 
 use crate::book::Book;
+use crate::counts::Account;
 use crate::publisher::insist;
 use core::mem::replace_with;
-use history::{
-    Caller, FrontId, HistoryPrefix, SnapshotReader, StopCount, is_unrecorded, look, need,
-};
+use history::{FrontId, HistoryPrefix, SnapshotReader, is_unrecorded, look, need};
 use laws::{isolation, kept_closures_are_good, timed_isolation};
 use model::Refusal;
 use schedule::{
@@ -29,13 +28,10 @@ use schedule::{
 use std::alloc::Global;
 use std::marker::Model;
 use std::sync::Wait;
-use std::sync::ledger::Share;
 
 /// One caller of a front, with what it has seen of the history.
 pub struct Pass<J: FrontId> {
-    caller: Caller<J>,
-    /// Its part of the count of stops.
-    stops: Share<StopCount<J>>,
+    account: Account<J>,
     /// How many rows it is sure of.
     sure: u64,
     seen: HistoryPrefix,
@@ -48,8 +44,7 @@ pub struct Pass<J: FrontId> {
 impl<J: FrontId> Drop for Pass<J> {
     fn drop(self) {
         let Pass {
-            caller: _,
-            stops: _,
+            account: _,
             sure: _,
             seen: _,
             reader: _,
@@ -76,14 +71,14 @@ impl<J: FrontId> Model for Pass<J> {
     ghost coded = { Prim.hlevel (codes, tree_code) };
 
     ghost view = { λ p. record {
-      caller = p.caller;
+      caller = p.account.caller;
       seen = p.seen.seen.log;
-      stops = p.stops.amount;
+      stops = p.account.stops.amount;
     } };
 
-    ghost invariant = { λ p. IsPrefix p.caller.sure p.seen.seen.log × (p.seen.seen.book ≡ J.book)
+    ghost invariant = { λ p. IsPrefix p.account.caller.sure p.seen.seen.log × (p.seen.seen.book ≡ J.book)
         × (p.reader.place.me.0.client ≡ knower (name_of J.book J.setup))
-        × (p.sure ≡ length p.caller.sure) × (p.stops.parts ≡ 1) };
+        × (p.sure ≡ length p.account.caller.sure) × (p.account.stops.parts ≡ 1) };
 }
 
 /// Looks for the answer to a query after the rows that are published, with these rows.
@@ -137,22 +132,20 @@ fn let_go_after(repaired: &mut Cache, reply: &Reply) {
 impl<J: FrontId> Pass<J> {
     /// A pass that has made no call, and seen nothing.
     pub(crate) fn new(
-        caller: Caller<J>,
-        stops: Share<StopCount<J>>,
+        account: Account<J>,
         seen: HistoryPrefix,
         reader: SnapshotReader,
         repaired: Cache,
         alloc: Global,
     ) -> Pass<J>
-        requires caller { caller.sure ≡ [] }
-        requires stops { (stops.parts ≡ 1) × (stops.amount ≡ 0) }
+        requires caller { account.caller.sure ≡ [] }
+        requires stops { (account.stops.parts ≡ 1) × (account.stops.amount ≡ 0) }
         requires seen { (seen.seen.log ≡ []) × (seen.seen.book ≡ J.book) }
         requires reader { view reader.place ≡ knower (name_of J.book J.setup) }
-        ensures { result ≡ record { caller = caller; seen = []; stops = 0 } }
+        ensures { result ≡ record { caller = account.caller; seen = []; stops = 0 } }
     {
         Pass {
-            caller,
-            stops,
+            account,
             sure: 0,
             seen,
             reader,
@@ -165,14 +158,14 @@ impl<J: FrontId> Pass<J> {
     pub fn number(&self) -> u64
         ensures { result ≡ self.now.caller.number }
     {
-        self.caller.number()
+        self.account.caller.number()
     }
 
     /// Its calls that have a row are counted: they are those of its number among its sure rows.
     pub fn rows_are_counted(&self)
         ensures { rows_of self.now.caller.number self.now.caller.sure ≡ self.now.caller.calls }
     {
-        self.caller.rows_are_counted()
+        self.account.caller.rows_are_counted()
     }
 
     /// What it has seen begins with the rows that it is sure of.
@@ -289,35 +282,6 @@ impl<J: FrontId> Pass<J> {
         self.repaired.hits()
     }
 
-    /// Answers one event of the pass by the book. Then it has seen all rows. Where memory is refused, the records
-    /// that it repaired are let go.
-    pub(crate) fn call<R: Wait>(
-        &mut self,
-        rt: &R,
-        alloc: Global,
-        book: &mut Book<J>,
-        event: Event,
-        ready: Ready,
-    ) -> Reply
-        ensures called { HasCalled J.setup J.parts self.old event result self.new }
-        ensures remains { self.old.caller.stopped ≡ true → result ≡ Refused Stopped }
-    {
-        let Pass {
-            caller,
-            stops,
-            sure,
-            seen,
-            repaired,
-            ..
-        } = self;
-        insist(rt, seen.begins(&book.seen()));
-        let reply = book.apply_ready(rt, alloc, caller, stops, event, ready);
-        *seen = book.seen();
-        *sure = sure_after(&reply, *sure, seen.len());
-        let_go_after(repaired, &reply);
-        reply
-    }
-
     /// Asks the book for the job that a user's goal of a number leads. Then it has seen all rows.
     pub(crate) fn request<R: Wait>(
         &mut self,
@@ -329,14 +293,9 @@ impl<J: FrontId> Pass<J> {
         ensures { HasAsked J.setup J.parts self.old user.now number result self.new }
     {
         kept_closures_are_good();
-        let Pass {
-            caller,
-            stops,
-            seen,
-            ..
-        } = self;
+        let Pass { account, seen, .. } = self;
         insist(rt, seen.begins(&book.seen()));
-        let told = book.request(caller, stops, user, number);
+        let told = book.request(account, user, number);
         *seen = book.seen();
         told
     }
@@ -352,8 +311,8 @@ impl<J: FrontId> Pass<J> {
         ensures stops { self.new.stops ≡ self.old.stops }
         ensures same { book.new ≡ book.old }
     {
-        let Pass { caller, seen, .. } = self;
-        book.compare(caller);
+        let Pass { account, seen, .. } = self;
+        book.compare(&mut account.caller);
         let rows = book.seen();
         if seen.begins(&rows) {
             *seen = rows;
@@ -362,19 +321,14 @@ impl<J: FrontId> Pass<J> {
 
     /// What it is without what it has seen, which are the first of all rows, and its part of the count of
     /// stops.
-    pub(crate) fn into_caller<R: Wait>(
-        self,
-        rt: &R,
-        rows: &HistoryPrefix,
-    ) -> (Caller<J>, Share<StopCount<J>>)
+    pub(crate) fn into_account<R: Wait>(self, rt: &R, rows: &HistoryPrefix) -> Account<J>
         requires { rows.now.seen.book ≡ J.book }
-        ensures caller { result.0 ≡ self.caller }
-        ensures stops { (result.1.parts ≡ 1) × (result.1.amount ≡ self.stops) }
+        ensures caller { result.caller ≡ self.caller }
+        ensures stops { (result.stops.parts ≡ 1) × (result.stops.amount ≡ self.stops) }
         ensures seen { IsPrefix self.seen rows.now.seen.log }
     {
         let Pass {
-            caller,
-            stops,
+            account,
             sure: _,
             seen,
             reader: _reader,
@@ -382,6 +336,60 @@ impl<J: FrontId> Pass<J> {
             alloc: _,
         } = self;
         insist(rt, seen.begins(rows));
-        (caller, stops)
+        account
+    }
+}
+
+impl<J: FrontId> Book<J> {
+    /// Answers one event of a pass. It may wait for readers of what was published before.
+    ///
+    /// The reply is the core's, and a row of the history has it, which is the last of the sure rows
+    /// of the pass, and is published. There is no row at 90 `Memory`, where memory was refused, and at
+    /// 92 `Stopped`, where the book was stopped before. At 90 nothing has changed, or the core had taken
+    /// the event and the book is stopped now. At 92 the pass knows that it is. The pass has seen all rows then.
+    /// Where memory is refused, the records that it repaired are let go.
+    pub fn apply<R: Wait>(
+        &mut self,
+        rt: &R,
+        alloc: Global,
+        pass: &mut Pass<J>,
+        event: Event,
+    ) -> Reply
+        ensures applied { IsApplied J.setup J.parts event result
+            self.old pass.old.caller pass.old.stops self.new pass.new.caller pass.new.stops }
+        ensures called { HasCalled J.setup J.parts pass.old event result pass.new }
+        ensures remains { pass.old.caller.stopped ≡ true → result ≡ Refused Stopped }
+    {
+        self.apply_ready(rt, alloc, pass, event, Ready::none(alloc))
+    }
+
+    /// Answers one event of a pass as [`Book::apply`] does, with values that were made before. Whatever
+    /// they are, they make no difference but that the core need not make them itself.
+    pub fn apply_ready<R: Wait>(
+        &mut self,
+        rt: &R,
+        alloc: Global,
+        pass: &mut Pass<J>,
+        event: Event,
+        ready: Ready,
+    ) -> Reply
+        ensures applied { IsApplied J.setup J.parts event result
+            self.old pass.old.caller pass.old.stops self.new pass.new.caller pass.new.stops }
+        ensures called { HasCalled J.setup J.parts pass.old event result pass.new }
+        ensures remains { pass.old.caller.stopped ≡ true → result ≡ Refused Stopped }
+    {
+        let Pass {
+            account,
+            sure,
+            seen,
+            repaired,
+            ..
+        } = pass;
+        insist(rt, seen.begins(&self.seen()));
+        let reply = self.answer(rt, alloc, account, event, ready);
+        *seen = self.seen();
+        *sure = sure_after(&reply, *sure, seen.len());
+        let_go_after(repaired, &reply);
+        reply
     }
 }

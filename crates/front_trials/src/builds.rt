@@ -8,7 +8,7 @@ use crate::turns::is_set_in_time;
 use jobs::RunningJob;
 use model::Refusal;
 use nar::{Tree, encode};
-use running::{InputHead, Output, Part, look_ahead};
+use running::{InputHead, SessionOutput, Part, look_ahead};
 use schedule::Limits;
 use std::alloc::{AllocError, Global};
 use std::hash::RandomState;
@@ -115,7 +115,7 @@ fn opened(alloc: Global, argument: &str) -> Result<(InputHead, Source), Refusal>
 }
 
 /// Adds how the lines of each file ended, and what they gave.
-fn add_outputs(outputs: Vec<Output>, out: &mut Answer) {
+fn add_outputs(outputs: Vec<SessionOutput>, out: &mut Answer) {
     for output in outputs {
         out.add_end(output.ended);
         out.add_text(": ");

@@ -5,6 +5,7 @@
 //! `tests/trials` computes it.
 #![tactic(auto)]
 
+mod books;
 mod builds;
 mod calls;
 mod crowd;

@@ -11,10 +11,10 @@ use Rattle.book.proofs.book.Book.request.Goals.{After-audit-2}
 use Rattle.book.proofs.book.Book.request.Goals as goal
 
 -- the only pass
-only_pass : (g : Over) (c : After-audit-2 g) → g.J.Ledger.parts ≡ 1 → c.args.pass.now.sure ≡ c.args.self.now.rows
+only_pass : (g : Over) (c : After-audit-2 g) → g.J.Ledger.parts ≡ 1 → c.args.account.now.caller.sure ≡ c.args.self.now.rows
 only_pass g c one =
     let inside = c.self.inside in
-    sure_of_all c.args.pass.now.sure c.compare.new.self.sure inside.log.rows (map arc_value inside.history.items) _ c.compare.ensures.matches.sure
+    sure_of_all c.args.account.now.caller.sure c.compare.new.self.sure inside.log.rows (map arc_value inside.history.items) _ c.compare.ensures.matches.sure
     c.self.invariant.4 c.compare.ensures.sure (c.audit.ensures.alone one).0 c.self.invariant.1 ∙ ap (λ (b : Contents). b.rows) c.self.view_is
 
 pub returns-clause-alone : goal.returns-clause-alone

@@ -25,7 +25,7 @@ returns g c =
         remains = λ was. asked.stopped (asked.matches.stopped_too was);
       };
       alone = is_asked_alone g.J.FrontId.setup c.args.book.now c.args.user.now c.args.number c.request-told.result c.kept_closures_are_good.ensures
-          asked.legal asked.given asked.reached asked.value asked.stopped c.self.inside.caller.sure _ asked.alone;
+          asked.legal asked.given asked.reached asked.value asked.stopped c.self.inside.account.caller.sure _ asked.alone;
       stopped_alone = λ only told. asked.stops_alone only ∙ ap stops_of (asked.only_then told);
     })
 
@@ -33,8 +33,8 @@ pub invariant_of-self : goal.invariant_of-self
 invariant_of-self g c =
     let old = c.self.inside in
     let rows = c.seen-2.ensures.0 ∙ ap (λ (b : Contents). b.rows) c.request-told.ensures.stays in
-    let sure = sure_asked old.caller c.request-told.new.pass c.request-told.result c.request-told.ensures.going c.request-told.ensures.told in (
-      subst (λ (all : List Row). IsPrefix c.request-told.new.pass.sure all) (sym rows)
+    let sure = sure_asked old.account.caller c.request-told.new.account.caller c.request-told.result c.request-told.ensures.going c.request-told.ensures.told in (
+      subst (λ (all : List Row). IsPrefix c.request-told.new.account.caller.sure all) (sym rows)
           (subst (λ (begun : List Row). IsPrefix begun c.args.book.now.rows) (sym sure) c.request-told.ensures.matches.sure),
       c.seen-2.ensures.1,
       c.self.invariant.2,

@@ -16,9 +16,9 @@ use Rattle.history.specs.Histories.{row, unrecorded, IsLegal}
 use Rattle.book.specs.Publishing.{Published}
 use Rattle.book.specs.Keeping.{Contents, Kept, Steps, IsModelReply, TookEvent}
 use Rattle.book.proofs.KeepingLemmas.{goes_on, stops, replied, is_legal, sure_of_all}
-use Rattle.book.proofs.book.Book.apply_ready.Given.{Over}
-use Rattle.book.proofs.book.Book.apply_ready.Goals.{After-audit-2}
-use Rattle.book.proofs.book.Book.apply_ready.Goals as goal
+use Rattle.book.proofs.book.Book.answer.Given.{Over}
+use Rattle.book.proofs.book.Book.answer.Goals.{After-audit-2}
+use Rattle.book.proofs.book.Book.answer.Goals as goal
 
 -- ---- replies
 
@@ -47,20 +47,20 @@ rows_then g c = ap (λ (b : Contents). b.rows) c.self.view_is
 stopped_then : (g : Over) (c : After-audit-2 g) → c.self.inside.stopped ≡ c.args.self.now.stopped
 stopped_then g c = ap (λ (b : Contents). b.stopped) c.self.view_is
 
-matching : (g : Over) (c : After-audit-2 g) → Matches c.args.self.now.rows c.args.self.now.stopped c.args.pass.now
-matching g c = subst (λ (b : Contents). Matches b.rows b.stopped c.args.pass.now)
+matching : (g : Over) (c : After-audit-2 g) → Matches c.args.self.now.rows c.args.self.now.stopped c.args.account.now.caller
+matching g c = subst (λ (b : Contents). Matches b.rows b.stopped c.args.account.now.caller)
     (λ i. record { core = c.args.self.now.core; rows = (c.self.invariant.4 ∙ rows_then g c) i; stopped = (c.self.invariant.5 ∙ stopped_then g c) i })
     c.compare.ensures.matches
 
 -- the only pass
-only_pass : (g : Over) (c : After-audit-2 g) → g.J.Ledger.parts ≡ 1 → c.args.pass.now.sure ≡ c.args.self.now.rows
+only_pass : (g : Over) (c : After-audit-2 g) → g.J.Ledger.parts ≡ 1 → c.args.account.now.caller.sure ≡ c.args.self.now.rows
 only_pass g c one =
     let inside = c.self.inside in
-    sure_of_all c.args.pass.now.sure c.compare.new.self.sure inside.log.rows (map arc_value inside.history.items) _ c.compare.ensures.matches.sure
+    sure_of_all c.args.account.now.caller.sure c.compare.new.self.sure inside.log.rows (map arc_value inside.history.items) _ c.compare.ensures.matches.sure
     c.self.invariant.4 c.compare.ensures.sure (c.audit.ensures.alone one).0 c.self.invariant.1 ∙ rows_then g c
 
 -- the only pass has stopped the book if it is stopped
-stop_counted : (g : Over) (c : After-audit-2 g) → g.J.Ledger.parts ≡ 1 → c.args.part.now.amount ≡ stops_of c.args.self.now.stopped
+stop_counted : (g : Over) (c : After-audit-2 g) → g.J.Ledger.parts ≡ 1 → c.args.account.now.stops.amount ≡ stops_of c.args.self.now.stopped
 stop_counted g c one = c.audit-2.ensures.whole (c.requires.part ∙ sym one) ∙ (c.self.invariant.8 ∙ ap stops_of (stopped_then g c))
 
 legal_then : (g : Over) (c : After-audit-2 g) → IsLegal g.J.FrontId.setup (map arc_value c.self.inside.history.items)
@@ -109,7 +109,7 @@ not_stopped g c going stopped = true≢false (sym stopped ∙ (sym (stopped_then
 not_true : {stopped : Bool} → stopped ≡ false → stopped ≡ true → ⊥
 not_true going stopped = true≢false (sym stopped ∙ going)
 
-pass_then : (g : Over) (c : After-audit-2 g) → c.self.inside.stopped ≡ false → c.audit.new.self ≡ c.args.pass.now
+pass_then : (g : Over) (c : After-audit-2 g) → c.self.inside.stopped ≡ false → c.audit.new.self ≡ c.args.account.now.caller
 pass_then g c going = c.audit.ensures.same.0 ∙ c.compare.ensures.going (c.self.invariant.5 ∙ going)
 
 -- ---- where no room is made for a row
@@ -277,7 +277,7 @@ add_row-requires g c =
     drafted (arc_value c.in-Ok.draft) (arc_value c.in-Some.row) c.number.result c.args.event c.in-Some.reply c.in-Ok.ensures.row
     (rw c.in-Some.is at c.in-Ok-take.ensures.row) in
     let log : c.compare.new.log ≡ c.self.inside.log = c.compare.ensures.same in
-    let pass : c.audit.new.self ≡ c.args.pass.now = pass_then g then c.if-stopped.false in
+    let pass : c.audit.new.self ≡ c.args.account.now.caller = pass_then g then c.if-stopped.false in
     let rows : length c.compare.new.log.rows ≡ c.self.inside.calls.total =
     ap (λ (l : Recorded). length l.rows) log ∙ (ap (λ (rows : List Row). length rows) c.self.invariant.4 ∙ c.self.invariant.1) in
     record {
@@ -355,8 +355,8 @@ returns g c =
     let none : unrecorded c.in-Some.reply ≡ true → ⊥ = not_true some in
     let stepped : Steps old.cores c.args.event c.in-Some.reply c.take.new.self = rw c.in-Some.is at c.in-Ok-take.ensures.step in
     let goes : c.args.self.now.stopped ≡ true → ⊥ = not_stopped g then c.if-stopped.false in
-    let pass : c.audit.new.self ≡ c.args.pass.now = pass_then g then c.if-stopped.false in
-    let number : c.number.result ≡ c.args.pass.now.number = c.number.ensures ∙ ap (λ (p : Caller). p.number) pass in
+    let pass : c.audit.new.self ≡ c.args.account.now.caller = pass_then g then c.if-stopped.false in
+    let number : c.number.result ≡ c.args.account.now.caller.number = c.number.ensures ∙ ap (λ (p : Caller). p.number) pass in
     record {
       applied = record {
         row = λ _. rows_now g c ∙ (λ i. rows_then g then i ++ (last_row g c ∙ ap (λ n. row n c.args.event c.in-Some.reply) number) i ∷ []);
