@@ -7,24 +7,24 @@ use Rattle.std.proofs.lemmas.Grind.{flat_map-append}
 use Rattle.std.proofs.lemmas.List.{append-nil, take_more, take-append-drop, take-append-le}
 use Rattle.std.proofs.Math.Seq.{take-append-add, take-length}
 use Rattle.model.specs.declared.refusal.Refusal.{Refusal}
-use Rattle.running.specs.declared.sessions.Output.{Output}
+use Rattle.running.specs.declared.sessions.SessionOutput.{SessionOutput}
 use Rattle.app.specs.Runs.{texts_of, AppendsFront, end_or, place_or, first_end, first_place}
 
 -- ---- what is written
 
 -- one text more
-pub written_more : (a b c : Option (List ℕ)) (outputs : List Output) (i : ℕ) (output : Output) → i < length outputs → output ≡ get_or outputs i output
+pub written_more : (a b c : Option (List ℕ)) (outputs : List SessionOutput) (i : ℕ) (output : SessionOutput) → i < length outputs → output ≡ get_or outputs i output
     → Appends a b (texts_of (take i outputs)) → Appends b c output.text.items → Appends a c (texts_of (take (i + 1) outputs))
 written_more a b c outputs i output inside here before own =
     let more : take (i + 1) outputs ≡ take i outputs ++ output ∷ [] =
-    take_more outputs i output inside ∙ ap (λ (o : Output). take i outputs ++ o ∷ []) (sym here) in
+    take_more outputs i output inside ∙ ap (λ (o : SessionOutput). take i outputs ++ o ∷ []) (sym here) in
     let text : texts_of (take (i + 1) outputs) ≡ texts_of (take i outputs) ++ output.text.items =
-    ap texts_of more ∙ flat_map-append (λ (o : Output). o.text.items) (take i outputs) (output ∷ [])
+    ap texts_of more ∙ flat_map-append (λ (o : SessionOutput). o.text.items) (take i outputs) (output ∷ [])
     ∙ ap (λ (bytes : List ℕ). texts_of (take i outputs) ++ bytes) (append-nil output.text.items) in
     subst (Appends a c) (sym text) (Appends-trans a b c (texts_of (take i outputs)) output.text.items before own)
 
 -- a beginning of one text more
-pub written_front : (a b c : Option (List ℕ)) (outputs : List Output) (i : ℕ) (output : Output) → i < length outputs
+pub written_front : (a b c : Option (List ℕ)) (outputs : List SessionOutput) (i : ℕ) (output : SessionOutput) → i < length outputs
     → output ≡ get_or outputs i output
     → Appends a b (texts_of (take i outputs)) → ((n : ℕ) × (n < length output.text.items) × Appends b c (take n output.text.items))
     → AppendsFront a c (texts_of outputs)
@@ -34,10 +34,10 @@ written_front a b c outputs i output inside here before own =
     let front : List ℕ = texts_of (take i outputs) in
     let rest : List ℕ = texts_of (drop (i + 1) outputs) in
     let behind : drop i outputs ≡ output ∷ drop (i + 1) outputs =
-    rw add-one (drop-cons outputs i output inside ∙ ap (λ (o : Output). o ∷ drop (suc i) outputs) (sym here)) in
+    rw add-one (drop-cons outputs i output inside ∙ ap (λ (o : SessionOutput). o ∷ drop (suc i) outputs) (sym here)) in
     let whole : texts_of outputs ≡ front ++ (output.text.items ++ rest) =
-    ap texts_of (sym (take-append-drop i outputs) ∙ ap (λ (os : List Output). take i outputs ++ os) behind)
-    ∙ flat_map-append (λ (o : Output). o.text.items) (take i outputs) (output ∷ drop (i + 1) outputs) in
+    ap texts_of (sym (take-append-drop i outputs) ∙ ap (λ (os : List SessionOutput). take i outputs ++ os) behind)
+    ∙ flat_map-append (λ (o : SessionOutput). o.text.items) (take i outputs) (output ∷ drop (i + 1) outputs) in
     let part : take (length front + n) (texts_of outputs) ≡ front ++ take n output.text.items =
     ap (take (length front + n)) whole ∙ take-append-add front (output.text.items ++ rest) n
     ∙ ap (λ (bytes : List ℕ). front ++ bytes) (take-append-le n output.text.items rest (omega (arith, short))) in
@@ -60,7 +60,7 @@ both_ok : (first rest : Result (Unit {0}) Refusal) → end_or first rest ≡ Ok 
 both_ok (Ok done) rest same = (refl, same)
 both_ok (Err why) rest same = cc
 
-ended_push : (outputs : List Output) (output : Output) → first_end outputs ≡ Ok tt → output.ended ≡ Ok tt
+ended_push : (outputs : List SessionOutput) (output : SessionOutput) → first_end outputs ≡ Ok tt → output.ended ≡ Ok tt
     → first_end (outputs ++ output ∷ []) ≡ Ok tt
 ended_push [] output before own = ap (λ (end : Result (Unit {0}) Refusal). end_or end (Ok tt)) own
 ended_push (o ∷ os) output before own =
@@ -68,19 +68,19 @@ ended_push (o ∷ os) output before own =
     ap (λ (end : Result (Unit {0}) Refusal). end_or end (first_end (os ++ output ∷ []))) both.0 ∙ ended_push os output both.1 own
 
 -- one more end is that of all lines
-pub ended_more : (outputs : List Output) (i : ℕ) (output : Output) → i < length outputs → output ≡ get_or outputs i output
+pub ended_more : (outputs : List SessionOutput) (i : ℕ) (output : SessionOutput) → i < length outputs → output ≡ get_or outputs i output
     → first_end (take i outputs) ≡ Ok tt → output.ended ≡ Ok tt → first_end (take (i + 1) outputs) ≡ Ok tt
 ended_more outputs i output inside here before own =
     let more : take (i + 1) outputs ≡ take i outputs ++ output ∷ [] =
-    take_more outputs i output inside ∙ ap (λ (o : Output). take i outputs ++ o ∷ []) (sym here) in
+    take_more outputs i output inside ∙ ap (λ (o : SessionOutput). take i outputs ++ o ∷ []) (sym here) in
     ap first_end more ∙ ended_push (take i outputs) output before own
 
 -- it is the first that is none
-pub ended_at : (outputs : List Output) (i : ℕ) (output : Output) (why : Refusal) → i < length outputs → output ≡ get_or outputs i output
+pub ended_at : (outputs : List SessionOutput) (i : ℕ) (output : SessionOutput) (why : Refusal) → i < length outputs → output ≡ get_or outputs i output
     → first_end (take i outputs) ≡ Ok tt → output.ended ≡ Err why → (first_end outputs ≡ Err why) × (first_place outputs ≡ i)
 ended_at [] i output why inside here before own = absurd (omega (arith, inside))
 ended_at (o ∷ os) zero output why inside here before own =
-    let end : o.ended ≡ Err why = ap (λ (other : Output). other.ended) (sym here) ∙ own in (
+    let end : o.ended ≡ Err why = ap (λ (other : SessionOutput). other.ended) (sym here) ∙ own in (
       ap (λ (end : Result (Unit {0}) Refusal). end_or end (first_end os)) end,
       ap (λ (end : Result (Unit {0}) Refusal). place_or end (first_place os)) end,
     )

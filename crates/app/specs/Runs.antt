@@ -6,10 +6,10 @@ use Rattle.model.specs.declared.refusal.Refusal.TheVariants.{BadUsers, Quota, Me
 use Rattle.model.specs.Goals.{Running}
 use Rattle.model.specs.Worlds.{are_users}
 use Rattle.workers.specs.declared.runner.RunFault.{RunFault}
-use Rattle.running.specs.declared.sessions.Output.{Output}
+use Rattle.running.specs.declared.sessions.SessionOutput.{SessionOutput}
 use Rattle.running.specs.declared.sessions.Part.{Part}
 use Rattle.running.specs.declared.runs.Results.{Results}
-use Rattle.running.specs.Desks.{passes_needed}
+use Rattle.running.specs.ServedSessions.{passes_needed}
 use Rattle.running.specs.Runs.{AreResults}
 use Rattle.running.specs.Sessions.{CannotBegin}
 use Rattle.session.specs.Serving.{IsUnwritten}
@@ -50,7 +50,7 @@ module _ {I Q : Type 0} (remaining : I → Option (List ℕ)) (failed : I → �
 -- ---- what is printed
 
 -- the texts of outputs, one after another
-abbrev pub texts_of : List Output → List ℕ
+abbrev pub texts_of : List SessionOutput → List ℕ
 texts_of outputs = flat_map (λ output. output.text.items) outputs
 
 -- a beginning of a text was written
@@ -73,7 +73,7 @@ end_or (Ok done) other = other
 end_or (Err why) other = Err why
 
 -- the first end that is none of all lines
-abbrev pub first_end : List Output → Result (Unit {0}) Refusal
+abbrev pub first_end : List SessionOutput → Result (Unit {0}) Refusal
 first_end [] = Ok tt
 first_end (output ∷ outputs) = end_or output.ended (first_end outputs)
 
@@ -83,12 +83,12 @@ place_or (Ok done) other = other + 1
 place_or (Err why) other = 0
 
 -- how many outputs stand before it
-abbrev pub first_place : List Output → ℕ
+abbrev pub first_place : List SessionOutput → ℕ
 first_place [] = 0
 first_place (output ∷ outputs) = place_or output.ended (first_place outputs)
 
 -- an end of files of these names: there is none, or it has the name of the file whose output has it
-abbrev pub IsFirstFault : List (List ℕ) → List Output → Option Refused → Type 0
+abbrev pub IsFirstFault : List (List ℕ) → List SessionOutput → Option Refused → Type 0
 IsFirstFault names outputs None = first_end outputs ≡ Ok tt
 IsFirstFault names outputs (Some refused) =
     (first_end outputs ≡ Err refused.why) × (refused.name.now ≡ slice_index_or names (first_place outputs) [])

@@ -7,7 +7,7 @@ ghost use Rattle.session.specs.Serving.{EndsByCounts, IsOwn, IsShown};
 ghost use Rattle.replaying.specs.Ended.{RepliesToAll, RepliesInPart, RepliesSoFar, WritesForUser, WritesForUserInPart};
 ghost use Rattle.replaying.specs.Striking.{StrikeEndsBy};
 ghost use Rattle.running.specs.Sessions.{CannotBegin};
-ghost use Rattle.running.specs.Desks.{passes_needed};
+ghost use Rattle.running.specs.ServedSessions.{passes_needed};
 ghost use Rattle.running.specs.Runs.{AreResults};
 ghost use Rattle.app.specs.Actions.{IsReplay, WhereStrikes, nothing_told};
 

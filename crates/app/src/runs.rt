@@ -15,7 +15,7 @@ use crate::parts::{Parts, parts_of};
 use crate::waiting::tell_waiting;
 use command_line::{Options, Run};
 use model::Refusal;
-use running::{Output, Results};
+use running::{Results, SessionOutput};
 use session::{Counted, Faults, flush_after, write_whole};
 use std::alloc::Global;
 use std::hash::RandomState;
@@ -57,7 +57,7 @@ fn run_opened<
 fn write_texts<W: Write + Faults>(
     writer: &mut W,
     before: u64,
-    outputs: &[Output],
+    outputs: &[SessionOutput],
 ) -> Result<(), Refusal>
     ensures ok { OnOk result (Appends (W.contents writer.old) (W.contents writer.new) (texts_of outputs.now)) }
     ensures err { IfErr result (λ _. AppendsFront (W.contents writer.old) (W.contents writer.new) (texts_of outputs.now)) }
@@ -77,7 +77,7 @@ fn write_texts<W: Write + Faults>(
 ///
 /// - `OutputFault` only where the writer failed during the call by its count.
 /// - `Memory` only where it failed and did not count that.
-fn print_all<W: Write + Faults>(writer: &mut W, outputs: &[Output]) -> Result<(), Refusal>
+fn print_all<W: Write + Faults>(writer: &mut W, outputs: &[SessionOutput]) -> Result<(), Refusal>
     ensures ok { OnOk result (Appends (W.contents writer.old) (W.contents writer.new) (texts_of outputs.now)) }
     ensures err { IfErr result (λ _. AppendsFront (W.contents writer.old) (W.contents writer.new) (texts_of outputs.now)) }
     ensures errors { IfErr result IsUnwritten }
@@ -141,7 +141,7 @@ fn name_at(names: &[String], place: usize) -> &str
 }
 
 /// The first end that is none of all lines, and the name of its file.
-fn first_fault<'a>(names: &'a [String], outputs: &[Output]) -> Option<Refused<'a>>
+fn first_fault<'a>(names: &'a [String], outputs: &[SessionOutput]) -> Option<Refused<'a>>
     ensures { IsFirstFault (map string_bytes names.now) outputs.now result }
 {
     for (place, output) in outputs.iter().enumerate() {
@@ -161,7 +161,7 @@ pub(crate) fn report_refused(rt: &impl Eprint, refused: Refused<'_>) -> u8
 }
 
 /// Says how the files of these names ended that gave these outputs, and gives the exit status.
-fn report_all(rt: &impl Eprint, names: &[String], outputs: &[Output]) -> u8
+fn report_all(rt: &impl Eprint, names: &[String], outputs: &[SessionOutput]) -> u8
     ensures { result ≡ status_of_end (first_end outputs.now) }
 {
     match first_fault(names, outputs) {

@@ -49,43 +49,53 @@ use Rattle.laws.proofs.KnowledgeLemmas.{world_after-push}
 abbrev Stands : Goal → Type 0
 Stands g = is_planned g.status ≡ true → is_some g.resolved ≡ true
 
--- what a goal of a number keeps the goal of that number kept before; and a goal that was not there keeps nothing
-abbrev pub HasKept : List Goal → ℕ → Goal → Type 0
-HasKept old n g = ((goal_at n old ≡ None) × (g.resolved ≡ None)) ⊎ ((h : Goal) × (goal_at n old ≡ Some h) × (g.resolved ≡ h.resolved))
+-- what a goal of a number keeps the goal of that number kept before, and its derivation is the same; a goal that was not there keeps nothing, and its
+-- derivation is known
+abbrev pub HasKept : Known → List Goal → ℕ → Goal → Type 0
+HasKept known old n g =
+    ((goal_at n old ≡ None) × (g.resolved ≡ None) × (is_some (known_at known g.derivation) ≡ true))
+    ⊎ ((h : Goal) × (goal_at n old ≡ Some h) × (g.resolved ≡ h.resolved) × (g.derivation ≡ h.derivation))
 
 -- each of the goals does
-pub record Follows (old later : List Goal) : Type 0 where
-  pub kept : (n : ℕ) (g : Goal) → goal_at n later ≡ Some g → HasKept old n g
+pub record Follows (known : Known) (old later : List Goal) : Type 0 where
+  pub kept : (n : ℕ) (g : Goal) → goal_at n later ≡ Some g → HasKept known old n g
   none : (n : ℕ) → goal_at n later ≡ None → goal_at n old ≡ None
   stand : All Stands old → All Stands later
 
-follows_itself : (goals : List Goal) → Follows goals goals
-follows_itself goals = record { kept = λ n g there. inr (g, there, refl); none = λ n absent. absent; stand = λ all. all }
+follows_itself : {known : Known} (goals : List Goal) → Follows known goals goals
+follows_itself goals = record { kept = λ n g there. inr (g, there, refl, refl); none = λ n absent. absent; stand = λ all. all }
 
-follows_same : (old later : List Goal) → later ≡ old → Follows old later
-follows_same old later same = subst (Follows old) (sym same) (follows_itself old)
+follows_same : {known : Known} (old later : List Goal) → later ≡ old → Follows known old later
+follows_same {known} old later same = subst (Follows known old) (sym same) (follows_itself old)
 
-follows_further : (a b c : List Goal) → Follows a b → Follows b c → Follows a c
-follows_further a b c first next = record {
+follows_further : {known : Known} (a b c : List Goal) → Follows known a b → Follows known b c → Follows known a c
+follows_further {known} a b c first next = record {
   kept = λ n g there. elim (next.kept n g there) [
-    | inl none ↦ inl (first.none n none.0, none.1)
-    | inr p ↦ elim (first.kept n p.0 p.1) [ inl none ↦ inl (none.0, p.2 ∙ none.1) | inr q ↦ inr (q.0, q.1, p.2 ∙ q.2) ]
+    | inl none ↦ inl (first.none n none.0, none.1, none.2)
+    | inr p ↦ elim (first.kept n p.0 p.1) [
+      | inl none ↦ inl (none.0, p.2 ∙ none.1, ap (λ d. is_some (known_at known d)) p.3 ∙ none.2)
+      | inr q ↦ inr (q.0, q.1, p.2 ∙ q.2, p.3 ∙ q.3)
+    ]
   ];
   none = λ n absent. first.none n (next.none n absent);
   stand = λ all. next.stand (first.stand all);
 }
 
--- a goal in the place of one that kept the same
-put_kept : (i : ℕ) (x g : Goal) (goals : List Goal) → slice_get goals i ≡ Some g → x.resolved ≡ g.resolved
-    → (j : ℕ) (y : Goal) → slice_get (slice_set goals i x) j ≡ Some y → (h : Goal) × (slice_get goals j ≡ Some h) × (y.resolved ≡ h.resolved)
-put_kept i x g [] there same j y at = absurd (cc)
-put_kept zero x g (z ∷ goals) there same zero y at =
-    let own : x ≡ y = some_same x y at in
-    let old : z ≡ g = some_same z g there in
-    (z, refl, sym (ap (λ (q : Goal). q.resolved) own) ∙ same ∙ sym (ap (λ (q : Goal). q.resolved) old))
-put_kept zero x g (z ∷ goals) there same (suc j) y at = (y, at, refl)
-put_kept (suc i) x g (z ∷ goals) there same zero y at = let own : z ≡ y = some_same z y at in (z, refl, ap (λ (q : Goal). q.resolved) (sym own))
-put_kept (suc i) x g (z ∷ goals) there same (suc j) y at = put_kept i x g goals there same j y at
+-- of one goal what it keeps and its derivation are the same
+as_it : (x y : Goal) → Some x ≡ Some y → (y.resolved ≡ x.resolved) × (y.derivation ≡ x.derivation)
+as_it x y at = let own : y ≡ x = sym (some_same x y at) in (ap (λ (q : Goal). q.resolved) own, ap (λ (q : Goal). q.derivation) own)
+
+-- a goal in the place of one of the same derivation that kept the same
+put_kept : (i : ℕ) (x g : Goal) (goals : List Goal) → slice_get goals i ≡ Some g → x.resolved ≡ g.resolved → x.derivation ≡ g.derivation
+    → (j : ℕ) (y : Goal) → slice_get (slice_set goals i x) j ≡ Some y → (h : Goal) × (slice_get goals j ≡ Some h) × (y.resolved ≡ h.resolved) × (y.derivation ≡ h.derivation)
+put_kept i x g [] there same derived j y at = absurd (cc)
+put_kept zero x g (z ∷ goals) there same derived zero y at =
+    let own = as_it x y at in
+    let old = as_it z g there in
+    (z, refl, own.0 ∙ same ∙ old.0, own.1 ∙ derived ∙ old.1)
+put_kept zero x g (z ∷ goals) there same derived (suc j) y at = (y, at, refl, refl)
+put_kept (suc i) x g (z ∷ goals) there same derived zero y at = let own = as_it z y at in (z, refl, own.0, own.1)
+put_kept (suc i) x g (z ∷ goals) there same derived (suc j) y at = put_kept i x g goals there same derived j y at
 
 put_none : (i : ℕ) (x : Goal) (goals : List Goal) (j : ℕ) → slice_get (slice_set goals i x) j ≡ None → slice_get goals j ≡ None
 put_none i x [] j absent = absent
@@ -94,28 +104,30 @@ put_none zero x (z ∷ goals) (suc j) absent = absent
 put_none (suc i) x (z ∷ goals) zero absent = absent
 put_none (suc i) x (z ∷ goals) (suc j) absent = put_none i x goals j absent
 
-follows_put : (n : ℕ) (x g : Goal) (goals : List Goal) → goal_at n goals ≡ Some g → x.resolved ≡ g.resolved → Stands x → Follows goals (with_goal_at n x goals)
-follows_put zero x g goals there same stands = follows_itself goals
-follows_put (suc i) x g goals there same stands = record { kept = kept; none = none; stand = λ all. All-set Stands goals i x stands all }
+follows_put : {known : Known} (n : ℕ) (x g : Goal) (goals : List Goal) → goal_at n goals ≡ Some g → x.resolved ≡ g.resolved → x.derivation ≡ g.derivation → Stands x
+    → Follows known goals (with_goal_at n x goals)
+follows_put zero x g goals there same derived stands = follows_itself goals
+follows_put {known} (suc i) x g goals there same derived stands = record { kept = kept; none = none; stand = λ all. All-set Stands goals i x stands all }
   where
     none : (n : ℕ) → goal_at n (slice_set goals i x) ≡ None → goal_at n goals ≡ None
     none zero absent = refl
     none (suc j) absent = put_none i x goals j absent
 
-    kept : (n : ℕ) (y : Goal) → goal_at n (slice_set goals i x) ≡ Some y → HasKept goals n y
+    kept : (n : ℕ) (y : Goal) → goal_at n (slice_set goals i x) ≡ Some y → HasKept known goals n y
     kept zero y at = absurd (cc)
-    kept (suc j) y at = inr (put_kept i x g goals there same j y at)
+    kept (suc j) y at = inr (put_kept i x g goals there same derived j y at)
 
 -- a goal that is done, failed or waits again
-follows_status : (n : ℕ) (s : Status) (g : Goal) (goals : List Goal) → goal_at n goals ≡ Some g → is_planned s ≡ false → Follows goals (with_goal_at n (in_status s g) goals)
-follows_status n s g goals there idle = follows_put n (in_status s g) g goals there refl (λ planned. absurd (cc))
+follows_status : {known : Known} (n : ℕ) (s : Status) (g : Goal) (goals : List Goal) → goal_at n goals ≡ Some g → is_planned s ≡ false
+    → Follows known goals (with_goal_at n (in_status s g) goals)
+follows_status n s g goals there idle = follows_put n (in_status s g) g goals there refl refl (λ planned. absurd (cc))
 
 -- a new goal
 pushed_kept : (derivation : List ℕ) (goals : List Goal) (i : ℕ) (y : Goal) → slice_get (goals ++ new_goal derivation ∷ []) i ≡ Some y
-    → ((slice_get goals i ≡ None) × (y.resolved ≡ None)) ⊎ ((h : Goal) × (slice_get goals i ≡ Some h) × (y.resolved ≡ h.resolved))
-pushed_kept derivation [] zero y at = let own : new_goal derivation ≡ y = some_same (new_goal derivation) y at in inl (refl, ap (λ (q : Goal). q.resolved) (sym own))
+    → ((slice_get goals i ≡ None) × (y.resolved ≡ None) × (y.derivation ≡ derivation)) ⊎ ((h : Goal) × (slice_get goals i ≡ Some h) × (y.resolved ≡ h.resolved) × (y.derivation ≡ h.derivation))
+pushed_kept derivation [] zero y at = let own = as_it (new_goal derivation) y at in inl (refl, own.0, own.1)
 pushed_kept derivation [] (suc i) y at = absurd (cc)
-pushed_kept derivation (z ∷ goals) zero y at = inr (z, refl, (let own : z ≡ y = some_same z y at in ap (λ (q : Goal). q.resolved) (sym own)))
+pushed_kept derivation (z ∷ goals) zero y at = let own = as_it z y at in inr (z, refl, own.0, own.1)
 pushed_kept derivation (z ∷ goals) (suc i) y at = pushed_kept derivation goals i y at
 
 pushed_none : (derivation : List ℕ) (goals : List Goal) (i : ℕ) → slice_get (goals ++ new_goal derivation ∷ []) i ≡ None → slice_get goals i ≡ None
@@ -123,16 +135,16 @@ pushed_none derivation [] i absent = refl
 pushed_none derivation (z ∷ goals) zero absent = absent
 pushed_none derivation (z ∷ goals) (suc i) absent = pushed_none derivation goals i absent
 
-follows_new : (derivation : List ℕ) (goals : List Goal) → Follows goals (goals ++ new_goal derivation ∷ [])
-follows_new derivation goals = record {
+follows_new : {known : Known} (derivation : List ℕ) (goals : List Goal) → is_some (known_at known derivation) ≡ true → Follows known goals (goals ++ new_goal derivation ∷ [])
+follows_new {known} derivation goals knows = record {
   kept = kept;
   none = none;
   stand = λ all. All-append Stands goals (new_goal derivation ∷ []) all (All-cons Stands (new_goal derivation) [] (λ planned. absurd (cc)) (All-nil Stands));
 }
   where
-    kept : (n : ℕ) (y : Goal) → goal_at n (goals ++ new_goal derivation ∷ []) ≡ Some y → HasKept goals n y
+    kept : (n : ℕ) (y : Goal) → goal_at n (goals ++ new_goal derivation ∷ []) ≡ Some y → HasKept known goals n y
     kept zero y at = absurd (cc)
-    kept (suc i) y at = pushed_kept derivation goals i y at
+    kept (suc i) y at = elim (pushed_kept derivation goals i y at) [ inl p ↦ inl (p.0, p.1, ap (λ d. is_some (known_at known d)) p.2 ∙ knows) | inr old ↦ inr old ]
 
     none : (n : ℕ) → goal_at n (goals ++ new_goal derivation ∷ []) ≡ None → goal_at n goals ≡ None
     none zero absent = refl
@@ -140,20 +152,23 @@ follows_new derivation goals = record {
 
 -- ---- what is forgotten
 
--- whatever becomes of a goal whose record is forgotten, it keeps the same
-let_go_keeps : (class path : List ℕ) (g : Goal) → (let_go class path g).resolved ≡ g.resolved
+-- whatever becomes of a goal whose record is forgotten, it keeps the same, and is of the same derivation
+let_go_keeps : (class path : List ℕ) (g : Goal) → ((let_go class path g).resolved ≡ g.resolved) × ((let_go class path g).derivation ≡ g.derivation)
 let_go_keeps class path g =
-    cond_both (is_building g.status && is_built_from class path g.resolved) (in_status Waiting g) g (λ h. h.resolved ≡ g.resolved) (λ waits. refl) (λ stays. refl)
+    cond_both (is_building g.status && is_built_from class path g.resolved) (in_status Waiting g) g (λ h. (h.resolved ≡ g.resolved) × (h.derivation ≡ g.derivation))
+    (λ waits. (refl, refl)) (λ stays. (refl, refl))
 
 let_go_stands : (class path : List ℕ) (g : Goal) → Stands g → Stands (let_go class path g)
 let_go_stands class path g stands =
     cond_both (is_building g.status && is_built_from class path g.resolved) (in_status Waiting g) g Stands (λ waits planned. absurd (cc)) (λ stays. stands)
 
 all_let_go_kept : (class path : List ℕ) (goals : List Goal) (i : ℕ) (y : Goal) → slice_get (map (let_go class path) goals) i ≡ Some y
-    → (h : Goal) × (slice_get goals i ≡ Some h) × (y.resolved ≡ h.resolved)
+    → (h : Goal) × (slice_get goals i ≡ Some h) × (y.resolved ≡ h.resolved) × (y.derivation ≡ h.derivation)
 all_let_go_kept class path [] i y at = absurd (cc)
 all_let_go_kept class path (g ∷ goals) zero y at =
-    (g, refl, sym (ap (λ (q : Goal). q.resolved) (some_same (let_go class path g) y at)) ∙ let_go_keeps class path g)
+    let own = as_it (let_go class path g) y at in
+    let keeps = let_go_keeps class path g in
+    (g, refl, own.0 ∙ keeps.0, own.1 ∙ keeps.1)
 all_let_go_kept class path (g ∷ goals) (suc i) y at = all_let_go_kept class path goals i y at
 
 all_let_go_stand : (class path : List ℕ) (goals : List Goal) → All Stands goals → All Stands (map (let_go class path) goals)
@@ -167,46 +182,46 @@ all_let_go_none class path [] i absent = absent
 all_let_go_none class path (g ∷ goals) zero absent = cc
 all_let_go_none class path (g ∷ goals) (suc i) absent = all_let_go_none class path goals i absent
 
-follows_let_go : (class path : List ℕ) (goals : List Goal) → Follows goals (map (let_go class path) goals)
-follows_let_go class path goals = record { kept = kept; none = none; stand = all_let_go_stand class path goals }
+follows_let_go : {known : Known} (class path : List ℕ) (goals : List Goal) → Follows known goals (map (let_go class path) goals)
+follows_let_go {known} class path goals = record { kept = kept; none = none; stand = all_let_go_stand class path goals }
   where
     none : (n : ℕ) → goal_at n (map (let_go class path) goals) ≡ None → goal_at n goals ≡ None
     none zero absent = refl
     none (suc i) absent = all_let_go_none class path goals i absent
 
-    kept : (n : ℕ) (y : Goal) → goal_at n (map (let_go class path) goals) ≡ Some y → HasKept goals n y
+    kept : (n : ℕ) (y : Goal) → goal_at n (map (let_go class path) goals) ≡ Some y → HasKept known goals n y
     kept zero y at = absurd (cc)
     kept (suc i) y at = inr (all_let_go_kept class path goals i y at)
 
 -- ---- the end of a job
 
-follows_if : (b : Bool) (goals : List Goal) (c d : Desk) → Follows goals c.goals → Follows goals d.goals → Follows goals (if b then c else d).goals
+follows_if : {known : Known} (b : Bool) (goals : List Goal) (c d : Desk) → Follows known goals c.goals → Follows known goals d.goals → Follows known goals (if b then c else d).goals
 follows_if true goals c d one other = one
 follows_if false goals c d one other = other
 
-follows_done : (setup : Setup) (n : ℕ) (g : Goal) (r : Record) (d : Desk) → goal_at n d.goals ≡ Some g → Follows d.goals (done_with setup n g r d).goals
-follows_done setup n g r d there =
-    let done : Follows d.goals (with_goal_at n (in_status (Done r.path) g) d.goals) = follows_status n (Done r.path) g d.goals there refl in
-    let failed : Follows d.goals (with_goal_at n (in_status (Failed Quota) g) d.goals) = follows_status n (Failed Quota) g d.goals there refl in
+follows_done : {known : Known} (setup : Setup) (n : ℕ) (g : Goal) (r : Record) (d : Desk) → goal_at n d.goals ≡ Some g → Follows known d.goals (done_with setup n g r d).goals
+follows_done {known} setup n g r d there =
+    let done : Follows known d.goals (with_goal_at n (in_status (Done r.path) g) d.goals) = follows_status n (Done r.path) g d.goals there refl in
+    let failed : Follows known d.goals (with_goal_at n (in_status (Failed Quota) g) d.goals) = follows_status n (Failed Quota) g d.goals there refl in
     let added : Desk = if is_within setup (with_record r d) then with_goal n (in_status (Done r.path) g) (with_record r d) else with_goal n (in_status (Failed Quota) g) d in
     follows_if (has_record r d) d.goals (with_goal n (in_status (Done r.path) g) d) added done
     (follows_if (is_within setup (with_record r d)) d.goals (with_goal n (in_status (Done r.path) g) (with_record r d)) (with_goal n (in_status (Failed Quota) g) d) done failed)
 
-follows_output : (setup : Setup) (n : ℕ) (g : Goal) (o : Result Record Refusal) (d : Desk) → goal_at n d.goals ≡ Some g → Follows d.goals (with_output setup n g o d).goals
+follows_output : {known : Known} (setup : Setup) (n : ℕ) (g : Goal) (o : Result Record Refusal) (d : Desk) → goal_at n d.goals ≡ Some g → Follows known d.goals (with_output setup n g o d).goals
 follows_output setup n g (Ok r) d there = follows_done setup n g r d there
 follows_output setup n g (Err why) d there = follows_status n (Failed why) g d.goals there refl
 
-follows_ended_with : (setup : Setup) (n : ℕ) (g : Goal) (end : End) (d : Desk) → goal_at n d.goals ≡ Some g → Follows d.goals (ended_with setup n g end d).goals
+follows_ended_with : {known : Known} (setup : Setup) (n : ℕ) (g : Goal) (end : End) (d : Desk) → goal_at n d.goals ≡ Some g → Follows known d.goals (ended_with setup n g end d).goals
 follows_ended_with setup n g (Output bytes) d there = follows_output setup n g (built_record (known_of d) g bytes) d there
 follows_ended_with setup n g Failure d there = follows_status n (Failed BuilderFailed) g d.goals there refl
 
-follows_ended : (setup : Setup) (reached : Bool) (end : End) (n : ℕ) (o : Option Goal) (d : Desk) → goal_at n d.goals ≡ o → Follows d.goals (ended_goal setup reached end n o d).goals
+follows_ended : {known : Known} (setup : Setup) (reached : Bool) (end : End) (n : ℕ) (o : Option Goal) (d : Desk) → goal_at n d.goals ≡ o → Follows known d.goals (ended_goal setup reached end n o d).goals
 follows_ended setup reached end n None d there = follows_itself d.goals
 follows_ended setup reached end n (Some g) d there =
     follows_if reached d.goals (ended_with setup n g end d) (with_goal n (in_status Waiting g) d)
     (follows_ended_with setup n g end d there) (follows_status n Waiting g d.goals there refl)
 
-follows_all_ended : (setup : Setup) (reached : Bool) (end : End) (ns : List ℕ) (d : Desk) → Follows d.goals (ended_goals setup reached end ns d).goals
+follows_all_ended : {known : Known} (setup : Setup) (reached : Bool) (end : End) (ns : List ℕ) (d : Desk) → Follows known d.goals (ended_goals setup reached end ns d).goals
 unfolding ended_goals
 follows_all_ended setup reached end [] d = follows_itself d.goals
 follows_all_ended setup reached end (n ∷ ns) d =
@@ -214,7 +229,7 @@ follows_all_ended setup reached end (n ∷ ns) d =
     follows_further d.goals next.goals (ended_goals setup reached end ns next).goals
     (follows_ended setup reached end n (goal_at n d.goals) d refl) (follows_all_ended setup reached end ns next)
 
-follows_delivered : (setup : Setup) (actor : List ℕ) (reached : Bool) (notification : Notification) (d : Desk) → Follows d.goals (delivered setup actor reached notification d).goals
+follows_delivered : {known : Known} (setup : Setup) (actor : List ℕ) (reached : Bool) (notification : Notification) (d : Desk) → Follows known d.goals (delivered setup actor reached notification d).goals
 follows_delivered setup actor reached NoNotification d = follows_itself d.goals
 follows_delivered setup actor reached (Ended n end) d = follows_all_ended setup reached end (members (record { leader = actor; number = n }) 1 d.goals) d
 
@@ -235,7 +250,7 @@ pub record PlansGoal (s : Observation) (r : Request) (o : Outcome) : Type 0 wher
 -- what the goals keep was kept before, or the request is refused
 abbrev GoalsFollow : Observation → Outcome → Type 0
 GoalsFollow s (Err why) = Unit {0}
-GoalsFollow s (Ok c) = Follows s.desk.goals c.desk.goals
+GoalsFollow s (Ok c) = Follows (known_of s.desk) s.desk.goals c.desk.goals
 
 abbrev Fits : Observation → Request → Outcome → Type 0
 Fits s r o = GoalsFollow s o ⊎ PlansGoal s r o
@@ -311,10 +326,11 @@ again_fits setup s n g q d there same =
     let P : Outcome → Type 0 = GoalsFollow s in
     let done : Goal = in_status (Done q.path) g in
     let failed : Goal = in_status (Failed Quota) g in
-    let follows : (x : Goal) → Follows d.goals (with_goal_at n x d.goals) → Follows s.desk.goals (with_goal_at n x d.goals) =
-    λ x own. subst (λ goals. Follows goals (with_goal_at n x d.goals)) same own in
-    let is_done : Follows s.desk.goals (with_goal_at n done d.goals) = follows done (follows_status n (Done q.path) g d.goals there refl) in
-    let is_failed : Follows s.desk.goals (with_goal_at n failed d.goals) = follows failed (follows_status n (Failed Quota) g d.goals there refl) in
+    let known : Known = known_of s.desk in
+    let follows : (x : Goal) → Follows known d.goals (with_goal_at n x d.goals) → Follows known s.desk.goals (with_goal_at n x d.goals) =
+    λ x own. subst (λ goals. Follows known goals (with_goal_at n x d.goals)) same own in
+    let is_done : Follows known s.desk.goals (with_goal_at n done d.goals) = follows done (follows_status n (Done q.path) g d.goals there refl) in
+    let is_failed : Follows known s.desk.goals (with_goal_at n failed d.goals) = follows failed (follows_status n (Failed Quota) g d.goals there refl) in
     one_of P (has_record q d) (turns s d n done)
     (if is_within setup (with_record q d) then turns s (with_record q d) n done else turns s d n failed)
     (λ had. is_done)
@@ -328,7 +344,7 @@ copied_fits setup s n g r known built d there same keeps = of known built
     entered : GoalsFollow s (turns s d n (in_status (Building (job_of s.running (own_job s n) r)) g))
     entered =
         let x : Goal = in_status (Building (job_of s.running (own_job s n) r)) g in
-        subst (λ goals. Follows goals (with_goal_at n x d.goals)) same (follows_put n x g d.goals there refl (λ planned. keeps))
+        subst (λ goals. Follows (known_of s.desk) goals (with_goal_at n x d.goals)) same (follows_put n x g d.goals there refl refl (λ planned. keeps))
 
     of : (known : Option Admission) (built : Option Record) → GoalsFollow s (start_copied setup s d n g r known built)
     of (Some a) (Some q) = again_fits setup s n g (for_class a.class q) d there same
@@ -367,7 +383,7 @@ outcome_fits setup s (Offer path tree) =
 outcome_fits setup s (Fetch path) = inl (fetch_cases (GoalsFollow s) s.desk path (λ tree held. follows_itself s.desk.goals) (λ absent. tt))
 outcome_fits setup s (Trust other) =
     inl (trust_cases (GoalsFollow s) setup s other
-    (λ known. cond_both (bytes_eq other s.user) s.desk (with_trust other s.desk) (λ (d : Desk). Follows s.desk.goals d.goals) (λ own. follows_itself s.desk.goals) (λ another. follows_itself s.desk.goals)) tt)
+    (λ known. cond_both (bytes_eq other s.user) s.desk (with_trust other s.desk) (λ (d : Desk). Follows (known_of s.desk) s.desk.goals d.goals) (λ own. follows_itself s.desk.goals) (λ another. follows_itself s.desk.goals)) tt)
 outcome_fits setup s (Distrust other) = inl (distrust_cases (GoalsFollow s) setup s other (follows_itself s.desk.goals) tt)
 outcome_fits setup s (Pin class path) = inl (pin_cases (GoalsFollow s) setup s.desk class path (follows_itself s.desk.goals) tt)
 outcome_fits setup s (Unpin class) = inl (follows_itself s.desk.goals)
@@ -376,7 +392,7 @@ outcome_fits setup s (Take class) =
     inl (take_cases (GoalsFollow s) s class setup
     (λ entries path given there. follows_same s.desk.goals (with_entries entries s.desk).goals (entries_added entries s.desk).goals) tt tt (λ why. tt) tt)
 outcome_fits setup s (Build path) =
-    inl (build_cases (GoalsFollow s) s.desk path (λ a known. follows_new path s.desk.goals) (λ full. tt) (λ unknown. tt))
+    inl (build_cases (GoalsFollow s) s.desk path (λ a known. follows_new path s.desk.goals (ap is_some known)) (λ full. tt) (λ unknown. tt))
 outcome_fits setup s (StatusRequest n) = inl (status_cases (GoalsFollow s) s n (λ g there. follows_itself s.desk.goals) (λ absent. tt))
 outcome_fits setup s (Plan n) = plan_fits s n
 outcome_fits setup s (Start n) = inl (start_fits setup s n)
@@ -388,16 +404,18 @@ outcome_fits setup s (Forget class path) = inl (forget_cases (GoalsFollow s) s c
 
 -- what the goals of a user keep was kept before, or the event is his own and plans one
 abbrev pub FollowsOrPlans : Setup → World → Event → List ℕ → Desk → Type 0
-FollowsOrPlans setup w e u later = Follows (w u).goals later.goals ⊎ ((u ≡ e.actor) × PlansGoal (observation_of setup w e.actor) e.request (outcome_of setup w e))
+FollowsOrPlans setup w e u later = Follows (known_of (w u)) (w u).goals later.goals ⊎ ((u ≡ e.actor) × PlansGoal (observation_of setup w e.actor) e.request (outcome_of setup w e))
 
 module _ (setup : Setup) (w : World) (e : Event) (u : List ℕ) (reached : Bool) where
   -- the actor's desk, or another, before a notification is delivered
-  own_or_other : (c : Change) → Follows (w e.actor).goals c.desk.goals → Follows (w u).goals (if bytes_eq u e.actor then c.desk else w u).goals
+  own_or_other : (c : Change) → Follows (known_of (w e.actor)) (w e.actor).goals c.desk.goals
+      → Follows (known_of (w u)) (w u).goals (if bytes_eq u e.actor then c.desk else w u).goals
   own_or_other c follows =
-      cond_both (bytes_eq u e.actor) c.desk (w u) (λ (d : Desk). Follows (w u).goals d.goals)
-      (λ yes. subst (λ x. Follows (w x).goals c.desk.goals) (sym (same_bytes u e.actor yes)) follows) (λ no. follows_itself (w u).goals)
+      cond_both (bytes_eq u e.actor) c.desk (w u) (λ (d : Desk). Follows (known_of (w u)) (w u).goals d.goals)
+      (λ yes. subst (λ x. Follows (known_of (w x)) (w x).goals c.desk.goals) (sym (same_bytes u e.actor yes)) follows) (λ no. follows_itself (w u).goals)
 
-  delivered_follows : (c : Change) → Follows (w u).goals (if bytes_eq u e.actor then c.desk else w u).goals → Follows (w u).goals (desk_after setup e.actor (Ok c) u reached (w u)).goals
+  delivered_follows : (c : Change) → Follows (known_of (w u)) (w u).goals (if bytes_eq u e.actor then c.desk else w u).goals
+      → Follows (known_of (w u)) (w u).goals (desk_after setup e.actor (Ok c) u reached (w u)).goals
   delivered_follows c follows =
       let d : Desk = if bytes_eq u e.actor then c.desk else w u in
       follows_further (w u).goals d.goals (delivered setup e.actor reached c.notification d).goals follows (follows_delivered setup e.actor reached c.notification d)
@@ -407,7 +425,7 @@ module _ (setup : Setup) (w : World) (e : Event) (u : List ℕ) (reached : Bool)
   after_outcome (Ok c) is (inl follows) = inl (delivered_follows c (own_or_other c follows))
   after_outcome (Ok c) is (inr plans) = elim (either (bytes_eq u e.actor)) [
     | inl own ↦ inr (same_bytes u e.actor own, subst (PlansGoal (observation_of setup w e.actor) e.request) (sym is) plans)
-    | inr other ↦ inl (delivered_follows c (subst (λ (b : Bool). Follows (w u).goals (if b then c.desk else w u).goals) (sym other) (follows_itself (w u).goals)))
+    | inr other ↦ inl (delivered_follows c (subst (λ (b : Bool). Follows (known_of (w u)) (w u).goals (if b then c.desk else w u).goals) (sym other) (follows_itself (w u).goals)))
   ]
 
 pub after_follows : (setup : Setup) (w : World) (e : Event) (u : List ℕ) → FollowsOrPlans setup w e u (after setup w e u)
@@ -587,7 +605,7 @@ kept_now setup done e n r plans number same good =
     not_cut (x ∷ since) rest same = cc
 
 -- the goals of a user after an event of his that plans one
-goals_planned : (setup : Setup) (w : World) (e : Event) (u : List ℕ) (plans : PlansGoal (observation_of setup w e.actor) e.request (outcome_of setup w e)) → u ≡ e.actor
+pub goals_planned : (setup : Setup) (w : World) (e : Event) (u : List ℕ) (plans : PlansGoal (observation_of setup w e.actor) e.request (outcome_of setup w e)) → u ≡ e.actor
     → (after setup w e u).goals ≡ with_goal_at plans.number (planned_goal plans.goal plans.resolved) (w u).goals
 goals_planned setup w e u plans own =
     let new : Goal = planned_goal plans.goal plans.resolved in

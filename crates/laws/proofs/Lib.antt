@@ -22,6 +22,7 @@ pub mod TimedLemmas
 pub mod TrustLemmas
 pub mod KnowledgeLemmas
 pub mod KeptLemmas
+pub mod GoalDerivationLemmas
 pub mod RecursionLemmas
 pub mod TalkLemmas
 pub mod ModeLemmas

@@ -1,7 +1,7 @@
 //! Laws over every list of events.
 
 ghost use Rattle.model.specs.Laws.{IsIsolated, IsTimelyIsolated, KnowledgeIsAdmitted, KnowledgeIsRecursive, NeverFails, QueriesChangeNothing, StrikingHashesNoMore, TrustFollows};
-ghost use Rattle.model.specs.KeptClosures.{KeptClosuresAreGood, OnlyPlansChangeKept, PlannedGoalsKeep};
+ghost use Rattle.model.specs.KeptClosures.{GoalsHaveDerivations, KeptClosuresAreGood, OnlyPlansChangeKept, PlannedGoalsKeep, PlansFindDerivations};
 
 /// Whatever users outside his trust closure do, a user's replies are those that he would get
 /// without their events.
@@ -64,4 +64,14 @@ pub fn only_plans_change_kept()
 /// A goal that is planned, or is built, keeps what it is built from.
 pub fn planned_goals_keep()
     ensures { PlannedGoalsKeep }
+{}
+
+/// The derivation of each goal is on its user's desk, whatever events there were.
+pub fn goals_have_derivations()
+    ensures { GoalsHaveDerivations }
+{}
+
+/// A plan of a goal is never refused with 41 `UnknownDerivation`.
+pub fn plans_find_derivations()
+    ensures { PlansFindDerivations }
 {}

@@ -12,9 +12,10 @@ mod talk;
 
 pub use closures::closures_are_whole;
 pub use events::{
-    isolation, kept_closures_are_good, knowledge_is_admitted, knowledge_is_recursive, never_fails,
-    only_plans_change_kept, planned_goals_keep, queries_change_nothing, striking_hashes_no_more,
-    timed_isolation, trust_follows,
+    goals_have_derivations, isolation, kept_closures_are_good, knowledge_is_admitted,
+    knowledge_is_recursive, never_fails, only_plans_change_kept, planned_goals_keep,
+    plans_find_derivations, queries_change_nothing, striking_hashes_no_more, timed_isolation,
+    trust_follows,
 };
 pub use hashing::{each_new_value_is_named, each_text_names_a_value, other_refusals_hash_nothing};
 pub use reach::reach_is_least;

@@ -1,5 +1,6 @@
--- What goals keep: from where it is, and that its closure is good.
+-- What goals keep: from where it is, and that its closure is good. And that their derivations are known.
 use Rattle.std.specs.Prelude.{◌≡◌, ℕ, Bool, true, false, is_some, List, ◌∷◌, ◌++◌, ◌⊎◌, Some, Ok}
+use Rattle.model.specs.declared.refusal.Refusal.TheVariants.{UnknownDerivation}
 use Rattle.model.specs.Classes.{Admission, known_at}
 use Rattle.model.specs.Worlds.{Setup, World, nothing, Resolved, Status, Waiting, Planned, Building, Done, Failed, Goal, known_of}
 use Rattle.model.specs.Choices as choices
@@ -63,3 +64,14 @@ is_planned (Failed why) = false
 abbrev pub PlannedGoalsKeep : Type 0
 PlannedGoalsKeep = (setup : Setup) (events : List Event) (u : List ℕ) (n : ℕ) (g : Goal)
     → goal_at n (world_after setup nothing events u).goals ≡ Some g → is_planned g.status ≡ true → is_some g.resolved ≡ true
+
+-- a goal's derivation is on its user's desk: after any events the desk knows the derivation of each goal of its user
+abbrev pub GoalsHaveDerivations : Type 0
+GoalsHaveDerivations = (setup : Setup) (events : List Event) (u : List ℕ) (n : ℕ) (g : Goal)
+    → let desk = world_after setup nothing events u in
+    goal_at n desk.goals ≡ Some g → is_some (known_at (known_of desk) g.derivation) ≡ true
+
+-- so a plan is never refused because the goal's derivation is not known
+abbrev pub PlansFindDerivations : Type 0
+PlansFindDerivations = (setup : Setup) (events : List Event) (u : List ℕ) (n : ℕ)
+    → reply_to setup (world_after setup nothing events) (planning u n) ≡ replies.Refused UnknownDerivation → ⊥

@@ -1,5 +1,5 @@
 use Rattle.std.proofs.Common.{sym, ◌∙◌, subst, List, inr}
-use Rattle.running.specs.declared.sessions.Output.{Output}
+use Rattle.running.specs.declared.sessions.SessionOutput.{SessionOutput}
 use Rattle.session.specs.Serving.{IsUnwritten}
 use Rattle.app.specs.Runs.{AppendsFront, texts_of}
 use Rattle.app.proofs.runs.run_and_print.Goals as goal
@@ -11,7 +11,7 @@ returns-clause-refused g c =
         results = c.in-Ok.results;
         ran = c.in-Ok.ensures.ran;
         front =
-            subst (λ (outputs : List Output). AppendsFront (g.W.Write.contents c.args.writer.now) (g.W.Write.contents c.print_all.new.writer)
+            subst (λ (outputs : List SessionOutput). AppendsFront (g.W.Write.contents c.args.writer.now) (g.W.Write.contents c.print_all.new.writer)
             (texts_of outputs))
             c.as_slice.ensures.value c.in-Err-print_all.ensures.err;
         fault = subst IsUnwritten (sym c.of_none.ensures) c.in-Err-print_all.ensures.errors;

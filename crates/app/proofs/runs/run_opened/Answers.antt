@@ -2,7 +2,7 @@ use Rattle.std.proofs.Common.{rules, ◌≡◌, ◌<◌, sym, subst, inl, inr}
 use Rattle.std.specs.Prelude.{Err}
 use Rattle.model.specs.declared.refusal.Refusal.{Refusal}
 use Rattle.model.specs.declared.refusal.Refusal.TheVariants.{Quota}
-use Rattle.running.specs.Desks.{passes_needed}
+use Rattle.running.specs.ServedSessions.{passes_needed}
 use Rattle.app.specs.Runs.{CannotRun}
 use Rattle.app.proofs.FileLemmas.{too_many}
 use Rattle.app.proofs.runs.run_opened.Goals as goal
