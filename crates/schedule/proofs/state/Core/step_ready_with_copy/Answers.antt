@@ -20,8 +20,8 @@ returns-in_default c =
     rw c.refused.ensures (has_refused c.one_tree_at_a_path.ensures c.never_fails.ensures old old (event_of c.args.event) UnknownUser
     (stranger (parts_of old.state) (event_of c.args.event) old.state.run.sound old.state.run.goals_sound old.state.run.within (sym c.in_default.ensures)))
 
-pub handle-requires-clause-named : goal.handle-requires-clause-named
-handle-requires-clause-named c =
+pub handle-handled-requires-clause-named : goal.handle-handled-requires-clause-named
+handle-handled-requires-clause-named c =
     ap (λ (p : User × Request). p.0) c.into_parts-actor.ensures
     ∙ sym (name_found c.args.self.now.state.users c.args.event.actor c.in-Some.place (sym c.in-Some.ensures)).1
 
@@ -34,7 +34,15 @@ handled c =
     c.into_parts-actor.ensures (c.handle-handled.ensures c.args.event.actor (sym c.in-Some.ensures))
 
 pub returns-in-Ok : goal.returns-in-Ok
-returns-in-Ok c = ?
+returns-in-Ok c =
+    let old = c.args.self.now in
+    has_served old _ (event_of c.args.event) c.in-Ok.reply
+    (subst (λ (r : Result Reply Refusal). IsHandled (parts_of old.state) (event_of c.args.event) r (parts_of c.handle-handled.new.state)) c.in-Ok.is
+    (handled ((goal.at.returns-in-Ok c).After-handle-handled)))
 
 pub returns-in-Err : goal.returns-in-Err
-returns-in-Err c = ?
+returns-in-Err c =
+    let old = c.args.self.now in
+    rw c.refused-in-Err.ensures (has_refused c.one_tree_at_a_path.ensures c.never_fails.ensures old _ (event_of c.args.event) c.in-Err.refusal
+    (subst (λ (r : Result Reply Refusal). IsHandled (parts_of old.state) (event_of c.args.event) r (parts_of c.handle-handled.new.state)) c.in-Err.is
+    (handled ((goal.at.returns-in-Err c).After-handle-handled))))
