@@ -36,7 +36,7 @@ use Rattle.jobs.specs.contracts.goal.Goal as Goal
 use Rattle.jobs.specs.contracts.goals.Goals as Goals
 use Rattle.jobs.specs.contracts.users.Jobs as Jobs
 use Rattle.outputs.proofs.input.Input.TheSendSync as inputs
-use Rattle.outputs.specs.contracts.output.Output as Output
+use Rattle.outputs.specs.contracts.output.SettledTree as SettledTree
 use Rattle.outputs.specs.contracts.placed.Placed as Placed
 use Rattle.outputs.specs.contracts.settlement.Settlement as Settlement
 use Rattle.outputs.specs.contracts.settlements.Settlements as Settlements
@@ -60,10 +60,10 @@ use Rattle.history.specs.contracts.snapshot.Snapshot.TheInside as Inside
 use Rattle.history.specs.contracts.snapshot.Operation as Operation
 use Rattle.history.specs.contracts.snapshot.SnapshotAbsorbOperation.TheImpl as absorbing
 use Rattle.history.specs.contracts.law.End as End
-use Rattle.history.specs.contracts.law.Law as Law
+use Rattle.history.specs.contracts.law.PublishedRule as PublishedRule
 use Rattle.history.specs.contracts.law.Shown as Shown
-use Rattle.history.specs.contracts.law.View as View
-use Rattle.history.specs.contracts.law.LawProtocolSnapshotView.TheImpl as law
+use Rattle.history.specs.contracts.law.KnownName as KnownName
+use Rattle.history.specs.contracts.law.PublishedRuleProtocolSnapshotKnownName.TheImpl as law
 use Rattle.book.proofs.CacheCrossing.{LruCache-send, LruCache-sync}
 
 -- ---- trees, and what holds them
@@ -240,10 +240,10 @@ named_send = nameds.the_send
 named_sync : IsSync Named.the_row
 named_sync = nameds.the_sync
 
-output_send : IsSend Output.the_row
+output_send : IsSend SettledTree.the_row
 output_send = search (sendable, crosses, named_send, named_sync, tree_send) depth 40 fits 5000
 
-output_sync : IsSync Output.the_row
+output_sync : IsSync SettledTree.the_row
 output_sync = search (sendable, crosses, named_send, named_sync, tree_sync) depth 40 fits 5000
 
 settlement_send : IsSend Settlement.the_row
@@ -294,10 +294,10 @@ operation_send = variants_send Operation.enum ((snapshot_send, tt), (tt, tt))
 
 pub end_send : IsSend End.the_row
 end_send = declared_send End.the_type (
-  writers.the_send Snapshot.the_row Operation.the_row View.the_row Law.the_row Global.the_row Shown.the_row absorbing.ghosts law.ghosts ghosts snapshot_send
+  writers.the_send Snapshot.the_row Operation.the_row KnownName.the_row PublishedRule.the_row Global.the_row Shown.the_row absorbing.ghosts law.ghosts ghosts snapshot_send
       operation_send heap.send snapshot_sync heap.sync heap.frees,
   tt,
 )
 
-pub reader_send : IsSend (Reader.the_row Snapshot.the_row View.the_row Law.the_row Global.the_row law.ghosts ghosts)
-reader_send = readers.the_send Snapshot.the_row View.the_row Law.the_row Global.the_row law.ghosts ghosts heap.send snapshot_sync heap.sync heap.frees
+pub reader_send : IsSend (Reader.the_row Snapshot.the_row KnownName.the_row PublishedRule.the_row Global.the_row law.ghosts ghosts)
+reader_send = readers.the_send Snapshot.the_row KnownName.the_row PublishedRule.the_row Global.the_row law.ghosts ghosts heap.send snapshot_sync heap.sync heap.frees

@@ -305,11 +305,10 @@ impl Cores {
             return Ok(None);
         };
         *lag = lag_after(&reply, row);
-        if publisher.put(rt, alloc, shown, &*draft) {
-            Ok(Some((reply, draft)))
-        } else {
-            Ok(None)
+        if !publisher.put(rt, alloc, shown, &*draft) {
+            return Ok(None);
         }
+        Ok(Some((reply, draft)))
     }
 
     /// Sweeps the other core, once it has taken what it lacks, and shows it.

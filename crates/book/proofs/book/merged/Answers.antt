@@ -19,12 +19,12 @@ loop-pass-preserved g c =
     let items = ap (λ (ps : List PassKnowledge). sum (map (λ p. p.caller.calls) ps)) c.in-Some.ensures.items ∙ (ap sum (map_push (λ (p : PassKnowledge). p.caller.calls) left pass) ∙ sum_push (map (λ (p : PassKnowledge). p.caller.calls) left) pass.caller.calls) in
     let stops = ap (λ (ps : List PassKnowledge). sum (map (λ p. p.stops) ps)) c.in-Some.ensures.items ∙ (ap sum (map_push (λ (p : PassKnowledge). p.stops) left pass) ∙ sum_push (map (λ (p : PassKnowledge). p.stops) left) pass.stops) in (
       omega (arith, i.0, c.merge.ensures.parts, c.into_calls.ensures.0, c.in-Some.ensures.len),
-      omega (arith, i.1, c.merge.ensures.amount, c.into_calls.ensures.1, items, c.compare.ensures.calls, ap (λ (p : Caller). p.calls) c.into_caller-caller.ensures.caller),
+      omega (arith, i.1, c.merge.ensures.amount, c.into_calls.ensures.1, items, c.compare.ensures.calls, ap (λ (p : Caller). p.calls) c.into_account-caller.ensures.caller),
       c.compare.ensures.same ∙ i.2,
-      λ rest. i.3 (rw c.in-Some.ensures.items (All-push (λ (p : PassKnowledge). Matches c.args.log.now.rows c.args.log.now.stopped p.caller) left pass rest (rw (i.2, c.into_caller-caller.ensures.caller) at c.compare.ensures.matches))),
-      λ rest. i.4 (rw c.in-Some.ensures.items (All-push (λ (p : PassKnowledge). IsPrefix p.seen c.args.rows.now.seen.log) left pass rest c.into_caller-caller.ensures.seen)),
-      omega (arith, i.5, c.merge-in-Some.ensures.parts, c.into_caller-caller.ensures.stops.0, c.in-Some.ensures.len),
-      omega (arith, i.6, c.merge-in-Some.ensures.amount, c.into_caller-caller.ensures.stops.1, stops),
+      λ rest. i.3 (rw c.in-Some.ensures.items (All-push (λ (p : PassKnowledge). Matches c.args.log.now.rows c.args.log.now.stopped p.caller) left pass rest (rw (i.2, c.into_account-caller.ensures.caller) at c.compare.ensures.matches))),
+      λ rest. i.4 (rw c.in-Some.ensures.items (All-push (λ (p : PassKnowledge). IsPrefix p.seen c.args.rows.now.seen.log) left pass rest c.into_account-caller.ensures.seen)),
+      omega (arith, i.5, c.merge-in-Some.ensures.parts, c.into_account-caller.ensures.stops.0, c.in-Some.ensures.len),
+      omega (arith, i.6, c.merge-in-Some.ensures.amount, c.into_account-caller.ensures.stops.1, stops),
     )
 
 pub returns-clause-matches : goal.returns-clause-matches

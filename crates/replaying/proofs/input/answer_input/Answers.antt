@@ -29,7 +29,7 @@ returns-clause-ok g c = on_ok c.serve_core.result (λ h all known.
     let head = rw c.in-Some.is at c.in_ok-head.ensures.ok in
     let looks : LooksAhead Service all (Some c.in-Some.users.items) = names_all all head.0 _ _ _ _ _ c.in-Some.users.items _ known head.1 head.2 in
     finished_by_store c.args.settings.limits.charge all _ _ c.in-Some.users.items _ _ looks known
-    (h (g.R.Read.remaining c.args.reader.now) (g.W.Write.contents c.args.writer.now) head.2.front (is_answered _ _ _ _ head.0 _ _ _ head.1 head.2)))
+    ((rw c.in_ok-core.ensures.setup at h) (g.R.Read.remaining c.args.reader.now) (g.W.Write.contents c.args.writer.now) head.2.front (is_answered _ _ _ _ head.0 _ _ _ head.1 head.2)))
     c.serve_core.ensures.ok
 
 pub returns-clause-err : goal.returns-clause-err
@@ -37,7 +37,7 @@ returns-clause-err g c = if_err c.serve_core.result (λ why h all known.
     let head = rw c.in-Some.is at c.in_ok-head.ensures.ok in
     let looks : LooksAhead Service all (Some c.in-Some.users.items) = names_all all head.0 _ _ _ _ _ c.in-Some.users.items _ known head.1 head.2 in
     stopped_by_store c.args.settings.limits.charge all _ _ c.in-Some.users.items _ _ why looks known
-    (h (g.R.Read.remaining c.args.reader.now) (g.W.Write.contents c.args.writer.now) head.2.front (is_answered _ _ _ _ head.0 _ _ _ head.1 head.2)))
+    ((rw c.in_ok-core.ensures.setup at h) (g.R.Read.remaining c.args.reader.now) (g.W.Write.contents c.args.writer.now) head.2.front (is_answered _ _ _ _ head.0 _ _ _ head.1 head.2)))
     c.serve_core.ensures.err
 
 -- where there is no store, no event is answered
@@ -63,7 +63,7 @@ returns-clause-failed g c = if_err c.serve_core.result (λ why h failed all know
     let head = rw c.in-Some.is at c.in_ok-head.ensures.ok in
     let looks : LooksAhead Service all (Some c.in-Some.users.items) = names_all all head.0 _ _ _ _ _ c.in-Some.users.items _ known head.1 head.2 in
     so_far_by_store c.args.settings.limits.charge all _ _ c.in-Some.users.items _ _ looks known
-    (h failed (g.R.Read.remaining c.args.reader.now) (g.W.Write.contents c.args.writer.now) head.2.front (is_answered _ _ _ _ head.0 _ _ _ head.1 head.2)))
+    ((rw c.in_ok-core.ensures.setup at h) failed (g.R.Read.remaining c.args.reader.now) (g.W.Write.contents c.args.writer.now) head.2.front (is_answered _ _ _ _ head.0 _ _ _ head.1 head.2)))
     c.serve_core.ensures.failed
 
 pub returns-clause-output_fault : goal.returns-clause-output_fault

@@ -1,5 +1,6 @@
 use Rattle.std.proofs.Common.{true, false, true≢false, List, map, sym, ap, ◌∙◌, subst}
 use Rattle.std.specs.Arc.{arc_value}
+use Rattle.schedule.specs.declared.state.Core.{Core}
 use Rattle.history.specs.declared.row.Row.{Row}
 use Rattle.book.specs.Keeping.{Kept}
 use Rattle.book.specs.Publishing.{Published, IsFollowing}
@@ -14,8 +15,8 @@ change-requires-clause-follows g c =
     let going : Kept g.J.FrontId.setup old.cores false rows = rw c.if-self.false at c.self.invariant.0 in
     let kept : Kept g.J.FrontId.setup c.sweep.new.self false rows =
     kept_swept g.J.FrontId.setup old.cores c.sweep.new.self false rows going c.sweep.ensures.setup c.sweep.ensures.world c.sweep.ensures.hashed in
-    subst (λ (rs : List Row). IsFollowing g.J.FrontId.setup c.sweep.new.self rs)
-    (sym (ap (λ (p : Published). p.rows) c.settle.ensures.same ∙ c.self.invariant.6))
+    subst (λ (x : Core × List Row). IsFollowing g.J.FrontId.setup x.0 x.1)
+    (λ i. (sym c.owner.ensures i, sym (ap (λ (p : Published). p.rows) c.settle.ensures.same ∙ c.self.invariant.6) i))
     (may_follow g.J.FrontId.setup c.sweep.new.self rows kept c.isolation.ensures c.timed_isolation.ensures)
 
 pub invariant_of-self-then-not-change : goal.invariant_of-self-then-not-change
@@ -46,7 +47,7 @@ invariant_of-self-2 g c =
       c.self.invariant.4,
       c.self.invariant.5,
       ap (λ (p : Published). p.rows) c.if-not-change.ensures ∙ (ap (λ (p : Published). p.rows) c.settle.ensures.same ∙ c.self.invariant.6),
-      λ going whole. ap (λ (p : Published). p.core) c.if-not-change.ensures,
+      λ going whole. ap (λ (p : Published). p.core) c.if-not-change.ensures ∙ c.owner.ensures,
       c.self.invariant.8,
       c.self.invariant.9,
       c.self.invariant.10,
