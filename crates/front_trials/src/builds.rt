@@ -8,7 +8,7 @@ use crate::turns::is_set_in_time;
 use jobs::RunningJob;
 use model::Refusal;
 use nar::{Tree, encode};
-use running::{InputHead, SessionOutput, Part, look_ahead};
+use running::{InputHead, Part, SessionOutput, look_ahead};
 use schedule::Limits;
 use std::alloc::{AllocError, Global};
 use std::hash::RandomState;
