@@ -5,7 +5,6 @@
 //! `tests/trials` computes it.
 #![tactic(auto)]
 
-mod books;
 mod builds;
 mod calls;
 mod crowd;
