@@ -101,7 +101,7 @@ pub fn places_by<S: Seek>(alloc: Global, archive: &Nar, seek: &mut S) -> Result<
     ensures refused { IfErr result
         (Finds (crowded (occurrences (S.keys seek.old) archive.now) ≡ true)) }
 {
-    let _looks = seek.looks();
+    seek.sound();
     match places_in_by(alloc, archive.bytes(), seek) {
         Ok(places) => Ok(places),
         Err(why) => Err(why),
@@ -145,7 +145,7 @@ pub fn occurrences_by<S: Seek>(
     ensures kept { S.keys seek.new ≡ S.keys seek.old }
     ensures looks { S.looked seek.new ≤ S.looked seek.old + length (nar archive.now) }
 {
-    let _looks = seek.looks();
+    seek.sound();
     let whole = archive.bytes();
     let mut places = Vec::new(alloc);
     let mut is_crowded = false;

@@ -80,17 +80,19 @@ impl PathSet {
         PathSet { shared: None }
     }
 
-    /// Its members are store paths.
+    /// Its members are store paths, each with its hash part.
     pub fn sound(&self)
-        ensures { All IsPath self.now }
+        ensures paths { All IsPath self.now }
+        ensures keys { AreKeys (among (map hash_part_in self.now)) }
     {
-        let _ = self.as_slice();
+        if let Some(table) = &self.shared {
+            table.sound();
+        }
     }
 
     /// The paths, in the order in which they were added.
     pub fn as_slice(&self) -> &[StorePath]
-        ensures value { result.now ≡ self.now }
-        ensures paths { All IsPath self.now }
+        ensures { result.now ≡ self.now }
     {
         match &self.shared {
             Some(table) => table.as_slice(),
@@ -110,8 +112,7 @@ impl PathSet {
 
     /// Whether 32 bytes are the hash part of one of them.
     pub fn has_part(&self, window: &[u8; 32]) -> bool
-        ensures value { result ≡ among (map hash_part_in self.now) window.now }
-        ensures keys { AreKeys (among (map hash_part_in self.now)) }
+        ensures { result ≡ among (map hash_part_in self.now) window.now }
     {
         match &self.shared {
             Some(table) => table.has_part(window),

@@ -112,10 +112,17 @@ impl PathTable {
         })
     }
 
+    /// Its members are store paths, each with its hash part.
+    pub(crate) fn sound(&self)
+        ensures paths { All IsPath self.now }
+        ensures keys { AreKeys (among (map hash_part_in self.now)) }
+    {
+        let _ = &self.paths;
+    }
+
     /// The paths, in the order in which they were added.
     pub(crate) fn as_slice(&self) -> &[StorePath]
-        ensures value { result.now ≡ self.now }
-        ensures paths { All IsPath self.now }
+        ensures { result.now ≡ self.now }
     {
         self.paths.as_slice()
     }
@@ -129,8 +136,7 @@ impl PathTable {
 
     /// Whether 32 bytes are the hash part of one of them.
     pub(crate) fn has_part(&self, window: &[u8; 32]) -> bool
-        ensures value { result ≡ among (map hash_part_in self.now) window.now }
-        ensures keys { AreKeys (among (map hash_part_in self.now)) }
+        ensures { result ≡ among (map hash_part_in self.now) window.now }
     {
         if !self.slots.are_marked(window) {
             return false;

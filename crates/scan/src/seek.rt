@@ -21,10 +21,13 @@ pub trait Seek {
         ensures kept { keys self.new ≡ keys self.old }
         ensures counted { looked self.new ≡ looked self.old + 1 };
 
-    /// How often it was asked. Only hash parts are sought.
+    /// How often it was asked.
     fn looks(&self) -> u64
-        ensures count { result ≡ looked self.now }
-        ensures digits { AreKeys (keys self.now) };
+        ensures { result ≡ looked self.now };
+
+    /// Only hash parts are sought.
+    fn sound(&self)
+        ensures { AreKeys (keys self.now) };
 }
 
 /// A set of hash parts, and how often it was asked for one.
@@ -47,8 +50,11 @@ impl Seek for Sought<'_> {
     }
 
     fn looks(&self) -> u64 {
-        self.keys.sound();
         self.asked
+    }
+
+    fn sound(&self) {
+        self.keys.sound();
     }
 }
 
@@ -75,8 +81,11 @@ impl Seek for SoughtBeside<'_> {
     }
 
     fn looks(&self) -> u64 {
-        self.keys.sound();
-        let _ = self.paths.has_part(&[0; 32]);
         self.asked
+    }
+
+    fn sound(&self) {
+        self.keys.sound();
+        self.paths.sound();
     }
 }

@@ -197,7 +197,7 @@ returns-then-is_crowded-clause-refused g c =
     let names : list_any (name_holds keys) ps ≡ false = sym c.loop.invariant.names ∙ ap (list_any (name_holds keys)) none in
     let crowd : list_any (crowds keys) ps ≡ c.loop.is_crowded = sym c.loop.invariant.crowd ∙ ap (λ qs. c.loop.is_crowded || list_any (crowds keys) qs) none
     ∙ or_none c.loop.is_crowded in
-    fault_overlap keys c.looks-looks.ensures.digits tree names (sym (crowded-pieces keys c.looks-looks.ensures.digits 0 ps) ∙ crowd ∙ c.if-is_crowded.true)
+    fault_overlap keys c.sound.ensures tree names (sym (crowded-pieces keys c.sound.ensures 0 ps) ∙ crowd ∙ c.if-is_crowded.true)
 
 pub invariant_of-result : goal.invariant_of-result
 invariant_of-result g c =
@@ -216,7 +216,7 @@ invariant_of-result g c =
     let places : c.loop.places.items ≡ occurrences keys tree = sym (append-nil c.loop.places.items)
     ∙ ap (λ qs. c.loop.places.items ++ places_of_pieces keys (length c.bytes-whole.result.now - length c.loop.rest.now) qs) (sym none)
     ∙ c.loop.invariant.places c.if-is_crowded.false in
-    ap crowded places ∙ sym (crowded-pieces keys c.looks-looks.ensures.digits 0 ps) ∙ crowd ∙ c.if-is_crowded.false
+    ap crowded places ∙ sym (crowded-pieces keys c.sound.ensures 0 ps) ∙ crowd ∙ c.if-is_crowded.false
 
 pub returns-clause-found : goal.returns-clause-found
 returns-clause-found g c =
@@ -250,4 +250,4 @@ returns-clause-sound g c =
     let names : list_any (name_holds keys) ps ≡ false = sym c.loop.invariant.names ∙ ap (list_any (name_holds keys)) none in
     let crowd : list_any (crowds keys) ps ≡ c.loop.is_crowded = sym c.loop.invariant.crowd ∙ ap (λ qs. c.loop.is_crowded || list_any (crowds keys) qs) none
     ∙ or_none c.loop.is_crowded in
-    fault_none keys c.looks-looks.ensures.digits tree names (sym (crowded-pieces keys c.looks-looks.ensures.digits 0 ps) ∙ crowd ∙ c.if-is_crowded.false)
+    fault_none keys c.sound.ensures tree names (sym (crowded-pieces keys c.sound.ensures 0 ps) ∙ crowd ∙ c.if-is_crowded.false)

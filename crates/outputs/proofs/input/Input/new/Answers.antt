@@ -24,4 +24,4 @@ returns-clause-paths c =
     let others = c.candidates.inside.others.items in
     let listed : c.in_ok-others.others.items ≡ paths_of_labels others = c.in_ok-others.ensures.paths ∙ ap paths_of_labels c.deref.ensures.value in
     let those : All IsPath (paths_of_labels others) = subst (All IsPath) listed c.in_ok-others.ensures.sound in
-    subst (λ (ls : List Label). All IsPath (paths_of_labels ls)) c.candidates.view_is (all_paths c.candidates.inside.sources others c.sound-2.ensures those)
+    subst (λ (ls : List Label). All IsPath (paths_of_labels ls)) c.candidates.view_is (all_paths c.candidates.inside.sources others c.sound-2.ensures.paths those)

@@ -2,14 +2,11 @@ use Rattle.std.proofs.Common.{◌≡◌, ℕ, List, [], length, ap, sym, ◌∙�
 use Rattle.std.specs.Prelude.{◌==◌, not}
 use Rattle.std.specs.Prelude.{unwrap_or, Option}
 use Rattle.scan.specs.PathSets.{with_part}
-use Rattle.scan.proofs.PathSetLemmas.{are_keys, part_is_there}
+use Rattle.scan.proofs.PathSetLemmas.{part_is_there}
 use Rattle.scan.proofs.path_table.PathTable.has_part.Goals as goal
 
-pub returns-then-not-are_marked-clause-keys : goal.returns-then-not-are_marked-clause-keys
-returns-then-not-are_marked-clause-keys c = rw (← c.self.view_is) (are_keys c.self.inside.paths.keys c.self.invariant.parts_are)
-
-pub returns-in-Some-clause-value : goal.returns-in-Some-clause-value
-returns-in-Some-clause-value c =
+pub returns-in-Some : goal.returns-in-Some
+returns-in-Some c =
     let paths = c.self.inside.paths.keys in
     let window = c.args.window.now in
     let group : c.as_slice.result.now ≡ with_part window paths = c.as_slice.ensures
@@ -18,16 +15,10 @@ returns-in-Some-clause-value c =
     ∙ ap (λ (items : List (List ℕ)). length items == 0) group) in
     rw (← c.self.view_is) (told ∙ sym (part_is_there window paths))
 
-pub returns-in-Some-clause-keys : goal.returns-in-Some-clause-keys
-returns-in-Some-clause-keys c = rw (← c.self.view_is) (are_keys c.self.inside.paths.keys c.self.invariant.parts_are)
-
-pub returns-in-None-clause-value : goal.returns-in-None-clause-value
-returns-in-None-clause-value c =
+pub returns-in-None : goal.returns-in-None
+returns-in-None c =
     let paths = c.self.inside.paths.keys in
     let window = c.args.window.now in
     let group : [] ≡ with_part window paths = ap (λ (group : Option (List (List ℕ))). unwrap_or group []) c.in-None.ensures.value
     ∙ c.self.invariant.grouped window in
     rw (← c.self.view_is) (ap (λ (items : List (List ℕ)). not (length items == 0)) group ∙ sym (part_is_there window paths))
-
-pub returns-in-None-clause-keys : goal.returns-in-None-clause-keys
-returns-in-None-clause-keys c = rw (← c.self.view_is) (are_keys c.self.inside.paths.keys c.self.invariant.parts_are)
