@@ -7,7 +7,6 @@ ghost use Rattle.events.specs.Statuses.{status_of};
 ghost use Rattle.jobs.specs.Statuses.{path_in, is_alike, planned_with};
 ghost use Rattle.jobs.specs.Joining.{same_as};
 ghost use Rattle.jobs.specs.Shared.{IsLike};
-ghost use Rattle.model.specs.KeptClosures.{is_planned};
 
 use crate::same::same_resolved;
 use crate::shared::{equal_but_trees, equal_trees};
@@ -15,13 +14,6 @@ use events::{Job, Status};
 use records::Resolved;
 use std::marker::Model;
 use storepath::StorePath;
-
-/// Whether a goal is planned, or is built in a job.
-fn is_planned(status: &Status) -> bool
-    ensures { result ≡ is_planned (status_of status.now) }
-{
-    matches!(status, Status::Planned | Status::Building(_))
-}
 
 /// One request to build.
 pub struct Goal {
@@ -98,7 +90,7 @@ impl Goal {
     {
         let own = self.resolved.as_ref()?;
         let is_like = equal_but_trees(own, resolved)
-            && (is_planned(&self.status) || equal_trees(own.closure(), resolved.closure()));
+            && (self.status.is_planned() || equal_trees(own.closure(), resolved.closure()));
         if is_like { Some(own) } else { None }
     }
 

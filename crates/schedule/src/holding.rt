@@ -2,7 +2,6 @@
 
 ghost use Rattle.std.specs.Prelude.{◌≡◌, length, bytes_eq, All, IfErr, OnOk};
 ghost use Rattle.model.specs.declared.refusal.Refusal.TheVariants.{Memory};
-ghost use Rattle.model.specs.KeptClosures.{is_planned};
 ghost use Rattle.events.specs.Statuses.{status_of};
 ghost use Rattle.schedule.specs.Sweeping.{holds_path, hold_path, has_entry_at, keeps_path, keep_path, keep_any_path, IsHolding, Holds};
 
@@ -65,20 +64,13 @@ fn hold_entries(
     Ok(())
 }
 
-/// Whether a goal is planned, or is being built.
-fn is_planned(status: &Status) -> bool
-    ensures { result ≡ is_planned (status_of status.now) }
-{
-    matches!(status, Status::Planned | Status::Building(_))
-}
-
 /// Puts the paths that a goal keeps into a set, if it is planned or is being built. The one error is
 /// memory.
 fn hold_goal(held: &mut IndexSet<StorePath, RandomState>, goal: &Goal) -> Result<(), Refusal>
     ensures held { OnOk result (Holds held.old.keys (keeps_path goal.now) held.new.keys) }
     ensures memory { IfErr result (λ e. e ≡ Memory) }
 {
-    if !is_planned(goal.status()) {
+    if !goal.status().is_planned() {
         return Ok(());
     }
     match goal.resolved() {
