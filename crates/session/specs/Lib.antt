@@ -3,3 +3,4 @@ pub mod Ahead
 pub mod Heads
 pub mod Taking
 pub mod Answered
+pub mod Counting

@@ -47,24 +47,6 @@ fn take_reply(alloc: Global, number: usize, actor: User, reply: Reply) -> Result
     Ok(Answered { told, goal, text })
 }
 
-/// Hands an actor's event on. Gives what is made of its reply.
-fn ask_by<A: Answer>(
-    alloc: Global,
-    number: usize,
-    actor: User,
-    event: Event,
-    answer: &mut A,
-) -> Result<Answered, Refusal>
-    ensures ok { IfOk result (λ r. (reply : replies.Reply) × IsAnswered number actor reply r
-        × A.answers answer.old (event_of event) reply answer.new) }
-    ensures memory { IfErr result (λ why. why ≡ Memory) }
-    ensures asked { (reply : replies.Reply)
-        × A.answers answer.old (event_of event) reply answer.new }
-{
-    let reply = answer.call(alloc, event);
-    take_reply(alloc, number, actor, reply)
-}
-
 /// Hands an event to whom a session asks. Gives what is made of its reply, with the text that is printed
 /// for it as the line of that number.
 ///
@@ -84,7 +66,8 @@ pub fn ask<A: Answer>(
         ⊎ ((reply : replies.Reply) × A.answers answer.old (event_of event) reply answer.new)) }
 {
     let actor = event.actor.clone()?;
-    ask_by(alloc, number, actor, event, answer)
+    let reply = answer.call(alloc, event);
+    take_reply(alloc, number, actor, reply)
 }
 
 /// Hands goals to whom a session asks, who waits for them. Gives what is printed for the reply as the line

@@ -1,9 +1,9 @@
 //! A reader and a writer that count their failures.
 
-ghost use Rattle.std.specs.Prelude.{◌≡◌, ◌≢◌, ◌+◌, ◌-◌, ◌^◌, min, OnOk, IfErr};
-ghost use Rattle.std.specs.IoError.{error_kind};
+ghost use Rattle.std.specs.Prelude.{◌≡◌};
 ghost use Rattle.std.specs.Io.{ReadsAtMost, WritesAtMost};
 ghost use Rattle.std.specs.Io.KnownBytes.{Keeps, ReadConsumes, WriteAppends};
+ghost use Rattle.session.specs.Counting.{Counts};
 
 use nar::Faults;
 use std::io;
@@ -35,9 +35,7 @@ impl<T: Drop> Counted<T> {
     /// Counts what came of a call.
     fn count<O>(&mut self, outcome: &io::Result<O>)
         ensures inner { self.new.inner ≡ self.old.inner }
-        ensures ok { OnOk outcome.now (self.new.failures ≡ self.old.failures) }
-        ensures interrupted { IfErr outcome.now (λ e. error_kind e ≡ ErrorKind.Interrupted → self.new.failures ≡ self.old.failures) }
-        ensures failed { IfErr outcome.now (λ e. error_kind e ≢ ErrorKind.Interrupted → self.new.failures ≡ min (self.old.failures + 1) (2 ^ 64 - 1)) }
+        ensures counted { Counts self.old.failures outcome.now self.new.failures }
     {
         if let Err(error) = outcome {
             if error.kind() != ErrorKind::Interrupted {
@@ -61,9 +59,7 @@ impl<R: Read + Drop> Read for Counted<R> {
     fn read(&mut self, buffer: &mut [u8]) -> io::Result<usize>
         ensures bound { ReadsAtMost result buffer.new }
         ensures bytes { ReadConsumes (R.remaining self.old.inner) (R.remaining self.new.inner) result buffer.new }
-        ensures ok { OnOk result (self.new.failures ≡ self.old.failures) }
-        ensures interrupted { IfErr result (λ e. error_kind e ≡ ErrorKind.Interrupted → self.new.failures ≡ self.old.failures) }
-        ensures failed { IfErr result (λ e. error_kind e ≢ ErrorKind.Interrupted → self.new.failures ≡ min (self.old.failures + 1) (2 ^ 64 - 1)) }
+        ensures counted { Counts self.old.failures result self.new.failures }
     {
         let read = self.inner.read(buffer);
         self.count(&read);
@@ -77,9 +73,7 @@ impl<W: Write + Drop> Write for Counted<W> {
     fn write(&mut self, bytes: &[u8]) -> io::Result<usize>
         ensures bound { WritesAtMost result bytes.now }
         ensures bytes { WriteAppends (W.contents self.old.inner) (W.contents self.new.inner) result bytes.now }
-        ensures ok { OnOk result (self.new.failures ≡ self.old.failures) }
-        ensures interrupted { IfErr result (λ e. error_kind e ≡ ErrorKind.Interrupted → self.new.failures ≡ self.old.failures) }
-        ensures failed { IfErr result (λ e. error_kind e ≢ ErrorKind.Interrupted → self.new.failures ≡ min (self.old.failures + 1) (2 ^ 64 - 1)) }
+        ensures counted { Counts self.old.failures result self.new.failures }
     {
         let written = self.inner.write(bytes);
         self.count(&written);
@@ -88,9 +82,7 @@ impl<W: Write + Drop> Write for Counted<W> {
 
     fn flush(&mut self) -> io::Result<()>
         ensures bytes { Keeps (W.contents self.old.inner) (W.contents self.new.inner) }
-        ensures ok { OnOk result (self.new.failures ≡ self.old.failures) }
-        ensures interrupted { IfErr result (λ e. error_kind e ≡ ErrorKind.Interrupted → self.new.failures ≡ self.old.failures) }
-        ensures failed { IfErr result (λ e. error_kind e ≢ ErrorKind.Interrupted → self.new.failures ≡ min (self.old.failures + 1) (2 ^ 64 - 1)) }
+        ensures counted { Counts self.old.failures result self.new.failures }
     {
         let flushed = self.inner.flush();
         self.count(&flushed);
