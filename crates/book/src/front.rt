@@ -5,6 +5,7 @@ ghost use mathlib.Core.List.{IsPrefix};
 ghost use Rattle.left_right.specs.Sides.{view};
 ghost use Rattle.model.specs.declared.refusal.Refusal.TheVariants.{Memory, Stopped};
 ghost use Rattle.events.specs.declared.reply.Reply.TheVariants.{Refused};
+ghost use Rattle.history.specs.NewFronts.{AreTokensOf};
 ghost use Rattle.history.specs.Callers.{knowing, stops_of, below, rows_of, new_pass};
 ghost use Rattle.history.specs.Tokens.{nothing_recorded};
 ghost use Rattle.history.specs.Histories.{IsLegal};
@@ -164,11 +165,8 @@ impl<J: FrontId> Book<J> {
         n: u64,
     ) -> Result<(Book<J>, Vec<Pass<J>>), Refusal>
         requires core { IsNew J.setup core }
-        requires blank { (blank.calls.name ≡ J.name) × (blank.calls.parts ≡ J.parts) }
-        requires stops { blank.stops.name ≡ J.stops }
-        requires parts { blank.calls.parts ≡ n }
-        requires log { blank.log.table.shared.table_id ≡ J.table }
-        requires rows { blank.rows.seen.book ≡ J.book }
+        requires blank { AreTokensOf J.name J.parts J.stops J.table J.book blank }
+        requires parts { J.parts ≡ n }
         requires some { (0 < n) × (n ≤ 64) }
         ensures book { IfOk result (λ made. made.0 ≡ record { core = core; rows = []; stopped = false }) }
         ensures passes { IfOk result (λ made. made.1.items ≡ map new_pass (below n)) }
@@ -225,11 +223,8 @@ impl<J: FrontId> Front<J> {
         n: u64,
     ) -> Result<(Front<J>, Vec<Pass<J>>), Refusal>
         requires core { IsNew J.setup core }
-        requires blank { (blank.calls.name ≡ J.name) × (blank.calls.parts ≡ J.parts) }
-        requires stops { blank.stops.name ≡ J.stops }
-        requires parts { blank.calls.parts ≡ n }
-        requires log { blank.log.table.shared.table_id ≡ J.table }
-        requires rows { blank.rows.seen.book ≡ J.book }
+        requires blank { AreTokensOf J.name J.parts J.stops J.table J.book blank }
+        requires parts { J.parts ≡ n }
         requires some { (0 < n) × (n ≤ 64) }
         ensures passes { IfOk result (λ made. made.1.items ≡ map new_pass (below n)) }
         ensures memory { IfErr result (λ why. why ≡ Memory) }

@@ -18,7 +18,6 @@ ghost use Rattle.book.specs.Asking.{HasAsked};
 use crate::book::Book;
 use crate::counts::Account;
 use crate::publisher::insist;
-use core::mem::replace_with;
 use history::{FrontId, HistoryPrefix, SnapshotReader, is_unrecorded, look, need};
 use laws::{isolation, kept_closures_are_good, timed_isolation};
 use model::Refusal;
@@ -79,40 +78,6 @@ impl<J: FrontId> Model for Pass<J> {
     ghost invariant = { λ p. IsPrefix p.account.caller.sure p.seen.seen.log × (p.seen.seen.book ≡ J.book)
         × (p.reader.place.me.0.client ≡ knower (name_of J.book J.setup))
         × (p.sure ≡ length p.account.caller.sure) × (p.account.stops.parts ≡ 1) };
-}
-
-/// Looks for the answer to a query after the rows that are published, with these rows.
-fn look_by(
-    reader: SnapshotReader,
-    query: Query,
-) -> (SnapshotReader, Option<(ReadResult, HistoryPrefix)>)
-    requires { (view reader.place).knows ≡ true }
-    ensures view { view result.0.place ≡ view reader.place }
-    ensures rows { IfSome result.1 (λ t. t.1.seen.book ≡ book_in (view reader.place).name) }
-    ensures legal { IfSome result.1
-        (λ t. IsLegal (setup_in (view reader.place).name) t.1.seen.log) }
-    ensures found { IfSome result.1
-        (λ t. FindsRead (setup_in (view reader.place).name) t.1.seen.log (event_for query) t.0) }
-{
-    look(reader, query)
-}
-
-/// What an event needs to be made after the rows that are published, with these rows.
-fn need_by(
-    reader: SnapshotReader,
-    preparation: Preparation<'_>,
-) -> (
-    SnapshotReader,
-    Option<(Result<PrepareInput, Refusal>, HistoryPrefix)>,
-)
-    requires { (view reader.place).knows ≡ true }
-    ensures view { view result.0.place ≡ view reader.place }
-    ensures rows { IfSome result.1 (λ t. t.1.seen.book ≡ book_in (view reader.place).name) }
-    ensures need { IfSome result.1 (λ t. IfOk t.0 (IsNeedAfter
-        (setup_in (view reader.place).name) t.1.seen.log (event_of preparation.entry.event.now))) }
-    ensures memory { IfSome result.1 (λ t. IfErr t.0 (λ why. why ≡ Memory)) }
-{
-    need(reader, preparation)
 }
 
 /// How many rows a pass is sure of after a reply: as many as before it, or where it has a row all.
@@ -206,7 +171,7 @@ impl<J: FrontId> Pass<J> {
     {
         isolation();
         timed_isolation();
-        let Some((found, rows)) = replace_with(&mut self.reader, query, look_by) else {
+        let Some((found, rows)) = look(&mut self.reader, query) else {
             return Reply::Refused(Refusal::Memory);
         };
         if self.see(rows) {
@@ -242,7 +207,7 @@ impl<J: FrontId> Pass<J> {
         ensures memory { IfErr result (λ why. why ≡ Memory) }
     {
         let preparation = Preparation::new(self.alloc, event)?;
-        let Some((needed, rows)) = replace_with(&mut self.reader, preparation, need_by) else {
+        let Some((needed, rows)) = need(&mut self.reader, preparation) else {
             return Err(Refusal::Memory);
         };
         if self.see(rows) {

@@ -6,7 +6,7 @@ ghost use Rattle.schedule.specs.Queries.{event_for};
 ghost use Rattle.history.specs.Histories.{IsLegal};
 ghost use Rattle.model.specs.declared.refusal.Refusal.TheVariants.{Memory};
 ghost use Rattle.events.specs.Terms.{event_of};
-ghost use Rattle.history.specs.Following.{FindsRead, IsNeedAfter};
+ghost use Rattle.history.specs.Finding.{IsFoundAfter, IsFoundNeeded};
 ghost use Rattle.history.specs.FrontId.{book_in, setup_in};
 ghost use Rattle.crossbeam_utils.specs.Register.{TurnsAt};
 ghost use Rattle.history.specs.declared.law.Shown.{Shown};
@@ -15,25 +15,21 @@ ghost use Rattle.history.specs.Tied.{knower, absorbed, IsQuiet, Tied, Sees};
 use crate::history_prefix::HistoryPrefix;
 use crate::law::{Looks, SnapshotReader, SnapshotWriter, Tells};
 use crate::snapshot::{Operation, Snapshot};
+use core::mem::replace_with;
 use model::Refusal;
 use schedule::{Preparation, PrepareInput, Query, ReadResult};
 use std::alloc::AllocError;
 use std::sync::Wait;
 
-/// Looks for what is only read after the rows that are published, with these rows, which are a legal
-/// history. It waits for nobody, and what it finds is served once the snapshot is left. Nothing is found
-/// where the writer is gone.
-pub fn look(
+/// Enters the snapshot that is published, and looks for the answer to a query there.
+fn enter_and_look(
     reader: SnapshotReader,
     query: Query,
 ) -> (SnapshotReader, Option<(ReadResult, HistoryPrefix)>)
     requires { (view reader.place).knows ≡ true }
     ensures view { view result.0.place ≡ view reader.place }
-    ensures rows { IfSome result.1 (λ t. t.1.seen.book ≡ book_in (view reader.place).name) }
-    ensures legal { IfSome result.1
-        (λ t. IsLegal (setup_in (view reader.place).name) t.1.seen.log) }
-    ensures found { IfSome result.1
-        (λ t. FindsRead (setup_in (view reader.place).name) t.1.seen.log (event_for query) t.0) }
+    ensures looked { IfSome result.1
+        (λ t. IsFoundAfter (view reader.place).name (event_for query) t.0 t.1) }
 {
     match reader.enter_as::<Looks>() {
         Ok(reading) => {
@@ -46,9 +42,20 @@ pub fn look(
     }
 }
 
-/// What an event needs to be made after the rows that are published, with these rows. It waits for nobody,
-/// and what is needed is made once the snapshot is left. There is no answer where the writer is gone.
-pub fn need(
+/// Looks for what is only read after the rows that are published, with these rows, which are a legal
+/// history. It waits for nobody, and what it finds is served once the snapshot is left. Nothing is found
+/// where the writer is gone.
+pub fn look(reader: &mut SnapshotReader, query: Query) -> Option<(ReadResult, HistoryPrefix)>
+    requires { (view reader.old.place).knows ≡ true }
+    ensures view { view reader.new.place ≡ view reader.old.place }
+    ensures looked { IfSome result
+        (λ t. IsFoundAfter (view reader.old.place).name (event_for query) t.0 t.1) }
+{
+    replace_with(reader, query, enter_and_look)
+}
+
+/// Enters the snapshot that is published, and finds what an event needs to be made there.
+fn enter_and_need(
     reader: SnapshotReader,
     preparation: Preparation<'_>,
 ) -> (
@@ -57,10 +64,8 @@ pub fn need(
 )
     requires { (view reader.place).knows ≡ true }
     ensures view { view result.0.place ≡ view reader.place }
-    ensures rows { IfSome result.1 (λ t. t.1.seen.book ≡ book_in (view reader.place).name) }
-    ensures need { IfSome result.1 (λ t. IfOk t.0 (IsNeedAfter
-        (setup_in (view reader.place).name) t.1.seen.log (event_of preparation.entry.event.now))) }
-    ensures memory { IfSome result.1 (λ t. IfErr t.0 (λ why. why ≡ Memory)) }
+    ensures needed { IfSome result.1 (λ t. IsFoundNeeded
+        (view reader.place).name (event_of preparation.entry.event.now) t.0 t.1) }
 {
     match reader.enter_as::<Looks>() {
         Ok(reading) => {
@@ -71,6 +76,20 @@ pub fn need(
         }
         Err(reader) => (reader, None),
     }
+}
+
+/// What an event needs to be made after the rows that are published, with these rows. It waits for nobody,
+/// and what is needed is made once the snapshot is left. There is no answer where the writer is gone.
+pub fn need(
+    reader: &mut SnapshotReader,
+    preparation: Preparation<'_>,
+) -> Option<(Result<PrepareInput, Refusal>, HistoryPrefix)>
+    requires { (view reader.old.place).knows ≡ true }
+    ensures view { view reader.new.place ≡ view reader.old.place }
+    ensures needed { IfSome result (λ t. IsFoundNeeded
+        (view reader.old.place).name (event_of preparation.entry.event.now) t.0 t.1) }
+{
+    replace_with(reader, preparation, enter_and_need)
 }
 
 /// Publishes what is pending, and says whether it did. Else it stays pending.

@@ -10,6 +10,7 @@ ghost use Rattle.events.specs.Terms.{event_of};
 ghost use Rattle.schedule.specs.Standing.{setup_of, world_of, stored_in};
 ghost use Rattle.replaying.specs.Recording.{AddsNumbers, Asked, AsksOn, RunsOut, IsAsked, IsFirstRun};
 ghost use Rattle.replaying.specs.Striking.{StrikeEndsBy};
+ghost use Rattle.history.specs.NewFronts.{AreTokensOf};
 
 use crate::first_lines::{bad_after, find_users, is_bad};
 use crate::numbers::{FirstRun, Line, Named, Notes, Numbers};
@@ -135,10 +136,8 @@ fn ask_core<J: FrontId, H: Wait, R: BufRead>(
     notes: &mut Notes,
     input: &mut R,
 ) -> Result<Vec<Event>, Refusal>
-    requires blank { (blank.calls.name ≡ J.name) × (blank.calls.parts ≡ J.parts) × (blank.calls.parts ≡ 1) }
-    requires stops { blank.stops.name ≡ J.stops }
-    requires log { blank.log.table.shared.table_id ≡ J.table }
-    requires rows { blank.rows.seen.book ≡ J.book }
+    requires blank { AreTokensOf J.name J.parts J.stops J.table J.book blank }
+    requires parts { J.parts ≡ 1 }
     requires core { (setup_of core ≡ J.setup) × (world_of core ≡ nothing) × (stored_in core ≡ []) }
     ensures asked { IfOk result (λ events.
         IsAsked J.setup (R.remaining input.old) notes.old notes.new events.items) }

@@ -8,6 +8,7 @@ ghost use Rattle.model.specs.declared.refusal.Refusal.TheVariants.{InputFault, O
 ghost use Rattle.session.specs.Serving.{EndsByCounts, HasFailed, IsOwn, IsShown, MayBeFault};
 ghost use Rattle.replaying.specs.ServingOn.{ServesOn, ServesOnInPart, ServesOnSoFar};
 ghost use Rattle.replaying.specs.Ended.{RepliesToAll, RepliesInPart, RepliesSoFar};
+ghost use Rattle.history.specs.NewFronts.{AreTokensOf};
 
 use crate::one_pass::OnePass;
 use crate::settings::Settings;
@@ -43,11 +44,8 @@ fn serve_core<J: FrontId, H: Wait, R: Read + Faults, W: Write + Faults>(
     reader: &mut R,
     writer: &mut W,
 ) -> Result<(), Refusal>
-    requires blank { (new.blank.calls.name ≡ J.name) × (new.blank.calls.parts ≡ J.parts)
-        × (new.blank.calls.parts ≡ 1) }
-    requires stops { new.blank.stops.name ≡ J.stops }
-    requires log { new.blank.log.table.shared.table_id ≡ J.table }
-    requires rows { new.blank.rows.seen.book ≡ J.book }
+    requires blank { AreTokensOf J.name J.parts J.stops J.table J.book new.blank }
+    requires parts { J.parts ≡ 1 }
     requires core { (setup_of new.core ≡ J.setup) × (world_of new.core ≡ nothing)
         × (stored_in new.core ≡ []) }
     ensures ok { OnOk result (ServesOn J.setup begun.old.session begun.old.rest.items

@@ -6,6 +6,7 @@ ghost use Rattle.model.specs.Limits.{most_charge};
 ghost use Rattle.model.specs.Worlds.{are_users};
 ghost use Rattle.model.specs.declared.refusal.Refusal.TheVariants.{Memory, BadUsers, Quota};
 ghost use Rattle.schedule.specs.Standing.{setup_for};
+ghost use Rattle.history.specs.NewFronts.{AreTokensOf};
 ghost use Rattle.book.specs.Keeping.{IsNew};
 ghost use Rattle.running.specs.Calling.{IsTold};
 ghost use Rattle.running.specs.Meeting.{HasMet, is_stopped};
@@ -187,10 +188,8 @@ fn run_core<
     count: u64,
     parts: Vec<Part<I, Q>>,
 ) -> Result<Results, Refusal>
-    requires blank { (blank.calls.name ≡ J.name) × (blank.calls.parts ≡ J.parts) × (blank.calls.parts ≡ count) }
-    requires stops { blank.stops.name ≡ J.stops }
-    requires log { blank.log.table.shared.table_id ≡ J.table }
-    requires rows { blank.rows.seen.book ≡ J.book }
+    requires blank { AreTokensOf J.name J.parts J.stops J.table J.book blank }
+    requires parts { J.parts ≡ count }
     requires core { IsNew J.setup core }
     requires some { (0 < count) × (count ≤ 64) }
     requires needed { count ≡ passes_needed parts.items }

@@ -16,8 +16,9 @@ returns-then-see-clause-read g c some =
     let reply = c.serve.result in
     let r : Row = row c.args.self.now.caller.number event reply in
     let setup = ap (λ v. setup_in v.name) c.self.invariant.2 in
-    let legal = subst (λ (s : Setup). IsLegal s rows) setup (rw c.in-Some.is at c.replace_with.ensures.1.1.0) in
-    let finds = subst (λ (s : Setup). FindsRead s rows event c.in-Some.found) setup (rw c.in-Some.is at c.replace_with.ensures.1.1.1) in
+    let looked = rw c.in-Some.is at c.look.ensures.looked in
+    let legal = subst (λ (s : Setup). IsLegal s rows) setup looked.legal in
+    let finds = subst (λ (s : Setup). FindsRead s rows event c.in-Some.found) setup looked.answer in
     let told = finds reply c.serve.ensures in
     let seen = ap (λ (k : PassKnowledge). k.seen) (c.self-2.view_is ∙ (rw c.if-see.true at c.see.ensures).1) in
     subst (λ (all : List Row). IsLegal g.J.FrontId.setup (all ++ r ∷ [])) (sym seen)
@@ -25,5 +26,5 @@ returns-then-see-clause-read g c some =
 
 pub returns-then-see-clause-going : goal.returns-then-see-clause-going
 returns-then-see-clause-going g c =
-    let finds = rw c.in-Some.is at c.replace_with.ensures.1.1.1 in
-    (finds c.serve.result c.serve.ensures).going
+    let looked = rw c.in-Some.is at c.look.ensures.looked in
+    (looked.answer c.serve.result c.serve.ensures).going
