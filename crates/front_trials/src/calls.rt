@@ -3,7 +3,7 @@
 //! - `# TEXT` is printed as it is.
 //! - `CALL ARGUMENT` runs a call.
 
-use crate::{builds, crowd, exchanged, fronts, held, reads, sweeps, values};
+use crate::{books, builds, crowd, exchanged, fronts, held, reads, sweeps, values};
 use model::Refusal;
 use std::alloc::Global;
 use std::hash::RandomState;
@@ -35,6 +35,7 @@ pub(crate) fn answer_line<R: Threads + Wait + Sync>(
         "reads" => reads::reads(rt, alloc, hashing, argument, out),
         "sweeps" => sweeps::sweeps(rt, alloc, hashing, argument, out),
         "exchanged" => exchanged::exchange_each(rt, alloc, hashing, argument, out),
+        "applied" => books::applied(rt, alloc, hashing, argument, out),
         "made_alone" => values::alone(alloc, hashing, argument, out),
         "made_unprepared" => values::committed(rt, alloc, hashing, argument, out),
         "made_prepared" => values::prepared(rt, alloc, hashing, argument, out),

@@ -3,8 +3,10 @@
 ghost use Rattle.std.specs.Prelude.{◌≡◌, [], IfOk};
 ghost use Rattle.model.specs.Worlds.{nothing};
 ghost use Rattle.schedule.specs.Standing.{world_of, stored_in};
+ghost use Rattle.history.specs.NewFronts.{AreTokensOf};
 ghost use Rattle.book.specs.Keeping.{IsNew};
 
+use crate::new_front::NewFront;
 use crate::reads::{Scripts, answered_at_once};
 use crate::traces::{Entry, unmatched, wrong_rows};
 use crate::turns::closed;
@@ -64,17 +66,14 @@ fn count_answers(traces: &[Vec<Entry>]) -> usize {
 fn crowded<J: FrontId + Send + Sync, R: Threads + Wait + Sync>(
     rt: &R,
     alloc: Global,
-    blank: FrontTokens,
-    core: Core,
+    new: NewFront,
     argument: &String,
 ) -> Result<(History, Vec<Vec<Entry>>), Refusal>
-    requires blank { (blank.calls.name ≡ J.name) × (blank.calls.parts ≡ J.parts) }
-    requires stops { blank.stops.name ≡ J.stops }
-    requires parts { blank.calls.parts ≡ 10 }
-    requires log { blank.log.table.shared.table_id ≡ J.table }
-    requires rows { blank.rows.seen.book ≡ J.book }
-    requires core { IsNew J.setup core }
+    requires blank { AreTokensOf J.name J.parts J.stops J.table J.book new.blank }
+    requires parts { J.parts ≡ 10 }
+    requires core { IsNew J.setup new.core }
 {
+    let NewFront { blank, core } = new;
     let (front, passes) = Front::<J>::new(rt, alloc, blank, core, 10)?;
     let scripts = Scripts::new(argument.as_str());
     let (passes, traces) = answered_at_once(rt, alloc, &front, passes, scripts)?;
@@ -96,10 +95,9 @@ pub(crate) fn crowd<R: Threads + Wait + Sync>(
 ) -> Result<(), Refusal> {
     let first = Scripts::new(argument).first;
     let users = users_in(alloc, &with_newlines(alloc, first)?)?;
-    let core = new_store(alloc, hashing, &users)?;
-    let blank = FrontTokens::new(alloc, 10)?;
+    let new = NewFront::new(alloc, new_store(alloc, hashing, &users)?, 10)?;
     let lines = String::from_str(alloc, argument)?;
-    let (history, traces) = crowded::<Brand, _>(rt, alloc, blank, core, &lines)?;
+    let (history, traces) = crowded::<Brand, _>(rt, alloc, new, &lines)?;
     out.add(&count_answers(&traces));
     out.add_text(" answers, ");
     out.add(&history.rows.len());

@@ -1,8 +1,10 @@
 //! Sessions each of whose events is committed with what was prepared for another one.
 
 ghost use Rattle.std.specs.Prelude.{◌≡◌};
+ghost use Rattle.history.specs.NewFronts.{AreTokensOf};
 ghost use Rattle.book.specs.Keeping.{IsNew};
 
+use crate::new_front::NewFront;
 use book::{Front, FrontId, FrontTokens, Pass};
 use model::Refusal;
 use schedule::{Core, Event, Ready, Reply};
@@ -58,19 +60,16 @@ impl<J: FrontId, R: Wait> session::Answer for Exchanged<'_, J, R> {
 fn answer_by_front<J: FrontId, R: Wait>(
     rt: &R,
     alloc: Global,
-    blank: FrontTokens,
-    core: Core,
+    new: NewFront,
     beside: Core,
     lines: &String,
     out: &mut Answer,
 ) -> Result<(), Refusal>
-    requires blank { (blank.calls.name ≡ J.name) × (blank.calls.parts ≡ J.parts) }
-    requires stops { blank.stops.name ≡ J.stops }
-    requires parts { blank.calls.parts ≡ 1 }
-    requires log { blank.log.table.shared.table_id ≡ J.table }
-    requires rows { blank.rows.seen.book ≡ J.book }
-    requires core { IsNew J.setup core }
+    requires blank { AreTokensOf J.name J.parts J.stops J.table J.book new.blank }
+    requires parts { J.parts ≡ 1 }
+    requires core { IsNew J.setup new.core }
 {
+    let NewFront { blank, core } = new;
     let (front, mut passes) = Front::<J>::new(rt, alloc, blank, core, 1)?;
     let pass = passes.pop().unwrap();
     let mut store = Exchanged {
@@ -92,9 +91,8 @@ pub(crate) fn exchange_each<R: Wait>(
     input: &str,
     out: &mut Answer,
 ) -> Result<(), Refusal> {
-    let core = core_for(alloc, hashing, input)?;
+    let new = NewFront::of(alloc, hashing, input, 1)?;
     let beside = core_for(alloc, hashing, input)?;
-    let blank = FrontTokens::new(alloc, 1)?;
     let lines = String::from_str(alloc, input)?;
-    answer_by_front::<Brand, _>(rt, alloc, blank, core, beside, &lines, out)
+    answer_by_front::<Brand, _>(rt, alloc, new, beside, &lines, out)
 }

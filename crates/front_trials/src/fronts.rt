@@ -1,8 +1,10 @@
 //! A front that is called through its one pass, threads that share one, and one that is closed at once.
 
 ghost use Rattle.std.specs.Prelude.{◌≡◌};
+ghost use Rattle.history.specs.NewFronts.{AreTokensOf};
 ghost use Rattle.book.specs.Keeping.{IsNew};
 
+use crate::new_front::NewFront;
 use crate::turns::{Member, Task, all_at_once, closed};
 use book::{Front, FrontId, FrontTokens, Pass, Row};
 use model::Refusal;
@@ -94,16 +96,13 @@ fn counted(rows: &[Arc<Row>]) -> (usize, usize) {
 fn rows_of_two<J: FrontId + Send + Sync, R: Threads + Wait + Sync>(
     rt: &R,
     alloc: Global,
-    blank: FrontTokens,
-    core: Core,
+    new: NewFront,
 ) -> Result<(usize, usize), Refusal>
-    requires blank { (blank.calls.name ≡ J.name) × (blank.calls.parts ≡ J.parts) }
-    requires stops { blank.stops.name ≡ J.stops }
-    requires parts { blank.calls.parts ≡ 2 }
-    requires log { blank.log.table.shared.table_id ≡ J.table }
-    requires rows { blank.rows.seen.book ≡ J.book }
-    requires core { IsNew J.setup core }
+    requires blank { AreTokensOf J.name J.parts J.stops J.table J.book new.blank }
+    requires parts { J.parts ≡ 2 }
+    requires core { IsNew J.setup new.core }
 {
+    let NewFront { blank, core } = new;
     let (front, passes) = Front::<J>::new(rt, alloc, blank, core, 2)?;
     let tasks = vec![in alloc; Repeated { calls: 100 }; 2]?;
     let (passes, _tasks) = all_at_once(rt, alloc, &front, passes, tasks)?;
@@ -118,8 +117,8 @@ pub(crate) fn threads<R: Threads + Wait + Sync>(
     hashing: RandomState,
     out: &mut Answer,
 ) -> Result<(), Refusal> {
-    let blank = FrontTokens::new(alloc, 2)?;
-    let (all, ones) = rows_of_two::<Brand, _>(rt, alloc, blank, new_core(alloc, hashing)?)?;
+    let new = NewFront::new(alloc, new_core(alloc, hashing)?, 2)?;
+    let (all, ones) = rows_of_two::<Brand, _>(rt, alloc, new)?;
     out.add(&all);
     out.add_text(" rows, ");
     out.add(&ones);
@@ -143,16 +142,13 @@ fn are_in_order<J: FrontId>(passes: &[Pass<J>]) -> bool {
 fn closed_at_once<J: FrontId, R: Wait>(
     rt: &R,
     alloc: Global,
-    blank: FrontTokens,
-    core: Core,
+    new: NewFront,
 ) -> Result<(bool, usize), Refusal>
-    requires blank { (blank.calls.name ≡ J.name) × (blank.calls.parts ≡ J.parts) }
-    requires stops { blank.stops.name ≡ J.stops }
-    requires parts { blank.calls.parts ≡ 3 }
-    requires log { blank.log.table.shared.table_id ≡ J.table }
-    requires rows { blank.rows.seen.book ≡ J.book }
-    requires core { IsNew J.setup core }
+    requires blank { AreTokensOf J.name J.parts J.stops J.table J.book new.blank }
+    requires parts { J.parts ≡ 3 }
+    requires core { IsNew J.setup new.core }
 {
+    let NewFront { blank, core } = new;
     let (front, passes) = Front::<J>::new(rt, alloc, blank, core, 3)?;
     let in_order = are_in_order(&passes);
     Ok((in_order, front.close(rt, passes).rows.len()))
@@ -165,9 +161,8 @@ pub(crate) fn passes<R: Wait>(
     hashing: RandomState,
     out: &mut Answer,
 ) -> Result<(), Refusal> {
-    let blank = FrontTokens::new(alloc, 3)?;
-    let core = new_core(alloc, hashing)?;
-    let (in_order, rows) = closed_at_once::<Brand, _>(rt, alloc, blank, core)?;
+    let new = NewFront::new(alloc, new_core(alloc, hashing)?, 3)?;
+    let (in_order, rows) = closed_at_once::<Brand, _>(rt, alloc, new)?;
     let order = if in_order { "in order" } else { "out of order" };
     out.add_text(order);
     out.add_text(", ");

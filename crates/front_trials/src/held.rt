@@ -1,9 +1,11 @@
 //! Two threads that share a front whose lock is held: they read it, or one prepares events meanwhile.
 
 ghost use Rattle.std.specs.Prelude.{◌≡◌};
+ghost use Rattle.history.specs.NewFronts.{AreTokensOf};
 ghost use Rattle.book.specs.Keeping.{IsNew};
 
 use crate::fronts::Called;
+use crate::new_front::NewFront;
 use crate::reads::{Scripts, answered_at_once};
 use crate::traces::{Entry, text_of};
 use crate::turns::{Member, Task, all_at_once, closed, is_set_in_time};
@@ -104,18 +106,15 @@ fn tell_met<J: FrontId, R: Wait>(
 fn read_by_two<J: FrontId + Send + Sync, R: Threads + Wait + Sync>(
     rt: &R,
     alloc: Global,
-    blank: FrontTokens,
-    core: Core,
+    new: NewFront,
     argument: &String,
     out: &mut Answer,
 ) -> Result<(), Refusal>
-    requires blank { (blank.calls.name ≡ J.name) × (blank.calls.parts ≡ J.parts) }
-    requires stops { blank.stops.name ≡ J.stops }
-    requires parts { blank.calls.parts ≡ 2 }
-    requires log { blank.log.table.shared.table_id ≡ J.table }
-    requires rows { blank.rows.seen.book ≡ J.book }
-    requires core { IsNew J.setup core }
+    requires blank { AreTokensOf J.name J.parts J.stops J.table J.book new.blank }
+    requires parts { J.parts ≡ 2 }
+    requires core { IsNew J.setup new.core }
 {
+    let NewFront { blank, core } = new;
     let (front, mut passes) = Front::<J>::new(rt, alloc, blank, core, 2)?;
     let added = front.call(rt, alloc, &mut passes[0], adding(alloc, b"alice")?);
     tell(alloc, &added, out)?;
@@ -140,10 +139,9 @@ pub(crate) fn held<R: Threads + Wait + Sync>(
     argument: &str,
     out: &mut Answer,
 ) -> Result<(), Refusal> {
-    let blank = FrontTokens::new(alloc, 2)?;
-    let core = new_core(alloc, hashing)?;
+    let new = NewFront::new(alloc, new_core(alloc, hashing)?, 2)?;
     let lines = String::from_str(alloc, argument)?;
-    read_by_two::<Brand, _>(rt, alloc, blank, core, &lines, out)
+    read_by_two::<Brand, _>(rt, alloc, new, &lines, out)
 }
 
 /// Calls a front with the events of lines.
@@ -163,17 +161,14 @@ fn call_lines<J: FrontId, R: Wait>(
 fn rows_of<J: FrontId, R: Wait>(
     rt: &R,
     alloc: Global,
-    blank: FrontTokens,
-    core: Core,
+    new: NewFront,
     lines: &String,
 ) -> Result<Vec<Arc<Row>>, Refusal>
-    requires blank { (blank.calls.name ≡ J.name) × (blank.calls.parts ≡ J.parts) }
-    requires stops { blank.stops.name ≡ J.stops }
-    requires parts { blank.calls.parts ≡ 1 }
-    requires log { blank.log.table.shared.table_id ≡ J.table }
-    requires rows { blank.rows.seen.book ≡ J.book }
-    requires core { IsNew J.setup core }
+    requires blank { AreTokensOf J.name J.parts J.stops J.table J.book new.blank }
+    requires parts { J.parts ≡ 1 }
+    requires core { IsNew J.setup new.core }
 {
+    let NewFront { blank, core } = new;
     let (front, mut passes) = Front::<J>::new(rt, alloc, blank, core, 1)?;
     let pass = passes.pop().unwrap();
     let mut called = Called { rt, front, pass };
@@ -333,19 +328,16 @@ fn call_each<J: FrontId, R: Wait>(
 fn prepare_last<J: FrontId + Send + Sync, R: Threads + Wait + Sync>(
     rt: &R,
     alloc: Global,
-    blank: FrontTokens,
-    core: Core,
+    new: NewFront,
     rows: Vec<Arc<Row>>,
     last: usize,
     out: &mut Answer,
 ) -> Result<(), Refusal>
-    requires blank { (blank.calls.name ≡ J.name) × (blank.calls.parts ≡ J.parts) }
-    requires stops { blank.stops.name ≡ J.stops }
-    requires parts { blank.calls.parts ≡ 2 }
-    requires log { blank.log.table.shared.table_id ≡ J.table }
-    requires rows { blank.rows.seen.book ≡ J.book }
-    requires core { IsNew J.setup core }
+    requires blank { AreTokensOf J.name J.parts J.stops J.table J.book new.blank }
+    requires parts { J.parts ≡ 2 }
+    requires core { IsNew J.setup new.core }
 {
+    let NewFront { blank, core } = new;
     let (front, mut passes) = Front::<J>::new(rt, alloc, blank, core, 2)?;
     let mut first = rows;
     let rows = first.split_off(first.len().saturating_sub(last))?;
@@ -374,10 +366,9 @@ pub(crate) fn prepared_while_held<R: Threads + Wait + Sync>(
     out: &mut Answer,
 ) -> Result<(), Refusal> {
     let (count, input) = number(argument)?;
-    let core = core_for(alloc, hashing, input)?;
-    let another = core.another(alloc)?;
+    let new = NewFront::of(alloc, hashing, input, 1)?;
+    let another = NewFront::new(alloc, new.core.another(alloc)?, 2)?;
     let lines = String::from_str(alloc, input)?;
-    let rows = rows_of::<Brand, _>(rt, alloc, FrontTokens::new(alloc, 1)?, core, &lines)?;
-    let blank = FrontTokens::new(alloc, 2)?;
-    prepare_last::<Brand, _>(rt, alloc, blank, another, rows, count, out)
+    let rows = rows_of::<Brand, _>(rt, alloc, new, &lines)?;
+    prepare_last::<Brand, _>(rt, alloc, another, rows, count, out)
 }

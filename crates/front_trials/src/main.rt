@@ -5,12 +5,14 @@
 //! `tests/trials` computes it.
 #![tactic(auto)]
 
+mod books;
 mod builds;
 mod calls;
 mod crowd;
 mod exchanged;
 mod fronts;
 mod held;
+mod new_front;
 mod reads;
 mod sweeps;
 mod traces;

@@ -2,8 +2,10 @@
 //! and swept after each line.
 
 ghost use Rattle.std.specs.Prelude.{◌≡◌};
+ghost use Rattle.history.specs.NewFronts.{AreTokensOf};
 ghost use Rattle.book.specs.Keeping.{IsNew};
 
+use crate::new_front::NewFront;
 use crate::traces::Entry;
 use crate::turns::{Member, Task, all_at_once, closed};
 use book::{Front, FrontId, FrontTokens, Pass, Row};
@@ -228,18 +230,15 @@ fn tell_lines_of_one<J: FrontId, R: Wait>(
 fn read_by_one<J: FrontId, R: Wait>(
     rt: &R,
     alloc: Global,
-    blank: FrontTokens,
-    core: Core,
+    new: NewFront,
     lines: &String,
     out: &mut Answer,
 ) -> Result<(), Refusal>
-    requires blank { (blank.calls.name ≡ J.name) × (blank.calls.parts ≡ J.parts) }
-    requires stops { blank.stops.name ≡ J.stops }
-    requires parts { blank.calls.parts ≡ 1 }
-    requires log { blank.log.table.shared.table_id ≡ J.table }
-    requires rows { blank.rows.seen.book ≡ J.book }
-    requires core { IsNew J.setup core }
+    requires blank { AreTokensOf J.name J.parts J.stops J.table J.book new.blank }
+    requires parts { J.parts ≡ 1 }
+    requires core { IsNew J.setup new.core }
 {
+    let NewFront { blank, core } = new;
     let (front, mut passes) = Front::<J>::new(rt, alloc, blank, core, 1)?;
     let pass = passes.pop().unwrap();
     let (pass, reads) = tell_lines_of_one(rt, alloc, &front, pass, lines.as_str(), out)?;
@@ -262,9 +261,7 @@ pub(crate) fn reads<R: Wait>(
     input: &str,
     out: &mut Answer,
 ) -> Result<(), Refusal> {
-    let users = users_in(alloc, &with_newlines(alloc, input)?)?;
-    let core = store_of(alloc, hashing, users)?;
-    let blank = FrontTokens::new(alloc, 1)?;
+    let new = NewFront::of(alloc, hashing, input, 1)?;
     let lines = String::from_str(alloc, input)?;
-    read_by_one::<Brand, _>(rt, alloc, blank, core, &lines, out)
+    read_by_one::<Brand, _>(rt, alloc, new, &lines, out)
 }

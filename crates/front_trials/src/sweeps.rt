@@ -1,9 +1,11 @@
 //! A front that is swept after each line of a session.
 
 ghost use Rattle.std.specs.Prelude.{◌≡◌};
+ghost use Rattle.history.specs.NewFronts.{AreTokensOf};
 ghost use Rattle.book.specs.Keeping.{IsNew};
 
 use crate::fronts::Called;
+use crate::new_front::NewFront;
 use book::{Front, FrontId, FrontTokens};
 use model::Refusal;
 use schedule::Core;
@@ -48,18 +50,15 @@ fn tell_lines<J: FrontId, R: Wait>(
 fn answer_by_front<J: FrontId, R: Wait>(
     rt: &R,
     alloc: Global,
-    blank: FrontTokens,
-    core: Core,
+    new: NewFront,
     lines: &String,
     out: &mut Answer,
 ) -> Result<(), Refusal>
-    requires blank { (blank.calls.name ≡ J.name) × (blank.calls.parts ≡ J.parts) }
-    requires stops { blank.stops.name ≡ J.stops }
-    requires parts { blank.calls.parts ≡ 1 }
-    requires log { blank.log.table.shared.table_id ≡ J.table }
-    requires rows { blank.rows.seen.book ≡ J.book }
-    requires core { IsNew J.setup core }
+    requires blank { AreTokensOf J.name J.parts J.stops J.table J.book new.blank }
+    requires parts { J.parts ≡ 1 }
+    requires core { IsNew J.setup new.core }
 {
+    let NewFront { blank, core } = new;
     let (front, mut passes) = Front::<J>::new(rt, alloc, blank, core, 1)?;
     let pass = passes.pop().unwrap();
     let mut store = Called { rt, front, pass };
@@ -75,9 +74,7 @@ pub(crate) fn sweeps<R: Wait>(
     input: &str,
     out: &mut Answer,
 ) -> Result<(), Refusal> {
-    let users = users_in(alloc, &with_newlines(alloc, input)?)?;
-    let core = store_of(alloc, hashing, users)?;
-    let blank = FrontTokens::new(alloc, 1)?;
+    let new = NewFront::of(alloc, hashing, input, 1)?;
     let lines = String::from_str(alloc, input)?;
-    answer_by_front::<Brand, _>(rt, alloc, blank, core, &lines, out)
+    answer_by_front::<Brand, _>(rt, alloc, new, &lines, out)
 }

@@ -1,8 +1,10 @@
 //! Sessions of which is told how many values were made, where, and how many were at hand.
 
 ghost use Rattle.std.specs.Prelude.{◌≡◌};
+ghost use Rattle.history.specs.NewFronts.{AreTokensOf};
 ghost use Rattle.book.specs.Keeping.{IsNew};
 
+use crate::new_front::NewFront;
 use book::{Front, FrontId, FrontTokens, Pass};
 use model::Refusal;
 use schedule::{Core, Event, Query, Ready, Reply};
@@ -105,19 +107,16 @@ pub(crate) fn alone(
 fn answer_by_front<J: FrontId, R: Wait>(
     rt: &R,
     alloc: Global,
-    blank: FrontTokens,
-    core: Core,
+    new: NewFront,
     prepares: bool,
     lines: &String,
     out: &mut Answer,
 ) -> Result<(), Refusal>
-    requires blank { (blank.calls.name ≡ J.name) × (blank.calls.parts ≡ J.parts) }
-    requires stops { blank.stops.name ≡ J.stops }
-    requires parts { blank.calls.parts ≡ 1 }
-    requires log { blank.log.table.shared.table_id ≡ J.table }
-    requires rows { blank.rows.seen.book ≡ J.book }
-    requires core { IsNew J.setup core }
+    requires blank { AreTokensOf J.name J.parts J.stops J.table J.book new.blank }
+    requires parts { J.parts ≡ 1 }
+    requires core { IsNew J.setup new.core }
 {
+    let NewFront { blank, core } = new;
     let (front, mut passes) = Front::<J>::new(rt, alloc, blank, core, 1)?;
     let pass = passes.pop().unwrap();
     let mut store = Committing {
@@ -143,10 +142,9 @@ fn by_front<R: Wait>(
     input: &str,
     out: &mut Answer,
 ) -> Result<(), Refusal> {
-    let core = core_for(alloc, hashing, input)?;
-    let blank = FrontTokens::new(alloc, 1)?;
+    let new = NewFront::of(alloc, hashing, input, 1)?;
     let lines = String::from_str(alloc, input)?;
-    answer_by_front::<Brand, _>(rt, alloc, blank, core, prepares, &lines, out)
+    answer_by_front::<Brand, _>(rt, alloc, new, prepares, &lines, out)
 }
 
 /// `INPUT`: answers the lines of the input, to the users whom it names, by a front, which commits each event
