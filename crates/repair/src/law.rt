@@ -1,5 +1,6 @@
 //! Laws of repair.
 
+ghost use Rattle.repair.specs.GoodClosures.{ClosuresAreGood};
 ghost use Rattle.repair.specs.RepairLaws.{MovedIsGone, ServedIsSound};
 ghost use Rattle.repair.specs.RepairLaws.{PlansKeepNoReplaced, ClosuresKeepNoReplaced, ServedAreMade};
 
@@ -37,4 +38,13 @@ pub fn closures_keep_no_replaced()
 /// No program calls this: it states the law, which its proof shows.
 pub fn served_are_made()
     ensures { ServedAreMade }
+{}
+
+/// Each closure that a user is given, or that a goal keeps once it is planned, is good: it serves no
+/// class by two paths, has an entry for each label, and keeps no replaced hash part. That is so after
+/// any well-formed events, no two of whose hashed texts have one folded digest.
+///
+/// No program calls this: it states the law, which its proof shows.
+pub fn closures_are_good()
+    ensures { ClosuresAreGood }
 {}
