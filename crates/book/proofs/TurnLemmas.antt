@@ -50,8 +50,7 @@ step_from a b c event reply same step = record {
   taken = λ clash. rw (← same.setup, ← same.world, ← same.stored) (step.taken clash);
   no_clash = λ texts clean hashed within. step.no_clash texts clean (has_hashed texts a b same hashed) (rw (same.setup, same.world) within);
   hashed = λ texts hashed within. step.hashed texts (has_hashed texts a b same hashed) (rw (same.setup, same.world) within);
-  good = λ texts clean hashed within some.
-      rw (← same.setup, ← same.world) (step.good texts clean (has_hashed texts a b same hashed) (rw (same.setup, same.world) within) some);
+  well_formed = step.well_formed;
   going = step.going;
 }
 

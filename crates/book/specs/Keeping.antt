@@ -4,7 +4,7 @@ use Rattle.model.specs.Paths.{NoClash}
 use Rattle.model.specs.Worlds.{Setup, nothing}
 use Rattle.model.specs.Steps.{world_after, answers, reply_to}
 use Rattle.model.specs.HashedTexts.{hashed}
-use Rattle.model.specs.GivenClosures.{GiveGoodClosures}
+use Rattle.repair.specs.GoodClosures.{AreWellFormed}
 use Rattle.schedule.specs.declared.state.Core.{Core}
 use Rattle.events.specs.declared.event.Event.{Event}
 use Rattle.events.specs.declared.reply.Reply.{Reply}
@@ -34,15 +34,14 @@ pub record TookEvent (old : Core) (event : Event) (new : Core) : Type 0 where
   pub reply : Reply
   pub step : Steps old event reply new
 
--- the replies of the rows are the model's and the closures that are given are good, wherever texts have no clash and all
--- that the events hash is among them; and unless the book is stopped, the core is that of the world reached
+-- the events of the rows are well formed, and the replies are the model's, wherever texts have no clash and all that the events
+-- hash is among them; and unless the book is stopped, the core is that of the world reached
 pub record Kept (setup : Setup) (core : Core) (stopped : Bool) (rows : List Row) : Type 0 where
   pub given : setup_of core ≡ setup
   pub answered : All (λ r. unrecorded r.reply ≡ false) rows
+  pub well_formed : AreWellFormed (events_of rows)
   pub told : (texts : List (List ℕ)) → NoClash texts → All (Contains texts) (hashed setup nothing (events_of rows))
       → answers_of rows ≡ answers setup nothing (events_of rows)
-  pub good : (texts : List (List ℕ)) → NoClash texts → All (Contains texts) (hashed setup nothing (events_of rows))
-      → GiveGoodClosures setup nothing (events_of rows)
   pub reached : stopped ≡ false → (texts : List (List ℕ)) → NoClash texts → All (Contains texts) (hashed setup nothing (events_of rows))
       → HasReached setup core texts rows
 

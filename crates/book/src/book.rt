@@ -26,6 +26,7 @@ use crate::publisher::Publisher;
 use history::{Caller, FrontId, HistoryPrefix, Log, Row, StopCount};
 use laws::{isolation, timed_isolation};
 use model::Refusal;
+use repair::closures_are_good;
 use schedule::{Core, Event, Ready, Reply, RunningJob, User};
 use std::alloc::{AllocError, Global};
 use std::marker::Model;
@@ -179,6 +180,7 @@ impl<J: FrontId> Book<J> {
         } = account;
         isolation();
         timed_isolation();
+        closures_are_good();
         let Book {
             cores,
             history,
@@ -255,6 +257,7 @@ impl<J: FrontId> Book<J> {
     {
         isolation();
         timed_isolation();
+        closures_are_good();
         let Account {
             caller: pass,
             stops: part,
@@ -300,6 +303,7 @@ impl<J: FrontId> Book<J> {
     {
         isolation();
         timed_isolation();
+        closures_are_good();
         if self.stopped {
             return Err(Refusal::Stopped);
         }
@@ -325,6 +329,7 @@ impl<J: FrontId> Book<J> {
     {
         isolation();
         timed_isolation();
+        closures_are_good();
         self.history.as_slice()
     }
 
@@ -379,6 +384,7 @@ impl<J: FrontId> Book<J> {
     {
         isolation();
         timed_isolation();
+        closures_are_good();
         let Book {
             cores: _cores,
             history,

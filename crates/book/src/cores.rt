@@ -20,6 +20,7 @@ use crate::publisher::Publisher;
 use history::{FrontId, Row};
 use laws::{isolation, timed_isolation};
 use model::Refusal;
+use repair::closures_are_good;
 use schedule::{Core, Event, Ready, Reply};
 use std::alloc::{AllocError, Global};
 use std::marker::Model;
@@ -274,6 +275,7 @@ impl Cores {
     {
         isolation();
         timed_isolation();
+        closures_are_good();
         let Cores {
             shown,
             other,

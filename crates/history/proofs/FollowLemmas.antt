@@ -2,7 +2,7 @@
 use Rattle.std.proofs.Common.{◌≡◌, ℕ, false, List, [], ◌∷◌, ◌++◌, refl, ap, ◌∙◌, subst, Result, Ok, Err}
 use Rattle.std.specs.Prelude.{All, Contains, IfOk}
 use Rattle.model.specs.declared.refusal.Refusal.{Refusal}
-use Rattle.std.proofs.lemmas.List.Elements.{All-contains_itself}
+use Rattle.std.proofs.lemmas.List.Elements.{All-push, All-contains_itself}
 use Rattle.model.specs.Paths.{NoClash}
 use Rattle.model.specs.Worlds.{Setup, World, nothing}
 use Rattle.model.specs.Events as events
@@ -10,7 +10,8 @@ use Rattle.model.specs.Replies as replies
 use Rattle.model.specs.Steps.{world_after, after, reply_to}
 use Rattle.model.specs.Replies.{is_memory}
 use Rattle.model.specs.HashedTexts.{hashed, texts_of_event}
-use Rattle.model.specs.GivenClosures.{GivesGoodClosure, KeepsGoodClosure}
+use Rattle.model.specs.GivenClosures.{GivesGoodClosure, KeepsGoodClosure, GiveGoodClosures}
+use Rattle.repair.specs.GoodClosures.{IsWellFormed, ClosuresAreGood}
 use Rattle.events.specs.declared.event.Event.{Event}
 use Rattle.events.specs.declared.reply.Reply.{Reply}
 use Rattle.events.specs.Terms.{event_of, reply_of}
@@ -33,7 +34,6 @@ record Goes (setup : Setup) (rows : List Row) (e : events.Event) (given : replie
   reply : given ≡ reply_to setup (world_after setup nothing (events_of rows)) e
   world : world_of new ≡ after setup (world_after setup nothing (events_of rows)) e
   hashes : HasHashed texts new
-  good : GivesGoodClosure setup (world_after setup nothing (events_of rows)) e × KeepsGoodClosure setup (world_after setup nothing (events_of rows)) e
 
 goes : (old new : Core) (rows : List Row) (e : events.Event) (reply : replies.Reply) → Follows (setup_of old) old rows → is_memory reply ≡ false
     → IsCoreStep old e reply new
@@ -51,25 +51,37 @@ goes old new rows e reply f some steps texts clean inside =
       reply = stepped.told ∙ ap (λ (w : World). reply_to setup w e) before.world;
       world = stepped.world ∙ ap (λ (w : World). after setup w e) before.world;
       hashes = steps.hashed texts before.hashes here;
-      good = subst (λ (w : World). GivesGoodClosure setup w e × KeepsGoodClosure setup w e) before.world (steps.good texts clean before.hashes here some);
     }
 
+-- the closure that the last of some events is given, or that it keeps, is good
+pub good_last : (setup : Setup) (w : World) (es : List events.Event) (e : events.Event) → GiveGoodClosures setup w (es ++ e ∷ [])
+    → GivesGoodClosure setup (world_after setup w es) e × KeepsGoodClosure setup (world_after setup w es) e
+unfolding world_after GiveGoodClosures
+good_last setup w [] e good = (good.0, good.1)
+good_last setup w (x ∷ es) e good = good_last setup (after setup w x) es e good.2
+
 -- what it answers to what is only read
-reads : (core : Core) (rows : List Row) (e : Event) (reply : Reply) → Follows (setup_of core) core rows → IsCoreStep core (event_of e) (reply_of reply) core
+reads : ClosuresAreGood → (core : Core) (rows : List Row) (e : Event) (reply : Reply) → Follows (setup_of core) core rows → IsCoreStep core (event_of e) (reply_of reply) core
     → IsModelRead (setup_of core) rows e reply
-reads core rows e reply f steps = record {
+reads law core rows e reply f steps = record {
   told = λ some.
       let texts : List (List ℕ) = hashed (setup_of core) nothing (events_of rows ++ event_of e ∷ []) in
       let now : NoClash texts → Goes (setup_of core) rows (event_of e) (reply_of reply) core texts =
       λ clean. goes core core rows (event_of e) (reply_of reply) f (some_memory reply some) steps texts clean (All-contains_itself texts) in
-      record { same = λ clean. (now clean).reply; good = λ clean. (now clean).good };
+      record {
+        same = λ clean. (now clean).reply;
+        good = λ clean.
+            good_last (setup_of core) nothing (events_of rows) (event_of e)
+            (law (setup_of core) (events_of rows ++ event_of e ∷ [])
+            (All-push (λ (x : events.Event). IsWellFormed x.request) (events_of rows) (event_of e) f.well_formed steps.well_formed) clean);
+      };
   going = λ stopped. steps.going refl (ap reply_of stopped);
 }
 
 -- so does what is served of what it finds
-pub finds : (core : Core) (rows : List Row) (e : Event) (found : ReadResult) → Follows (setup_of core) core rows
+pub finds : ClosuresAreGood → (core : Core) (rows : List Row) (e : Event) (found : ReadResult) → Follows (setup_of core) core rows
     → ((reply : Reply) → IsServedFrom found reply → IsCoreStep core (event_of e) (reply_of reply) core) → FindsRead (setup_of core) rows e found
-finds core rows e found f steps = λ reply from. reads core rows e reply f (steps reply from)
+finds law core rows e found f steps = λ reply from. reads law core rows e reply f (steps reply from)
 
 -- the values that it makes are those that are needed after the rows
 prepares : (core : Core) (rows : List Row) (e : events.Event) (ready : Ready) → Follows (setup_of core) core rows → IsPrepared core e ready

@@ -7,6 +7,7 @@ use Rattle.model.specs.Reach.{is_among}
 use Rattle.model.specs.Worlds.{Setup, nothing}
 use Rattle.model.specs.Steps.{world_after}
 use Rattle.model.specs.HashedTexts.{hashed}
+use Rattle.repair.specs.GoodClosures.{AreWellFormed}
 use Rattle.schedule.specs.declared.state.Core.{Core}
 use Rattle.schedule.specs.Standing.{world_of, HasHashed}
 use Rattle.schedule.specs.declared.work.Ready.{Ready}
@@ -26,8 +27,9 @@ pub record HasReached (setup : Setup) (core : Core) (texts : List (List ℕ)) (r
   pub world : world_of core ≡ world_after setup nothing (events_of rows)
   pub hashes : HasHashed texts core
 
--- so it is wherever texts have no clash and all that the events hash is among them
+-- so it is wherever texts have no clash and all that the events hash is among them; and the events are well formed
 pub record Follows (setup : Setup) (core : Core) (rows : List Row) : Type 0 where
+  pub well_formed : AreWellFormed (events_of rows)
   pub reached : (texts : List (List ℕ)) → NoClash texts → All (Contains texts) (hashed setup nothing (events_of rows)) → HasReached setup core texts rows
 
 -- a reply to an event that is read after these rows: it is the model's, or that memory was refused

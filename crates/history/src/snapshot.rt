@@ -14,6 +14,7 @@ use crate::history_prefix::HistoryPrefix;
 use crate::law::Shown;
 use left_right::Absorb;
 use model::Refusal;
+use repair::closures_are_good;
 use schedule::{Core, Preparation, PrepareInput, Query, ReadResult};
 use std::alloc::{AllocError, Global};
 use std::marker::Model;
@@ -135,6 +136,7 @@ impl Snapshot {
     pub fn look(&self, query: &Query) -> ReadResult
         ensures { FindsRead (setup_in self.now.name) self.now.seen (event_for query.now) result }
     {
+        closures_are_good();
         self.core.look(self.alloc, query)
     }
 

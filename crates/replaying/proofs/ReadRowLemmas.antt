@@ -19,13 +19,7 @@ use Rattle.history.specs.declared.row.Row.{Row}
 use Rattle.history.specs.Histories.{event_in, events_of, answers_of, unrecorded, IsLegal, IsToldAfter}
 use Rattle.history.proofs.HistoryLemmas.{answers_push, hashed_push, events_push, rows_push, legal_none}
 use Rattle.history.proofs.LegalLemmas.{legal_with}
-
--- the closure that the last of some events is given, or that it keeps, is good
-good_last : (setup : Setup) (w : World) (events : List Event) (e : Event) → GiveGoodClosures setup w (events ++ e ∷ [])
-    → GivesGoodClosure setup (world_after setup w events) e × KeepsGoodClosure setup (world_after setup w events) e
-unfolding world_after GiveGoodClosures
-good_last setup w [] e good = (good.0, good.1)
-good_last setup w (x ∷ events) e good = good_last setup (after setup w x) events e good.2
+use Rattle.history.proofs.FollowLemmas.{good_last}
 
 -- where no two of some texts clash, no two of texts among them do
 clean_among : (xs ys : List (List ℕ)) → All (Contains ys) xs → NoClash ys → NoClash xs

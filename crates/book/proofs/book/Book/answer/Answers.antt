@@ -66,7 +66,7 @@ stop_counted g c one = c.audit-2.ensures.whole (c.requires.part ∙ sym one) ∙
 legal_then : (g : Over) (c : After-audit-2 g) → IsLegal g.J.FrontId.setup (map arc_value c.self.inside.history.items)
 legal_then g c =
     let inside = c.self.inside in
-    is_legal g.J.FrontId.setup inside.cores inside.stopped (map arc_value inside.history.items) c.self.invariant.0 c.isolation.ensures c.timed_isolation.ensures
+    is_legal g.J.FrontId.setup inside.cores inside.stopped (map arc_value inside.history.items) c.self.invariant.0 c.isolation.ensures c.timed_isolation.ensures c.closures_are_good.ensures
 
 -- ---- where the book was stopped before
 
@@ -380,7 +380,7 @@ returns g c =
         counted_stop = λ stops. absurd (not_true c.if-stopped.false stops.1);
         no_stop = λ _. c.audit-2.ensures.amount;
         stops_alone = stop_counted g then;
-        legal = rw (rows_now g c) (is_legal g.J.FrontId.setup c.take.new.self false _ (kept_now g c) c.isolation.ensures c.timed_isolation.ensures);
+        legal = rw (rows_now g c) (is_legal g.J.FrontId.setup c.take.new.self false _ (kept_now g c) c.isolation.ensures c.timed_isolation.ensures c.closures_are_good.ensures);
       };
       part = c.audit-2.ensures.parts ∙ c.requires.part;
     }

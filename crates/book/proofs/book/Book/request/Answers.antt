@@ -23,7 +23,7 @@ returns-clause-alone g c = only_pass g ((goal.at.returns-clause-alone g c).After
 pub returns-clause-legal : goal.returns-clause-legal
 returns-clause-legal g c =
     rw (← c.self.view_is) (is_legal g.J.FrontId.setup c.self.inside.cores c.self.inside.stopped (map arc_value c.self.inside.history.items)
-    c.self.invariant.0 c.isolation.ensures c.timed_isolation.ensures)
+    c.self.invariant.0 c.isolation.ensures c.timed_isolation.ensures c.closures_are_good.ensures)
 
 pub returns-clause-reached : goal.returns-clause-reached
 returns-clause-reached g c = rw (← c.self.view_is) (λ going clean.
@@ -33,4 +33,4 @@ returns-clause-reached g c = rw (← c.self.view_is) (λ going clean.
 pub returns-then-stopped-clause-legal : goal.returns-then-stopped-clause-legal
 returns-then-stopped-clause-legal g c =
     rw (← c.self.view_is) (is_legal g.J.FrontId.setup c.self.inside.cores c.self.inside.stopped (map arc_value c.self.inside.history.items)
-    c.self.invariant.0 c.isolation.ensures c.timed_isolation.ensures)
+    c.self.invariant.0 c.isolation.ensures c.timed_isolation.ensures c.closures_are_good.ensures)

@@ -17,7 +17,7 @@ change-requires-clause-follows g c =
     kept_swept g.J.FrontId.setup old.cores c.sweep.new.self false rows going c.sweep.ensures.setup c.sweep.ensures.world c.sweep.ensures.hashed in
     subst (λ (x : Core × List Row). IsFollowing g.J.FrontId.setup x.0 x.1)
     (λ i. (sym c.owner.ensures i, sym (ap (λ (p : Published). p.rows) c.settle.ensures.same ∙ c.self.invariant.6) i))
-    (may_follow g.J.FrontId.setup c.sweep.new.self rows kept c.isolation.ensures c.timed_isolation.ensures)
+    (may_follow g.J.FrontId.setup c.sweep.new.self rows kept c.isolation.ensures c.timed_isolation.ensures c.closures_are_good.ensures)
 
 pub invariant_of-self-then-not-change : goal.invariant_of-self-then-not-change
 invariant_of-self-then-not-change g c =

@@ -55,7 +55,7 @@ put-requires-clause-follows g c =
     subst (λ (x : List Row × Row). IsFollowing g.J.FrontId.setup new (x.0 ++ x.1 ∷ []))
     (λ i. (sym (ap (λ (p : Published). p.rows) c.settle.ensures.same) i, sym c.deref.ensures i))
     (may_follow g.J.FrontId.setup new (c.args.publisher.now.rows ++ done ∷ [])
-    (goes_on g.J.FrontId.setup old new c.args.publisher.now.rows done c.requires.kept some steps) c.isolation.ensures c.timed_isolation.ensures)
+    (goes_on g.J.FrontId.setup old new c.args.publisher.now.rows done c.requires.kept some steps) c.isolation.ensures c.timed_isolation.ensures c.closures_are_good.ensures)
 
 -- where the row is not published, the core has taken the event
 pub returns-then-not-put-clause-lost : goal.returns-then-not-put-clause-lost

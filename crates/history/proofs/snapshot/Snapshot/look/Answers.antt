@@ -10,5 +10,5 @@ pub returns : goal.returns
 returns c =
     let rows = c.self.inside.seen.seen.log in
     rw (← c.self.view_is) (subst (λ setup. FindsRead setup rows (event_for c.args.query.now) c.look.result) (ap setup_of c.deref.ensures)
-    (finds c.deref.result.now rows (event_for c.args.query.now) c.look.result
+    (finds c.closures_are_good.ensures c.deref.result.now rows (event_for c.args.query.now) c.look.result
     (subst (λ (core : Core). Follows (setup_of core) core rows) (sym c.deref.ensures) c.self.invariant) c.look.ensures))

@@ -17,7 +17,7 @@ use Rattle.schedule.proofs.state.Core.step_ready_with_copy.Goals as goal
 pub returns-in_default : goal.returns-in_default
 returns-in_default c =
     let old = c.args.self.now in
-    rw c.refused.ensures (has_refused c.one_tree_at_a_path.ensures c.never_fails.ensures old old (event_of c.args.event) UnknownUser
+    rw c.refused.ensures (has_refused c.one_tree_at_a_path.ensures c.never_fails.ensures old old (event_of c.args.event) UnknownUser c.sound.ensures
     (stranger (parts_of old.state) (event_of c.args.event) old.state.run.sound old.state.run.goals_sound old.state.run.within (sym c.in_default.ensures)))
 
 pub handle-handled-requires-clause-named : goal.handle-handled-requires-clause-named
@@ -36,13 +36,13 @@ handled c =
 pub returns-in-Ok : goal.returns-in-Ok
 returns-in-Ok c =
     let old = c.args.self.now in
-    has_served old _ (event_of c.args.event) c.in-Ok.reply
+    has_served old _ (event_of c.args.event) c.in-Ok.reply c.sound.ensures
     (subst (λ (r : Result Reply Refusal). IsHandled (parts_of old.state) (event_of c.args.event) r (parts_of c.handle-handled.new.state)) c.in-Ok.is
     (handled ((goal.at.returns-in-Ok c).After-handle-handled)))
 
 pub returns-in-Err : goal.returns-in-Err
 returns-in-Err c =
     let old = c.args.self.now in
-    rw c.refused-in-Err.ensures (has_refused c.one_tree_at_a_path.ensures c.never_fails.ensures old _ (event_of c.args.event) c.in-Err.refusal
+    rw c.refused-in-Err.ensures (has_refused c.one_tree_at_a_path.ensures c.never_fails.ensures old _ (event_of c.args.event) c.in-Err.refusal c.sound.ensures
     (subst (λ (r : Result Reply Refusal). IsHandled (parts_of old.state) (event_of c.args.event) r (parts_of c.handle-handled.new.state)) c.in-Err.is
     (handled ((goal.at.returns-in-Err c).After-handle-handled))))
