@@ -141,7 +141,7 @@ module _ (users : List (List ℕ)) (limit : ℕ) (trust : ℕ → ℕ → Bool) 
   refused_so why other no_clash is =
       goals_handled setup w actor (trusted_at users trust place) own own table d request (Err why) d_sound own_sound (λ was. was) refl (λ fault. is)
       (search rules)
-      (λ second quick o. (let same : why ≡ second = cc in ap Err same)) (λ free lacks. other (let memory : why ≡ Memory = cc in memory)) no_clash refl tt
+      (λ second quick o. (let same : why ≡ second = cc in ap Err same)) (λ free lacks. other (let memory : why ≡ Memory = cc in memory)) no_clash refl
 
   -- there is none
   pub forget_absent : list_any (is_recorded_at class path) d.records ≡ false
@@ -179,7 +179,6 @@ module _ (users : List (List ℕ)) (limit : ℕ) (trust : ℕ → ℕ → Bool) 
             taken = λ clash. cc;
             clashes = λ clash. cc;
             stored = refl;
-            given = tt;
           };
           kept = search rules;
           sound = sound_let_go class path table own own_sound;

@@ -15,7 +15,7 @@ use Rattle.model.specs.Worlds.{Source, Record, Setup, Desk, Pin, World, Goal, En
 use Rattle.model.specs.Events as events
 use Rattle.model.specs.Replies as replies
 use Rattle.model.specs.Outcomes.{Observation, observation_of, view_of, becomes}
-use Rattle.model.specs.ClosureRequests.{closure}
+use Rattle.model.specs.ClosureRequests.{closure_for, closure}
 use Rattle.model.specs.Choices.{Plan, choose, small_plan, plan_by, closure_plan}
 use Rattle.model.specs.Repairs.{serve_all}
 use Rattle.model.specs.Replies.{is_refused, is_clash_refusal}
@@ -40,7 +40,6 @@ use Rattle.handlers.specs.Stored.{stored_by}
 use Rattle.handlers.specs.Sound.{desk_of, IsSound, IsClosure}
 use Rattle.events.specs.Terms.{reply_of}
 use Rattle.handlers.specs.Parts.{beside_at, desk_among}
-use Rattle.handlers.specs.Given.{HasSoundPlan}
 use Rattle.handlers.specs.Serving.{AreServed, AreNotServed, AtPlace, IsServedAt, IsPlanned, IsNotPlanned, IsPlannedAt, MayServe}
 use Rattle.handlers.specs.Handling.{Fits, RefusedAtOnce, IsHandledKeeping, IsHandledByObservation}
 use Rattle.handlers.specs.Viewing.{bare, desk_at, IsView}
@@ -83,9 +82,8 @@ module _ (users : List (List ℕ)) (limit : ℕ) (trust : ℕ → ℕ → Bool) 
       → Fits (outcome setup (observation_of setup world actor) request) (world actor) result
       → IfOk result (λ r. is_refused (reply_of r) ≡ false) → RefusedAtOnce (outcome setup (observation_of setup world actor) request) result
       → TakesMemory request → IfErr result (λ why. is_clash_refusal why ≡ false) → OnOk result (table ≡ put_all (stored_by setup world actor request) table)
-      → OnOk result (HasSoundPlan setup world actor request)
       → IsHandledKeeping setup world actor (beside_at users trust goals place) table (desk_at desks place) request result table (desk_at desks place)
-  left_there request result sound fits answered at_once takes no_clash stored plans = record {
+  left_there request result sound fits answered at_once takes no_clash stored = record {
     handled = record {
       serves = subst (λ (d : Desk). Fits (outcome setup (observation_of setup world actor) request) d result) his_desk fits;
       answered = answered;
@@ -98,7 +96,6 @@ module _ (users : List (List ℕ)) (limit : ℕ) (trust : ℕ → ℕ → Bool) 
       taken = λ clash. (let no = rw clash at no_clash in cc);
       clashes = λ clash. (let no = rw clash at no_clash in cc);
       stored = stored;
-      given = plans;
     };
     gains = gains_nothing (desk_at desks place);
   }
@@ -183,17 +180,16 @@ closure_at_once s class result = closure_cases (λ o. RefusedAtOnce o result) s 
 
 pub closure_handled : (trust : ℕ → ℕ → Bool) (limit : ℕ) (table : List Source) (desks : List Holdings) (place : ℕ) (class : List ℕ) (entries : List
     Entry) (reply : Rust.Reply)
-    → AtPlace trust table desks place (λ setup w u. AreServed setup w u class entries) → reply_of reply ≡ replies.Closure entries
+    → AtPlace trust table desks place (λ setup w u. closure_for (observation_of setup w u) class ≡ Ok entries) → reply_of reply ≡ replies.Closure entries
     → IsHandledByObservation trust limit table desks place (events.Closure class) (Ok reply) table (desk_at desks place)
 unfolding outcome
 closure_handled trust limit table desks place class entries reply served told users goals actor listed found paired sound within =
     let s : Setup = record { users = users; charge = limit } in
     let w : World = world users limit trust goals table desks actor place listed found paired within in
     left_there users limit trust goals table desks actor place listed found paired within (events.Closure class) (Ok reply) sound
-    (ap (λ o. then_do o (λ es. becomes (w actor) (replies.Closure es))) (served users limit goals actor listed found paired within).are
+    (ap (λ o. then_do o (λ es. becomes (w actor) (replies.Closure es))) (served users limit goals actor listed found paired within)
     ∙ ap (becomes (w actor)) (sym told))
-    (rw told refl) (closure_at_once (observation_of s w actor) class (Ok reply)) (λ reply. refl) (search rules) refl (served users limit goals actor
-    listed found paired within).sound
+    (rw told refl) (closure_at_once (observation_of s w actor) class (Ok reply)) (λ reply. refl) (search rules) refl
 
 pub closure_refused : (trust : ℕ → ℕ → Bool) (limit : ℕ) (table : List Source) (desks : List Holdings) (place : ℕ) (class : List ℕ) (why : Refusal)
     → AtPlace trust table desks place (λ setup w u. AreNotServed setup w u class why)
@@ -209,15 +205,15 @@ closure_refused trust limit table desks place class why refused users goals acto
       | inr is ↦ ap (λ o. then_do o (λ es. becomes (w actor) (replies.Closure es))) is
     ])
     (search rules) (closure_at_once (observation_of s w actor) class (Err why)) (λ reply. refl) (unserved_no_clash s w actor class why none) (search rules)
-    (search rules)
 
 -- and so is one that is served of a plan, or says why there is none
 pub handled_of_plan : (trust : ℕ → ℕ → Bool) (limit : ℕ) (table : List Source) (desks : List Holdings) (place : ℕ) (class : List ℕ)
     (planned : Result Plan Refusal) (given : Result Rust.Reply Refusal) → IsPlannedAt trust table desks place class planned → MayServe planned given
     → IsHandledByObservation trust limit table desks place (events.Closure class) given table (desk_at desks place)
 handled_of_plan trust limit table desks place class (Ok p) (Ok reply) planned served =
-    closure_handled trust limit table desks place class served.entries reply (served_of_plan trust table desks place class p served.entries planned
-    served.are served.sound) served.told
+    closure_handled trust limit table desks place class served.entries reply
+    (λ users limit goals actor listed found paired within. ap (λ o. then_do o served_plan) (planned users limit goals actor listed found paired within)
+    ∙ served.are) served.told
 handled_of_plan trust limit table desks place class (Ok p) (Err why) planned served =
     closure_refused trust limit table desks place class why (refused_of_plan trust table desks place class p why planned served)
 handled_of_plan trust limit table desks place class (Err why) given none is =

@@ -32,7 +32,6 @@ use Rattle.handlers.specs.Sound.{Beside, desk_of, IsSound, AreGoalsSound, IsHash
 use Rattle.events.specs.Terms.{reply_of}
 use Rattle.handlers.specs.Parts.{goals_of, beside_at, Parts, parts, world_in, desk_among}
 use Rattle.handlers.specs.Viewing.{bare}
-use Rattle.handlers.specs.Given.{HasSoundPlan}
 use Rattle.handlers.specs.Handling.{Fits, Serves, ServesAtOnce, Stores, IsKept, AreKept, IsHandledKeeping, IsHandledBeside, IsHandledAtDesk, IsHandledByDesk, IsHandledWithGoals, IsHandledByObservation, IsHandledAtPlace, IsHandledByGoals, IsReadAtPlace, AddsEntry, HasAddedDerivation, IsHandled, is_fault}
 use Rattle.handlers.proofs.DeskLemmas.{sound_kept}
 use Rattle.handlers.proofs.DerivationLemmas.{derivation_read}
@@ -152,7 +151,6 @@ module _ (old : Parts) (e : Event) (i : ℕ) (asks : Asks old e.actor i) where
         taken = handled.taken;
         clashes = λ clash texts hashed inside. handled.clashes clash texts hashed (rw own at inside);
         stored = handled.stored;
-        given = handled.given;
       }
 
   -- where his goals stay
@@ -255,7 +253,6 @@ all_left old e why sound goals_sound within is no_fault = record {
   taken = λ clash. (let same : why ≡ Clash = cc in let no = rw same at no_fault in cc);
   clashes = λ clash. (let same : why ≡ Clash = cc in let no = rw same at no_fault in cc);
   stored = search rules;
-  given = search rules;
 }
 
 -- a stranger is refused
@@ -272,13 +269,13 @@ is_left table desk (Err why) = record { sources = refl; desk = refl }
 
 -- what is left as it was, by a request that is refused at a desk
 pub left : (beside : Beside) (limit : ℕ) (table : List Source) (desk : Holdings) (request : Request) (result : Result Rust.Reply Refusal)
-    → IsSound table limit desk → ((setup : Setup) (w : World) (u : List ℕ) → HasSoundPlan setup w u request)
+    → IsSound table limit desk
     → ((users : List (List ℕ)) → Serves (record { users = users; charge = limit }) (desk_of beside table desk) request (desk_of beside table desk) result)
     → ServesAtOnce (desk_of beside table desk) request result → TakesMemory request → IfOk result (λ r. is_refused (reply_of r) ≡ false)
     → IfErr result (λ why. is_clash_refusal why ≡ false)
     → OnOk result (Stores table (desk_of beside table desk) request table)
     → IsHandledBeside beside limit table desk request result table desk
-left beside limit table desk request result sound plans serves at_once takes answered no_clash stored users w u here = record {
+left beside limit table desk request result sound serves at_once takes answered no_clash stored users w u here = record {
   handled = record {
     serves = serves users (observation_of (record { users = users; charge = limit }) w u) here;
     answered = answered;
@@ -291,7 +288,6 @@ left beside limit table desk request result sound plans serves at_once takes ans
     taken = λ clash. (let no = rw clash at no_clash in cc);
     clashes = λ clash. (let no = rw clash at no_clash in cc);
     stored = on_ok_weaker result (λ stores. stores (record { users = users; charge = limit }) w u here) stored;
-    given = on_ok_any result _ (plans (record { users = users; charge = limit }) w u);
   };
   gains = gains_nothing desk;
 }
@@ -305,13 +301,12 @@ pub entry_handled : (beside : Beside) (limit : ℕ) (old new : List Source) (bef
     → ServesAtOnce (desk_of beside old before) request result → TakesMemory request
     → ((setup : Setup) (w : World) (u : List ℕ) → w u ≡ desk_of beside old before → stored_by setup w u request ≡ s ∷ [])
     → ((setup : Setup) (w : World) (u : List ℕ) → tried_by setup w u request ≡ stored_by setup w u request)
-    → ((setup : Setup) (w : World) (u : List ℕ) → HasSoundPlan setup w u request)
     → ((texts : List (List ℕ)) (setup : Setup) (w : World) (u : List ℕ) → w u ≡ desk_of beside old before → All (Contains texts) (texts_of setup w u request) → IsHashed texts s)
     → AddsEntry limit old before entry tree result new now → IfOk result (λ r. is_refused (reply_of r) ≡ false)
     → OnOk result (IsAdded (entry_path entry) tree old new) → OnOk result (IsSound new limit now) → OnErr result (IsKept old new before now)
     → GainsOnly before now → (result ≡ Err Clash → IsTaken old (entry_path entry) tree)
     → IsHandledBeside beside limit old before request result new now
-entry_handled beside limit old new before now request entry tree result sound asks at_once takes stores tries plans hashes adds answered stored sound_now kept gains taken =
+entry_handled beside limit old new before now request entry tree result sound asks at_once takes stores tries hashes adds answered stored sound_now kept gains taken =
     λ users w u here.
     let s : Source = record { path = entry_path entry; tree = tree } in
     let setup : Setup = record { users = users; charge = limit } in
@@ -339,7 +334,6 @@ entry_handled beside limit old new before now request entry tree result sound as
               two_trees = had.other;
             };
         stored = on_ok_weaker result (λ more. rw (stores setup w u here) more) stored;
-        given = on_ok_any result _ (plans setup w u);
       };
       gains = gains;
     }
@@ -356,7 +350,7 @@ pub source_handled : (beside : Beside) (limit : ℕ) (old new : List Source) (be
 unfolding outcome
 source_handled beside limit old new before now name tree path result sound is whole =
     entry_handled beside limit old new before now (AddSource name tree) (entry.Source path) tree result sound
-    (λ setup observation same. rw (same, is) refl) (source_at_once (desk_of beside old before) name tree result) (λ reply. refl) (λ setup w u here. rw is refl) (λ setup w u. refl) (λ setup w u. tt)
+    (λ setup observation same. rw (same, is) refl) (source_at_once (desk_of beside old before) name tree result) (λ reply. refl) (λ setup w u here. rw is refl) (λ setup w u. refl)
     (λ texts setup w u here inside. rw is (source_hashed texts name tree whole inside))
 
 fetch_fits : (setup : Setup) (d : Desk) (path : List ℕ) (tree : Tree) (result : Result Rust.Reply Refusal) → held_at path d ≡ Some tree
@@ -381,7 +375,7 @@ pub fetch_handled : (beside : Beside) (limit : ℕ) (table : List Source) (desk 
     → IsHandledBeside beside limit table desk (Fetch path) result table desk
 unfolding outcome
 fetch_handled beside limit table desk path tree result sound there content memory =
-    left beside limit table desk (Fetch path) result sound (λ setup w u. tt)
+    left beside limit table desk (Fetch path) result sound
     (λ users observation same. rw same (fetch_fits (record { users = users; charge = limit }) (desk_of beside table desk) path tree result there content memory))
     (fetch_at_once (desk_of beside table desk) path result (λ none. let no = sym there ∙ none in cc)) (λ reply. refl) (fetch_answered tree result content)
     (no_clash_of_memory result memory) (on_ok_any result (Stores table (desk_of beside table desk) (Fetch path) table) (λ setup w u here. refl))
@@ -407,7 +401,6 @@ derivation_handled beside limit table before now text derivation result within r
     taken = λ clash. (let no = rw clash at added.no_clash in cc);
     clashes = λ clash. (let no = rw clash at added.no_clash in cc);
     stored = on_ok_any result _ refl;
-    given = on_ok_any result _ tt;
   };
   gains = added.gains;
 }

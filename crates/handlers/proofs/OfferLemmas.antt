@@ -65,7 +65,7 @@ module _ (beside : Beside) (limit : ℕ) (table : List Source) (d : Holdings) (p
       → IsHandledBeside beside limit table d (Offer path tree) (Err UnknownDerivation) table d
   unfolding outcome
   unknown_handled sound none =
-      left beside limit table d (Offer path tree) (Err UnknownDerivation) sound (λ setup w u. tt) (λ users observation same own. rw (
+      left beside limit table d (Offer path tree) (Err UnknownDerivation) sound (λ users observation same own. rw (
         same,
         known_there None none,
       ) refl)
@@ -100,7 +100,7 @@ module _ (beside : Beside) (limit : ℕ) (table : List Source) (d : Holdings) (p
       → IsHandledBeside beside limit table d (Offer path tree) (Err why) table d
   unfolding outcome
   refused_handled a why sound known refused =
-      left beside limit table d (Offer path tree) (Err why) sound (λ setup w u. tt) (λ users observation same. rw same (refusal_fits a why known
+      left beside limit table d (Offer path tree) (Err why) sound (λ users observation same. rw same (refusal_fits a why known
       refused (record { users = users; charge = limit })))
       (offer_at_once (desk_of beside table d) path tree (Err why) (λ absent. (let no = sym (known_there (Some a) known)
       ∙ absent in cc))) (λ reply. refl) (search rules) (refusal_no_clash a why refused) (search rules)
@@ -122,7 +122,7 @@ module _ (beside : Beside) (limit : ℕ) (table : List Source) (d : Holdings) (p
       ap (λ e. output_stored e tree (known_at (known_of e) path)) here ∙ ap (output_stored (desk_of beside table d) tree) (known_there (Some a) known)
       ∙ ap (λ ls. settled_source (output_settled ls a tree)) (sym (output.candidates beside table)) ∙ ap settled_source output.is
       ∙ ap (λ s. s ∷ []) same_source)
-      (λ setup w u. refl) (λ setup w u. tt)
+      (λ setup w u. refl)
       (λ texts setup w u here inside. output_hashed texts beside table d a tree settled r path output known (rw here at inside))
     where
       same_source : ◌≡◌ {A = Source} (record { path = output.settled.path; tree = output.settled.tree }) (record { path = r.path; tree = settled })

@@ -193,7 +193,7 @@ module _ (law : ServedAreMade) (trust : ℕ → ℕ → Bool) (limit : ℕ) (old
         | inr is ↦ ap (λ o. then_do o (take_entries s (w actor) class)) is
       ])
       (search rules) (take_at_once s (observation_of s w actor) class (Err why)) (λ reply. refl) (unserved_no_clash s w actor class why none)
-      (search rules) (search rules)
+      (search rules)
 
   module _ (entries : List Entry) (served : AtPlace trust old desks place (λ setup w u. AreServed setup w u class entries)) where
     -- memory was refused, or nothing serves the class
@@ -211,7 +211,7 @@ module _ (law : ServedAreMade) (trust : ℕ → ℕ → Bool) (limit : ℕ) (old
               ∙ ap (λ o. need NotRealised o (λ p. room s (with_entries entries (w actor)) (replies.Path p))) none.1 ∙ ap Err (sym none.0)
         ])
         (search rules) (take_at_once s (observation_of s w actor) class (Err why)) (λ reply. refl)
-        (elim refused [ inl memory ↦ rw memory refl | inr none ↦ rw none.0 refl ]) (search rules) (search rules)
+        (elim refused [ inl memory ↦ rw memory refl | inr none ↦ rw none.0 refl ]) (search rules)
 
     module _ (path : List ℕ) (named : path_for class entries ≡ Some path) (new : List Source) (after : Holdings) where
       -- it is taken
@@ -242,7 +242,6 @@ module _ (law : ServedAreMade) (trust : ℕ → ℕ → Bool) (limit : ℕ) (old
               taken = λ clash. cc;
               clashes = λ clash. cc;
               stored = copies.stored ∙ ap (λ o. put_all (taken_sources o) old) (sym mine.are);
-              given = tt;
             };
             gains = copies.gains;
           }
@@ -279,7 +278,6 @@ module _ (law : ServedAreMade) (trust : ℕ → ℕ → Bool) (limit : ℕ) (old
                   (entries_hashed law users limit trust goals old desks actor (class ∷ []) [] entries sound mine.are mine.sound texts hashed inside)
                   (copies.taken (ap Err is));
               stored = search rules;
-              given = search rules;
             };
             gains = copies.gains;
           }

@@ -21,7 +21,6 @@ use Rattle.handlers.specs.Stored.{stored_by}
 use Rattle.handlers.specs.Sound.{Beside, desk_of, IsSound, AreGoalsSound}
 use Rattle.handlers.specs.Viewing.{bare}
 use Rattle.handlers.specs.Parts.{goals_of, beside_at, parts, desk_among, IsStep}
-use Rattle.handlers.specs.Given.{HasSoundPlan}
 use Rattle.handlers.specs.Handling.{IsHandled}
 use Rattle.handlers.proofs.WorldLemmas.{IsPlace, place_found, place_is_among, no_place, desk_found}
 use Rattle.handlers.proofs.StepLemmas.{step_done}
@@ -55,10 +54,9 @@ module _ (users : List (List ℕ)) (limit : ℕ) (given : ℕ → ℕ → Bool) 
   pub trust_changed : (now : ℕ → ℕ → Bool) (request : events.Request) → place_of users actor ≡ Some i → length desks ≡ length users
       → All (IsSound table limit) desks → All (AreGoalsSound table) goals
       → IsWithin (length users) now → ((k : ℕ) → k ≢ i → trusted_at users now k ≡ trusted_at users given k) → stored_by setup world actor request ≡ []
-      → HasSoundPlan setup world actor request
       → outcome_of setup world (record { actor = actor; request = request }) ≡ becomes (desk_of (beside_at users now goals i) table before) replies.Ok
       → IsHandled (parts users limit given goals table desks) (record { actor = actor; request = request }) (Ok Rust.Ok) (parts users limit now goals table desks)
-  trust_changed now request found paired sound goals_sound within others nothing plans is =
+  trust_changed now request found paired sound goals_sound within others nothing is =
       let place : IsPlace users actor i = place_found users actor i found in
       let here : slice_get desks i ≡ Some before = place_there users desks actor i bare paired found in
       let Step : List Holdings → Type 0 = λ ds.
@@ -85,7 +83,6 @@ module _ (users : List (List ℕ)) (limit : ℕ) (given : ℕ → ℕ → Bool) 
         taken = λ clash. cc;
         clashes = λ clash. cc;
         stored = rw nothing refl;
-        given = plans;
       }
 
   -- he trusts one who is not of the run
@@ -147,7 +144,7 @@ module _ (users : List (List ℕ)) (limit : ℕ) (given : ℕ → ℕ → Bool) 
         let more : trusted_at users (with_pair i j given) i ≡ (λ name. bytes_eq name other || trusted_at users given i name) =
         trusted_added users given i j distinct named.0 ∙ ap (λ who name. bytes_eq name who || trusted_at users given i name) named.1 in
         trust_changed (with_pair i j given) (events.Trust other) found paired sound goals_sound (within_added (length users) given i j named.0 within)
-        (λ k apart. (trusted_elsewhere users given i j k apart).0) refl tt
+        (λ k apart. (trusted_elsewhere users given i j k apart).0) refl
         (rw (known, also, same_user, differs, his_desk found paired) (sym (ap D more)))
 
     -- he trusts himself
@@ -156,7 +153,7 @@ module _ (users : List (List ℕ)) (limit : ℕ) (given : ℕ → ℕ → Bool) 
         (parts users limit given goals table desks)
     unfolding outcome
     trust_own same =
-        trust_changed given (events.Trust other) found paired sound goals_sound within (λ k apart. refl) refl tt
+        trust_changed given (events.Trust other) found paired sound goals_sound within (λ k apart. refl) refl
         (rw (known, also, same_user, same, his_desk found paired) refl)
 
     -- he no longer trusts another
@@ -168,5 +165,5 @@ module _ (users : List (List ℕ)) (limit : ℕ) (given : ℕ → ℕ → Bool) 
         let less : trusted_at users (without_pair i j given) i ≡ (λ name. not (bytes_eq name other) && trusted_at users given i name) =
         trusted_removed users given i j distinct named.0 ∙ ap (λ who name. not (bytes_eq name who) && trusted_at users given i name) named.1 in
         trust_changed (without_pair i j given) (events.Distrust other) found paired sound goals_sound (within_removed (length users) given i j within)
-        (λ k apart. (trusted_elsewhere users given i j k apart).1) refl tt
+        (λ k apart. (trusted_elsewhere users given i j k apart).1) refl
         (rw (known, also, his_desk found paired) (sym (ap D less)))

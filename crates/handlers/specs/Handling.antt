@@ -25,7 +25,6 @@ use Rattle.handlers.specs.Sound.{Beside, desk_of, IsSound, AreGoalsSound, IsHash
 use Rattle.events.specs.Terms.{reply_of, shares_nothing}
 use Rattle.handlers.specs.Parts.{goals_of, beside_at, Parts, parts, world_in, stored_after, IsStep}
 use Rattle.handlers.specs.Viewing.{desk_at}
-use Rattle.handlers.specs.Given.{HasSoundPlan}
 use Rattle.handlers.specs.Supported.{AreSupportedOn, AreSupported, GainsOnly}
 
 -- whether a refusal says nothing of the model: memory was refused, or another tree is at a path
@@ -95,8 +94,6 @@ pub record IsHandledIn (setup : Setup) (w : World) (u : List ℕ) (beside : Besi
   pub taken : result ≡ Err Clash → IsTakenFor old setup w u request
   pub clashes : result ≡ Err Clash → (texts : List (List ℕ)) → All (IsHashed texts) old → All (Contains texts) (texts_of setup w u request) → Clashes texts
   pub stored : OnOk result (new ≡ put_all (stored_by setup w u request) old)
-  -- a closure that is given is of sound records
-  pub given : OnOk result (HasSoundPlan setup w u request)
 
 -- the same where his goals stay: what his desk has labelled it keeps, so that what they are built from stays on it
 pub record IsHandledKeeping (setup : Setup) (w : World) (u : List ℕ) (beside : Beside) (old : List Source) (before : Holdings) (request : Request)
@@ -193,8 +190,6 @@ pub record IsHandled (old : Parts) (event : Event) (result : Result Reply Refusa
   pub clashes : result ≡ Err Clash → (texts : List (List ℕ)) → All (IsHashed texts) old.table
       → All (Contains texts) (texts_of_event old.setup (world_in old) event) → Clashes texts
   pub stored : OnOk result (new.table ≡ stored_after old.setup (world_in old) event old.table)
-  -- a closure that is given is of sound records
-  pub given : OnOk result (HasSoundPlan old.setup (world_in old) event.actor event.request)
 
 -- the same of what reads the users alone, and changes whom the one at a place trusts: whatever is stored, and on the desks
 abbrev pub IsHandledByTrust : List (List ℕ) → ℕ → (ℕ → ℕ → Bool) → Request → Result Reply Refusal → (ℕ → ℕ → Bool) → Type 0

@@ -23,7 +23,7 @@ unfolding outcome
 returns-then-bytes-gt-MOST_DERIVATION_BYTES-clause-handled c table limit sound beside =
     let long = ap length c.bytes.ensures in
     let over : nat_le (length c.args.text.now) most_derivation_bytes ≡ false = grind (arith, nat_tests, long, c.if-bytes-gt-MOST_DERIVATION_BYTES.true) in
-    left beside limit table c.args.desk.now (AddDerivation c.args.text.now) (Err TooLarge) sound (λ setup w u. tt)
+    left beside limit table c.args.desk.now (AddDerivation c.args.text.now) (Err TooLarge) sound
     (λ users observation same own. rw same (too_large (record { users = users; charge = limit }) (desk_of beside table c.args.desk.now) c.args.text.now over))
     (derivation_at_once (desk_of beside table c.args.desk.now) c.args.text.now (Err TooLarge) (λ large. refl)) (λ reply. refl) (search rules) refl
     (search rules)
@@ -33,7 +33,7 @@ unread : (table : List Source) (d : Holdings) (text : List ℕ) (e : Refusal) �
     → IsHandledByDesk table d (AddDerivation text) (Err e) d
 unfolding outcome
 unread table d text e within none limit sound beside =
-    left beside limit table d (AddDerivation text) (Err e) sound (λ setup w u. tt)
+    left beside limit table d (AddDerivation text) (Err e) sound
     (λ users observation same. rw same (unread_fits (record { users = users; charge = limit }) (desk_of beside table d) (desk_of beside table d) text e within none))
     (derivation_at_once (desk_of beside table d) text (Err e) (λ large. let no : true ≡ false = sym within ∙ large in cc))
     (λ reply. refl) (search rules) (unread_no_clash text e none) (search rules)

@@ -39,4 +39,5 @@ returns c =
     let s = c.args.state.now in
     by_sight s c.args.place (events.Closure c.args.class.now) _
     (closure_handled (trusts s.trust) s.limits.charge s.table.sources s.desks.items c.args.place c.args.class.now c.in_ok-entries.entries.items _
-    c.in_ok-entries.ensures.served (ap reply_of c.in_ok-new-2.ensures.reply ∙ ap replies.Closure c.in_ok-new.ensures))
+    (λ users limit goals actor listed found paired within. (c.in_ok-entries.ensures.served users limit goals actor listed found paired within).are)
+    (ap reply_of c.in_ok-new-2.ensures.reply ∙ ap replies.Closure c.in_ok-new.ensures))

@@ -7,5 +7,4 @@ returns c = record {
   entries = c.in_ok-entries.entries.items;
   are = c.in_ok-entries.ensures.served;
   told = ap replies.Closure c.in_ok-new.ensures;
-  sound = c.in_ok-entries.ensures.sound;
 }

@@ -17,7 +17,7 @@ returns-in_err-path c =
     let memory : p.0 ≡ Memory = rw p.2 c.in_err-path.ensures.memory in
     let table = s.table.sources in
     rw (p.1, memory) (at_kept_desk s c.args.place c.requires d here (AddSource c.args.name.now c.args.tree) (Err Memory) (λ beside.
-    left beside s.limits.charge table d (AddSource c.args.name.now c.args.tree) (Err Memory) (sound_desk s c.args.place c.requires d here) (λ setup w u. tt)
+    left beside s.limits.charge table d (AddSource c.args.name.now c.args.tree) (Err Memory) (sound_desk s c.args.place c.requires d here)
     (λ users observation same own. cc) (source_at_once (desk_of beside table d) c.args.name.now c.args.tree (Err Memory)) (λ reply. refl) (search rules) refl
     (search rules)))
 

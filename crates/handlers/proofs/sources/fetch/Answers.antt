@@ -21,7 +21,7 @@ unfolding outcome
 returns-in-None c limit sound beside =
     let none : held_at c.args.path.now (desk_of beside c.args.table.now.sources c.args.desk.now) ≡ None =
     sym (c.in-None.ensures ∙ held_in_table beside c.args.table.now.sources limit c.args.desk.now c.args.path.now sound) in
-    left beside limit c.args.table.now.sources c.args.desk.now (Fetch c.args.path.now) (Err NotHeld) sound (λ setup w u. tt)
+    left beside limit c.args.table.now.sources c.args.desk.now (Fetch c.args.path.now) (Err NotHeld) sound
     (λ users observation same own. rw (same, none) refl)
     (fetch_at_once (desk_of beside c.args.table.now.sources c.args.desk.now) c.args.path.now (Err NotHeld) (λ absent. refl)) (λ reply. refl) (search rules)
     refl (search rules)
