@@ -1,6 +1,6 @@
 -- How the labels of a record move.
-use Rattle.std.proofs.Common.{◌≡◌, ◌⊎◌, ℕ, ◌+◌, ◌<◌, true, false, inl, inr, refl, sym, ◌∙◌, ap, subst, List, [], ◌∷◌, length, get_or, take, None, Result, Ok, Err}
-use Rattle.std.specs.Prelude.{All, MatchResult, IfOk, IfErr}
+use Rattle.std.proofs.Common.{◌≡◌, ◌⊎◌, ℕ, ◌+◌, ◌<◌, true, false, inl, inr, refl, sym, ◌∙◌, ap, subst, List, [], ◌∷◌, length, get_or, take, Option, None, Some, Result, Ok, Err}
+use Rattle.std.specs.Prelude.{All, MatchResult, IfOk, IfErr, IfSome}
 use Rattle.std.specs.List.{list_any}
 use Rattle.std.proofs.lemmas.List.{map_push}
 use Rattle.std.proofs.lemmas.List.Elements.{All-nil, All-cons, All-head, All-tail, All-push}
@@ -40,6 +40,11 @@ label_paths (l ∷ ls) all =
 pub if_any : {X E : Type 0} (o : Result X E) (P : Type 0) → P → IfOk o (λ x. P)
 if_any (Ok x) P p = p
 if_any (Err e) P p = tt
+
+-- and what follows from what is said of a value, where there is one
+pub if_some : {X : Type 0} (o : Option X) (P Q : Type 0) → (P → Q) → IfSome o (λ _. P) → IfSome o (λ _. Q)
+if_some None P Q f h = tt
+if_some (Some x) P Q f h = f h
 
 -- ---- a tree with its hash parts put anew
 

@@ -170,7 +170,11 @@ module _ (p : Plan) (o : IsInOrder p) (k : ℕ) (r : Record) (es : Served) (lt :
     | inr w ↦ ap (λ v. or_not_realised (if_below r.class.rank v)) w.1 ∙ there_low class w.0 w.1
   ]
 
-  serves_next : serve (chosen_in p.records) r.class.path ≡ served_from es r
+  -- so its labels move alike by both
+  pub same_moves : moves_of (served_in es r.class.rank) r.labels ≡ moves_of (served (chosen_in p.records) r.class.rank) r.labels
+  same_moves = ap (λ f. moves_of f r.labels) (λ j class. same_served class j)
+
+  pub serves_next : serve (chosen_in p.records) r.class.path ≡ served_from es r
   serves_next =
       serve_rank (chosen_in p.records) r.class.path r is_chosen low
       ∙ ap (λ f. then_do (moves_of f r.labels) (moved r)) (sym (λ j class. same_served class j))
@@ -183,11 +187,15 @@ module _ (p : Plan) (o : IsInOrder p) (k : ℕ) (r : Record) (es : Served) (lt :
         (each_of (chosen_in p.records) (take k p.records) es a) (serves_next ∙ e))
   ]
 
-  not_yet : (class : List ℕ) → class ≡ r.class.path → lookup (bytes_eq class) es ≡ None
-  not_yet class c = none_in (chosen_in p.records) (take k p.records) es class a (λ q h same.
-      let one : q ≡ r = o.once q r (before_there q h) there (same ∙ c) in
+  -- those before it are of other classes
+  pub others_before : (q : Record) → In q (take k p.records) → q.class.path ≡ r.class.path → ⊥
+  others_before q h same =
+      let one : q ≡ r = o.once q r (before_there q h) there same in
       let before : rank_before q r ≡ true = ascends_to (take k p.records) (r ∷ drop (suc k) p.records) q r up h (inl refl) in
-      clash (rank_before r r) (subst (λ z. rank_before z r ≡ true) one before) (irreflexive rank_before rank_before-Weak r))
+      clash (rank_before r r) (subst (λ z. rank_before z r ≡ true) one before) (irreflexive rank_before rank_before-Weak r)
+
+  not_yet : (class : List ℕ) → class ≡ r.class.path → lookup (bytes_eq class) es ≡ None
+  not_yet class c = none_in (chosen_in p.records) (take k p.records) es class a (λ q h same. others_before q h (same ∙ c))
 
   pub serve_step : (v : Record) (class : List ℕ) (new : Served) → class ≡ r.class.path
       → served_from es r ≡ Ok v

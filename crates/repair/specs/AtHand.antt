@@ -1,5 +1,5 @@
 -- Which repaired records are at hand.
-use Rattle.std.specs.Prelude.{◌≡◌, ℕ, List, ◌∷◌, map, Contains, Option, Some, bytes_eq}
+use Rattle.std.specs.Prelude.{◌≡◌, ℕ, false, List, ◌∷◌, map, Option, Some, bytes_eq}
 use Rattle.std.specs.Global.{Vec}
 use Rattle.std.specs.Map.{lookup}
 use Rattle.std.specs.Cmp.Lexicographic.{pointwise}
@@ -28,8 +28,18 @@ pub record IsKept (entries : List (Vec (List ℕ) × Repair)) (chosen : Record) 
   pub there : kept_by (paths_of_key chosen moves) entries ≡ Some one
   pub is : IsOf chosen moves one
 
--- it is among those that were made for one step
-pub record IsMade (made : List Repair) (chosen : Record) (moves : List Move) : Type 0 where
+-- ---- what is kept for one step
+
+-- by the paths of classes, what came of the records that serve them
+abbrev pub MadeRepairs : Type 0
+MadeRepairs = List (List ℕ × Repair)
+
+-- what came of a record whose labels move so is there
+pub record IsMade (made : MadeRepairs) (chosen : Record) (moves : List Move) : Type 0 where
   pub one : Repair
-  pub among : Contains made one
+  pub there : lookup (bytes_eq chosen.class.path) made ≡ Some one
   pub is : IsOf chosen moves one
+
+-- what is there for other classes than this one stays
+abbrev pub KeepsOthers : List ℕ → MadeRepairs → MadeRepairs → Type 0
+KeepsOthers class old new = (other : List ℕ) → bytes_eq other class ≡ false → lookup (bytes_eq other) new ≡ lookup (bytes_eq other) old

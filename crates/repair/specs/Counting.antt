@@ -1,11 +1,12 @@
 -- What a cache counts.
-use Rattle.std.specs.Prelude.{◌≡◌, ◌⊎◌, ◌≤◌, ⊤, ℕ, true, false, List, [], Option, None, Some}
+use Rattle.std.specs.Prelude.{◌≡◌, ◌⊎◌, ◌≤◌, ⊤, ℕ, true, false, List, [], Option, None, Some, is_some}
 use Rattle.std.specs.List.{list_any}
 use Rattle.model.specs.Worlds.{Record}
 use Rattle.model.specs.Repairs.{Move, changes_path, is_replaced_by}
 use Rattle.repair.specs.Keeping.{sizes}
-use Rattle.repair.specs.AtHand.{IsKept, IsMade}
+use Rattle.repair.specs.AtHand.{IsKept, MadeRepairs, IsMade}
 use Rattle.repair.specs.declared.kept.Kept.{Kept}
+use Rattle.repair.specs.declared.made.Made.{Made}
 use Rattle.repair.specs.declared.cache.Cache.{Cache}
 
 -- how many look-ups the records that are kept answered
@@ -33,9 +34,18 @@ abbrev pub IsAmongKept : Option Kept → Record → List Move → Type 0
 IsAmongKept None chosen moves = ⊥
 IsAmongKept (Some kept) chosen moves = IsKept kept.records.entries chosen moves
 
+-- what is kept for one step, if a cache is for one
+abbrev pub made_in : Option Made → MadeRepairs
+made_in None = []
+made_in (Some made) = made.repairs.entries
+
+-- it is for one
+abbrev pub IsForStep : Cache → Type 0
+IsForStep cache = is_some cache.made ≡ true
+
 -- it is at hand
 abbrev pub IsAtHand : Cache → Record → List Move → Type 0
-IsAtHand cache chosen moves = IsMade cache.made.items chosen moves ⊎ IsAmongKept cache.kept chosen moves
+IsAtHand cache chosen moves = IsMade (made_in cache.made) chosen moves ⊎ IsAmongKept cache.kept chosen moves
 
 -- a record whose labels move so has to be repaired, and is not refused for its own path
 abbrev pub IsToRepair : Record → List Move → Type 0

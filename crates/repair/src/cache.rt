@@ -1,13 +1,14 @@
 //! Records that were repaired, so that none has to be repaired again soon.
 
-ghost use Rattle.std.specs.Prelude.{◌≡◌, ◌≢◌, ◌⊎◌, IfOk, IfErr, IfSome, IfNone, MatchResult, None, Some, [], Ok, Err};
+ghost use Rattle.std.specs.Prelude.{◌≡◌, ◌≢◌, ◌⊎◌, IfOk, IfErr, IfSome, IfNone, MatchResult, OnOk, None, Some, is_some, [], Ok, Err};
 ghost use Rattle.classes.specs.Admitting.{one_more};
 ghost use Rattle.model.specs.Repairs.{repaired};
 ghost use Rattle.model.specs.declared.refusal.Refusal.TheVariants.{Memory};
-ghost use Rattle.repair.specs.AtHand.{IsMade, paths_of_key};
-ghost use Rattle.repair.specs.Counting.{hits_of, bound_of, IsBounded, KeepsNone, IsAmongKept, IsAtHand};
+ghost use Rattle.repair.specs.AtHand.{IsMade, KeepsOthers, paths_of_key};
+ghost use Rattle.repair.specs.Counting.{hits_of, bound_of, IsBounded, KeepsNone, IsAmongKept, IsAtHand, made_in, IsForStep};
 
 use crate::kept::Kept;
+use crate::made::Made;
 use crate::moves::Move;
 use crate::repair::{Repair, copy_of, tried};
 use model::Refusal;
@@ -31,28 +32,12 @@ fn key_of(alloc: Global, chosen: &Realisation, moves: &[Move]) -> Result<Vec<Sto
     Ok(key)
 }
 
-/// What came of a record whose labels move so, if it is among these.
-fn found<'a>(
-    made: &'a [Repair],
-    chosen: &Realisation,
-    moves: &[Move],
-) -> Option<&'a Result<Realisation, Refusal>>
-    ensures outcome { IfSome result (λ o. o.now ≡ repaired chosen.now moves.now) }
-    ensures has { IfSome result (λ _. IsMade made.now chosen.now moves.now) }
-    ensures none { IfNone result (IsMade made.now chosen.now moves.now → ⊥) }
-{
-    for one in made {
-        if let Some(outcome) = one.outcome_for(chosen, moves) {
-            return Some(outcome);
-        }
-    }
-    None
-}
-
 /// Records that were repaired, with what each was made of. Each is used only where all that is at
 /// hand again, so that whatever they are, what is served is the same.
 pub struct Cache {
-    made: Vec<Repair>,
+    /// Those of one step, if it is for one.
+    made: Option<Made>,
+    /// Those that were used last, if it keeps them.
     kept: Option<Kept>,
     computed: u64,
 }
@@ -83,25 +68,26 @@ impl Cache {
     ) -> Result<Cache, Refusal>
         ensures memory { IfErr result (λ why. why ≡ Memory) }
         ensures bound { IfOk result (λ cache. bound_of cache.kept ≡ Some most_bytes) }
-        ensures none { IfOk result (λ cache. (cache.made.items ≡ []) × KeepsNone cache.kept) }
+        ensures none { IfOk result (λ cache. (cache.made ≡ None) × KeepsNone cache.kept) }
         ensures counts { IfOk result (λ cache. (cache.computed ≡ 0) × (hits_of cache.kept ≡ 0)) }
     {
         let kept = Kept::new(alloc, hashing, most, most_bytes)?;
         Ok(Cache {
-            made: Vec::new(alloc),
+            made: None,
             kept: Some(kept),
             computed: 0,
         })
     }
 
-    /// A cache for one step, which keeps all that is made with it. It takes no memory.
+    /// A cache for one step, which keeps all that is made or found with it. It takes no memory.
     pub fn none(alloc: Global) -> Cache
         ensures bound { bound_of result.kept ≡ None }
-        ensures none { result.made.items ≡ [] }
+        ensures step { IsForStep result }
+        ensures none { made_in result.made ≡ [] }
         ensures counts { result.computed ≡ 0 }
     {
         Cache {
-            made: Vec::new(alloc),
+            made: Some(Made::none(alloc)),
             kept: None,
             computed: 0,
         }
@@ -199,67 +185,135 @@ impl Cache {
         tried(alloc, chosen, moves)
     }
 
-    /// Keeps what came of a record whose labels moved so, if there is memory for that, and it is not too large.
+    /// Keeps what came of a record whose labels moved so among those that were used last, if there is memory for
+    /// that, and it is not too large.
     fn keep(
         &mut self,
         alloc: Global,
         chosen: &Realisation,
-        moves: Vec<Move>,
+        moves: &[Move],
         outcome: &Result<Realisation, Refusal>,
     )
-        requires { outcome.now ≡ repaired chosen.now moves.items }
+        requires { outcome.now ≡ repaired chosen.now moves.now }
+        ensures made { self.new.made ≡ self.old.made }
         ensures computed { self.new.computed ≡ self.old.computed }
         ensures hits { hits_of self.new.kept ≡ hits_of self.old.kept }
         ensures bound { bound_of self.new.kept ≡ bound_of self.old.kept }
     {
-        let Ok(key) = key_of(alloc, chosen, &moves) else {
+        let Some(kept) = &mut self.kept else {
             return;
         };
-        let Ok(made) = Repair::new(chosen, moves, outcome) else {
+        let Ok(key) = key_of(alloc, chosen, moves) else {
             return;
         };
-        match &mut self.kept {
-            Some(kept) => kept.keep(key, made),
-            None => {
-                let _kept = self.made.push(made);
-            }
+        let Ok(one) = Repair::new(alloc, chosen, moves, outcome) else {
+            return;
+        };
+        kept.keep(key, one);
+    }
+
+    /// What came lately of a record whose labels move so, or else what comes of it now, which is kept among
+    /// those that were used last, if there is memory for that, and it is not too large. The one error is memory.
+    fn kept_or_made(
+        &mut self,
+        alloc: Global,
+        chosen: &Realisation,
+        moves: &[Move],
+    ) -> Result<Result<Realisation, Refusal>, Refusal>
+        ensures outcome { IfOk result (λ outcome. outcome ≡ repaired chosen.now moves.now) }
+        ensures memory { IfErr result (λ why. why ≡ Memory) }
+        ensures at_hand { IsAmongKept self.old.kept chosen.now moves.now
+            → OnOk result (self.new.computed ≡ self.old.computed) }
+        ensures computed { (IsAmongKept self.old.kept chosen.now moves.now → ⊥)
+            → OnOk result (self.new.computed ≡ one_more self.old.computed) }
+        ensures hit { IsAmongKept self.old.kept chosen.now moves.now
+            → OnOk result (hits_of self.new.kept ≡ one_more (hits_of self.old.kept)) }
+        ensures no_hit { (IsAmongKept self.old.kept chosen.now moves.now → ⊥)
+            → OnOk result (hits_of self.new.kept ≡ hits_of self.old.kept) }
+        ensures made { self.new.made ≡ self.old.made }
+        ensures bound { bound_of self.new.kept ≡ bound_of self.old.kept }
+    {
+        if let Some(outcome) = self.kept_for(alloc, chosen, moves)? {
+            return Ok(outcome);
+        }
+        let outcome = self.made_of(alloc, chosen, moves)?;
+        self.computed = self.computed.saturating_add(1);
+        self.keep(alloc, chosen, moves, &outcome);
+        Ok(outcome)
+    }
+
+    /// What came of a record whose labels move so, if it is kept for this step.
+    fn made_for(
+        &self,
+        chosen: &Realisation,
+        moves: &[Move],
+    ) -> Option<&Result<Realisation, Refusal>>
+        ensures outcome { IfSome result (λ o. o.now ≡ repaired chosen.now moves.now) }
+        ensures some { IfSome result (λ _. IsMade (made_in self.now.made) chosen.now moves.now) }
+        ensures none { IfNone result (IsMade (made_in self.now.made) chosen.now moves.now → ⊥) }
+    {
+        self.made.as_ref()?.outcome_for(chosen, moves)
+    }
+
+    /// Keeps what came of a record whose labels moved so, where this is for a step. The one error is memory.
+    fn keep_made(
+        &mut self,
+        alloc: Global,
+        chosen: &Realisation,
+        moves: &[Move],
+        outcome: &Result<Realisation, Refusal>,
+    ) -> Result<(), Refusal>
+        requires { outcome.now ≡ repaired chosen.now moves.now }
+        ensures made { IsForStep self.old
+            → OnOk result (IsMade (made_in self.new.made) chosen.now moves.now) }
+        ensures others { KeepsOthers chosen.now.class.path (made_in self.old.made) (made_in self.new.made) }
+        ensures step { is_some self.new.made ≡ is_some self.old.made }
+        ensures kept { self.new.kept ≡ self.old.kept }
+        ensures computed { self.new.computed ≡ self.old.computed }
+        ensures memory { IfErr result (λ why. why ≡ Memory) }
+    {
+        match &mut self.made {
+            Some(made) => made.keep(alloc, chosen, moves, outcome),
+            None => Ok(()),
         }
     }
 
-    /// Repairs a record whose labels move, unless that was done before. What comes of it is kept, if
-    /// there is memory for that, and it is not too large.
+    /// Repairs a record whose labels move, unless that was done before. What comes of it is kept: for the step, if
+    /// this is for one, and among those that were used last, if there is memory for that, and it is not too large.
     pub(crate) fn repaired(
         &mut self,
         alloc: Global,
         chosen: &Realisation,
-        moves: Vec<Move>,
+        moves: &[Move],
     ) -> Result<Realisation, Refusal>
-        ensures answer { let answer = repaired chosen.now moves.items in MatchResult result
+        ensures answer { let answer = repaired chosen.now moves.now in MatchResult result
             (λ made. answer ≡ Ok made)
             (λ e. (e ≡ Memory) ⊎ (answer ≡ Err e)) }
         // What was at hand is not made.
-        ensures at_hand { IsAtHand self.old chosen.now moves.items → result ≢ Err Memory
+        ensures at_hand { IsAtHand self.old chosen.now moves.now → result ≢ Err Memory
             → self.new.computed ≡ self.old.computed }
         // What was not is made once.
-        ensures computed { (IsAtHand self.old chosen.now moves.items → ⊥) → result ≢ Err Memory
+        ensures computed { (IsAtHand self.old chosen.now moves.now → ⊥) → result ≢ Err Memory
             → self.new.computed ≡ one_more self.old.computed }
-        ensures hit { (IsMade self.old.made.items chosen.now moves.items → ⊥)
-            → IsAmongKept self.old.kept chosen.now moves.items → result ≢ Err Memory
+        // For a step it is there then, and what is there for other classes stays.
+        ensures made { IsForStep self.old → result ≢ Err Memory
+            → IsMade (made_in self.new.made) chosen.now moves.now }
+        ensures others { KeepsOthers chosen.now.class.path (made_in self.old.made) (made_in self.new.made) }
+        ensures same { IsMade (made_in self.old.made) chosen.now moves.now → self.new ≡ self.old }
+        ensures step { is_some self.new.made ≡ is_some self.old.made }
+        ensures hit { (IsMade (made_in self.old.made) chosen.now moves.now → ⊥)
+            → IsAmongKept self.old.kept chosen.now moves.now → result ≢ Err Memory
             → hits_of self.new.kept ≡ one_more (hits_of self.old.kept) }
-        ensures no_hit { (IsAtHand self.old chosen.now moves.items → ⊥) → result ≢ Err Memory
+        ensures no_hit { (IsAtHand self.old chosen.now moves.now → ⊥) → result ≢ Err Memory
             → hits_of self.new.kept ≡ hits_of self.old.kept }
         ensures bounded { IsBounded self.new.kept }
         ensures bound { bound_of self.new.kept ≡ bound_of self.old.kept }
     {
-        if let Some(outcome) = found(&self.made, chosen, &moves) {
+        if let Some(outcome) = self.made_for(chosen, moves) {
             return copy_of(outcome)?;
         }
-        if let Some(outcome) = self.kept_for(alloc, chosen, &moves)? {
-            return outcome;
-        }
-        let outcome = self.made_of(alloc, chosen, &moves)?;
-        self.computed = self.computed.saturating_add(1);
-        self.keep(alloc, chosen, moves, &outcome);
+        let outcome = self.kept_or_made(alloc, chosen, moves)?;
+        self.keep_made(alloc, chosen, moves, &outcome)?;
         outcome
     }
 }

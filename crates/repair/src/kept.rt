@@ -31,7 +31,7 @@ pub(crate) struct Kept {
 }
 
 /// What came of a record whose labels move so, if this is that record.
-fn outcome_in<'a>(
+pub(crate) fn outcome_in<'a>(
     kept: Option<&'a Repair>,
     chosen: &Realisation,
     moves: &[Move],

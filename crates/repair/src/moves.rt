@@ -36,6 +36,19 @@ impl Model for Move {
     ghost view = { λ m. record { label = m.label; path = m.path } };
 }
 
+/// The copy is equal, and shares the paths. It fails only where memory is refused.
+impl Clone for Move {
+    ghost use Rattle.std.specs.Prelude.{◌≡◌};
+
+    ghost is_clone = { λ original copy. copy ≡ original };
+
+    fn clone(&self) -> Result<Move, AllocError> {
+        let label = self.label.clone()?;
+        let path = self.path.clone()?;
+        Ok(Move { label, path })
+    }
+}
+
 impl Move {
     /// The label.
     pub(crate) fn label(&self) -> &Label

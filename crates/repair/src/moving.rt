@@ -1,6 +1,6 @@
 //! Records whose labels move.
 
-ghost use Rattle.std.specs.Prelude.{◌≡◌, ◌≢◌, ◌≤◌, ◌⊎◌, List, IfOk, MatchResult, Ok, Err};
+ghost use Rattle.std.specs.Prelude.{◌≡◌, ◌≢◌, ◌≤◌, ◌⊎◌, List, IfOk, MatchResult, is_some, Ok, Err};
 ghost use Rattle.classes.specs.Admitting.{one_more};
 ghost use Rattle.model.specs.Classes.{greatest_rank};
 ghost use Rattle.model.specs.Settling.{name_in};
@@ -10,7 +10,8 @@ ghost use Rattle.model.specs.declared.refusal.Refusal.TheVariants.{Memory};
 ghost use Rattle.repair.specs.Moving.{IsRewritten, IsNotRewritten, IsResettled, IsNotResettled, settled_as};
 ghost use Rattle.records.specs.Recorded.{AreInPathOrder};
 ghost use Rattle.repair.specs.Served.{served_from, MovesTo};
-ghost use Rattle.repair.specs.Counting.{bound_of, IsAtHand, IsBounded, IsToRepair};
+ghost use Rattle.repair.specs.AtHand.{IsMade, KeepsOthers};
+ghost use Rattle.repair.specs.Counting.{bound_of, made_in, IsAtHand, IsBounded, IsForStep, IsToRepair};
 ghost use Rattle.records.specs.Sound.{IsSoundRecord};
 
 use crate::cache::Cache;
@@ -124,24 +125,30 @@ pub(crate) fn repaired(
 pub(crate) fn moved(
     alloc: Global,
     chosen: &Realisation,
-    moves: Vec<Move>,
+    moves: &[Move],
     cache: &mut Cache,
 ) -> Result<Realisation, Refusal>
-    ensures answer { let answer = moved chosen.now moves.items in MatchResult result
+    ensures answer { let answer = moved chosen.now moves.now in MatchResult result
         (λ made. answer ≡ Ok made)
         (λ e. (e ≡ Memory) ⊎ (answer ≡ Err e)) }
-    ensures at_hand { IsToRepair chosen.now moves.items → IsAtHand cache.old chosen.now moves.items
+    ensures at_hand { IsToRepair chosen.now moves.now → IsAtHand cache.old chosen.now moves.now
         → result ≢ Err Memory → cache.new.computed ≡ cache.old.computed }
-    ensures computed { IsToRepair chosen.now moves.items → (IsAtHand cache.old chosen.now moves.items → ⊥)
+    ensures computed { IsToRepair chosen.now moves.now → (IsAtHand cache.old chosen.now moves.now → ⊥)
         → result ≢ Err Memory → cache.new.computed ≡ one_more cache.old.computed }
-    ensures idle { (IsToRepair chosen.now moves.items → ⊥) → cache.new ≡ cache.old }
+    ensures made { IsToRepair chosen.now moves.now → IsForStep cache.old → result ≢ Err Memory
+        → IsMade (made_in cache.new.made) chosen.now moves.now }
+    ensures same { (IsToRepair chosen.now moves.now → IsMade (made_in cache.old.made) chosen.now moves.now)
+        → cache.new ≡ cache.old }
+    ensures others { KeepsOthers chosen.now.class.path (made_in cache.old.made) (made_in cache.new.made) }
+    ensures step { is_some cache.new.made ≡ is_some cache.old.made }
+    ensures idle { (IsToRepair chosen.now moves.now → ⊥) → cache.new ≡ cache.old }
     ensures bounded { IsBounded cache.new.kept }
     ensures bound { bound_of cache.new.kept ≡ bound_of cache.old.kept }
 {
-    if !is_any_replaced(&moves) {
+    if !is_any_replaced(moves) {
         return Ok(chosen.clone()?);
     }
-    if is_any_replaced_by(chosen.path(), &moves) {
+    if is_any_replaced_by(chosen.path(), moves) {
         return Err(Refusal::RewriteRefused(RewriteFault::Accidental));
     }
     cache.repaired(alloc, chosen, moves)
@@ -157,7 +164,8 @@ pub(crate) fn moved(
 /// - `Memory` only where memory was refused; it may stand in the place of each answer.
 ///
 /// What came of the record before, with the same labels moved alike, is used where it is at hand, and nothing is
-/// made then. Else it is made once. What the cache keeps counts at most what it may.
+/// made then. Else it is made once. A cache for one step has it then, and what it has for other classes stays. What
+/// the cache keeps of those used last counts at most what it may.
 pub fn serve(
     alloc: Global,
     chosen: &Realisation,
@@ -176,6 +184,14 @@ pub fn serve(
     ensures computed { (moves : List MoveValue) → MovesTo served.now.entries chosen.now moves
         → IsToRepair chosen.now moves → (IsAtHand cache.old chosen.now moves → ⊥)
         → result ≢ Err Memory → cache.new.computed ≡ one_more cache.old.computed }
+    ensures made { (moves : List MoveValue) → MovesTo served.now.entries chosen.now moves
+        → IsToRepair chosen.now moves → IsForStep cache.old → result ≢ Err Memory
+        → IsMade (made_in cache.new.made) chosen.now moves }
+    ensures same { ((moves : List MoveValue) → MovesTo served.now.entries chosen.now moves
+        → IsToRepair chosen.now moves → IsMade (made_in cache.old.made) chosen.now moves)
+        → cache.new ≡ cache.old }
+    ensures others { KeepsOthers chosen.now.class.path (made_in cache.old.made) (made_in cache.new.made) }
+    ensures step { is_some cache.new.made ≡ is_some cache.old.made }
     ensures idle { (moves : List MoveValue) → MovesTo served.now.entries chosen.now moves
         → (IsToRepair chosen.now moves → ⊥) → cache.new ≡ cache.old }
     ensures bounded { IsBounded cache.new.kept }
@@ -184,5 +200,5 @@ pub fn serve(
     chosen.tree().sound();
     chosen.path().sound();
     let moves = moves_of(alloc, chosen.labels(), served, chosen.class().rank())?;
-    moved(alloc, chosen, moves, cache)
+    moved(alloc, chosen, &moves, cache)
 }

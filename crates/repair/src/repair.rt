@@ -122,15 +122,18 @@ impl Repair {
 
     /// What came of a record whose labels move so, with that record. The one error is memory.
     pub(crate) fn new(
+        alloc: Global,
         chosen: &Realisation,
-        moves: Vec<Move>,
+        moves: &[Move],
         outcome: &Result<Realisation, Refusal>,
     ) -> Result<Repair, AllocError>
-        requires { outcome.now ≡ repaired chosen.now moves.items }
+        requires { outcome.now ≡ repaired chosen.now moves.now }
+        ensures { IfOk result (IsOf chosen.now moves.now) }
     {
         let class = chosen.class().clone()?;
         let path = chosen.path().clone()?;
         let tree = chosen.tree().clone()?;
+        let moves = moves.to_vec(alloc)?;
         let outcome = copy_of(outcome)?;
         Ok(Repair {
             class,

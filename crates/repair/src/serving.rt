@@ -1,12 +1,14 @@
 //! Serving the classes of a plan, those of lower ranks first.
 
-ghost use Rattle.std.specs.Prelude.{◌≡◌, ◌⊎◌, ◌++◌, ◌∷◌, [], List, None, IfOk, MatchResult, Ok, Err, bytes_eq};
+ghost use Rattle.std.specs.Prelude.{◌≡◌, ◌≢◌, ◌⊎◌, ◌++◌, ◌∷◌, [], List, None, IfOk, MatchResult, Ok, Err, bytes_eq};
 ghost use Rattle.std.specs.Map.{lookup};
 ghost use Rattle.model.specs.Repairs.{serve_all};
 ghost use Rattle.model.specs.Closures.{served_plan};
 ghost use Rattle.model.specs.declared.refusal.Refusal.TheVariants.{Memory};
 ghost use Rattle.choose.specs.Gathering.{IsInOrder};
 ghost use Rattle.repair.specs.Serving.{AreServed};
+ghost use Rattle.repair.specs.Counting.{made_in, IsForStep};
+ghost use Rattle.repair.specs.Prepared.{HasRepaired};
 ghost use Rattle.records.specs.Sound.{IsSoundPlan};
 
 use crate::cache::Cache;
@@ -45,6 +47,9 @@ fn serve_all(
         (λ e. (e ≡ Memory) ⊎ (serve_all plan.now.records ≡ Err e)) }
     ensures in_order { IsInOrder plan.now }
     ensures sound { IfOk result (λ _. IsSoundPlan plan.now) }
+    ensures made { IsForStep cache.old → result ≢ Err Memory
+        → HasRepaired plan.now (made_in cache.new.made) }
+    ensures at_hand { HasRepaired plan.now (made_in cache.old.made) → cache.new ≡ cache.old }
 {
     let mut served = IndexMap::new(alloc);
     let records = plan.records();
@@ -70,6 +75,9 @@ fn serve_all(
 ///   hash part stands in a name, `Overlap` where two share bytes, and `Accidental` where one would
 ///   stand where none was put, or its own path is to stand in the place of another.
 /// - `Memory` only where memory was refused; it may stand in the place of each answer.
+///
+/// A cache for one step has what came of each record that is repaired then. Where it had all that before, none is
+/// repaired.
 pub fn served_closure_with(
     alloc: Global,
     plan: &Plan,
@@ -79,6 +87,9 @@ pub fn served_closure_with(
         (λ entries. served_plan plan.now ≡ Ok entries.items)
         (λ e. (e ≡ Memory) ⊎ (served_plan plan.now ≡ Err e)) }
     ensures sound { IfOk result (λ _. IsSoundPlan plan.now) }
+    ensures made { IsForStep cache.old → result ≢ Err Memory
+        → HasRepaired plan.now (made_in cache.new.made) }
+    ensures at_hand { HasRepaired plan.now (made_in cache.old.made) → cache.new ≡ cache.old }
 {
     let served = serve_all(alloc, plan, cache)?;
     entries_with(alloc, &served, plan.sources())

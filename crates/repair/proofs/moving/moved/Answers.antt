@@ -1,25 +1,20 @@
 use Rattle.std.proofs.Common.{inr, ◌∙◌, ap}
 use Rattle.std.specs.List.{list_any}
-use Rattle.model.specs.Repairs.{changes_path, is_replaced_by}
+use Rattle.model.specs.Repairs.{is_replaced_by}
 use Rattle.repair.proofs.MovingLemmas.{moved_not, moved_own, moved_by}
 use Rattle.repair.proofs.moving.moved.Goals as goal
 
 pub returns-then-not-is_any_replaced-clause-answer : goal.returns-then-not-is_any_replaced-clause-answer
 returns-then-not-is_any_replaced-clause-answer c =
-    moved_not c.args.chosen.now c.in_ok-clone.field-0 c.args.moves.items
-    (c.if-not-is_any_replaced.ensures ∙ ap (list_any changes_path) c.deref.ensures.value) c.in_ok-clone.ensures.cases
+    moved_not c.args.chosen.now c.in_ok-clone.field-0 c.args.moves.now c.if-not-is_any_replaced.ensures c.in_ok-clone.ensures.cases
 
 pub returns-then-is_any_replaced_by-clause-answer : goal.returns-then-is_any_replaced_by-clause-answer
 returns-then-is_any_replaced_by-clause-answer c =
-    inr (moved_own c.args.chosen.now c.args.moves.items
-    (c.if-not-is_any_replaced.ensures ∙ ap (list_any changes_path) c.deref.ensures.value)
-    (c.if-is_any_replaced_by.ensures ∙ ap (λ path. list_any (is_replaced_by path) c.deref-2.result.now) c.path.ensures
-    ∙ ap (list_any (is_replaced_by c.args.chosen.now.path)) c.deref-2.ensures.value))
+    inr (moved_own c.args.chosen.now c.args.moves.now c.if-not-is_any_replaced.ensures
+    (c.if-is_any_replaced_by.ensures ∙ ap (λ path. list_any (is_replaced_by path) c.args.moves.now) c.path.ensures))
 
 pub returns-clause-answer : goal.returns-clause-answer
 returns-clause-answer c =
-    let is = moved_by c.args.chosen.now c.args.moves.items
-    (c.if-not-is_any_replaced.ensures ∙ ap (list_any changes_path) c.deref.ensures.value)
-    (c.if-is_any_replaced_by.ensures ∙ ap (λ path. list_any (is_replaced_by path) c.deref-2.result.now) c.path.ensures
-    ∙ ap (list_any (is_replaced_by c.args.chosen.now.path)) c.deref-2.ensures.value) in
+    let is = moved_by c.args.chosen.now c.args.moves.now c.if-not-is_any_replaced.ensures
+    (c.if-is_any_replaced_by.ensures ∙ ap (λ path. list_any (is_replaced_by path) c.args.moves.now) c.path.ensures) in
     rw is c.repaired.ensures.answer
