@@ -15,6 +15,7 @@ pub mod ForgettingLemmas
 pub mod RunLemmas
 pub mod ClosureLemmas
 pub mod StateLemmas
+pub mod PlannedLemmas
 pub mod MissingLemmas
 pub mod CopyLemmas
 pub mod TakeLemmas

@@ -1,13 +1,18 @@
 //! Asking for a closure.
 
-ghost use Rattle.std.specs.Prelude.{◌≡◌, List, IfOk, Ok};
+ghost use Rattle.std.specs.Prelude.{◌≡◌, ◌≢◌, List, IfOk, IfErr, IfSome, IfNone, Ok, Err};
 ghost use Rattle.model.specs.Worlds.{Entry as EntryValue};
 ghost use Rattle.model.specs.Closures.{served_plan};
 ghost use Rattle.model.specs.Events.{Closure as ClosureRequest};
+ghost use Rattle.model.specs.declared.refusal.Refusal.{Refusal as RefusalValue};
+ghost use Rattle.model.specs.declared.refusal.Refusal.TheVariants.{Memory};
 ghost use Rattle.trust.specs.Trusting.{trusts};
-ghost use Rattle.handlers.specs.Serving.{IsServedAt, IsPlannedAt, IsServedOf};
+ghost use Rattle.repair.specs.AtHand.{MadeRepairs};
+ghost use Rattle.repair.specs.Counting.{made_in};
+ghost use Rattle.repair.specs.Prepared.{HasRepairedIf};
+ghost use Rattle.handlers.specs.Serving.{IsServedAt, IsPlannedAt, IsServedOf, HasRepairedFor};
 ghost use Rattle.handlers.specs.Sound.{IsClosure};
-ghost use Rattle.handlers.specs.States.{HasPlace, Handles};
+ghost use Rattle.handlers.specs.States.{HasPlace, Handles, observation_at};
 
 use crate::state::State;
 use crate::view::desks_in_view;
@@ -46,6 +51,39 @@ pub fn plan_for(
     plan(alloc, &view, state.desks[place].pins(), &classes, &[])
 }
 
+/// A plan, if there is one. The one error is memory.
+pub fn plan_or_none(plan: Result<Plan, Refusal>) -> Result<Option<Plan>, Refusal>
+    ensures some { IfOk result (λ found. IfSome found (λ p. plan ≡ Ok p)) }
+    ensures none { IfOk result (λ found. IfNone found ((why : RefusalValue) × (plan ≡ Err why) × (why ≢ Memory))) }
+    ensures memory { IfErr result (λ why. (why ≡ Memory) × (plan ≡ Err Memory)) }
+{
+    match plan {
+        Ok(plan) => Ok(Some(plan)),
+        Err(Refusal::Memory) => Err(Refusal::Memory),
+        Err(_) => Ok(None),
+    }
+}
+
+/// What the closure of a class needs that the user at a place takes, if there is such a plan. What is repaired for
+/// it is all that [`take`](crate::take) repairs then.
+///
+/// # Errors
+///
+/// - `Memory` only where memory was refused.
+pub fn plan_for_take(
+    alloc: Global,
+    state: &State,
+    place: usize,
+    class: &StorePath,
+) -> Result<Option<Plan>, Refusal>
+    requires { HasPlace state.now place }
+    ensures needed { IfOk result (λ plan. (made : MadeRepairs) → HasRepairedIf plan made
+        → HasRepairedFor (observation_at state.now place) class.now made) }
+    ensures memory { IfErr result (λ why. why ≡ Memory) }
+{
+    plan_or_none(plan_for(alloc, state, place, class))
+}
+
 /// The closure that was planned, as it is told.
 ///
 /// # Errors
@@ -72,6 +110,8 @@ pub(crate) fn entries_for(
     ensures served { IsServedAt (trusts state.now.trust) state.now.table.sources
         state.now.desks.items place class.now result }
     ensures closure { IfOk result (λ entries. IsClosure entries.items) }
+    ensures at_hand { HasRepairedFor (observation_at state.now place) class.now (made_in cache.old.made)
+        → cache.new ≡ cache.old }
 {
     let planned = plan_for(alloc, state, place, class)?;
     served_closure_with(alloc, &planned, cache)

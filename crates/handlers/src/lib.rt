@@ -17,7 +17,7 @@ mod trusting;
 mod view;
 
 pub use derivations::{add_derivation, derivation_in, input_for_derivation};
-pub use given::{closure, plan_for, serve_plan};
+pub use given::{closure, plan_for, plan_for_take, plan_or_none, serve_plan};
 pub use offers::{input_for_offer, offer};
 pub use pins::{pin, unpin};
 pub use sources::{add_source, fetch};

@@ -7,7 +7,9 @@ ghost use Rattle.model.specs.Closures.{path_for};
 ghost use Rattle.model.specs.declared.refusal.Refusal.TheVariants.{Memory, NotRealised};
 ghost use Rattle.realise.specs.Holdings.{bare, sources_in, records_in};
 ghost use Rattle.handlers.specs.Sound.{IsSound, IsClosure};
-ghost use Rattle.handlers.specs.States.{HasPlace, Handles};
+ghost use Rattle.repair.specs.Counting.{made_in};
+ghost use Rattle.handlers.specs.Serving.{HasRepairedFor};
+ghost use Rattle.handlers.specs.States.{HasPlace, Handles, observation_at};
 ghost use Rattle.handlers.specs.Taking.{tree_with_path, counted, missing_on, are_roomy, AreCopyable, IsLabelledBy, has_built, with_built, CopiesEntries};
 
 use crate::given::entries_for;
@@ -238,6 +240,8 @@ pub fn copy_with(
 /// - `Clash` only where another tree is stored at the path of an entry.
 /// - `Quota` exactly where no other tree is at these paths and a limit of the desk would be passed.
 /// - `Memory` only where memory was refused; it may stand in the place of each answer.
+///
+/// Where all that is repaired for the closure was repaired before, nothing is.
 pub fn take(
     alloc: Global,
     state: &mut State,
@@ -246,7 +250,9 @@ pub fn take(
     class: &StorePath,
 ) -> Result<CopiedReply, Refusal>
     requires { HasPlace state.old place }
-    ensures { Handles state.old place (TakeRequest class.now) result state.new }
+    ensures handled { Handles state.old place (TakeRequest class.now) result state.new }
+    ensures at_hand { HasRepairedFor (observation_at state.old place) class.now (made_in cache.old.made)
+        → cache.new ≡ cache.old }
 {
     served_are_made();
     let entries = entries_for(alloc, state, place, cache, class)?;

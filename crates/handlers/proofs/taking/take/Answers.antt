@@ -12,8 +12,8 @@ use Rattle.handlers.proofs.StateLemmas.{by_sight}
 use Rattle.handlers.proofs.TakeLemmas.{take_unserved, take_unnamed, take_done, take_refused, copied_here, run_taken}
 use Rattle.handlers.proofs.taking.take.Goals as goal
 
-pub returns-in_err-entries : goal.returns-in_err-entries
-returns-in_err-entries c =
+pub returns-in_err-entries-clause-handled : goal.returns-in_err-entries-clause-handled
+returns-in_err-entries-clause-handled c =
     let s = c.args.state.now in
     let p = err_from_is_err_and c.from_residual.result c.from_residual.ensures.1 in
     let why = c.in_err-entries.field-0.0 in
@@ -21,8 +21,8 @@ returns-in_err-entries c =
     (take_unserved c.served_are_made.ensures (trusts s.trust) s.limits.charge s.table.sources s.desks.items c.args.place c.args.class.now why
     c.in_err-entries.ensures.served))
 
-pub returns-in_err-path : goal.returns-in_err-path
-returns-in_err-path c =
+pub returns-in_err-path-clause-handled : goal.returns-in_err-path-clause-handled
+returns-in_err-path-clause-handled c =
     let s = c.args.state.now in
     let p = err_from_is_err_and c.from_residual-in_err-path.result c.from_residual-in_err-path.ensures.1 in
     let why = c.in_err-path.field-0.0 in
@@ -31,8 +31,8 @@ returns-in_err-path c =
     c.in_ok-entries.entries.items c.in_ok-entries.ensures.served why
     (subst (λ (es : List Entry). (why ≡ Memory) ⊎ ((why ≡ NotRealised) × (path_for c.args.class.now es ≡ None))) c.deref.ensures.value c.in_err-path.ensures)))
 
-pub returns-in_err-reply : goal.returns-in_err-reply
-returns-in_err-reply c =
+pub returns-in_err-reply-clause-handled : goal.returns-in_err-reply-clause-handled
+returns-in_err-reply-clause-handled c =
     let s = c.args.state.now in
     let p = err_from_is_err_and c.from_residual-in_err-reply.result c.from_residual-in_err-reply.ensures.1 in
     rw (p.1, p.2) (by_sight s c.args.place (events.Take c.args.class.now) (Err Memory)
@@ -53,8 +53,8 @@ invariant_of-state c =
       owned = s.owned;
     }
 
-pub returns-in_err-copy_all : goal.returns-in_err-copy_all
-returns-in_err-copy_all c =
+pub returns-in_err-copy_all-clause-handled : goal.returns-in_err-copy_all-clause-handled
+returns-in_err-copy_all-clause-handled c =
     let s = c.args.state.now in
     let p = err_from_is_err_and c.from_residual-in_err-copy_all.result c.from_residual-in_err-copy_all.ensures.1 in
     let why = c.in_err-copy_all.field-0.0 in
@@ -68,8 +68,8 @@ returns-in_err-copy_all c =
     (take_refused c.served_are_made.ensures (trusts s.trust) s.limits.charge s.table.sources s.desks.items c.args.place c.args.class.now
     c.in_ok-entries.entries.items c.in_ok-entries.ensures.served c.in_ok-path.path named c.copy_all.new.table.sources c.copy_all.new.desk why copies))
 
-pub returns : goal.returns
-returns c =
+pub returns-clause-handled : goal.returns-clause-handled
+returns-clause-handled c =
     let s = c.args.state.now in
     let result : c.copy_all.result ≡ Ok tt = search rules in
     let named : path_for c.args.class.now c.in_ok-entries.entries.items ≡ Some c.in_ok-path.path =
