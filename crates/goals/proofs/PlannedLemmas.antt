@@ -1,15 +1,21 @@
 -- What becomes of a goal of a user of a state that is planned.
-use Rattle.std.proofs.Common.{◌≡◌, ℕ, Bool, true, false, List, refl, sym, ◌∙◌, ap, subst, Some, Result, Ok, Err}
+use Rattle.std.proofs.Common.{◌≡◌, ◌≢◌, ◌⊎◌, ℕ, Bool, true, false, List, refl, sym, ◌∙◌, ap, subst, Option, Some, Result, Ok, Err}
 use Rattle.std.specs.Borrow.{Bor}
-use Rattle.std.specs.Prelude.{All, OnOk, OnErr, map}
+use Rattle.std.specs.Prelude.{All, MatchResult, IfOk, IfSome, IfNone, OnOk, OnErr, map}
 use Rattle.model.specs.declared.refusal.Refusal.{Refusal}
+use Rattle.model.specs.declared.refusal.Refusal.TheVariants.{Memory}
 use Rattle.model.specs.Derivations.{Derivation}
 use Rattle.model.specs.Worlds.{Source, Planned, Failed, Resolved, Goal}
 use Rattle.model.specs.Goals.{goal_at, with_goal_at, in_status}
 use Rattle.model.specs.Events as events
 use Rattle.model.specs.Replies as replies
 use Rattle.trust.specs.Trusting.{IsReach, trusts}
-use Rattle.trust.specs.Naming.{names}
+use Rattle.trust.specs.Naming.{names, name_at}
+use Rattle.trust.proofs.PlaceLemmas.{place_found}
+use Rattle.trust.proofs.UsersLemmas.{distinct_users}
+use Rattle.model.specs.GoalRequests.{plan}
+use Rattle.model.specs.Choices.{Plan}
+use Rattle.model.specs.Outcomes.{Observation, observation_of}
 use Rattle.store.specs.Stored.{put_all}
 use Rattle.events.specs.declared.reply.Reply as Rust
 use Rattle.events.specs.declared.reply.Reply.TheVariants as reply
@@ -17,10 +23,12 @@ use Rattle.events.specs.declared.status.Status.TheVariants as status
 use Rattle.events.specs.Terms.{reply_of}
 use Rattle.realise.specs.Holdings.{Holdings}
 use Rattle.repair.specs.RepairLaws.{ServedAreMade}
+use Rattle.repair.specs.AtHand.{MadeRepairs}
+use Rattle.repair.specs.Prepared.{HasRepaired, HasRepairedIf}
 use Rattle.jobs.specs.Owned.{OwnedByAll, goals_at, with_goals_at, ChangesGoal}
 use Rattle.jobs.specs.Statuses.{planned_with}
 use Rattle.handlers.specs.declared.state.State.{State}
-use Rattle.handlers.specs.States.{parts_of, HasPlace, Handles}
+use Rattle.handlers.specs.States.{parts_of, HasPlace, Handles, observation_at}
 use Rattle.handlers.specs.Runs.{IsRun}
 use Rattle.handlers.specs.Stored.{source_of_entry}
 use Rattle.handlers.specs.Sound.{IsClosure, IsStored}
@@ -28,9 +36,36 @@ use Rattle.handlers.specs.Viewing.{desk_at}
 use Rattle.handlers.specs.Handling.{IsHandledByAll}
 use Rattle.handlers.proofs.RunLemmas.{still_run}
 use Rattle.handlers.specs.Serving.{AtPlace}
-use Rattle.goals.specs.Planning.{IsResolvedFor, IsNotResolvedFor, TellsToPlan, fails, IsNotKept}
+use Rattle.handlers.proofs.PlannedLemmas.{IsPlanOf, of_him, needed_by}
+use Rattle.goals.specs.Planning.{plan_to_build, IsPlannedToBuildAt, HasRepairedForGoal, IsResolvedFor, IsNotResolvedFor, IsToPlan, TellsToPlan, HasNoneToPlan, fails, IsNotKept}
 use Rattle.goals.proofs.StateLemmas.{left_so, goals_so}
-use Rattle.goals.proofs.PlanLemmas.{told_of_him, own_there, not_to_plan, not_kept, not_resolved, failed, planned, goal_there}
+use Rattle.goals.proofs.PlanLemmas.{one_derivation, told_of_him, none_of_him, own_there, not_to_plan, not_kept, not_resolved, failed, planned, goal_there}
+
+-- ---- what is planned
+
+-- what a derivation needs is planned for the one who is at the place
+planned_for_him : (s : State) (place : ℕ) (d : Derivation) (result : Result Plan Refusal) → HasPlace s place
+    → IsPlannedToBuildAt (trusts s.trust) s.table.sources s.desks.items place d result → IsPlanOf (plan_to_build (observation_at s place) d) result
+planned_for_him s place d (Ok p) inside planned =
+    of_him s place (λ setup w u. plan_to_build (observation_of setup w u) d ≡ Ok p) inside planned
+planned_for_him s place d (Err why) inside planned =
+    of_him s place (λ setup w u. (why ≡ Memory) ⊎ (plan_to_build (observation_of setup w u) d ≡ Err why)) inside planned
+
+-- what is repaired for the plan of a goal's derivation is what is repaired for the goal
+for_goal : (s : Observation) (n : ℕ) (d : Derivation) (found : Result (Option Plan) Refusal) → IsToPlan s n d
+    → IfOk found (λ o. (made : MadeRepairs) → HasRepairedIf o made → (p : Plan) → plan_to_build s d ≡ Ok p → HasRepaired p made)
+    → IfOk found (λ o. (made : MadeRepairs) → HasRepairedIf o made → HasRepairedForGoal s n made)
+for_goal s n d (Ok o) own needed = λ made has e it p is.
+    needed made has p (subst (λ x. plan_to_build s x ≡ Ok p) (one_derivation s n e d it own) is)
+for_goal s n d (Err why) own needed = tt
+
+pub goal_needed : (s : State) (place n : ℕ) (d : Derivation) (planned : Result Plan Refusal) (found : Result (Option Plan) Refusal) → HasPlace s place
+    → IsToPlan (observation_at s place) n d → IsPlannedToBuildAt (trusts s.trust) s.table.sources s.desks.items place d planned
+    → IfOk found (λ o. IfSome o (λ p. planned ≡ Ok p)) → IfOk found (λ o. IfNone o ((why : Refusal) × (planned ≡ Err why) × (why ≢ Memory)))
+    → IfOk found (λ o. (made : MadeRepairs) → HasRepairedIf o made → HasRepairedForGoal (observation_at s place) n made)
+goal_needed s place n d planned found inside own are some none =
+    for_goal (observation_at s place) n d found own
+    (needed_by (plan_to_build (observation_at s place) d) planned found (planned_for_him s place d planned inside are) some none)
 
 module _ (s : State) (place n : ℕ) (set : ℕ → Bool) (reach : IsReach (trusts s.trust) place set) where
   abbrev own : List Goal
@@ -41,6 +76,18 @@ module _ (s : State) (place n : ℕ) (set : ℕ → Bool) (reach : IsReach (trus
 
   abbrev old : List Source
   old = s.table.sources
+
+  -- what is told of a goal is told of what the user at the place sees
+  pub told_so : HasPlace s place → (result : Result (Bor Derivation) Refusal) → TellsToPlan own desk.known (names s.users set) n result
+      → MatchResult result (λ d. IsToPlan (observation_at s place) n d.now) (λ why. plan (observation_at s place) n ≡ Err why)
+  told_so inside result tells =
+      told_of_him s.users s.limits.charge (trusts s.trust) s.jobs.goals old s.desks.items place n s.run.listed s.run.paired s.run.within s.run.sound
+      s.run.goals_sound (name_at s.users place) (place_found s.users place (distinct_users s.users s.run.listed) inside) set result reach tells
+
+  -- where no goal is to be planned, none is of what he sees
+  pub none_so : HasPlace s place → HasNoneToPlan own desk.known (names s.users set) n → (d : Derivation) → IsToPlan (observation_at s place) n d → ⊥
+  none_so inside none = none_of_him s.users s.limits.charge (trusts s.trust) s.jobs.goals old s.desks.items place n s.run.listed s.run.paired s.run.within s.run.sound
+      s.run.goals_sound (name_at s.users place) (place_found s.users place (distinct_users s.users s.run.listed) inside) set reach none
 
   -- it is none that is to be planned
   pub untimely_so : (why : Refusal) → TellsToPlan own desk.known (names s.users set) n (Err why) → Handles s place (events.Plan n) (Err why) s

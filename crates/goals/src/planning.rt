@@ -1,27 +1,33 @@
 //! Planning a goal.
 
-ghost use Rattle.std.specs.Prelude.{◌≡◌, ℕ, ◌<◌, ◌≤◌, true, length, map, All, IfOk, IfErr, OnOk, OnErr, Some, is_some};
-ghost use Rattle.model.specs.Worlds.{Goal as GoalValue};
+ghost use Rattle.std.specs.Prelude.{◌≡◌, ℕ, ◌<◌, ◌≤◌, true, length, map, All, IfOk, IfErr, OnOk, OnErr, List, Some, Ok, is_some};
+ghost use Rattle.model.specs.Worlds.{Goal as GoalValue, Entry as EntryValue};
+ghost use Rattle.model.specs.Closures.{served_plan};
+ghost use Rattle.model.specs.Resolutions.{input_classes};
+ghost use Rattle.model.specs.declared.refusal.Refusal.TheVariants.{Memory};
 ghost use Rattle.model.specs.Goals.{as_seen, is_waiting, goal_at, with_goal_at};
 ghost use Rattle.model.specs.Events.{Plan as PlanRequest};
 ghost use Rattle.trust.specs.Trusting.{holds, trusts};
 ghost use Rattle.trust.specs.Naming.{names};
 ghost use Rattle.store.specs.Stored.{put_all};
+ghost use Rattle.repair.specs.AtHand.{MadeRepairs};
+ghost use Rattle.repair.specs.Counting.{made_in};
+ghost use Rattle.repair.specs.Prepared.{HasRepairedIf};
 ghost use Rattle.jobs.specs.Owned.{goals_at, with_goals_at};
 ghost use Rattle.events.specs.Statuses.{status_of};
 ghost use Rattle.jobs.specs.Statuses.{planned_with};
 ghost use Rattle.handlers.specs.Stored.{source_of_entry};
 ghost use Rattle.handlers.specs.Sound.{IsClosure, IsStored, AreGoalsSound};
 ghost use Rattle.handlers.specs.Viewing.{desk_at};
-ghost use Rattle.handlers.specs.States.{HasPlace, Handles};
-ghost use Rattle.goals.specs.Planning.{IsResolvedAt, TellsToPlan, fails, IsNotKept};
+ghost use Rattle.handlers.specs.States.{HasPlace, Handles, observation_at};
+ghost use Rattle.goals.specs.Planning.{IsResolvedAt, IsPlannedToBuildAt, HasRepairedToBuild, HasRepairedForGoal, TellsToPlan, HasNoneToPlan, fails, IsNotKept};
 ghost use Rattle.goals.specs.Sharing.{EqualsAllLike};
 
 use aterm::Derivation;
-use choose::View;
+use choose::{Plan, View};
 use classes::input_classes;
 use events::CopiedReply;
-use handlers::{State, desks_in_view, trees_of};
+use handlers::{State, desks_in_view, plan_or_none, trees_of};
 use jobs::{Jobs, Status};
 use laws::closures_are_whole;
 use model::Refusal;
@@ -29,7 +35,48 @@ use records::Resolved;
 use repair::{Cache, resolve_with, served_are_made};
 use std::alloc::Global;
 use store::Table;
+use storepath::StorePath;
 use trust::is_reached;
+
+/// What a derivation whose inputs have these classes needs to be built, for the user at a place, of all that he
+/// sees.
+fn plan_to_build(
+    alloc: Global,
+    state: &State,
+    place: usize,
+    derivation: &Derivation,
+    classes: &[StorePath],
+) -> Result<Plan, Refusal>
+    requires of_run { HasPlace state.now place }
+    requires classes { classes.now
+        ≡ input_classes (desk_at state.now.desks.items place).known derivation.now }
+    ensures planned { IsPlannedToBuildAt (trusts state.now.trust) state.now.table.sources
+        state.now.desks.items place derivation.now result }
+    ensures closures { IfOk result (λ p. (entries : List EntryValue)
+        → served_plan p ≡ Ok entries → IsClosure entries) }
+{
+    closures_are_whole();
+    let seen = desks_in_view(alloc, state, place)?;
+    let view = View::new(&state.table, seen);
+    let pins = state.desks[place].pins();
+    let sources = &derivation.parts().sources;
+    choose::plan(alloc, &view, pins, classes, sources)
+}
+
+/// The classes of a derivation's inputs, as the user at a place knows them. The one error is memory.
+fn classes_for(
+    alloc: Global,
+    state: &State,
+    place: usize,
+    derivation: &Derivation,
+) -> Result<Vec<StorePath>, Refusal>
+    requires { HasPlace state.now place }
+    ensures classes { IfOk result (λ classes. classes.items
+        ≡ input_classes (desk_at state.now.desks.items place).known derivation.now) }
+    ensures memory { IfErr result (λ why. why ≡ Memory) }
+{
+    input_classes(alloc, state.desks[place].known(), derivation)
+}
 
 /// What a derivation is built from, for the user at a place, of all that he sees.
 fn resolved_for(
@@ -43,14 +90,11 @@ fn resolved_for(
     ensures resolved { IsResolvedAt (trusts state.now.trust) state.now.table.sources
         state.now.desks.items place derivation.now result }
     ensures closure { IfOk result (λ r. IsClosure r.closure) }
+    ensures at_hand { HasRepairedToBuild (observation_at state.now place) derivation.now
+        (made_in cache.old.made) → cache.new ≡ cache.old }
 {
-    closures_are_whole();
-    let seen = desks_in_view(alloc, state, place)?;
-    let view = View::new(&state.table, seen);
-    let desk = &state.desks[place];
-    let classes = input_classes(alloc, desk.known(), derivation)?;
-    let sources = &derivation.parts().sources;
-    let plan = choose::plan(alloc, &view, desk.pins(), &classes, sources)?;
+    let classes = classes_for(alloc, state, place, derivation)?;
+    let plan = plan_to_build(alloc, state, place, derivation, &classes)?;
     resolve_with(alloc, &plan, derivation, &classes, cache)
 }
 
@@ -78,9 +122,11 @@ fn derivation_to_plan(
     number: u16,
 ) -> Result<&Derivation, Refusal>
     requires { HasPlace state.now place }
-    ensures { TellsToPlan (goals_at place state.now.jobs)
+    ensures told { TellsToPlan (goals_at place state.now.jobs)
         (desk_at state.now.desks.items place).known (names state.now.users (holds reached))
         number result }
+    ensures none { IfErr result (λ _. HasNoneToPlan (goals_at place state.now.jobs)
+        (desk_at state.now.desks.items place).known (names state.now.users (holds reached)) number) }
 {
     let Some(goal) = state.jobs.get(place, number) else {
         return Err(Refusal::UnknownGoal);
@@ -92,6 +138,31 @@ fn derivation_to_plan(
         Some(admitted) => Ok(admitted.derivation()),
         None => Err(Refusal::UnknownDerivation),
     }
+}
+
+/// What the goal of a number of the user at a place needs to be built, as he sees it now, if it is to be planned,
+/// and there is such a plan. What is repaired for it is all that [`plan`] repairs then.
+///
+/// # Errors
+///
+/// - `Memory` only where memory was refused.
+pub fn plan_for_goal(
+    alloc: Global,
+    state: &State,
+    place: usize,
+    number: u16,
+) -> Result<Option<Plan>, Refusal>
+    requires { HasPlace state.now place }
+    ensures needed { IfOk result (λ plan. (made : MadeRepairs) → HasRepairedIf plan made
+        → HasRepairedForGoal (observation_at state.now place) number made) }
+    ensures memory { IfErr result (λ why. why ≡ Memory) }
+{
+    let reached = state.trust.closure(place);
+    let Ok(derivation) = derivation_to_plan(state, reached, place, number) else {
+        return Ok(None);
+    };
+    let classes = classes_for(alloc, state, place, derivation)?;
+    plan_or_none(plan_to_build(alloc, state, place, derivation, &classes))
 }
 
 /// Whether a goal comes to nothing where its derivation is not resolved for this reason.
@@ -161,6 +232,8 @@ fn keep(
 /// - `NotRealised` exactly where no desk that he sees has a record of the class of an input.
 /// - `Clash` only where another tree is stored at the path of an entry.
 /// - `Memory` only where memory was refused; it may stand in the place of each answer but the first two.
+///
+/// Where all that is repaired for it was repaired before, nothing is.
 pub fn plan(
     alloc: Global,
     state: &mut State,
@@ -169,7 +242,9 @@ pub fn plan(
     number: u16,
 ) -> Result<CopiedReply, Refusal>
     requires { HasPlace state.old place }
-    ensures { Handles state.old place (PlanRequest number) result state.new }
+    ensures handled { Handles state.old place (PlanRequest number) result state.new }
+    ensures at_hand { HasRepairedForGoal (observation_at state.old place) number (made_in cache.old.made)
+        → cache.new ≡ cache.old }
 {
     served_are_made();
     let reached = state.trust.closure(place);
