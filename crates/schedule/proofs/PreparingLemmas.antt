@@ -1,10 +1,10 @@
 -- What is prepared on the desk of a place is prepared for its user, in the world that the core stands for.
-use Rattle.std.proofs.Common.{◌≡◌, ℕ, Bool, true, List, length, refl, sym, subst, Some, Result, Ok, Err}
+use Rattle.std.proofs.Common.{◌≡◌, ℕ, Bool, true, List, length, refl, sym, ap, subst, Some, Result, Ok, Err}
 use Rattle.std.specs.Prelude.{IfOk, Option}
 use Rattle.model.specs.declared.refusal.Refusal.{Refusal}
 use Rattle.model.specs.Archives.{Tree}
 use Rattle.model.specs.Classes.{known_at}
-use Rattle.model.specs.Events.{AddDerivation, Offer, Finish}
+use Rattle.model.specs.Events.{AddDerivation, Offer, Take, Plan, Finish}
 use Rattle.model.specs.Worlds.{Source, Desk, Goal, Label, are_users}
 use Rattle.trust.specs.Naming.{place_of, name_at, IsWithin}
 use Rattle.trust.proofs.PlaceLemmas.{name_found}
@@ -23,7 +23,18 @@ use Rattle.handlers.specs.Viewing.{desk_at}
 use Rattle.handlers.proofs.DeskLemmas.{known_of-desk_of}
 use Rattle.handlers.proofs.ClosureLemmas.{his_desk}
 use Rattle.outputs.specs.declared.settlements.Settlements.{Settlements}
-use Rattle.schedule.specs.Preparing.{HasAdmissionFor, HasInput, HasOutcome}
+use Rattle.model.specs.Choices as choices
+use Rattle.model.specs.Outcomes.{Observation, observation_of}
+use Rattle.repair.specs.AtHand.{MadeRepairs}
+use Rattle.repair.specs.Counting.{made_in}
+use Rattle.repair.specs.Prepared.{HasRepairedIf}
+use Rattle.repair.specs.declared.cache.Cache.{Cache}
+use Rattle.handlers.specs.States.{observation_at}
+use Rattle.handlers.specs.Serving.{HasRepairedFor}
+use Rattle.goals.specs.Planning.{HasRepairedForGoal}
+use Rattle.schedule.specs.declared.state.Core.{Core}
+use Rattle.schedule.specs.Standing.{world_of, setup_of}
+use Rattle.schedule.specs.Preparing.{seen_by, HasAdmissionFor, HasInput, HasOutcome, HasRepairedAll}
 
 -- ---- on one desk, as the model sees it
 
@@ -77,3 +88,24 @@ module _ (users : List (List ℕ)) (limit : ℕ) (trust : ℕ → ℕ → Bool) 
       subst (λ d. HasOutcome d user (Finish n output) made) (sym his_is)
       (ended_on (beside_at users trust goals place) table (desk_at desks place) user n output made led)
   ended_by (Err why) n output needed = tt
+
+-- ---- what he sees
+
+-- the user at a place sees what he sees in the world that the core stands for
+pub seen_there : (core : Core) (user : List ℕ) (place : ℕ) → place_of core.state.users user ≡ Some place → observation_at core.state place ≡ seen_by core user
+unfolding world_of setup_of
+seen_there core user place found = ap (observation_of (setup_of core) (world_of core)) (name_found core.state.users user place found).1
+
+pub taken_by : (one other : Observation) (result : Result (Option choices.Plan) Refusal) (class : List ℕ) → one ≡ other
+    → IfOk result (λ plan. (made : MadeRepairs) → HasRepairedIf plan made → HasRepairedFor one class made)
+    → IfOk result (λ plan. (cache : Cache) → HasRepairedIf plan (made_in cache.made) → HasRepairedAll other (Take class) cache)
+taken_by one other (Ok plan) class same needed = λ cache has.
+    subst (λ s. HasRepairedFor s class (made_in cache.made)) same (needed (made_in cache.made) has)
+taken_by one other (Err why) class same needed = tt
+
+pub planned_by : (one other : Observation) (result : Result (Option choices.Plan) Refusal) (n : ℕ) → one ≡ other
+    → IfOk result (λ plan. (made : MadeRepairs) → HasRepairedIf plan made → HasRepairedForGoal one n made)
+    → IfOk result (λ plan. (cache : Cache) → HasRepairedIf plan (made_in cache.made) → HasRepairedAll other (Plan n) cache)
+planned_by one other (Ok plan) n same needed = λ cache has.
+    subst (λ s. HasRepairedForGoal s n (made_in cache.made)) same (needed (made_in cache.made) has)
+planned_by one other (Err why) n same needed = tt

@@ -3,10 +3,11 @@ use Rattle.std.specs.Prelude.{◌≡◌, ℕ, true, List, Option, Some, None, Ok
 use Rattle.model.specs.Archives.{Tree}
 use Rattle.model.specs.ArchiveReading.{tree_of_archive}
 use Rattle.model.specs.Classes.{Admission, known_at}
-use Rattle.model.specs.Events.{Event, Request, AddSource, AddDerivation, Offer, Finish}
+use Rattle.model.specs.Events.{Event, Request, AddSource, AddDerivation, Offer, Take, Plan, Finish}
 use Rattle.model.specs.Goals.{goal_at}
 use Rattle.model.specs.Reach.{is_among}
 use Rattle.model.specs.References.{candidates}
+use Rattle.model.specs.Outcomes.{Observation, observation_of}
 use Rattle.model.specs.Worlds.{Desk, Goal, known_of}
 use Rattle.jobs.specs.Leading.{leading}
 use Rattle.classes.specs.Admitting.{HasAdmission, HasMade}
@@ -15,6 +16,11 @@ use Rattle.outputs.specs.Kept.{HasOutput, HasPlaced, HasNeeded}
 use Rattle.outputs.specs.declared.input.Input.{Input}
 use Rattle.outputs.specs.declared.settlements.Settlements.{Settlements}
 use Rattle.outputs.specs.declared.sources.Sources.{Sources}
+use Rattle.repair.specs.Counting.{made_in}
+use Rattle.repair.specs.Prepared.{HasRepairedIf}
+use Rattle.repair.specs.declared.cache.Cache.{Cache}
+use Rattle.handlers.specs.Serving.{HasRepairedFor}
+use Rattle.goals.specs.Planning.{HasRepairedForGoal}
 use Rattle.endings.specs.Built.{HasBuilt}
 use Rattle.schedule.specs.declared.state.Core.{Core}
 use Rattle.schedule.specs.declared.preparing.PrepareInput.{PrepareInput}
@@ -50,14 +56,26 @@ output_of request = None
 abbrev pub HasInput : Request → Option Input → Settlements → Type 0
 HasInput request input settlements = (tree : Tree) → output_of request ≡ Some tree → HasNeeded settlements.settled.items input tree
 
+-- what comes of each record that is repaired for a user's request is there: for a closure that he takes, or that a goal of his is built from
+abbrev pub HasRepairedAll : Observation → Request → Cache → Type 0
+HasRepairedAll s (Take class) cache = HasRepairedFor s class (made_in cache.made)
+HasRepairedAll s (Plan n) cache = HasRepairedForGoal s n (made_in cache.made)
+HasRepairedAll s request cache = Unit {0}
+
+-- all that a user sees in the world that a core stands for
+abbrev pub seen_by : Core → List ℕ → Observation
+seen_by core user = observation_of (setup_of core) (world_of core) user
+
 -- what a request needs was made
 pub record IsMade (need : PrepareInput) (request : Request) (ready : Ready) : Type 0 where
   pub path : HasPath request ready.work.sources
   pub admission : HasMade ready.work.admissions.admitted.items need.admission
   pub output : HasInput request need.input ready.work.settlements
+  pub repaired : HasRepairedIf need.plan (made_in ready.work.cache.made)
 
 -- the values that an event needs are there, which a user of the run asks in the world that the core stands for
 pub record IsPrepared (core : Core) (event : Event) (ready : Ready) : Type 0 where
   pub path : HasPath event.request ready.work.sources
   pub admission : is_among event.actor (setup_of core).users ≡ true → HasAdmissionFor (world_of core event.actor) event.request ready.work.admissions
   pub outcome : is_among event.actor (setup_of core).users ≡ true → HasOutcome (world_of core event.actor) event.actor event.request ready.work.settlements
+  pub repaired : is_among event.actor (setup_of core).users ≡ true → HasRepairedAll (seen_by core event.actor) event.request ready.work.cache

@@ -5,23 +5,29 @@ ghost use Rattle.model.specs.declared.refusal.Refusal.TheVariants.{Memory};
 ghost use Rattle.classes.specs.Admitting.{HasMade};
 ghost use Rattle.classes.specs.declared.admissions.Admissions.{Admissions as AdmissionsValue};
 ghost use Rattle.outputs.specs.declared.settlements.Settlements.{Settlements as SettlementsValue};
+ghost use Rattle.repair.specs.Counting.{made_in, IsForStep};
+ghost use Rattle.repair.specs.Prepared.{HasRepairedIf};
+ghost use Rattle.repair.specs.declared.cache.Cache.{Cache as CacheValue};
 ghost use Rattle.events.specs.Terms.{event_of, request_of};
 ghost use Rattle.trust.specs.Naming.{place_of};
 ghost use Rattle.handlers.specs.States.{HasPlace};
 ghost use Rattle.schedule.specs.declared.work.Ready.{Ready as ReadyValue};
 ghost use Rattle.schedule.specs.Standing.{world_of};
-ghost use Rattle.schedule.specs.Preparing.{output_of, HasPath, HasAdmissionFor, HasInput, HasOutcome, IsPrepared, IsMade};
+ghost use Rattle.schedule.specs.Preparing.{output_of, seen_by, HasPath, HasAdmissionFor, HasInput, HasOutcome, HasRepairedAll, IsPrepared, IsMade};
 
 use crate::preparation::Preparation;
 use crate::state::Core;
 use crate::work::{Ready, Work};
+use choose::Plan;
 use classes::{AdmissionInput, Admissions, path_of_text};
 use endings::{input_for_finish, tree_in};
 use events::{Event, Request};
-use handlers::{input_for_derivation, input_for_offer};
+use goals::plan_for_goal;
+use handlers::{input_for_derivation, input_for_offer, plan_for_take};
 use model::Refusal;
 use nar::Tree;
-use outputs::{Input, Settlements};
+use outputs::{Input, Settlements, Sources};
+use repair::{Cache, served_closure_with};
 use std::alloc::Global;
 
 /// What an event needs to be made before a step, as far as a core has to tell it.
@@ -30,6 +36,8 @@ pub struct PrepareInput {
     input: Option<Input>,
     /// What its derivation is admitted by, if it has one that is.
     admission: Option<AdmissionInput>,
+    /// The plan of the closure that is taken, or that its goal is built from, if there is one.
+    plan: Option<Plan>,
 }
 
 impl Drop for PrepareInput {
@@ -37,17 +45,18 @@ impl Drop for PrepareInput {
         let PrepareInput {
             input: _,
             admission: _,
+            plan: _,
         } = self;
     }
 }
 
 /// Makes the path of a source, if it is to be added. The one error is memory.
-fn prepare_source(alloc: Global, work: &mut Work, request: &Request) -> Result<(), Refusal>
-    ensures path { OnOk result (HasPath (request_of request.now) work.new.sources) }
+fn prepare_source(alloc: Global, sources: &mut Sources, request: &Request) -> Result<(), Refusal>
+    ensures path { OnOk result (HasPath (request_of request.now) sources.new) }
     ensures memory { IfErr result (λ why. why ≡ Memory) }
 {
     if let Request::AddSource(name, tree) = request {
-        let _path = work.sources.path_of(alloc, name, tree)?;
+        let _path = sources.path_of(alloc, name, tree)?;
     }
     Ok(())
 }
@@ -101,22 +110,53 @@ fn prepare_admission(
     Ok(())
 }
 
+/// Repairs the records of a plan, if there is one. Those that were used last are taken from a cache that keeps
+/// them, and it keeps what is repaired. The one error is memory.
+fn prepare_repairs(
+    alloc: Global,
+    made: &mut Cache,
+    used: &mut Cache,
+    plan: Option<Plan>,
+) -> Result<(), Refusal>
+    requires { IsForStep made.old }
+    ensures made { OnOk result (HasRepairedIf plan (made_in made.new.made)) }
+    ensures memory { IfErr result (λ why. why ≡ Memory) }
+{
+    let Some(plan) = plan else {
+        return Ok(());
+    };
+    made.exchange_kept(used);
+    let served = served_closure_with(alloc, &plan, made);
+    made.exchange_kept(used);
+    match served {
+        Err(Refusal::Memory) => Err(Refusal::Memory),
+        _ => Ok(()),
+    }
+}
+
 impl PrepareInput {
     /// Makes the values that the event needs. That takes long: the path of a source, a derivation with its class,
-    /// and what comes of a tree that is offered or built, are hashed.
+    /// and what comes of a tree that is offered or built, are hashed, and records of a closure are repaired. Those
+    /// that were used last are taken from the cache, where it has them, and it keeps what is repaired; whatever it
+    /// has, the values are the same.
     ///
     /// # Errors
     ///
     /// - `Memory` only where memory was refused.
-    pub fn make(self, alloc: Global, event: &Event) -> Result<Ready, Refusal>
+    pub fn make(self, alloc: Global, event: &Event, used: &mut Cache) -> Result<Ready, Refusal>
         ensures made { IfOk result (IsMade self (event_of event.now).request) }
         ensures memory { IfErr result (λ why. why ≡ Memory) }
     {
-        let PrepareInput { input, admission } = self;
+        let PrepareInput {
+            input,
+            admission,
+            plan,
+        } = self;
         let mut work = Work::none(alloc);
-        prepare_source(alloc, &mut work, &event.request)?;
+        prepare_source(alloc, &mut work.sources, &event.request)?;
         prepare_admission(alloc, &mut work.admissions, admission)?;
         prepare_output(alloc, &mut work.settlements, input, &event.request)?;
+        prepare_repairs(alloc, &mut work.cache, used, plan)?;
         Ok(Ready::of(work))
     }
 }
@@ -169,6 +209,27 @@ impl Core {
         input_for_derivation(alloc, &self.state.desks[place], text, derivation)
     }
 
+    /// The plan of the closure that the user at a place takes, or that his goal is built from, if there is one. The
+    /// one error is memory.
+    fn plan_for(
+        &self,
+        alloc: Global,
+        place: usize,
+        request: &Request,
+    ) -> Result<Option<Plan>, Refusal>
+        requires of_run { HasPlace self.now.state place }
+        ensures needed { (user : List ℕ) → place_of self.now.state.users user ≡ Some place
+            → IfOk result (λ plan. (cache : CacheValue) → HasRepairedIf plan (made_in cache.made)
+            → HasRepairedAll (seen_by self.now user) (request_of request.now) cache) }
+        ensures memory { IfErr result (λ why. why ≡ Memory) }
+    {
+        match request {
+            Request::Take(class) => plan_for_take(alloc, &self.state, place, class),
+            Request::Plan(number) => plan_for_goal(alloc, &self.state, place, *number),
+            _ => Ok(None),
+        }
+    }
+
     /// What an event needs to be made before a step. Whatever [`PrepareInput::make`] makes of that are the values that
     /// a step by this core needs. The core stays as it is, and may have taken other events when they are used.
     ///
@@ -186,16 +247,23 @@ impl Core {
             return Ok(PrepareInput {
                 input: None,
                 admission: None,
+                plan: None,
             });
         };
         let input = self.input_for(alloc, place, &event.request)?;
+        let plan = self.plan_for(alloc, place, &event.request)?;
         let admission = self.admission_for(alloc, place, preparation)?;
-        Ok(PrepareInput { input, admission })
+        Ok(PrepareInput {
+            input,
+            admission,
+            plan,
+        })
     }
 
     /// Makes values that a step needs for an event, so that [`Core::step_ready`] need not make them: the path
-    /// of a source, a derivation with its class, what comes of a tree that is offered, and what comes of the output of a job for the goal
-    /// that leads it. The core stays as it is, and may have taken other events when the values are used.
+    /// of a source, a derivation with its class, what comes of a tree that is offered, what comes of the output of a job
+    /// for the goal that leads it, and the records that are repaired for a closure that is taken or that a goal is
+    /// built from. The core stays as it is, and may have taken other events when the values are used.
     ///
     /// # Errors
     ///
@@ -205,6 +273,7 @@ impl Core {
         ensures memory { IfErr result (λ why. why ≡ Memory) }
     {
         let preparation = Preparation::new(alloc, event)?;
-        self.need(alloc, preparation)?.make(alloc, event)
+        let need = self.need(alloc, preparation)?;
+        need.make(alloc, event, &mut Cache::none(alloc))
     }
 }

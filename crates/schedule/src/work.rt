@@ -1,6 +1,7 @@
 //! Values that were made before a step, and how many a step had to make.
 
 ghost use Rattle.std.specs.Prelude.{◌≡◌};
+ghost use Rattle.repair.specs.Counting.{IsForStep};
 
 use classes::Admissions;
 use outputs::{Settlements, Sources};
@@ -20,7 +21,9 @@ pub(crate) struct Work {
 
 impl Work {
     /// Nothing was made before.
-    pub(crate) fn none(alloc: Global) -> Work {
+    pub(crate) fn none(alloc: Global) -> Work
+        ensures { IsForStep result.cache }
+    {
         Work {
             sources: Sources::none(alloc),
             admissions: Admissions::none(alloc),

@@ -14,6 +14,7 @@ returns-in_default-clause-need c ready made =
       path = made.path;
       admission = λ among. let bad : true ≡ false = sym among ∙ no_place core.state.users user none in cc;
       outcome = λ among. let bad : true ≡ false = sym among ∙ no_place core.state.users user none in cc;
+      repaired = λ among. let bad : true ≡ false = sym among ∙ no_place core.state.users user none in cc;
     }
 
 pub returns-clause-need : goal.returns-clause-need
@@ -25,4 +26,5 @@ returns-clause-need c ready made =
       path = made.path;
       admission = λ among. c.in_ok-admission.ensures.needed user found ready.work.admissions made.admission;
       outcome = λ among. c.in_ok-input.ensures.needed user found ready.work.settlements made.output;
+      repaired = λ among. c.in_ok-plan.ensures.needed user found ready.work.cache made.repaired;
     }
