@@ -7,6 +7,7 @@ use Rattle.model.specs.Paths.{NoClash}
 use Rattle.model.specs.Worlds.{Setup, World, nothing}
 use Rattle.model.specs.Events as events
 use Rattle.model.specs.Replies as replies
+use Rattle.model.specs.Outcomes.{observation_of}
 use Rattle.model.specs.Steps.{world_after, after, reply_to}
 use Rattle.model.specs.Replies.{is_memory}
 use Rattle.model.specs.HashedTexts.{hashed, texts_of_event}
@@ -24,7 +25,7 @@ use Rattle.history.specs.Histories.{events_of}
 use Rattle.history.proofs.HistoryLemmas.{all_front, hashed_push, some_memory}
 use Rattle.schedule.specs.declared.work.Ready.{Ready}
 use Rattle.schedule.specs.declared.preparing.PrepareInput.{PrepareInput}
-use Rattle.schedule.specs.Preparing.{HasAdmissionFor, HasOutcome, IsPrepared, IsMade}
+use Rattle.schedule.specs.Preparing.{HasAdmissionFor, HasOutcome, HasRepairedAll, IsPrepared, IsMade}
 use Rattle.schedule.specs.declared.read_result.ReadResult.{ReadResult}
 use Rattle.schedule.specs.ReadResults.{IsServedFrom}
 use Rattle.history.specs.Following.{HasReached, Follows, IsModelRead, FindsRead, IsPreparedAfter, IsNeedAfter}
@@ -96,6 +97,10 @@ prepares core rows e ready f prepared = record {
       let texts : List (List ℕ) = hashed (setup_of core) nothing (events_of rows) in
       subst (λ (w : World). HasOutcome (w e.actor) e.actor e.request ready.work.settlements) (f.reached texts clean (All-contains_itself texts)).world
       (prepared.outcome known);
+  repaired = λ clean known.
+      let texts : List (List ℕ) = hashed (setup_of core) nothing (events_of rows) in
+      subst (λ (w : World). HasRepairedAll (observation_of (setup_of core) w e.actor) e.request ready.work.cache)
+      (f.reached texts clean (All-contains_itself texts)).world (prepared.repaired known);
 }
 
 pub needs : (core : Core) (rows : List Row) (e : events.Event) (result : Result PrepareInput Refusal) → Follows (setup_of core) core rows

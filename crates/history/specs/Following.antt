@@ -5,6 +5,7 @@ use Rattle.model.specs.Events as events
 use Rattle.model.specs.Paths.{NoClash}
 use Rattle.model.specs.Reach.{is_among}
 use Rattle.model.specs.Worlds.{Setup, nothing}
+use Rattle.model.specs.Outcomes.{observation_of}
 use Rattle.model.specs.Steps.{world_after}
 use Rattle.model.specs.HashedTexts.{hashed}
 use Rattle.repair.specs.GoodClosures.{AreWellFormed}
@@ -12,7 +13,7 @@ use Rattle.schedule.specs.declared.state.Core.{Core}
 use Rattle.schedule.specs.Standing.{world_of, HasHashed}
 use Rattle.schedule.specs.declared.work.Ready.{Ready}
 use Rattle.schedule.specs.declared.preparing.PrepareInput.{PrepareInput}
-use Rattle.schedule.specs.Preparing.{HasPath, HasAdmissionFor, HasOutcome, IsMade}
+use Rattle.schedule.specs.Preparing.{HasPath, HasAdmissionFor, HasOutcome, HasRepairedAll, IsMade}
 use Rattle.schedule.specs.declared.read_result.ReadResult.{ReadResult}
 use Rattle.schedule.specs.ReadResults.{IsServedFrom}
 use Rattle.events.specs.declared.event.Event.{Event}
@@ -42,13 +43,16 @@ abbrev pub FindsRead : Setup → List Row → Event → ReadResult → Type 0
 FindsRead setup rows event found = (reply : Reply) → IsServedFrom found reply → IsModelRead setup rows event reply
 
 -- the values that an event needs after these rows are there: the path of a source; and, where no two texts that the rows' events hash have
--- one folded digest, a derivation that is admitted, what comes of an offer, and of the output of a job for the goal that leads it
+-- one folded digest, a derivation that is admitted, what comes of an offer, and of the output of a job for the goal that leads it, and the records
+-- that are repaired for a closure that is taken, or that a goal is built from
 pub record IsPreparedAfter (setup : Setup) (rows : List Row) (e : events.Event) (ready : Ready) : Type 0 where
   pub path : HasPath e.request ready.work.sources
   pub admission : NoClash (hashed setup nothing (events_of rows)) → is_among e.actor setup.users ≡ true
       → HasAdmissionFor (world_after setup nothing (events_of rows) e.actor) e.request ready.work.admissions
   pub outcome : NoClash (hashed setup nothing (events_of rows)) → is_among e.actor setup.users ≡ true
       → HasOutcome (world_after setup nothing (events_of rows) e.actor) e.actor e.request ready.work.settlements
+  pub repaired : NoClash (hashed setup nothing (events_of rows)) → is_among e.actor setup.users ≡ true
+      → HasRepairedAll (observation_of setup (world_after setup nothing (events_of rows)) e.actor) e.request ready.work.cache
 
 -- whatever is made of what an event is prepared from are the values that an event needs after these rows
 abbrev pub IsNeedAfter : Setup → List Row → events.Event → PrepareInput → Type 0

@@ -53,8 +53,9 @@ impl Model for Snapshot {
 
     ghost use Rattle.std.specs.Coded.{codes};
     ghost use Rattle.model.specs.TreeCode.{tree_code};
+    ghost use Rattle.indexmap.specs.Layout.{hash_map_code};
 
-    ghost coded = { Prim.hlevel (codes, tree_code) };
+    ghost coded = { Prim.hlevel (codes, tree_code, hash_map_code) };
 
     ghost view = { λ s. showing (arc_value s.core) s.seen.seen.book s.seen.seen.log };
 
