@@ -31,6 +31,7 @@ use Rattle.repair.specs.contracts.repair.Repair as Repair
 use Rattle.repair.specs.contracts.moves.Move as Move
 use Rattle.repair.proofs.moves.Move.TheSendSync as moves
 use Rattle.repair.specs.contracts.kept.Kept as Kept
+use Rattle.repair.specs.contracts.made.Made as Made
 use Rattle.repair.specs.contracts.cache.Cache as Cache
 use Rattle.jobs.specs.contracts.goal.Goal as Goal
 use Rattle.jobs.specs.contracts.goals.Goals as Goals
@@ -188,11 +189,17 @@ kept_send = declared_send Kept.the_type (search (LruCache-send, sendable, crosse
 kept_sync : IsSync Kept.the_row
 kept_sync = declared_sync Kept.the_type (search (LruCache-sync, sendable, crosses, path_sync, repair_sync) depth 40, (search sendable, (search sendable, (search sendable, tt))))
 
+made_send : IsSend Made.the_row
+made_send = search (sendable, crosses, path_send, repair_send) depth 60 fits 5000
+
+made_sync : IsSync Made.the_row
+made_sync = search (sendable, crosses, path_sync, repair_sync) depth 60 fits 5000
+
 pub cache_send : IsSend Cache.the_row
-cache_send = search (sendable, crosses, repair_send, kept_send) depth 60 fits 5000
+cache_send = search (sendable, crosses, made_send, kept_send) depth 60 fits 5000
 
 cache_sync : IsSync Cache.the_row
-cache_sync = search (sendable, crosses, repair_sync, kept_sync) depth 60 fits 5000
+cache_sync = search (sendable, crosses, made_sync, kept_sync) depth 60 fits 5000
 
 -- ---- cores
 

@@ -75,8 +75,9 @@ impl<J: FrontId> Model for Book<J> {
 
     ghost use Rattle.std.specs.Coded.{codes};
     ghost use Rattle.model.specs.TreeCode.{tree_code};
+    ghost use Rattle.indexmap.specs.Layout.{hash_map_code};
 
-    ghost coded = { Prim.hlevel (codes, tree_code) };
+    ghost coded = { Prim.hlevel (codes, tree_code, hash_map_code) };
 
     ghost view = { λ b. record {
       core = b.cores;

@@ -58,8 +58,9 @@ impl Model for Cores {
 
     ghost use Rattle.std.specs.Coded.{codes};
     ghost use Rattle.model.specs.TreeCode.{tree_code};
+    ghost use Rattle.indexmap.specs.Layout.{hash_map_code};
 
-    ghost coded = { Prim.hlevel (codes, tree_code) };
+    ghost coded = { Prim.hlevel (codes, tree_code, hash_map_code) };
 
     ghost view = { λ c. arc_value c.shown };
 

@@ -35,7 +35,7 @@ pub struct Pass<J: FrontId> {
     sure: u64,
     seen: HistoryPrefix,
     reader: SnapshotReader,
-    /// Records that were repaired for its closures.
+    /// Records that were repaired for what it read and prepared.
     repaired: Cache,
     alloc: Global,
 }
@@ -211,7 +211,7 @@ impl<J: FrontId> Pass<J> {
             return Err(Refusal::Memory);
         };
         if self.see(rows) {
-            needed?.make(self.alloc, event)
+            needed?.make(self.alloc, event, &mut self.repaired)
         } else {
             Err(Refusal::Memory)
         }
@@ -220,9 +220,10 @@ impl<J: FrontId> Pass<J> {
     /// Makes values that an event needs, so that [`Front::commit`](crate::Front::commit) need not make them
     /// under the lock. They are made after rows that are published, which begin with all that the pass had
     /// seen, and are what it has seen then: the path of a source, what is known of a derivation, what comes of
-    /// a tree that is offered, and what comes of the output of a job for the goal that leads it. It takes no
-    /// lock, and waits for nobody; and nobody waits for it while a derivation is parsed, nor while they are made.
-    /// Where memory is refused, the records that it repaired are let go.
+    /// a tree that is offered, what comes of the output of a job for the goal that leads it, and the records that
+    /// are repaired for a closure that is taken or that a goal is built from. It takes no lock, and waits for nobody;
+    /// and nobody waits for it while a derivation is parsed, nor while they are made. Those records that it repaired
+    /// last it keeps, as for [`Pass::read`]; where memory is refused, they are let go.
     ///
     /// # Errors
     ///
@@ -241,7 +242,7 @@ impl<J: FrontId> Pass<J> {
         made
     }
 
-    /// How many repaired records that its reads needed were at hand from reads before; at the greatest
+    /// How many repaired records that it needed were at hand from what it read and prepared before; at the greatest
     /// number it stays there. No reply depends on it.
     pub fn hits(&self) -> u64 {
         self.repaired.hits()

@@ -49,8 +49,9 @@ impl<J: FrontId> Model for Publisher<J> {
 
     ghost use Rattle.std.specs.Coded.{codes};
     ghost use Rattle.model.specs.TreeCode.{tree_code};
+    ghost use Rattle.indexmap.specs.Layout.{hash_map_code};
 
-    ghost coded = { Prim.hlevel (codes, tree_code) };
+    ghost coded = { Prim.hlevel (codes, tree_code, hash_map_code) };
 
     ghost view = { λ s. record {
       core = s.end.writer.desk.shown.value.core;
