@@ -19,7 +19,7 @@ returns-in-Ok-clause-looked c =
     let name = name_seen _ _ _ c.get-snapshot.result.now sees c.requires same in
     let seen = c.seen-rows.ensures in
     let book : c.seen-rows.result.seen.book ≡ book_in c.get-snapshot.result.now.name =
-        λ i. record { number = seen.book.0 i; log_name = seen.book.1 i; cells_name = seen.book.2 i } in
+    λ i. record { number = seen.book.0 i; log_name = seen.book.1 i; cells_name = seen.book.2 i } in
     record {
       book = book ∙ ap book_in name;
       legal = subst (λ (t : FrontName × List Row). IsLegal (setup_in t.0) t.1) (λ i. (name i, sym seen.log i))

@@ -16,7 +16,7 @@ returns-in-Ok-clause-needed c =
     let name = name_seen _ _ _ c.get-snapshot.result.now c.in-Ok.ensures.1 c.requires c.get-snapshot.ensures in
     let seen = c.seen-rows.ensures in
     let book : c.seen-rows.result.seen.book ≡ book_in c.get-snapshot.result.now.name =
-        λ i. record { number = seen.book.0 i; log_name = seen.book.1 i; cells_name = seen.book.2 i } in
+    λ i. record { number = seen.book.0 i; log_name = seen.book.1 i; cells_name = seen.book.2 i } in
     record {
       book = book ∙ ap book_in name;
       need = subst (λ (t : FrontName × List Row). IfOk c.need-needed.result (IsNeedAfter (setup_in t.0) t.1 (event_of c.args.preparation.event.now)))
