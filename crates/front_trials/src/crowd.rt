@@ -10,7 +10,7 @@ use crate::new_front::NewFront;
 use crate::reads::{Scripts, answered_at_once};
 use crate::traces::{Entry, unmatched, wrong_rows};
 use crate::turns::closed;
-use book::{Front, FrontId, FrontTokens, History};
+use book::{Front, FrontId, History};
 use model::Refusal;
 use schedule::{Core, User};
 use std::alloc::Global;

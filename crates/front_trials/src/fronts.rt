@@ -6,9 +6,9 @@ ghost use Rattle.book.specs.Keeping.{IsNew};
 
 use crate::new_front::NewFront;
 use crate::turns::{Member, Task, all_at_once, closed};
-use book::{Front, FrontId, FrontTokens, Pass, Row};
+use book::{Front, FrontId, Pass, Row};
 use model::Refusal;
-use schedule::{Core, Event, Reply};
+use schedule::{Event, Reply};
 use session::Job;
 use std::alloc::Global;
 use std::hash::RandomState;

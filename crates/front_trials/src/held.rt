@@ -9,9 +9,9 @@ use crate::new_front::NewFront;
 use crate::reads::{Scripts, answered_at_once};
 use crate::traces::{Entry, text_of};
 use crate::turns::{Member, Task, all_at_once, closed, is_set_in_time};
-use book::{Front, FrontId, FrontTokens, History, Pass, Row};
+use book::{Front, FrontId, History, Pass, Row};
 use model::Refusal;
-use schedule::{Core, Query, Ready};
+use schedule::{Query, Ready};
 use session::{Mode, Session, answer_text};
 use std::alloc::{AllocError, Global};
 use std::hash::RandomState;
@@ -19,7 +19,7 @@ use std::marker::Brand;
 use std::sync::atomic::{AtomicBool, Ordering};
 use std::sync::{Arc, Wait};
 use std::thread::Threads;
-use trial_lines::{Answer, adding, core_for, fetching, new_core, number, tell};
+use trial_lines::{Answer, adding, fetching, new_core, number, tell};
 
 /// How often a path is read that has to be there.
 const TIMES: u32 = 100;

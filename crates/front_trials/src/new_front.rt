@@ -1,6 +1,6 @@
 //! What a new front begins with.
 
-ghost use Rattle.std.specs.Prelude.{◌≡◌, ◌×◌, [], IfOk};
+ghost use Rattle.std.specs.Prelude.{◌≡◌, [], IfOk};
 ghost use Rattle.model.specs.Worlds.{nothing};
 ghost use Rattle.schedule.specs.Standing.{world_of, stored_in};
 

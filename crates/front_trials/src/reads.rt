@@ -8,16 +8,16 @@ ghost use Rattle.book.specs.Keeping.{IsNew};
 use crate::new_front::NewFront;
 use crate::traces::Entry;
 use crate::turns::{Member, Task, all_at_once, closed};
-use book::{Front, FrontId, FrontTokens, Pass, Row};
+use book::{Front, FrontId, Pass, Row};
 use model::Refusal;
-use schedule::{Core, Event, Query, Reply};
+use schedule::{Event, Query, Reply};
 use session::{Job, Mode, Session};
 use std::alloc::{AllocError, Global};
 use std::hash::RandomState;
 use std::marker::Brand;
 use std::sync::Wait;
 use std::thread::Threads;
-use trial_lines::{Answer, store_of, users_in, with_newlines};
+use trial_lines::Answer;
 
 /// Lines that a thread answers, and what each event of them was answered.
 #[derive(Drop)]

@@ -6,15 +6,14 @@ ghost use Rattle.book.specs.Keeping.{IsNew};
 
 use crate::fronts::Called;
 use crate::new_front::NewFront;
-use book::{Front, FrontId, FrontTokens};
+use book::{Front, FrontId};
 use model::Refusal;
-use schedule::Core;
 use session::{Mode, Session};
 use std::alloc::Global;
 use std::hash::RandomState;
 use std::marker::Brand;
 use std::sync::Wait;
-use trial_lines::{Answer, store_of, users_in, with_newlines};
+use trial_lines::Answer;
 
 /// Adds how many paths are stored, before a sweep and after it.
 fn sweep_once<J: FrontId, R: Wait>(

@@ -5,7 +5,7 @@ ghost use Rattle.history.specs.NewFronts.{AreTokensOf};
 ghost use Rattle.book.specs.Keeping.{IsNew};
 
 use crate::new_front::NewFront;
-use book::{Front, FrontId, FrontTokens, Pass};
+use book::{Front, FrontId, Pass};
 use model::Refusal;
 use schedule::{Core, Event, Query, Ready, Reply};
 use session::Job;
