@@ -51,7 +51,6 @@ pub mod Inputs
 pub mod Lines
 pub mod Words
 pub mod Verbs
-pub mod VerbGroups
 pub mod Forms
 pub mod Talk
 pub mod TalkLaws

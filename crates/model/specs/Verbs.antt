@@ -1,5 +1,6 @@
 -- The verbs of lines. Each has a row in each of these tables: its word in a line, the kinds of the words behind it, and the request that they make.
 use Rattle.std.specs.Prelude.{◌≡◌, ℕ, Bool, true, false, if◌then◌else◌, List, [], ◌∷◌, bytes_eq, codes, Option, None, Some}
+use Rattle.std.specs.List.{find}
 use Rattle.std.specs.Option.{option_and_then}
 use Rattle.model.specs.declared.mode.Mode.{Mode}
 use Rattle.model.specs.declared.mode.Mode.TheVariants.{Service, Run}
@@ -12,27 +13,33 @@ use Rattle.model.specs.Events.{Request}
 use Rattle.model.specs.Events as events
 use Rattle.model.specs.Words.{IsTreeText, IsOutputText, number_in}
 
+-- the word that it is in a line
+abbrev pub word_of : Verb → List ℕ
+word_of Source = codes "source"
+word_of Derivation = codes "derivation"
+word_of Offer = codes "offer"
+word_of Fetch = codes "fetch"
+word_of Trust = codes "trust"
+word_of Distrust = codes "distrust"
+word_of Pin = codes "pin"
+word_of Unpin = codes "unpin"
+word_of Closure = codes "closure"
+word_of Take = codes "take"
+word_of Build = codes "build"
+word_of Status = codes "status"
+word_of Plan = codes "plan"
+word_of Start = codes "start"
+word_of Finish = codes "finish"
+word_of Fail = codes "fail"
+word_of Forget = codes "forget"
+
+-- all of them
+abbrev pub verbs : List Verb
+verbs = Source ∷ Derivation ∷ Offer ∷ Fetch ∷ Trust ∷ Distrust ∷ Pin ∷ Unpin ∷ Closure ∷ Take ∷ Build ∷ Status ∷ Plan ∷ Start ∷ Finish ∷ Fail ∷ Forget ∷ []
+
 -- the verb that a word is
 abbrev pub verb_of : List ℕ → Option Verb
-verb_of word =
-    if bytes_eq word (codes "source") then Some Source
-    else if bytes_eq word (codes "derivation") then Some Derivation
-    else if bytes_eq word (codes "offer") then Some Offer
-    else if bytes_eq word (codes "fetch") then Some Fetch
-    else if bytes_eq word (codes "trust") then Some Trust
-    else if bytes_eq word (codes "distrust") then Some Distrust
-    else if bytes_eq word (codes "pin") then Some Pin
-    else if bytes_eq word (codes "unpin") then Some Unpin
-    else if bytes_eq word (codes "closure") then Some Closure
-    else if bytes_eq word (codes "take") then Some Take
-    else if bytes_eq word (codes "build") then Some Build
-    else if bytes_eq word (codes "status") then Some Status
-    else if bytes_eq word (codes "plan") then Some Plan
-    else if bytes_eq word (codes "start") then Some Start
-    else if bytes_eq word (codes "finish") then Some Finish
-    else if bytes_eq word (codes "fail") then Some Fail
-    else if bytes_eq word (codes "forget") then Some Forget
-    else None
+verb_of word = find (λ verb. bytes_eq word (word_of verb)) verbs
 
 -- whether lines of the mode have the verb: in a run no line plans, starts or ends what is built
 abbrev pub knows : Mode → Verb → Bool
