@@ -7,7 +7,7 @@ use Rattle.model.specs.Classes.{Admission, Known, known_at}
 use Rattle.model.specs.Settling.{Settled}
 use Rattle.model.specs.Worlds.{Source, Record, Setup, Desk, World, known_of, Entry, path_of_entry, Resolved, Job, Goal, tree_of_record}
 use Rattle.model.specs.References.{candidates}
-use Rattle.model.specs.Events.{Request, AddSource, AddDerivation, Offer, Fetch, Trust, Distrust, Pin, Unpin, Closure, Take, Build, Status, Plan, Start, Finish, Fail, Forget, Event}
+use Rattle.model.specs.Events.{Request, AddSource, Offer, Take, Plan, Finish, Event}
 use Rattle.model.specs.Outcomes.{Observation, observation_of, reaches}
 use Rattle.model.specs.Goals.{goal_at, members}
 use Rattle.model.specs.Endings.{built_record}
@@ -59,22 +59,11 @@ gained_sources setup w e = flat_map (λ x. gained (w x) (after setup w e x)) set
 -- the trees, with their paths, that a request of a user puts into the table one after another, if it is not refused
 abbrev pub stored_by : Setup → World → List ℕ → Request → List Source
 stored_by setup w u (AddSource name tree) = source_named name tree ∷ []
-stored_by setup w u (AddDerivation text) = []
 stored_by setup w u (Offer path tree) = output_stored (w u) tree (known_at (known_of (w u)) path)
-stored_by setup w u (Fetch path) = []
-stored_by setup w u (Trust user) = []
-stored_by setup w u (Distrust user) = []
-stored_by setup w u (Pin class path) = []
-stored_by setup w u (Unpin class) = []
-stored_by setup w u (Closure class) = []
 stored_by setup w u (Take class) = taken_sources (closure_for (observation_of setup w u) class)
-stored_by setup w u (Build derivation) = []
-stored_by setup w u (Status number) = []
 stored_by setup w u (Plan number) = planned_sources (observation_of setup w u) (goal_at number (w u).goals)
-stored_by setup w u (Start number) = []
 stored_by setup w u (Finish number bytes) = gained_sources setup w (record { actor = u; request = Finish number bytes })
-stored_by setup w u (Fail number status) = []
-stored_by setup w u (Forget class path) = []
+stored_by setup w u request = []
 
 -- the tree that is settled for a goal of which this is built, with its path
 abbrev pub record_tried : Result Record Refusal → List Source

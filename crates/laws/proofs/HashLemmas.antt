@@ -8,16 +8,16 @@ use Rattle.model.specs.Archives.{Tree}
 use Rattle.model.specs.ArchiveReading.{tree_of_archive}
 use Rattle.model.specs.Worlds.{Job, Desk, World, nothing, Setup, is_user}
 use Rattle.model.specs.Goals.{goal_at, members}
-use Rattle.model.specs.Events.{Request, AddSource, AddDerivation, Offer, Fetch, Trust, Distrust, Pin, Unpin, Closure, Take, Build, Status, Plan, Start, Finish, Fail, Forget, Event}
-use Rattle.model.specs.Outcomes.{reaches, Observation, observation_of, Notification, Outcome, desk_after}
+use Rattle.model.specs.Events.{Request, AddDerivation, Offer, Closure, Take, Plan, Finish, Event}
+use Rattle.model.specs.Outcomes.{reaches, Observation, Outcome, desk_after}
 use Rattle.model.specs.Steps.{outcome_of, after}
 use Rattle.model.specs.DerivationRequests.{derivation_texts}
 use Rattle.model.specs.OfferRequests.{offer_texts}
 use Rattle.model.specs.ClosureRequests.{texts_for}
 use Rattle.model.specs.GoalRequests.{plan_texts}
-use Rattle.model.specs.EndRequests.{desk_texts, job_texts, leads_job, finish_texts}
+use Rattle.model.specs.EndRequests.{desk_texts, job_texts, leads_job}
 use Rattle.model.specs.HashedTexts.{texts_of, texts_of_event, hashed}
-use Rattle.model.specs.Striking.{gives_trust, ever, strike}
+use Rattle.model.specs.Striking.{gives_trust, ever}
 use Rattle.model.specs.Laws.{StrikingHashesNoMore}
 use Rattle.model.proofs.BoolLemmas.{either, same_bytes}
 use Rattle.model.proofs.ReachLemmas.{leads-IsLeastSet}
@@ -102,27 +102,17 @@ module _ (P : List ℕ → Type 0) where
 
     -- those of a request of one of the set
     request_within : (u : List ℕ) → set u ≡ true → (request : Request) → All P (texts_of setup w u request) → All P (texts_of setup v u request)
-    request_within u h (AddSource name tree) all = all
     request_within u h (AddDerivation text) all = subst (λ (d : Desk). All P (derivation_texts d text)) (agree.desks u h) all
     request_within u h (Offer derivation tree) all = subst (λ (d : Desk). All P (offer_texts d derivation tree)) (agree.desks u h) all
-    request_within u h (Fetch path) all = all
-    request_within u h (Trust user) all = all
-    request_within u h (Distrust user) all = all
-    request_within u h (Pin class path) all = all
-    request_within u h (Unpin class) all = all
     request_within u h (Closure class) all = subst (λ (s : Observation). All P (texts_for s class)) (observation_agree setup set w v agree u h) all
     request_within u h (Take class) all = subst (λ (s : Observation). All P (texts_for s class)) (observation_agree setup set w v agree u h) all
-    request_within u h (Build derivation) all = all
-    request_within u h (Status number) all = all
     request_within u h (Plan number) all = subst (λ (s : Observation). All P (plan_texts s number)) (observation_agree setup set w v agree u h) all
-    request_within u h (Start number) all = all
     request_within u h (Finish number bytes) all =
         let job : Job = record { leader = u; number = number } in
         let o : Option Tree = tree_of_archive bytes in
         where_any (leads_job job (goal_at number (v u).goals)) (job_texts setup w job o) (job_texts setup v job o) (job_within job o)
         (subst (λ (d : Desk). All P (if leads_job job (goal_at number d.goals) then job_texts setup w job o else [])) (agree.desks u h) all)
-    request_within u h (Fail number status) all = all
-    request_within u h (Forget class path) all = all
+    request_within u h request all = all
 
     event_within : (e : Event) → set e.actor ≡ true → All P (texts_of_event setup w e) → All P (texts_of_event setup v e)
     event_within e h all =

@@ -1,5 +1,5 @@
 -- What the texts of a closure are hashed for: a path of an entry, or the closure is refused; and each class asked for has its entry.
-use Rattle.std.proofs.Common.{◌≡◌, ℕ, suc, Bool, true, false, inl, inr, refl, sym, ◌∙◌, ap, subst, List, [], ◌∷◌, ◌++◌, Option, Some, Result, Ok, Err}
+use Rattle.std.proofs.Common.{◌≡◌, ℕ, Bool, true, false, inl, inr, refl, sym, ◌∙◌, ap, subst, List, [], ◌∷◌, ◌++◌, Option, Some, Result, Ok, Err}
 use Rattle.std.specs.Prelude.{All, map, option_map, is_ok, is_none, nat_lt, bytes_eq}
 use Rattle.std.specs.List.{list_any}
 use Rattle.std.proofs.lemmas.List.{append_assoc}
@@ -18,7 +18,7 @@ use Rattle.model.specs.Results.{then_do}
 use Rattle.model.specs.Closures.{class_of_entry, is_for, path_for, path_of_class, entries_with, served_entries, served_plan, closure, texts_of_plan, closure_texts}
 use Rattle.model.specs.HashedValues.{IsRepairPath, IsClosureRefused, IsRepairedEntry}
 use Rattle.model.proofs.BoolLemmas.{either, bytes_same}
-use Rattle.laws.proofs.MemberLemmas.{In, in_of, contains_of, in_left, in_right, in_map, in_filter_map, any_true, Stands, in_set}
+use Rattle.laws.proofs.MemberLemmas.{In, in_of, contains_of, in_right, in_map, in_filter_map, any_true, Stands, in_set}
 use Rattle.laws.proofs.AllReachedLemmas.{reached_first}
 use Rattle.laws.proofs.OrderLemmas.{bytes_apart, first_apart}
 use Rattle.laws.proofs.ServedLemmas.{then_ok, ok_is, not_both, some_same, option_cases, serve_class, find_some, chosen_in_class, each_member, moved_cases, serve_moves, OneForEach, chosen_in_one}

@@ -15,7 +15,7 @@ use Rattle.model.specs.References.{candidates, paths_of_labels}
 use Rattle.model.specs.Outputs.{record_for}
 use Rattle.model.specs.Goals.{goal_at, in_status, planned_in, same_resolved}
 use Rattle.model.specs.FinishedBuilds.{is_record_at, built_at, built_in, built_on, is_labelled_by, finished_build, for_class}
-use Rattle.model.specs.Events.{Request, AddSource, AddDerivation, Offer, Fetch, Trust, Distrust, Pin, Unpin, Closure, Take, Build, Status, Plan, Start, Finish, Fail, Forget}
+use Rattle.model.specs.Events.{Request, AddSource, AddDerivation, Offer, Trust, Distrust, Pin, Unpin, Take, Build, Plan, Start, Finish, Fail, Forget}
 use Rattle.model.specs.Outcomes.{Observation, observation_of, NoNotification, Outcome, need, add_entry}
 use Rattle.model.specs.OfferRequests.{output_settled, offer_output, offer}
 use Rattle.model.specs.ForgetRequests.{remaining}
@@ -26,12 +26,13 @@ use Rattle.model.specs.HashedTexts.{texts_of}
 use Rattle.model.specs.HashedValues.{held_of, IsTreeOf, SourceOf, OutputOf}
 use Rattle.laws.proofs.MemberLemmas.{In, in_left, in_right, in_append, in_map, from_map, from_filter, from_flat_map}
 use Rattle.laws.proofs.OutcomeLemmas.{one_of, entry_added}
-use Rattle.laws.proofs.SourceRequestLemmas.{add_source_cases, fetch_cases}
+use Rattle.laws.proofs.QueryLemmas.{query_cases}
+use Rattle.laws.proofs.SourceRequestLemmas.{add_source_cases}
 use Rattle.laws.proofs.DerivationRequestLemmas.{add_derivation_cases}
 use Rattle.laws.proofs.TrustRequestLemmas.{trust_cases, distrust_cases}
 use Rattle.laws.proofs.PinRequestLemmas.{pin_cases}
-use Rattle.laws.proofs.ClosureRequestLemmas.{closure_cases, take_cases}
-use Rattle.laws.proofs.GoalRequestLemmas.{build_cases, status_cases, plan_cases}
+use Rattle.laws.proofs.ClosureRequestLemmas.{take_cases}
+use Rattle.laws.proofs.GoalRequestLemmas.{build_cases, plan_cases}
 use Rattle.laws.proofs.ForgetRequestLemmas.{forget_cases}
 use Rattle.laws.proofs.ClosureLemmas.{least_in}
 use Rattle.laws.proofs.KeptLemmas.{kept_in}
@@ -187,20 +188,19 @@ module _ (Q : Source → Type 0) (setup : Setup) (w : World) (u : List ℕ) (own
       add_derivation_cases P setup (w u) text
       (record { had = λ a. (refl, own); added = λ d a is. (refl, own); over = tt; unread = tt; missing = tt; high = tt }) (λ large. tt)
   quietly_held (Offer derivation tree) made quiet = offer_held derivation tree made
-  quietly_held (Fetch path) made quiet = fetch_cases P (w u) path (λ tree there. (refl, own)) (λ absent. tt)
   quietly_held (Trust other) made quiet =
       trust_cases P setup s other (λ known. (refl, cond_both (bytes_eq other u) (w u) (with_trust other (w u)) (AllHeld Q) (λ yes. own) (λ no. own))) tt
   quietly_held (Distrust other) made quiet = distrust_cases P setup s other (refl, own) tt
   quietly_held (Pin class path) made quiet = pin_cases P setup (w u) class path (refl, own) tt
   quietly_held (Unpin class) made quiet = (refl, own)
-  quietly_held (Closure class) made quiet = closure_cases P s class (λ entries. (refl, own)) tt tt (λ why. tt)
   quietly_held (Take class) made quiet =
       take_cases P s class setup
       (λ entries path given there. (refl, held_entries Q entries (w u) own (closure_trees s.view s.desk.pins (class ∷ []) [] Q seen made entries given))) tt tt (λ why. tt) tt
   quietly_held (Build path) made quiet = build_cases P (w u) path (λ a known. (refl, own)) (λ full. tt) (λ unknown. tt)
-  quietly_held (Status n) made quiet = status_cases P s n (λ g there. (refl, own)) (λ absent. tt)
   quietly_held (Plan n) made quiet =
       plan_cases P s n (record { resolved = λ g r. (refl, own); failed = λ g why. (refl, own); unrealised = tt; unknown = tt; untimely = tt; absent = λ none. tt })
   quietly_held (Start n) made quiet = goal_held n (goal_at n (w u).goals) refl
   quietly_held (Forget class path) made quiet = forget_cases P s class path (refl, held_without Q class path (w u) own) tt tt
-  quietly_held r made quiet = absurd (cc)
+  quietly_held (Finish n bytes) made quiet = absurd (cc)
+  quietly_held (Fail n status) made quiet = absurd (cc)
+  quietly_held query made quiet = query_cases P setup s query refl (λ reply no_failure. (refl, own)) (λ why no_failure. tt)

@@ -16,7 +16,7 @@ use Rattle.model.specs.Endings.{End, Output, Failure, built_record, done_with, w
 use Rattle.model.specs.Choices as choices
 use Rattle.model.specs.Closures as closures
 use Rattle.model.specs.Resolutions.{input_classes, resolved_over, resolve}
-use Rattle.model.specs.Events.{Request, AddSource, AddDerivation, Offer, Fetch, Trust, Distrust, Pin, Unpin, Closure, Take, Build, Status as StatusRequest, Plan, Start, Finish, Fail, Forget, Event}
+use Rattle.model.specs.Events.{Request, AddSource, AddDerivation, Offer, Trust, Distrust, Pin, Unpin, Take, Build, Plan, Start, Finish, Fail, Forget, Event}
 use Rattle.model.specs.Replies as replies
 use Rattle.model.specs.Replies.{Reply}
 use Rattle.model.specs.Outcomes.{reaches, Observation, observation_of, Notification, NoNotification, Ended, Change, Outcome, becomes, check, need, reply_of, delivered, desk_after}
@@ -30,13 +30,14 @@ use Rattle.model.specs.GivenClosures.{IsGoodFor, KeepsGoodClosure, GiveGoodClosu
 use Rattle.model.specs.KeptClosures.{planning, IsPlanned, IsWellKept, KeptClosuresAreGood, OnlyPlansChangeKept, is_planned, PlannedGoalsKeep}
 use Rattle.model.proofs.BoolLemmas.{either, same_bytes, bytes_same}
 use Rattle.laws.proofs.OutcomeLemmas.{one_of, checked, needed}
-use Rattle.laws.proofs.SourceRequestLemmas.{add_source_cases, fetch_cases}
+use Rattle.laws.proofs.QueryLemmas.{query_cases}
+use Rattle.laws.proofs.SourceRequestLemmas.{add_source_cases}
 use Rattle.laws.proofs.DerivationRequestLemmas.{add_derivation_cases}
 use Rattle.laws.proofs.OfferRequestLemmas.{offer_cases}
 use Rattle.laws.proofs.TrustRequestLemmas.{trust_cases, distrust_cases}
 use Rattle.laws.proofs.PinRequestLemmas.{pin_cases}
-use Rattle.laws.proofs.ClosureRequestLemmas.{closure_cases, take_cases}
-use Rattle.laws.proofs.GoalRequestLemmas.{planned_goal, build_cases, status_cases}
+use Rattle.laws.proofs.ClosureRequestLemmas.{take_cases}
+use Rattle.laws.proofs.GoalRequestLemmas.{planned_goal, build_cases}
 use Rattle.laws.proofs.EndRequestLemmas.{end_job_cases}
 use Rattle.laws.proofs.ForgetRequestLemmas.{forget_cases}
 use Rattle.laws.proofs.EntriesLemmas.{entries_added}
@@ -380,25 +381,23 @@ outcome_fits setup s (AddDerivation text) =
 outcome_fits setup s (Offer path tree) =
     inl (offer_cases (GoalsFollow s) setup s.desk path tree
     (record { had = λ r. follows_itself s.desk.goals; added = λ r. follows_itself s.desk.goals; over = tt; refused = λ why. tt; unknown = λ absent. tt }))
-outcome_fits setup s (Fetch path) = inl (fetch_cases (GoalsFollow s) s.desk path (λ tree held. follows_itself s.desk.goals) (λ absent. tt))
 outcome_fits setup s (Trust other) =
     inl (trust_cases (GoalsFollow s) setup s other
     (λ known. cond_both (bytes_eq other s.user) s.desk (with_trust other s.desk) (λ (d : Desk). Follows (known_of s.desk) s.desk.goals d.goals) (λ own. follows_itself s.desk.goals) (λ another. follows_itself s.desk.goals)) tt)
 outcome_fits setup s (Distrust other) = inl (distrust_cases (GoalsFollow s) setup s other (follows_itself s.desk.goals) tt)
 outcome_fits setup s (Pin class path) = inl (pin_cases (GoalsFollow s) setup s.desk class path (follows_itself s.desk.goals) tt)
 outcome_fits setup s (Unpin class) = inl (follows_itself s.desk.goals)
-outcome_fits setup s (Closure class) = inl (closure_cases (GoalsFollow s) s class (λ entries. follows_itself s.desk.goals) tt tt (λ why. tt))
 outcome_fits setup s (Take class) =
     inl (take_cases (GoalsFollow s) s class setup
     (λ entries path given there. follows_same s.desk.goals (with_entries entries s.desk).goals (entries_added entries s.desk).goals) tt tt (λ why. tt) tt)
 outcome_fits setup s (Build path) =
     inl (build_cases (GoalsFollow s) s.desk path (λ a known. follows_new path s.desk.goals (ap is_some known)) (λ full. tt) (λ unknown. tt))
-outcome_fits setup s (StatusRequest n) = inl (status_cases (GoalsFollow s) s n (λ g there. follows_itself s.desk.goals) (λ absent. tt))
 outcome_fits setup s (Plan n) = plan_fits s n
 outcome_fits setup s (Start n) = inl (start_fits setup s n)
 outcome_fits setup s (Finish n bytes) = inl (end_fits setup s n (Output bytes))
 outcome_fits setup s (Fail n status) = inl (end_fits setup s n Failure)
 outcome_fits setup s (Forget class path) = inl (forget_cases (GoalsFollow s) s class path (follows_let_go class path s.desk.goals) tt tt)
+outcome_fits setup s query = inl (query_cases (GoalsFollow s) setup s query refl (λ reply own. follows_itself s.desk.goals) (λ why own. tt))
 
 -- ---- one event
 

@@ -11,9 +11,9 @@ use Rattle.model.specs.declared.refusal.RewriteFault.TheVariants.{Accidental}
 use Rattle.model.specs.Archives.{Tree, File, Link, Directory, Entries, NoEntries, Entry, nar}
 use Rattle.model.specs.Paths.{Output, store_path, with_fingerprint}
 use Rattle.model.specs.Occurrences.{Keys, among, Place, occurrences, fault}
-use Rattle.model.specs.Substitutions.{Images, image_of, keys_of, parts_of, is_replaced, imaged, put_from, put_text, put, put_entries, same_place, is_true_put}
+use Rattle.model.specs.Substitutions.{Images, image_of, keys_of, parts_of, put_from, put_text, put, put_entries, same_place, is_true_put}
 use Rattle.model.specs.Settling.{Settled, blanked_text, hash_part_in, sought, own_offsets_of, references_of, stands_in, settled_path, settling, settled_at, unless, settled, path_texts, unless_refused, settling_texts}
-use Rattle.model.specs.Laws.{AreOneSet, SettlingIsBySet, AreOneMap, PutTheSame, PuttingIsByMap}
+use Rattle.model.specs.Laws.{AreOneSet, SettlingIsBySet, AreOneMap, PuttingIsByMap}
 use Rattle.model.proofs.BoolLemmas.{either, or_cases, same_bytes, bytes_same}
 use Rattle.laws.proofs.MemberLemmas.{In}
 use Rattle.laws.proofs.SetLemmas.{same_filtered}

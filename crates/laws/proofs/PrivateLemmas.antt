@@ -1,5 +1,5 @@
 -- The main theorem, from the laws.
-use Rattle.std.proofs.Common.{◌≡◌, ℕ, List, ap, ◌∙◌}
+use Rattle.std.proofs.Common.{◌≡◌, List, ap, ◌∙◌}
 use Rattle.model.specs.Worlds.{Setup, nothing}
 use Rattle.model.specs.Events.{Event}
 use Rattle.model.specs.Replies.{Answer}

@@ -1,20 +1,33 @@
--- A query leaves the desks of all as they are.
-use Rattle.std.proofs.Common.{◌≡◌, ℕ, Bool, true, false, List, refl, Ok, Err}
+-- What a query comes to, and that it leaves the desks of all as they are.
+use Rattle.std.proofs.Common.{◌≡◌, ℕ, Bool, true, false, List, refl, Err}
 use Rattle.std.specs.Prelude.{bytes_eq, if◌then◌else◌}
-use Rattle.model.specs.declared.refusal.Refusal.TheVariants.{UnknownUser}
-use Rattle.model.specs.Worlds.{Setup, Desk, World, is_user}
-use Rattle.model.specs.Events.{Request, AddSource, AddDerivation, Offer, Fetch, Trust, Distrust, Pin, Unpin, Closure, Take, Build, Status, Plan, Start, Finish, Fail, Forget, is_query, Event}
+use Rattle.model.specs.declared.refusal.Refusal.{Refusal}
+use Rattle.model.specs.declared.refusal.Refusal.TheVariants.{UnknownUser, UnknownGoal, NotHeld, NotRealised, ClosureTooLarge, RewriteRefused}
+use Rattle.model.specs.Worlds.{Setup, World, is_user}
+use Rattle.model.specs.Events.{Request, Fetch, Closure, Status, is_query}
 use Rattle.model.specs.Replies as replies
-use Rattle.model.specs.Replies.{Reply}
+use Rattle.model.specs.Replies.{Reply, is_failure}
 use Rattle.model.specs.Goals.{as_seen}
 use Rattle.model.specs.Outcomes.{reaches, Observation, observation_of, Outcome, becomes, desk_after}
-use Rattle.model.specs.Steps.{outcome, outcome_of, after}
+use Rattle.model.specs.Steps.{outcome}
 use Rattle.model.specs.Laws.{QueriesChangeNothing}
-use Rattle.model.proofs.BoolLemmas.{same_bytes, either}
+use Rattle.model.proofs.BoolLemmas.{same_bytes}
 use Rattle.laws.proofs.OutcomeLemmas.{checked}
 use Rattle.laws.proofs.SourceRequestLemmas.{fetch_cases}
 use Rattle.laws.proofs.ClosureRequestLemmas.{closure_cases}
 use Rattle.laws.proofs.GoalRequestLemmas.{status_cases}
+
+-- a query is answered, or refused, and its user's desk stays as it is; neither the reply nor the refusal is a failure of the store
+pub query_cases : (P : Outcome → Type 0) (setup : Setup) (s : Observation) (request : Request) → is_query request ≡ true
+    → ((reply : Reply) → is_failure reply ≡ false → P (becomes s.desk reply)) → ((why : Refusal) → is_failure (replies.Refused why) ≡ false → P (Err why))
+    → P (outcome setup s request)
+unfolding outcome
+query_cases P setup s (Fetch path) asks told refused = fetch_cases P s.desk path (λ tree held. told (replies.Tree tree) refl) (λ absent. refused NotHeld refl)
+query_cases P setup s (Closure class) asks told refused =
+    closure_cases P s class (λ entries. told (replies.Closure entries) refl) (refused NotRealised refl) (refused ClosureTooLarge refl) (λ why. refused (RewriteRefused why) refl)
+query_cases P setup s (Status n) asks told refused =
+    status_cases P s n (λ g there. told (replies.Status (as_seen s.reach g.status)) refl) (λ absent. refused UnknownGoal refl)
+query_cases P setup s request asks told refused = absurd (cc)
 
 -- an outcome for a user leaves each desk of a world, whom its user reaches or not
 abbrev Leaves : Setup → World → List ℕ → Outcome → Type 0
@@ -28,16 +41,7 @@ told setup w u reply x reached = own (bytes_eq x u) refl
     own true is = rw (same_bytes x u is) refl
     own false is = refl
 
--- so does what comes of a query
-leaves : (setup : Setup) (w : World) (u : List ℕ) (request : Request) → is_query request ≡ true → Leaves setup w u (outcome setup (observation_of setup w u) request)
-unfolding outcome
-leaves setup w u (Fetch path) asks = fetch_cases (Leaves setup w u) (w u) path (λ tree held. told setup w u (replies.Tree tree)) (λ absent x reached. refl)
-leaves setup w u (Closure class) asks =
-    closure_cases (Leaves setup w u) (observation_of setup w u) class (λ entries. told setup w u (replies.Closure entries)) (λ x reached. refl) (λ x reached. refl) (λ why x reached. refl)
-leaves setup w u (Status n) asks = status_cases (Leaves setup w u) (observation_of setup w u) n (λ g there. told setup w u (replies.Status (as_seen (reaches setup w u) g.status))) (λ absent x reached. refl)
-leaves setup w u request asks = absurd (cc)
-
 pub no_change : QueriesChangeNothing
 no_change setup w e asks i x =
     checked (Leaves setup w e.actor) UnknownUser (is_user setup e.actor) (outcome setup (observation_of setup w e.actor) e.request)
-    (λ known. leaves setup w e.actor e.request asks) (λ stranger y reached. refl) x (reaches setup w x e.actor) i
+    (λ known. query_cases (Leaves setup w e.actor) setup (observation_of setup w e.actor) e.request asks (λ reply own. told setup w e.actor reply) (λ why own y reached. refl)) (λ stranger y reached. refl) x (reaches setup w x e.actor) i

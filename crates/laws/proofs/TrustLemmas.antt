@@ -4,20 +4,21 @@ use Rattle.std.specs.Prelude.{◌&&◌, bytes_eq, if◌then◌else◌}
 use Rattle.model.specs.declared.refusal.Refusal.TheVariants.{UnknownUser}
 use Rattle.model.specs.Worlds.{Setup, is_user, Desk, World, Entry, with_entries}
 use Rattle.model.specs.Endings.{End, Output, Failure}
-use Rattle.model.specs.Events.{Request, AddSource, AddDerivation, Offer, Fetch, Trust, Distrust, Pin, Unpin, Closure, Take, Build, Status, Plan, Start, Finish, Fail, Forget, Event}
+use Rattle.model.specs.Events.{Request, AddSource, AddDerivation, Offer, Trust, Distrust, Pin, Unpin, Take, Build, Plan, Start, Finish, Fail, Forget, Event}
 use Rattle.model.specs.Outcomes.{trusts, reaches, Observation, observation_of, Outcome, check, desk_after}
 use Rattle.model.specs.EndRequests.{end_job}
 use Rattle.model.specs.Steps.{outcome, outcome_of, after}
 use Rattle.model.specs.Timed.{trusted_by, trusts_after}
 use Rattle.model.proofs.BoolLemmas.{either, same_bytes, bytes_same}
 use Rattle.laws.proofs.GoalLemmas.{keeps_delivered}
-use Rattle.laws.proofs.SourceRequestLemmas.{add_source_cases, fetch_cases}
+use Rattle.laws.proofs.QueryLemmas.{query_cases}
+use Rattle.laws.proofs.SourceRequestLemmas.{add_source_cases}
 use Rattle.laws.proofs.DerivationRequestLemmas.{add_derivation_cases}
 use Rattle.laws.proofs.OfferRequestLemmas.{offer_cases}
 use Rattle.laws.proofs.PinRequestLemmas.{pin_cases}
 use Rattle.laws.proofs.EntriesLemmas.{entries_added}
-use Rattle.laws.proofs.ClosureRequestLemmas.{closure_cases, take_cases}
-use Rattle.laws.proofs.GoalRequestLemmas.{build_cases, status_cases, plan_cases, start_cases}
+use Rattle.laws.proofs.ClosureRequestLemmas.{take_cases}
+use Rattle.laws.proofs.GoalRequestLemmas.{build_cases, plan_cases, start_cases}
 use Rattle.laws.proofs.EndRequestLemmas.{end_job_cases}
 use Rattle.laws.proofs.ForgetRequestLemmas.{forget_cases}
 
@@ -56,15 +57,12 @@ module _ (setup : Setup) (s : Observation) (y : List ℕ) where
       (record { had = λ a. refl; added = λ derivation a is. refl; over = refl; unread = refl; missing = refl; high = refl }) (λ large. refl)
   requested (Offer path tree) =
       offer_cases Stays setup s.desk path tree (record { had = λ r. refl; added = λ r. refl; over = refl; refused = λ why. refl; unknown = λ absent. refl })
-  requested (Fetch path) = fetch_cases Stays s.desk path (λ tree held. refl) (λ absent. refl)
   requested (Trust other) = trusting other
   requested (Distrust other) = distrusting other
   requested (Pin class path) = pin_cases Stays setup s.desk class path refl refl
   requested (Unpin class) = refl
-  requested (Closure class) = closure_cases Stays s class (λ entries. refl) refl refl (λ why. refl)
   requested (Take class) = take_cases Stays s class setup (λ entries path given there. copied entries) refl refl (λ why. refl) refl
   requested (Build path) = build_cases Stays s.desk path (λ a known. refl) (λ full. refl) (λ unknown. refl)
-  requested (Status n) = status_cases Stays s n (λ g there. refl) (λ absent. refl)
   requested (Plan n) =
       plan_cases Stays s n
       (record { resolved = λ g r. refl; failed = λ g why. refl; unrealised = refl; unknown = refl; untimely = refl; absent = λ absent. refl })
@@ -80,6 +78,7 @@ module _ (setup : Setup) (s : Observation) (y : List ℕ) where
   requested (Finish n bytes) = ends n (Output bytes)
   requested (Fail n status) = ends n Failure
   requested (Forget class path) = forget_cases Stays s class path refl refl refl
+  requested query = query_cases Stays setup s query refl (λ reply own. refl) (λ why own. refl)
 
   -- nor does the notification change whom he trusts
   own_after : (actor : List ℕ) (o : Outcome) (reached : Bool) (d : Desk) → d ≡ s.desk → (desk_after setup actor o actor reached d).trusted y ≡ trusts_then o

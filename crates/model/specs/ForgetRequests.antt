@@ -1,5 +1,5 @@
 -- Forgetting what was built: the records of a class at a path are taken from the desk, if nothing there needs them.
-use Rattle.std.specs.Prelude.{ℕ, Bool, true, false, ◌&&◌, ◌||◌, not, if◌then◌else◌, List, map, filter, bytes_eq, Option, Some, None}
+use Rattle.std.specs.Prelude.{ℕ, Bool, false, ◌&&◌, ◌||◌, not, if◌then◌else◌, List, map, filter, bytes_eq, Option, Some, None}
 use Rattle.std.specs.List.{list_any}
 use Rattle.model.specs.declared.refusal.Refusal.TheVariants.{NotHeld, InUse}
 use Rattle.model.specs.Classes.{Class}

@@ -17,7 +17,7 @@ use Rattle.model.specs.Closures.{IsWhole}
 use Rattle.model.specs.Outputs.{record_for, texts_under}
 use Rattle.model.specs.Goals.{goal_at, with_goal, with_new_goal, new_goal, in_status, planned_in, job_of}
 use Rattle.model.specs.FinishedBuilds.{finished_build, for_class}
-use Rattle.model.specs.Events.{Request, AddSource, AddDerivation, Offer, Fetch, Trust, Distrust, Pin, Unpin, Closure, Take, Build, Status, Plan, Start, Forget}
+use Rattle.model.specs.Events.{Request, AddSource, AddDerivation, Offer, Trust, Distrust, Pin, Unpin, Take, Build, Plan, Start, Finish, Fail, Forget}
 use Rattle.model.specs.Outcomes.{Observation, observation_of, NoNotification, Outcome, need, add_entry}
 use Rattle.model.specs.OfferRequests.{output_settled, offer_output, offer}
 use Rattle.model.specs.GoalRequests.{own_job, turns, done_again, start_copied, start_goal}
@@ -26,12 +26,13 @@ use Rattle.model.specs.Steps.{outcome}
 use Rattle.model.specs.HashedTexts.{texts_of}
 use Rattle.laws.proofs.MemberLemmas.{In}
 use Rattle.laws.proofs.OutcomeLemmas.{one_of, entry_added}
-use Rattle.laws.proofs.SourceRequestLemmas.{add_source_cases, fetch_cases}
+use Rattle.laws.proofs.QueryLemmas.{query_cases}
+use Rattle.laws.proofs.SourceRequestLemmas.{add_source_cases}
 use Rattle.laws.proofs.DerivationRequestLemmas.{add_derivation_cases}
 use Rattle.laws.proofs.TrustRequestLemmas.{trust_cases, distrust_cases}
 use Rattle.laws.proofs.PinRequestLemmas.{pin_cases}
-use Rattle.laws.proofs.ClosureRequestLemmas.{closure_cases, take_cases}
-use Rattle.laws.proofs.GoalRequestLemmas.{planned_goal, build_cases, status_cases, plan_cases}
+use Rattle.laws.proofs.ClosureRequestLemmas.{take_cases}
+use Rattle.laws.proofs.GoalRequestLemmas.{planned_goal, build_cases, plan_cases}
 use Rattle.laws.proofs.ForgetRequestLemmas.{forget_cases}
 use Rattle.laws.proofs.KeptLemmas.{kept_in}
 use Rattle.laws.proofs.HashedDeskLemmas.{is_quiet}
@@ -198,14 +199,12 @@ module _ (texts : List (List ℕ)) (setup : Setup) (w : World) (u : List ℕ) (o
         high = tt;
       }) (λ large. tt)
   quietly_held (Offer derivation tree) well hashed quiet = offer_held derivation tree well hashed
-  quietly_held (Fetch path) well hashed quiet = fetch_cases P (w u) path (λ tree there. (refl, own.held)) (λ absent. tt)
   quietly_held (Trust other) well hashed quiet =
       trust_cases P setup s other
       (λ known. (refl, cond_both (bytes_eq other u) (w u) (with_trust other (w u)) (IsHeld texts) (λ yes. own.held) (λ no. same (with_trust other (w u)) refl refl refl))) tt
   quietly_held (Distrust other) well hashed quiet = distrust_cases P setup s other (refl, same (without_trust other (w u)) refl refl refl) tt
   quietly_held (Pin class path) well hashed quiet = pin_cases P setup (w u) class path (refl, same (with_pin class path (w u)) refl refl refl) tt
   quietly_held (Unpin class) well hashed quiet = (refl, same (without_pin class (w u)) refl refl refl)
-  quietly_held (Closure class) well hashed quiet = closure_cases P s class (λ entries. (refl, own.held)) tt tt (λ why. tt)
   quietly_held (Take class) well hashed quiet =
       take_cases P s class setup
       (λ entries path given there. (
@@ -217,7 +216,6 @@ module _ (texts : List (List ℕ)) (setup : Setup) (w : World) (u : List ℕ) (o
       build_cases P (w u) path
       (λ a known. (refl, held_new texts (new_goal path) (w u) (with_new_goal path (w u)) own.held (λ built q kept z h. absurd (cc)) refl refl refl))
       (λ full. tt) (λ unknown. tt)
-  quietly_held (Status n) well hashed quiet = status_cases P s n (λ g there. (refl, own.held)) (λ absent. tt)
   quietly_held (Plan n) well hashed quiet =
       plan_cases P s n (record {
         resolved = λ g r. (refl, turned n (planned_goal g r) (λ built q kept z h. absurd (cc)));
@@ -229,4 +227,6 @@ module _ (texts : List (List ℕ)) (setup : Setup) (w : World) (u : List ℕ) (o
       })
   quietly_held (Start n) well hashed quiet = goal_held n (goal_at n (w u).goals) refl
   quietly_held (Forget class path) well hashed quiet = forget_cases P s class path (refl, held_without texts class path (w u) own.held) tt tt
-  quietly_held r well hashed quiet = absurd (cc)
+  quietly_held (Finish n bytes) well hashed quiet = absurd (cc)
+  quietly_held (Fail n status) well hashed quiet = absurd (cc)
+  quietly_held query well hashed quiet = query_cases P setup s query refl (λ reply no_failure. (refl, own.held)) (λ why no_failure. tt)

@@ -11,10 +11,9 @@ use Rattle.events.specs.declared.event.Event.{Event}
 use Rattle.events.specs.declared.reply.Reply.{Reply}
 use Rattle.events.specs.declared.reply.Reply.TheVariants.{Refused}
 use Rattle.events.specs.Terms.{event_of, request_of, reply_of}
-use Rattle.schedule.specs.declared.query.Question.{Question}
-use Rattle.schedule.specs.declared.query.Question.TheVariants.{Status, Closure, Fetch}
 use Rattle.schedule.specs.declared.query.Query.{Query}
-use Rattle.schedule.specs.Queries.{request_in, event_for}
+use Rattle.schedule.specs.Queries.{event_for}
+use Rattle.schedule.proofs.QueryLemmas.{asks}
 use Rattle.history.specs.Callers.{Caller, PassKnowledge, told_stopped, seeing}
 use Rattle.history.specs.Histories.{row, unrecorded, IsAnswered, IsReadAfter, IsLegal}
 use Rattle.history.proofs.HistoryLemmas.{some_memory}
@@ -27,11 +26,6 @@ stopped_so reply says = cc
 
 -- ---- queries
 
-asks_question : (q : Question) → is_query (request_of (request_in q)) ≡ true
-asks_question (Status number) = refl
-asks_question (Closure class) = refl
-asks_question (Fetch path) = refl
-
 or_not : (a : Bool) → (a || false) ≡ a
 or_not true = refl
 or_not false = refl
@@ -41,7 +35,7 @@ module _ (setup : Setup) (old new : PassKnowledge) (lacked : Bool) (query : Quer
   event = event_for query
 
   is_asked : is_query (request_of event.request) ≡ true
-  is_asked = asks_question query.question
+  is_asked = asks query
 
   same_caller : new.caller ≡ old.caller
   same_caller = ap (λ (p : PassKnowledge). p.caller) same

@@ -5,15 +5,12 @@ use Rattle.std.proofs.lemmas.Bool.{false≢true}
 use mathlib.Core.List.{IsPrefix}
 use Rattle.model.specs.declared.refusal.Refusal.TheVariants.{Memory, Stopped}
 use Rattle.model.specs.Worlds.{Setup}
-use Rattle.model.specs.Events.{is_query}
-use Rattle.events.specs.Terms.{request_of}
 use Rattle.events.specs.declared.event.Event.{Event}
 use Rattle.events.specs.declared.reply.Reply.{Reply}
 use Rattle.events.specs.declared.reply.Reply.TheVariants.{Refused}
 use Rattle.schedule.specs.declared.query.Query.{Query}
-use Rattle.schedule.specs.declared.query.Question.{Question}
-use Rattle.schedule.specs.declared.query.Question.TheVariants.{Status, Closure, Fetch}
-use Rattle.schedule.specs.Queries.{request_in, event_for}
+use Rattle.schedule.specs.Queries.{event_for}
+use Rattle.schedule.proofs.QueryLemmas.{asks}
 use Rattle.history.specs.Callers.{PassKnowledge, seeing, told_stopped}
 use Rattle.history.specs.Histories.{unrecorded, IsAnswered, IsReadAfter}
 use Rattle.running.specs.Calling.{is_read, IsCounted, IsTold}
@@ -24,26 +21,18 @@ neither false false is = (refl, refl)
 neither false true is = absurd (false≢true is)
 neither true b is = absurd (false≢true is)
 
-is_asked : (q : Query) → is_read (event_for q) ≡ true
-is_asked q = asked q.question
-  where
-    asked : (question : Question) → is_query (request_of (request_in question)) ≡ true
-    asked (Status number) = refl
-    asked (Closure class) = refl
-    asked (Fetch path) = refl
-
 -- a query was read
 pub told_read : (setup : Setup) (old new : PassKnowledge) (q : Query) (reply : Reply)
     → (unrecorded reply ≡ false → IsReadAfter setup old.caller.number new.seen (event_for q) reply)
     → IsPrefix old.seen new.seen → new ≡ seeing old new.seen → reply ≢ Refused Stopped → IsCounted old → IsCounted new
     → IsTold setup old (event_for q) reply new
 told_read setup old new q reply read longer same going before after = record {
-  answered = λ some. absurd (false≢true (sym (neither (unrecorded reply) (is_read (event_for q)) some).1 ∙ is_asked q));
+  answered = λ some. absurd (false≢true (sym (neither (unrecorded reply) (is_read (event_for q)) some).1 ∙ asks q));
   read = λ asks some. read some;
   only_read = λ asks. (same, going);
   memory = λ none. ap (λ (k : PassKnowledge). k.caller) same;
   stopped = λ is. absurd (going is);
-  remains = λ other was. absurd (false≢true (sym other ∙ is_asked q));
+  remains = λ other was. absurd (false≢true (sym other ∙ asks q));
   no_stop = λ _. ap (λ (k : PassKnowledge). k.stops) same;
   seen = longer;
   before = before;
