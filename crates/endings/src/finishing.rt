@@ -24,28 +24,16 @@ ghost use Rattle.handlers.specs.States.{HasPlace, Handles};
 use crate::committing::{additions_of, gained_by_all, set_all};
 use crate::delivery::delivered_by_all;
 use crate::delta::DeskDelta;
-use events::{CopiedReply, Reply};
+use events::{CopiedReply, Output, Reply};
 use handlers::State;
 use jobs::{Job, Jobs, Status, leads};
 use model::Refusal;
-use nar::{Tree, decode};
+use nar::Tree;
 use outputs::Settlements;
 use realise::{Addition, Desk, Limits, add_to_each};
 use std::alloc::{AllocError, Global};
 use store::Table;
 use storepath::StorePath;
-
-/// The tree whose archive a builder wrote, if its output is one. The one error is memory.
-pub fn tree_in(alloc: Global, output: &[u8]) -> Result<Option<Tree>, Refusal>
-    ensures archive { IfOk result (λ tree. tree ≡ tree_of_archive output.now) }
-    ensures memory { IfErr result (λ why. why ≡ Memory) }
-{
-    match decode(alloc, output) {
-        Ok(tree) => Ok(Some(tree)),
-        Err(Refusal::Memory) => Err(Refusal::Memory),
-        Err(_) => Ok(None),
-    }
-}
 
 /// How far the goal of a number, which was this far, is once goals have got these states. The one error
 /// is memory.
@@ -128,7 +116,7 @@ fn prepare_led(
     place: usize,
     number: u16,
     settlements: &mut Settlements,
-    output: &[u8],
+    output: &Output,
 ) -> Result<Ending, Refusal>
     requires of_run { HasPlace state.now place }
     requires there { is_some (goal_at number (goals_at place state.now.jobs)) ≡ true }
@@ -143,9 +131,7 @@ fn prepare_led(
 {
     let leader = &state.users.as_slice()[place];
     let job = Job::new(leader.clone()?, number);
-    let tree = tree_in(alloc, output)?;
-    let ending = prepare(alloc, state, place, &job, tree.as_ref(), settlements)?;
-    Ok(ending)
+    prepare(alloc, state, place, &job, output.tree(), settlements)
 }
 
 /// Puts what the end of a job changes in its place. The reply is how far the goal of its leader is then.
@@ -210,7 +196,7 @@ pub fn finish(
     place: usize,
     settlements: &mut Settlements,
     number: u16,
-    output: &[u8],
+    output: &Output,
 ) -> Result<CopiedReply, Refusal>
     requires { HasPlace state.old place }
     ensures { Handles state.old place (FinishRequest number output.now) result state.new }

@@ -1,3 +1,4 @@
 pub mod Terms
 pub mod Codes
 pub mod Statuses
+pub mod Outputs

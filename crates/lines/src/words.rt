@@ -5,7 +5,7 @@ ghost use Rattle.std.specs.List.{list_all};
 ghost use Rattle.model.specs.declared.refusal.Refusal.TheVariants.{Memory, BadLine};
 ghost use Rattle.model.specs.declared.verb.WordKind.TheVariants as kind;
 ghost use Rattle.model.specs.Worlds.{is_user_name, are_users};
-ghost use Rattle.model.specs.Words.{IsTreeText, IsRawText, IsOutputOf, IsOutputText, IsNoOutputOf, IsIll, number_in, is_goal_number, is_exit_status};
+ghost use Rattle.model.specs.Words.{IsTreeText, IsRawText, IsOutputText, IsNoOutputOf, IsIll, number_in, is_goal_number, is_exit_status};
 ghost use Rattle.nar.specs.TextReading.{is_lower_digit};
 
 use crate::cutting::Word;
@@ -14,7 +14,7 @@ use aterm::Text;
 use events::Output;
 use hex::FromHexError;
 use model::{MOST_GOALS, Refusal};
-use nar::{Tree, decode_digits, encode, read_tree_text};
+use nar::{Tree, decode_digits, read_tree_text};
 use std::alloc::{AllocError, Global};
 use trust::{User, are_users};
 
@@ -107,27 +107,15 @@ fn read_raw(alloc: Global, digits: &[u8]) -> Result<Vec<u8>, Refusal>
     }
 }
 
-/// The archive of the tree of a word.
-fn read_archive(alloc: Global, word: &[u8]) -> Result<Vec<u8>, Refusal>
-    ensures read { IfOk result (λ bytes. IsOutputOf false word.now bytes.items) }
-    ensures refused { IfErr result (λ why. (why ≡ Memory) ⊎ IsNoOutputOf false word.now why) }
-{
-    let tree = read_tree(alloc, word)?;
-    let archive = encode(alloc, &tree)?;
-    Ok(archive.into_bytes())
-}
-
 /// What a builder wrote: any bytes in base 16 behind `n:`, or the archive of a tree.
 pub(crate) fn read_output(alloc: Global, word: &[u8]) -> Result<Output, Refusal>
     ensures read { IfOk result (IsOutputText word.now) }
     ensures refused { IfErr result (λ why. (why ≡ Memory) ⊎ IsIll kind.Output word.now why) }
 {
-    let bytes = match word.strip_prefix(b"n:".as_slice()) {
-        Some(digits) => read_raw(alloc, digits)?,
-        None => read_archive(alloc, word)?,
-    };
-    let output = Output::new(bytes)?;
-    Ok(output)
+    match word.strip_prefix(b"n:".as_slice()) {
+        Some(digits) => Output::new(read_raw(alloc, digits)?),
+        None => Ok(Output::archive_of(read_tree(alloc, word)?)),
+    }
 }
 
 /// The users of these words, where they are a list of users.

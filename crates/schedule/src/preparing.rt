@@ -1,6 +1,7 @@
 //! Values that are made before a step.
 
 ghost use Rattle.std.specs.Prelude.{◌≡◌, ◌<◌, ℕ, List, Some, length, IfOk, IfErr, OnOk};
+ghost use Rattle.std.specs.Option.{option_copied};
 ghost use Rattle.model.specs.declared.refusal.Refusal.TheVariants.{Memory};
 ghost use Rattle.classes.specs.Admitting.{HasMade};
 ghost use Rattle.classes.specs.declared.admissions.Admissions.{Admissions as AdmissionsValue};
@@ -20,7 +21,7 @@ use crate::state::Core;
 use crate::work::{Ready, Work};
 use choose::Plan;
 use classes::{AdmissionInput, Admissions, path_of_text};
-use endings::{input_for_finish, tree_in};
+use endings::input_for_finish;
 use events::{Event, Request};
 use goals::plan_for_goal;
 use handlers::{input_for_derivation, input_for_offer, plan_for_take};
@@ -61,15 +62,14 @@ fn prepare_source(alloc: Global, sources: &mut Sources, request: &Request) -> Re
     Ok(())
 }
 
-/// The tree that a request hands in as an output, if it does. The one error is memory.
-fn output_in(alloc: Global, request: &Request) -> Result<Option<Tree>, Refusal>
-    ensures output { IfOk result (λ tree. tree ≡ output_of (request_of request.now)) }
-    ensures memory { IfErr result (λ why. why ≡ Memory) }
+/// The tree that a request hands in as an output, if it does.
+fn output_in(request: &Request) -> Option<&Tree>
+    ensures { option_copied result ≡ output_of (request_of request.now) }
 {
     match request {
-        Request::Offer(_, tree) => Ok(Some(tree.clone()?)),
-        Request::Finish(_, output) => tree_in(alloc, output.bytes()),
-        _ => Ok(None),
+        Request::Offer(_, tree) => Some(tree),
+        Request::Finish(_, output) => output.tree(),
+        _ => None,
     }
 }
 
@@ -86,10 +86,10 @@ fn prepare_output(
     let Some(input) = input else {
         return Ok(());
     };
-    let Some(tree) = output_in(alloc, request)? else {
+    let Some(tree) = output_in(request) else {
         return Ok(());
     };
-    let _outcome = settlements.settle(alloc, input, &tree)?;
+    let _outcome = settlements.settle(alloc, input, tree)?;
     Ok(())
 }
 
