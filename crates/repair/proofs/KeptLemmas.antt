@@ -5,12 +5,12 @@ use Rattle.std.proofs.lemmas.List.Elements.{All-contains}
 use Rattle.model.specs.declared.refusal.Refusal.{Refusal}
 use Rattle.model.specs.Classes.{Class}
 use Rattle.model.specs.Settling.{IsGone}
-use Rattle.model.specs.Worlds.{Source, Label, Record, Entry, OfSource, OfRecord}
+use Rattle.model.specs.Worlds.{Label, Record, Entry, OfSource, OfRecord}
 use Rattle.model.specs.References.{paths_of_labels}
 use Rattle.model.specs.Choices.{Plan}
 use Rattle.model.specs.Repairs.{Move, moves_of, serve, chosen_in, serve_all}
 use Rattle.model.specs.Closures.{entry_before, entries_with, served_entries, served_plan}
-use Rattle.laws.proofs.MemberLemmas.{In, in_of, contains_of, in_left, in_right, in_append, in_map, from_map, in_flat_map, Stands, from_set, in_set}
+use Rattle.laws.proofs.MemberLemmas.{In, in_of, contains_of, in_left, in_right, in_append, in_map, from_map, in_flat_map, Stands, in_set}
 use Rattle.choose.proofs.OrderLemmas.{one_entry}
 use Rattle.records.specs.Sound.{IsSoundRecord, IsSoundPlan}
 use Rattle.repair.specs.SoundPlans.{AreMoves, PartsTellApart}

@@ -11,7 +11,7 @@ use Rattle.model.specs.Occurrences.{AreKeys, IsHashPart, among, fault}
 use Rattle.model.specs.Substitutions.{Images, AreImages, keys_of, put, put_entries, is_true_put}
 use Rattle.model.specs.Settling.{Settled, hash_part_in, name_in, sought, settling, settled}
 use Rattle.model.specs.Worlds.{Label, Record}
-use Rattle.model.specs.References.{labels_in_order, paths_of_labels, with_label, least_label, class_before}
+use Rattle.model.specs.References.{labels_in_order, paths_of_labels, with_label}
 use Rattle.model.specs.Repairs.{Move, images_of, moved_label, moved_labels, put_unless, substituted, rewritten, moved}
 use Rattle.model.proofs.BoolLemmas.{either, same_bytes}
 use Rattle.laws.proofs.MemberLemmas.{In, contains_of, from_map}

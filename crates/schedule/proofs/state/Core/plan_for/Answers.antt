@@ -1,4 +1,4 @@
-use Rattle.std.proofs.Common.{◌≡◌, ap, subst, sym}
+use Rattle.std.proofs.Common.{ap, subst, sym}
 use Rattle.std.specs.Prelude.{IfOk}
 use Rattle.events.specs.Terms.{request_of}
 use Rattle.repair.specs.Counting.{made_in}
