@@ -1,6 +1,6 @@
 -- What the desk of a user holds after his request: what is of a kind, if what he saw was, and what texts of the request were hashed for.
 use Rattle.std.proofs.Common.{◌≡◌, ℕ, Bool, true, false, inl, inr, refl, subst, List, [], ◌∷◌, ◌++◌, Option, Some, None, Result, Ok, Err}
-use Rattle.std.specs.Prelude.{map, filter, flat_map, not, bytes_eq, if◌then◌else◌}
+use Rattle.std.specs.Prelude.{map, not, bytes_eq, if◌then◌else◌}
 use Rattle.std.proofs.lemmas.Bool.{cond_both}
 use Rattle.std.proofs.lemmas.List.Elements.{All-contains_itself}
 use Rattle.model.specs.declared.refusal.RewriteFault.{RewriteFault}
@@ -10,11 +10,11 @@ use Rattle.model.specs.Results.{then_do, unless_rewrite_refused}
 use Rattle.model.specs.Classes.{Admission, known_at}
 use Rattle.model.specs.Derivations.{name_of}
 use Rattle.model.specs.Settling.{Settled, hash_part_in, settling_texts}
-use Rattle.model.specs.Worlds.{Setup, World, Source, Record, Desk, Entry, OfSource, OfRecord, Resolved, Status as GoalState, Waiting, Planned, Building, Done, Failed, Goal, known_of, held, tree_of_record, has_record, has_entry, with_entry, with_all, missing, with_entries, with_record, is_within, with_trust}
+use Rattle.model.specs.Worlds.{Setup, World, Source, Record, Desk, Entry, OfSource, OfRecord, Resolved, Done, Failed, Goal, known_of, held, tree_of_record, has_record, has_entry, with_entry, with_all, missing, with_entries, with_record, is_within, with_trust}
 use Rattle.model.specs.References.{candidates, paths_of_labels}
 use Rattle.model.specs.Outputs.{record_for}
-use Rattle.model.specs.Goals.{goal_at, in_status, planned_in, same_resolved}
-use Rattle.model.specs.FinishedBuilds.{is_record_at, built_at, built_in, built_on, is_labelled_by, finished_build, for_class}
+use Rattle.model.specs.Goals.{goal_at, in_status, planned_in}
+use Rattle.model.specs.FinishedBuilds.{is_record_at, finished_build, for_class}
 use Rattle.model.specs.Events.{Request, AddSource, AddDerivation, Offer, Trust, Distrust, Pin, Unpin, Take, Build, Plan, Start, Finish, Fail, Forget}
 use Rattle.model.specs.Outcomes.{Observation, observation_of, NoNotification, Outcome, need, add_entry}
 use Rattle.model.specs.OfferRequests.{output_settled, offer_output, offer}
@@ -24,7 +24,7 @@ use Rattle.model.specs.SourceRequests.{source_named, source_texts}
 use Rattle.model.specs.Steps.{outcome}
 use Rattle.model.specs.HashedTexts.{texts_of}
 use Rattle.model.specs.HashedValues.{held_of, IsTreeOf, SourceOf, OutputOf}
-use Rattle.laws.proofs.MemberLemmas.{In, in_left, in_right, in_append, in_map, from_map, from_filter, from_flat_map}
+use Rattle.laws.proofs.MemberLemmas.{In, in_left, in_right, in_append, in_map, from_map, from_filter}
 use Rattle.laws.proofs.OutcomeLemmas.{one_of, entry_added}
 use Rattle.laws.proofs.QueryLemmas.{query_cases}
 use Rattle.laws.proofs.SourceRequestLemmas.{add_source_cases}
@@ -34,7 +34,7 @@ use Rattle.laws.proofs.PinRequestLemmas.{pin_cases}
 use Rattle.laws.proofs.ClosureRequestLemmas.{take_cases}
 use Rattle.laws.proofs.GoalRequestLemmas.{build_cases, plan_cases}
 use Rattle.laws.proofs.ForgetRequestLemmas.{forget_cases}
-use Rattle.laws.proofs.ClosureLemmas.{least_in}
+use Rattle.laws.proofs.FinishedLemmas.{finished}
 use Rattle.laws.proofs.KeptLemmas.{kept_in}
 use Rattle.laws.proofs.HashedTreeLemmas.{closure_trees}
 
@@ -87,30 +87,6 @@ module _ (Q : Source → Type 0) where
         own s (in_right s d.sources (map tree_of_record d.records) (subst (λ z. In z (map tree_of_record d.records)) w.2 (in_map tree_of_record w.0 d.records there)))
   ]
 
--- ---- builds that are finished
-
-built_there : (r : Resolved) (records : List Record) (path : List ℕ) (kept : Option Resolved) (known : Option Admission) (q : Record) → In q (built_at r records path kept known) → In q records
-built_there r records path None known q h = absurd h
-built_there r records path (Some k) None q h = absurd h
-built_there r records path (Some k) (Some a) q h =
-    cond_both (same_resolved k r) (filter (is_record_at a.class.path path) records) [] (λ xs. In q xs → In q records)
-    (λ same there. (from_filter (is_record_at a.class.path path) q records there).0) (λ other none. absurd none) h
-
-built_status : (r : Resolved) (d : Desk) (g : Goal) (status : GoalState) (q : Record) → In q (built_in r d g status) → In q d.records
-built_status r d g Waiting q h = absurd h
-built_status r d g Planned q h = absurd h
-built_status r d g (Building job) q h = absurd h
-built_status r d g (Done path) q h = built_there r d.records path g.resolved (known_at (known_of d) g.derivation) q h
-built_status r d g (Failed why) q h = absurd h
-
--- one that is used again is on a desk that is seen
-finished_seen : (view : List Desk) (r : Resolved) (q : Record) → finished_build view r ≡ Some q → (d : Desk) × In d view × In q d.records
-finished_seen view r q e =
-    let a = from_filter (is_labelled_by r) q (flat_map (built_on r) view) (least_in _ q _ e) in
-    let b = from_flat_map (built_on r) q view a.0 in
-    let c = from_flat_map (λ g. built_in r b.0 g g.status) q b.0.goals b.2 in
-    (b.0, b.1, built_status r b.0 c.0 c.0.status q c.2)
-
 -- ---- requests
 
 -- whether a request ends no job
@@ -160,8 +136,9 @@ module _ (Q : Source → Type 0) (setup : Setup) (w : World) (u : List ℕ) (own
     copied_held : (d : Desk) (g : Goal) (r : Resolved) → AllHeld Q d → (known : Option Admission) (built : Option Record) → finished_build s.view r ≡ built
         → P (start_copied setup s d n g r known built)
     copied_held d g r had (Some a) (Some q) e =
-        let f = finished_seen s.view r q e in
-        let new : Q (tree_of_record q) = seen f.0 f.1 (tree_of_record q) (in_right (tree_of_record q) f.0.sources (map tree_of_record f.0.records) (in_map tree_of_record q f.0.records f.2)) in
+        let f = finished s.view r q e in
+        let there : In (tree_of_record q) (map tree_of_record f.desk.records) = in_map tree_of_record q f.desk.records f.there in
+        let new : Q (tree_of_record q) = seen f.desk f.seen (tree_of_record q) (in_right (tree_of_record q) f.desk.sources (map tree_of_record f.desk.records) there) in
         again_held d g (for_class a.class q) had new
     copied_held d g r had (Some a) None e = (refl, had)
     copied_held d g r had None built e = (refl, had)

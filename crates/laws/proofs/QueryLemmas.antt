@@ -19,12 +19,14 @@ use Rattle.laws.proofs.GoalRequestLemmas.{status_cases}
 
 -- a query is answered, or refused, and its user's desk stays as it is; neither the reply nor the refusal is a failure of the store
 pub query_cases : (P : Outcome → Type 0) (setup : Setup) (s : Observation) (request : Request) → is_query request ≡ true
-    → ((reply : Reply) → is_failure reply ≡ false → P (becomes s.desk reply)) → ((why : Refusal) → is_failure (replies.Refused why) ≡ false → P (Err why))
+    → ((reply : Reply) → is_failure reply ≡ false → P (becomes s.desk reply))
+    → ((why : Refusal) → is_failure (replies.Refused why) ≡ false → P (Err why))
     → P (outcome setup s request)
 unfolding outcome
 query_cases P setup s (Fetch path) asks told refused = fetch_cases P s.desk path (λ tree held. told (replies.Tree tree) refl) (λ absent. refused NotHeld refl)
 query_cases P setup s (Closure class) asks told refused =
-    closure_cases P s class (λ entries. told (replies.Closure entries) refl) (refused NotRealised refl) (refused ClosureTooLarge refl) (λ why. refused (RewriteRefused why) refl)
+    closure_cases P s class (λ entries. told (replies.Closure entries) refl)
+    (refused NotRealised refl) (refused ClosureTooLarge refl) (λ why. refused (RewriteRefused why) refl)
 query_cases P setup s (Status n) asks told refused =
     status_cases P s n (λ g there. told (replies.Status (as_seen s.reach g.status)) refl) (λ absent. refused UnknownGoal refl)
 query_cases P setup s request asks told refused = absurd (cc)
@@ -44,4 +46,6 @@ told setup w u reply x reached = own (bytes_eq x u) refl
 pub no_change : QueriesChangeNothing
 no_change setup w e asks i x =
     checked (Leaves setup w e.actor) UnknownUser (is_user setup e.actor) (outcome setup (observation_of setup w e.actor) e.request)
-    (λ known. query_cases (Leaves setup w e.actor) setup (observation_of setup w e.actor) e.request asks (λ reply own. told setup w e.actor reply) (λ why own y reached. refl)) (λ stranger y reached. refl) x (reaches setup w x e.actor) i
+    (λ known. query_cases (Leaves setup w e.actor) setup (observation_of setup w e.actor) e.request asks
+    (λ reply own. told setup w e.actor reply) (λ why own y reached. refl))
+    (λ stranger y reached. refl) x (reaches setup w x e.actor) i

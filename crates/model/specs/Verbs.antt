@@ -35,7 +35,9 @@ word_of Forget = codes "forget"
 
 -- all of them
 abbrev pub verbs : List Verb
-verbs = Source ∷ Derivation ∷ Offer ∷ Fetch ∷ Trust ∷ Distrust ∷ Pin ∷ Unpin ∷ Closure ∷ Take ∷ Build ∷ Status ∷ Plan ∷ Start ∷ Finish ∷ Fail ∷ Forget ∷ []
+verbs =
+    Source ∷ Derivation ∷ Offer ∷ Fetch ∷ Trust ∷ Distrust ∷ Pin ∷ Unpin ∷ Closure ∷ Take
+    ∷ Build ∷ Status ∷ Plan ∷ Start ∷ Finish ∷ Fail ∷ Forget ∷ []
 
 -- the verb that a word is
 abbrev pub verb_of : List ℕ → Option Verb

@@ -1,25 +1,22 @@
 -- Records of outputs: they are sound, their paths were made by texts that are hashed, and they label what is on the desk.
 use Rattle.std.proofs.Common.{◌≡◌, ◌⊎◌, ℕ, Bool, true, inl, inr, refl, sym, ap, ◌∙◌, subst, List, [], ◌∷◌, ◌++◌, Option, None, Some, Ok}
-use Rattle.std.specs.Prelude.{All, Contains, filter, flat_map, map, bytes_eq}
+use Rattle.std.specs.Prelude.{All, Contains, map, bytes_eq}
 use Rattle.std.specs.List.{list_any, list_all}
-use Rattle.std.proofs.lemmas.Bool.{cond_both}
 use Rattle.hashmod.proofs.FoldLemmas.{IsFolded-short_digest}
 use Rattle.model.specs.Archives.{Tree, IsTree}
 use Rattle.model.specs.Paths.{Kind, IsPath, is_name, fingerprint, short_digest, store_path}
 use Rattle.model.specs.Settling.{Settled, hash_part_in}
 use Rattle.model.specs.Derivations.{Derivation, name_of}
-use Rattle.model.specs.Classes.{Class, Admission, known_at, is_one_of}
-use Rattle.model.specs.Worlds.{Source, Label, Record, Entry, OfSource, OfRecord, Resolved, Status, Waiting, Planned, Building, Done, Failed, Goal, Desk, known_of, same_class, same_label}
+use Rattle.model.specs.Classes.{Class, Admission, is_one_of}
+use Rattle.model.specs.Worlds.{Source, Label, Record, Entry, OfSource, OfRecord, Resolved, Desk, known_of, same_class, same_label}
 use Rattle.model.specs.References.{is_input_class, refers_to, records_below, label_of_source, label_of_record, candidates, paths_of_labels, labels_of}
 use Rattle.model.specs.Outputs.{settled_under, record_for, texts_under}
 use Rattle.model.specs.Endings.{label_of_entry, labels_from}
-use Rattle.model.specs.FinishedBuilds.{is_record_at, built_at, built_in, built_on, is_labelled_by, finished_build, for_class}
-use Rattle.model.specs.Goals.{same_resolved}
+use Rattle.model.specs.FinishedBuilds.{is_labelled_by, for_class}
 use Rattle.model.proofs.BoolLemmas.{both_parts, same_bytes}
-use Rattle.laws.proofs.MemberLemmas.{In, from_any, in_append, from_map, from_filter, from_flat_map}
+use Rattle.laws.proofs.MemberLemmas.{In, from_any, in_append, from_map, from_filter}
 use Rattle.laws.proofs.LabelLemmas.{from_labels_in_order}
 use Rattle.laws.proofs.AllReachedLemmas.{reached_member}
-use Rattle.laws.proofs.ClosureLemmas.{least_in}
 use Rattle.rewrite.proofs.ApartLemmas.{path_of_settled}
 use Rattle.records.specs.Recorded.{AreInPathOrder}
 use Rattle.records.proofs.PathOrderLemmas.{labels_are_in_order, chosen_in_order, once}
@@ -150,35 +147,6 @@ closure_source sources r has l h none =
     subst (HasSource sources) s.2 (has s.0 (subst (λ e. In e r.closure) s.1 w.1))
 
 -- ---- builds that are used again
-
-built_there : (r : Resolved) (records : List Record) (path : List ℕ) (kept : Option Resolved) (known : Option Admission) (q : Record)
-    → In q (built_at r records path kept known) → In q records
-built_there r records path None known q h = absurd h
-built_there r records path (Some k) None q h = absurd h
-built_there r records path (Some k) (Some a) q h =
-    cond_both (same_resolved k r) (filter (is_record_at a.class.path path) records) [] (λ xs. In q xs → In q records)
-    (λ same there. (from_filter (is_record_at a.class.path path) q records there).0) (λ other none. absurd none) h
-
-built_status : (r : Resolved) (d : Desk) (g : Goal) (status : Status) (q : Record) → In q (built_in r d g status) → In q d.records
-built_status r d g Waiting q h = absurd h
-built_status r d g Planned q h = absurd h
-built_status r d g (Building job) q h = absurd h
-built_status r d g (Done path) q h = built_there r d.records path g.resolved (known_at (known_of d) g.derivation) q h
-built_status r d g (Failed why) q h = absurd h
-
--- it is on a desk that is seen, and labels what the closure has
-pub record IsFinished (view : List Desk) (r : Resolved) (q : Record) : Type 0 where
-  pub desk : Desk
-  pub seen : In desk view
-  pub there : In q desk.records
-  pub labelled : is_labelled_by r q ≡ true
-
-pub finished : (view : List Desk) (r : Resolved) (q : Record) → finished_build view r ≡ Some q → IsFinished view r q
-finished view r q e =
-    let a = from_filter (is_labelled_by r) q (flat_map (built_on r) view) (least_in _ q _ e) in
-    let b = from_flat_map (built_on r) q view a.0 in
-    let c = from_flat_map (λ g. built_in r b.0 g g.status) q b.0.goals b.2 in
-    record { desk = b.0; seen = b.1; there = built_status r b.0 c.0 c.0.status q c.2; labelled = a.1 }
 
 all_pass : {X : Type 0} (test : X → Bool) (xs : List X) → list_all test xs ≡ true → (x : X) → In x xs → test x ≡ true
 all_pass test [] h x k = absurd k

@@ -34,13 +34,14 @@ use Rattle.laws.proofs.PinRequestLemmas.{pin_cases}
 use Rattle.laws.proofs.ClosureRequestLemmas.{take_cases}
 use Rattle.laws.proofs.GoalRequestLemmas.{planned_goal, build_cases, plan_cases}
 use Rattle.laws.proofs.ForgetRequestLemmas.{forget_cases}
+use Rattle.laws.proofs.FinishedLemmas.{finished}
 use Rattle.laws.proofs.KeptLemmas.{kept_in}
 use Rattle.laws.proofs.HashedDeskLemmas.{is_quiet}
 use Rattle.laws.proofs.ServedLemmas.{some_same, find_in}
 use Rattle.repair.specs.GoodClosures.{IsWellFormed}
 use Rattle.repair.proofs.PrintedLemmas.{second_of}
 use Rattle.repair.proofs.HeldLemmas.{IsMadeRecord, IsMadeEntry, HasLabelled, HasClosure, HasBuilt, IsHeld, held_same, held_source, held_record, held_goal, held_new, held_without, held_entries, entries_have}
-use Rattle.repair.proofs.OutputLemmas.{path_of, made_output, output_labelled, candidates_made, candidate_source, finished, labelled_closure, made_for_class, labelled_for_class}
+use Rattle.repair.proofs.OutputLemmas.{path_of, made_output, output_labelled, candidates_made, candidate_source, labelled_closure, made_for_class, labelled_for_class}
 use Rattle.repair.proofs.GivenLemmas.{closure_whole, closure_entry}
 
 -- ---- desks
