@@ -5,7 +5,7 @@ use Rattle.model.specs.declared.refusal.Refusal.{Refusal}
 use Rattle.model.specs.declared.refusal.Refusal.TheVariants.{BadUsers, Quota, Memory}
 use Rattle.model.specs.Goals.{Running}
 use Rattle.model.specs.Worlds.{are_users}
-use Rattle.workers.specs.declared.runner.RunFault.{RunFault}
+use Rattle.builder.specs.declared.runner.RunFault.{RunFault}
 use Rattle.running.specs.declared.sessions.SessionOutput.{SessionOutput}
 use Rattle.running.specs.declared.sessions.Part.{Part}
 use Rattle.running.specs.declared.runs.Results.{Results}

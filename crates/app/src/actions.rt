@@ -11,6 +11,7 @@ ghost use Rattle.running.specs.ServedSessions.{passes_needed};
 ghost use Rattle.running.specs.Runs.{AreResults};
 ghost use Rattle.app.specs.Actions.{IsReplay, WhereStrikes, nothing_told};
 
+use builder::Runner;
 use command_line::{Action, Options};
 use model::Refusal;
 use replaying::{BadLines, Observer, Settings, replay, strike};
@@ -22,7 +23,6 @@ use std::hash::RandomState;
 use std::io::{Read, Write};
 use std::sync::Wait;
 use std::thread::Threads;
-use workers::Runner;
 
 /// The limits that the options set.
 fn limits_of(options: &Options) -> Limits

@@ -1,10 +1,10 @@
 //! A runner that says what it does.
 
 ghost use Rattle.std.specs.Prelude.{◌≡◌, Err};
-ghost use Rattle.workers.specs.Outputs.{bytes_of, HasFailed};
-ghost use Rattle.workers.specs.declared.runner.RunFault.TheVariants.{Device};
+ghost use Rattle.builder.specs.Outputs.{bytes_of, HasFailed};
+ghost use Rattle.builder.specs.declared.runner.RunFault.TheVariants.{Device};
 
-use builder::{Explains, Fault, Logged};
+use builder::{Explains, Fault, Logged, RunFault, Runner};
 use events::{Reply, Status};
 use jobs::RunningJob;
 use std::alloc::Global;
@@ -12,7 +12,6 @@ use std::fmt::{Display, Formatter};
 use std::io::Eprint;
 use std::time::{Clock, Instant};
 use std::{fmt, str};
-use workers::{RunFault, Runner};
 
 /// The most lines of a log that are shown.
 const MOST_LINES: usize = 10;

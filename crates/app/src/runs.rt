@@ -13,6 +13,7 @@ use crate::files;
 use crate::opening::{Opened, Refused};
 use crate::parts::{Parts, parts_of};
 use crate::waiting::tell_waiting;
+use builder::Runner;
 use command_line::{Options, Run};
 use model::Refusal;
 use running::{Results, SessionOutput};
@@ -23,7 +24,6 @@ use std::io::{Eprint, Read, Write};
 use std::sync::Wait;
 use std::thread::Threads;
 use std::{io, mem};
-use workers::Runner;
 
 /// Runs the lines of files that are open as sessions of one store.
 ///

@@ -1,3 +1,8 @@
+pub mod QueueLemmas
+pub mod WorkLemmas
+pub mod AlongLemmas
+pub mod RoundLemmas
+pub mod TakenLemmas
 mod TextLemmas
 mod CommandLemmas
 mod InputLemmas

@@ -2,7 +2,7 @@
 use Rattle.std.specs.Prelude.{◌≡◌, ℕ, List, Some, IfSome, Result}
 use Rattle.std.specs.Path.{path_buf_bytes}
 use Rattle.model.specs.Goals.{Running}
-use Rattle.workers.specs.declared.runner.RunFault.{RunFault}
+use Rattle.builder.specs.declared.runner.RunFault.{RunFault}
 use Rattle.builder.specs.Steps.{Steps}
 use Rattle.builder.specs.declared.fault.Fault.{Fault}
 use Rattle.builder.specs.Meaning.{counted, fault_in, told}

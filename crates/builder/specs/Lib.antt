@@ -1,3 +1,8 @@
+pub mod Outputs
+pub mod Tickets
+pub mod Queue
+pub mod Working
+pub mod Rounds
 pub mod Meaning
 pub mod Commands
 pub mod Logs

@@ -1,16 +1,16 @@
 //! Why a build gave no output.
 
 ghost use Rattle.std.specs.Prelude.{◌≡◌};
-ghost use Rattle.workers.specs.Outputs.{bytes_of};
+ghost use Rattle.builder.specs.Outputs.{bytes_of};
 ghost use Rattle.builder.specs.Meaning.{fault_in, output_of, run_fault_of, told};
 
 use crate::log::Logged;
+use crate::runner::RunFault;
 use std::fmt;
 use std::fmt::{Display, Formatter};
 use std::num::NonZeroU8;
 use std::os::unix::process::ExitStatusExt;
 use std::process::ExitStatus;
-use workers::RunFault;
 
 /// Why a build gave no output.
 #[derive(Clone, Copy, Debug, PartialEq, Eq)]

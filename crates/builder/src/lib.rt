@@ -1,4 +1,12 @@
-//! Building: jobs are built by processes.
+//! Building: workers have goals built, and processes build their jobs.
+//!
+//! | Calls | What they do |
+//! |---|---|
+//! | [`round`] | hands tickets to workers, each in a thread of its own, and gives the workers back |
+//! | [`ProcessRunner::new`] | makes a runner that starts a process for each job |
+//!
+//! A worker is a [`Store`] that it hands events to, and a [`Runner`] that builds. What it does for a
+//! ticket is said by `specs/Working.antt`, and what a round comes to by `specs/Rounds.antt`.
 //!
 //! A process is started for the resolved text of a job, with the arguments and the variables of that text, the
 //! path of its output in `out`, and in `INPUTS` the name of a file with its inputs. What it writes to
@@ -7,6 +15,7 @@
 #![tactic(auto)]
 
 mod command;
+mod ending;
 mod fault;
 mod inputs;
 mod log;
@@ -15,7 +24,19 @@ mod output;
 mod outside;
 mod preparing;
 mod processes;
+mod putting;
+mod queue;
+mod rounds;
+mod runner;
+mod serving;
+mod shared;
+mod store;
 mod system;
+mod tally;
+mod tasks;
+mod thread;
+mod ticket;
+mod worker;
 mod written;
 
 pub use command::Streams;
@@ -24,5 +45,10 @@ pub use log::{Log, Logged, Tail};
 pub use outside::Outside;
 pub use preparing::Folders;
 pub use processes::ProcessRunner;
+pub use rounds::round;
+pub use runner::{RunFault, Runner};
+pub use store::Store;
 pub use system::System;
+pub use ticket::Ticket;
+pub use worker::Worker;
 pub use written::Written;

@@ -2,7 +2,7 @@
 
 ghost use Rattle.std.specs.Prelude.{◌≡◌, Some, None, Err, IfSome};
 ghost use Rattle.std.specs.Path.{path_buf_bytes};
-ghost use Rattle.workers.specs.Outputs.{bytes_of};
+ghost use Rattle.builder.specs.Outputs.{bytes_of};
 ghost use Rattle.builder.specs.Meaning.{counted, output_of};
 ghost use Rattle.builder.specs.Running.{Ends, MakesAnew, Runs, RunsInFolder, RunsLogged, RunsWithLog, WritesAndRuns, log_name};
 ghost use Rattle.builder.specs.Building.{Builds, log_path_in};
@@ -15,13 +15,13 @@ use crate::meaning::{is_gone, meaning};
 use crate::output::read_output;
 use crate::outside::Outside;
 use crate::preparing::{Folders, Prepared, prepare};
+use crate::runner::{RunFault, Runner};
 use jobs::RunningJob;
 use records::Entry;
 use std::alloc::Global;
 use std::io;
 use std::path::PathBuf;
 use std::process::Command;
-use workers::{RunFault, Runner};
 
 /// What a process came to: what it wrote, or why that is none; and the last of its log, if it had one.
 #[derive(Drop)]

@@ -1,10 +1,11 @@
 //! Files whose goals are built: by two workers at once, and by one that counts what it builds.
 
 ghost use Rattle.std.specs.Prelude.{◌≢◌, Err};
-ghost use Rattle.workers.specs.Outputs.{bytes_of};
-ghost use Rattle.workers.specs.declared.runner.RunFault.TheVariants.{Device};
+ghost use Rattle.builder.specs.Outputs.{bytes_of};
+ghost use Rattle.builder.specs.declared.runner.RunFault.TheVariants.{Device};
 
 use crate::turns::is_set_in_time;
+use builder::{RunFault, Runner};
 use jobs::RunningJob;
 use model::Refusal;
 use nar::{Tree, encode};
@@ -16,7 +17,6 @@ use std::sync::Wait;
 use std::sync::atomic::{AtomicBool, AtomicU32, Ordering};
 use std::thread::Threads;
 use trial_lines::{Answer, Source, calls_of, with_newlines};
-use workers::{RunFault, Runner};
 
 /// How many runs have begun, and whether the second of them has ended.
 #[derive(Drop)]

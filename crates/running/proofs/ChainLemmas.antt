@@ -13,7 +13,7 @@ use Rattle.history.specs.Callers.{Caller, PassKnowledge, answered, told_stopped,
 use Rattle.history.proofs.Prefixes.{prefix_self, prefix_trans}
 use Rattle.history.proofs.RowLemmas.{rows_of-append, one_more}
 use Rattle.history.specs.Histories.{row, unrecorded, IsReadAfter}
-use Rattle.workers.specs.Working.{Call}
+use Rattle.builder.specs.Working.{Call}
 use Rattle.running.specs.Calling.{is_read, has_row, IsTold, own_rows, rows_for, AnsweredInOrder}
 use Rattle.running.specs.Meeting.{HasMet, unrecorded_cases, is_stopped, stopped_met, stopped_called}
 use Rattle.running.specs.Sessions.{Calls}

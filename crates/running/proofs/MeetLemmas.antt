@@ -3,7 +3,7 @@ use Rattle.std.proofs.Common.{◌≡◌, ℕ, ◌+◌, ◌<◌, List, [], ◌∷
 use Rattle.std.specs.Prelude.{take, drop, get_or, slice_set, All}
 use Rattle.std.proofs.lemmas.List.{take_more, take_more_set, drop_more, drop-set-lt}
 use Rattle.std.proofs.lemmas.List.Elements.{All-append, All-cons, All-nil, All-weaker}
-use Rattle.workers.specs.declared.worker.Worker.{Worker}
+use Rattle.builder.specs.declared.worker.Worker.{Worker}
 use Rattle.running.specs.Teams.{AllMet}
 
 module _ {S Q : Type 0} where

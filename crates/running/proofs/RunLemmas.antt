@@ -18,9 +18,9 @@ use Rattle.history.specs.declared.row.Row.{Row}
 use Rattle.history.specs.Callers.{PassKnowledge, new_pass, rows_of}
 use Rattle.book.specs.declared.closed_history.History.{History}
 use Rattle.book.specs.Closing.{rows_in}
-use Rattle.workers.specs.declared.runner.RunFault.{RunFault}
-use Rattle.workers.specs.declared.worker.Worker.{Worker}
-use Rattle.workers.specs.Working.{Call}
+use Rattle.builder.specs.declared.runner.RunFault.{RunFault}
+use Rattle.builder.specs.declared.worker.Worker.{Worker}
+use Rattle.builder.specs.Working.{Call}
 use Rattle.session.specs.Serving.{Link, Chain}
 use Rattle.book.specs.Asking.{IsAskedBy}
 use Rattle.running.specs.Calling.{IsTold, Stand, is_read}

@@ -32,8 +32,8 @@ use Rattle.running.specs.declared.runs.Results.{Results}
 use Rattle.history.specs.declared.row.Row.{Row}
 use Rattle.history.specs.Histories.{IsLegal}
 use Rattle.history.proofs.HistoryLemmas.{legal_none}
-use Rattle.workers.specs.declared.runner.RunFault.{RunFault}
-use Rattle.workers.specs.declared.worker.Worker.{Worker}
+use Rattle.builder.specs.declared.runner.RunFault.{RunFault}
+use Rattle.builder.specs.declared.worker.Worker.{Worker}
 use mathlib.Core.Logic.{∥∥₁_elim, ∥∥₁_map}
 use Rattle.running.proofs.RunLemmas.{output_ran, workers_stand, stand_append}
 

@@ -13,13 +13,13 @@ use Rattle.events.specs.declared.event.Request.TheVariants.{Plan, Start}
 use Rattle.events.specs.declared.event.Event.{Event}
 use Rattle.events.specs.declared.reply.Reply.{Reply}
 use Rattle.events.specs.declared.reply.Reply.TheVariants.{Refused}
-use Rattle.workers.specs.declared.runner.RunFault.{RunFault}
-use Rattle.workers.specs.declared.ticket.Ticket.{Ticket}
-use Rattle.workers.specs.declared.ticket.Ticket.TheVariants.{Goal, Stop}
-use Rattle.workers.specs.declared.worker.Worker.{Worker}
-use Rattle.workers.specs.Rounds.{Shift, AllWork, IsRound, is_memory, is_stopped, one_met, all_stopped}
-use Rattle.workers.specs.Working.{Call, is_planned, leads_own, met_in, met_by, ending, Leaves, CallsThen, Ends, BuildsWhere, Asks, GoesOn, Starts, WorksOn, Deals, Works}
-use Rattle.workers.proofs.AlongLemmas.{works_along}
+use Rattle.builder.specs.declared.runner.RunFault.{RunFault}
+use Rattle.builder.specs.declared.ticket.Ticket.{Ticket}
+use Rattle.builder.specs.declared.ticket.Ticket.TheVariants.{Goal, Stop}
+use Rattle.builder.specs.declared.worker.Worker.{Worker}
+use Rattle.builder.specs.Rounds.{Shift, AllWork, IsRound, is_memory, is_stopped, one_met, all_stopped}
+use Rattle.builder.specs.Working.{Call, is_planned, leads_own, met_in, met_by, ending, Leaves, CallsThen, Ends, BuildsWhere, Asks, GoesOn, Starts, WorksOn, Deals, Works}
+use Rattle.builder.proofs.AlongLemmas.{works_along}
 use Rattle.running.specs.Sessions.{Calls, HasTold}
 use Rattle.running.specs.Teams.{TeamView, WorksInRounds, HasWorked, AllWorked, AllNew, AllMet, is_memory_answer, stops_in}
 use Rattle.running.proofs.WaitLemmas.{calls_one, calls_behind, calls_append}

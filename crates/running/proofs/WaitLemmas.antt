@@ -7,9 +7,9 @@ use Rattle.model.specs.Worlds.{Job}
 use Rattle.events.specs.declared.event.Event.{Event}
 use Rattle.events.specs.declared.event.Request.TheVariants.{Status}
 use Rattle.events.specs.declared.reply.Reply.{Reply}
-use Rattle.workers.specs.Working.{Call}
-use Rattle.workers.specs.Tickets.{AreGoals}
-use Rattle.workers.specs.declared.worker.Worker.{Worker}
+use Rattle.builder.specs.Working.{Call}
+use Rattle.builder.specs.Tickets.{AreGoals}
+use Rattle.builder.specs.declared.worker.Worker.{Worker}
 use Rattle.running.specs.Sessions.{ticket_for, IsStatusOf, AsksStatus, Calls}
 
 -- ---- whose status is asked

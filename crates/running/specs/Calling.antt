@@ -10,7 +10,7 @@ use Rattle.events.specs.declared.reply.Reply.{Reply}
 use Rattle.events.specs.declared.reply.Reply.TheVariants.{Refused}
 use Rattle.history.specs.declared.row.Row.{Row}
 use Rattle.history.specs.Callers.{PassKnowledge, told_stopped, seeing, rows_of}
-use Rattle.workers.specs.Working.{Call}
+use Rattle.builder.specs.Working.{Call}
 use Rattle.history.specs.Histories.{row, unrecorded, IsAnswered, IsReadAfter}
 
 -- ---- one call

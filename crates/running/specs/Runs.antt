@@ -20,10 +20,10 @@ use Rattle.history.specs.Callers.{PassKnowledge, new_pass, rows_of, stops_of}
 use Rattle.history.specs.Histories.{IsLegal}
 use Rattle.book.specs.declared.closed_history.History.{History}
 use Rattle.book.specs.Closing.{rows_in}
-use Rattle.workers.specs.declared.runner.RunFault.{RunFault}
-use Rattle.workers.specs.declared.ticket.Ticket.{Ticket}
-use Rattle.workers.specs.declared.worker.Worker.{Worker}
-use Rattle.workers.specs.Working.{Call}
+use Rattle.builder.specs.declared.runner.RunFault.{RunFault}
+use Rattle.builder.specs.declared.ticket.Ticket.{Ticket}
+use Rattle.builder.specs.declared.worker.Worker.{Worker}
+use Rattle.builder.specs.Working.{Call}
 use Rattle.session.specs.Serving.{HasRefused}
 use Rattle.running.specs.declared.sessions.SessionOutput.{SessionOutput}
 use Rattle.running.specs.declared.sessions.Part.{Part}

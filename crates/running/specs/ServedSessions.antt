@@ -6,8 +6,8 @@ use Rattle.model.specs.Goals.{Running}
 use Rattle.events.specs.declared.event.Event.{Event}
 use Rattle.events.specs.declared.reply.Reply.{Reply}
 use Rattle.history.specs.Callers.{PassKnowledge, new_pass, below}
-use Rattle.workers.specs.declared.runner.RunFault.{RunFault}
-use Rattle.workers.specs.declared.worker.Worker.{Worker}
+use Rattle.builder.specs.declared.runner.RunFault.{RunFault}
+use Rattle.builder.specs.declared.worker.Worker.{Worker}
 use Rattle.book.specs.Asking.{IsAskedBy}
 use Rattle.running.specs.Calling.{IsTold}
 use Rattle.running.specs.Meeting.{HasMet, IsNew, stops_by}

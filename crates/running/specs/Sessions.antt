@@ -12,9 +12,9 @@ use Rattle.events.specs.declared.event.Event.{Event}
 use Rattle.events.specs.declared.event.Request.TheVariants.{Status}
 use Rattle.events.specs.declared.reply.Reply.{Reply}
 use Rattle.events.specs.Terms.{event_of, reply_of}
-use Rattle.workers.specs.declared.ticket.Ticket.{Ticket}
-use Rattle.workers.specs.declared.ticket.Ticket.TheVariants.{Goal}
-use Rattle.workers.specs.Working.{Call, asking}
+use Rattle.builder.specs.declared.ticket.Ticket.{Ticket}
+use Rattle.builder.specs.declared.ticket.Ticket.TheVariants.{Goal}
+use Rattle.builder.specs.Working.{Call, asking}
 use Rattle.session.specs.Serving.{Link, Finished, EndedEarly}
 use Rattle.running.specs.declared.sessions.SessionOutput.{SessionOutput}
 use Rattle.running.specs.Teams.{TeamView}

@@ -5,10 +5,10 @@ use Rattle.model.specs.declared.refusal.Refusal.TheVariants.{Memory}
 use Rattle.model.specs.Goals.{Running}
 use Rattle.events.specs.declared.event.Event.{Event}
 use Rattle.events.specs.declared.reply.Reply.{Reply}
-use Rattle.workers.specs.declared.runner.RunFault.{RunFault}
-use Rattle.workers.specs.declared.ticket.Ticket.{Ticket}
-use Rattle.workers.specs.declared.worker.Worker.{Worker}
-use Rattle.workers.specs.Working.{Call, Works}
+use Rattle.builder.specs.declared.runner.RunFault.{RunFault}
+use Rattle.builder.specs.declared.ticket.Ticket.{Ticket}
+use Rattle.builder.specs.declared.worker.Worker.{Worker}
+use Rattle.builder.specs.Working.{Call, Works}
 
 -- workers who build together, and whether a round of theirs was answered 90
 pub record TeamView (S Q : Type 0) : Type 0 where

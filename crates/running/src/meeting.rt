@@ -9,8 +9,8 @@ ghost use Rattle.events.specs.declared.reply.Reply.{Reply};
 ghost use Rattle.events.specs.declared.reply.Reply.TheVariants.{Refused};
 ghost use Rattle.running.specs.Teams.{AllMet};
 
+use builder::{Store, Worker};
 use std::alloc::Global;
-use workers::{Store, Worker};
 
 /// A store that meets others, and knows then what they were answered.
 pub(crate) trait Meet: Store {

@@ -12,10 +12,10 @@ use crate::sessions::{Left, Part, ServedSession, SessionOutput};
 use crate::shared::SharedStore;
 use crate::teams::Team;
 use book::{Front, FrontId, Pass};
+use builder::{Runner, Worker};
 use model::Refusal;
 use std::alloc::{AllocError, Global};
 use std::sync::Wait;
-use workers::{Runner, Worker};
 
 /// A worker of a session that shares a front with others.
 type SharedWorker<'a, J, R, Q> = Worker<SharedStore<'a, J, R>, Q>;

@@ -2,12 +2,13 @@
 
 ghost use Rattle.std.specs.Prelude.{◌≡◌, ◌⊎◌, map, Err, IfOk, IfErr, MatchResult};
 ghost use Rattle.model.specs.declared.refusal.Refusal.TheVariants.{Memory};
-ghost use Rattle.workers.specs.Rounds.{IsRound};
+ghost use Rattle.builder.specs.Rounds.{IsRound};
 ghost use Rattle.running.specs.Sessions.{GivesUp, HasTold, ticket_for};
 
 use crate::meeting::Meet;
 use crate::rounds::Rounds;
 use crate::teams::{Team, build_once};
+use builder::{Runner, Ticket};
 use crossbeam_channel::{Receiver, Sender, bounded};
 use model::Refusal;
 use session::Job;
@@ -15,7 +16,6 @@ use std::alloc::{AllocError, Global};
 use std::mem;
 use std::sync::Wait;
 use std::thread::{Scope, Threads};
-use workers::{Runner, Ticket};
 
 /// Goals that are to be built in one round, and who builds them.
 #[derive(Drop)]

@@ -19,6 +19,7 @@ use crate::pass_lists::{Back, SharedLeft, SharedSession, end_sessions, numbers_o
 use crate::rounds::Rounds;
 use crate::sessions::{Part, SessionOutput, all_at_once};
 use book::{Front, FrontId, FrontTokens, History, Pass, Row};
+use builder::Runner;
 use model::Refusal;
 use schedule::{Core, Limits, User};
 use session::Faults;
@@ -28,7 +29,6 @@ use std::io::Read;
 use std::marker::Brand;
 use std::sync::{Arc, Wait};
 use std::thread::Threads;
-use workers::Runner;
 
 /// What the lines of files gave, and what they did.
 #[derive(Drop)]

@@ -11,6 +11,7 @@ use crate::pools::{WorkerPool, start_building};
 use crate::rounds::Rounds;
 use crate::teams::Team;
 use crate::waiting::BuildingSession;
+use builder::Runner;
 use model::{Mode, Refusal};
 use session::{Counted, Faults, serve_behind};
 use std::alloc::Global;
@@ -18,7 +19,6 @@ use std::io::Read;
 use std::sync::Wait;
 use std::thread;
 use std::thread::Threads;
-use workers::Runner;
 
 /// A file whose lines are run, and what builds for it.
 #[derive(Drop)]

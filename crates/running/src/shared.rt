@@ -6,13 +6,13 @@ ghost use Rattle.running.specs.Calling.{is_read, IsTold};
 
 use crate::meeting::Meet;
 use book::{Front, FrontId, Pass};
+use builder::Store;
 use jobs::RunningJob;
 use model::Refusal;
 use schedule::{Event, Query, Reply, User};
 use std::alloc::Global;
 use std::marker::Model;
 use std::sync::Wait;
-use workers::Store;
 
 /// A front that threads share, and a pass of one's own to call it through. What is only read is answered
 /// from what is published, and waits for nobody.

@@ -2,17 +2,17 @@
 
 ghost use Rattle.std.specs.Prelude.{◌≡◌, ◌⊎◌, [], true, false, All, Err};
 ghost use Rattle.model.specs.declared.refusal.Refusal.TheVariants.{Memory};
-ghost use Rattle.workers.specs.Rounds.{IsRound};
-ghost use Rattle.workers.specs.Tickets.{AreGoals};
+ghost use Rattle.builder.specs.Rounds.{IsRound};
+ghost use Rattle.builder.specs.Tickets.{AreGoals};
 ghost use Rattle.running.specs.Teams.{AllNew, IsTeam, is_memory_answer};
 
 use crate::meeting::{Meet, meet_each};
+use builder::{Runner, Ticket, Worker, round};
 use model::Refusal;
 use std::alloc::Global;
 use std::marker::Model;
 use std::sync::Wait;
 use std::thread::Threads;
-use workers::{Runner, Ticket, Worker, round};
 
 /// Workers who build together, and whether a round of theirs was answered 90.
 ///

@@ -3,19 +3,19 @@
 ghost use Rattle.std.specs.Prelude.{◌≡◌, ◌⊎◌, ◌∷◌, [], true, List, All, Err, IfErr};
 ghost use Rattle.model.specs.declared.refusal.Refusal.TheVariants.{Memory, Stopped};
 ghost use Rattle.model.specs.Worlds.{Job as Goal};
-ghost use Rattle.workers.specs.Working.{Call};
+ghost use Rattle.builder.specs.Working.{Call};
 ghost use Rattle.events.specs.declared.reply.Reply.TheVariants.{Refused};
 ghost use Rattle.running.specs.Sessions.{AsksStatus, Calls, GivesUp, HasTold};
 
 use crate::meeting::Meet;
 use crate::pools::WorkerPool;
+use builder::Runner;
 use events::{Event, Reply, Request, Status};
 use model::Refusal;
 use session::{Answer, Job};
 use std::alloc::Global;
 use std::marker::Model;
 use std::sync::Wait;
-use workers::Runner;
 
 /// A store that answers the events of a session, and the workers that build its goals.
 #[derive(Drop)]

@@ -1,5 +1,5 @@
 use Rattle.std.proofs.Common.{sym, subst}
-use Rattle.workers.specs.Tickets.{AreGoals}
+use Rattle.builder.specs.Tickets.{AreGoals}
 use Rattle.running.proofs.WaitLemmas.{are_goals}
 use Rattle.running.proofs.pools.build_order.Goals as goal
 

@@ -1,0 +1,160 @@
+//! What one thread of a round does.
+
+ghost use Rattle.std.specs.Prelude.{◌≡◌, ◌&&◌, ◌||◌, [], true, is_ok, IfOk, IfErr, MatchResult};
+ghost use Rattle.crossbeam_channel.specs.Claims.{view, IsSeatAt};
+ghost use Rattle.crossbeam_channel.specs.Ends.{receives_on};
+ghost use Rattle.builder.specs.Queue.{consumer as taking};
+ghost use Rattle.builder.specs.Rounds.{Returned, is_memory, is_stopped};
+
+use crate::queue::Consumer;
+use crate::runner::Runner;
+use crate::shared::Shared;
+use crate::store::Store;
+use crate::tally::Tally;
+use crate::worker::{Worked, Worker, work};
+use model::Refusal;
+use std::snapshot::Snapshot;
+use std::sync::Wait;
+use std::sync::atomic::Ordering;
+use std::thread::{Promise, PromisedHandle, Scope, Threads};
+
+/// What a thread gives back.
+#[derive(Drop)]
+pub(crate) struct Back<S, Q> {
+    /// The worker.
+    pub(crate) worker: Worker<S, Q>,
+    /// Its end of the queue.
+    pub(crate) consumer: Consumer,
+    /// 90 or 92, where the worker met that.
+    pub(crate) met: Option<Refusal>,
+    /// Whether it took its Stop.
+    pub(crate) took_stop: bool,
+}
+
+/// What a thread was handed.
+#[derive(Drop)]
+pub(crate) struct Handed<S, Q> {
+    worker: Snapshot<Worker<S, Q>>,
+    consumer: Snapshot<Consumer>,
+}
+
+impl<S: Store, Q: Runner> Promise<Back<S, Q>> for Handed<S, Q> {
+    ghost use Rattle.builder.specs.Rounds.{Returned};
+
+    ghost kept_by = { λ p r. Returned S.called S.asked Q.gives p.worker.value p.consumer.value
+        r.worker r.consumer r.met r.took_stop };
+}
+
+/// What a thread is handed.
+fn hand_to<S, Q>(worker: &Worker<S, Q>, consumer: &Consumer) -> Handed<S, Q>
+    ensures worker { result.worker.value ≡ worker.now }
+    ensures consumer { result.consumer.value ≡ consumer.now }
+{
+    Handed {
+        worker: Snapshot::of(worker),
+        consumer: Snapshot::of(consumer),
+    }
+}
+
+/// Takes tickets and works on them until a Stop; none where the round was given up.
+fn run<S: Store, Q: Runner, R: Wait>(
+    rt: &R,
+    shared: Shared<'_>,
+    mut worker: Worker<S, Q>,
+    mut consumer: Consumer,
+) -> Back<S, Q>
+    requires seat { IsSeatAt (receives_on shared.receiver.now) consumer }
+    requires takes { (view consumer).takes ≡ true }
+    requires none { view consumer ≡ taking (view consumer).number [] }
+    ensures { Returned S.called S.asked Q.gives worker consumer result.worker result.consumer result.met
+        result.took_stop }
+{
+    if shared.given_up.load(Ordering::SeqCst) {
+        return Back {
+            worker,
+            consumer,
+            met: None,
+            took_stop: false,
+        };
+    }
+    let Worked { met, took_stop } = work(
+        rt,
+        shared.alloc,
+        shared.receiver,
+        &mut worker,
+        &mut consumer,
+    );
+    Back {
+        worker,
+        consumer,
+        met,
+        took_stop,
+    }
+}
+
+/// A thread that works, or what it would give back, where none can be made: the round is given up then.
+pub(crate) fn start<
+    's,
+    E,
+    S: Store + Send + Drop + 's,
+    Q: Runner + Send + Drop + 's,
+    R: Threads + Wait + Sync,
+>(
+    rt: &'s R,
+    scope: &Scope<'s, E>,
+    shared: Shared<'s>,
+    worker: Worker<S, Q>,
+    consumer: Consumer,
+) -> Result<PromisedHandle<Back<S, Q>, Handed<S, Q>>, Back<S, Q>>
+    requires seat { IsSeatAt (receives_on shared.receiver.now) consumer }
+    requires takes { (view consumer).takes ≡ true }
+    requires none { view consumer ≡ taking (view consumer).number [] }
+    ensures worker { IfOk result (λ h. h.promise.worker.value ≡ worker) }
+    ensures consumer { IfOk result (λ h. h.promise.consumer.value ≡ consumer) }
+    ensures back { IfErr result (λ b. Returned S.called S.asked Q.gives worker consumer b.worker b.consumer
+        b.met b.took_stop) }
+{
+    let promise = hand_to(&worker, &consumer);
+    let job = move || -> Back<S, Q>
+        requires seat { IsSeatAt (receives_on shared.receiver.now) consumer }
+        requires takes { (view consumer).takes ≡ true }
+        requires none { view consumer ≡ taking (view consumer).number [] }
+        ensures { Returned S.called S.asked Q.gives worker consumer result.worker result.consumer
+            result.met result.took_stop }
+    { run(rt, shared, worker, consumer) };
+    match scope.spawn_with(promise, job) {
+        Ok(handle) => Ok(handle),
+        Err(refused) => {
+            shared.given_up.store(true, Ordering::SeqCst);
+            Err((refused.value)())
+        }
+    }
+}
+
+/// What a thread gave back, or what it would have given, and what has been met with that. Where no thread could
+/// be started, the round is not whole.
+pub(crate) fn finish<S: Store, Q: Runner, R: Threads>(
+    rt: &R,
+    started: Result<PromisedHandle<Back<S, Q>, Handed<S, Q>>, Back<S, Q>>,
+    tally: Tally,
+) -> (Back<S, Q>, Tally)
+    ensures back { MatchResult started
+        (λ h. Returned S.called S.asked Q.gives h.promise.worker.value h.promise.consumer.value
+        result.0.worker result.0.consumer result.0.met result.0.took_stop)
+        (λ b. result.0 ≡ b) }
+    ensures whole { result.1.whole ≡ (tally.whole && (is_ok started && result.0.took_stop)) }
+    ensures memory { result.1.memory ≡ (tally.memory || is_memory result.0.met) }
+    ensures stopped { result.1.stopped ≡ (tally.stopped || is_stopped result.0.met) }
+{
+    match started {
+        Ok(handle) => {
+            let back = handle.join(rt);
+            let tally = tally.with(true, back.took_stop, back.met);
+            (back, tally)
+        }
+        Err(back) => {
+            let tally = tally.with(false, back.took_stop, back.met);
+            (back, tally)
+        }
+    }
+}

@@ -1,5 +1,0 @@
-pub mod QueueLemmas
-pub mod WorkLemmas
-pub mod AlongLemmas
-pub mod RoundLemmas
-pub mod TakenLemmas

@@ -1,7 +1,0 @@
-use Rattle.crossbeam_channel.specs.Claims.{view, IsSeatAt}
-use Rattle.crossbeam_channel.specs.Ends.{sends_on}
-use Rattle.workers.specs.Rounds.{PutStops}
-use Rattle.workers.proofs.putting.put_stops.Given as goal
-
-abbrev pub invariant-loop-stop : goal.invariant-loop-stop
-invariant-loop-stop g l = IsSeatAt (sends_on l.sender) l.producer × PutStops l.stop l.all (view l.initial.producer) (view l.producer)

@@ -1,5 +1,0 @@
-use Rattle.workers.proofs.QueueLemmas.{learns}
-use Rattle.workers.proofs.queue.count.Goals as goal
-
-pub learn_as-requires-clause-rule : goal.learn_as-requires-clause-rule
-learn_as-requires-clause-rule g = learns _ _ g.requires.keeps

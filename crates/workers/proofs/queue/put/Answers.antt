@@ -1,5 +1,0 @@
-use Rattle.workers.proofs.QueueLemmas.{puts}
-use Rattle.workers.proofs.queue.put.Goals as goal
-
-pub send_as-requires-clause-rule : goal.send_as-requires-clause-rule
-send_as-requires-clause-rule g c = (puts _ _ _ _ c.requires.keeps, λ _ _ _ _. tt)

@@ -1,5 +1,0 @@
-use Rattle.workers.proofs.QueueLemmas.{merges}
-use Rattle.workers.proofs.queue.take_back.Goals as goal
-
-pub absorb-requires-clause-rule : goal.absorb-requires-clause-rule
-absorb-requires-clause-rule g = merges _ _ _ _ g.requires.keeps g.requires.takes g.requires.last

@@ -1,5 +1,0 @@
-use Rattle.workers.proofs.QueueLemmas.{begins}
-use Rattle.workers.proofs.queue.ticket_queue.Goals as goal
-
-pub bounded_with-requires-clause-rule : goal.bounded_with-requires-clause-rule
-bounded_with-requires-clause-rule g = begins

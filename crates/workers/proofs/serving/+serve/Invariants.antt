@@ -1,5 +1,0 @@
-use Rattle.std.proofs.Common.{length}
-use Rattle.workers.proofs.serving.+serve.Given as goal
-
-abbrev pub decreases-serve : goal.decreases-serve
-decreases-serve g l = length l.workers.now.left.items

@@ -1,5 +1,0 @@
-pub mod Outputs
-pub mod Tickets
-pub mod Queue
-pub mod Working
-pub mod Rounds
