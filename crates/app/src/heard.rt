@@ -1,6 +1,6 @@
 //! What the history of a run says of goals: how far each of them is.
 
-use crate::inputs::{Inputs, MOST_USERS, News, is_at};
+use crate::inputs::{Inputs, MOST_USERS, Notification, is_at};
 use book::Row;
 use events::{Job, Reply, Request, Status};
 use model::Refusal;
@@ -9,7 +9,7 @@ use std::hash::RandomState;
 use std::mem;
 use std::sync::Arc;
 use storepath::StorePath;
-use trust::{Trust, User};
+use trust::{Trust, User, UserSet};
 
 /// Where a goal is kept: at the place of its user, and at its own among the goals of that user.
 #[derive(Clone, Copy)]
@@ -51,7 +51,7 @@ enum Stage {
 impl Stage {
     /// How far it is as the user of the goal sees it, who reaches those at some places: it waits where he does not
     /// reach who leads its job.
-    fn seen(self, reached: u64) -> Stage {
+    fn seen(self, reached: UserSet) -> Stage {
         match self {
             Stage::Built(leader) if !is_at(reached, leader.user) => Stage::Waits,
             stage => stage,
@@ -59,12 +59,12 @@ impl Stage {
     }
 
     /// What its user has of its class.
-    fn news(self) -> News {
+    fn notification(self) -> Notification {
         match self {
-            Stage::Waits => News::Waits,
-            Stage::Planned | Stage::Built(_) => News::Built,
-            Stage::Done => News::There,
-            Stage::Failed(number) => News::Failed(number),
+            Stage::Waits => Notification::Waits,
+            Stage::Planned | Stage::Built(_) => Notification::Built,
+            Stage::Done => Notification::There,
+            Stage::Failed(number) => Notification::Failed(number),
         }
     }
 }
@@ -85,7 +85,7 @@ impl Goal {
     }
 
     /// Whether it waits, as its user sees it, who reaches those at some places.
-    pub(crate) fn is_waiting(&self, reached: u64) -> bool {
+    pub(crate) fn is_waiting(&self, reached: UserSet) -> bool {
         matches!(self.stage.seen(reached), Stage::Waits)
     }
 }
@@ -109,7 +109,7 @@ pub(crate) struct Heard {
 }
 
 /// Whom the user at a place reaches by trust.
-fn reach_in(trust: &Trust, user: usize) -> u64 {
+fn reach_in(trust: &Trust, user: usize) -> UserSet {
     if user < MOST_USERS {
         trust.closure(user)
     } else {
@@ -121,11 +121,11 @@ fn reach_in(trust: &Trust, user: usize) -> u64 {
 fn add_goals(
     inputs: &mut Inputs,
     user: usize,
-    reached: u64,
+    reached: UserSet,
     goals: &[Goal],
 ) -> Result<(), Refusal> {
     for goal in goals {
-        inputs.add(&goal.path, user, goal.stage.seen(reached).news())?;
+        inputs.add(&goal.path, user, goal.stage.seen(reached).notification())?;
     }
     Ok(())
 }
@@ -160,7 +160,7 @@ impl Heard {
     }
 
     /// Whom the user at a place reaches by trust at the end.
-    pub(crate) fn reach_of(&self, user: usize) -> u64 {
+    pub(crate) fn reach_of(&self, user: usize) -> UserSet {
         reach_in(&self.trust, user)
     }
 
@@ -239,7 +239,7 @@ impl Heard {
     /// Hears what was answered to an output of the derivation at a path, which the user at a place offered.
     fn hear_offer(&mut self, user: usize, path: &StorePath, reply: &Reply) -> Result<(), Refusal> {
         match reply {
-            Reply::Path(_) => self.inputs.add(path, user, News::There),
+            Reply::Path(_) => self.inputs.add(path, user, Notification::There),
             _ => Ok(()),
         }
     }

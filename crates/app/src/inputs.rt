@@ -8,14 +8,14 @@ use std::fmt;
 use std::fmt::{Display, Formatter};
 use std::hash::RandomState;
 use storepath::StorePath;
-use trust::has_place;
+use trust::{UserSet, has_place};
 
 /// The most users of a store.
 pub(crate) const MOST_USERS: usize = 64;
 
 /// What a user has of a class.
 #[derive(Clone, Copy)]
-pub(crate) enum News {
+pub(crate) enum Notification {
     /// An output that he offered, or a goal for it that is done.
     There,
     /// A goal for it that is being built.
@@ -50,17 +50,17 @@ impl Display for Absence {
     }
 }
 
-/// Whether a place is in a word of the places of users.
-pub(crate) fn is_at(word: u64, place: usize) -> bool {
-    place < MOST_USERS && has_place(word, place)
+/// Whether the user at a place is in a set.
+pub(crate) fn is_at(set: UserSet, place: usize) -> bool {
+    place < MOST_USERS && has_place(set, place)
 }
 
-/// A word of places with one more.
-fn with_place(word: u64, place: usize) -> u64 {
+/// A set with the user at a place.
+fn with_place(set: UserSet, place: usize) -> UserSet {
     if place < MOST_USERS {
-        word | 1 << place
+        set | 1 << place
     } else {
-        word
+        set
     }
 }
 
@@ -74,10 +74,10 @@ struct Failure {
 /// What was heard of a class: the places of the users who have something of it.
 #[derive(Drop)]
 struct Class {
-    there: u64,
-    built: u64,
-    waiting: u64,
-    failed: u64,
+    there: UserSet,
+    built: UserSet,
+    waiting: UserSet,
+    failed: UserSet,
     failures: Vec<Failure>,
 }
 
@@ -94,12 +94,12 @@ impl Class {
     }
 
     /// From now on it is known what the user at a place has.
-    fn add(&mut self, user: usize, news: News) -> Result<(), Refusal> {
-        match news {
-            News::There => self.there = with_place(self.there, user),
-            News::Built => self.built = with_place(self.built, user),
-            News::Waits => self.waiting = with_place(self.waiting, user),
-            News::Failed(number) => {
+    fn add(&mut self, user: usize, notification: Notification) -> Result<(), Refusal> {
+        match notification {
+            Notification::There => self.there = with_place(self.there, user),
+            Notification::Built => self.built = with_place(self.built, user),
+            Notification::Waits => self.waiting = with_place(self.waiting, user),
+            Notification::Failed(number) => {
                 if !is_at(self.failed, user) {
                     self.failures.push(Failure { user, number })?;
                     self.failed = with_place(self.failed, user);
@@ -110,7 +110,7 @@ impl Class {
     }
 
     /// The number of a failure of those at some places, if they had one.
-    fn failure_of(&self, users: u64) -> Option<u8> {
+    fn failure_of(&self, users: UserSet) -> Option<u8> {
         for failure in self.failures.as_slice() {
             if is_at(users, failure.user) {
                 return Some(failure.number);
@@ -120,7 +120,7 @@ impl Class {
     }
 
     /// Why no output is there for those at some places, or nothing where one is.
-    fn absence_for(&self, users: u64) -> Option<Absence> {
+    fn absence_for(&self, users: UserSet) -> Option<Absence> {
         if self.there & users != 0 {
             return None;
         }
@@ -191,8 +191,8 @@ impl Inputs {
             return Ok(());
         }
         if !self.classes.contains_key(class) {
-            let news = Class::new(self.alloc);
-            let _none = self.classes.insert(class.clone()?, news)?;
+            let notification = Class::new(self.alloc);
+            let _none = self.classes.insert(class.clone()?, notification)?;
         }
         let derivation = parse(self.alloc, text)?;
         let derived = Derived {
@@ -209,12 +209,17 @@ impl Inputs {
     /// # Errors
     ///
     /// - `Memory` where memory was refused.
-    pub(crate) fn add(&mut self, path: &StorePath, user: usize, news: News) -> Result<(), Refusal> {
+    pub(crate) fn add(
+        &mut self,
+        path: &StorePath,
+        user: usize,
+        notification: Notification,
+    ) -> Result<(), Refusal> {
         let Some(derived) = self.derivations.get(path) else {
             return Ok(());
         };
         match self.classes.get_mut(&derived.class) {
-            Some(class) => class.add(user, news),
+            Some(class) => class.add(user, notification),
             None => Ok(()),
         }
     }
@@ -226,7 +231,7 @@ impl Inputs {
 
     /// What the users at some places lack where the derivation at a path is an input, if anything. The one error is
     /// memory.
-    fn lack_of(&self, path: &StorePath, users: u64) -> Result<Option<Lack>, AllocError> {
+    fn lack_of(&self, path: &StorePath, users: UserSet) -> Result<Option<Lack>, AllocError> {
         let Some(derived) = self.derivations.get(path) else {
             return Ok(None);
         };
@@ -247,7 +252,7 @@ impl Inputs {
     /// # Errors
     ///
     /// - `Memory` where memory was refused.
-    pub(crate) fn lacks_of(&self, derived: &Derived, users: u64) -> Result<Vec<Lack>, Refusal> {
+    pub(crate) fn lacks_of(&self, derived: &Derived, users: UserSet) -> Result<Vec<Lack>, Refusal> {
         let mut lacks = Vec::new(self.alloc);
         for input in derived.inputs.as_slice() {
             if let Some(lack) = self.lack_of(input, users)? {

@@ -13,7 +13,7 @@ use std::hash::RandomState;
 use std::io::Eprint;
 use std::sync::Arc;
 use storepath::StorePath;
-use trust::User;
+use trust::{User, UserSet};
 
 /// What waits: the goals of a derivation of one user.
 #[derive(Drop)]
@@ -83,7 +83,7 @@ struct Teller<'a, H> {
     host: &'a H,
     alloc: Global,
     heard: &'a Heard,
-    reached: u64,
+    reached: UserSet,
     found: IndexMap<StorePath, Wanted, RandomState>,
 }
 

@@ -28,8 +28,8 @@ use Rattle.records.specs.contracts.entries.Entry as Entry
 use Rattle.records.specs.contracts.entries.Closure as Closure
 use Rattle.records.specs.contracts.resolved.Resolved as Resolved
 use Rattle.repair.specs.contracts.repair.Repair as Repair
-use Rattle.repair.specs.contracts.moves.Move as Move
-use Rattle.repair.proofs.moves.Move.TheSendSync as moves
+use Rattle.repair.specs.contracts.replacements.Replacement as Replacement
+use Rattle.repair.proofs.replacements.Replacement.TheSendSync as replacements
 use Rattle.repair.specs.contracts.kept.Kept as Kept
 use Rattle.repair.specs.contracts.made.Made as Made
 use Rattle.repair.specs.contracts.cache.Cache as Cache
@@ -171,17 +171,17 @@ jobs_sync = search (sendable, crosses, goals_sync) depth 60 fits 5000
 
 -- ---- records that were repaired
 
-move_send : IsSend Move.the_row
-move_send = moves.the_send
+replacement_send : IsSend Replacement.the_row
+replacement_send = replacements.the_send
 
-move_sync : IsSync Move.the_row
-move_sync = moves.the_sync
+replacement_sync : IsSync Replacement.the_row
+replacement_sync = replacements.the_sync
 
 repair_send : IsSend Repair.the_row
-repair_send = search (sendable, crosses, path_send, tree_send, move_send, realisation_send, refusal_send) depth 60 fits 5000
+repair_send = search (sendable, crosses, path_send, tree_send, replacement_send, realisation_send, refusal_send) depth 60 fits 5000
 
 repair_sync : IsSync Repair.the_row
-repair_sync = search (sendable, crosses, path_sync, tree_sync, move_sync, realisation_sync, refusal_sync) depth 60 fits 5000
+repair_sync = search (sendable, crosses, path_sync, tree_sync, replacement_sync, realisation_sync, refusal_sync) depth 60 fits 5000
 
 kept_send : IsSend Kept.the_row
 kept_send = declared_send Kept.the_type (search (LruCache-send, sendable, crosses, path_send, path_sync, repair_send) depth 40, (search sendable, (search sendable, (search sendable, tt))))

@@ -111,7 +111,7 @@ fn passes_of<J: FrontId>(
         let caller = Caller::new(number, calls, tally.log.next_claim());
         let repaired = core.cache_for(alloc, most, most_bytes)?;
         let account = Account { caller, stops };
-        passes.push(Pass::new(account, none.again(), reader, repaired, alloc))?;
+        passes.push(Pass::new(account, none.clone(), reader, repaired, alloc))?;
     }
     Ok(passes)
 }
@@ -136,8 +136,8 @@ fn writer_of<J: FrontId, R: Wait>(
         view writer.desk.place ≡ knower (name_of J.book J.setup)) }
     ensures memory { IfErr result (λ why. why ≡ Memory) }
 {
-    let first = Snapshot::new(alloc, Arc::try_clone(cores.owner())?, none.again());
-    let second = Snapshot::new(alloc, Arc::try_clone(cores.owner())?, none.again());
+    let first = Snapshot::new(alloc, Arc::try_clone(cores.owner())?, none.clone());
+    let second = Snapshot::new(alloc, Arc::try_clone(cores.owner())?, none.clone());
     let writer = SnapshotWriter::new(alloc, first, second, readers)?;
     let (writer, knows) = begin(rt, writer);
     if knows {

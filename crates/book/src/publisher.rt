@@ -158,7 +158,7 @@ impl<J: FrontId> Publisher<J> {
             self.whole = false;
             return false;
         };
-        let snapshot = Snapshot::new(alloc, core, rows.again());
+        let snapshot = Snapshot::new(alloc, core, rows.clone());
         let next = Publishing { rt, snapshot };
         if !replace_with(&mut self.end.writer, next, publish_next::<R>) {
             self.whole = false;
@@ -184,7 +184,7 @@ impl<J: FrontId> Publisher<J> {
             (self.new ≡ record { core = self.old.core; rows = self.old.rows; whole = false }) }
     {
         insist(rt, self.rows.len() < MOST_ROWS);
-        let mut after = self.rows.again();
+        let mut after = self.rows.clone();
         insist(rt, after.add(&self.head, row));
         self.show(rt, alloc, core, after)
     }
@@ -198,7 +198,7 @@ impl<J: FrontId> Publisher<J> {
             (self.new ≡ record { core = arc_value core.now; rows = self.old.rows; whole = true })
             (self.new ≡ record { core = self.old.core; rows = self.old.rows; whole = false }) }
     {
-        let rows = self.rows.again();
+        let rows = self.rows.clone();
         self.show(rt, alloc, core, rows)
     }
 
@@ -206,7 +206,7 @@ impl<J: FrontId> Publisher<J> {
     pub(crate) fn seen(&self) -> HistoryPrefix
         ensures { (result.seen.log ≡ self.now.rows) × (result.seen.book ≡ J.book) }
     {
-        self.rows.again()
+        self.rows.clone()
     }
 
     /// Frees the snapshot once each reader has left.

@@ -16,6 +16,9 @@ pub struct Job {
     number: u16,
 }
 
+/// A goal: its user, and its number, as they name the job that it leads or would lead.
+pub type GoalId = Job;
+
 impl Drop for Job {
     fn drop(self) {
         let Job {

@@ -10,7 +10,7 @@ mod status;
 
 pub use copied_reply::CopiedReply;
 pub use event::{Event, Request};
-pub use job::Job;
+pub use job::{GoalId, Job};
 pub use output::Output;
 pub use reply::Reply;
 pub use status::Status;

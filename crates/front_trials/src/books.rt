@@ -8,7 +8,7 @@ use crate::new_front::NewFront;
 use book::{Book, FrontId, Pass};
 use model::Refusal;
 use schedule::{Event, Reply};
-use session::Job;
+use session::GoalId;
 use std::alloc::Global;
 use std::hash::RandomState;
 use std::marker::Brand;
@@ -33,7 +33,7 @@ impl<J: FrontId, R: Wait> session::Answer for Applying<'_, J, R> {
         self.book.apply(self.rt, alloc, &mut self.pass, event)
     }
 
-    fn wait(&mut self, _alloc: Global, _goals: &[Job]) -> Reply {
+    fn wait(&mut self, _alloc: Global, _goals: &[GoalId]) -> Reply {
         Reply::Ok
     }
 }

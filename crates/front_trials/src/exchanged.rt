@@ -8,7 +8,7 @@ use crate::new_front::NewFront;
 use book::{Front, FrontId, Pass};
 use model::Refusal;
 use schedule::{Core, Event, Ready, Reply};
-use session::Job;
+use session::GoalId;
 use std::alloc::Global;
 use std::hash::RandomState;
 use std::marker::Brand;
@@ -51,7 +51,7 @@ impl<J: FrontId, R: Wait> session::Answer for Exchanged<'_, J, R> {
         }
     }
 
-    fn wait(&mut self, _alloc: Global, _goals: &[Job]) -> Reply {
+    fn wait(&mut self, _alloc: Global, _goals: &[GoalId]) -> Reply {
         Reply::Ok
     }
 }

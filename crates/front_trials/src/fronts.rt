@@ -9,7 +9,7 @@ use crate::turns::{Member, Task, all_at_once, closed};
 use book::{Front, FrontId, Pass, Row};
 use model::Refusal;
 use schedule::{Event, Reply};
-use session::Job;
+use session::GoalId;
 use std::alloc::Global;
 use std::hash::RandomState;
 use std::marker::Brand;
@@ -35,7 +35,7 @@ impl<J: FrontId, R: Wait> session::Answer for Called<'_, J, R> {
         self.front.call(self.rt, alloc, &mut self.pass, event)
     }
 
-    fn wait(&mut self, _alloc: Global, _goals: &[Job]) -> Reply {
+    fn wait(&mut self, _alloc: Global, _goals: &[GoalId]) -> Reply {
         Reply::Ok
     }
 }

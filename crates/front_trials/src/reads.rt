@@ -11,7 +11,7 @@ use crate::turns::{Member, Task, all_at_once, closed};
 use book::{Front, FrontId, Pass, Row};
 use model::Refusal;
 use schedule::{Event, Query, Reply};
-use session::{Job, Mode, Session};
+use session::{GoalId, Mode, Session};
 use std::alloc::{AllocError, Global};
 use std::hash::RandomState;
 use std::marker::Brand;
@@ -95,7 +95,7 @@ impl<J: FrontId, R: Wait> session::Answer for Member<'_, J, R, Lines<'_>> {
         }
     }
 
-    fn wait(&mut self, _alloc: Global, _goals: &[Job]) -> Reply {
+    fn wait(&mut self, _alloc: Global, _goals: &[GoalId]) -> Reply {
         Reply::Ok
     }
 }

@@ -8,7 +8,7 @@ use crate::new_front::NewFront;
 use book::{Front, FrontId, Pass};
 use model::Refusal;
 use schedule::{Core, Event, Query, Ready, Reply};
-use session::Job;
+use session::GoalId;
 use std::alloc::Global;
 use std::hash::RandomState;
 use std::marker::Brand;
@@ -31,7 +31,7 @@ impl session::Answer for Stepping {
         self.core.step(alloc, event)
     }
 
-    fn wait(&mut self, _alloc: Global, _goals: &[Job]) -> Reply {
+    fn wait(&mut self, _alloc: Global, _goals: &[GoalId]) -> Reply {
         Reply::Ok
     }
 }
@@ -79,7 +79,7 @@ impl<J: FrontId, R: Wait> session::Answer for Committing<'_, J, R> {
         }
     }
 
-    fn wait(&mut self, _alloc: Global, _goals: &[Job]) -> Reply {
+    fn wait(&mut self, _alloc: Global, _goals: &[GoalId]) -> Reply {
         Reply::Ok
     }
 }

@@ -15,11 +15,18 @@ use events::CopiedReply;
 use handlers::State;
 use model::Refusal;
 use storepath::StorePath;
+use trust::UserSet;
 
 /// Whether the outputs of a class at a path are needed on the desk of the user at a place, who reaches the
-/// users at the places of a word: another output there has a label of one, or a goal of his is built from
+/// users of a set: another output there has a label of one, or a goal of his is built from
 /// one, in a job whose leader he reaches.
-fn is_in_use(state: &State, reached: u64, place: usize, class: &StorePath, path: &StorePath) -> bool
+fn is_in_use(
+    state: &State,
+    reached: UserSet,
+    place: usize,
+    class: &StorePath,
+    path: &StorePath,
+) -> bool
     requires { HasPlace state.now place }
     ensures { result ≡ (is_needed class.now path.now (desk_at state.now.desks.items place)
         || list_any (builds_with (names state.now.users (holds reached)) class.now path.now)

@@ -36,7 +36,7 @@ use repair::{Cache, resolve_with, served_are_made};
 use std::alloc::Global;
 use store::Table;
 use storepath::StorePath;
-use trust::is_reached;
+use trust::{UserSet, is_reached};
 
 /// What a derivation whose inputs have these classes needs to be built, for the user at a place, of all that he
 /// sees.
@@ -98,8 +98,8 @@ fn resolved_for(
     resolve_with(alloc, &plan, derivation, &classes, cache)
 }
 
-/// Whether a goal waits, as one sees it who reaches the users at the places of a word.
-fn waits(state: &State, reached: u64, status: &Status) -> bool
+/// Whether a goal waits, as one sees it who reaches the users of a set.
+fn waits(state: &State, reached: UserSet, status: &Status) -> bool
     ensures { result
         ≡ is_waiting (as_seen (names state.now.users (holds reached)) (status_of status.now)) }
 {
@@ -110,14 +110,14 @@ fn waits(state: &State, reached: u64, status: &Status) -> bool
     }
 }
 
-/// The derivation of a goal that is to be planned, for the user at a place, who reaches the users at
-/// the places of a word.
+/// The derivation of a goal that is to be planned, for the user at a place, who reaches the users of
+/// a set.
 ///
 /// A number without a goal is refused with 42 `UnknownGoal`, a goal that does not wait with 43
 /// `WrongState`, and one whose derivation is not on the desk with 41 `UnknownDerivation`.
 fn derivation_to_plan(
     state: &State,
-    reached: u64,
+    reached: UserSet,
     place: usize,
     number: u16,
 ) -> Result<&Derivation, Refusal>

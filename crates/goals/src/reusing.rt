@@ -24,7 +24,7 @@ use records::{Label, Realisation, Record, Resolved};
 use std::alloc::Global;
 use store::Table;
 use storepath::StorePath;
-use trust::has_place;
+use trust::{UserSet, has_place};
 
 /// Whether a label is among these.
 fn is_among(label: &Label, labels: &[Label]) -> bool
@@ -138,19 +138,19 @@ fn least_for_user<'a>(
     least
 }
 
-/// The least of what was built for the goals of the users at the places of a word. It looks only at
+/// The least of what was built for the goals of the users of a set. It looks only at
 /// those of them who have planned goals under the same path.
 fn least_for_all<'a>(
     state: &'a State,
-    word: u64,
+    set: UserSet,
     resolved: &Resolved,
     labels: &[Label],
 ) -> Option<&'a Record>
     ensures { option_copied result ≡ least path_before (found_in resolved.now labels.now
         state.now.desks.items state.now.jobs.goals
-        (places_of (holds word) (length state.now.desks.items))) }
+        (places_of (holds set) (length state.now.desks.items))) }
 {
-    let near = word & state.jobs.planners(resolved.scratch());
+    let near = set & state.jobs.planners(resolved.scratch());
     let mut least = None;
     for place in 0..state.desks.len() {
         if has_place(near, place) {

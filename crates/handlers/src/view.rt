@@ -8,17 +8,17 @@ ghost use Rattle.handlers.specs.Viewing.{places_of, desk_at, desks_of, IsView};
 use crate::state::State;
 use realise::Desk;
 use std::alloc::{AllocError, Global};
-use trust::has_place;
+use trust::{UserSet, has_place};
 
-/// The desks at the places of a word, in order.
-fn desks_at<'a>(alloc: Global, word: u64, desks: &'a [Desk]) -> Result<Vec<&'a Desk>, AllocError>
+/// The desks of the users of a set, in order.
+fn desks_at<'a>(alloc: Global, set: UserSet, desks: &'a [Desk]) -> Result<Vec<&'a Desk>, AllocError>
     requires { length desks.now ≤ 64 }
     ensures { IfOk result (λ found. desks_of found.items
-        ≡ map (desk_at desks.now) (places_of (holds word) (length desks.now))) }
+        ≡ map (desk_at desks.now) (places_of (holds set) (length desks.now))) }
 {
     let mut found = Vec::with_capacity(alloc, desks.len())?;
     for place in 0..desks.len() {
-        if has_place(word, place) {
+        if has_place(set, place) {
             found.push(&desks[place])?;
         }
     }

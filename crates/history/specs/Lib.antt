@@ -1,7 +1,7 @@
 pub mod FrontId
 pub mod NewFronts
 pub mod Following
-pub mod Finding
+pub mod ReadResults
 pub mod Showing
 pub mod Tied
 pub mod Callers

@@ -6,7 +6,7 @@ ghost use Rattle.schedule.specs.Queries.{event_for};
 ghost use Rattle.history.specs.Histories.{IsLegal};
 ghost use Rattle.model.specs.declared.refusal.Refusal.TheVariants.{Memory};
 ghost use Rattle.events.specs.Terms.{event_of};
-ghost use Rattle.history.specs.Finding.{IsFoundAfter, IsFoundNeeded};
+ghost use Rattle.history.specs.ReadResults.{IsFoundAfter, IsFoundNeeded};
 ghost use Rattle.history.specs.FrontId.{book_in, setup_in};
 ghost use Rattle.crossbeam_utils.specs.Register.{TurnsAt};
 ghost use Rattle.history.specs.declared.law.Shown.{Shown};

@@ -130,7 +130,7 @@ impl HistoryPrefix {
     }
 
     /// A copy.
-    pub fn again(&self) -> HistoryPrefix
+    pub fn clone(&self) -> HistoryPrefix
         ensures { result.seen ≡ self.now.seen }
     {
         HistoryPrefix {

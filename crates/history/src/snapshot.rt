@@ -84,7 +84,7 @@ impl Absorb<Operation> for Snapshot {
     fn absorb_first(&mut self, operation: &Operation, _other: &Snapshot) -> Result<(), AllocError> {
         match operation {
             Operation::Show(next) => {
-                *self = next.again()?;
+                *self = next.share()?;
                 Ok(())
             }
             Operation::Wait => self.wait(),
@@ -114,12 +114,12 @@ impl Snapshot {
     }
 
     /// A copy, which shares the core. It takes no memory; it fails only where there are 2^63 - 1 copies.
-    fn again(&self) -> Result<Snapshot, AllocError>
+    fn share(&self) -> Result<Snapshot, AllocError>
         ensures { IfOk result (λ copy. copy ≡ self.now) }
     {
         Ok(Snapshot {
             core: Arc::try_clone(&self.core)?,
-            seen: self.seen.again(),
+            seen: self.seen.clone(),
             waited: false,
             alloc: self.alloc,
         })
@@ -157,6 +157,6 @@ impl Snapshot {
             × (result.seen.book.log_name ≡ self.now.name.log_name)
             × (result.seen.book.cells_name ≡ self.now.name.cells_name) }
     {
-        self.seen.again()
+        self.seen.clone()
     }
 }

@@ -13,7 +13,7 @@ use crate::goals::Goals;
 use events::Status;
 use records::Entry;
 use storepath::StorePath;
-use trust::{Users, is_reached};
+use trust::{UserSet, Users, is_reached};
 
 /// Whether an entry is the output of a class at a path.
 fn is_entry_at(class: &StorePath, path: &StorePath, entry: &Entry) -> bool
@@ -48,11 +48,10 @@ pub(crate) fn is_built_with(class: &StorePath, path: &StorePath, goal: &Goal) ->
     }
 }
 
-/// Whether a goal is built in a job whose leader is at one of the places of a word, and from the output
-/// of a class at a path.
+/// Whether a goal is built in a job whose leader is in a set, and from the output of a class at a path.
 pub(crate) fn builds_with(
     users: &Users,
-    reached: u64,
+    reached: UserSet,
     class: &StorePath,
     path: &StorePath,
     goal: &Goal,
@@ -68,12 +67,12 @@ pub(crate) fn builds_with(
 }
 
 impl Goals {
-    /// Whether a goal is built from the output of a class at a path, in a job whose leader is at one of
-    /// the places of a word. It looks only at the goals that are built in jobs.
+    /// Whether a goal is built from the output of a class at a path, in a job whose leader is in a
+    /// set. It looks only at the goals that are built in jobs.
     pub(crate) fn build_with(
         &self,
         users: &Users,
-        reached: u64,
+        reached: UserSet,
         class: &StorePath,
         path: &StorePath,
     ) -> bool

@@ -2,42 +2,43 @@
 
 ghost use Rattle.std.specs.Prelude.{◌≡◌, ◌<◌, [], MatchResult};
 ghost use Rattle.model.specs.declared.refusal.Refusal.TheVariants.{Memory};
-ghost use Rattle.jobs.specs.Planners.{word_at, AddsPlace};
+ghost use Rattle.jobs.specs.Planners.{users_at, AddsPlace};
 
 use indexmap::IndexMap;
 use model::Refusal;
 use std::alloc::Global;
 use std::hash::RandomState;
 use storepath::StorePath;
+use trust::UserSet;
 
-/// For each path the places of users, as the bits of a word, among whom are all who have a goal that
-/// was planned and is built under it. A place is never taken out.
+/// For each path users among whom are all who have a goal that was planned and is built under it. None is
+/// ever taken out.
 pub(crate) struct Planners {
-    words: IndexMap<StorePath, u64, RandomState>,
+    sets: IndexMap<StorePath, UserSet, RandomState>,
 }
 
 impl Drop for Planners {
     fn drop(self) {
-        let Planners { words: _ } = self;
+        let Planners { sets: _ } = self;
     }
 }
 
 impl Planners {
     /// Nobody, under any path.
     pub(crate) fn new(alloc: Global, hashing: RandomState) -> Planners
-        ensures { result.words.entries ≡ [] }
+        ensures { result.sets.entries ≡ [] }
     {
         Planners {
-            words: IndexMap::with_hasher(alloc, hashing),
+            sets: IndexMap::with_hasher(alloc, hashing),
         }
     }
 
     /// The places at a path. They are found at once.
-    pub(crate) fn at(&self, path: &StorePath) -> u64
-        ensures { result ≡ word_at path.now self.now.words.entries }
+    pub(crate) fn at(&self, path: &StorePath) -> UserSet
+        ensures { result ≡ users_at path.now self.now.sets.entries }
     {
-        match self.words.get(path) {
-            Some(word) => *word,
+        match self.sets.get(path) {
+            Some(set) => *set,
             None => 0,
         }
     }
@@ -46,11 +47,11 @@ impl Planners {
     pub(crate) fn insert(&mut self, path: StorePath, place: usize) -> Result<(), Refusal>
         requires { place < 64 }
         ensures { MatchResult result
-            (λ _. AddsPlace path place self.old.words.entries self.new.words.entries)
-            (λ e. (e ≡ Memory) × (self.new.words.entries ≡ self.old.words.entries)) }
+            (λ _. AddsPlace path place self.old.sets.entries self.new.sets.entries)
+            (λ e. (e ≡ Memory) × (self.new.sets.entries ≡ self.old.sets.entries)) }
     {
-        let word = self.at(&path) | 1 << place;
-        let _before = self.words.insert(path, word)?;
+        let set = self.at(&path) | 1 << place;
+        let _before = self.sets.insert(path, set)?;
         Ok(())
     }
 }

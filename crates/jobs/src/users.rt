@@ -27,7 +27,7 @@ use std::alloc::Global;
 use std::hash::RandomState;
 use std::marker::Model;
 use storepath::StorePath;
-use trust::{User, Users, has_place};
+use trust::{User, UserSet, Users, has_place};
 
 /// The goals of the users of a run, who are at most 64. A user is named by his place among them,
 /// and a goal of his by its number, from 1 on.
@@ -58,7 +58,7 @@ impl Model for Jobs {
     ghost view = { λ j. all_of j.all.items };
 
     ghost invariant = { λ j. (length j.all.items ≤ 64)
-        × HasPlannersOfAll j.planners.words.entries (all_of j.all.items) };
+        × HasPlannersOfAll j.planners.sets.entries (all_of j.all.items) };
 }
 
 impl Jobs {
@@ -214,22 +214,21 @@ impl Jobs {
         self.all[place].finished_under(path)
     }
 
-    /// The places of users, as the bits of a word, among whom are all who have a goal that was planned
-    /// and is built under a path. They are found at once; it may have some whose goals were built
-    /// under it once.
-    pub fn planners(&self, path: &StorePath) -> u64
+    /// Users among whom are all who have a goal that was planned and is built under a path. They are found
+    /// at once; there may be some whose goals were built under it once.
+    pub fn planners(&self, path: &StorePath) -> UserSet
         ensures { HasPlanners path.now (holds result) self.now }
     {
         self.planners.at(path)
     }
 
-    /// Whether a goal of a user is built from the output of a class at a path, in a job whose leader is at
-    /// one of the places of a word in the list of users.
+    /// Whether a goal of a user is built from the output of a class at a path, in a job whose leader is
+    /// in a set of the users.
     pub fn build_with(
         &self,
         place: usize,
         users: &Users,
-        reached: u64,
+        reached: UserSet,
         class: &StorePath,
         path: &StorePath,
     ) -> bool
@@ -252,11 +251,11 @@ impl Jobs {
         self.all[place].let_go(class, path);
     }
 
-    /// Of the jobs that the users at the places of a set lead, the least in which the same is built,
+    /// Of the jobs that the users of a set lead, the least in which the same is built,
     /// by the names of the leaders and then by number. A goal of theirs that is built from that
     /// enters it or, where there is none, its own. It looks only at those who have planned goals under
     /// the path of `resolved`, and of their goals at those that lead jobs under it. It takes no memory.
-    pub fn join(&self, set: u64, resolved: &Resolved) -> Option<&Job>
+    pub fn join(&self, set: UserSet, resolved: &Resolved) -> Option<&Job>
         ensures { option_copied result
             ≡ least_with None resolved.now (running_at (holds set) self.now) }
     {

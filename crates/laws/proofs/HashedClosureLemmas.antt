@@ -13,7 +13,7 @@ use Rattle.model.specs.Settling.{hash_part_in, name_in, settled}
 use Rattle.model.specs.Worlds.{Desk, Pin, Record, Entry, OfSource, OfRecord, path_of_entry}
 use Rattle.model.specs.References.{paths_of_labels}
 use Rattle.model.specs.Choices.{visible_records, visible_sources, rank_before, choose, is_of, is_of_any, names_class_of, all_chosen, needed_records, Plan, plan_by, closure_plan}
-use Rattle.model.specs.Repairs.{Move, moves_of, changes_path, is_replaced_by, moved_labels, rewritten, moved, serve, chosen_in, serve_all, resettling_texts, moved_texts, texts_of_moves, texts_unless, texts_in_turn}
+use Rattle.model.specs.Repairs.{Replacement, replacements_of, changes_path, is_replaced_by, new_labels, rewritten, relabelled, serve, chosen_in, serve_all, resettling_texts, relabelling_texts, texts_of_replacements, texts_unless, texts_in_turn}
 use Rattle.model.specs.Results.{then_do}
 use Rattle.model.specs.Closures.{class_of_entry, is_for, path_for, path_of_class, entries_with, served_entries, served_plan, closure, texts_of_plan, closure_texts}
 use Rattle.model.specs.HashedValues.{IsRepairPath, IsClosureRefused, IsRepairedEntry}
@@ -21,7 +21,7 @@ use Rattle.model.proofs.BoolLemmas.{either, bytes_same}
 use Rattle.laws.proofs.MemberLemmas.{In, in_of, contains_of, in_right, in_map, in_filter_map, any_true, Stands, in_set}
 use Rattle.laws.proofs.AllReachedLemmas.{reached_first}
 use Rattle.laws.proofs.OrderLemmas.{bytes_apart, first_apart}
-use Rattle.laws.proofs.ServedLemmas.{then_ok, ok_is, not_both, some_same, option_cases, serve_class, find_some, chosen_in_class, each_member, moved_cases, serve_moves, OneForEach, chosen_in_one}
+use Rattle.laws.proofs.ServedLemmas.{then_ok, ok_is, not_both, some_same, option_cases, serve_class, find_some, chosen_in_class, each_member, relabelled_cases, serve_replacements, OneForEach, chosen_in_one}
 use Rattle.laws.proofs.ClosureLemmas.{chosen_among, plan_is, plan_chosen}
 use Rattle.laws.proofs.WholeLemmas.{record_there}
 use Rattle.laws.proofs.HashedForLemmas.{AreHashedFor, for_none, for_both, for_settling, PathIn, path_in}
@@ -42,24 +42,24 @@ pub record IsTurn (choice : List ℕ → Option Record) (all : List Record) (pat
 
 module _ (V : List ℕ → Type 0) (choice : List ℕ → Option Record) where
   -- the texts of one record
-  repair_values : (r : Record) → ((path : List ℕ) → IsRepairPath (serve choice) r path → V path) → AreHashedFor V (texts_of_moves r (moves_of (serve choice) r.labels))
-  unfolding moved_texts
-  repair_values r value = by_moves (moves_of (serve choice) r.labels) refl
+  repair_values : (r : Record) → ((path : List ℕ) → IsRepairPath (serve choice) r path → V path) → AreHashedFor V (texts_of_replacements r (replacements_of (serve choice) r.labels))
+  unfolding relabelling_texts
+  repair_values r value = by_replacements (replacements_of (serve choice) r.labels) refl
     where
-      by_tree : (moves : List Move) → moves_of (serve choice) r.labels ≡ Ok moves → list_any changes_path moves ≡ true → list_any (is_replaced_by r.path) moves ≡ false
-          → (o : Result Tree RewriteFault) → rewritten r moves ≡ o → AreHashedFor V (resettling_texts r moves o)
-      by_tree moves moving t none (Err why) put = for_none V
-      by_tree moves moving t none (Ok tree) put =
-          for_settling V tree (hash_part_in r.path) (paths_of_labels (moved_labels moves)) (name_in r.path)
-          (λ path is. value path (record { moves = moves; moving = moving; replaced = t; others = none; put = tree; rewriting = put; is = is }))
+      by_tree : (replacements : List Replacement) → replacements_of (serve choice) r.labels ≡ Ok replacements → list_any changes_path replacements ≡ true → list_any (is_replaced_by r.path) replacements ≡ false
+          → (o : Result Tree RewriteFault) → rewritten r replacements ≡ o → AreHashedFor V (resettling_texts r replacements o)
+      by_tree replacements relabelling t none (Err why) put = for_none V
+      by_tree replacements relabelling t none (Ok tree) put =
+          for_settling V tree (hash_part_in r.path) (paths_of_labels (new_labels replacements)) (name_in r.path)
+          (λ path is. value path (record { replacements = replacements; relabelling = relabelling; replaced = t; others = none; put = tree; rewriting = put; is = is }))
 
-      by_moves : (o : Result (List Move) Refusal) → moves_of (serve choice) r.labels ≡ o → AreHashedFor V (texts_of_moves r o)
-      by_moves (Err why) e = for_none V
-      by_moves (Ok moves) e = elim (either (list_any changes_path moves)) [
+      by_replacements : (o : Result (List Replacement) Refusal) → replacements_of (serve choice) r.labels ≡ o → AreHashedFor V (texts_of_replacements r o)
+      by_replacements (Err why) e = for_none V
+      by_replacements (Ok replacements) e = elim (either (list_any changes_path replacements)) [
         | inr f ↦ rw f (for_none V)
-        | inl t ↦ elim (either (list_any (is_replaced_by r.path) moves)) [
+        | inl t ↦ elim (either (list_any (is_replaced_by r.path) replacements)) [
           | inl own ↦ rw (t, own) (for_none V)
-          | inr none ↦ rw (t, none) (by_tree moves e t none (rewritten r moves) refl)
+          | inr none ↦ rw (t, none) (by_tree replacements e t none (rewritten r replacements) refl)
         ]
       ]
 
@@ -73,7 +73,7 @@ module _ (V : List ℕ → Type 0) (choice : List ℕ → Option Record) where
   unfolding texts_in_turn
   turn_values all before [] cut served value = for_none V
   turn_values all before (r ∷ rs) cut served value =
-      for_both V (texts_of_moves r (moves_of (serve choice) r.labels)) (texts_unless (serve choice r.class.path) (texts_in_turn choice rs))
+      for_both V (texts_of_replacements r (replacements_of (serve choice) r.labels)) (texts_unless (serve choice r.class.path) (texts_in_turn choice rs))
       (repair_values r (λ path is. value path (record { before = before; repaired = r; behind = rs; cut = cut; served = served; is = is })))
       (for_unless (serve choice r.class.path) (texts_in_turn choice rs)
       (λ ok. turn_values all (before ++ r ∷ []) rs (cut ∙ sym (append_assoc before (r ∷ []) rs)) (All-push (IsServedBy choice) before r served ok) value))
@@ -101,17 +101,17 @@ module _ (view : List Desk) (pins : List Pin) (classes sources : List (List ℕ)
   -- what serves a record that is repaired has the path
   repaired_path : (r q : Record) (path : List ℕ) → In r p.records → IsRepairPath (serve choice) r path → serve choice r.class.path ≡ Ok q → path ≡ q.path
   repaired_path r q path h is e =
-      let s = serve_moves choice r.class.path q e in
+      let s = serve_replacements choice r.class.path q e in
       let own : s.chosen ≡ r = some_same s.chosen r (sym s.is_chosen ∙ chosen_in_one p.records plan_one r h) in
-      let moves : s.moves ≡ is.moves = ok_is s.moves is.moves (moves_of (serve choice) r.labels)
-      (subst (λ (z : Record). moves_of (serve choice) z.labels ≡ Ok s.moves) own s.served_moves) is.moving in
-      elim (moved_cases r is.moves q (subst (λ m. moved r m ≡ Ok q) moves (subst (λ z. moved z s.moves ≡ Ok q) own s.is_moved))) [
-        | inl stays ↦ absurd (no (list_any changes_path is.moves) is.replaced stays.0)
+      let replacements : s.replacements ≡ is.replacements = ok_is s.replacements is.replacements (replacements_of (serve choice) r.labels)
+      (subst (λ (z : Record). replacements_of (serve choice) z.labels ≡ Ok s.replacements) own s.served_replacements) is.relabelling in
+      elim (relabelled_cases r is.replacements q (subst (λ m. relabelled r m ≡ Ok q) replacements (subst (λ z. relabelled z s.replacements ≡ Ok q) own s.is_relabelled))) [
+        | inl stays ↦ absurd (no (list_any changes_path is.replacements) is.replaced stays.0)
         | inr f ↦
-            let put : is.put ≡ f.put = rewritten_once is.put f.put (rewritten r is.moves) is.rewriting f.rewriting in
-            let named : settled is.put (hash_part_in r.path) (paths_of_labels (moved_labels is.moves)) (name_in r.path) ≡ Ok f.named =
-            subst (λ t. settled t (hash_part_in r.path) (paths_of_labels (moved_labels is.moves)) (name_in r.path) ≡ Ok f.named) (sym put) f.resettling in
-            subst (λ o. PathIn o path) named (path_in is.put (hash_part_in r.path) (paths_of_labels (moved_labels is.moves)) (name_in r.path) path is.is) ∙ sym f.path
+            let put : is.put ≡ f.put = rewritten_once is.put f.put (rewritten r is.replacements) is.rewriting f.rewriting in
+            let named : settled is.put (hash_part_in r.path) (paths_of_labels (new_labels is.replacements)) (name_in r.path) ≡ Ok f.named =
+            subst (λ t. settled t (hash_part_in r.path) (paths_of_labels (new_labels is.replacements)) (name_in r.path) ≡ Ok f.named) (sym put) f.resettling in
+            subst (λ o. PathIn o path) named (path_in is.put (hash_part_in r.path) (paths_of_labels (new_labels is.replacements)) (name_in r.path) path is.is) ∙ sym f.path
       ]
     where
       no : (b : Bool) → b ≡ true → b ≡ false → ⊥

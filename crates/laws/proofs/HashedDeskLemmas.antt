@@ -111,10 +111,10 @@ module _ (Q : Source → Type 0) (setup : Setup) (w : World) (u : List ℕ) (own
     by_settled a known (Err why) e = tt
     by_settled a known (Ok z) e =
         let r : Record = record_for (candidates (w u) a.derivation) a z in
-        let own_part : List ℕ = hash_part_in a.class.path in
+        let self_part : List ℕ = hash_part_in a.class.path in
         let references : List (List ℕ) = paths_of_labels (candidates (w u) a.derivation) in
         let new : Q (tree_of_record r) =
-        made (tree_of_record r) (OutputOf tree own_part references (name_of a.derivation) z e refl refl (rw known (All-contains_itself (settling_texts tree own_part references (name_of a.derivation))))) in
+        made (tree_of_record r) (OutputOf tree self_part references (name_of a.derivation) z e refl refl (rw known (All-contains_itself (settling_texts tree self_part references (name_of a.derivation))))) in
         entry_added P setup (w u) (OfRecord r) (refl, own) (refl, held_with Q (OfRecord r) (w u) own new) tt
 
     by_known : (o : Option Admission) → known_at (known_of (w u)) derivation ≡ o → P (need UnknownDerivation o (λ a. offer_output setup (w u) tree (candidates (w u) a.derivation) a))

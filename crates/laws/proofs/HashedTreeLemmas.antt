@@ -7,11 +7,11 @@ use Rattle.model.specs.Settling.{hash_part_in, name_in, settling_texts}
 use Rattle.model.specs.Worlds.{Source, Record, Desk, Pin, Entry, OfSource, OfRecord, tree_of_record, held}
 use Rattle.model.specs.References.{paths_of_labels}
 use Rattle.model.specs.Choices.{visible_records, visible_sources, source_before, choose, Plan, source_among, closure_plan}
-use Rattle.model.specs.Repairs.{Move, moves_of, moved_labels, moved, serve, chosen_in, serve_all, moved_texts, texts_of_moves, texts_in_turn}
+use Rattle.model.specs.Repairs.{Replacement, replacements_of, new_labels, relabelled, serve, chosen_in, serve_all, relabelling_texts, texts_of_replacements, texts_in_turn}
 use Rattle.model.specs.Closures.{entry_before, entries_with, served_entries, served_plan, closure, closure_texts}
 use Rattle.model.specs.HashedValues.{held_of, IsTreeOf, OutputOf}
 use Rattle.laws.proofs.MemberLemmas.{In, in_of, contains_of, in_left, in_right, in_append, in_map, from_map, from_filter_map, from_flat_map, from_set}
-use Rattle.laws.proofs.ServedLemmas.{then_ok, ok_is, some_same, each_parts, each_from, IsRepaired, moved_cases, serve_moves, find_in, chosen_in_one}
+use Rattle.laws.proofs.ServedLemmas.{then_ok, ok_is, some_same, each_parts, each_from, IsRepaired, relabelled_cases, serve_replacements, find_in, chosen_in_one}
 use Rattle.laws.proofs.ClosureLemmas.{plan_is, plan_visible}
 use Rattle.laws.proofs.HashedClosureLemmas.{plan_one}
 
@@ -21,23 +21,23 @@ all_among xs ys there = All-weaker (Contains xs) (Contains ys) (λ x c. contains
 
 -- where all records of a list are served, the texts of each are hashed
 turn_texts : (choice : List ℕ → Option Record) (rs ys : List Record) → each (λ r. serve choice r.class.path) rs ≡ Ok ys
-    → (r : Record) → In r rs → (x : List ℕ) → In x (texts_of_moves r (moves_of (serve choice) r.labels)) → In x (texts_in_turn choice rs)
+    → (r : Record) → In r rs → (x : List ℕ) → In x (texts_of_replacements r (replacements_of (serve choice) r.labels)) → In x (texts_in_turn choice rs)
 unfolding texts_in_turn
 turn_texts choice [] ys e r h x there = absurd h
 turn_texts choice (z ∷ rs) ys e r h x there =
     let p = each_parts (λ r. serve choice r.class.path) z rs ys e in
     rw p.2
     (elim h [
-      | inl same ↦ in_left x (texts_of_moves z (moves_of (serve choice) z.labels)) (texts_in_turn choice rs)
-          (subst (λ (q : Record). In x (texts_of_moves q (moves_of (serve choice) q.labels))) (sym same) there)
-      | inr behind ↦ in_right x (texts_of_moves z (moves_of (serve choice) z.labels)) (texts_in_turn choice rs) (turn_texts choice rs p.1 p.3 r behind x there)
+      | inl same ↦ in_left x (texts_of_replacements z (replacements_of (serve choice) z.labels)) (texts_in_turn choice rs)
+          (subst (λ (q : Record). In x (texts_of_replacements q (replacements_of (serve choice) q.labels))) (sym same) there)
+      | inr behind ↦ in_right x (texts_of_replacements z (replacements_of (serve choice) z.labels)) (texts_in_turn choice rs) (turn_texts choice rs p.1 p.3 r behind x there)
     ])
 
 -- the texts of a record that is repaired are those of its tree
-repaired_texts : (choice : List ℕ → Option Record) (r q : Record) (moves : List Move) → moves_of (serve choice) r.labels ≡ Ok moves → (is : IsRepaired r moves q)
-    → texts_of_moves r (moves_of (serve choice) r.labels) ≡ settling_texts is.put (hash_part_in r.path) (paths_of_labels (moved_labels moves)) (name_in r.path)
-unfolding moved_texts
-repaired_texts choice r q moves moving is = rw (moving, is.replaced, is.others, is.rewriting) refl
+repaired_texts : (choice : List ℕ → Option Record) (r q : Record) (replacements : List Replacement) → replacements_of (serve choice) r.labels ≡ Ok replacements → (is : IsRepaired r replacements q)
+    → texts_of_replacements r (replacements_of (serve choice) r.labels) ≡ settling_texts is.put (hash_part_in r.path) (paths_of_labels (new_labels replacements)) (name_in r.path)
+unfolding relabelling_texts
+repaired_texts choice r q replacements relabelling is = rw (relabelling, is.replaced, is.others, is.rewriting) refl
 
 module _ (view : List Desk) (pins : List Pin) (classes sources : List (List ℕ)) (Q : Source → Type 0)
     (seen : (d : Desk) → In d view → (s : Source) → In s (held d) → Q s)
@@ -63,20 +63,20 @@ module _ (view : List Desk) (pins : List Pin) (classes sources : List (List ℕ)
         let choice : List ℕ → Option Record = chosen_in p.records in
         let w = each_from (λ r. serve choice r.class.path) p.records served all q h in
         let r : Record = w.0 in
-        let s = serve_moves choice r.class.path q w.2 in
+        let s = serve_replacements choice r.class.path q w.2 in
         let own : s.chosen ≡ r = some_same s.chosen r (sym s.is_chosen ∙ chosen_in_one p.records (plan_one view pins classes sources p planned) r w.1) in
-        let moving : moves_of (serve choice) r.labels ≡ Ok s.moves = subst (λ (z : Record). moves_of (serve choice) z.labels ≡ Ok s.moves) own s.served_moves in
-        elim (moved_cases r s.moves q (subst (λ z. moved z s.moves ≡ Ok q) own s.is_moved)) [
+        let relabelling : replacements_of (serve choice) r.labels ≡ Ok s.replacements = subst (λ (z : Record). replacements_of (serve choice) z.labels ≡ Ok s.replacements) own s.served_replacements in
+        elim (relabelled_cases r s.replacements q (subst (λ z. relabelled z s.replacements ≡ Ok q) own s.is_relabelled)) [
           | inl stays ↦ subst (λ z. Q (tree_of_record z)) stays.1 (visible_record r (plan_visible view pins classes sources p planned r w.1))
-          | inr is ↦ made (tree_of_record q) (repaired_made r q s.moves moving is served all w.1)
+          | inr is ↦ made (tree_of_record q) (repaired_made r q s.replacements relabelling is served all w.1)
         ]
       where
-        repaired_made : (r q : Record) (moves : List Move) → moves_of (serve (chosen_in p.records)) r.labels ≡ Ok moves → (is : IsRepaired r moves q)
+        repaired_made : (r q : Record) (replacements : List Replacement) → replacements_of (serve (chosen_in p.records)) r.labels ≡ Ok replacements → (is : IsRepaired r replacements q)
             → (served : List Record) → serve_all p.records ≡ Ok served → In r p.records → IsTreeOf (closure_texts view pins classes sources) (tree_of_record q)
-        repaired_made r q moves moving is served all there =
-            let texts : List (List ℕ) = settling_texts is.put (hash_part_in r.path) (paths_of_labels (moved_labels moves)) (name_in r.path) in
-            let same = repaired_texts (chosen_in p.records) r q moves moving is in
-            OutputOf is.put (hash_part_in r.path) (paths_of_labels (moved_labels moves)) (name_in r.path) is.named is.resettling is.path is.tree
+        repaired_made r q replacements relabelling is served all there =
+            let texts : List (List ℕ) = settling_texts is.put (hash_part_in r.path) (paths_of_labels (new_labels replacements)) (name_in r.path) in
+            let same = repaired_texts (chosen_in p.records) r q replacements relabelling is in
+            OutputOf is.put (hash_part_in r.path) (paths_of_labels (new_labels replacements)) (name_in r.path) is.named is.resettling is.path is.tree
             (rw planned
             (all_among texts (texts_in_turn (chosen_in p.records) p.records)
             (λ x h. turn_texts (chosen_in p.records) p.records served all r there x (subst (In x) (sym same) h))))

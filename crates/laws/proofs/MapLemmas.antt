@@ -12,7 +12,7 @@ use Rattle.model.specs.Archives.{Tree, File, Link, Directory, Entries, NoEntries
 use Rattle.model.specs.Paths.{Output, store_path, with_fingerprint}
 use Rattle.model.specs.Occurrences.{Keys, among, Place, occurrences, fault}
 use Rattle.model.specs.Substitutions.{Images, image_of, keys_of, parts_of, put_from, put_text, put, put_entries, same_place, is_true_put}
-use Rattle.model.specs.Settling.{Settled, blanked_text, hash_part_in, sought, own_offsets_of, references_of, stands_in, settled_path, settling, settled_at, unless, settled, path_texts, unless_refused, settling_texts}
+use Rattle.model.specs.Settling.{Settled, blanked_text, hash_part_in, sought, self_offsets_of, references_of, stands_in, settled_path, settling, settled_at, unless, settled, path_texts, unless_refused, settling_texts}
 use Rattle.model.specs.Laws.{AreOneSet, SettlingIsBySet, AreOneMap, PuttingIsByMap}
 use Rattle.model.proofs.BoolLemmas.{either, or_cases, same_bytes, bytes_same}
 use Rattle.laws.proofs.MemberLemmas.{In}
@@ -160,25 +160,25 @@ module _ (own : List ℕ) (some others : List (List ℕ)) (one : AreOneSet some 
     path_same : settled_path tree own some name places ≡ settled_path tree own others name places
     unfolding settled_path
     path_same =
-        ap (λ refs. store_path (Output refs (stands_in places own)) (sha256 (blanked_text (own_offsets_of own places) (nar tree))) name) (references_same places)
+        ap (λ refs. store_path (Output refs (stands_in places own)) (sha256 (blanked_text (self_offsets_of own places) (nar tree))) name) (references_same places)
 
     at_same : settled_at tree own some name places ≡ settled_at tree own others name places
     at_same =
         let with_path : List ℕ → Result Settled RewriteFault = λ path.
         if is_true_put (settling own some path) tree
-        then Ok (record { path = path; tree = put (settling own some path) tree; references = references_of some places; own_offsets = own_offsets_of own places })
+        then Ok (record { path = path; tree = put (settling own some path) tree; references = references_of some places; self_offsets = self_offsets_of own places })
         else Err Accidental in
         let path : List ℕ = settled_path tree own others name places in
         let same = puts_the_same (settling own some path) (settling own others path) (settling_one path) in
         let last : with_path path ≡ settled_at tree own others name places = λ i.
         if same.is_true tree i
-        then Ok (record { path = path; tree = same.tree tree i; references = references_same places i; own_offsets = own_offsets_of own places })
+        then Ok (record { path = path; tree = same.tree tree i; references = references_same places i; self_offsets = self_offsets_of own places })
         else Err Accidental in
         ap with_path path_same ∙ last
 
     texts_same : path_texts tree own some name places ≡ path_texts tree own others name places
     texts_same =
-        ap (λ refs. with_fingerprint (Output refs (stands_in places own)) (blanked_text (own_offsets_of own places) (nar tree)) name) (references_same places)
+        ap (λ refs. with_fingerprint (Output refs (stands_in places own)) (blanked_text (self_offsets_of own places) (nar tree)) name) (references_same places)
 
 pub settled_by_set : SettlingIsBySet
 unfolding settled settling_texts

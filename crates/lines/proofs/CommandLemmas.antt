@@ -9,7 +9,7 @@ use Rattle.model.specs.declared.verb.WordKind.TheVariants as kind
 use Rattle.model.specs.Paths.{IsPath}
 use Rattle.model.specs.Words.{IsWell, IsIll, FirstIll}
 use Rattle.model.specs.Lines.{split}
-use Rattle.model.specs.Forms.{is_rest_of_line, is_empty_word, words_by}
+use Rattle.model.specs.ParsedLines.{is_rest_of_line, is_empty_word, words_by}
 
 -- a text is one word
 pub by_text : (kinds : List WordKind) (text : List ℕ) (words : List (List ℕ)) → is_rest_of_line kinds ≡ true → words ≡ text ∷ [] → Some words ≡ words_by kinds text

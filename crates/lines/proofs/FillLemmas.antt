@@ -3,7 +3,7 @@ use Rattle.std.proofs.Common.{◌≡◌, ℕ, Bool, ◌≤◌, true, false, cond
 use Rattle.std.proofs.lemmas.List.{append-nil}
 use Rattle.std.specs.List.{list_all}
 use Rattle.model.specs.declared.mode.Mode.{Mode}
-use Rattle.model.specs.Forms.{longest_line, is_quiet, is_printable, line_form, text_form}
+use Rattle.model.specs.ParsedLines.{longest_line, is_quiet, is_printable, parsed_line, parsed_text}
 use Rattle.model.specs.Lines.{LineResult, cut_at, split, joined_texts, expanded_piece, pieces_text, text_from_pieces, filled}
 use Rattle.lines.proofs.CutLemmas.{split-one, split-more}
 
@@ -54,6 +54,6 @@ ltb-false : (m n : ℕ) → n ≤ m → ltb m n ≡ false
 ltb-false m n h = grind arith
 
 -- a line of printable bytes, and neither too long nor quiet, is its text
-pub line_form-text : (mode : Mode) (begun : Bool) (told : List LineResult) (line : List ℕ) (text : Option (List ℕ)) → length line ≤ longest_line → is_quiet line ≡ false
-    → list_all is_printable line ≡ true → filled told line ≡ text → line_form mode begun told line ≡ text_form mode begun text
-line_form-text mode begun told line text h q p e = rw (ltb-false longest_line (length line) h, q, p, e) refl
+pub parsed_line-text : (mode : Mode) (begun : Bool) (told : List LineResult) (line : List ℕ) (text : Option (List ℕ)) → length line ≤ longest_line → is_quiet line ≡ false
+    → list_all is_printable line ≡ true → filled told line ≡ text → parsed_line mode begun told line ≡ parsed_text mode begun text
+parsed_line-text mode begun told line text h q p e = rw (ltb-false longest_line (length line) h, q, p, e) refl

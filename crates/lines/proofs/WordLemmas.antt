@@ -10,7 +10,7 @@ use Rattle.model.specs.Worlds.{is_user_name, are_users, begins_with_letter}
 use Rattle.model.specs.declared.verb.WordKind.{WordKind}
 use Rattle.model.specs.declared.verb.WordKind.TheVariants as kind
 use Rattle.model.specs.Lines.{split}
-use Rattle.model.specs.Forms.{Refuses, names_form, users_form, is_empty_word, is_rest_of_line, so_many, words_by}
+use Rattle.model.specs.ParsedLines.{Refuses, parsed_names, parsed_users, is_empty_word, is_rest_of_line, so_many, words_by}
 use Rattle.lines.proofs.NumberLemmas.{leb-false}
 
 and-false : (a : Bool) → (a && false) ≡ false
@@ -35,24 +35,24 @@ pub many_users : (words : List (List ℕ)) → 64 < length words → are_users w
 unfolding are_users
 many_users words h = rw (leb-false (length words) 64 h) (and-false (ltb 0 (length words)))
 
-too_many : (names : List (List ℕ)) → 64 < length names → names_form names ≡ Refuses BadUsers
+too_many : (names : List (List ℕ)) → 64 < length names → parsed_names names ≡ Refuses BadUsers
 too_many names h = rw (many_users names h) refl
 
-names_form-take : (n : ℕ) (names : List (List ℕ)) → 64 < n → names_form (take n names) ≡ names_form names
-names_form-take n names h = elim (cases_lt n (length names)) [
+parsed_names-take : (n : ℕ) (names : List (List ℕ)) → 64 < n → parsed_names (take n names) ≡ parsed_names names
+parsed_names-take n names h = elim (cases_lt n (length names)) [
   | inl lt ↦ too_many (take n names) (omega (arith, length-take n names)) ∙ sym (too_many names (omega arith))
-  | inr le ↦ ap names_form (take_all n names (omega arith))
+  | inr le ↦ ap parsed_names (take_all n names (omega arith))
 ]
 
-users_form-take_more : (n : ℕ) (words : List (List ℕ)) → 64 < n → users_form (take (suc n) words) ≡ users_form words
-users_form-take_more n [] h = refl
-users_form-take_more n (word ∷ names) h = rw (names_form-take n names h) refl
+parsed_users-take_more : (n : ℕ) (words : List (List ℕ)) → 64 < n → parsed_users (take (suc n) words) ≡ parsed_users words
+parsed_users-take_more n [] h = refl
+parsed_users-take_more n (word ∷ names) h = rw (parsed_names-take n names h) refl
 
 -- a line of users is told by its first words
-pub users_form-take : (n : ℕ) (words : List (List ℕ)) → 65 < n → users_form (take n words) ≡ users_form words
-users_form-take n words h =
+pub parsed_users-take : (n : ℕ) (words : List (List ℕ)) → 65 < n → parsed_users (take n words) ≡ parsed_users words
+parsed_users-take n words h =
     let e : n ≡ suc (n - 1) = omega arith in
-    ap (λ m. users_form (take m words)) e ∙ users_form-take_more (n - 1) words (omega arith)
+    ap (λ m. parsed_users (take m words)) e ∙ parsed_users-take_more (n - 1) words (omega arith)
 
 some-of : {A : Type 0} (x y : A) → Some x ≡ Some y → x ≡ y
 some-of x y h = cc h

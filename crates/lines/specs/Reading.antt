@@ -1,4 +1,4 @@
--- What reading a line gives, against the line's form.
+-- What reading a line gives, against the parsed line.
 use Rattle.std.specs.Prelude.{◌≡◌, ◌⊎◌, ℕ, nat_le, true, ◌&&◌, if◌then◌else◌, List, ◌∷◌, Option, None, Some, Result, MatchResult}
 use Rattle.model.specs.declared.refusal.Refusal.{Refusal}
 use Rattle.model.specs.declared.refusal.Refusal.TheVariants.{Memory}
@@ -7,8 +7,8 @@ use Rattle.model.specs.declared.verb.WordKind.TheVariants as kind
 use Rattle.model.specs.Lines.{is_numeral}
 use Rattle.model.specs.Words.{AreWell, FirstIll, number_in}
 use Rattle.model.specs.Verbs.{kinds_of, IsRequestOf}
-use Rattle.model.specs.Forms.{Form, Command}
-use Rattle.model.specs.Forms as form
+use Rattle.model.specs.ParsedLines.{ParsedLine, Command}
+use Rattle.model.specs.ParsedLines as parsed
 use Rattle.model.specs.Talk.{LineRow, Silent, Names, Refuses, Asks, Waits, Gets}
 use Rattle.model.specs.Replies.{ends_wait}
 use Rattle.model.specs.Worlds.{Job}
@@ -52,15 +52,15 @@ IsRowOf goals (reading.Refuses why) row = row ≡ Refuses why
 IsRowOf goals (reading.Asks event) row = (reply : replies.Reply) × (row ≡ Asks (event_of event) reply)
 IsRowOf goals reading.Waits row = (reply : replies.Reply) × (ends_wait reply ≡ true) × (row ≡ Waits goals reply)
 
--- a line of that form comes to this, whatever goals the lines before it got
-abbrev pub Becomes : Form → Reading → Type 0
-Becomes form reading.Silent = (goals : List Job) → Gets goals form Silent
-Becomes form (reading.Names users) = (goals : List Job) → Gets goals form (Names users.items)
-Becomes form (reading.Refuses why) = (goals : List Job) → Gets goals form (Refuses why)
-Becomes form (reading.Asks event) = (goals : List Job) (reply : replies.Reply) → Gets goals form (Asks (event_of event) reply)
-Becomes form reading.Waits = (goals : List Job) (reply : replies.Reply) → ends_wait reply ≡ true → Gets goals form (Waits goals reply)
+-- a parsed line comes to this, whatever goals the lines before it got
+abbrev pub Becomes : ParsedLine → Reading → Type 0
+Becomes parsed reading.Silent = (goals : List Job) → Gets goals parsed Silent
+Becomes parsed (reading.Names users) = (goals : List Job) → Gets goals parsed (Names users.items)
+Becomes parsed (reading.Refuses why) = (goals : List Job) → Gets goals parsed (Refuses why)
+Becomes parsed (reading.Asks event) = (goals : List Job) (reply : replies.Reply) → Gets goals parsed (Asks (event_of event) reply)
+Becomes parsed reading.Waits = (goals : List Job) (reply : replies.Reply) → ends_wait reply ≡ true → Gets goals parsed (Waits goals reply)
 
 -- a line of any command that makes this event, or none for this, comes to this
 abbrev pub BecomesOfCommand : Result Event Refusal → Reading → Type 0
 BecomesOfCommand event reading =
-    (user : List ℕ) (command : Command) → MatchResult event (IsEventOfCommand user command) (IsNoEvent user command) → Becomes (form.Asks user command) reading
+    (user : List ℕ) (command : Command) → MatchResult event (IsEventOfCommand user command) (IsNoEvent user command) → Becomes (parsed.Asks user command) reading

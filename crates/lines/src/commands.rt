@@ -5,7 +5,7 @@ ghost use Rattle.model.specs.declared.refusal.Refusal.TheVariants.{Memory};
 ghost use Rattle.model.specs.declared.verb.Verb.TheVariants as verbs;
 ghost use Rattle.model.specs.declared.verb.WordKind.TheVariants as kinds;
 ghost use Rattle.model.specs.Verbs.{kinds_of, verb_in};
-ghost use Rattle.model.specs.Forms.{is_rest_of_line, words_by, command_in};
+ghost use Rattle.model.specs.ParsedLines.{is_rest_of_line, words_by, command_in};
 ghost use Rattle.lines.specs.Reading.{command_of, IsRequestOfCommand, IsNoRequest, IsEventOfCommand, IsNoEvent};
 
 use crate::cutting::{Word, cut, first_words, has_empty_word, one_word};
@@ -31,7 +31,7 @@ impl Drop for Command<'_> {
 impl<'a> Model for Command<'a> {
     ghost use Rattle.std.specs.Prelude.{◌≡◌, length};
     ghost use Rattle.model.specs.Verbs.{kinds_of};
-    ghost use Rattle.model.specs.Forms.{Command as CommandValue};
+    ghost use Rattle.model.specs.ParsedLines.{Command as CommandValue};
 
     ghost Value = { CommandValue };
 

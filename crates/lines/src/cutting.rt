@@ -3,7 +3,7 @@
 ghost use Rattle.std.specs.Prelude.{◌≡◌, ◌<◌, ◌∷◌, [], IfOk, MatchOption, length, take};
 ghost use Rattle.std.specs.List.{list_any};
 ghost use Rattle.model.specs.Lines.{cut_at, split};
-ghost use Rattle.model.specs.Forms.{is_empty_word};
+ghost use Rattle.model.specs.ParsedLines.{is_empty_word};
 
 use memchr::memchr;
 use std::alloc::{AllocError, Global};

@@ -8,16 +8,16 @@ mod commands;
 mod cutting;
 mod entries;
 mod expand;
-mod forms;
 mod line;
 mod line_result;
 mod numbers;
+mod parsing;
 mod pieces;
 mod texts;
 mod words;
 
 pub use cutting::cut;
-pub use forms::{LONGEST_LINE, read_line};
 pub use line::Reading;
 pub use line_result::{LineResult, told_in};
+pub use parsing::{LONGEST_LINE, read_line};
 pub use texts::answer_text;

@@ -17,7 +17,7 @@ use Rattle.model.specs.Worlds.{Setup, is_user, World, Desk, Pin, Source, Label, 
 use Rattle.model.specs.References.{candidates, paths_of_labels}
 use Rattle.model.specs.Choices as choices
 use Rattle.model.specs.Choices.{closure_plan}
-use Rattle.model.specs.Repairs.{Move, moves_of, changes_path, is_replaced_by, moved_labels, rewritten, serve, chosen_in}
+use Rattle.model.specs.Repairs.{Replacement, replacements_of, changes_path, is_replaced_by, new_labels, rewritten, serve, chosen_in}
 use Rattle.model.specs.Closures.{closure, served_plan}
 use Rattle.model.specs.Outputs.{settled_under}
 use Rattle.model.specs.Goals.{goal_at, is_in}
@@ -34,9 +34,9 @@ use Rattle.model.specs.HashedTexts.{texts_of_event}
 -- ---- paths that are made before a refusal is found
 
 -- the path that a tree is to have, where its hash parts can be put anew: whether they are put truly is seen only with that path
-pub record IsPathFor (tree : Tree) (own : List ℕ) (candidates : List (List ℕ)) (name path : List ℕ) : Type 0 where
-  pub possible : fault (among (sought own candidates)) tree ≡ None
-  pub is : path ≡ settled_path tree own candidates name (occurrences (among (sought own candidates)) tree)
+pub record IsPathFor (tree : Tree) (self_part : List ℕ) (candidates : List (List ℕ)) (name path : List ℕ) : Type 0 where
+  pub possible : fault (among (sought self_part candidates)) tree ≡ None
+  pub is : path ≡ settled_path tree self_part candidates name (occurrences (among (sought self_part candidates)) tree)
 
 -- the path of an output that is not put truly (52 `Accidental`), or for which there is no room (13)
 pub data IsOutputRefused (under : List ℕ) (labels : List Label) (a : Admission) (tree : Tree) (why : Refusal) (path : List ℕ) : Type 0 where
@@ -56,13 +56,13 @@ pub data IsDerivationRefused (known : Known) (text : List ℕ) (why : Refusal) (
 
 -- the path that a record is to have where it is repaired, since another path stands in the place of one of its labels'
 pub record IsRepairPath (serves : List ℕ → Result Record Refusal) (r : Record) (path : List ℕ) : Type 0 where
-  pub moves : List Move
-  pub moving : moves_of serves r.labels ≡ Ok moves
-  pub replaced : list_any changes_path moves ≡ true
-  pub others : list_any (is_replaced_by r.path) moves ≡ false
+  pub replacements : List Replacement
+  pub relabelling : replacements_of serves r.labels ≡ Ok replacements
+  pub replaced : list_any changes_path replacements ≡ true
+  pub others : list_any (is_replaced_by r.path) replacements ≡ false
   pub put : Tree
-  pub rewriting : rewritten r moves ≡ Ok put
-  pub is : IsPathFor put (hash_part_in r.path) (paths_of_labels (moved_labels moves)) (name_in r.path) path
+  pub rewriting : rewritten r replacements ≡ Ok put
+  pub is : IsPathFor put (hash_part_in r.path) (paths_of_labels (new_labels replacements)) (name_in r.path) path
 
 -- the path of a record of a plan whose closure is refused: those before it are served, and it is refused itself, or one behind it is
 pub record IsClosureRefused (view : List Desk) (pins : List Pin) (classes sources : List (List ℕ)) (why : Refusal) (path : List ℕ) : Type 0 where
@@ -266,8 +266,9 @@ IsOnDesk w s = (u : List ℕ) × Contains (trees_on (w u)) s
 pub data IsTreeOf (texts : List (List ℕ)) (s : Source) : Type 0 where
   SourceOf : (name : List ℕ) → s.path ≡ source_path s.tree name → All (Contains texts) (with_fingerprint SourceKind (nar s.tree) name)
       → IsTreeOf texts s
-  OutputOf : (tree : Tree) (own : List ℕ) (references : List (List ℕ)) (name : List ℕ) (is : Settled)
-      → settled tree own references name ≡ Ok is → s.path ≡ is.path → s.tree ≡ is.tree → All (Contains texts) (settling_texts tree own references name) → IsTreeOf texts s
+  OutputOf : (tree : Tree) (self_part : List ℕ) (references : List (List ℕ)) (name : List ℕ) (is : Settled)
+      → settled tree self_part references name ≡ Ok is → s.path ≡ is.path → s.tree ≡ is.tree
+      → All (Contains texts) (settling_texts tree self_part references name) → IsTreeOf texts s
 
 -- a path which texts were hashed for
 pub record IsPathOf (texts : List (List ℕ)) (path : List ℕ) : Type 0 where

@@ -38,8 +38,9 @@ AreOneSet some others = (x : List ℕ) → among some x ≡ among others x
 
 -- what a tree is settled to, and what is hashed for that, depends on which candidates there are, and not on their order or on how often one is listed
 abbrev pub SettlingIsBySet : Type 0
-SettlingIsBySet = (tree : Tree) (own : List ℕ) (some others : List (List ℕ)) (name : List ℕ) → AreOneSet some others
-    → (settled tree own some name ≡ settled tree own others name) × (settling_texts tree own some name ≡ settling_texts tree own others name)
+SettlingIsBySet = (tree : Tree) (self_part : List ℕ) (some others : List (List ℕ)) (name : List ℕ) → AreOneSet some others
+    → (settled tree self_part some name ≡ settled tree self_part others name)
+    × (settling_texts tree self_part some name ≡ settling_texts tree self_part others name)
 
 -- two lists of images are one map
 pub record AreOneMap (some others : Images) : Type 0 where

@@ -51,7 +51,7 @@ pub mod Inputs
 pub mod Lines
 pub mod Words
 pub mod Verbs
-pub mod Forms
+pub mod ParsedLines
 pub mod Talk
 pub mod TalkLaws
 pub mod Laws

@@ -8,11 +8,11 @@ use Rattle.model.specs.Paths.{IsPath, NoClash}
 use Rattle.model.specs.Worlds.{Source, Label, Record, Desk, Pin, Entry, OfSource, OfRecord, path_of_entry}
 use Rattle.model.specs.References.{paths_of_labels}
 use Rattle.model.specs.Choices.{visible_records, visible_sources, sources_below, source_before, choose, Plan, source_among, closure_plan}
-use Rattle.model.specs.Repairs.{moved_label, chosen_in, serving_texts}
+use Rattle.model.specs.Repairs.{new_label, chosen_in, serving_texts}
 use Rattle.model.specs.Closures.{entry_before, entries_with, served_plan, texts_of_plan, closure, closure_texts, IsWhole, SeesSources, KeepsNoReplaced}
 use Rattle.model.proofs.BoolLemmas.{bytes_same}
 use Rattle.laws.proofs.MemberLemmas.{In, in_of, contains_of, in_append, in_flat_map, from_map, from_filter_map, from_flat_map, from_set}
-use Rattle.laws.proofs.ServedLemmas.{then_ok, moved_cases, serve_moves, chosen_in_list, find_in, find_some}
+use Rattle.laws.proofs.ServedLemmas.{then_ok, relabelled_cases, serve_replacements, chosen_in_list, find_in, find_some}
 use Rattle.laws.proofs.ClosureLemmas.{plan_is, plan_visible}
 use Rattle.laws.proofs.WholeLemmas.{no_source, closures_whole}
 use Rattle.records.proofs.PathOrderLemmas.{labels_are_in_order, once}
@@ -130,12 +130,12 @@ module _ (texts : List (List ℕ)) (view : List Desk) (held : (d : Desk) → In 
     entry_once : (q : Record) → In (OfRecord q) entries → (k l : Label) → Contains q.labels k → Contains q.labels l → k.path ≡ l.path → k ≡ l
     entry_once q h =
         let from = served_for p entries (served_parts p entries served) q (contains_of entries (OfRecord q) h) in
-        let s = serve_moves (chosen_in p.records) from.0.class.path q from.2 in
+        let s = serve_replacements (chosen_in p.records) from.0.class.path q from.2 in
         let chosen = (chosen_in_list p.records from.0.class.path s.chosen s.is_chosen).0 in
         let Once : List Label → Type 0 = λ labels. (k l : Label) → Contains labels k → Contains labels l → k.path ≡ l.path → k ≡ l in
-        elim (moved_cases s.chosen s.moves q s.is_moved) [
+        elim (relabelled_cases s.chosen s.replacements q s.is_relabelled) [
           | inl stays ↦ subst (λ (z : Record). Once z.labels) stays.1 (chosen_made s.chosen chosen).sound.once
-          | inr new ↦ subst Once (sym new.labels) (once _ (labels_are_in_order (map moved_label s.moves)))
+          | inr new ↦ subst Once (sym new.labels) (once _ (labels_are_in_order (map new_label s.replacements)))
         ]
 
     record_made : (q : Record) → In (OfRecord q) entries → IsMadeRecord texts q

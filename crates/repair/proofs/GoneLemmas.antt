@@ -10,7 +10,7 @@ use Rattle.model.specs.Substitutions.{Images, image_of, keys_of, is_replaced, pu
 use Rattle.model.specs.Settling.{Settled, ShareNone, IsGone, places_of_path, hash_part_in, name_in, sought, settling, settled}
 use Rattle.model.specs.Worlds.{Label, Record}
 use Rattle.model.specs.References.{paths_of_labels}
-use Rattle.model.specs.Repairs.{Move, changes_path as is_moved, images_of, moved_labels}
+use Rattle.model.specs.Repairs.{Replacement, changes_path as is_relabelled, images_of, new_labels}
 use Rattle.model.proofs.BoolLemmas.{same_bytes, bytes_same, bytes_differ}
 use Rattle.laws.proofs.MemberLemmas.{In, in_of, contains_of, in_left, in_right, in_map}
 use Rattle.scan.proofs.PlaceLemmas.{places_in-here, places_in-none_here}
@@ -21,10 +21,10 @@ use Rattle.rewrite.proofs.KeepLemmas.{Standing, standing_in}
 use Rattle.rewrite.proofs.KeyLemmas.{Found, Found-places_in}
 use Rattle.rewrite.proofs.StayLemmas.{none_in_pieces, none_stays}
 use Rattle.records.specs.Sound.{IsSoundRecord}
-use Rattle.repair.specs.SoundPlans.{AreMoves, PartsTellApart}
-use Rattle.repair.specs.RepairLaws.{moved_paths, MovedIsGone}
-use Rattle.laws.proofs.ServedLemmas.{moved_cases}
-use Rattle.repair.proofs.TreeLemmas.{pairs, part_of_path, parts_of, paths_of_move, tree_of_settled}
+use Rattle.repair.specs.SoundPlans.{AreReplacements, PartsTellApart}
+use Rattle.repair.specs.RepairLaws.{replaced_paths, ReplacedIsGone}
+use Rattle.laws.proofs.ServedLemmas.{relabelled_cases}
+use Rattle.repair.proofs.TreeLemmas.{pairs, part_of_path, parts_of, paths_of_replacement, tree_of_settled}
 
 -- ---- places and windows
 
@@ -123,80 +123,80 @@ gone_settled tree own candidates name s path is keys part done where_gone p ther
 
 -- ---- the image of a replaced path
 
--- all moves of one hash part lead to one, so that is its image
-image_in : (moves : List Move) (part image : List ℕ) → ((m : Move) → In m moves → hash_part_in m.label.path ≡ part → hash_part_in m.path ≡ image)
-    → (m : Move) → In m moves → hash_part_in m.label.path ≡ part → image_of (pairs moves) part ≡ image
+-- all replacements of one hash part lead to one, so that is its image
+image_in : (replacements : List Replacement) (part image : List ℕ) → ((m : Replacement) → In m replacements → hash_part_in m.label.path ≡ part → hash_part_in m.path ≡ image)
+    → (m : Replacement) → In m replacements → hash_part_in m.label.path ≡ part → image_of (pairs replacements) part ≡ image
 image_in [] part image all m h e = absurd h
 image_in (x ∷ xs) part image all m h e = elim (cases_Bool (bytes_eq (hash_part_in x.label.path) part)) [
   | inl same ↦ rw same (all x (inl refl) (same_bytes (hash_part_in x.label.path) part same))
   | inr other ↦ rw other (elim h [
-    | inl is ↦ absurd (bytes_differ (hash_part_in x.label.path) part other (ap (λ (z : Move). hash_part_in z.label.path) is ∙ e))
+    | inl is ↦ absurd (bytes_differ (hash_part_in x.label.path) part other (ap (λ (z : Replacement). hash_part_in z.label.path) is ∙ e))
     | inr behind ↦ image_in xs part image (λ n there. all n (inr there)) m behind e
   ])
 ]
 
-among_in : (moves : List Move) (part : List ℕ) (m : Move) → In m moves → hash_part_in m.label.path ≡ part → among (keys_of (pairs moves)) part ≡ true
+among_in : (replacements : List Replacement) (part : List ℕ) (m : Replacement) → In m replacements → hash_part_in m.label.path ≡ part → among (keys_of (pairs replacements)) part ≡ true
 among_in [] part m h e = absurd h
 among_in (x ∷ xs) part m h e = elim h [
   | inl is ↦ or_left (bytes_eq (hash_part_in x.label.path) part) _
-      (subst (λ w. bytes_eq w part ≡ true) (sym (ap (λ (z : Move). hash_part_in z.label.path) is ∙ e)) (bytes_same part))
+      (subst (λ w. bytes_eq w part ≡ true) (sym (ap (λ (z : Replacement). hash_part_in z.label.path) is ∙ e)) (bytes_same part))
   | inr behind ↦ or_right (bytes_eq (hash_part_in x.label.path) part) _ (among_in xs part m behind e)
 ]
 
--- ---- a record whose labels moved
+-- ---- a record whose labels were replaced
 
-label_path_in : (r : Record) (moves : List Move) → AreMoves r.labels moves → (m : Move) → In m moves → Contains (moved_paths r moves) m.label.path
-label_path_in r moves are m h =
-    contains_of (moved_paths r moves) m.label.path (in_left m.label.path (paths_of_labels r.labels) (map (λ (n : Move). n.path) moves)
-    (in_map (λ (l : Label). l.path) m.label r.labels (in_of r.labels m.label (are.labelled m (contains_of moves m h)))))
+label_path_in : (r : Record) (replacements : List Replacement) → AreReplacements r.labels replacements → (m : Replacement) → In m replacements → Contains (replaced_paths r replacements) m.label.path
+label_path_in r replacements are m h =
+    contains_of (replaced_paths r replacements) m.label.path (in_left m.label.path (paths_of_labels r.labels) (map (λ (n : Replacement). n.path) replacements)
+    (in_map (λ (l : Label). l.path) m.label r.labels (in_of r.labels m.label (are.labelled m (contains_of replacements m h)))))
 
-new_path_in : (r : Record) (moves : List Move) (m : Move) → In m moves → Contains (moved_paths r moves) m.path
-new_path_in r moves m h =
-    contains_of (moved_paths r moves) m.path (in_right m.path (paths_of_labels r.labels) (map (λ (n : Move). n.path) moves)
-    (in_map (λ (n : Move). n.path) m moves h))
+new_path_in : (r : Record) (replacements : List Replacement) (m : Replacement) → In m replacements → Contains (replaced_paths r replacements) m.path
+new_path_in r replacements m h =
+    contains_of (replaced_paths r replacements) m.path (in_right m.path (paths_of_labels r.labels) (map (λ (n : Replacement). n.path) replacements)
+    (in_map (λ (n : Replacement). n.path) m replacements h))
 
-any_in : (p : Move → Bool) (m : Move) (moves : List Move) → In m moves → p m ≡ true → list_any p moves ≡ true
+any_in : (p : Replacement → Bool) (m : Replacement) (replacements : List Replacement) → In m replacements → p m ≡ true → list_any p replacements ≡ true
 any_in p m [] h t = absurd h
-any_in p m (x ∷ moves) h t = elim h [
-  | inl e ↦ or_left (p x) (list_any p moves) (subst (λ z. p z ≡ true) (sym e) t)
-  | inr behind ↦ or_right (p x) (list_any p moves) (any_in p m moves behind t)
+any_in p m (x ∷ replacements) h t = elim h [
+  | inl e ↦ or_left (p x) (list_any p replacements) (subst (λ z. p z ≡ true) (sym e) t)
+  | inr behind ↦ or_right (p x) (list_any p replacements) (any_in p m replacements behind t)
 ]
 
 -- the images of a record replace the hash part of a label whose path is replaced
-part_replaced : (r : Record) (moves : List Move) → IsSoundRecord r → AreMoves r.labels moves → PartsTellApart (moved_paths r moves) → (m : Move) → In m moves
+part_replaced : (r : Record) (replacements : List Replacement) → IsSoundRecord r → AreReplacements r.labels replacements → PartsTellApart (replaced_paths r replacements) → (m : Replacement) → In m replacements
     → bytes_eq m.path m.label.path ≡ false → bytes_eq (hash_part_in r.path) (hash_part_in m.label.path) ≡ false
-    → is_replaced (images_of (hash_part_in r.path) moves) (hash_part_in m.label.path) ≡ true
-part_replaced r moves sound are apart m h replaced other =
+    → is_replaced (images_of (hash_part_in r.path) replacements) (hash_part_in m.label.path) ≡ true
+part_replaced r replacements sound are apart m h replaced other =
     let own = hash_part_in r.path in
     let k = hash_part_in m.label.path in
-    let label = label_path_in r moves are m h in
-    let to_one : (n : Move) → In n moves → hash_part_in n.label.path ≡ k → hash_part_in n.path ≡ hash_part_in m.path = λ n there e.
-    let paths = apart n.label.path m.label.path (label_path_in r moves are n there) label e in
-    let first = contains_of moves n there in
-    let second = contains_of moves m h in
+    let label = label_path_in r replacements are m h in
+    let to_one : (n : Replacement) → In n replacements → hash_part_in n.label.path ≡ k → hash_part_in n.path ≡ hash_part_in m.path = λ n there e.
+    let paths = apart n.label.path m.label.path (label_path_in r replacements are n there) label e in
+    let first = contains_of replacements n there in
+    let second = contains_of replacements m h in
     let labels = sound.once n.label m.label (are.labelled n first) (are.labelled m second) paths in
     ap hash_part_in (are.alike n m first second labels) in
-    let image : image_of (images_of own moves) k ≡ hash_part_in m.path = rw other (image_in moves k (hash_part_in m.path) to_one m h refl) in
-    let key : among (keys_of (images_of own moves)) k ≡ true = or_right (bytes_eq own k) _ (among_in moves k m h refl) in
-    replaced_of (images_of own moves) k (hash_part_in m.path) key image
-    (λ e. bytes_differ m.path m.label.path replaced (apart m.path m.label.path (new_path_in r moves m h) label e))
+    let image : image_of (images_of own replacements) k ≡ hash_part_in m.path = rw other (image_in replacements k (hash_part_in m.path) to_one m h refl) in
+    let key : among (keys_of (images_of own replacements)) k ≡ true = or_right (bytes_eq own k) _ (among_in replacements k m h refl) in
+    replaced_of (images_of own replacements) k (hash_part_in m.path) key image
+    (λ e. bytes_differ m.path m.label.path replaced (apart m.path m.label.path (new_path_in r replacements m h) label e))
 
-pub moved_is_gone : MovedIsGone
-moved_is_gone r moves q sound are apart e m there replaced =
-    let h = in_of moves m there in
-    elim (moved_cases r moves q e) [
-      | inl same ↦ absurd (both_ways (list_any is_moved moves) same.0 (any_in is_moved m moves h (rw replaced refl)))
+pub replaced_is_gone : ReplacedIsGone
+replaced_is_gone r replacements q sound are apart e m there replaced =
+    let h = in_of replacements m there in
+    elim (relabelled_cases r replacements q e) [
+      | inl same ↦ absurd (both_ways (list_any is_relabelled replacements) same.0 (any_in is_relabelled m replacements h (rw replaced refl)))
       | inr new ↦
           let own = hash_part_in r.path in
           let k = hash_part_in m.label.path in
-          let candidates = paths_of_labels (moved_labels moves) in
-          let parts = parts_of r moves new.put new.named sound are new.rewriting in
-          let part = part_of_path m.label.path (paths_of_move r moves sound are m h).0 in
+          let candidates = paths_of_labels (new_labels replacements) in
+          let parts = parts_of r replacements new.put new.named sound are new.rewriting in
+          let part = part_of_path m.label.path (paths_of_replacement r replacements sound are m h).0 in
           let where_gone : (k ≡ own) ⊎ (occurrences (among (k ∷ [])) new.put ≡ []) = elim (cases_Bool (bytes_eq own k)) [
             | inl mine ↦ inl (sym (same_bytes own k mine))
             | inr other ↦
-                let is = part_replaced r moves sound are apart m h replaced other in
-                inr (subst (λ t. occurrences (among (k ∷ [])) t ≡ []) parts.is_put (none_of (images_of own moves) r.tree k is parts.true_put))
+                let is = part_replaced r replacements sound are apart m h replaced other in
+                inr (subst (λ t. occurrences (among (k ∷ [])) t ≡ []) parts.is_put (none_of (images_of own replacements) r.tree k is parts.true_put))
           ] in
           let gone = gone_settled new.put own candidates (name_in r.path) new.named m.label.path parts.is_tree parts.keys part new.resettling where_gone in
           subst (λ path. IsGone m.label.path path q.tree) (sym new.path) (subst (λ t. IsGone m.label.path new.named.path t) (sym new.tree) gone)

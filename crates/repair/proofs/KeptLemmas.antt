@@ -8,17 +8,17 @@ use Rattle.model.specs.Settling.{IsGone}
 use Rattle.model.specs.Worlds.{Label, Record, Entry, OfSource, OfRecord}
 use Rattle.model.specs.References.{paths_of_labels}
 use Rattle.model.specs.Choices.{Plan}
-use Rattle.model.specs.Repairs.{Move, moves_of, serve, chosen_in, serve_all}
+use Rattle.model.specs.Repairs.{Replacement, replacements_of, serve, chosen_in, serve_all}
 use Rattle.model.specs.Closures.{entry_before, entries_with, served_entries, served_plan}
 use Rattle.laws.proofs.MemberLemmas.{In, in_of, contains_of, in_left, in_right, in_append, in_map, from_map, in_flat_map, Stands, in_set}
 use Rattle.choose.proofs.OrderLemmas.{one_entry}
 use Rattle.records.specs.Sound.{IsSoundRecord, IsSoundPlan}
-use Rattle.repair.specs.SoundPlans.{AreMoves, PartsTellApart}
-use Rattle.repair.specs.RepairLaws.{moved_paths, paths_of_record, paths_in, PlansKeepNoReplaced}
-use Rattle.laws.proofs.ServedLemmas.{then_ok, ok_is, each_member, each_from, LeadsTo, moves_from, moves_member, IsServed, serve_moves, serve_class, chosen_in_list, chosen_in_class}
+use Rattle.repair.specs.SoundPlans.{AreReplacements, PartsTellApart}
+use Rattle.repair.specs.RepairLaws.{replaced_paths, paths_of_record, paths_in, PlansKeepNoReplaced}
+use Rattle.laws.proofs.ServedLemmas.{then_ok, ok_is, each_member, each_from, LeadsTo, replacements_from, replacements_member, IsServed, serve_replacements, serve_class, chosen_in_list, chosen_in_class}
 use Rattle.laws.proofs.WholeLemmas.{record_same, no_source, entry_record}
-use Rattle.repair.proofs.SoundLemmas.{are_moves, served_is_sound}
-use Rattle.repair.proofs.GoneLemmas.{moved_is_gone}
+use Rattle.repair.proofs.SoundLemmas.{are_replacements, served_is_sound}
+use Rattle.repair.proofs.GoneLemmas.{replaced_is_gone}
 
 -- ---- the entries of what is served
 
@@ -55,7 +55,7 @@ path_of_served : (p : Plan) (entries : List Entry) → ServedPlan p entries → 
     → In q.path (flat_map paths_of_record entries)
 path_of_served p entries s class q e =
     let serves = serve (chosen_in p.records) in
-    let made = serve_moves (chosen_in p.records) class q e in
+    let made = serve_replacements (chosen_in p.records) class q e in
     let r = chosen_in_list p.records class made.chosen made.is_chosen in
     let y = each_member (λ (r : Record). serves r.class.path) p.records s.all s.each made.chosen r.0 in
     let same : y.0 ≡ q = ok_is y.0 q (serves class) (subst (λ c. serves c ≡ Ok y.0) r.1 y.2) e in
@@ -82,26 +82,26 @@ label_within p entries r there path h =
     in_left path (flat_map (λ (r : Record). paths_of_labels r.labels) p.records) (flat_map paths_of_record entries)
     (in_flat_map (λ (r : Record). paths_of_labels r.labels) r path p.records there h)
 
-moved_within : (p : Plan) (entries : List Entry) → ServedPlan p entries → (r : Record) → In r p.records → (moves : List Move)
-    → moves_of (serve (chosen_in p.records)) r.labels ≡ Ok moves → (path : List ℕ) → In path (moved_paths r moves) → In path (paths_in p entries)
-moved_within p entries s r there moves e path h = elim (in_append path (paths_of_labels r.labels) (map (λ (m : Move). m.path) moves) h) [
+replaced_within : (p : Plan) (entries : List Entry) → ServedPlan p entries → (r : Record) → In r p.records → (replacements : List Replacement)
+    → replacements_of (serve (chosen_in p.records)) r.labels ≡ Ok replacements → (path : List ℕ) → In path (replaced_paths r replacements) → In path (paths_in p entries)
+replaced_within p entries s r there replacements e path h = elim (in_append path (paths_of_labels r.labels) (map (λ (m : Replacement). m.path) replacements) h) [
   | inl labelled ↦ label_within p entries r there path labelled
   | inr new ↦
-      let m = from_map (λ (m : Move). m.path) path moves new in
-      let w = moves_from (serve (chosen_in p.records)) r.labels moves e m.0 m.1 in
+      let m = from_map (λ (m : Replacement). m.path) path replacements new in
+      let w = replacements_from (serve (chosen_in p.records)) r.labels replacements e m.0 m.1 in
       let own = label_within p entries r there m.0.label.path (in_map (λ (l : Label). l.path) m.0.label r.labels w.0) in
       subst (λ z. In z (paths_in p entries)) m.2 (leads_within p entries s m.0.label.path m.0.path m.0.label.class own w.1)
 ]
 
 -- ---- plans
 
--- the moves of a record of a sound plan
-pub moves_in : (p : Plan) → IsSoundPlan p → (class : List ℕ) (q : Record) (s : IsServed (chosen_in p.records) class q) → IsSoundRecord s.chosen
-    × AreMoves s.chosen.labels s.moves
-moves_in p sound class q s =
+-- the replacements of a record of a sound plan
+pub replacements_in : (p : Plan) → IsSoundPlan p → (class : List ℕ) (q : Record) (s : IsServed (chosen_in p.records) class q) → IsSoundRecord s.chosen
+    × AreReplacements s.chosen.labels s.replacements
+replacements_in p sound class q s =
     let there = (chosen_in_list p.records class s.chosen s.is_chosen).0 in
     let is = All-contains IsSoundRecord p.records s.chosen sound (contains_of p.records s.chosen there) in
-    (is, are_moves (serve (chosen_in p.records)) (λ c r e. (served_is_sound p.records sound c r e).0) s.chosen.labels s.moves is.labels s.served_moves)
+    (is, are_replacements (serve (chosen_in p.records)) (λ c r e. (served_is_sound p.records sound c r e).0) s.chosen.labels s.replacements is.labels s.served_replacements)
 
 leads_to : (serves : List ℕ → Result Record Refusal) (own path : List ℕ) (labelled : Option Class) (class : Class)
     → labelled ≡ Some class → LeadsTo serves own path labelled → (q : Record) × (serves class.path ≡ Ok q) × (path ≡ q.path)
@@ -115,8 +115,8 @@ leads_lower serves own path labelled class lower e leads is =
     let same : to.0 ≡ lower = ok_is to.0 lower (serves class.path) to.1 is in
     to.2 ∙ ap (λ (z : Record). z.path) same
 
-is_replaced_move : (m : Move) (path : List ℕ) (l : Label) → m.path ≡ path → m.label ≡ l → bytes_eq path l.path ≡ false → bytes_eq m.path m.label.path ≡ false
-is_replaced_move m path l to of e = ap (λ a. bytes_eq a m.label.path) to ∙ ap (λ (z : Label). bytes_eq path z.path) of ∙ e
+is_replaced_label : (m : Replacement) (path : List ℕ) (l : Label) → m.path ≡ path → m.label ≡ l → bytes_eq path l.path ≡ false → bytes_eq m.path m.label.path ≡ false
+is_replaced_label m path l to of e = ap (λ a. bytes_eq a m.label.path) to ∙ ap (λ (z : Label). bytes_eq path z.path) of ∙ e
 
 -- what serves a class that the entry serves
 serves_lower : (p : Plan) (entries : List Entry) → ServedPlan p entries → (lower : Record) → Contains entries (OfRecord lower) → (class : List ℕ)
@@ -131,15 +131,15 @@ plans_keep_no_replaced p entries sound ordered apart e chosen by lower l class h
     let serves = serve (chosen_in p.records) in
     let all = served_parts p entries e in
     let r = served_for p entries all by has_by in
-    let s = serve_moves (chosen_in p.records) r.0.class.path by r.2 in
+    let s = serve_replacements (chosen_in p.records) r.0.class.path by r.2 in
     let there = (chosen_in_list p.records r.0.class.path s.chosen s.is_chosen).0 in
     let is : s.chosen ≡ chosen = ordered.once s.chosen chosen there (in_of p.records chosen has_chosen) (ap (λ (z : Class). z.path) (sym s.class) ∙ same) in
     let here : In l s.chosen.labels = subst (λ (z : Record). In l z.labels) (sym is) (in_of chosen.labels l has_label) in
-    let m = moves_member serves s.chosen.labels s.moves s.served_moves l here in
+    let m = replacements_member serves s.chosen.labels s.replacements s.served_replacements l here in
     let lower_served = serves_lower p entries all lower has_lower class.path lower_class in
     let path = leads_lower serves l.path m.0.path l.class class lower labelled m.3 lower_served in
-    let moved_on = is_replaced_move m.0 lower.path l path m.2 replaced in
-    let sure = moves_in p sound r.0.class.path by s in
-    let within = apart_within (moved_paths s.chosen s.moves) (paths_in p entries) (moved_within p entries all s.chosen there s.moves s.served_moves) apart in
-    let gone = moved_is_gone s.chosen s.moves by sure.0 sure.1 within s.is_moved m.0 (contains_of s.moves m.0 m.1) moved_on in
+    let changed = is_replaced_label m.0 lower.path l path m.2 replaced in
+    let sure = replacements_in p sound r.0.class.path by s in
+    let within = apart_within (replaced_paths s.chosen s.replacements) (paths_in p entries) (replaced_within p entries all s.chosen there s.replacements s.served_replacements) apart in
+    let gone = replaced_is_gone s.chosen s.replacements by sure.0 sure.1 within s.is_relabelled m.0 (contains_of s.replacements m.0 m.1) changed in
     subst (λ (z : Label). IsGone z.path by.path by.tree) m.2 gone

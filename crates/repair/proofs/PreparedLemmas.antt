@@ -10,7 +10,7 @@ use Rattle.model.specs.declared.refusal.Refusal.TheVariants.{Memory}
 use Rattle.model.specs.Classes.{greatest_rank}
 use Rattle.model.specs.Worlds.{Record}
 use Rattle.model.specs.Choices.{Plan}
-use Rattle.model.specs.Repairs.{Move, serve, chosen_in}
+use Rattle.model.specs.Repairs.{Replacement, serve, chosen_in}
 use Rattle.model.proofs.BoolLemmas.{either, same_bytes, bytes_same}
 use Rattle.laws.proofs.MemberLemmas.{In}
 use Rattle.laws.proofs.ServedLemmas.{not_both}
@@ -19,11 +19,11 @@ use Rattle.rewrite.proofs.StepLemmas.{take_next}
 use Rattle.repair.specs.AtHand.{MadeRepairs, IsMade, KeepsOthers}
 use Rattle.repair.specs.Counting.{IsToRepair}
 use Rattle.repair.specs.Prepared.{HasRepair, HasRepairs, HasRepaired}
-use Rattle.repair.specs.Served.{Served, MovesTo, served_from}
+use Rattle.repair.specs.Served.{Served, IsRelabelledBy, served_from}
 use Rattle.repair.specs.Serving.{AreServed}
 use Rattle.repair.specs.declared.repair.Repair.{Repair}
 use Rattle.repair.proofs.TurnLemmas.{split_at}
-use Rattle.repair.proofs.ServingLemmas.{same_moves, serves_next, others_before}
+use Rattle.repair.proofs.ServingLemmas.{same_replacements, serves_next, others_before}
 
 -- ---- what is kept for a class
 
@@ -44,9 +44,9 @@ put_found (e ∷ es) class one = elim (either (bytes_eq class e.0)) [
 pub err_is : {X : Type 0} (why other : Refusal) (o : Result X Refusal) → o ≡ Err why → o ≡ Err other → why ≡ other
 err_is why other o d e = cc
 
-stays : (class : List ℕ) (old new : MadeRepairs) → KeepsOthers class old new → (r : Record) (moves : List Move) → bytes_eq r.class.path class ≡ false
-    → IsMade old r moves → IsMade new r moves
-stays class old new keeps r moves apart made = record { one = made.one; there = keeps r.class.path apart ∙ made.there; is = made.is }
+stays : (class : List ℕ) (old new : MadeRepairs) → KeepsOthers class old new → (r : Record) (replacements : List Replacement) → bytes_eq r.class.path class ≡ false
+    → IsMade old r replacements → IsMade new r replacements
+stays class old new keeps r replacements apart made = record { one = made.one; there = keeps r.class.path apart ∙ made.there; is = made.is }
 
 -- what is there for records of other classes stays
 pub all_stay : (choice : List ℕ → Option Record) (class : List ℕ) (old new : MadeRepairs) (rs : List Record) → KeepsOthers class old new
@@ -55,9 +55,9 @@ all_stay choice class old new [] keeps apart all = All-nil (HasRepair choice new
 all_stay choice class old new (r ∷ rs) keeps apart all = All-cons (HasRepair choice new) r rs first (all_stay choice class old new rs keeps (λ q h. apart q (inr h)) (All-tail (HasRepair choice old) r rs all))
   where
     first : HasRepair choice new r
-    first moves to needs = elim (either (bytes_eq r.class.path class)) [
+    first replacements to needs = elim (either (bytes_eq r.class.path class)) [
       | inl t ↦ absurd (apart r (inl refl) (same_bytes r.class.path class t))
-      | inr f ↦ stays class old new keeps r moves f (All-head (HasRepair choice old) r rs all moves to needs)
+      | inr f ↦ stays class old new keeps r replacements f (All-head (HasRepair choice old) r rs all replacements to needs)
     ]
 
 -- what is there for each record is there for all in turn
@@ -77,12 +77,12 @@ repairs_until choice made (x ∷ rs) behind r why all last refused =
 -- the record at a place of a plan, where the classes of those before it are served
 module _ (p : Plan) (o : IsInOrder p) (k : ℕ) (r : Record) (es : Served) (lt : k < length p.records) (is : r ≡ get_or p.records k r)
     (low : r.class.rank ≤ greatest_rank) (a : AreServed p (take k p.records) es) where
-  -- where it has to be repaired as its labels move then, what comes of it is there
+  -- where it has to be repaired as its labels are replaced then, what comes of it is there
   abbrev pub HasOne : MadeRepairs → Type 0
-  HasOne made = (moves : List Move) → MovesTo es r moves → IsToRepair r moves → IsMade made r moves
+  HasOne made = (replacements : List Replacement) → IsRelabelledBy es r replacements → IsToRepair r replacements → IsMade made r replacements
 
   has_repair : (made : MadeRepairs) → HasOne made → HasRepair (chosen_in p.records) made r
-  has_repair made has moves to = has moves (same_moves p o k r es lt is low a ∙ to)
+  has_repair made has replacements to = has replacements (same_replacements p o k r es lt is low a ∙ to)
 
   module _ (old new : MadeRepairs) (keeps : KeepsOthers r.class.path old new) (has : HasOne new)
       (all : All (HasRepair (chosen_in p.records) old) (take k p.records)) where
@@ -108,7 +108,7 @@ module _ (p : Plan) (o : IsInOrder p) (k : ℕ) (r : Record) (es : Served) (lt :
 
     -- where it is there for all that are left, it is there for this one
     pub has_one : HasOne made
-    has_one moves to = from_here.0 moves (sym (same_moves p o k r es lt is low a) ∙ to)
+    has_one replacements to = from_here.0 replacements (sym (same_replacements p o k r es lt is low a) ∙ to)
 
     -- and for those behind it
     pub has_rest : (v : Record) → served_from es r ≡ Ok v → HasRepairs (chosen_in p.records) made (drop (k + 1) p.records)

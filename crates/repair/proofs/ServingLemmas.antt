@@ -10,7 +10,7 @@ use Rattle.model.specs.Results.{then_do, each}
 use Rattle.model.specs.Classes.{Class, greatest_rank}
 use Rattle.model.specs.Worlds.{Record}
 use Rattle.model.specs.Choices.{rank_before, Plan}
-use Rattle.model.specs.Repairs.{moves_of, moved, served, serve, chosen_in, serve_all}
+use Rattle.model.specs.Repairs.{replacements_of, relabelled, served, serve, chosen_in, serve_all}
 use Rattle.model.proofs.BoolLemmas.{either, same_bytes, bytes_same}
 use Rattle.laws.proofs.MemberLemmas.{In, in_append, in_left, in_right}
 use Rattle.laws.proofs.SetLemmas.{Ascends, clash, irreflexive}
@@ -18,7 +18,7 @@ use Rattle.choose.specs.Gathering.{IsInOrder}
 use Rattle.choose.proofs.OrderLemmas.{rank_before-Weak}
 use Rattle.repair.specs.Served.{Served, values_of, if_below, or_not_realised, served_in, served_from}
 use Rattle.repair.specs.Serving.{AreServedBy, AreServed}
-use Rattle.laws.proofs.ServedLemmas.{served_none, served_high, served_low, serve_rank, serve_moves, chosen_in_list, chosen_in_one, option_cases}
+use Rattle.laws.proofs.ServedLemmas.{served_none, served_high, served_low, serve_rank, serve_replacements, chosen_in_list, chosen_in_one, option_cases}
 use Rattle.rewrite.proofs.StepLemmas.{take_next}
 use Rattle.repair.proofs.TurnLemmas.{split_at, each_stop}
 
@@ -144,7 +144,7 @@ module _ (p : Plan) (o : IsInOrder p) (k : ℕ) (r : Record) (es : Served) (lt :
       → or_not_realised (if_below r.class.rank (Some v)) ≡ served (chosen_in p.records) r.class.rank class
   there_low class v e =
       let w = found_for (chosen_in p.records) (take k p.records) es class v a e in
-      let s = serve_moves (chosen_in p.records) class v w.3 in
+      let s = serve_replacements (chosen_in p.records) class v w.3 in
       elim (either (nat_lt v.class.rank r.class.rank)) [
         | inl t ↦
             let less : s.chosen.class.rank < r.class.rank = subst (λ (c : Class). c.rank < r.class.rank) s.class (ltb-true v.class.rank r.class.rank t) in
@@ -170,14 +170,14 @@ module _ (p : Plan) (o : IsInOrder p) (k : ℕ) (r : Record) (es : Served) (lt :
     | inr w ↦ ap (λ v. or_not_realised (if_below r.class.rank v)) w.1 ∙ there_low class w.0 w.1
   ]
 
-  -- so its labels move alike by both
-  pub same_moves : moves_of (served_in es r.class.rank) r.labels ≡ moves_of (served (chosen_in p.records) r.class.rank) r.labels
-  same_moves = ap (λ f. moves_of f r.labels) (λ j class. same_served class j)
+  -- so its labels are replaced alike by both
+  pub same_replacements : replacements_of (served_in es r.class.rank) r.labels ≡ replacements_of (served (chosen_in p.records) r.class.rank) r.labels
+  same_replacements = ap (λ f. replacements_of f r.labels) (λ j class. same_served class j)
 
   pub serves_next : serve (chosen_in p.records) r.class.path ≡ served_from es r
   serves_next =
       serve_rank (chosen_in p.records) r.class.path r is_chosen low
-      ∙ ap (λ f. then_do (moves_of f r.labels) (moved r)) (sym (λ j class. same_served class j))
+      ∙ ap (λ f. then_do (replacements_of f r.labels) (relabelled r)) (sym (λ j class. same_served class j))
 
   pub serve_refused : (why : Refusal) → (why ≡ Memory) ⊎ (served_from es r ≡ Err why)
       → (why ≡ Memory) ⊎ (serve_all p.records ≡ Err why)

@@ -7,15 +7,15 @@ use Rattle.model.specs.Archives.{IsTree}
 use Rattle.model.specs.Paths.{IsPath}
 use Rattle.model.specs.Classes.{Class, greatest_rank}
 use Rattle.model.specs.Worlds.{Label, Record}
-use Rattle.model.specs.Repairs.{Move, moves_of, moved, served, chosen_in}
+use Rattle.model.specs.Repairs.{Replacement, replacements_of, relabelled, served, chosen_in}
 use Rattle.laws.proofs.MemberLemmas.{in_of, contains_of}
 use Rattle.records.specs.Sound.{IsSoundRecord}
-use Rattle.repair.specs.SoundPlans.{AreMoves}
+use Rattle.repair.specs.SoundPlans.{AreReplacements}
 use Rattle.repair.specs.RepairLaws.{ServedIsSound}
-use Rattle.laws.proofs.ServedLemmas.{then_ok, ok_is, LeadsTo, moves_from, moves_more, served_chosen, served_rank, served_more, chosen_in_list}
-use Rattle.repair.proofs.TreeLemmas.{moved_sound}
+use Rattle.laws.proofs.ServedLemmas.{then_ok, ok_is, LeadsTo, replacements_from, replacements_more, served_chosen, served_rank, served_more, chosen_in_list}
+use Rattle.repair.proofs.TreeLemmas.{relabelled_sound}
 
--- ---- moves to what is served
+-- ---- replacements by what is served
 
 leads_alike : (serves : List ℕ → Result Record Refusal) (own p q : List ℕ) (class : Option Class) → LeadsTo serves own p class → LeadsTo serves own q class → p ≡ q
 leads_alike serves own p q None a b = a ∙ sym b
@@ -28,18 +28,18 @@ leads_path : (serves : List ℕ → Result Record Refusal) → ((c : List ℕ) (
 leads_path serves are own p None is a = subst IsPath (sym a) is
 leads_path serves are own p (Some class) is a = subst IsPath (sym a.2) (are class.path a.0 a.1)
 
--- moves are so where all that serves has paths
-pub are_moves : (serves : List ℕ → Result Record Refusal) → ((c : List ℕ) (q : Record) → serves c ≡ Ok q → IsPath q.path)
-    → (labels : List Label) (moves : List Move) → All (λ l. IsPath l.path) labels → moves_of serves labels ≡ Ok moves → AreMoves labels moves
-are_moves serves are labels moves paths e = record {
-  labelled = λ m h. contains_of labels m.label (moves_from serves labels moves e m (in_of moves m h)).0;
+-- replacements are so where all that serves has paths
+pub are_replacements : (serves : List ℕ → Result Record Refusal) → ((c : List ℕ) (q : Record) → serves c ≡ Ok q → IsPath q.path)
+    → (labels : List Label) (replacements : List Replacement) → All (λ l. IsPath l.path) labels → replacements_of serves labels ≡ Ok replacements → AreReplacements labels replacements
+are_replacements serves are labels replacements paths e = record {
+  labelled = λ m h. contains_of labels m.label (replacements_from serves labels replacements e m (in_of replacements m h)).0;
   paths = λ m h.
-      let w = moves_from serves labels moves e m (in_of moves m h) in
+      let w = replacements_from serves labels replacements e m (in_of replacements m h) in
       let own = All-contains (λ (l : Label). IsPath l.path) labels m.label paths (contains_of labels m.label w.0) in
       leads_path serves are m.label.path m.path m.label.class own w.1;
   alike = λ m n h k same.
-      let first = (moves_from serves labels moves e m (in_of moves m h)).1 in
-      let second = (moves_from serves labels moves e n (in_of moves n k)).1 in
+      let first = (replacements_from serves labels replacements e m (in_of replacements m h)).1 in
+      let second = (replacements_from serves labels replacements e n (in_of replacements n k)).1 in
       leads_alike serves m.label.path m.path n.path m.label.class first
       (subst (λ (l : Label). LeadsTo serves l.path n.path l.class) (sym same) second);
 }
@@ -53,11 +53,11 @@ sound_to records sound (suc n) class q e =
     let choice = chosen_in records in
     let w = served_chosen choice (suc n) class q e in
     let rank : ℕ = w.0.class.rank in
-    let p = then_ok (moves_of (served choice rank) w.0.labels) (moved w.0) q (sym (served_rank choice (suc n) class w.0 w.1 w.2) ∙ e) in
-    let more = moves_more (served choice rank) (served choice n) (λ d s. served_more choice rank n d s (omega (arith, w.2))) w.0.labels p.0 p.1 in
+    let p = then_ok (replacements_of (served choice rank) w.0.labels) (relabelled w.0) q (sym (served_rank choice (suc n) class w.0 w.1 w.2) ∙ e) in
+    let more = replacements_more (served choice rank) (served choice n) (λ d s. served_more choice rank n d s (omega (arith, w.2))) w.0.labels p.0 p.1 in
     let is = All-contains IsSoundRecord records w.0 sound (contains_of records w.0 (chosen_in_list records class w.0 w.1).0) in
-    let are = are_moves (served choice n) (λ c s h. (sound_to records sound n c s h).0) w.0.labels p.0 is.labels more in
-    moved_sound w.0 p.0 q is are p.2
+    let are = are_replacements (served choice n) (λ c s h. (sound_to records sound n c s h).0) w.0.labels p.0 is.labels more in
+    relabelled_sound w.0 p.0 q is are p.2
 
 pub served_is_sound : ServedIsSound
 served_is_sound records sound class q e = sound_to records sound (suc greatest_rank) class q e

@@ -1,4 +1,4 @@
--- A record whose labels moved has a path and a tree.
+-- A record whose labels were replaced has a path and a tree.
 use Rattle.std.proofs.Common.{◌≡◌, ◌⊎◌, ℕ, inl, inr, Bool, true, false, cond, List, [], ◌∷◌, map, refl, ap, sym, ◌∙◌, subst, arith, None, Option, Some, Ok, Err}
 use Rattle.std.specs.Prelude.{bytes_eq}
 use Rattle.std.proofs.lemmas.Bool.{or_cases, false≢true}
@@ -12,7 +12,7 @@ use Rattle.model.specs.Substitutions.{Images, AreImages, keys_of, put, put_entri
 use Rattle.model.specs.Settling.{Settled, hash_part_in, name_in, sought, settling, settled}
 use Rattle.model.specs.Worlds.{Label, Record}
 use Rattle.model.specs.References.{labels_in_order, paths_of_labels, with_label}
-use Rattle.model.specs.Repairs.{Move, images_of, moved_label, moved_labels, put_unless, substituted, rewritten, moved}
+use Rattle.model.specs.Repairs.{Replacement, images_of, new_label, new_labels, put_unless, substituted, rewritten, relabelled}
 use Rattle.model.proofs.BoolLemmas.{either, same_bytes}
 use Rattle.laws.proofs.MemberLemmas.{In, contains_of, from_map}
 use Rattle.storepath.proofs.PathLemmas.{name_of-path_text}
@@ -21,8 +21,8 @@ use Rattle.rewrite.proofs.PutTrees.{bytes_put, sound-put, depth-put}
 use Rattle.rewrite.proofs.SettleLemmas.{keys-settling}
 use Rattle.rewrite.proofs.OneTreeLemmas.{path_part}
 use Rattle.records.specs.Sound.{IsSoundRecord}
-use Rattle.repair.specs.SoundPlans.{AreMoves}
-use Rattle.laws.proofs.ServedLemmas.{moved_cases}
+use Rattle.repair.specs.SoundPlans.{AreReplacements}
+use Rattle.laws.proofs.ServedLemmas.{relabelled_cases}
 use Rattle.laws.proofs.LabelLemmas.{from_least_label}
 
 -- ---- trees
@@ -76,11 +76,11 @@ pub from_labels_in_order : (x : Label) (ls : List Label) → In x (labels_in_ord
 from_labels_in_order x [] h = absurd h
 from_labels_in_order x (l ∷ ls) h = elim (from_with_label l x (labels_in_order ls) h) [ inl e ↦ inl e | inr there ↦ inr (from_labels_in_order x ls there) ]
 
--- the path of a label of moves is that of one of them
-pub from_moved : (path : List ℕ) (moves : List Move) → In path (paths_of_labels (moved_labels moves)) → (m : Move) × In m moves × (m.path ≡ path)
-from_moved path moves h =
-    let l = from_map (λ (l : Label). l.path) path (moved_labels moves) h in
-    let m = from_map moved_label l.0 moves (from_labels_in_order l.0 (map moved_label moves) l.1) in
+-- the path of a label of replacements is that of one of them
+pub from_new_labels : (path : List ℕ) (replacements : List Replacement) → In path (paths_of_labels (new_labels replacements)) → (m : Replacement) × In m replacements × (m.path ≡ path)
+from_new_labels path replacements h =
+    let l = from_map (λ (l : Label). l.path) path (new_labels replacements) h in
+    let m = from_map new_label l.0 replacements (from_labels_in_order l.0 (map new_label replacements) l.1) in
     (m.0, m.1, ap (λ (l : Label). l.path) m.2 ∙ l.2)
 
 -- ---- keys and images
@@ -100,25 +100,25 @@ keys_sought own candidates part are w found = elim (or_cases (bytes_eq own w) (a
   | inr later ↦ keys_of_paths candidates are w later
 ]
 
--- each label of moves with its path, by hash parts
-abbrev pub pairs : List Move → Images
-pairs moves = map (λ m. (hash_part_in m.label.path, hash_part_in m.path)) moves
+-- each label of replacements with its path, by hash parts
+abbrev pub pairs : List Replacement → Images
+pairs replacements = map (λ m. (hash_part_in m.label.path, hash_part_in m.path)) replacements
 
-are_pairs : (moves : List Move) → ((m : Move) → In m moves → IsPath m.label.path × IsPath m.path) → AreImages (pairs moves)
+are_pairs : (replacements : List Replacement) → ((m : Replacement) → In m replacements → IsPath m.label.path × IsPath m.path) → AreImages (pairs replacements)
 are_pairs [] are = tt
 are_pairs (m ∷ ms) are =
     let here = are m (inl refl) in
     (part_of_path m.label.path here.0, part_of_path m.path here.1, are_pairs ms (λ n h. are n (inr h)))
 
-pub are_images : (own : List ℕ) (moves : List Move) → IsHashPart own → ((m : Move) → In m moves → IsPath m.label.path × IsPath m.path)
-    → AreImages (images_of own moves)
-are_images own moves part are = (part, part, are_pairs moves are)
+pub are_images : (own : List ℕ) (replacements : List Replacement) → IsHashPart own → ((m : Replacement) → In m replacements → IsPath m.label.path × IsPath m.path)
+    → AreImages (images_of own replacements)
+are_images own replacements part are = (part, part, are_pairs replacements are)
 
--- ---- moves of a sound record
+-- ---- replacements of a sound record
 
-pub paths_of_move : (r : Record) (moves : List Move) → IsSoundRecord r → AreMoves r.labels moves → (m : Move) → In m moves → IsPath m.label.path × IsPath m.path
-paths_of_move r moves sound are m h =
-    let there = contains_of moves m h in
+pub paths_of_replacement : (r : Record) (replacements : List Replacement) → IsSoundRecord r → AreReplacements r.labels replacements → (m : Replacement) → In m replacements → IsPath m.label.path × IsPath m.path
+paths_of_replacement r replacements sound are m h =
+    let there = contains_of replacements m h in
     (All-contains (λ (l : Label). IsPath l.path) r.labels m.label sound.labels (are.labelled m there), are.paths m there)
 
 cond_tree : (b : Bool) (x t : Tree) → cond b (Ok x) (Err Accidental) ≡ Ok t → (b ≡ true) × (x ≡ t)
@@ -131,26 +131,26 @@ put_parts (Some why) images tree t e = cc
 put_parts None images tree t e = let made = cond_tree (is_true_put images tree) (put images tree) t e in (refl, made.0, made.1)
 
 -- what is known of a repaired record: its images in its tree, and what that is settled as
-pub record Parts (r : Record) (moves : List Move) (tree : Tree) (s : Settled) : Type 0 where
-  pub images : AreImages (images_of (hash_part_in r.path) moves)
-  pub true_put : is_true_put (images_of (hash_part_in r.path) moves) r.tree ≡ true
-  pub is_put : put (images_of (hash_part_in r.path) moves) r.tree ≡ tree
+pub record Parts (r : Record) (replacements : List Replacement) (tree : Tree) (s : Settled) : Type 0 where
+  pub images : AreImages (images_of (hash_part_in r.path) replacements)
+  pub true_put : is_true_put (images_of (hash_part_in r.path) replacements) r.tree ≡ true
+  pub is_put : put (images_of (hash_part_in r.path) replacements) r.tree ≡ tree
   pub is_tree : IsTree tree
   pub own : IsHashPart (hash_part_in r.path)
-  pub candidates : (path : List ℕ) → In path (paths_of_labels (moved_labels moves)) → IsPath path
-  pub keys : AreKeys (among (sought (hash_part_in r.path) (paths_of_labels (moved_labels moves))))
+  pub candidates : (path : List ℕ) → In path (paths_of_labels (new_labels replacements)) → IsPath path
+  pub keys : AreKeys (among (sought (hash_part_in r.path) (paths_of_labels (new_labels replacements))))
 
-pub parts_of : (r : Record) (moves : List Move) (tree : Tree) (s : Settled) → IsSoundRecord r → AreMoves r.labels moves → rewritten r moves ≡ Ok tree
-    → Parts r moves tree s
+pub parts_of : (r : Record) (replacements : List Replacement) (tree : Tree) (s : Settled) → IsSoundRecord r → AreReplacements r.labels replacements → rewritten r replacements ≡ Ok tree
+    → Parts r replacements tree s
 unfolding substituted
-parts_of r moves tree s sound are e =
+parts_of r replacements tree s sound are e =
     let own = hash_part_in r.path in
-    let images = images_of own moves in
+    let images = images_of own replacements in
     let parts = put_parts (fault (among (keys_of images)) r.tree) images r.tree tree e in
     let part = part_of_path r.path sound.path in
-    let images_are = are_images own moves part (paths_of_move r moves sound are) in
-    let candidates_are : (path : List ℕ) → In path (paths_of_labels (moved_labels moves)) → IsPath path = λ path h.
-    let m = from_moved path moves h in subst IsPath m.2 (are.paths m.0 (contains_of moves m.0 m.1)) in
+    let images_are = are_images own replacements part (paths_of_replacement r replacements sound are) in
+    let candidates_are : (path : List ℕ) → In path (paths_of_labels (new_labels replacements)) → IsPath path = λ path h.
+    let m = from_new_labels path replacements h in subst IsPath m.2 (are.paths m.0 (contains_of replacements m.0 m.1)) in
     record {
       images = images_are;
       true_put = parts.1;
@@ -158,7 +158,7 @@ parts_of r moves tree s sound are e =
       is_tree = subst IsTree parts.2 (tree-put images images_are r.tree sound.tree parts.0);
       own = part;
       candidates = candidates_are;
-      keys = keys_sought own (paths_of_labels (moved_labels moves)) part candidates_are;
+      keys = keys_sought own (paths_of_labels (new_labels replacements)) part candidates_are;
     }
 
 -- a tree that is settled is one
@@ -170,14 +170,14 @@ tree_of_settled tree own candidates name s is keys done =
     let none = ap (λ ks. fault (among ks) tree) (keys-settling own candidates s.path) ∙ parts.0 in
     subst IsTree parts.2 (tree-put (settling own candidates s.path) images tree is none)
 
--- a record whose labels moved has a path and a tree
-pub moved_sound : (r : Record) (moves : List Move) (q : Record) → IsSoundRecord r → AreMoves r.labels moves → moved r moves ≡ Ok q → IsPath q.path × IsTree q.tree
-moved_sound r moves q sound are e = elim (moved_cases r moves q e) [
+-- a record whose labels were replaced has a path and a tree
+pub relabelled_sound : (r : Record) (replacements : List Replacement) (q : Record) → IsSoundRecord r → AreReplacements r.labels replacements → relabelled r replacements ≡ Ok q → IsPath q.path × IsTree q.tree
+relabelled_sound r replacements q sound are e = elim (relabelled_cases r replacements q e) [
   | inl same ↦ (subst (λ (z : Record). IsPath z.path) same.1 sound.path, subst (λ (z : Record). IsTree z.tree) same.1 sound.tree)
   | inr new ↦
       let own = hash_part_in r.path in
-      let candidates = paths_of_labels (moved_labels moves) in
-      let parts = parts_of r moves new.put new.named sound are new.rewriting in
+      let candidates = paths_of_labels (new_labels replacements) in
+      let parts = parts_of r replacements new.put new.named sound are new.rewriting in
       let path = path_of_settled new.put own candidates (name_in r.path) new.named new.resettling (name_of_path r.path sound.path) in
       let tree = tree_of_settled new.put own candidates (name_in r.path) new.named parts.is_tree parts.keys new.resettling in
       (subst IsPath (sym new.path) path, subst IsTree (sym new.tree) tree)

@@ -2,7 +2,7 @@
 use Rattle.std.specs.Prelude.{◌≡◌, ◌⊎◌, ◌≤◌, ⊤, ℕ, true, false, List, [], Option, None, Some, is_some}
 use Rattle.std.specs.List.{list_any}
 use Rattle.model.specs.Worlds.{Record}
-use Rattle.model.specs.Repairs.{Move, changes_path, is_replaced_by}
+use Rattle.model.specs.Repairs.{Replacement, changes_path, is_replaced_by}
 use Rattle.repair.specs.Keeping.{sizes}
 use Rattle.repair.specs.AtHand.{IsKept, MadeRepairs, IsMade}
 use Rattle.repair.specs.declared.kept.Kept.{Kept}
@@ -29,10 +29,10 @@ abbrev pub KeepsNone : Option Kept → Type 0
 KeepsNone None = ⊤
 KeepsNone (Some kept) = kept.records.entries ≡ []
 
--- what came of this record, whose labels move so, is kept
-abbrev pub IsAmongKept : Option Kept → Record → List Move → Type 0
-IsAmongKept None chosen moves = ⊥
-IsAmongKept (Some kept) chosen moves = IsKept kept.records.entries chosen moves
+-- what came of this record, whose labels are replaced so, is kept
+abbrev pub IsAmongKept : Option Kept → Record → List Replacement → Type 0
+IsAmongKept None chosen replacements = ⊥
+IsAmongKept (Some kept) chosen replacements = IsKept kept.records.entries chosen replacements
 
 -- what is kept for one step, if a cache is for one
 abbrev pub made_in : Option Made → MadeRepairs
@@ -44,9 +44,9 @@ abbrev pub IsForStep : Cache → Type 0
 IsForStep cache = is_some cache.made ≡ true
 
 -- it is at hand
-abbrev pub IsAtHand : Cache → Record → List Move → Type 0
-IsAtHand cache chosen moves = IsMade (made_in cache.made) chosen moves ⊎ IsAmongKept cache.kept chosen moves
+abbrev pub IsAtHand : Cache → Record → List Replacement → Type 0
+IsAtHand cache chosen replacements = IsMade (made_in cache.made) chosen replacements ⊎ IsAmongKept cache.kept chosen replacements
 
--- a record whose labels move so has to be repaired, and is not refused for its own path
-abbrev pub IsToRepair : Record → List Move → Type 0
-IsToRepair chosen moves = (list_any changes_path moves ≡ true) × (list_any (is_replaced_by chosen.path) moves ≡ false)
+-- a record whose labels are replaced so has to be repaired, and is not refused for its own path
+abbrev pub IsToRepair : Record → List Replacement → Type 0
+IsToRepair chosen replacements = (list_any changes_path replacements ≡ true) × (list_any (is_replaced_by chosen.path) replacements ≡ false)

@@ -9,7 +9,7 @@ use Rattle.repair.specs.declared.repair.Repair.{Repair}
 -- what a repaired record counts: the bytes of the archives of the tree that it was made of and of the one that came of it, and 1,024 for itself and for
 -- each of its labels
 abbrev pub size_of : Repair → ℕ
-size_of r = length (nar r.tree) + made_len r.outcome + 1024 * (length r.moves.items + 1)
+size_of r = length (nar r.tree) + made_len r.outcome + 1024 * (length r.replacements.items + 1)
 
 -- what the records count that are kept by keys
 abbrev pub sizes : {K : Type 0} → List (K × Repair) → ℕ

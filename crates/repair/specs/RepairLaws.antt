@@ -7,21 +7,22 @@ use Rattle.model.specs.SettledTrees.{IsMade}
 use Rattle.model.specs.Worlds.{Desk, Pin, Record, Source, Entry, OfSource, OfRecord, path_of_entry}
 use Rattle.model.specs.References.{paths_of_labels}
 use Rattle.model.specs.Choices.{Plan, closure_plan}
-use Rattle.model.specs.Repairs.{Move, moved, serve, chosen_in, serving_texts}
+use Rattle.model.specs.Repairs.{Replacement, relabelled, serve, chosen_in, serving_texts}
 use Rattle.model.specs.Closures.{tree_of_entry, served_plan, KeepsNoReplaced}
 use Rattle.choose.specs.Gathering.{IsInOrder}
 use Rattle.records.specs.Sound.{IsSoundRecord, IsSoundPlan}
-use Rattle.repair.specs.SoundPlans.{AreMoves, PartsTellApart}
+use Rattle.repair.specs.SoundPlans.{AreReplacements, PartsTellApart}
 
 -- the paths of a record's labels, and those that stand in their places
-abbrev pub moved_paths : Record → List Move → List (List ℕ)
-moved_paths r moves = paths_of_labels r.labels ++ map (λ m. m.path) moves
+abbrev pub replaced_paths : Record → List Replacement → List (List ℕ)
+replaced_paths r replacements = paths_of_labels r.labels ++ map (λ m. m.path) replacements
 
--- a path that is replaced is gone from the tree of the record whose labels moved
-abbrev pub MovedIsGone : Type 0
-MovedIsGone =
-    (r : Record) (moves : List Move) (q : Record) → IsSoundRecord r → AreMoves r.labels moves → PartsTellApart (moved_paths r moves)
-    → moved r moves ≡ Ok q → (m : Move) → Contains moves m → bytes_eq m.path m.label.path ≡ false → IsGone m.label.path q.path q.tree
+-- a path that is replaced is gone from the tree of the record whose labels were replaced
+abbrev pub ReplacedIsGone : Type 0
+ReplacedIsGone =
+    (r : Record) (replacements : List Replacement) (q : Record) → IsSoundRecord r → AreReplacements r.labels replacements
+    → PartsTellApart (replaced_paths r replacements) → relabelled r replacements ≡ Ok q
+    → (m : Replacement) → Contains replacements m → bytes_eq m.path m.label.path ≡ false → IsGone m.label.path q.path q.tree
 
 -- what serves a class has a path and a tree
 abbrev pub ServedIsSound : Type 0

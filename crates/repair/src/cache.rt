@@ -9,8 +9,8 @@ ghost use Rattle.repair.specs.Counting.{hits_of, bound_of, IsBounded, KeepsNone,
 
 use crate::kept::Kept;
 use crate::made::Made;
-use crate::moves::Move;
 use crate::repair::{Repair, copy_of, tried};
+use crate::replacements::Replacement;
 use model::Refusal;
 use records::Realisation;
 use std::alloc::{AllocError, Global};
@@ -21,12 +21,16 @@ use storepath::StorePath;
 
 /// The path of a record, and the one in the place of each of its labels' paths, in the order of the
 /// labels. The one error is memory.
-fn key_of(alloc: Global, chosen: &Realisation, moves: &[Move]) -> Result<Vec<StorePath>, AllocError>
-    ensures { IfOk result (λ key. key.items ≡ paths_of_key chosen.now moves.now) }
+fn key_of(
+    alloc: Global,
+    chosen: &Realisation,
+    replacements: &[Replacement],
+) -> Result<Vec<StorePath>, AllocError>
+    ensures { IfOk result (λ key. key.items ≡ paths_of_key chosen.now replacements.now) }
 {
     let mut key = Vec::new(alloc);
     key.push(chosen.path().clone()?)?;
-    for one in moves {
+    for one in replacements {
         key.push(one.path().clone()?)?;
     }
     Ok(key)
@@ -136,18 +140,19 @@ impl Cache {
         }
     }
 
-    /// A copy of what came of a record whose labels move so, if it is kept. The one error is memory.
+    /// A copy of what came of a record whose labels are replaced so, if it is kept. The one error is memory.
     fn kept_for(
         &mut self,
         alloc: Global,
         chosen: &Realisation,
-        moves: &[Move],
+        replacements: &[Replacement],
     ) -> Result<Option<Result<Realisation, Refusal>>, AllocError>
-        ensures found { IfOk result (λ found. IfSome found (λ o. o ≡ repaired chosen.now moves.now)) }
+        ensures found { IfOk result (λ found. IfSome found
+            (λ o. o ≡ repaired chosen.now replacements.now)) }
         ensures some { IfOk result (λ found. IfSome found (λ _.
-            IsAmongKept self.old.kept chosen.now moves.now)) }
+            IsAmongKept self.old.kept chosen.now replacements.now)) }
         ensures none { IfOk result (λ found. IfNone found (
-            IsAmongKept self.old.kept chosen.now moves.now → ⊥)) }
+            IsAmongKept self.old.kept chosen.now replacements.now → ⊥)) }
         ensures hit { IfOk result (λ found. IfSome found (λ _.
             hits_of self.new.kept ≡ one_more (hits_of self.old.kept))) }
         ensures no_hit { IfOk result (λ found. IfNone found (
@@ -159,42 +164,42 @@ impl Cache {
         let Some(kept) = &mut self.kept else {
             return Ok(None);
         };
-        let key = key_of(alloc, chosen, moves)?;
-        kept.copy_for(&key, chosen, moves)
+        let key = key_of(alloc, chosen, replacements)?;
+        kept.copy_for(&key, chosen, replacements)
     }
 
-    /// What comes of a record whose labels move. Where memory is refused, the records that were used last are
-    /// let go, and it is tried once more. The one error is memory.
+    /// What comes of a record whose labels are replaced. Where memory is refused, the records that were used
+    /// last are let go, and it is tried once more. The one error is memory.
     fn made_of(
         &mut self,
         alloc: Global,
         chosen: &Realisation,
-        moves: &[Move],
+        replacements: &[Replacement],
     ) -> Result<Result<Realisation, Refusal>, Refusal>
-        ensures outcome { IfOk result (λ outcome. outcome ≡ repaired chosen.now moves.now) }
+        ensures outcome { IfOk result (λ outcome. outcome ≡ repaired chosen.now replacements.now) }
         ensures memory { IfErr result (λ why. why ≡ Memory) }
         ensures made { self.new.made ≡ self.old.made }
         ensures computed { self.new.computed ≡ self.old.computed }
         ensures hits { hits_of self.new.kept ≡ hits_of self.old.kept }
         ensures bound { bound_of self.new.kept ≡ bound_of self.old.kept }
     {
-        if let Ok(outcome) = tried(alloc, chosen, moves) {
+        if let Ok(outcome) = tried(alloc, chosen, replacements) {
             return Ok(outcome);
         }
         self.empty();
-        tried(alloc, chosen, moves)
+        tried(alloc, chosen, replacements)
     }
 
-    /// Keeps what came of a record whose labels moved so among those that were used last, if there is memory for
-    /// that, and it is not too large.
+    /// Keeps what came of a record whose labels were replaced so among those that were used last, if there is
+    /// memory for that, and it is not too large.
     fn keep(
         &mut self,
         alloc: Global,
         chosen: &Realisation,
-        moves: &[Move],
+        replacements: &[Replacement],
         outcome: &Result<Realisation, Refusal>,
     )
-        requires { outcome.now ≡ repaired chosen.now moves.now }
+        requires { outcome.now ≡ repaired chosen.now replacements.now }
         ensures made { self.new.made ≡ self.old.made }
         ensures computed { self.new.computed ≡ self.old.computed }
         ensures hits { hits_of self.new.kept ≡ hits_of self.old.kept }
@@ -203,117 +208,125 @@ impl Cache {
         let Some(kept) = &mut self.kept else {
             return;
         };
-        let Ok(key) = key_of(alloc, chosen, moves) else {
+        let Ok(key) = key_of(alloc, chosen, replacements) else {
             return;
         };
-        let Ok(one) = Repair::new(alloc, chosen, moves, outcome) else {
+        let Ok(one) = Repair::new(alloc, chosen, replacements, outcome) else {
             return;
         };
         kept.keep(key, one);
     }
 
-    /// What came lately of a record whose labels move so, or else what comes of it now, which is kept among
-    /// those that were used last, if there is memory for that, and it is not too large. The one error is memory.
+    /// What came lately of a record whose labels are replaced so, or else what comes of it now, which is kept
+    /// among those that were used last, if there is memory for that, and it is not too large. The one error
+    /// is memory.
     fn kept_or_made(
         &mut self,
         alloc: Global,
         chosen: &Realisation,
-        moves: &[Move],
+        replacements: &[Replacement],
     ) -> Result<Result<Realisation, Refusal>, Refusal>
-        ensures outcome { IfOk result (λ outcome. outcome ≡ repaired chosen.now moves.now) }
+        ensures outcome { IfOk result (λ outcome. outcome ≡ repaired chosen.now replacements.now) }
         ensures memory { IfErr result (λ why. why ≡ Memory) }
-        ensures at_hand { IsAmongKept self.old.kept chosen.now moves.now
+        ensures at_hand { IsAmongKept self.old.kept chosen.now replacements.now
             → OnOk result (self.new.computed ≡ self.old.computed) }
-        ensures computed { (IsAmongKept self.old.kept chosen.now moves.now → ⊥)
+        ensures computed { (IsAmongKept self.old.kept chosen.now replacements.now → ⊥)
             → OnOk result (self.new.computed ≡ one_more self.old.computed) }
-        ensures hit { IsAmongKept self.old.kept chosen.now moves.now
+        ensures hit { IsAmongKept self.old.kept chosen.now replacements.now
             → OnOk result (hits_of self.new.kept ≡ one_more (hits_of self.old.kept)) }
-        ensures no_hit { (IsAmongKept self.old.kept chosen.now moves.now → ⊥)
+        ensures no_hit { (IsAmongKept self.old.kept chosen.now replacements.now → ⊥)
             → OnOk result (hits_of self.new.kept ≡ hits_of self.old.kept) }
         ensures made { self.new.made ≡ self.old.made }
         ensures bound { bound_of self.new.kept ≡ bound_of self.old.kept }
     {
-        if let Some(outcome) = self.kept_for(alloc, chosen, moves)? {
+        if let Some(outcome) = self.kept_for(alloc, chosen, replacements)? {
             return Ok(outcome);
         }
-        let outcome = self.made_of(alloc, chosen, moves)?;
+        let outcome = self.made_of(alloc, chosen, replacements)?;
         self.computed = self.computed.saturating_add(1);
-        self.keep(alloc, chosen, moves, &outcome);
+        self.keep(alloc, chosen, replacements, &outcome);
         Ok(outcome)
     }
 
-    /// What came of a record whose labels move so, if it is kept for this step.
+    /// What came of a record whose labels are replaced so, if it is kept for this step.
     fn made_for(
         &self,
         chosen: &Realisation,
-        moves: &[Move],
+        replacements: &[Replacement],
     ) -> Option<&Result<Realisation, Refusal>>
-        ensures outcome { IfSome result (λ o. o.now ≡ repaired chosen.now moves.now) }
-        ensures some { IfSome result (λ _. IsMade (made_in self.now.made) chosen.now moves.now) }
-        ensures none { IfNone result (IsMade (made_in self.now.made) chosen.now moves.now → ⊥) }
+        ensures outcome { IfSome result (λ o. o.now ≡ repaired chosen.now replacements.now) }
+        ensures some { IfSome result
+            (λ _. IsMade (made_in self.now.made) chosen.now replacements.now) }
+        ensures none { IfNone result (IsMade (made_in self.now.made) chosen.now replacements.now
+            → ⊥) }
     {
-        self.made.as_ref()?.outcome_for(chosen, moves)
+        self.made.as_ref()?.outcome_for(chosen, replacements)
     }
 
-    /// Keeps what came of a record whose labels moved so, where this is for a step. The one error is memory.
+    /// Keeps what came of a record whose labels were replaced so, where this is for a step. The one error is
+    /// memory.
     fn keep_made(
         &mut self,
         alloc: Global,
         chosen: &Realisation,
-        moves: &[Move],
+        replacements: &[Replacement],
         outcome: &Result<Realisation, Refusal>,
     ) -> Result<(), Refusal>
-        requires { outcome.now ≡ repaired chosen.now moves.now }
+        requires { outcome.now ≡ repaired chosen.now replacements.now }
         ensures made { IsForStep self.old
-            → OnOk result (IsMade (made_in self.new.made) chosen.now moves.now) }
-        ensures others { KeepsOthers chosen.now.class.path (made_in self.old.made) (made_in self.new.made) }
+            → OnOk result (IsMade (made_in self.new.made) chosen.now replacements.now) }
+        ensures others { KeepsOthers chosen.now.class.path (made_in self.old.made) (made_in
+            self.new.made) }
         ensures step { is_some self.new.made ≡ is_some self.old.made }
         ensures kept { self.new.kept ≡ self.old.kept }
         ensures computed { self.new.computed ≡ self.old.computed }
         ensures memory { IfErr result (λ why. why ≡ Memory) }
     {
         match &mut self.made {
-            Some(made) => made.keep(alloc, chosen, moves, outcome),
+            Some(made) => made.keep(alloc, chosen, replacements, outcome),
             None => Ok(()),
         }
     }
 
-    /// Repairs a record whose labels move, unless that was done before. What comes of it is kept: for the step, if
-    /// this is for one, and among those that were used last, if there is memory for that, and it is not too large.
+    /// Repairs a record whose labels are replaced, unless that was done before. What comes of it is kept: for
+    /// the step, if this is for one, and among those that were used last, if there is memory for that, and it
+    /// is not too large.
     pub(crate) fn repaired(
         &mut self,
         alloc: Global,
         chosen: &Realisation,
-        moves: &[Move],
+        replacements: &[Replacement],
     ) -> Result<Realisation, Refusal>
-        ensures answer { let answer = repaired chosen.now moves.now in MatchResult result
+        ensures answer { let answer = repaired chosen.now replacements.now in MatchResult result
             (λ made. answer ≡ Ok made)
             (λ e. (e ≡ Memory) ⊎ (answer ≡ Err e)) }
         // What was at hand is not made.
-        ensures at_hand { IsAtHand self.old chosen.now moves.now → result ≢ Err Memory
+        ensures at_hand { IsAtHand self.old chosen.now replacements.now → result ≢ Err Memory
             → self.new.computed ≡ self.old.computed }
         // What was not is made once.
-        ensures computed { (IsAtHand self.old chosen.now moves.now → ⊥) → result ≢ Err Memory
+        ensures computed { (IsAtHand self.old chosen.now replacements.now → ⊥) → result ≢ Err Memory
             → self.new.computed ≡ one_more self.old.computed }
         // For a step it is there then, and what is there for other classes stays.
         ensures made { IsForStep self.old → result ≢ Err Memory
-            → IsMade (made_in self.new.made) chosen.now moves.now }
-        ensures others { KeepsOthers chosen.now.class.path (made_in self.old.made) (made_in self.new.made) }
-        ensures same { IsMade (made_in self.old.made) chosen.now moves.now → self.new ≡ self.old }
+            → IsMade (made_in self.new.made) chosen.now replacements.now }
+        ensures others { KeepsOthers chosen.now.class.path (made_in self.old.made) (made_in
+            self.new.made) }
+        ensures same { IsMade (made_in self.old.made) chosen.now replacements.now
+            → self.new ≡ self.old }
         ensures step { is_some self.new.made ≡ is_some self.old.made }
-        ensures hit { (IsMade (made_in self.old.made) chosen.now moves.now → ⊥)
-            → IsAmongKept self.old.kept chosen.now moves.now → result ≢ Err Memory
+        ensures hit { (IsMade (made_in self.old.made) chosen.now replacements.now → ⊥)
+            → IsAmongKept self.old.kept chosen.now replacements.now → result ≢ Err Memory
             → hits_of self.new.kept ≡ one_more (hits_of self.old.kept) }
-        ensures no_hit { (IsAtHand self.old chosen.now moves.now → ⊥) → result ≢ Err Memory
+        ensures no_hit { (IsAtHand self.old chosen.now replacements.now → ⊥) → result ≢ Err Memory
             → hits_of self.new.kept ≡ hits_of self.old.kept }
         ensures bounded { IsBounded self.new.kept }
         ensures bound { bound_of self.new.kept ≡ bound_of self.old.kept }
     {
-        if let Some(outcome) = self.made_for(chosen, moves) {
+        if let Some(outcome) = self.made_for(chosen, replacements) {
             return copy_of(outcome)?;
         }
-        let outcome = self.kept_or_made(alloc, chosen, moves)?;
-        self.keep_made(alloc, chosen, moves, &outcome)?;
+        let outcome = self.kept_or_made(alloc, chosen, replacements)?;
+        self.keep_made(alloc, chosen, replacements, &outcome)?;
         outcome
     }
 }

@@ -7,8 +7,8 @@ ghost use Rattle.repair.specs.AtHand.{IsOf, IsKept, paths_of_key};
 ghost use Rattle.repair.specs.Keeping.{sizes};
 ghost use Rattle.repair.specs.declared.repair.Repair.{Repair as RepairValue};
 
-use crate::moves::Move;
 use crate::repair::{Repair, copy_of};
+use crate::replacements::Replacement;
 use lru::LruCache;
 use model::Refusal;
 use records::Realisation;
@@ -30,19 +30,19 @@ pub(crate) struct Kept {
     ghost bounded: { bytes ≤ most_bytes },
 }
 
-/// What came of a record whose labels move so, if this is that record.
+/// What came of a record whose labels are replaced so, if this is that record.
 pub(crate) fn outcome_in<'a>(
     kept: Option<&'a Repair>,
     chosen: &Realisation,
-    moves: &[Move],
+    replacements: &[Replacement],
 ) -> Option<&'a Result<Realisation, Refusal>>
-    ensures outcome { IfSome result (λ o. o.now ≡ repaired chosen.now moves.now) }
+    ensures outcome { IfSome result (λ o. o.now ≡ repaired chosen.now replacements.now) }
     ensures some { IfSome result (λ _. (one : RepairValue) × (option_copied kept.entry ≡ Some one)
-        × IsOf chosen.now moves.now one) }
+        × IsOf chosen.now replacements.now one) }
     ensures none { IfNone result ((one : RepairValue) → option_copied kept.entry ≡ Some one
-        → IsOf chosen.now moves.now one → ⊥) }
+        → IsOf chosen.now replacements.now one → ⊥) }
 {
-    kept?.outcome_for(chosen, moves)
+    kept?.outcome_for(chosen, replacements)
 }
 
 impl Kept {
@@ -72,27 +72,28 @@ impl Kept {
         self.hits
     }
 
-    /// A copy of what came of a record whose labels move so, if it is kept under a key. The one error is
-    /// memory.
+    /// A copy of what came of a record whose labels are replaced so, if it is kept under a key. The one error
+    /// is memory.
     pub(crate) fn copy_for(
         &mut self,
         key: &Vec<StorePath>,
         chosen: &Realisation,
-        moves: &[Move],
+        replacements: &[Replacement],
     ) -> Result<Option<Result<Realisation, Refusal>>, AllocError>
-        requires { key.now.items ≡ paths_of_key chosen.now moves.now }
-        ensures found { IfOk result (λ found. IfSome found (λ o. o ≡ repaired chosen.now moves.now)) }
+        requires { key.now.items ≡ paths_of_key chosen.now replacements.now }
+        ensures found { IfOk result (λ found. IfSome found
+            (λ o. o ≡ repaired chosen.now replacements.now)) }
         ensures some { IfOk result (λ found. IfSome found (λ _.
-            IsKept self.old.records.entries chosen.now moves.now)) }
+            IsKept self.old.records.entries chosen.now replacements.now)) }
         ensures none { IfOk result (λ found. IfNone found (
-            IsKept self.old.records.entries chosen.now moves.now → ⊥)) }
+            IsKept self.old.records.entries chosen.now replacements.now → ⊥)) }
         ensures hit { IfOk result (λ found. IfSome found (λ _.
             self.new.hits ≡ one_more self.old.hits)) }
         ensures no_hit { IfOk result (λ found. IfNone found (self.new.hits ≡ self.old.hits)) }
         ensures bound { self.new.most_bytes ≡ self.old.most_bytes }
     {
         self.records.promote(key);
-        let Some(outcome) = outcome_in(self.records.peek(key), chosen, moves) else {
+        let Some(outcome) = outcome_in(self.records.peek(key), chosen, replacements) else {
             return Ok(None);
         };
         let copy = copy_of(outcome)?;

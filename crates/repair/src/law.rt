@@ -1,14 +1,14 @@
 //! Laws of repair.
 
 ghost use Rattle.repair.specs.GoodClosures.{ClosuresAreGood};
-ghost use Rattle.repair.specs.RepairLaws.{MovedIsGone, ServedIsSound};
+ghost use Rattle.repair.specs.RepairLaws.{ReplacedIsGone, ServedIsSound};
 ghost use Rattle.repair.specs.RepairLaws.{PlansKeepNoReplaced, ClosuresKeepNoReplaced, ServedAreMade};
 
-/// A path that is replaced is gone from the tree of the record whose labels moved.
+/// A path that is replaced is gone from the tree of the record whose labels were replaced.
 ///
 /// No program calls this: it states the law, which its proof shows.
-pub fn moved_is_gone()
-    ensures { MovedIsGone }
+pub fn replaced_is_gone()
+    ensures { ReplacedIsGone }
 {}
 
 /// What serves a class has a path and a tree, where the records do.

@@ -6,8 +6,8 @@ ghost use Rattle.model.specs.declared.refusal.Refusal.TheVariants.{Memory};
 ghost use Rattle.repair.specs.AtHand.{IsMade, KeepsOthers};
 
 use crate::kept::outcome_in;
-use crate::moves::Move;
 use crate::repair::Repair;
+use crate::replacements::Replacement;
 use indexmap::IndexMap;
 use model::Refusal;
 use records::Realisation;
@@ -31,36 +31,42 @@ impl Made {
         }
     }
 
-    /// What came of a record whose labels move so, if it is kept.
+    /// What came of a record whose labels are replaced so, if it is kept.
     pub(crate) fn outcome_for(
         &self,
         chosen: &Realisation,
-        moves: &[Move],
+        replacements: &[Replacement],
     ) -> Option<&Result<Realisation, Refusal>>
-        ensures outcome { IfSome result (λ o. o.now ≡ repaired chosen.now moves.now) }
-        ensures some { IfSome result (λ _. IsMade self.now.repairs.entries chosen.now moves.now) }
-        ensures none { IfNone result (IsMade self.now.repairs.entries chosen.now moves.now → ⊥) }
+        ensures outcome { IfSome result (λ o. o.now ≡ repaired chosen.now replacements.now) }
+        ensures some { IfSome result
+            (λ _. IsMade self.now.repairs.entries chosen.now replacements.now) }
+        ensures none { IfNone result (IsMade self.now.repairs.entries chosen.now replacements.now
+            → ⊥) }
     {
-        outcome_in(self.repairs.get(chosen.class().path()), chosen, moves)
+        outcome_in(
+            self.repairs.get(chosen.class().path()),
+            chosen,
+            replacements,
+        )
     }
 
-    /// Keeps what came of a record whose labels moved so, in the place of what was kept for its class. The one
-    /// error is memory.
+    /// Keeps what came of a record whose labels were replaced so, in the place of what was kept for its
+    /// class. The one error is memory.
     pub(crate) fn keep(
         &mut self,
         alloc: Global,
         chosen: &Realisation,
-        moves: &[Move],
+        replacements: &[Replacement],
         outcome: &Result<Realisation, Refusal>,
     ) -> Result<(), Refusal>
-        requires { outcome.now ≡ repaired chosen.now moves.now }
-        ensures made { OnOk result (IsMade self.new.repairs.entries chosen.now moves.now) }
+        requires { outcome.now ≡ repaired chosen.now replacements.now }
+        ensures made { OnOk result (IsMade self.new.repairs.entries chosen.now replacements.now) }
         ensures others { KeepsOthers chosen.now.class.path
             self.old.repairs.entries self.new.repairs.entries }
         ensures memory { IfErr result (λ why. why ≡ Memory) }
     {
         let class = chosen.class().path().clone()?;
-        let one = Repair::new(alloc, chosen, moves, outcome)?;
+        let one = Repair::new(alloc, chosen, replacements, outcome)?;
         let _before = self.repairs.insert(class, one)?;
         Ok(())
     }

@@ -9,8 +9,8 @@ ghost use Rattle.std.proofs.Props.{props};
 ghost use Rattle.model.specs.TreeCode.{tree_code};
 ghost use Rattle.records.specs.Codes.{record_code};
 
-use crate::moves::Move;
-use crate::moving::repaired;
+use crate::relabelling::repaired;
+use crate::replacements::Replacement;
 use classes::Class;
 use model::Refusal;
 use nar::Tree;
@@ -38,8 +38,8 @@ fn same_class_of(one: Option<&Class>, other: Option<&Class>) -> bool
     }
 }
 
-/// Whether two labels move alike.
-fn same_move(one: &Move, other: &Move) -> bool
+/// Whether two labels are replaced alike.
+fn same_replacement(one: &Replacement, other: &Replacement) -> bool
     ensures same { result ≡ true → one.now ≡ other.now }
     ensures told { one.now ≡ other.now → result ≡ true }
 {
@@ -48,8 +48,8 @@ fn same_move(one: &Move, other: &Move) -> bool
         && same_class_of(one.label().class(), other.label().class())
 }
 
-/// Whether labels move alike.
-fn same_moves(one: &[Move], other: &[Move]) -> bool
+/// Whether labels are replaced alike.
+fn same_replacements(one: &[Replacement], other: &[Replacement]) -> bool
     ensures same { result ≡ true → one.now ≡ other.now }
     ensures told { one.now ≡ other.now → result ≡ true }
 {
@@ -57,22 +57,22 @@ fn same_moves(one: &[Move], other: &[Move]) -> bool
         return false;
     }
     for i in 0..one.len() {
-        if !same_move(&one[i], &other[i]) {
+        if !same_replacement(&one[i], &other[i]) {
             return false;
         }
     }
     true
 }
 
-/// What a record of a class, at a path, with a tree, was repaired to, whose labels moved so.
+/// What a record of a class, at a path, with a tree, was repaired to, whose labels were replaced so.
 #[derive(Drop)]
 pub(crate) struct Repair {
     class: Class,
     path: StorePath,
     tree: Tree,
-    moves: Vec<Move>,
+    replacements: Vec<Replacement>,
     outcome: Result<Realisation, Refusal>,
-    ghost is: { outcome ≡ repaired_of class path tree moves.items } by { Prim.hlevel (props, codes, tree_code, record_code) },
+    ghost is: { outcome ≡ repaired_of class path tree replacements.items } by { Prim.hlevel (props, codes, tree_code, record_code) },
 }
 
 /// How many bytes a repaired record counts for itself, and for each of its labels: their paths, and its key.
@@ -100,16 +100,16 @@ fn made_len(outcome: &Result<Realisation, Refusal>) -> usize
     }
 }
 
-/// What comes of a record whose labels move. The one error is memory.
+/// What comes of a record whose labels are replaced. The one error is memory.
 pub(crate) fn tried(
     alloc: Global,
     chosen: &Realisation,
-    moves: &[Move],
+    replacements: &[Replacement],
 ) -> Result<Result<Realisation, Refusal>, Refusal>
-    ensures outcome { IfOk result (λ outcome. outcome ≡ repaired chosen.now moves.now) }
+    ensures outcome { IfOk result (λ outcome. outcome ≡ repaired chosen.now replacements.now) }
     ensures memory { IfErr result (λ why. why ≡ Memory) }
 {
-    match repaired(alloc, chosen, moves) {
+    match repaired(alloc, chosen, replacements) {
         Ok(made) => Ok(Ok(made)),
         Err(Refusal::Memory) => Err(Refusal::Memory),
         Err(why) => Ok(Err(why)),
@@ -120,36 +120,36 @@ impl Repair {
     ghost use Rattle.repair.specs.Keeping.{size_of};
     ghost use Rattle.repair.specs.AtHand.{IsOf};
 
-    /// What came of a record whose labels move so, with that record. The one error is memory.
+    /// What came of a record whose labels are replaced so, with that record. The one error is memory.
     pub(crate) fn new(
         alloc: Global,
         chosen: &Realisation,
-        moves: &[Move],
+        replacements: &[Replacement],
         outcome: &Result<Realisation, Refusal>,
     ) -> Result<Repair, AllocError>
-        requires { outcome.now ≡ repaired chosen.now moves.now }
-        ensures { IfOk result (IsOf chosen.now moves.now) }
+        requires { outcome.now ≡ repaired chosen.now replacements.now }
+        ensures { IfOk result (IsOf chosen.now replacements.now) }
     {
         let class = chosen.class().clone()?;
         let path = chosen.path().clone()?;
         let tree = chosen.tree().clone()?;
-        let moves = moves.to_vec(alloc)?;
+        let replacements = replacements.to_vec(alloc)?;
         let outcome = copy_of(outcome)?;
         Ok(Repair {
             class,
             path,
             tree,
-            moves,
+            replacements,
             outcome,
         })
     }
 
-    /// How many bytes it counts: the archives of the tree that it was made of and of the one that came of it, and
-    /// 1,024 bytes for itself and for each label. At the greatest number it stays there.
+    /// How many bytes it counts: the archives of the tree that it was made of and of the one that came of it,
+    /// and 1,024 bytes for itself and for each label. At the greatest number it stays there.
     pub(crate) fn size(&self) -> u64
         ensures { result ≡ min (size_of self.now) 18446744073709551615 }
     {
-        let labels = (self.moves.len() as u64)
+        let labels = (self.replacements.len() as u64)
             .saturating_add(1)
             .saturating_mul(BYTES_OF_LABEL);
         (self.tree.nar_len() as u64)
@@ -157,31 +157,31 @@ impl Repair {
             .saturating_add(labels)
     }
 
-    /// Whether it is that of this record, whose labels move so. Its own labels make no difference.
-    fn is_of(&self, chosen: &Realisation, moves: &[Move]) -> bool
+    /// Whether it is that of this record, whose labels are replaced so. Its own labels make no difference.
+    fn is_of(&self, chosen: &Realisation, replacements: &[Replacement]) -> bool
         ensures path { result ≡ true → self.now.path ≡ chosen.now.path }
-        ensures moves { result ≡ true → self.now.moves.items ≡ moves.now }
+        ensures replacements { result ≡ true → self.now.replacements.items ≡ replacements.now }
         ensures class { result ≡ true → self.now.class ≡ chosen.now.class }
         ensures tree { result ≡ true → self.now.tree ≡ chosen.now.tree }
-        ensures told { IsOf chosen.now moves.now self.now → result ≡ true }
+        ensures told { IsOf chosen.now replacements.now self.now → result ≡ true }
     {
         self.path.bytes() == chosen.path().bytes()
-            && same_moves(&self.moves, moves)
+            && same_replacements(&self.replacements, replacements)
             && same_class(&self.class, chosen.class())
             && self.tree.same(chosen.tree())
     }
 
-    /// What came of it, if it is that of this record, whose labels move so.
+    /// What came of it, if it is that of this record, whose labels are replaced so.
     pub(crate) fn outcome_for(
         &self,
         chosen: &Realisation,
-        moves: &[Move],
+        replacements: &[Replacement],
     ) -> Option<&Result<Realisation, Refusal>>
-        ensures outcome { IfSome result (λ o. o.now ≡ repaired chosen.now moves.now) }
-        ensures some { IfSome result (λ _. IsOf chosen.now moves.now self.now) }
-        ensures none { IfNone result (IsOf chosen.now moves.now self.now → ⊥) }
+        ensures outcome { IfSome result (λ o. o.now ≡ repaired chosen.now replacements.now) }
+        ensures some { IfSome result (λ _. IsOf chosen.now replacements.now self.now) }
+        ensures none { IfNone result (IsOf chosen.now replacements.now self.now → ⊥) }
     {
-        if self.is_of(chosen, moves) {
+        if self.is_of(chosen, replacements) {
             Some(&self.outcome)
         } else {
             None

@@ -13,7 +13,7 @@ ghost use Rattle.records.specs.Sound.{IsSoundPlan};
 
 use crate::cache::Cache;
 use crate::entries::entries_with;
-use crate::moving::serve;
+use crate::relabelling::serve;
 use choose::Plan;
 use indexmap::IndexMap;
 use model::Refusal;
@@ -76,8 +76,8 @@ fn serve_all(
 ///   stand where none was put, or its own path is to stand in the place of another.
 /// - `Memory` only where memory was refused; it may stand in the place of each answer.
 ///
-/// A cache for one step has what came of each record that is repaired then. Where it had all that before, none is
-/// repaired.
+/// A cache for one step has what came of each record that is repaired then. Where it had all that before,
+/// none is repaired.
 pub fn served_closure_with(
     alloc: Global,
     plan: &Plan,

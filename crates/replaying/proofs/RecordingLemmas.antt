@@ -11,14 +11,14 @@ use Rattle.model.specs.Events.{Event as ModelEvent}
 use Rattle.model.specs.Replies as replies
 use Rattle.model.specs.Replies.{Reply}
 use Rattle.model.specs.Lines.{lines_of}
-use Rattle.model.specs.Talk.{LineRow, Silent, Names, Refuses, Asks, Waits, Seen, fresh, form_of, seen_after, after_all, Gets, GetsNext, Talks, users_in}
+use Rattle.model.specs.Talk.{LineRow, Silent, Names, Refuses, Asks, Waits, Seen, fresh, parsed_of, seen_after, after_all, Gets, GetsNext, Talks, users_in}
 use Rattle.events.specs.declared.event.Event.{Event}
 use Rattle.events.specs.Terms.{event_of}
 use Rattle.session.specs.Serving.{Link, Chain, IsHeld}
 use Rattle.session.specs.Heads.{Idle, IsNamedBy}
 use Rattle.session.specs.Taking.{IsFirstLine}
 use Rattle.session.proofs.RowLemmas.{talks-more, after_all-more, chain-more, length-after_all}
-use Rattle.session.proofs.LineLemmas.{form_of-held}
+use Rattle.session.proofs.LineLemmas.{parsed_of-held}
 use Rattle.session.proofs.AheadLemmas.{users_in-more}
 use Rattle.session.proofs.EarlyLemmas.{quiet}
 use Rattle.session.proofs.HeadLemmas.{alone-chain}
@@ -128,7 +128,7 @@ names_in goals reading.Waits seen row (Some users) n e b = absurd n
 
 -- what is held of a line gets the line's row
 pub gets_held : (seen : Seen) (full held : List ℕ) (row : LineRow) → IsHeld full held → GetsNext seen held row → GetsNext seen full row
-gets_held seen full held row is g = subst (λ f. Gets seen.goals f row) (ap (form_of seen) is ∙ form_of-held seen full) g
+gets_held seen full held row is g = subst (λ f. Gets seen.goals f row) (ap (parsed_of seen) is ∙ parsed_of-held seen full) g
 
 -- the number of one line more, where a test of its row says so
 numbered : (test : LineRow → Bool) (rows : List LineRow) (row : LineRow) (seen' : Seen) (so : Bool) → seen' ≡ after_all (fresh Service) (rows ++ row ∷ [])

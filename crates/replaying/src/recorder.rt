@@ -7,7 +7,7 @@ use crate::one_pass::OnePass;
 use book::FrontId;
 use model::Refusal;
 use schedule::{Event, Reply};
-use session::{Answer, Job};
+use session::{Answer, GoalId};
 use std::alloc::{AllocError, Global};
 use std::sync::Wait;
 
@@ -51,7 +51,7 @@ impl<J: FrontId, R: Wait> Answer for Recorder<'_, J, R> {
         }
     }
 
-    fn wait(&mut self, _alloc: Global, _goals: &[Job]) -> Reply {
+    fn wait(&mut self, _alloc: Global, _goals: &[GoalId]) -> Reply {
         Reply::Ok
     }
 }

@@ -4,11 +4,11 @@ use Rattle.std.specs.Prelude.{◌==◌, Option, Some, None, if◌then◌else◌,
 use Rattle.std.specs.Io.KnownBytes.{Consumes}
 use Rattle.std.proofs.lemmas.List.{append-nil}
 use Rattle.model.specs.declared.mode.Mode.TheVariants.{Run}
-use Rattle.model.specs.Worlds.{Job}
+use Rattle.model.specs.Worlds.{Job as GoalId}
 use Rattle.model.specs.Lines.{split, cut_at, lines_of, onto_first}
-use Rattle.model.specs.Forms.{Form}
-use Rattle.model.specs.Forms as form
-use Rattle.model.specs.Talk.{Seen, LineRow, Silent, Names, Refuses, Asks, Waits, Gets, GetsNext, Talks, seen_after, after_all, fresh, form_of, users_in}
+use Rattle.model.specs.ParsedLines.{ParsedLine}
+use Rattle.model.specs.ParsedLines as parsed
+use Rattle.model.specs.Talk.{Seen, LineRow, Silent, Names, Refuses, Asks, Waits, Gets, GetsNext, Talks, seen_after, after_all, fresh, parsed_of, users_in}
 use Rattle.model.specs.Talk.{answer_text, reply_text, row_text}
 use Rattle.model.specs.Replies as replies
 use Rattle.model.specs.Replies.{Reply, Refused}
@@ -74,37 +74,37 @@ last_names seen next rest row cut gets same going begun =
 
 -- ---- lines of which none does
 
-module _ (goals : List Job) where
+module _ (goals : List GoalId) where
   -- a line that may get nothing gets nothing else
-  silent_only : (f : Form) (row : LineRow) → Gets goals f Silent → Gets goals f row → row ≡ Silent
-  silent_only form.Silent Silent s g = refl
-  silent_only form.Silent (Names users) s g = absurd g
-  silent_only form.Silent (Refuses why) s g = absurd g
-  silent_only form.Silent (Asks event reply) s g = absurd g
-  silent_only form.Silent (Waits awaited reply) s g = absurd g
-  silent_only (form.Names users) row s g = absurd s
-  silent_only (form.Refuses why) row s g = absurd s
-  silent_only (form.Asks user command) row s g = absurd s
-  silent_only form.Waits row s g = absurd s
+  silent_only : (f : ParsedLine) (row : LineRow) → Gets goals f Silent → Gets goals f row → row ≡ Silent
+  silent_only parsed.Silent Silent s g = refl
+  silent_only parsed.Silent (Names users) s g = absurd g
+  silent_only parsed.Silent (Refuses why) s g = absurd g
+  silent_only parsed.Silent (Asks event reply) s g = absurd g
+  silent_only parsed.Silent (Waits awaited reply) s g = absurd g
+  silent_only (parsed.Names users) row s g = absurd s
+  silent_only (parsed.Refuses why) row s g = absurd s
+  silent_only (parsed.Asks user command) row s g = absurd s
+  silent_only parsed.Waits row s g = absurd s
 
   -- one that may name users names users
-  names_only : (f : Form) (users : List (List ℕ)) (row : LineRow) → Gets goals f (Names users) → Gets goals f row
+  names_only : (f : ParsedLine) (users : List (List ℕ)) (row : LineRow) → Gets goals f (Names users) → Gets goals f row
       → (named : List (List ℕ)) × (row ≡ Names named)
-  names_only (form.Names named) users (Names others) n g = (others, refl)
-  names_only (form.Names named) users Silent n g = absurd g
-  names_only (form.Names named) users (Refuses why) n g = absurd g
-  names_only (form.Names named) users (Asks event reply) n g = absurd g
-  names_only (form.Names named) users (Waits awaited reply) n g = absurd g
-  names_only form.Silent users row n g = absurd n
-  names_only (form.Refuses why) users row n g = absurd n
-  names_only (form.Asks user command) users row n g = absurd n
-  names_only form.Waits users row n g = absurd n
+  names_only (parsed.Names named) users (Names others) n g = (others, refl)
+  names_only (parsed.Names named) users Silent n g = absurd g
+  names_only (parsed.Names named) users (Refuses why) n g = absurd g
+  names_only (parsed.Names named) users (Asks event reply) n g = absurd g
+  names_only (parsed.Names named) users (Waits awaited reply) n g = absurd g
+  names_only parsed.Silent users row n g = absurd n
+  names_only (parsed.Refuses why) users row n g = absurd n
+  names_only (parsed.Asks user command) users row n g = absurd n
+  names_only parsed.Waits users row n g = absurd n
 
 -- where the first line that gets a reply names users, and this is the row of the first line: that names them, or gets nothing
 first_row : (seen : Seen) (line : List ℕ) (lines : List (List ℕ)) (row : LineRow) → GetsNext seen line row → FirstNames seen (line ∷ lines)
     → ((users : List (List ℕ)) × (row ≡ Names users)) ⊎ ((row ≡ Silent) × FirstNames (seen_after seen Silent) lines)
-first_row seen line lines row g (inl names) = inl (names_only seen.goals (form_of seen line) names.0 row names.1 g)
-first_row seen line lines row g (inr silent) = inr (silent_only seen.goals (form_of seen line) row silent.0 g, silent.1)
+first_row seen line lines row g (inl names) = inl (names_only seen.goals (parsed_of seen line) names.0 row names.1 g)
+first_row seen line lines row g (inr silent) = inr (silent_only seen.goals (parsed_of seen line) row silent.0 g, silent.1)
 
 -- a line that got no reply stands before it
 pub still_first : (seen next : Seen) (rest line behind : List ℕ) (n : ℕ) (row : LineRow) (text : List ℕ) → cut_at 10 rest ≡ Some (line, behind)
@@ -266,7 +266,7 @@ first_part seen (part ∷ front) last others (line ∷ done) rest (row ∷ rows)
       | inl names ↦ inl names
       | inr silent ↦
           let s : row ≡ Silent =
-          silent_only seen.goals (form_of seen part) row silent.0 (subst (λ x. GetsNext seen x row) here t.1) in
+          silent_only seen.goals (parsed_of seen part) row silent.0 (subst (λ x. GetsNext seen x row) here t.1) in
           inr (
             silent.0,
             first_part (seen_after seen Silent) front last others done rest rows users tail

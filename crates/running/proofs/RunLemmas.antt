@@ -4,7 +4,7 @@ use Rattle.std.specs.Prelude.{◌||◌, map, All, MatchResult}
 use Rattle.std.proofs.lemmas.List.Elements.{All-head, All-tail}
 use Rattle.model.specs.declared.refusal.Refusal.{Refusal}
 use Rattle.model.specs.declared.refusal.Refusal.TheVariants as why
-use Rattle.model.specs.Worlds.{Setup, Job}
+use Rattle.model.specs.Worlds.{Setup, Job as GoalId}
 use Rattle.model.specs.Replies as replies
 use Rattle.model.specs.Goals.{Running}
 use Rattle.model.specs.Replies.{is_refusal, is_memory_refusal, is_stopped_refusal}
@@ -137,10 +137,10 @@ module _ (setup : Setup) where
   quiet_more a b c first next = (next.0 ∙ first.0, λ is. first.1 (next.1 is))
 
   -- a status is read
-  status_read : (goals : List Job) (event : Event) → IsStatusOf goals event → is_read event ≡ true
+  status_read : (goals : List GoalId) (event : Event) → IsStatusOf goals event → is_read event ≡ true
   status_read goals event is = ap is_read is.4
 
-  statuses_stop : (goals : List Job) (calls : List Call) (old new : PassKnowledge) → AsksStatus goals calls → CallChain old calls new → stops_by new ≡ stops_by old
+  statuses_stop : (goals : List GoalId) (calls : List Call) (old new : PassKnowledge) → AsksStatus goals calls → CallChain old calls new → stops_by new ≡ stops_by old
   statuses_stop goals [] old new asks chain = chain.stops
   statuses_stop goals (c ∷ cs) old new asks chain =
       statuses_stop goals cs chain.1 new asks.1 chain.4

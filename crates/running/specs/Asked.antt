@@ -1,7 +1,7 @@
 -- Whether workers went on with goals that their files had asked for.
 use Rattle.std.specs.Prelude.{ℕ, ◌==◌, nat_lt, Bool, true, false, ◌&&◌, if◌then◌else◌, List, [], ◌∷◌, Option, Some, None}
 use Rattle.std.specs.List.{list_any, find}
-use Rattle.model.specs.Worlds.{Job as Goal}
+use Rattle.model.specs.Worlds.{Job as GoalId}
 use Rattle.model.specs.Goals.{same_job}
 use Rattle.model.specs.Events as events
 use Rattle.model.specs.Replies as replies
@@ -12,7 +12,7 @@ use Rattle.history.specs.declared.row.Row.{Row}
 
 -- for each goal that was given so far, by its user and its number, the pass of the session that it was given to
 abbrev pub Given : Type 0
-Given = Goal → Option ℕ
+Given = GoalId → Option ℕ
 
 -- none was
 abbrev pub none_given : Given
@@ -24,7 +24,7 @@ number_given (events.Build derivation) (replies.Goal number) = Some number
 number_given request reply = None
 
 -- the goal of a number, of the user who asks in a row
-abbrev pub goal_in : Row → ℕ → Goal
+abbrev pub goal_in : Row → ℕ → GoalId
 goal_in row number = record { leader = row.event.actor; number = number }
 
 -- the goal of that number, if there is one, was given to the pass of a row

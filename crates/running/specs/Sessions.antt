@@ -4,7 +4,7 @@ use Rattle.std.specs.Io.KnownBytes.{Consumes, IsAtEnd}
 use Rattle.model.specs.declared.mode.Mode.TheVariants.{Run}
 use Rattle.model.specs.declared.refusal.Refusal.{Refusal}
 use Rattle.model.specs.declared.refusal.Refusal.TheVariants.{Memory, Stopped, Quota, BadUsers, InputFault, OutputFault}
-use Rattle.model.specs.Worlds.{Job}
+use Rattle.model.specs.Worlds.{Job as GoalId}
 use Rattle.model.specs.Events as model
 use Rattle.model.specs.Replies as replies
 use Rattle.model.specs.Lines.{lines_of}
@@ -39,17 +39,17 @@ abbrev pub EndsBy : Refusal → Type 0
 EndsBy why = (why ≡ InputFault) ⊎ (why ≡ BadUsers) ⊎ (why ≡ Memory)
 
 -- a ticket for a goal, which is named as the job that it would lead
-abbrev pub ticket_for : Job → Ticket
+abbrev pub ticket_for : GoalId → Ticket
 ticket_for goal = Goal goal.leader goal.number
 
 -- an event asks how far one of these goals is, each named as the job that it would lead
-abbrev pub IsStatusOf : List Job → Event → Type 0
+abbrev pub IsStatusOf : List GoalId → Event → Type 0
 IsStatusOf goals event =
-    (before : List Job) × (goal : Job) × (after : List Job)
+    (before : List GoalId) × (goal : GoalId) × (after : List GoalId)
     × (goals ≡ before ++ goal ∷ after) × (event ≡ asking goal.leader (Status goal.number))
 
 -- each of these calls does
-abbrev pub AsksStatus : List Job → List Call → Type 0
+abbrev pub AsksStatus : List GoalId → List Call → Type 0
 AsksStatus goals [] = Unit {0}
 AsksStatus goals (c ∷ cs) = IsStatusOf goals c.0 × AsksStatus goals cs
 
@@ -74,7 +74,7 @@ module _ {S : Type 0} (called : S → Event → Reply → S → Type 0) (met : S
 module _ {S : Type 0} (called : S → Event → Reply → S → Type 0) (met : S → S → Type 0) (stopped : S → Bool) where
   -- in a wait for goals a session asks how far they are and meets others, and nothing else; it is told 92 only where its store was told,
   -- and 90 where a round was answered so
-  abbrev pub Waits : S × Bool → List Job → replies.Reply → S × Bool → Type 0
+  abbrev pub Waits : S × Bool → List GoalId → replies.Reply → S × Bool → Type 0
   Waits old goals reply new =
       (calls : List Call) × AsksStatus goals calls × Calls called met old.0 calls new.0 × (reply ≡ replies.Refused Stopped → stopped new.0 ≡ true)
       × (new.1 ≡ true → (old.1 ≡ true) ⊎ (reply ≡ replies.Refused Memory))

@@ -8,14 +8,14 @@ ghost use Rattle.events.specs.Terms.{request_of, reply_of};
 ghost use Rattle.running.specs.Asked.{number_given, number_worked_on, session_of, with_row, is_asked, are_asked};
 
 use book::Row;
-use events::{Job, Reply, Request};
+use events::{GoalId, Reply, Request};
 use indexmap::IndexMap;
 use std::alloc::{AllocError, Global};
 use std::sync::Arc;
 
 /// For each goal that was given so far, named as the job that it would lead, the pass of the session that it
 /// was given to.
-type Given = IndexMap<Job, u64>;
+type Given = IndexMap<GoalId, u64>;
 
 /// The number of the goal that a reply gives to who asked for one to be built, if it does.
 fn number_given(request: &Request, reply: &Reply) -> Option<u16>
@@ -58,7 +58,7 @@ fn note(given: &mut Given, row: &Row) -> Result<(), AllocError>
     ensures { OnOk result (get same_job given.new ≡ with_row row.now (get same_job given.old)) }
 {
     if let Some(number) = number_given(&row.event.request, &row.reply) {
-        let goal = Job::new(row.event.actor.clone()?, number);
+        let goal = GoalId::new(row.event.actor.clone()?, number);
         let _before = given.insert(goal, row.pass)?;
     }
     Ok(())
@@ -71,7 +71,7 @@ fn is_asked(sessions: &[u64], given: &Given, row: &Row) -> Result<bool, AllocErr
     let Some(number) = number_worked_on(&row.event.request) else {
         return Ok(false);
     };
-    let goal = Job::new(row.event.actor.clone()?, number);
+    let goal = GoalId::new(row.event.actor.clone()?, number);
     match (given.get(&goal), session_of(sessions, row.pass)) {
         (Some(pass), Some(session)) => Ok(*pass == session),
         _ => Ok(false),

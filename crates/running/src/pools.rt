@@ -11,7 +11,7 @@ use crate::teams::{Team, build_once};
 use builder::{Runner, Ticket};
 use crossbeam_channel::{Receiver, Sender, bounded};
 use model::Refusal;
-use session::Job;
+use session::GoalId;
 use std::alloc::{AllocError, Global};
 use std::mem;
 use std::sync::Wait;
@@ -20,7 +20,7 @@ use std::thread::{Scope, Threads};
 /// Goals that are to be built in one round, and who builds them.
 #[derive(Drop)]
 struct Order<S: Meet + Drop, Q: Runner + Drop> {
-    goals: Vec<Job>,
+    goals: Vec<GoalId>,
     team: Team<S, Q>,
 }
 
@@ -93,7 +93,7 @@ impl<'a, S: Meet + Drop, Q: Runner + Drop> WorkerPool<'a, S, Q> {
         &mut self,
         rt: &R,
         alloc: Global,
-        goals: Vec<Job>,
+        goals: Vec<GoalId>,
     ) -> Result<(), Refusal>
         ensures why { IfErr result GivesUp }
         ensures told { HasTold self.old.team self.new.team result }
@@ -114,7 +114,7 @@ impl<'a, S: Meet + Drop, Q: Runner + Drop> WorkerPool<'a, S, Q> {
         &mut self,
         rt: &R,
         alloc: Global,
-        goals: Vec<Job>,
+        goals: Vec<GoalId>,
     ) -> Result<(), Refusal>
         ensures why { IfErr result GivesUp }
         ensures told { HasTold self.old.team self.new.team result }
@@ -152,7 +152,7 @@ impl<'a, S: Meet + Drop, Q: Runner + Drop> WorkerPool<'a, S, Q> {
 }
 
 /// A ticket for each of these goals.
-fn tickets_for(alloc: Global, goals: &[Job]) -> Result<Vec<Ticket>, AllocError>
+fn tickets_for(alloc: Global, goals: &[GoalId]) -> Result<Vec<Ticket>, AllocError>
     ensures { IfOk result (λ tickets. tickets.items ≡ map ticket_for goals.now) }
 {
     let mut tickets = Vec::new(alloc);

@@ -2,7 +2,7 @@
 
 ghost use Rattle.std.specs.Prelude.{◌≡◌, ◌⊎◌, ◌∷◌, [], true, List, All, Err, IfErr};
 ghost use Rattle.model.specs.declared.refusal.Refusal.TheVariants.{Memory, Stopped};
-ghost use Rattle.model.specs.Worlds.{Job as Goal};
+ghost use Rattle.model.specs.Worlds.{Job as GoalId};
 ghost use Rattle.builder.specs.Working.{Call};
 ghost use Rattle.events.specs.declared.reply.Reply.TheVariants.{Refused};
 ghost use Rattle.running.specs.Sessions.{AsksStatus, Calls, GivesUp, HasTold};
@@ -12,7 +12,7 @@ use crate::pools::WorkerPool;
 use builder::Runner;
 use events::{Event, Reply, Request, Status};
 use model::Refusal;
-use session::{Answer, Job};
+use session::{Answer, GoalId};
 use std::alloc::Global;
 use std::marker::Model;
 use std::sync::Wait;
@@ -69,7 +69,7 @@ fn progress_in(reply: &Reply) -> Progress {
 }
 
 /// Asks a store how far a goal is.
-fn ask<S: Meet>(alloc: Global, store: &mut S, goal: &Job) -> Result<Progress, Refusal>
+fn ask<S: Meet>(alloc: Global, store: &mut S, goal: &GoalId) -> Result<Progress, Refusal>
     ensures calls { (calls : List Call) × AsksStatus (goal.now ∷ []) calls
         × Calls S.called S.met store.old calls store.new }
     ensures why { IfErr result GivesUp }
@@ -88,13 +88,13 @@ fn ask<S: Meet>(alloc: Global, store: &mut S, goal: &Job) -> Result<Progress, Re
 #[derive(Drop)]
 struct Left {
     /// Those that wait.
-    waiting: Vec<Job>,
+    waiting: Vec<GoalId>,
     /// How many are built in a job.
     building: usize,
 }
 
 /// What is left of some goals, as a store says.
-fn look<S: Meet>(alloc: Global, store: &mut S, goals: &[Job]) -> Result<Left, Refusal>
+fn look<S: Meet>(alloc: Global, store: &mut S, goals: &[GoalId]) -> Result<Left, Refusal>
     ensures calls { (calls : List Call) × AsksStatus goals.now calls
         × Calls S.called S.met store.old calls store.new }
     ensures why { IfErr result GivesUp }
@@ -120,7 +120,7 @@ fn build<S: Meet + Drop, Q: Runner + Drop, R: Wait>(
     alloc: Global,
     store: &mut S,
     pool: &mut WorkerPool<'_, S, Q>,
-    goals: Vec<Job>,
+    goals: Vec<GoalId>,
 ) -> Result<(), Refusal>
     ensures met { S.met store.old store.new }
     ensures knows { All (λ w. S.knows store.new w.store) pool.new.team.workers }
@@ -145,7 +145,7 @@ fn build_waiting<S: Meet + Drop, Q: Runner + Drop, R: Wait>(
     alloc: Global,
     store: &mut S,
     pool: &mut WorkerPool<'_, S, Q>,
-    goals: &[Job],
+    goals: &[GoalId],
 ) -> Result<usize, Refusal>
     ensures calls { (calls : List Call) × AsksStatus goals.now calls
         × Calls S.called S.met store.old calls store.new }
@@ -176,7 +176,7 @@ fn build_all<S: Meet + Drop, Q: Runner + Drop, R: Wait>(
     alloc: Global,
     store: &mut S,
     pool: &mut WorkerPool<'_, S, Q>,
-    goals: &[Job],
+    goals: &[GoalId],
 ) -> Result<(), Refusal>
     ensures calls { (calls : List Call) × AsksStatus goals.now calls
         × Calls S.called S.met store.old calls store.new }
@@ -210,7 +210,7 @@ impl<S: Meet + Drop, Q: Runner + Drop, R: Wait> Answer for BuildingSession<'_, S
         self.store.call(alloc, event)
     }
 
-    fn wait(&mut self, alloc: Global, goals: &[Job]) -> Reply {
+    fn wait(&mut self, alloc: Global, goals: &[GoalId]) -> Reply {
         match build_all(self.rt, alloc, &mut self.store, &mut self.pool, goals) {
             Ok(()) => Reply::Ok,
             Err(why) => Reply::Refused(why),

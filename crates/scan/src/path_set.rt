@@ -137,7 +137,7 @@ impl PathSet {
     {
         let table = match &self.shared {
             Some(table) if Arc::strong_count(table) == 1 => return Ok(()),
-            Some(table) => table.again(alloc)?,
+            Some(table) => table.copy_in(alloc)?,
             None => PathTable::new(alloc)?,
         };
         self.shared = Some(Arc::new(alloc, table)?);

@@ -210,7 +210,7 @@ impl PathTable {
     }
 
     /// A copy. The one error is memory.
-    pub(crate) fn again(&self, alloc: Global) -> Result<PathTable, Refusal>
+    pub(crate) fn copy_in(&self, alloc: Global) -> Result<PathTable, Refusal>
         ensures { MatchResult result
             (λ copy. copy ≡ self.now)
             (λ e. e ≡ Memory) }

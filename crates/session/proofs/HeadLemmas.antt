@@ -5,9 +5,9 @@ use Rattle.model.specs.declared.mode.Mode.{Mode}
 use Rattle.model.specs.declared.refusal.Refusal.{Refusal}
 use Rattle.model.specs.Events as events
 use Rattle.model.specs.Replies as replies
-use Rattle.model.specs.Worlds.{Job}
-use Rattle.model.specs.Forms.{Form}
-use Rattle.model.specs.Talk.{LineRow, Silent, Names, Refuses, Asks, Waits, Seen, fresh, form_of, Gets, GetsNext, seen_after, after_all, users_in}
+use Rattle.model.specs.Worlds.{Job as GoalId}
+use Rattle.model.specs.ParsedLines.{ParsedLine}
+use Rattle.model.specs.Talk.{LineRow, Silent, Names, Refuses, Asks, Waits, Seen, fresh, parsed_of, Gets, GetsNext, seen_after, after_all, users_in}
 use Rattle.std.specs.Global.{Vec}
 use Rattle.lines.specs.declared.line.Reading.{Reading}
 use Rattle.lines.specs.declared.line.Reading.TheVariants as reading
@@ -75,28 +75,28 @@ names-line {mode} blank written input seen held users b p g more =
     (found-line input seen held (Names users) (Some users) more (searched-of blank written input seen held b p) g refl (λ e. cc))
 
 -- whether users are named by a row, by what its line comes to
-row-begins : (goals : List Job) (r : Reading) (seen : Seen) (row : LineRow) → IsNamedBy r None → IsRowOf goals r row → seen.begun ≡ false → (seen_after seen row).begun ≡ false
+row-begins : (goals : List GoalId) (r : Reading) (seen : Seen) (row : LineRow) → IsNamedBy r None → IsRowOf goals r row → seen.begun ≡ false → (seen_after seen row).begun ≡ false
 row-begins goals reading.Silent seen row n e b = rw e b
 row-begins goals (reading.Names users) seen row n e b = absurd n
 row-begins goals (reading.Refuses why) seen row n e b = rw e b
 row-begins goals (reading.Asks event) seen row n e b = rw e.1 b
 row-begins goals reading.Waits seen row n e b = rw e.2 b
 
-row-names : (goals : List Job) (form : Form) (r : Reading) (users : Vec (List ℕ)) → IsNamedBy r (Some users) → Becomes form r → Gets goals form (Names users.items)
-row-names goals form reading.Silent users n b = absurd n
-row-names goals form (reading.Names named) users n b = rw n (b goals)
-row-names goals form (reading.Refuses why) users n b = absurd n
-row-names goals form (reading.Asks event) users n b = absurd n
-row-names goals form reading.Waits users n b = absurd n
+row-names : (goals : List GoalId) (parsed : ParsedLine) (r : Reading) (users : Vec (List ℕ)) → IsNamedBy r (Some users) → Becomes parsed r → Gets goals parsed (Names users.items)
+row-names goals parsed reading.Silent users n b = absurd n
+row-names goals parsed (reading.Names named) users n b = rw n (b goals)
+row-names goals parsed (reading.Refuses why) users n b = absurd n
+row-names goals parsed (reading.Asks event) users n b = absurd n
+row-names goals parsed reading.Waits users n b = absurd n
 
 -- the line that is held was answered
 pub head-line : (seen seen' : Seen) (held line : List ℕ) (written written' : Option (List ℕ)) (r : Reading) (users : Option (Vec (List ℕ))) → seen.begun ≡ false
-    → line ≡ held → Becomes (form_of seen line) r → IsNamedBy r users → (row : LineRow) → IsRowOf seen.goals r row → seen' ≡ seen_after seen row
+    → line ≡ held → Becomes (parsed_of seen line) r → IsNamedBy r users → (row : LineRow) → IsRowOf seen.goals r row → seen' ≡ seen_after seen row
     → GoesIdle written written' seen seen' held [] (10 ∷ []) → IsHeadLine written written' seen seen' held users
 head-line seen seen' held line written written' r None b same is named row of next goes =
     (ap (λ (s : Seen). s.begun) next ∙ row-begins seen.goals r seen row named of b, goes)
 head-line seen seen' held line written written' r (Some users) b same is named row of next goes =
-    (subst (λ t. GetsNext seen t (Names users.items)) same (row-names seen.goals (form_of seen line) r users named is), goes)
+    (subst (λ t. GetsNext seen t (Names users.items)) same (row-names seen.goals (parsed_of seen line) r users named is), goes)
 
 pub head-goes : (written written' : Option (List ℕ)) (seen seen' : Seen) (held : List ℕ) (users : Option (Vec (List ℕ))) → IsHeadLine written written' seen seen' held users
     → GoesIdle written written' seen seen' held [] (10 ∷ [])
@@ -157,7 +157,7 @@ module _ (written between : Option (List ℕ)) (seen half : Seen) (held part fro
 
 -- ---- what asks nobody leaves everybody alone
 
-module _ {A : Type 0} (R : A → events.Event → replies.Reply → A → Type 0) (W : A → List Job → replies.Reply → A → Type 0) (one : A) where
+module _ {A : Type 0} (R : A → events.Event → replies.Reply → A → Type 0) (W : A → List GoalId → replies.Reply → A → Type 0) (one : A) where
   alone : (row : LineRow) → Idle tt row tt → Link R W one row one
   alone Silent h = refl
   alone (Names users) h = refl

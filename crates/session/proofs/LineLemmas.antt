@@ -3,11 +3,11 @@ use Rattle.std.proofs.Common.{◌≡◌, ℕ, zero, suc, ◌+◌, ◌-◌, ◌<�
 use Rattle.std.proofs.lemmas.List.{take_all}
 use Rattle.model.specs.Lines.{lines_of, onto_first}
 use Rattle.session.specs.Serving.{HasNoNewline}
-use Rattle.model.specs.Talk.{Seen, form_of}
+use Rattle.model.specs.Talk.{Seen, parsed_of}
 use Rattle.std.proofs.Common.{inl, inr, add-one}
 use Rattle.std.proofs.lemmas.Bool.{cases_lt, lt-ltb}
 use Rattle.model.specs.declared.refusal.Refusal.TheVariants.{TooLarge}
-use Rattle.model.specs.Forms.{longest_line, Refuses}
+use Rattle.model.specs.ParsedLines.{longest_line, Refuses}
 
 -- a newline ends a line
 pub lines-newline : (p more : List ℕ) → HasNoNewline p → lines_of (p ++ 10 ∷ more) ≡ p ∷ lines_of more
@@ -39,14 +39,14 @@ held-more n p b held e =
     let small : length held ≤ n = omega (arith, ap length e, length-take n p) in
     sym (take_append n held b small) ∙ rw e (take_cut n p b)
 
-form_of-long : (seen : Seen) (p : List ℕ) → longest_line < length p → form_of seen p ≡ Refuses TooLarge
-form_of-long seen p h = rw (lt-ltb longest_line (length p) h) refl
+parsed_of-long : (seen : Seen) (p : List ℕ) → longest_line < length p → parsed_of seen p ≡ Refuses TooLarge
+parsed_of-long seen p h = rw (lt-ltb longest_line (length p) h) refl
 
 -- what is held of a line reads as the line does
-pub form_of-held : (seen : Seen) (p : List ℕ) → form_of seen (take (longest_line + 1) p) ≡ form_of seen p
-form_of-held seen p = elim (cases_lt longest_line (length p)) [
-  | inl h ↦ form_of-long seen (take (longest_line + 1) p) (omega (arith, length-take (longest_line + 1) p)) ∙ sym (form_of-long seen p h)
-  | inr h ↦ ap (form_of seen) (take_all (longest_line + 1) p (omega arith))
+pub parsed_of-held : (seen : Seen) (p : List ℕ) → parsed_of seen (take (longest_line + 1) p) ≡ parsed_of seen p
+parsed_of-held seen p = elim (cases_lt longest_line (length p)) [
+  | inl h ↦ parsed_of-long seen (take (longest_line + 1) p) (omega (arith, length-take (longest_line + 1) p)) ∙ sym (parsed_of-long seen p h)
+  | inr h ↦ ap (parsed_of seen) (take_all (longest_line + 1) p (omega arith))
 ]
 
 nothing_taken : (n : ℕ) (p : List ℕ) → [] ≡ take (suc n) p → p ≡ []

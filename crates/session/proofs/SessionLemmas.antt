@@ -5,11 +5,11 @@ use Rattle.model.specs.declared.mode.Mode.{Mode}
 use Rattle.model.specs.declared.refusal.Refusal.{Refusal}
 use Rattle.model.specs.Events as events
 use Rattle.model.specs.Replies as replies
-use Rattle.model.specs.Worlds.{Job}
+use Rattle.model.specs.Worlds.{Job as GoalId}
 use Rattle.model.specs.Lines.{LineResult, nothing_told}
-use Rattle.model.specs.Forms.{Form}
+use Rattle.model.specs.ParsedLines.{ParsedLine}
 use Rattle.model.specs.Replies.{ends_wait}
-use Rattle.model.specs.Talk.{LineRow, Names, Refuses, Asks, Waits, Seen, form_of, Gets, GetsNext, answer_text, told_in, goal_by, with_asked, is_bad_users}
+use Rattle.model.specs.Talk.{LineRow, Names, Refuses, Asks, Waits, Seen, parsed_of, Gets, GetsNext, answer_text, told_in, goal_by, with_asked, is_bad_users}
 use Rattle.events.specs.declared.event.Event.{Event}
 use Rattle.events.specs.Terms.{event_of}
 use Rattle.lines.specs.declared.line.Reading.{Reading}
@@ -17,19 +17,19 @@ use Rattle.lines.specs.declared.line.Reading.TheVariants as reading
 use Rattle.lines.specs.Reading.{IsRowOf, Becomes}
 use Rattle.session.specs.Serving.{Link, Gives, GivesRow, StopsAt}
 
-abbrev pub seen_by : Mode → Bool → Bool → List LineResult → List Job → Seen
+abbrev pub seen_by : Mode → Bool → Bool → List LineResult → List GoalId → Seen
 seen_by mode begun refused told goals = record { mode = mode; begun = begun; refused = refused; told = told; goals = goals }
 
 -- what a line may be, where its row is that of what it comes to
-pub row-gets : (goals : List Job) (form : Form) (r : Reading) (row : LineRow) → Becomes form r → IsRowOf goals r row → Gets goals form row
-row-gets goals form reading.Silent row b e = rw e (b goals)
-row-gets goals form (reading.Names users) row b e = rw e (b goals)
-row-gets goals form (reading.Refuses why) row b e = rw e (b goals)
-row-gets goals form (reading.Asks event) row b e = rw e.1 (b goals e.0)
-row-gets goals form reading.Waits row b e = rw e.2 (b goals e.0 e.1)
+pub row-gets : (goals : List GoalId) (parsed : ParsedLine) (r : Reading) (row : LineRow) → Becomes parsed r → IsRowOf goals r row → Gets goals parsed row
+row-gets goals parsed reading.Silent row b e = rw e (b goals)
+row-gets goals parsed (reading.Names users) row b e = rw e (b goals)
+row-gets goals parsed (reading.Refuses why) row b e = rw e (b goals)
+row-gets goals parsed (reading.Asks event) row b e = rw e.1 (b goals e.0)
+row-gets goals parsed reading.Waits row b e = rw e.2 (b goals e.0 e.1)
 
 -- a row with neither an event nor a wait
-module _ (mode : Mode) (begun refused : Bool) (told told' : List LineResult) (goals : List Job) (n : ℕ) (one : LineResult) (e₁ : told' ≡ told ++ one ∷ [])
+module _ (mode : Mode) (begun refused : Bool) (told told' : List LineResult) (goals : List GoalId) (n : ℕ) (one : LineResult) (e₁ : told' ≡ told ++ one ∷ [])
     (e₂ : one ≡ nothing_told) (e₃ : n ≡ length told + 1) where
   pub row-named : (result : Result (Vec ℕ) Refusal) → IfOk result (λ text. text.items ≡ answer_text n (codes "-") replies.Ok)
       → IfOk result (λ text. (users : List (List ℕ))
@@ -50,10 +50,10 @@ module _ (mode : Mode) (begun refused : Bool) (told told' : List LineResult) (go
   )
   row-refused why refused' (Err _) f e₄ = tt
 
-module _ {A : Type 0} (R : A → events.Event → replies.Reply → A → Type 0) (W : A → List Job → replies.Reply → A → Type 0) where
+module _ {A : Type 0} (R : A → events.Event → replies.Reply → A → Type 0) (W : A → List GoalId → replies.Reply → A → Type 0) where
   -- the row of an event
-  pub gives-asked : (mode : Mode) (begun refused : Bool) (told told' : List LineResult) (goals goals' : List Job) (text : List ℕ) (n : ℕ) (event : Event)
-      (reply : replies.Reply) (one : LineResult) (goal : Option Job) (now next : A)
+  pub gives-asked : (mode : Mode) (begun refused : Bool) (told told' : List LineResult) (goals goals' : List GoalId) (text : List ℕ) (n : ℕ) (event : Event)
+      (reply : replies.Reply) (one : LineResult) (goal : Option GoalId) (now next : A)
       → told' ≡ told ++ one ∷ [] → one ≡ told_in reply → goals' ≡ with_asked goals goal → goal ≡ goal_by event.actor reply → n ≡ length told + 1
       → text ≡ answer_text n event.actor reply → R now (event_of event) reply next
       → Gives (IsRowOf goals (reading.Asks event)) (Link R W) (seen_by mode begun refused told goals) (seen_by mode begun refused told' goals') now next text
@@ -67,7 +67,7 @@ module _ {A : Type 0} (R : A → events.Event → replies.Reply → A → Type 0
   )
 
   -- the row of a wait
-  pub gives-waited : (mode : Mode) (begun refused : Bool) (told told' : List LineResult) (goals shown : List Job) (text : List ℕ) (n : ℕ)
+  pub gives-waited : (mode : Mode) (begun refused : Bool) (told told' : List LineResult) (goals shown : List GoalId) (text : List ℕ) (n : ℕ)
       (reply : replies.Reply) (one : LineResult) (now next : A)
       → told' ≡ told ++ one ∷ [] → one ≡ nothing_told → shown ≡ goals → n ≡ length told + 1 → ends_wait reply ≡ true
       → text ≡ answer_text n (codes "-") reply → W now shown reply next
@@ -87,26 +87,26 @@ module _ {A : Type 0} (R : A → events.Event → replies.Reply → A → Type 0
   gives-row r row seen next now (Ok text) is l h = (row, is, h.0, h.1, l)
   gives-row r row seen next now (Err why) is l h = tt
 
-  pub asked-part : (goals : List Job) (event : Event) (now next : A) → ((next ≡ now) ⊎ ((reply : replies.Reply) × R now (event_of event) reply next))
+  pub asked-part : (goals : List GoalId) (event : Event) (now next : A) → ((next ≡ now) ⊎ ((reply : replies.Reply) × R now (event_of event) reply next))
       → StopsAt (IsRowOf goals (reading.Asks event)) (Link R W) now next
   asked-part goals event now next d = elim d [
     | inl e ↦ inl e
     | inr w ↦ inr (Asks (event_of event) w.0, (w.0, refl), w.1)
   ]
 
-  pub waited-part : (goals shown : List Job) (now next : A) → shown ≡ goals
+  pub waited-part : (goals shown : List GoalId) (now next : A) → shown ≡ goals
       → ((reply : replies.Reply) × (ends_wait reply ≡ true) × W now shown reply next) → StopsAt (IsRowOf goals reading.Waits) (Link R W) now next
   waited-part goals shown now next f w = inr (Waits goals w.0, (w.0, w.1, refl), subst (λ gs. W now gs w.0 next) f w.2)
 
 module _ {A : Type 0} (L : A → LineRow → A → Type 0) where
   -- from what a line comes to, to the line
-  pub part-gets : (seen : Seen) (line : List ℕ) (r : Reading) (now next : A) → Becomes (form_of seen line) r → StopsAt (IsRowOf seen.goals r) L now next
+  pub part-gets : (seen : Seen) (line : List ℕ) (r : Reading) (now next : A) → Becomes (parsed_of seen line) r → StopsAt (IsRowOf seen.goals r) L now next
       → StopsAt (GetsNext seen line) L now next
   part-gets seen line r now next b d = elim d [
     | inl e ↦ inl e
-    | inr w ↦ inr (w.0, row-gets seen.goals (form_of seen line) r w.0 b w.1, w.2)
+    | inr w ↦ inr (w.0, row-gets seen.goals (parsed_of seen line) r w.0 b w.1, w.2)
   ]
 
   pub line-gives : (seen : Seen) (line : List ℕ) (r : Reading) (now : A) (seen' : Seen) (next : A) (text : List ℕ)
-      → Becomes (form_of seen line) r → Gives (IsRowOf seen.goals r) L seen seen' now next text → Gives (GetsNext seen line) L seen seen' now next text
-  line-gives seen line r now seen' next text b w = (w.0, row-gets seen.goals (form_of seen line) r w.0 b w.1, w.2, w.3, w.4)
+      → Becomes (parsed_of seen line) r → Gives (IsRowOf seen.goals r) L seen seen' now next text → Gives (GetsNext seen line) L seen seen' now next text
+  line-gives seen line r now seen' next text b w = (w.0, row-gets seen.goals (parsed_of seen line) r w.0 b w.1, w.2, w.3, w.4)

@@ -2,9 +2,9 @@
 use Rattle.std.proofs.Common.{◌≡◌, ℕ, false, List, [], ◌∷◌, ◌++◌, refl, sym, ap, ◌∙◌, subst, append_assoc}
 use Rattle.model.specs.declared.mode.Mode.{Mode}
 use Rattle.model.specs.Lines.{lines_of}
-use Rattle.model.specs.Talk.{LineRow, Seen, fresh, Gets, GetsNext, seen_after, after_all, Talks, form_of}
+use Rattle.model.specs.Talk.{LineRow, Seen, fresh, Gets, GetsNext, seen_after, after_all, Talks, parsed_of}
 use Rattle.session.specs.Serving.{WholeLines, HasNoNewline, IsHeld}
-use Rattle.session.proofs.LineLemmas.{lines-newline, HasNoNewline-append, form_of-held}
+use Rattle.session.proofs.LineLemmas.{lines-newline, HasNoNewline-append, parsed_of-held}
 use Rattle.session.proofs.RowLemmas.{talks-more, after_all-more}
 
 -- those of an input with no byte
@@ -40,8 +40,8 @@ module _ {mode : Mode} {input : List ℕ} {rows : List LineRow} (l : WholeLines 
       → GetsNext (after_all (fresh mode) rows) l.partial row
   held-gets seen held row held_is seen_is g =
       let all : Seen = after_all (fresh mode) rows in
-      let e : form_of seen held ≡ form_of all l.partial = rw (held_is, seen_is) (form_of-held all l.partial) in
-      subst (λ f. Gets all.goals f row) e (subst (λ (s : Seen). Gets s.goals (form_of seen held) row) seen_is g)
+      let e : parsed_of seen held ≡ parsed_of all l.partial = rw (held_is, seen_is) (parsed_of-held all l.partial) in
+      subst (λ f. Gets all.goals f row) e (subst (λ (s : Seen). Gets s.goals (parsed_of seen held) row) seen_is g)
 
   -- the rows with its row
   pub ended-talks : (row : LineRow) → GetsNext (after_all (fresh mode) rows) l.partial row → Talks (fresh mode) (l.done ++ l.partial ∷ []) (rows ++ row ∷ [])

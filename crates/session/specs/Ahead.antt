@@ -6,11 +6,11 @@ use Rattle.model.specs.declared.refusal.Refusal.TheVariants.{BadUsers}
 use Rattle.model.specs.Lines.{lines_of}
 use Rattle.model.specs.Talk.{LineRow, Names, Refuses, Seen, fresh, seen_after, after_all, GetsNext, Talks, users_in}
 use Rattle.session.specs.Serving.{WholeLines, IsHeld}
-use Rattle.session.specs.declared.ahead.Look.{Look}
-use Rattle.session.specs.declared.ahead.Look.TheVariants.{Users, Refused, Other}
+use Rattle.session.specs.declared.ahead.FirstLine.{FirstLine}
+use Rattle.session.specs.declared.ahead.FirstLine.TheVariants.{Users, Refused, Other}
 
 -- the line names these users, or is a line of users that is refused, or gets another row
-abbrev pub IsLook : List ℕ → Seen → Seen → Look → Type 0
+abbrev pub IsLook : List ℕ → Seen → Seen → FirstLine → Type 0
 IsLook line seen next (Users users) = GetsNext seen line (Names users.items)
 IsLook line seen next Refused = GetsNext seen line (Refuses BadUsers)
 IsLook line seen next Other = (row : LineRow) × GetsNext seen line row × (next ≡ seen_after seen row) × (users_in (row ∷ []) ≡ None) × (next.refused ≡ seen.refused)
@@ -39,13 +39,13 @@ pub record LooksAhead (mode : Mode) (input : List ℕ) (users : Option (List (Li
   pub ends : users ≡ None → (rest ≡ []) ⊎ ((after_all (fresh mode) rows).refused ≡ true)
 
 -- what was found in an input, whatever comes after it
-abbrev pub LooksOn : Mode → List ℕ → Seen → List ℕ → Look → Type 0
+abbrev pub LooksOn : Mode → List ℕ → Seen → List ℕ → FirstLine → Type 0
 LooksOn mode input seen held (Users users) = (more : List ℕ) → LooksAhead mode (input ++ more) (Some users.items)
 LooksOn mode input seen held Refused = (more : List ℕ) → LooksAhead mode (input ++ more) None
 LooksOn mode input seen held Other = Searched mode input seen held
 
 -- from any input on: what is found where these bytes come after it
-abbrev pub SearchesOn : (seen : Seen) (held bytes : List ℕ) (next : Seen) (held' : List ℕ) → Look → Type 0
+abbrev pub SearchesOn : (seen : Seen) (held bytes : List ℕ) (next : Seen) (held' : List ℕ) → FirstLine → Type 0
 SearchesOn seen held bytes next held' look = (mode : Mode) (input : List ℕ) → Searched mode input seen held → LooksOn mode (input ++ bytes) next held' look
 
 -- and where it ends

@@ -7,14 +7,14 @@ use Rattle.model.specs.declared.refusal.Refusal.{Refusal}
 use Rattle.model.specs.declared.refusal.Refusal.TheVariants.{InputFault, OutputFault, Memory, BadUsers}
 use Rattle.model.specs.Events.{Event}
 use Rattle.model.specs.Replies.{Reply}
-use Rattle.model.specs.Worlds.{Job}
+use Rattle.model.specs.Worlds.{Job as GoalId}
 use Rattle.model.specs.Lines.{lines_of}
-use Rattle.model.specs.Forms.{longest_line}
+use Rattle.model.specs.ParsedLines.{longest_line}
 pub use Rattle.nar.specs.Writing.{HasFailed, IsFault, MayBeFault, IsUnwritten}
 use Rattle.model.specs.Talk.{LineRow, Silent, Names, Refuses, Asks, Waits, Seen, fresh, seen_after, after_all, Talks, row_text, text_from}
 
 -- one row's link of the chain: an event is one answer, a wait is one wait for its goals, and any other line leaves the answer alone
-abbrev pub Link : {A : Type 0} → (A → Event → Reply → A → Type 0) → (A → List Job → Reply → A → Type 0) → A → LineRow → A → Type 0
+abbrev pub Link : {A : Type 0} → (A → Event → Reply → A → Type 0) → (A → List GoalId → Reply → A → Type 0) → A → LineRow → A → Type 0
 Link answers waited old Silent new = new ≡ old
 Link answers waited old (Names users) new = new ≡ old
 Link answers waited old (Refuses why) new = new ≡ old

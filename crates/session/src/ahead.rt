@@ -41,7 +41,7 @@ struct Found {
 
 /// What a line is to who looks for the users.
 #[derive(Drop)]
-enum Look {
+enum FirstLine {
     /// It names them.
     Users(Vec<User>),
     /// It is a line of users that is refused: a session ends with it.
@@ -51,16 +51,16 @@ enum Look {
 }
 
 /// Looks at the next line.
-fn look_at(alloc: Global, session: &mut Session, line: &[u8]) -> Result<Look, Refusal>
+fn look_at(alloc: Global, session: &mut Session, line: &[u8]) -> Result<FirstLine, Refusal>
     ensures found { IfOk result (IsLook line.now session.old session.new) }
     ensures memory { IfErr result (λ why. why ≡ Memory) }
 {
     match session.read(alloc, line)? {
-        Reading::Names(users) => Ok(Look::Users(users)),
-        Reading::Refuses(Refusal::BadUsers) => Ok(Look::Refused),
+        Reading::Names(users) => Ok(FirstLine::Users(users)),
+        Reading::Refuses(Refusal::BadUsers) => Ok(FirstLine::Refused),
         reading => {
             session.answer(alloc, reading, &mut NoUsers)?;
-            Ok(Look::Other)
+            Ok(FirstLine::Other)
         }
     }
 }
@@ -71,7 +71,7 @@ fn look_on(
     session: &mut Session,
     held: &mut Vec<u8>,
     piece: &[u8],
-) -> Result<Look, Refusal>
+) -> Result<FirstLine, Refusal>
     ensures found { IfOk result
         (SearchesOn session.old held.old.items piece.now session.new held.new.items) }
     ensures memory { IfErr result (λ why. why ≡ Memory) }
@@ -80,14 +80,14 @@ fn look_on(
     while let Some((line, after)) = cut(b'\n', rest) {
         hold(held, line)?;
         match look_at(alloc, session, held.as_slice())? {
-            Look::Users(users) => return Ok(Look::Users(users)),
-            Look::Refused => return Ok(Look::Refused),
-            Look::Other => held.clear(),
+            FirstLine::Users(users) => return Ok(FirstLine::Users(users)),
+            FirstLine::Refused => return Ok(FirstLine::Refused),
+            FirstLine::Other => held.clear(),
         }
         rest = after;
     }
     hold(held, rest)?;
-    Ok(Look::Other)
+    Ok(FirstLine::Other)
 }
 
 /// Looks at a last line that lacks its newline, if there is one.
@@ -103,9 +103,9 @@ fn look_last(
         return Ok(None);
     }
     match look_at(alloc, session, held)? {
-        Look::Users(users) => Ok(Some(users)),
-        Look::Refused => Ok(None),
-        Look::Other => Ok(None),
+        FirstLine::Users(users) => Ok(Some(users)),
+        FirstLine::Refused => Ok(None),
+        FirstLine::Other => Ok(None),
     }
 }
 
@@ -159,9 +159,9 @@ fn search<R: Read + Faults>(
         let (piece, _) = chunk.split_at(n);
         bytes.extend_from_slice(piece)?;
         let users = match look_on(alloc, session, held, piece)? {
-            Look::Users(users) => Some(users),
-            Look::Refused => None,
-            Look::Other => continue,
+            FirstLine::Users(users) => Some(users),
+            FirstLine::Refused => None,
+            FirstLine::Other => continue,
         };
         return Ok(Found {
             users,

@@ -4,10 +4,10 @@ ghost use Rattle.std.specs.Prelude.{◌≡◌, true, List};
 ghost use Rattle.model.specs.Events as events;
 ghost use Rattle.model.specs.Replies as replies;
 ghost use Rattle.model.specs.Replies.{ends_wait};
-ghost use Rattle.model.specs.Worlds.{Job as Goal};
+ghost use Rattle.model.specs.Worlds.{Job as GoalId};
 ghost use Rattle.events.specs.Terms.{event_of, reply_of};
 
-use events::{Event, Job, Reply};
+use events::{Event, GoalId, Reply};
 use model::Refusal;
 use std::alloc::Global;
 
@@ -17,7 +17,7 @@ pub trait Answer {
     ghost answers: { Self → events.Event → replies.Reply → Self → Type 0 };
 
     /// Relates the answer before a wait, the goals, the reply, and the answer after it.
-    ghost waited: { Self → List Goal → replies.Reply → Self → Type 0 };
+    ghost waited: { Self → List GoalId → replies.Reply → Self → Type 0 };
 
     /// Takes an event and gives its reply.
     fn call(&mut self, alloc: Global, event: Event) -> Reply
@@ -25,7 +25,7 @@ pub trait Answer {
 
     /// Waits for goals, each named as the job that it would lead. The reply is `Ok`, or a refusal with
     /// 90 `Memory` or 92 `Stopped`.
-    fn wait(&mut self, alloc: Global, goals: &[Job]) -> Reply
+    fn wait(&mut self, alloc: Global, goals: &[GoalId]) -> Reply
         ensures waited { waited self.old goals.now (reply_of result) self.new }
         ensures ended { ends_wait (reply_of result) ≡ true };
 }
@@ -49,7 +49,7 @@ impl Answer for NoUsers {
         Reply::Refused(Refusal::UnknownUser)
     }
 
-    fn wait(&mut self, _alloc: Global, _goals: &[Job]) -> Reply {
+    fn wait(&mut self, _alloc: Global, _goals: &[GoalId]) -> Reply {
         Reply::Ok
     }
 }

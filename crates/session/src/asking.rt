@@ -9,7 +9,7 @@ ghost use Rattle.events.specs.Terms.{event_of, reply_of};
 ghost use Rattle.session.specs.Answered.{IsAnswered};
 
 use crate::answer::Answer;
-use events::{Event, Job, Reply};
+use events::{Event, GoalId, Reply};
 use lines::{LineResult, answer_text, told_in};
 use model::Refusal;
 use std::alloc::Global;
@@ -21,17 +21,17 @@ pub struct Answered {
     /// What it tells.
     pub told: LineResult,
     /// The goal that it gives the actor, if it does, named as the job that it would lead.
-    pub goal: Option<Job>,
+    pub goal: Option<GoalId>,
     /// What is printed for it.
     pub text: Vec<u8>,
 }
 
 /// The goal that a reply gives the actor.
-fn goal_by(actor: User, reply: &Reply) -> Option<Job>
+fn goal_by(actor: User, reply: &Reply) -> Option<GoalId>
     ensures { result ≡ goal_by actor (reply_of reply.now) }
 {
     match reply {
-        Reply::Goal(number) => Some(Job::new(actor, *number)),
+        Reply::Goal(number) => Some(GoalId::new(actor, *number)),
         _ => None,
     }
 }
@@ -79,7 +79,7 @@ pub fn ask<A: Answer>(
 pub fn wait<A: Answer>(
     alloc: Global,
     number: usize,
-    goals: &[Job],
+    goals: &[GoalId],
     answer: &mut A,
 ) -> Result<Vec<u8>, Refusal>
     ensures ok { IfOk result (λ text. (reply : replies.Reply) × (ends_wait reply ≡ true)

@@ -34,7 +34,7 @@ pub use ahead::{Ahead, read_ahead};
 pub use answer::{Answer, NoUsers};
 pub use asking::{Answered, ask, wait};
 pub use counted::Counted;
-pub use events::Job;
+pub use events::GoalId;
 pub use head::{Head, serve_head, users_of};
 pub use lines::{Reading, answer_text};
 pub use model::Mode;

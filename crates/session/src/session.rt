@@ -2,14 +2,14 @@
 
 ghost use Rattle.std.specs.Prelude.{◌≡◌, ◌⊎◌, ℕ, List, length, IfOk, IfErr, OnOk, OnErr};
 ghost use Rattle.model.specs.declared.refusal.Refusal.TheVariants.{Memory};
-ghost use Rattle.model.specs.Talk.{Silent, Names, Refuses, fresh, form_of, GetsNext, is_bad_users, with_asked};
+ghost use Rattle.model.specs.Talk.{Silent, Names, Refuses, fresh, parsed_of, GetsNext, is_bad_users, with_asked};
 ghost use Rattle.lines.specs.declared.line.Reading.TheVariants as readings;
 ghost use Rattle.lines.specs.Reading.{Becomes, IsRowOf};
 ghost use Rattle.session.specs.Serving.{Link, Gives, GivesRow, StopsAt};
 
 use crate::answer::Answer;
 use crate::asking::{ask, wait};
-use events::{Event, Job, Reply};
+use events::{Event, GoalId, Reply};
 use lines::{LineResult, Reading, answer_text, read_line};
 use model::{Mode, Refusal};
 use std::alloc::{AllocError, Global};
@@ -22,7 +22,7 @@ pub struct Session {
     refused: bool,
     told: Vec<LineResult>,
     /// The goals that the lines got, each named as the job that it would lead.
-    goals: Vec<Job>,
+    goals: Vec<GoalId>,
 }
 
 impl Drop for Session {
@@ -86,7 +86,7 @@ impl Session {
     ///
     /// - `Memory` only where memory was refused.
     pub fn read(&self, alloc: Global, line: &[u8]) -> Result<Reading, Refusal>
-        ensures read { IfOk result (Becomes (form_of self.now line.now)) }
+        ensures read { IfOk result (Becomes (parsed_of self.now line.now)) }
         ensures memory { IfErr result (λ why. why ≡ Memory) }
     {
         read_line(alloc, self.mode, self.begun, self.told.as_slice(), line)
@@ -207,7 +207,7 @@ impl Session {
 }
 
 /// Adds the goal that a reply gave, if it gave one.
-fn add_goal(goals: &mut Vec<Job>, goal: Option<Job>) -> Result<(), AllocError>
+fn add_goal(goals: &mut Vec<GoalId>, goal: Option<GoalId>) -> Result<(), AllocError>
     ensures { OnOk result (goals.new.items ≡ with_asked goals.old.items goal) }
 {
     match goal {

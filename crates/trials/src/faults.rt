@@ -2,7 +2,7 @@
 
 use model::Refusal;
 use schedule::{Core, Event, Reply, Request, User};
-use session::{Ahead, Job, Mode, answer_text, read_ahead, serve};
+use session::{Ahead, GoalId, Mode, answer_text, read_ahead, serve};
 use std::alloc::{AllocError, Global};
 use std::hash::RandomState;
 use trial_lines::{Answer, Calls, Sink, Source, number, store_of, users_in, with_newlines};
@@ -38,7 +38,7 @@ impl session::Answer for Recorder {
         self.core.step(alloc, event)
     }
 
-    fn wait(&mut self, _alloc: Global, _goals: &[Job]) -> Reply {
+    fn wait(&mut self, _alloc: Global, _goals: &[GoalId]) -> Reply {
         Reply::Ok
     }
 }

@@ -2,7 +2,7 @@
 
 use model::Refusal;
 use schedule::{Core, Event, Ready, Reply};
-use session::Job;
+use session::GoalId;
 use std::alloc::Global;
 use std::hash::RandomState;
 use trial_lines::{Answer, core_for, tell_lines};
@@ -26,7 +26,7 @@ impl session::Answer for Prepared {
         }
     }
 
-    fn wait(&mut self, _alloc: Global, _goals: &[Job]) -> Reply {
+    fn wait(&mut self, _alloc: Global, _goals: &[GoalId]) -> Reply {
         Reply::Ok
     }
 }
@@ -61,7 +61,7 @@ impl session::Answer for Followers {
         }
     }
 
-    fn wait(&mut self, _alloc: Global, _goals: &[Job]) -> Reply {
+    fn wait(&mut self, _alloc: Global, _goals: &[GoalId]) -> Reply {
         Reply::Ok
     }
 }

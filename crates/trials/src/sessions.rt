@@ -3,7 +3,7 @@
 use model::Refusal;
 use schedule::{Core, Event, Reply, User};
 use session::{
-    Ahead, Job, Mode, NoUsers, Session, read_ahead, serve, serve_behind, serve_whole_lines,
+    Ahead, GoalId, Mode, NoUsers, Session, read_ahead, serve, serve_behind, serve_whole_lines,
 };
 use std::alloc::Global;
 use std::hash::RandomState;
@@ -24,7 +24,7 @@ impl session::Answer for Store {
         self.core.step(alloc, event)
     }
 
-    fn wait(&mut self, _alloc: Global, _goals: &[Job]) -> Reply {
+    fn wait(&mut self, _alloc: Global, _goals: &[GoalId]) -> Reply {
         Reply::Ok
     }
 }

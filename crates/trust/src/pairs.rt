@@ -3,26 +3,26 @@
 ghost use Rattle.std.specs.Prelude.{◌≡◌, ℕ, ◌<◌, ◌==◌, ◌&&◌, not, false, slice_index};
 ghost use Rattle.trust.specs.Trusting.{holds, trusts, with_pair, without_pair, with_said, IsReach, IsReachOf, AreReached, reached_with};
 
-use crate::places::has_place;
+use crate::places::{UserSet, has_place};
 use std::marker::Model;
 
 /// The most users.
 const USERS: usize = 64;
 
-// A word without one place.
-fn without(word: u64, place: usize) -> u64
+// A set without the user at a place.
+fn without(set: UserSet, place: usize) -> UserSet
     requires { place < 64 }
-    ensures { (v : ℕ) → holds result v ≡ (not (v == place) && holds word v) }
+    ensures { (v : ℕ) → holds result v ≡ (not (v == place) && holds set v) }
 {
-    word & !(1 << place)
+    set & !(1 << place)
 }
 
 /// The users whom the users at some places reach: one after another is asked whom he trusts, until all are.
-fn reach_of(rows: &[u64; USERS], users: u64) -> u64
+fn reach_of(rows: &[UserSet; USERS], users: UserSet) -> UserSet
     ensures { IsReachOf (trusts rows.now) (holds users) (holds result) }
 {
-    let mut reached: u64 = users;
-    let mut asked: u64 = 0;
+    let mut reached: UserSet = users;
+    let mut asked: UserSet = 0;
     while reached & !asked != 0 {
         let next = (reached & !asked).trailing_zeros() as usize;
         asked |= 1 << next;
@@ -32,7 +32,7 @@ fn reach_of(rows: &[u64; USERS], users: u64) -> u64
 }
 
 /// The users whom the user at a place reaches.
-fn reach_of_one(rows: &[u64; USERS], user: usize) -> u64
+fn reach_of_one(rows: &[UserSet; USERS], user: usize) -> UserSet
     requires { user < 64 }
     ensures { IsReach (trusts rows.now) user (holds result) }
 {
@@ -40,7 +40,7 @@ fn reach_of_one(rows: &[u64; USERS], user: usize) -> u64
 }
 
 /// Whom each user reaches.
-fn reach_of_each(rows: &[u64; USERS]) -> [u64; USERS]
+fn reach_of_each(rows: &[UserSet; USERS]) -> [UserSet; USERS]
     ensures { AreReached rows.now result }
 {
     let mut reached = [0; USERS];
@@ -51,7 +51,7 @@ fn reach_of_each(rows: &[u64; USERS]) -> [u64; USERS]
 }
 
 /// Whom somebody reaches who reached these, once the user at a place trusts one more, who reaches more.
-fn reached_with(reached: u64, user: usize, more: u64) -> u64
+fn reached_with(reached: UserSet, user: usize, more: UserSet) -> UserSet
     requires { user < 64 }
     ensures { result ≡ reached_with reached user more }
 {
@@ -63,7 +63,7 @@ fn reached_with(reached: u64, user: usize, more: u64) -> u64
 }
 
 /// Whom each user reaches, once one trusts another as well: who reached the one reaches all whom the other reaches.
-fn each_reached_with(reached: &[u64; USERS], user: usize, other: usize) -> [u64; USERS]
+fn each_reached_with(reached: &[UserSet; USERS], user: usize, other: usize) -> [UserSet; USERS]
     requires of_run { user < 64 }
     requires other_of_run { other < 64 }
     ensures { (place : ℕ) → place < 64 → slice_index result place
@@ -79,8 +79,8 @@ fn each_reached_with(reached: &[u64; USERS], user: usize, other: usize) -> [u64;
 /// Who trusts whom, among 64 users. A user is named by his place in the list of a run, from 0 on. Whom each
 /// of them reaches is kept, and found anew only where trust changes.
 pub struct Trust {
-    rows: [u64; USERS],
-    reached: [u64; USERS],
+    rows: [UserSet; USERS],
+    reached: [UserSet; USERS],
 }
 
 impl Drop for Trust {
@@ -150,9 +150,8 @@ impl Trust {
         before
     }
 
-    /// The users whom a user reaches: himself and, with each, all whom that one trusts. The bits of
-    /// the word are their places.
-    pub fn closure(&self, user: usize) -> u64
+    /// The users whom a user reaches: himself and, with each, all whom that one trusts.
+    pub fn closure(&self, user: usize) -> UserSet
         requires { user < 64 }
         ensures { IsReach (trusts self.now) user (holds result) }
     {
@@ -160,8 +159,8 @@ impl Trust {
     }
 
     /// The users whom the users at some places reach: themselves and, with each, all whom that one
-    /// trusts. The bits of the words are their places.
-    pub fn closure_of(&self, users: u64) -> u64
+    /// trusts.
+    pub fn closure_of(&self, users: UserSet) -> UserSet
         ensures { IsReachOf (trusts self.now) (holds users) (holds result) }
     {
         reach_of(&self.rows, users)

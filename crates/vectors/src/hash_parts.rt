@@ -86,7 +86,7 @@ fn with_images(alloc: Global, archive: &Nar, images: &Images) -> Result<Nar, Ref
 }
 
 /// `PART NAME PATH..`: the path of a tree whose archive was built under a hash part, the paths that it
-/// refers to, where its own hash part stands in its archive, and its text.
+/// refers to, where its self-references stand in its archive, and its text.
 fn settled(alloc: Global, archive: &Nar, words: &str, out: &mut Answer) -> Result<(), Refusal> {
     let (own, words) = cut(words);
     let own = HashPart::read(own.as_bytes())?;

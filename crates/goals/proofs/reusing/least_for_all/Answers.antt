@@ -21,7 +21,7 @@ has_place-requires c = let few = few_desks c.args.state.now in omega (arith, few
 pub loop-place-init : goal.loop-place-init
 loop-place-init c =
     let s = c.args.state.now in
-    nobody (λ p. found_on c.args.resolved.now c.args.labels.now (desk_at s.desks.items p) (goals_of s.jobs.goals p)) (holds (bit_and c.args.word
+    nobody (λ p. found_on c.args.resolved.now c.args.labels.now (desk_at s.desks.items p) (goals_of s.jobs.goals p)) (holds (bit_and c.args.set
     c.planners.result))
 
 pub loop-place-preserved : goal.loop-place-preserved
@@ -31,11 +31,11 @@ loop-place-preserved c =
     let found : ℕ → List Recorded = λ p. found_on c.args.resolved.now c.args.labels.now (desk_at s.desks.items p) (goals_of s.jobs.goals p) in
     elim c.if-has_place.branch [
       | then-has_place w ↦
-          place_in found (holds (bit_and c.args.word c.planners.result)) here (option_copied c.loop-place.least) (option_copied c.if-has_place.least)
+          place_in found (holds (bit_and c.args.set c.planners.result)) here (option_copied c.loop-place.least) (option_copied c.if-has_place.least)
           (sym w.if-has_place.ensures)
           (ap option_copied w.least-is ∙ w.least_for_user-least.ensures) c.loop-place.invariant
       | else-has_place w ↦
-          place_out found (holds (bit_and c.args.word c.planners.result)) here (option_copied c.loop-place.least) (option_copied c.if-has_place.least)
+          place_out found (holds (bit_and c.args.set c.planners.result)) here (option_copied c.loop-place.least) (option_copied c.if-has_place.least)
           (sym w.if-has_place.ensures)
           (ap option_copied w.least-is) c.loop-place.invariant
     ]
@@ -52,8 +52,8 @@ returns c =
     subst (λ path. HasPlanners path (holds c.planners.result) s.jobs) c.scratch.ensures c.planners.ensures in
     let end : c.loop-place.place ≡ length desks = search rules in
     c.loop-place.invariant
-    ∙ ap (λ n. least path_before (found_in r labels desks goals (places_of (holds (bit_and c.args.word c.planners.result)) n))) end
-    ∙ ap (least path_before) (found_near found (holds c.args.word) (holds (bit_and c.args.word c.planners.result)) 0 (length desks)
-    (λ v t. of_both c.args.word c.planners.result v t)
+    ∙ ap (λ n. least path_before (found_in r labels desks goals (places_of (holds (bit_and c.args.set c.planners.result)) n))) end
+    ∙ ap (least path_before) (found_near found (holds c.args.set) (holds (bit_and c.args.set c.planners.result)) 0 (length desks)
+    (λ v t. of_both c.args.set c.planners.result v t)
     (λ v f t. ap (found_among r labels (desk_at desks v) (goals_of goals v))
-    (none_done r.scratch (goals_of goals v) (planners v (left_out_of c.args.word c.planners.result v f t)))))
+    (none_done r.scratch (goals_of goals v) (planners v (left_out_of c.args.set c.planners.result v f t)))))

@@ -16,8 +16,8 @@ loop-place-preserved c =
           let at : w.index-desks-place.result ≡ desk_at desks here = w.index-desks-place.is
           ∙ get_or_default desks here w.index-desks-place.result bare (omega arith) in
           ap (λ v. desks_of v.items) w.found-is ∙ ap desks_of w.in_ok-push.ensures.items ∙ map_push (λ d. d.now) c.loop-place.found.items _
-          ∙ (λ i. c.loop-place.invariant i ++ at i ∷ []) ∙ sym (places_in (desk_at desks) (holds c.args.word) here (sym w.if-has_place.ensures))
+          ∙ (λ i. c.loop-place.invariant i ++ at i ∷ []) ∙ sym (places_in (desk_at desks) (holds c.args.set) here (sym w.if-has_place.ensures))
       | else-has_place w ↦
           ap (λ v. desks_of v.items) w.found-is ∙ c.loop-place.invariant
-          ∙ sym (places_out (desk_at desks) (holds c.args.word) here (sym w.if-has_place.ensures))
+          ∙ sym (places_out (desk_at desks) (holds c.args.set) here (sym w.if-has_place.ensures))
     ]

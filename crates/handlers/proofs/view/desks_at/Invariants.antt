@@ -5,4 +5,4 @@ use Rattle.handlers.specs.Viewing.{places_of, desk_at, desks_of}
 use Rattle.handlers.proofs.view.desks_at.Given as goal
 
 abbrev pub invariant-loop-place : goal.invariant-loop-place
-invariant-loop-place l = desks_of l.found.items ≡ map (desk_at l.desks) (places_of (holds l.word) l.place)
+invariant-loop-place l = desks_of l.found.items ≡ map (desk_at l.desks) (places_of (holds l.set) l.place)

@@ -1,5 +1,5 @@
 use Rattle.std.proofs.Common.{◌≡◌, ◌∙◌, ◌<◌, ◌≤◌, ℕ, List, [], ◌∷◌, get_or, length, ap, subst, arith, MatchResult}
-use Rattle.model.specs.Forms.{Command}
+use Rattle.model.specs.ParsedLines.{Command}
 use Rattle.lines.specs.Reading.{command_of, IsRequestOfCommand, IsNoRequest}
 use Rattle.lines.proofs.commands.request_of.Goals as goal
 

@@ -1,7 +1,7 @@
 use Rattle.std.proofs.Common.{◌≡◌, ◌∙◌, ap, sym, ◌∷◌, ◌||◌}
 use Rattle.std.specs.List.{list_any}
 use Rattle.model.specs.Lines.{split}
-use Rattle.model.specs.Forms.{is_empty_word}
+use Rattle.model.specs.ParsedLines.{is_empty_word}
 use Rattle.lines.proofs.CutLemmas.{split-one, split-more, or-false}
 use Rattle.lines.proofs.cutting.has_empty_word.Goals as goal
 

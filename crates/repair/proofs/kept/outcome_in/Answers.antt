@@ -1,5 +1,5 @@
 use Rattle.std.proofs.Common.{rules, ◌≡◌, Some, option_copied}
-use Rattle.repair.proofs.MovingLemmas.{if_some}
+use Rattle.repair.proofs.RelabellingLemmas.{if_some}
 use Rattle.repair.proofs.kept.outcome_in.Goals as goal
 
 pub returns-clause-some : goal.returns-clause-some

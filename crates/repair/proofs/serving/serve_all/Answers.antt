@@ -30,7 +30,7 @@ stays c had =
     let r = c.chosen-item.result in
     let has = has_one c.args.plan.now c.records-records.ensures.in_order c.loop-chosen.chosen-index r c.loop-chosen.served.entries (within c) (is_there c)
     c.serve.ensures.low c.loop-chosen.invariant.served (made_in c.args.cache.now.made) before.1 in
-    c.serve.ensures.same (λ moves to needs. subst (λ (cache : Cache). IsMade (made_in cache.made) r moves) (sym before.0) (has moves to needs)) ∙ before.0
+    c.serve.ensures.same (λ replacements to needs. subst (λ (cache : Cache). IsMade (made_in cache.made) r replacements) (sym before.0) (has replacements to needs)) ∙ before.0
 
 pub returns-in_err-realisation-clause-served : goal.returns-in_err-realisation-clause-served
 returns-in_err-realisation-clause-served c =
@@ -49,7 +49,7 @@ returns-in_err-realisation-clause-made c step told =
     all_until c.args.plan.now c.records-records.ensures.in_order c.loop-chosen.chosen-index c.chosen-item.result c.loop-chosen.served.entries
     (within a) (is_there a) c.serve.ensures.low c.loop-chosen.invariant.served (made_in c.loop-chosen.cache.made) (made_in c.serve.new.cache.made)
     c.serve.ensures.others
-    (λ moves to needs. c.in_err-realisation.ensures.made moves to needs (c.loop-chosen.invariant.step ∙ step) (λ e. other (err_is why Memory _ refl e)))
+    (λ replacements to needs. c.in_err-realisation.ensures.made replacements to needs (c.loop-chosen.invariant.step ∙ step) (λ e. other (err_is why Memory _ refl e)))
     (c.loop-chosen.invariant.made step) why c.in_err-realisation.ensures.served other
 
 pub returns-in_err-realisation-clause-at_hand : goal.returns-in_err-realisation-clause-at_hand
@@ -76,7 +76,7 @@ loop-chosen-preserved c =
       sound = rw (take_next plan.records k r (within a) (is_there a)) (All-push IsSoundRecord _ r before.sound c.in_ok-realisation.ensures.sound);
       made = λ step. all_next plan in_order k r c.loop-chosen.served.entries (within a) (is_there a) c.serve.ensures.low before.served
           (made_in c.loop-chosen.cache.made) (made_in c.serve.new.cache.made) c.serve.ensures.others
-          (λ moves to needs. c.in_ok-realisation.ensures.made moves to needs (before.step ∙ step) (λ e. cc)) (before.made step);
+          (λ replacements to needs. c.in_ok-realisation.ensures.made replacements to needs (before.step ∙ step) (λ e. cc)) (before.made step);
       step = c.serve.ensures.step ∙ before.step;
       at_hand = λ had. (
         stays a had,

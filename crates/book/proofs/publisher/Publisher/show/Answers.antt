@@ -10,11 +10,11 @@ use Rattle.book.proofs.publisher.Publisher.show.Goals as goal
 
 pub replace_with-requires : goal.replace_with-requires
 replace_with-requires g c =
-    let book = ap (λ s. s.book) c.again.ensures ∙ c.requires.book in
+    let book = ap (λ s. s.book) c.clone.ensures ∙ c.requires.book in
     let setup = ap setup_of c.in-Ok.ensures ∙ c.requires.follows.given in
     let name : c.new-snapshot.result.name ≡ name_of g.J.FrontId.book g.J.FrontId.setup =
     ap (λ (t : Shown). t.name) c.new-snapshot.ensures ∙ (λ i. name_of (book i) (setup i)) in
-    let seen : c.new-snapshot.result.seen ≡ c.args.rows.seen.log = ap (λ (t : Shown). t.seen) c.new-snapshot.ensures ∙ ap (λ s. s.log) c.again.ensures in (
+    let seen : c.new-snapshot.result.seen ≡ c.args.rows.seen.log = ap (λ (t : Shown). t.seen) c.new-snapshot.ensures ∙ ap (λ s. s.log) c.clone.ensures in (
       c.self.invariant.3 (ap (λ (s : Published). s.whole) c.self.view_is ∙ c.requires.whole),
       (
         name ∙ sym c.self.invariant.2,

@@ -9,13 +9,13 @@ pub invariant_of-self : goal.invariant_of-self
 invariant_of-self c =
     let each : List Owned = c.self.inside.all.items in
     let below : c.args.place < length c.args.self.now.goals = c.requires in
-    let words = c.self.inside.planners.words.entries in
+    let sets = c.self.inside.planners.sets.entries in
     let x : Owned = c.index_mut.result.now in
     let y : Owned = c.add.new.self in (
       rw (length-set {A = Owned}) c.self.invariant.0,
       by_result c.add.result c.add.ensures.added c.add.ensures.kept
-          (λ is. added_written c.args.self.now each c.args.place x y c.self.view_is below c.index_mut.ensures.value words c.args.derivation is c.self.invariant.1)
-          (λ is. same_written c.args.self.now each c.args.place x y c.self.view_is below c.index_mut.ensures.value words is c.self.invariant.1),
+          (λ is. added_written c.args.self.now each c.args.place x y c.self.view_is below c.index_mut.ensures.value sets c.args.derivation is c.self.invariant.1)
+          (λ is. same_written c.args.self.now each c.args.place x y c.self.view_is below c.index_mut.ensures.value sets is c.self.invariant.1),
     )
 
 pub returns-clause-added : goal.returns-clause-added

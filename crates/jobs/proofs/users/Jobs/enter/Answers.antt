@@ -11,14 +11,14 @@ pub invariant_of-self : goal.invariant_of-self
 invariant_of-self c =
     let each : List Owned = c.self.inside.all.items in
     let below : c.args.place < length c.args.self.now.goals = c.requires.of_run in
-    let words = c.self.inside.planners.words.entries in
+    let sets = c.self.inside.planners.sets.entries in
     let x : Owned = c.index_mut.result.now in
     let y : Owned = c.enter.new.self in (
       rw (length-set {A = Owned}) c.self.invariant.0,
       by_result c.enter.result c.enter.ensures.entered c.enter.ensures.kept
-          (λ changes. status_written c.args.self.now each c.args.place x y c.self.view_is below c.index_mut.ensures.value words c.args.number
+          (λ changes. status_written c.args.self.now each c.args.place x y c.self.view_is below c.index_mut.ensures.value sets c.args.number
           (Building c.args.job) (idle_there (goal_of c.args.place c.args.number c.args.self.now) c.requires.idle) changes c.self.invariant.1)
-          (λ is. same_written c.args.self.now each c.args.place x y c.self.view_is below c.index_mut.ensures.value words is c.self.invariant.1),
+          (λ is. same_written c.args.self.now each c.args.place x y c.self.view_is below c.index_mut.ensures.value sets is c.self.invariant.1),
     )
 
 pub returns-clause-entered : goal.returns-clause-entered

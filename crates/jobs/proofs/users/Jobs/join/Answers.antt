@@ -1,5 +1,5 @@
 use Rattle.std.proofs.Common.{◌≡◌, ◌<◌, ◌∙◌, ap, sym, subst, arith, length, List, ℕ, false, None, bit_and}
-use Rattle.jobs.specs.Planners.{word_at, HasPlannersOfAll}
+use Rattle.jobs.specs.Planners.{users_at, HasPlannersOfAll}
 use Rattle.jobs.proofs.PlannerLemmas.{left_out_of, of_both}
 use Rattle.std.specs.Prelude.{option_copied}
 use Rattle.trust.specs.Trusting.{holds}
@@ -46,9 +46,9 @@ returns c =
     let end : c.len-place-end.result ≡ length each = c.len-place-end.ensures ∙ c.self.inside.all.ok.0 in
     let test = c.loop-place-test.false in
     let path : List ℕ = c.args.resolved.now.scratch in
-    let out : (v : ℕ) → holds c.at.result v ≡ false → holds (word_at path c.self.inside.planners.words.entries) v ≡ false =
-    λ v f. ap (λ p. holds (word_at p c.self.inside.planners.words.entries) v) (sym c.scratch.ensures) ∙ ap (λ word. holds word v) (sym c.at.ensures) ∙ f in
-    let planners : HasPlannersOfAll c.self.inside.planners.words.entries all = subst (HasPlannersOfAll c.self.inside.planners.words.entries) c.self.view_is c.self.invariant.1 in
+    let out : (v : ℕ) → holds c.at.result v ≡ false → holds (users_at path c.self.inside.planners.sets.entries) v ≡ false =
+    λ v f. ap (λ p. holds (users_at p c.self.inside.planners.sets.entries) v) (sym c.scratch.ensures) ∙ ap (λ set. holds set v) (sym c.at.ensures) ∙ f in
+    let planners : HasPlannersOfAll c.self.inside.planners.sets.entries all = subst (HasPlannersOfAll c.self.inside.planners.sets.entries) c.self.view_is c.self.invariant.1 in
     places_done all c.args.resolved.now (holds (bit_and c.args.set c.at.result)) c.loop-place.place (length all.goals) (option_copied c.loop-place.least) _ (omega arith)
     c.loop-place.invariant
     ∙ ap (least_from job_before None) (jobs_near all c.args.resolved.now (holds c.args.set) (holds (bit_and c.args.set c.at.result)) 0 (length all.goals)

@@ -12,18 +12,18 @@ pub invariant_of-self-2 : goal.invariant_of-self-2
 invariant_of-self-2 c =
     let each : List Owned = c.self.inside.all.items in
     let below : c.args.place < length c.args.self.now.goals = c.requires.of_run in
-    let words = c.insert.new.self.words.entries in
-    let old = c.self.inside.planners.words.entries in
-    let adds : AddsPlace c.args.resolved.scratch c.args.place old words = subst (λ p. AddsPlace p c.args.place old words)
+    let sets = c.insert.new.self.sets.entries in
+    let old = c.self.inside.planners.sets.entries in
+    let adds : AddsPlace c.args.resolved.scratch c.args.place old sets = subst (λ p. AddsPlace p c.args.place old sets)
     (c.in_ok-clone.ensures.cases ∙ c.scratch.ensures) c.in_ok-insert.ensures in
     let x : Owned = c.index_mut.result.now in
     let y : Owned = c.keep.new.self in (
       rw (length-set {A = Owned}) c.self.invariant.0,
       by_result c.keep.result c.keep.ensures.planned c.keep.ensures.kept
-          (λ changes. planned_written c.args.self.now each c.args.place x y c.self.view_is below c.index_mut.ensures.value words old c.args.number
+          (λ changes. planned_written c.args.self.now each c.args.place x y c.self.view_is below c.index_mut.ensures.value sets old c.args.number
           c.args.resolved c.requires.there changes adds c.self.invariant.1)
-          (λ is. same_written c.args.self.now each c.args.place x y c.self.view_is below c.index_mut.ensures.value words is
-          (planners_wider old words (all_of each) (added_widens c.args.resolved.scratch c.args.place old words adds) c.self.invariant.1)),
+          (λ is. same_written c.args.self.now each c.args.place x y c.self.view_is below c.index_mut.ensures.value sets is
+          (planners_wider old sets (all_of each) (added_widens c.args.resolved.scratch c.args.place old sets adds) c.self.invariant.1)),
     )
 
 pub returns-clause-planned : goal.returns-clause-planned

@@ -8,9 +8,9 @@ use Rattle.jobs.proofs.users.Jobs.let_go.Goals as goal
 pub invariant_of-self : goal.invariant_of-self
 invariant_of-self c =
     let each : List Owned = c.self.inside.all.items in
-    let words = c.self.inside.planners.words.entries in (
+    let sets = c.self.inside.planners.sets.entries in (
       rw (length-set {A = Owned}) c.self.invariant.0,
-      let_go_written c.args.self.now each c.args.place c.index_mut.result.now c.let_go.new.self c.self.view_is c.requires c.index_mut.ensures.value words
+      let_go_written c.args.self.now each c.args.place c.index_mut.result.now c.let_go.new.self c.self.view_is c.requires c.index_mut.ensures.value sets
           c.args.class.now c.args.path.now c.let_go.ensures c.self.invariant.1,
     )
 

@@ -10,7 +10,7 @@ invariant_of-result c =
     let all : c.loop-user.all.items ≡ no_goals c.args.users.now =
     c.loop-user.invariant ∙ ap no_goals (take_all c.loop-user.user-index c.args.users.now (omega arith)) in (
       rw (all, length-map {B = Owned} c.args.users.now (λ u. record { owner = u; goals = [] })) c.requires,
-      planners_of_nobody c.new-2.result.words.entries c.args.users.now (all_of c.loop-user.all.items) (ap all_of all ∙ all_without c.args.users.now),
+      planners_of_nobody c.new-2.result.sets.entries c.args.users.now (all_of c.loop-user.all.items) (ap all_of all ∙ all_without c.args.users.now),
     )
 
 pub returns-clause-value : goal.returns-clause-value

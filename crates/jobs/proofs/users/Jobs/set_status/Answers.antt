@@ -10,11 +10,11 @@ pub invariant_of-self : goal.invariant_of-self
 invariant_of-self c =
     let each : List Owned = c.self.inside.all.items in
     let below : c.args.place < length c.args.self.now.goals = c.requires.of_run in
-    let words = c.self.inside.planners.words.entries in
+    let sets = c.self.inside.planners.sets.entries in
     let x : Owned = c.index_mut.result.now in
     let y : Owned = c.set_status.new.self in (
       rw (length-set {A = Owned}) c.self.invariant.0,
-      status_written c.args.self.now each c.args.place x y c.self.view_is below c.index_mut.ensures.value words c.args.number (status_of c.args.status)
+      status_written c.args.self.now each c.args.place x y c.self.view_is below c.index_mut.ensures.value sets c.args.number (status_of c.args.status)
           c.requires.there c.set_status.ensures c.self.invariant.1,
     )
 

@@ -21,9 +21,9 @@ pub invariant_of-self-2 : goal.invariant_of-self-2
 invariant_of-self-2 c = record { counted = promoted (goal.at.invariant_of-self-2 c).After-promote; bounded = c.args.self.now.bounded }
 
 -- what is looked at is what is kept by the paths
-looked_at : (c : After-peek) → option_copied c.peek.result ≡ kept_by (paths_of_key c.args.chosen.now c.args.moves.now) c.args.self.now.records.entries
+looked_at : (c : After-peek) → option_copied c.peek.result ≡ kept_by (paths_of_key c.args.chosen.now c.args.replacements.now) c.args.self.now.records.entries
 looked_at c =
-    found_by (paths_of_key c.args.chosen.now c.args.moves.now) c.args.key.now c.args.self.now.records c.promote.new.self (option_copied c.peek.result)
+    found_by (paths_of_key c.args.chosen.now c.args.replacements.now) c.args.key.now c.args.self.now.records c.promote.new.self (option_copied c.peek.result)
     c.requires c.promote.ensures.entries c.peek.ensures
 
 pub returns-in_default-clause-none : goal.returns-in_default-clause-none

@@ -2,7 +2,7 @@ use Rattle.std.proofs.Common.{◌≡◌, ◌∙◌, ap, sym, option_copied}
 use Rattle.std.specs.Prelude.{bytes_eq}
 use Rattle.std.specs.Map.{lookup}
 use Rattle.model.specs.Classes.{Class}
-use Rattle.repair.proofs.MovingLemmas.{if_some}
+use Rattle.repair.proofs.RelabellingLemmas.{if_some}
 use Rattle.repair.proofs.made.Made.outcome_for.Goals as goal
 
 pub returns-clause-some : goal.returns-clause-some
