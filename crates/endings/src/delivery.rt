@@ -12,6 +12,7 @@ ghost use Rattle.handlers.specs.Viewing.{desk_at};
 ghost use Rattle.endings.specs.Delivery.{Receives, trees_built, tree_built, all_trees, AreStored, AreBuiltFor, IsDeliveredAtPlace, AreDelivered, IsMadeBeside, IsNotMade};
 
 use crate::delta::{DeskDelta, delta_for, waiting};
+use crate::job_end::JobEnd;
 use crate::settling::{Built, built_on};
 use handlers::State;
 use jobs::{Job, Status, members_reached};
@@ -82,21 +83,20 @@ pub(crate) fn tested(
 fn build_from(
     alloc: Global,
     state: &State,
-    leader: usize,
-    job: &Job,
-    tree: Option<&Tree>,
+    end: JobEnd<'_>,
     settlements: &mut Settlements,
 ) -> Result<Vec<Vec<(u16, Built)>>, Refusal>
-    requires { HasPlace state.now leader }
-    ensures built { IfOk result (λ built. AreBuiltFor (option_copied tree.entry)
-        (trusts state.now.trust) leader job.now state.now.desks.items state.now.jobs.goals built.items) }
+    requires { HasPlace state.now end.leader }
+    ensures built { IfOk result (λ built. AreBuiltFor (option_copied end.entry.tree)
+        (trusts state.now.trust) end.entry.leader end.entry.job.now
+        state.now.desks.items state.now.jobs.goals built.items) }
     ensures count { IfOk result (λ built. length built.items ≡ length state.now.desks.items) }
     ensures memory { IfErr result (λ why. why ≡ Memory) }
 {
     let mut all = Vec::new(alloc);
     for place in 0..state.desks.len() {
-        let numbers = members_reached(&state.trust, &state.jobs, leader, place, job);
-        let built = built_on(alloc, state, place, numbers, tree, settlements)?;
+        let numbers = members_reached(&state.trust, &state.jobs, end.leader, place, end.job);
+        let built = built_on(alloc, state, place, numbers, end.tree, settlements)?;
         all.push(built)?;
     }
     Ok(all)
@@ -132,20 +132,19 @@ fn receive(
 fn receive_at(
     alloc: Global,
     state: &State,
-    leader: usize,
+    end: JobEnd<'_>,
     place: usize,
-    job: &Job,
     built: Vec<(u16, Built)>,
 ) -> Result<(DeskDelta, Vec<(u16, Status)>), Refusal>
-    requires leader { HasPlace state.now leader }
+    requires leader { HasPlace state.now end.leader }
     requires of_run { HasPlace state.now place }
-    ensures delivered { IfOk result (λ r. IsDeliveredAtPlace (trusts state.now.trust) leader
-        state.now.limits.charge job.now (desk_at state.now.desks.items place)
+    ensures delivered { IfOk result (λ r. IsDeliveredAtPlace (trusts state.now.trust) end.entry.leader
+        state.now.limits.charge end.entry.job.now (desk_at state.now.desks.items place)
         (goals_at place state.now.jobs) place built.items (delta_in r.0) (map status_at r.1.items)) }
     ensures memory { IfErr result (λ why. why ≡ Memory) }
 {
-    let reached = has_place(state.trust.closure(place), leader);
-    let delivered = receive(alloc, state, place, job, reached, built)?;
+    let reached = has_place(state.trust.closure(place), end.leader);
+    let delivered = receive(alloc, state, place, end.job, reached, built)?;
     Ok(delivered)
 }
 
@@ -154,22 +153,21 @@ fn receive_at(
 fn receive_all(
     alloc: Global,
     state: &State,
-    leader: usize,
-    job: &Job,
+    end: JobEnd<'_>,
     built: Vec<Vec<(u16, Built)>>,
 ) -> Result<Vec<(DeskDelta, Vec<(u16, Status)>)>, Refusal>
-    requires leader { HasPlace state.now leader }
+    requires leader { HasPlace state.now end.leader }
     requires count { length built.items ≡ length state.now.desks.items }
-    ensures delivered { IfOk result (λ delivered. AreDelivered (trusts state.now.trust) leader
-        state.now.limits.charge job.now state.now.desks.items state.now.jobs.goals
-        built.items delivered.items) }
+    ensures delivered { IfOk result (λ delivered. AreDelivered (trusts state.now.trust)
+        end.entry.leader state.now.limits.charge end.entry.job.now state.now.desks.items
+        state.now.jobs.goals built.items delivered.items) }
     ensures count { IfOk result (λ delivered. length delivered.items ≡ length state.now.desks.items) }
     ensures memory { IfErr result (λ why. why ≡ Memory) }
 {
     let mut all = Vec::new(alloc);
     for own in built {
         let place = all.len();
-        all.push(receive_at(alloc, state, leader, place, job, own)?)?;
+        all.push(receive_at(alloc, state, end, place, own)?)?;
     }
     Ok(all)
 }
@@ -184,21 +182,21 @@ fn receive_all(
 pub(crate) fn delivered_by_all(
     alloc: Global,
     state: &State,
-    leader: usize,
-    job: &Job,
-    tree: Option<&Tree>,
+    end: JobEnd<'_>,
     settlements: &mut Settlements,
 ) -> Result<Vec<(DeskDelta, Vec<(u16, Status)>)>, Refusal>
-    requires { HasPlace state.now leader }
+    requires { HasPlace state.now end.leader }
     ensures delivered { IfOk result (λ delivered. IsMadeBeside state.now.table.sources
-        (option_copied tree.entry) (trusts state.now.trust) leader state.now.limits.charge job.now
+        (option_copied end.entry.tree) (trusts state.now.trust) end.entry.leader
+        state.now.limits.charge end.entry.job.now
         state.now.desks.items state.now.jobs.goals delivered.items) }
     ensures count { IfOk result (λ delivered. length delivered.items ≡ length state.now.desks.items) }
-    ensures refused { IfErr result (IsNotMade state.now.table.sources (option_copied tree.entry)
-        (trusts state.now.trust) leader job.now state.now.desks.items state.now.jobs.goals) }
+    ensures refused { IfErr result (IsNotMade state.now.table.sources (option_copied end.entry.tree)
+        (trusts state.now.trust) end.entry.leader end.entry.job.now
+        state.now.desks.items state.now.jobs.goals) }
 {
-    let built = build_from(alloc, state, leader, job, tree, settlements)?;
+    let built = build_from(alloc, state, end, settlements)?;
     tested(alloc, &state.table, &built)?;
-    let delivered = receive_all(alloc, state, leader, job, built)?;
+    let delivered = receive_all(alloc, state, end, built)?;
     Ok(delivered)
 }

@@ -24,6 +24,7 @@ ghost use Rattle.handlers.specs.States.{HasPlace, Handles};
 use crate::committing::{additions_of, gained_by_all, set_all};
 use crate::delivery::delivered_by_all;
 use crate::delta::DeskDelta;
+use crate::job_end::JobEnd;
 use events::{CopiedReply, Output, Reply};
 use handlers::State;
 use jobs::{Job, Jobs, Status, leads};
@@ -64,8 +65,7 @@ pub(crate) struct Ending {
     told: Status,
 }
 
-/// What a job changes that ends with an output, whose leader is the goal of a number of the user at a
-/// place. Nothing changes yet.
+/// What the end of a job changes. Nothing changes yet.
 ///
 /// # Errors
 ///
@@ -75,27 +75,27 @@ pub(crate) struct Ending {
 fn prepare(
     alloc: Global,
     state: &State,
-    place: usize,
-    job: &Job,
-    tree: Option<&Tree>,
+    end: JobEnd<'_>,
     settlements: &mut Settlements,
 ) -> Result<Ending, Refusal>
-    requires of_run { HasPlace state.now place }
-    requires there { is_some (goal_at job.now.number (goals_at place state.now.jobs)) ≡ true }
-    ensures prepared { IfOk result (IsPrepared state.now.table.sources (option_copied tree.entry)
-        (trusts state.now.trust) place state.now.limits.charge job.now
-        state.now.desks.items state.now.jobs.goals job.now.number) }
-    ensures refused { IfErr result (IsNotMade state.now.table.sources (option_copied tree.entry)
-        (trusts state.now.trust) place job.now state.now.desks.items state.now.jobs.goals) }
+    requires of_run { HasPlace state.now end.leader }
+    requires there { is_some (goal_at end.job.now.number
+        (goals_at end.leader state.now.jobs)) ≡ true }
+    ensures prepared { IfOk result (IsPrepared state.now.table.sources (option_copied end.entry.tree)
+        (trusts state.now.trust) end.entry.leader state.now.limits.charge end.entry.job.now
+        state.now.desks.items state.now.jobs.goals end.entry.job.now.number) }
+    ensures refused { IfErr result (IsNotMade state.now.table.sources (option_copied end.entry.tree)
+        (trusts state.now.trust) end.entry.leader end.entry.job.now
+        state.now.desks.items state.now.jobs.goals) }
 {
-    let delivered = delivered_by_all(alloc, state, place, job, tree, settlements)?;
+    let delivered = delivered_by_all(alloc, state, end, settlements)?;
     let trees = state
         .table
         .missing(alloc, gained_by_all(alloc, &delivered)?)?;
     let additions = additions_of(alloc, &delivered)?;
-    let number = job.number();
-    let goal = state.jobs.get(place, number).unwrap();
-    let told = status_then(goal.status(), number, delivered[place].1.as_slice())?;
+    let number = end.job.number();
+    let goal = state.jobs.get(end.leader, number).unwrap();
+    let told = status_then(goal.status(), number, delivered[end.leader].1.as_slice())?;
     Ok(Ending {
         delivered,
         additions,
@@ -131,7 +131,12 @@ fn prepare_led(
 {
     let leader = &state.users.as_slice()[place];
     let job = Job::new(leader.clone()?, number);
-    prepare(alloc, state, place, &job, output.tree(), settlements)
+    let end = JobEnd {
+        leader: place,
+        job: &job,
+        tree: output.tree(),
+    };
+    prepare(alloc, state, end, settlements)
 }
 
 /// Puts what the end of a job changes in its place. The reply is how far the goal of its leader is then.

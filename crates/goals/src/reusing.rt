@@ -15,6 +15,7 @@ ghost use Rattle.handlers.specs.States.{HasPlace, parts_of};
 ghost use Rattle.records.specs.Trees.{record_at};
 ghost use Rattle.goals.specs.Reusing.{path_before, is_found_at, done_path, found_by, found_on, found_in, class_for, IsFinishedBuild, IsHeldAmong, UsesAgain};
 
+use crate::planned::Planned;
 use classes::Class;
 use handlers::State;
 use jobs::{Goal, Status};
@@ -208,24 +209,23 @@ fn realised(
     Ok(Realisation::new(found.for_class(alloc, class.clone()?)?, tree))
 }
 
-/// What the goal of a number of the user at a place uses again: what was built already from the same,
-/// for the class of his derivation. The one error is memory.
+/// What a planned goal uses again: what was built already from the same, for the class of its derivation.
+/// The one error is memory.
 pub(crate) fn used_again(
     alloc: Global,
     state: &State,
-    place: usize,
-    number: u16,
-    resolved: &Resolved,
+    planned: Planned<'_>,
 ) -> Result<Option<Realisation>, Refusal>
-    requires { HasPlace state.now place }
-    ensures used { IfOk result (UsesAgain (parts_of state.now) place number resolved.now) }
+    requires { HasPlace state.now planned.place }
+    ensures used { IfOk result (UsesAgain (parts_of state.now) planned.entry.place
+        planned.entry.number planned.entry.resolved.now) }
     ensures memory { IfErr result (λ e. e ≡ Memory) }
 {
-    let Some(class) = class_of(state, place, number) else {
+    let Some(class) = class_of(state, planned.place, planned.number) else {
         return Ok(None);
     };
-    let labels = resolved.labels(alloc)?;
-    match finished_build(state, place, resolved, &labels) {
+    let labels = planned.resolved.labels(alloc)?;
+    match finished_build(state, planned.place, planned.resolved, &labels) {
         Some(found) => Ok(Some(realised(alloc, &state.table, found, class)?)),
         None => Ok(None),
     }

@@ -29,9 +29,9 @@ returns-in_err-trees-clause-refused c =
     let p = err_from_is_err_and c.from_residual-in_err-trees.result c.from_residual-in_err-trees.ensures.1 in
     let are : c.in_ok-gained_by_all.field-0.items ≡ trees_gained c.in_ok-delivered.delivered.items =
     c.in_ok-gained_by_all.ensures ∙ ap trees_gained c.deref.ensures.value in
-    rw (p.1, p.2) (inl (only_memory (trusts c.args.state.now.trust) c.args.place c.args.state.now.limits.charge c.args.job.now
+    rw (p.1, p.2) (inl (only_memory (trusts c.args.state.now.trust) c.args.end.leader c.args.state.now.limits.charge c.args.end.job.now
     c.args.state.now.desks.items c.args.state.now.jobs.goals
-    c.args.state.now.table.sources (option_copied c.args.tree) c.in_ok-delivered.delivered.items c.in_ok-delivered.ensures.delivered c.in_err-trees.field-0.0
+    c.args.state.now.table.sources (option_copied c.args.end.tree) c.in_ok-delivered.delivered.items c.in_ok-delivered.ensures.delivered c.in_err-trees.field-0.0
     c.in_ok-gained_by_all.field-0.items are c.in_err-trees.ensures.refused))
 
 pub returns-in_err-additions : goal.returns-in_err-additions
@@ -48,7 +48,7 @@ pub returns-clause-prepared : goal.returns-clause-prepared
 returns-clause-prepared c =
     let delivered : List Delivered = c.in_ok-delivered.delivered.items in
     let are : c.in_ok-gained_by_all.field-0.items ≡ trees_gained delivered = c.in_ok-gained_by_all.ensures ∙ ap trees_gained c.deref.ensures.value in
-    let within : c.args.place < length delivered = (let count = c.in_ok-delivered.ensures.count in let below = c.requires.of_run in
+    let within : c.args.end.leader < length delivered = (let count = c.in_ok-delivered.ensures.count in let below = c.requires.of_run in
     let paired = c.args.state.now.run.paired in omega (arith, count, below, paired)) in
     record {
       made = c.in_ok-delivered.ensures.delivered;
@@ -60,12 +60,12 @@ returns-clause-prepared c =
       told = λ g is.
           let same : g ≡ c.unwrap-goal.result.now =
           (let some : option_copied c.get.result ≡ Some c.unwrap-goal.result.now = search rules in let own = sym is
-          ∙ ap (λ k. goal_at k (goals_of c.args.state.now.jobs.goals c.args.place)) (sym c.number-number.ensures) ∙ sym c.get.ensures ∙ some in cc) in
-          let statuses : map status_at c.as_slice.result.now ≡ statuses_for delivered c.args.place =
+          ∙ ap (λ k. goal_at k (goals_of c.args.state.now.jobs.goals c.args.end.leader)) (sym c.number-number.ensures) ∙ sym c.get.ensures ∙ some in cc) in
+          let statuses : map status_at c.as_slice.result.now ≡ statuses_for delivered c.args.end.leader =
           ap (map status_at) c.as_slice.ensures.value ∙ ap (λ (h : Delivered). statuses_delivered h) c.index.ensures
-          ∙ statuses_there delivered c.args.place c.index.result.now within in
+          ∙ statuses_there delivered c.args.end.leader c.index.result.now within in
           let status : status_of c.status.result.now ≡ g.status = c.status.ensures ∙ ap (λ (x : Goal). x.status) (sym same) in
           c.in_ok-told.ensures ∙ ap (λ (s : Status). last_status c.number-number.result s (map status_at c.as_slice.result.now)) status
           ∙ ap (last_status c.number-number.result g.status) statuses
-          ∙ ap (λ k. last_status k g.status (statuses_for delivered c.args.place)) c.number-number.ensures;
+          ∙ ap (λ k. last_status k g.status (statuses_for delivered c.args.end.leader)) c.number-number.ensures;
     }

@@ -22,16 +22,16 @@ pub copy_all-requires-clause-sound : goal.copy_all-requires-clause-sound
 copy_all-requires-clause-sound c =
     let s = c.args.state.now in
     subst (IsSound s.table.sources s.limits.charge) (sym c.index_mut.ensures.value)
-    (All-get_or (IsSound s.table.sources s.limits.charge) s.desks.items c.args.place c.index_mut.result.now
-    (has_desk s c.args.place c.requires.of_run) s.run.sound)
+    (All-get_or (IsSound s.table.sources s.limits.charge) s.desks.items c.args.planned.place c.index_mut.result.now
+    (has_desk s c.args.planned.place c.requires.of_run) s.run.sound)
 
 pub copy_all-requires-clause-closure : goal.copy_all-requires-clause-closure
 copy_all-requires-clause-closure c =
     let s = c.args.state.now in
-    rw c.closure.ensures (goal_closure s.table.sources s.jobs.goals c.args.place c.args.number c.args.resolved.now s.run.goals_sound c.requires.planned).0
+    rw c.closure.ensures (goal_closure s.table.sources s.jobs.goals c.args.planned.place c.args.planned.number c.args.planned.resolved.now s.run.goals_sound c.requires.planned).0
 
 pub set_status-requires-clause-of_run : goal.set_status-requires-clause-of_run
-set_status-requires-clause-of_run c = with_goals c.args.state.now c.args.place c.requires.of_run
+set_status-requires-clause-of_run c = with_goals c.args.state.now c.args.planned.place c.requires.of_run
 
 pub set_status-requires-clause-there : goal.set_status-requires-clause-there
 set_status-requires-clause-there c = rw c.requires.planned.there refl
@@ -39,10 +39,10 @@ set_status-requires-clause-there c = rw c.requires.planned.there refl
 pub invariant_of-state : goal.invariant_of-state
 invariant_of-state c =
     let s = c.args.state.now in
-    let place = c.args.place in
-    let n = c.args.number in
+    let place = c.args.planned.place in
+    let n = c.args.planned.number in
     let below = c.requires.of_run in
-    let r = c.args.resolved.now in
+    let r = c.args.planned.resolved.now in
     let it = c.requires.planned in
     let why = c.in_err-unless_full.field-0.0 in
     let told = c.in_err-unless_full.ensures in
@@ -59,10 +59,10 @@ pub returns-in_err-unless_full : goal.returns-in_err-unless_full
 returns-in_err-unless_full c =
     let p = err_from_is_err_and c.from_residual.result c.from_residual.ensures.1 in
     let s = c.args.state.now in
-    let place = c.args.place in
-    let n = c.args.number in
+    let place = c.args.planned.place in
+    let n = c.args.planned.number in
     let below = c.requires.of_run in
-    let r = c.args.resolved.now in
+    let r = c.args.planned.resolved.now in
     let it = c.requires.planned in
     let why = c.in_err-unless_full.field-0.0 in
     let told = c.in_err-unless_full.ensures in
@@ -75,10 +75,10 @@ returns-in_err-unless_full c =
 pub invariant_of-state-2 : goal.invariant_of-state-2
 invariant_of-state-2 c =
     let s = c.args.state.now in
-    let place = c.args.place in
-    let n = c.args.number in
+    let place = c.args.planned.place in
+    let n = c.args.planned.number in
     let below = c.requires.of_run in
-    let r = c.args.resolved.now in
+    let r = c.args.planned.resolved.now in
     let it = c.requires.planned in
     let P : Result (Unit {0}) Refusal → Type 0 = λ o. CopiesEntries s.limits.charge s.table.sources (desk_at s.desks.items place)
     r.closure o c.copy_all.new.table.sources c.copy_all.new.desk in
@@ -97,10 +97,10 @@ invariant_of-state-2 c =
 pub returns : goal.returns
 returns c =
     let s = c.args.state.now in
-    let place = c.args.place in
-    let n = c.args.number in
+    let place = c.args.planned.place in
+    let n = c.args.planned.number in
     let below = c.requires.of_run in
-    let r = c.args.resolved.now in
+    let r = c.args.planned.resolved.now in
     let it = c.requires.planned in
     let P : Result (Unit {0}) Refusal → Type 0 = λ o. CopiesEntries s.limits.charge s.table.sources (desk_at s.desks.items place)
     r.closure o c.copy_all.new.table.sources c.copy_all.new.desk in

@@ -16,21 +16,21 @@ use Rattle.goals.proofs.starting.start_anew.Goals as goal
 pub returns-in_err-job : goal.returns-in_err-job
 returns-in_err-job c =
     let p = err_from_is_err_and c.from_residual.result c.from_residual.ensures.1 in
-    rw (p.1, p.2, c.in_err-job.ensures.memory) (no_memory_so c.args.state.now c.args.place c.args.number c.requires.of_run c.args.resolved.now
+    rw (p.1, p.2, c.in_err-job.ensures.memory) (no_memory_so c.args.state.now c.args.planned.place c.args.planned.number c.requires.of_run c.args.planned.resolved.now
     c.requires.planned)
 
 pub returns-in_err-clone : goal.returns-in_err-clone
 returns-in_err-clone c =
     let p = err_from_is_err_and c.from_residual-in_err-clone.result c.from_residual-in_err-clone.ensures.1 in
-    rw (p.1, p.2) (no_memory_so c.args.state.now c.args.place c.args.number c.requires.of_run c.args.resolved.now c.requires.planned)
+    rw (p.1, p.2) (no_memory_so c.args.state.now c.args.planned.place c.args.planned.number c.requires.of_run c.args.planned.resolved.now c.requires.planned)
 
 pub returns-in_err-reply : goal.returns-in_err-reply
 returns-in_err-reply c =
     let p = err_from_is_err_and c.from_residual-in_err-reply.result c.from_residual-in_err-reply.ensures.1 in
-    rw (p.1, p.2) (no_memory_so c.args.state.now c.args.place c.args.number c.requires.of_run c.args.resolved.now c.requires.planned)
+    rw (p.1, p.2) (no_memory_so c.args.state.now c.args.planned.place c.args.planned.number c.requires.of_run c.args.planned.resolved.now c.requires.planned)
 
 pub enter-requires-clause-of_run : goal.enter-requires-clause-of_run
-enter-requires-clause-of_run c = with_goals c.args.state.now c.args.place c.requires.of_run
+enter-requires-clause-of_run c = with_goals c.args.state.now c.args.planned.place c.requires.of_run
 
 pub enter-requires-clause-idle : goal.enter-requires-clause-idle
 enter-requires-clause-idle c = rw c.requires.planned.there (ap is_building c.requires.planned.planned)
@@ -39,25 +39,25 @@ pub returns-in_err-enter : goal.returns-in_err-enter
 returns-in_err-enter c =
     let p = err_from_is_err_and c.from_residual-in_err-enter.result c.from_residual-in_err-enter.ensures.1 in
     rw (p.1, p.2, c.in_err-enter.ensures.memory, c.in_err-enter.ensures.kept)
-    (no_memory_so c.args.state.now c.args.place c.args.number c.requires.of_run c.args.resolved.now c.requires.planned)
+    (no_memory_so c.args.state.now c.args.planned.place c.args.planned.number c.requires.of_run c.args.planned.resolved.now c.requires.planned)
 
 pub copy_all-requires-clause-sound : goal.copy_all-requires-clause-sound
 copy_all-requires-clause-sound c =
     let s = c.args.state.now in
     subst (IsSound s.table.sources s.limits.charge) (sym c.index_mut.ensures.value)
-    (All-get_or (IsSound s.table.sources s.limits.charge) s.desks.items c.args.place c.index_mut.result.now
-    (has_desk s c.args.place c.requires.of_run) s.run.sound)
+    (All-get_or (IsSound s.table.sources s.limits.charge) s.desks.items c.args.planned.place c.index_mut.result.now
+    (has_desk s c.args.planned.place c.requires.of_run) s.run.sound)
 
 pub copy_all-requires-clause-closure : goal.copy_all-requires-clause-closure
 copy_all-requires-clause-closure c =
     let s = c.args.state.now in
-    rw c.closure.ensures (goal_closure s.table.sources s.jobs.goals c.args.place c.args.number c.args.resolved.now s.run.goals_sound c.requires.planned).0
+    rw c.closure.ensures (goal_closure s.table.sources s.jobs.goals c.args.planned.place c.args.planned.number c.args.planned.resolved.now s.run.goals_sound c.requires.planned).0
 
 pub leave_job-requires-clause-of_run : goal.leave_job-requires-clause-of_run
 leave_job-requires-clause-of_run c =
     let s = c.args.state.now in
-    let place = c.args.place in
-    let n = c.args.number in
+    let place = c.args.planned.place in
+    let n = c.args.planned.number in
     let below = c.requires.of_run in
     let it = c.requires.planned in
     entered_inside s.jobs c.enter.new.self place n it.goal c.in_ok-job.job it.there (with_goals s place below)
@@ -66,8 +66,8 @@ leave_job-requires-clause-of_run c =
 pub leave_job-requires-clause-there : goal.leave_job-requires-clause-there
 leave_job-requires-clause-there c =
     let s = c.args.state.now in
-    let place = c.args.place in
-    let n = c.args.number in
+    let place = c.args.planned.place in
+    let n = c.args.planned.number in
     let below = c.requires.of_run in
     let it = c.requires.planned in
     entered_there s.jobs c.enter.new.self place n it.goal c.in_ok-job.job it.there (with_goals s place below)
@@ -76,10 +76,10 @@ leave_job-requires-clause-there c =
 pub invariant_of-state-in-Ok : goal.invariant_of-state-in-Ok
 invariant_of-state-in-Ok c =
     let s = c.args.state.now in
-    let place = c.args.place in
-    let n = c.args.number in
+    let place = c.args.planned.place in
+    let n = c.args.planned.number in
     let below = c.requires.of_run in
-    let r = c.args.resolved.now in
+    let r = c.args.planned.resolved.now in
     let it = c.requires.planned in
     let result : c.copy_all.result ≡ Ok tt = search rules in
     let copies = copied_here s place below c.index_mut.result.now c.index_mut.ensures.value r.closure c.closure.result.now
@@ -95,10 +95,10 @@ invariant_of-state-in-Ok c =
 pub returns-in-Ok : goal.returns-in-Ok
 returns-in-Ok c =
     let s = c.args.state.now in
-    let place = c.args.place in
-    let n = c.args.number in
+    let place = c.args.planned.place in
+    let n = c.args.planned.number in
     let below = c.requires.of_run in
-    let r = c.args.resolved.now in
+    let r = c.args.planned.resolved.now in
     let it = c.requires.planned in
     let result : c.copy_all.result ≡ Ok tt = search rules in
     let copies = copied_here s place below c.index_mut.result.now c.index_mut.ensures.value r.closure c.closure.result.now
@@ -110,10 +110,10 @@ returns-in-Ok c =
 pub invariant_of-state-in-Err-1 : goal.invariant_of-state-in-Err-1
 invariant_of-state-in-Err-1 c =
     let s = c.args.state.now in
-    let place = c.args.place in
-    let n = c.args.number in
+    let place = c.args.planned.place in
+    let n = c.args.planned.number in
     let below = c.requires.of_run in
-    let r = c.args.resolved.now in
+    let r = c.args.planned.resolved.now in
     let it = c.requires.planned in
     let why = c.in-Err.why in
     let copies = copied_here s place below c.index_mut.result.now c.index_mut.ensures.value r.closure c.closure.result.now
@@ -130,10 +130,10 @@ invariant_of-state-in-Err-1 c =
 pub returns-in-Err : goal.returns-in-Err
 returns-in-Err c =
     let s = c.args.state.now in
-    let place = c.args.place in
-    let n = c.args.number in
+    let place = c.args.planned.place in
+    let n = c.args.planned.number in
     let below = c.requires.of_run in
-    let r = c.args.resolved.now in
+    let r = c.args.planned.resolved.now in
     let it = c.requires.planned in
     let why = c.in-Err.why in
     let copies = copied_here s place below c.index_mut.result.now c.index_mut.ensures.value r.closure c.closure.result.now

@@ -24,36 +24,36 @@ use Rattle.goals.proofs.starting.start_done.Goals as goal
 pub returns-in_err-path : goal.returns-in_err-path
 returns-in_err-path c =
     let p = err_from_is_err_and c.from_residual.result c.from_residual.ensures.1 in
-    rw (p.1, p.2) (no_memory_so c.args.state.now c.args.place c.args.number c.requires.of_run c.args.resolved.now c.requires.planned)
+    rw (p.1, p.2) (no_memory_so c.args.state.now c.args.planned.place c.args.planned.number c.requires.of_run c.args.planned.resolved.now c.requires.planned)
 
 pub returns-in_err-clone : goal.returns-in_err-clone
 returns-in_err-clone c =
     let p = err_from_is_err_and c.from_residual-in_err-clone.result c.from_residual-in_err-clone.ensures.1 in
-    rw (p.1, p.2) (no_memory_so c.args.state.now c.args.place c.args.number c.requires.of_run c.args.resolved.now c.requires.planned)
+    rw (p.1, p.2) (no_memory_so c.args.state.now c.args.planned.place c.args.planned.number c.requires.of_run c.args.planned.resolved.now c.requires.planned)
 
 pub returns-in_err-reply : goal.returns-in_err-reply
 returns-in_err-reply c =
     let p = err_from_is_err_and c.from_residual-in_err-reply.result c.from_residual-in_err-reply.ensures.1 in
-    rw (p.1, p.2) (no_memory_so c.args.state.now c.args.place c.args.number c.requires.of_run c.args.resolved.now c.requires.planned)
+    rw (p.1, p.2) (no_memory_so c.args.state.now c.args.planned.place c.args.planned.number c.requires.of_run c.args.planned.resolved.now c.requires.planned)
 
 pub copy_with-requires-clause-sound : goal.copy_with-requires-clause-sound
 copy_with-requires-clause-sound c =
     let s = c.args.state.now in
     subst (IsSound s.table.sources s.limits.charge) (sym c.index_mut.ensures.value)
-    (All-get_or (IsSound s.table.sources s.limits.charge) s.desks.items c.args.place c.index_mut.result.now
-    (has_desk s c.args.place c.requires.of_run) s.run.sound)
+    (All-get_or (IsSound s.table.sources s.limits.charge) s.desks.items c.args.planned.place c.index_mut.result.now
+    (has_desk s c.args.planned.place c.requires.of_run) s.run.sound)
 
 pub copy_with-requires-clause-closure : goal.copy_with-requires-clause-closure
 copy_with-requires-clause-closure c =
     let s = c.args.state.now in
-    rw c.closure.ensures (goal_closure s.table.sources s.jobs.goals c.args.place c.args.number c.args.resolved.now s.run.goals_sound c.requires.planned).0
+    rw c.closure.ensures (goal_closure s.table.sources s.jobs.goals c.args.planned.place c.args.planned.number c.args.planned.resolved.now s.run.goals_sound c.requires.planned).0
 
 pub copy_with-requires-clause-labelled : goal.copy_with-requires-clause-labelled
 copy_with-requires-clause-labelled c =
     subst (λ (entries : List Entry). IsLabelledBy entries c.args.built) (sym c.closure.ensures) (c.requires.built.labelled c.args.built refl)
 
 pub set_status-requires-clause-of_run : goal.set_status-requires-clause-of_run
-set_status-requires-clause-of_run c = with_goals c.args.state.now c.args.place c.requires.of_run
+set_status-requires-clause-of_run c = with_goals c.args.state.now c.args.planned.place c.requires.of_run
 
 pub set_status-requires-clause-there : goal.set_status-requires-clause-there
 set_status-requires-clause-there c = rw c.requires.planned.there refl
@@ -61,10 +61,10 @@ set_status-requires-clause-there c = rw c.requires.planned.there refl
 pub invariant_of-state : goal.invariant_of-state
 invariant_of-state c =
     let s = c.args.state.now in
-    let place = c.args.place in
-    let n = c.args.number in
+    let place = c.args.planned.place in
+    let n = c.args.planned.number in
     let below = c.requires.of_run in
-    let r = c.args.resolved.now in
+    let r = c.args.planned.resolved.now in
     let it = c.requires.planned in
     let both : List Entry = with_built r.closure c.args.built in
     let result : c.copy_with.result ≡ Ok tt = search rules in
@@ -84,10 +84,10 @@ invariant_of-state c =
 pub returns-in-Ok : goal.returns-in-Ok
 returns-in-Ok c =
     let s = c.args.state.now in
-    let place = c.args.place in
-    let n = c.args.number in
+    let place = c.args.planned.place in
+    let n = c.args.planned.number in
     let below = c.requires.of_run in
-    let r = c.args.resolved.now in
+    let r = c.args.planned.resolved.now in
     let it = c.requires.planned in
     let both : List Entry = with_built r.closure c.args.built in
     let result : c.copy_with.result ≡ Ok tt = search rules in
@@ -103,10 +103,10 @@ returns-in-Ok c =
 pub fail_for_room-requires-clause-full : goal.fail_for_room-requires-clause-full
 fail_for_room-requires-clause-full c =
     let s = c.args.state.now in
-    let place = c.args.place in
-    let n = c.args.number in
+    let place = c.args.planned.place in
+    let n = c.args.planned.number in
     let below = c.requires.of_run in
-    let r = c.args.resolved.now in
+    let r = c.args.planned.resolved.now in
     let it = c.requires.planned in
     let both : List Entry = with_built r.closure c.args.built in
     let result : c.copy_with.result ≡ Err Quota = search rules in
@@ -123,10 +123,10 @@ fail_for_room-requires-clause-full c =
 pub returns-in-Err-Quota : goal.returns-in-Err-Quota
 returns-in-Err-Quota c =
     let s = c.args.state.now in
-    let place = c.args.place in
-    let n = c.args.number in
+    let place = c.args.planned.place in
+    let n = c.args.planned.number in
     let below = c.requires.of_run in
-    let r = c.args.resolved.now in
+    let r = c.args.planned.resolved.now in
     let it = c.requires.planned in
     let both : List Entry = with_built r.closure c.args.built in
     let result : c.copy_with.result ≡ Err Quota = search rules in
@@ -139,10 +139,10 @@ returns-in-Err-Quota c =
 pub returns : goal.returns
 returns c =
     let s = c.args.state.now in
-    let place = c.args.place in
-    let n = c.args.number in
+    let place = c.args.planned.place in
+    let n = c.args.planned.number in
     let below = c.requires.of_run in
-    let r = c.args.resolved.now in
+    let r = c.args.planned.resolved.now in
     let it = c.requires.planned in
     let both : List Entry = with_built r.closure c.args.built in
     let why = c.in-Err.why in
