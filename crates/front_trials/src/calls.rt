@@ -3,7 +3,7 @@
 //! - `# TEXT` is printed as it is.
 //! - `CALL ARGUMENT` runs a call.
 
-use crate::{books, builds, crowd, exchanged, fronts, held, reads, sweeps, values};
+use crate::{books, crowd, exchanged, fronts, held, reads, sweeps, values};
 use model::Refusal;
 use std::alloc::Global;
 use std::hash::RandomState;
@@ -26,8 +26,6 @@ pub(crate) fn answer_line<R: Threads + Wait + Sync>(
             Ok(())
         }
         "threads" => fronts::threads(rt, alloc, hashing, out),
-        "gate_two_workers" => builds::gate_two_workers(rt, alloc, hashing, argument, out),
-        "built_once" => builds::built_once(rt, alloc, hashing, argument, out),
         "passes" => fronts::passes(rt, alloc, hashing, out),
         "held" => held::held(rt, alloc, hashing, argument, out),
         "prepared_while_held" => held::prepared_while_held(rt, alloc, hashing, argument, out),

@@ -6,7 +6,6 @@
 #![tactic(auto)]
 
 mod books;
-mod builds;
 mod calls;
 mod crowd;
 mod exchanged;
