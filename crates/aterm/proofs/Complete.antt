@@ -7,7 +7,8 @@ use Rattle.std.specs.List.{list_all, flat_map}
 use Rattle.model.proofs.BoolLemmas.{both_parts, bytes_same}
 use Rattle.model.specs.Derivations.{Derivation, has_texts, is_character, is_text, is_variable, character_text, derivation_text}
 use Rattle.aterm.proofs.Texts.{head, items_text, closed, closed_is, member_text, members_text, behind, variables_text, text_is, member_grouped, variable_grouped}
-use Rattle.model.specs.DerivationTexts.{Reader, ◌>>=◌, is_at, tag_at, with_item_first, items_at, escaped_at, character_at, quoted_at, member_at, members_at, variable_at, variables_at, derivation_at}
+use Rattle.model.specs.Results.{◌>>=◌}
+use Rattle.model.specs.DerivationTexts.{ItemReader, is_at, tag_at, with_item_first, items_at, escaped_at, character_at, quoted_at, member_at, members_at, variable_at, variables_at, derivation_at}
 
 -- ---- tags
 
@@ -21,11 +22,11 @@ tag_again tag rest = rw (take-append_seam tag rest, bytes_same tag, drop-append_
 -- ---- items
 
 -- of an item that passes the test the text is read as the item, and is no closing mark, behind the separators that are used
-pub record ReadsAgain (X : Type 0) (item : Reader X) (text : List ℕ → X → List ℕ) (test : X → Bool) (closing : List ℕ) (Used : List ℕ → Type 0) : Type 0 where
+pub record ReadsAgain (X : Type 0) (item : ItemReader X) (text : List ℕ → X → List ℕ) (test : X → Bool) (closing : List ℕ) (Used : List ℕ → Type 0) : Type 0 where
   pub again : (separator : List ℕ) (x : X) (rest : List ℕ) → Used separator → test x ≡ true → item separator (text separator x ++ rest) ≡ Some (x, rest)
   pub apart : (separator : List ℕ) (x : X) (rest : List ℕ) → Used separator → test x ≡ true → is_at closing (text separator x ++ rest) ≡ false
 
-pub items_again : {X : Type 0} (item : Reader X) (text : List ℕ → X → List ℕ) (test : X → Bool) (closing next : List ℕ) (Used : List ℕ → Type 0) → ReadsAgain X item text test closing Used → Used next
+pub items_again : {X : Type 0} (item : ItemReader X) (text : List ℕ → X → List ℕ) (test : X → Bool) (closing next : List ℕ) (Used : List ℕ → Type 0) → ReadsAgain X item text test closing Used → Used next
     → (xs : List X) (n : ℕ) (separator rest : List ℕ) → Used separator → list_all test xs ≡ true → length xs < n → items_at item closing next n separator (items_text text closing next separator xs ++ rest) ≡ Some (xs, rest)
 unfolding items_at
 items_again item text test closing next Used reads u xs zero separator rest v h lt = absurd (omega (arith, lt))

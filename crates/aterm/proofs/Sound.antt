@@ -5,7 +5,8 @@ use Rattle.std.specs.Cmp.Lexicographic.{same_text}
 use Rattle.std.proofs.lemmas.Bool.Decides.{nat_tests}
 use Rattle.model.specs.Derivations.{character_text}
 use Rattle.aterm.proofs.Texts.{items_text, closed, closed_is, member_text, members_text, behind, variables_text, member_grouped, variable_grouped}
-use Rattle.model.specs.DerivationTexts.{Reader, ◌>>=◌, is_at, tag_at, with_item_first, items_at, escaped_at, plain_at, character_at, quoted_at, member_at, members_at, variable_at, variables_at}
+use Rattle.model.specs.Results.{◌>>=◌}
+use Rattle.model.specs.DerivationTexts.{ItemReader, is_at, tag_at, with_item_first, items_at, escaped_at, plain_at, character_at, quoted_at, member_at, members_at, variable_at, variables_at}
 use Rattle.nar.proofs.ReadingLemmas.{if_true, if_either, some_same}
 
 -- ---- steps
@@ -33,10 +34,10 @@ tag_sound tag bytes rest h =
 -- ---- items
 
 -- what an item is read from is its text
-abbrev pub ReadsAs : {X : Type 0} → Reader X → (List ℕ → X → List ℕ) → Type 0
+abbrev pub ReadsAs : {X : Type 0} → ItemReader X → (List ℕ → X → List ℕ) → Type 0
 ReadsAs {X} item text = (separator bytes rest : List ℕ) (x : X) → item separator bytes ≡ Some (x, rest) → bytes ≡ text separator x ++ rest
 
-pub items_sound : {X : Type 0} (item : Reader X) (text : List ℕ → X → List ℕ) (closing next : List ℕ) → ReadsAs item text
+pub items_sound : {X : Type 0} (item : ItemReader X) (text : List ℕ → X → List ℕ) (closing next : List ℕ) → ReadsAs item text
     → (n : ℕ) (separator bytes rest : List ℕ) (xs : List X) → items_at item closing next n separator bytes ≡ Some (xs, rest) → bytes ≡ items_text text closing next separator xs ++ rest
 unfolding items_at
 items_sound item text closing next each zero separator bytes rest xs h = cc

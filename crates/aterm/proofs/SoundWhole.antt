@@ -5,7 +5,8 @@ use Rattle.std.specs.Cmp.Lexicographic.{same_text}
 use Rattle.model.specs.Derivations.{Derivation, derivation_text}
 use Rattle.aterm.proofs.Texts.{head, closed, members_text, variables_text, text_is}
 use Rattle.aterm.proofs.Sound.{bind_some, string_sound, members_sound, variables_sound}
-use Rattle.model.specs.DerivationTexts.{◌>>=◌, quoted_at, members_at, variables_at, derivation_at}
+use Rattle.model.specs.Results.{◌>>=◌}
+use Rattle.model.specs.DerivationTexts.{quoted_at, members_at, variables_at, derivation_at}
 use Rattle.nar.proofs.ReadingLemmas.{if_true, some_same}
 
 -- what is read, with what was read before it

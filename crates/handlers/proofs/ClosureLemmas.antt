@@ -285,7 +285,7 @@ plan_parts p entries e =
 
 pub is_closure : ClosuresAreWhole → (table : List Source) (view : List Holdings) (pins : List Pin) (classes sources : List (List ℕ)) (entries : List Entry)
     → All IsClosed view
-    → ((s : List Desk) → visible_on s ≡ seen table view → closures.closure s pins classes sources ≡ Ok entries) → IsClosure entries
+    → ((s : List Desk) → visible_on s ≡ seen table view → closures.closure_entries s pins classes sources ≡ Ok entries) → IsClosure entries
 is_closure law table view pins classes sources entries closed served =
     let s : List Desk = desk_with (seen table view) ∷ [] in
     let is : visible_on s ≡ seen table view = on_one_desk (seen table view) in

@@ -12,7 +12,7 @@ use Rattle.model.specs.Events as events
 use Rattle.model.specs.Replies as replies
 use Rattle.model.specs.Choices.{Plan, choose, source_before, source_among, needed_sources, closure_plan, visible_records, visible_sources}
 use Rattle.model.specs.Orders.{set_of}
-use Rattle.model.specs.Closures.{served_plan, texts_of_plan, closure, closure_texts, path_for}
+use Rattle.model.specs.Closures.{served_plan, texts_of_plan, closure_entries, closure_texts, path_for}
 use Rattle.model.specs.ClosureRequests.{closure_for, take_entries, take}
 use Rattle.model.specs.Outcomes.{Observation, observation_of, view_of, becomes, need, room}
 use Rattle.model.specs.Steps.{outcome}
@@ -144,7 +144,7 @@ module _ (law : ServedAreMade) (users : List (List ℕ)) (limit : ℕ) (trust : 
       All-cons (IsHashed texts) (source_of_entry e) (map source_of_entry es) (one_hashed texts p hashed planned e (own e (inl refl)))
       (all_hashed texts p hashed planned es (λ x h. own x (inr h)))
 
-  pub entries_hashed : closure (view_of run w u) (w u).pins classes sources ≡ Ok entries → HasSoundPlanOf run w u classes sources → (texts : List (List ℕ))
+  pub entries_hashed : closure_entries (view_of run w u) (w u).pins classes sources ≡ Ok entries → HasSoundPlanOf run w u classes sources → (texts : List (List ℕ))
       → All (IsHashed texts) table → All (Contains texts) (closure_texts (view_of run w u) (w u).pins classes sources)
       → All (IsHashed texts) (map source_of_entry entries)
   entries_hashed served plans texts hashed inside =

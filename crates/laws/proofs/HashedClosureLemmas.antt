@@ -15,7 +15,7 @@ use Rattle.model.specs.References.{paths_of_labels}
 use Rattle.model.specs.Choices.{visible_records, visible_sources, rank_before, choose, is_of, is_of_any, names_class_of, all_chosen, needed_records, Plan, plan_by, closure_plan}
 use Rattle.model.specs.Repairs.{Replacement, replacements_of, changes_path, is_replaced_by, new_labels, rewritten, relabelled, serve, chosen_in, serve_all, resettling_texts, relabelling_texts, texts_of_replacements, texts_unless, texts_in_turn}
 use Rattle.model.specs.Results.{then_do}
-use Rattle.model.specs.Closures.{class_of_entry, is_for, path_for, path_of_class, entries_with, served_entries, served_plan, closure, texts_of_plan, closure_texts}
+use Rattle.model.specs.Closures.{class_of_entry, is_for, path_for, path_of_class, entries_with, served_entries, served_plan, closure_entries, texts_of_plan, closure_texts}
 use Rattle.model.specs.HashedValues.{IsRepairPath, IsClosureRefused, IsRepairedEntry}
 use Rattle.model.proofs.BoolLemmas.{either, bytes_same}
 use Rattle.laws.proofs.MemberLemmas.{In, in_of, contains_of, in_right, in_map, in_filter_map, any_true, Stands, in_set}
@@ -159,7 +159,7 @@ module _ (view : List Desk) (pins : List Pin) (classes sources : List (List ℕ)
 
 -- the texts of a closure are hashed for what it says of paths
 pub closure_values : (V : List ℕ → Type 0) (view : List Desk) (pins : List Pin) (classes sources : List (List ℕ))
-    → ((path : List ℕ) → ClosureHas view pins classes sources (closure view pins classes sources) path → V path) → AreHashedFor V (closure_texts view pins classes sources)
+    → ((path : List ℕ) → ClosureHas view pins classes sources (closure_entries view pins classes sources) path → V path) → AreHashedFor V (closure_texts view pins classes sources)
 closure_values V view pins classes sources value = by (closure_plan view pins classes sources) refl
   where
     by : (o : Result Plan Refusal) → closure_plan view pins classes sources ≡ o → AreHashedFor V (texts_of_plan o)
@@ -220,7 +220,7 @@ module _ (view : List Desk) (pins : List Pin) (classes sources : List (List ℕ)
   ]
 
   -- and its entry in the closure
-  pub asked_for : (entries : List Entry) → closure view pins classes sources ≡ Ok entries → (c : List ℕ) → In c classes → (path : List ℕ) × (path_for c entries ≡ Some path)
+  pub asked_for : (entries : List Entry) → closure_entries view pins classes sources ≡ Ok entries → (c : List ℕ) → In c classes → (path : List ℕ) × (path_for c entries ≡ Some path)
   unfolding served_plan
   asked_for entries e c h =
       let a = then_ok (closure_plan view pins classes sources) served_plan entries e in

@@ -170,8 +170,8 @@ module _ (setup : Setup) (w : World) (e : Event) where
     abbrev from_closure : List (List ℕ)
     from_closure = closure_texts s.view s.desk.pins classes d.sources
 
-    plan_parts : (entries : List Entry) × (closures.closure s.view s.desk.pins classes d.sources ≡ Ok entries) × (resolved_over classes d entries ≡ Ok plans.resolved)
-    plan_parts = then_ok (closures.closure s.view s.desk.pins classes d.sources) (resolved_over classes d) plans.resolved plans.is
+    plan_parts : (entries : List Entry) × (closures.closure_entries s.view s.desk.pins classes d.sources ≡ Ok entries) × (resolved_over classes d entries ≡ Ok plans.resolved)
+    plan_parts = then_ok (closures.closure_entries s.view s.desk.pins classes d.sources) (resolved_over classes d) plans.resolved plans.is
 
     plan_kept : (a : Entry) → In a plans.resolved.closure → Q (held_of a)
     plan_kept a h =

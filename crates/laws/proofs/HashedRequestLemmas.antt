@@ -197,7 +197,7 @@ module _ (s : Observation) (n : ℕ) (g : Goal) (there : goal_at n s.desk.goals 
         },
       )
 
-  entry_value : (path : List ℕ) (entries : List Entry) → closures.closure s.view s.desk.pins classes d.sources ≡ Ok entries
+  entry_value : (path : List ℕ) (entries : List Entry) → closures.closure_entries s.view s.desk.pins classes d.sources ≡ Ok entries
       → IsRepairedEntry s.view s.desk.pins classes d.sources entries path → (o : Result Resolved Refusal) → resolved_over classes d entries ≡ o → IsAnswered s (Plan n) (plan_resolved s n g o) path
   entry_value path entries e own (Ok r) is =
       let same = resolved_is entries d classes r is in
@@ -207,7 +207,7 @@ module _ (s : Observation) (n : ℕ) (g : Goal) (there : goal_at n s.desk.goals 
       let whole : resolve s.view s.desk.pins (known_of s.desk) d ≡ Err why = ap (λ o. then_do o (resolved_over classes d)) e ∙ is in
       refused_value path why (TextRefused entries overlap e own whole)
 
-  plan_closure_value : (path : List ℕ) (o : Result (List Entry) Refusal) → closures.closure s.view s.desk.pins classes d.sources ≡ o
+  plan_closure_value : (path : List ℕ) (o : Result (List Entry) Refusal) → closures.closure_entries s.view s.desk.pins classes d.sources ≡ o
       → ClosureHas s.view s.desk.pins classes d.sources o path → IsAnswered s (Plan n) (plan_resolved s n g (then_do o (resolved_over classes d))) path
   plan_closure_value path (Err why) e own = refused_value path why (PlanRefused own)
   plan_closure_value path (Ok entries) e own = entry_value path entries e own (resolved_over classes d entries) refl
@@ -215,7 +215,7 @@ module _ (s : Observation) (n : ℕ) (g : Goal) (there : goal_at n s.desk.goals 
   scratch_values : (o : Result Resolved Refusal) → resolve_for s d ≡ o → AreHashedFor (IsAnswered s (Plan n) (plan_resolved s n g o)) (scratch_texts d o)
   scratch_values (Err why) e = for_none (IsAnswered s (Plan n) (plan_resolved s n g (Err why)))
   scratch_values (Ok r) e =
-      let w = then_ok (closures.closure s.view s.desk.pins classes d.sources) (resolved_over classes d) r e in
+      let w = then_ok (closures.closure_entries s.view s.desk.pins classes d.sources) (resolved_over classes d) r e in
       let own : r.scratch ≡ store_path Scratch (sha256 r.text) (name_of d) = sym (resolved_is w.0 d classes r w.2).1 in
       for_path (IsAnswered s (Plan n) (plan_resolved s n g (Ok r))) Scratch r.text (name_of d)
       (kept_value (store_path Scratch (sha256 r.text) (name_of d)) r (inl (sym own)))
@@ -224,7 +224,7 @@ module _ (s : Observation) (n : ℕ) (g : Goal) (there : goal_at n s.desk.goals 
   resolving_values =
       let V : List ℕ → Type 0 = IsAnswered s (Plan n) (plan_resolved s n g (resolve_for s d)) in
       for_both V (closures.closure_texts s.view s.desk.pins classes d.sources) (scratch_texts d (resolve_for s d))
-      (closure_values V s.view s.desk.pins classes d.sources (λ path own. plan_closure_value path (closures.closure s.view s.desk.pins classes d.sources) refl own))
+      (closure_values V s.view s.desk.pins classes d.sources (λ path own. plan_closure_value path (closures.closure_entries s.view s.desk.pins classes d.sources) refl own))
       (scratch_values (resolve_for s d) refl)
 
 module _ (s : Observation) (n : ℕ) where

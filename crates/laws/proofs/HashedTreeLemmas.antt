@@ -8,7 +8,7 @@ use Rattle.model.specs.Worlds.{Source, Record, Desk, Pin, Entry, OfSource, OfRec
 use Rattle.model.specs.References.{paths_of_labels}
 use Rattle.model.specs.Choices.{visible_records, visible_sources, source_before, choose, Plan, source_among, closure_plan}
 use Rattle.model.specs.Repairs.{Replacement, replacements_of, new_labels, relabelled, serve, chosen_in, serve_all, relabelling_texts, texts_of_replacements, texts_in_turn}
-use Rattle.model.specs.Closures.{entry_before, entries_with, served_entries, served_plan, closure, closure_texts}
+use Rattle.model.specs.Closures.{entry_before, entries_with, served_entries, served_plan, closure_entries, closure_texts}
 use Rattle.model.specs.HashedValues.{held_of, IsTreeOf, OutputOf}
 use Rattle.laws.proofs.MemberLemmas.{In, in_of, contains_of, in_left, in_right, in_append, in_map, from_map, from_filter_map, from_flat_map, from_set}
 use Rattle.laws.proofs.ServedLemmas.{then_ok, ok_is, some_same, each_parts, each_from, IsRepaired, relabelled_cases, serve_replacements, find_in, chosen_in_one}
@@ -81,7 +81,7 @@ module _ (view : List Desk) (pins : List Pin) (classes sources : List (List ℕ)
             (all_among texts (texts_in_turn (chosen_in p.records) p.records)
             (λ x h. turn_texts (chosen_in p.records) p.records served all r there x (subst (In x) (sym same) h))))
 
-  pub closure_trees : (entries : List Entry) → closure view pins classes sources ≡ Ok entries → (e : Entry) → In e entries → Q (held_of e)
+  pub closure_trees : (entries : List Entry) → closure_entries view pins classes sources ≡ Ok entries → (e : Entry) → In e entries → Q (held_of e)
   unfolding served_plan
   closure_trees entries given e h =
       let a = then_ok (closure_plan view pins classes sources) served_plan entries given in

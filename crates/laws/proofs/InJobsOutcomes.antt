@@ -81,7 +81,7 @@ module _ (jobs : Job → Bool) where
   -- ---- what is visible
 
   closure_in : (view : List Desk) (pins : List Pin) (classes sources : List (List ℕ))
-      → closures.closure (map (desk_in jobs) view) pins classes sources ≡ closures.closure view pins classes sources
+      → closures.closure_entries (map (desk_in jobs) view) pins classes sources ≡ closures.closure_entries view pins classes sources
   closure_in view pins classes sources =
       let records : visible_records (map (desk_in jobs) view) ≡ visible_records view = flat_map-map (λ d. d.records) (desk_in jobs) view in
       let trees : visible_sources (map (desk_in jobs) view) ≡ visible_sources view = flat_map-map (λ d. d.sources) (desk_in jobs) view in

@@ -465,7 +465,7 @@ resolved_plan : (view : List Desk) (pins : List worlds.Pin) (known : Known) (d :
     → (p : choices.Plan) × (choices.closure_plan view pins (input_classes known d) d.sources ≡ Ok p)
 resolved_plan view pins known d r is =
     let classes : List (List ℕ) = input_classes known d in
-    let one = then_ok (closures.closure view pins classes d.sources) (resolved_over classes d) r is in
+    let one = then_ok (closures.closure_entries view pins classes d.sources) (resolved_over classes d) r is in
     let two = then_ok (choices.closure_plan view pins classes d.sources) closures.served_plan one.0 one.1 in
     (two.0, two.1)
 

@@ -18,7 +18,7 @@ use Rattle.model.specs.References.{candidates, paths_of_labels}
 use Rattle.model.specs.Choices as choices
 use Rattle.model.specs.Choices.{closure_plan}
 use Rattle.model.specs.Repairs.{Replacement, replacements_of, changes_path, is_replaced_by, new_labels, rewritten, serve, chosen_in}
-use Rattle.model.specs.Closures.{closure, served_plan}
+use Rattle.model.specs.Closures.{closure_entries, served_plan}
 use Rattle.model.specs.Outputs.{settled_under}
 use Rattle.model.specs.Goals.{goal_at, is_in}
 use Rattle.model.specs.Endings.{labels_from}
@@ -88,13 +88,13 @@ pub record IsRepairedEntry (view : List Desk) (pins : List Pin) (classes sources
 -- the path of a repaired entry of a closure for which there is no room, or the closure is refused
 pub data IsTakeRefused (view : List Desk) (pins : List Pin) (class : List ℕ) (why : Refusal) (path : List ℕ) : Type 0 where
   TakeRefused : IsClosureRefused view pins (class ∷ []) [] why path → IsTakeRefused view pins class why path
-  NoRoomForEntries : (entries : List Entry) → why ≡ Quota → closure view pins (class ∷ []) [] ≡ Ok entries
+  NoRoomForEntries : (entries : List Entry) → why ≡ Quota → closure_entries view pins (class ∷ []) [] ≡ Ok entries
       → IsRepairedEntry view pins (class ∷ []) [] entries path → IsTakeRefused view pins class why path
 
 -- the path of a repaired entry of a closure, if two hash parts in a derivation's string share bytes (52 `Overlap`); or the closure is refused
 pub data IsPlanRefused (view : List Desk) (pins : List Pin) (known : Known) (d : Derivation) (why : Refusal) (path : List ℕ) : Type 0 where
   PlanRefused : IsClosureRefused view pins (input_classes known d) d.sources why path → IsPlanRefused view pins known d why path
-  TextRefused : (entries : List Entry) → why ≡ RewriteRefused Overlap → closure view pins (input_classes known d) d.sources ≡ Ok entries
+  TextRefused : (entries : List Entry) → why ≡ RewriteRefused Overlap → closure_entries view pins (input_classes known d) d.sources ≡ Ok entries
       → IsRepairedEntry view pins (input_classes known d) d.sources entries path → resolve view pins known d ≡ Err why
       → IsPlanRefused view pins known d why path
 
@@ -140,7 +140,7 @@ pub record IsEntryTold (s : Observation) (class : List ℕ) (reply : Reply) (pat
 -- the path of a repaired entry of a closure that is taken, which the user then holds
 pub record IsEntryTaken (s : Observation) (class : List ℕ) (reply : Reply) (later : Desk) (path : List ℕ) : Type 0 where
   pub entries : List Entry
-  pub given : closure s.view s.desk.pins (class ∷ []) [] ≡ Ok entries
+  pub given : closure_entries s.view s.desk.pins (class ∷ []) [] ≡ Ok entries
   pub told : List ℕ
   pub says : reply ≡ Path told
   pub is : IsRepairedEntry s.view s.desk.pins (class ∷ []) [] entries path

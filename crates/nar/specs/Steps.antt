@@ -1,7 +1,8 @@
 -- Reading the parts of an archive's nodes, in the steps that the readers take.
 use Rattle.std.specs.Prelude.{ℕ, ◌&&◌, List, bytes_eq, Bool, if◌then◌else◌, codes, Option, Some, None}
 use Rattle.model.specs.Archives.{bytes_before, is_entry_name}
-use Rattle.model.specs.ArchiveReading.{◌>>=◌, string_at, name_at}
+use Rattle.model.specs.Results.{◌>>=◌}
+use Rattle.model.specs.ArchiveReading.{string_at, name_at}
 
 -- whether an entry comes next
 unfoldable pub next_is_entry : List ℕ → Option Bool

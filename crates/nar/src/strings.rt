@@ -4,7 +4,7 @@
 
 ghost use Rattle.std.specs.Prelude.{◌≡◌, ◌-◌, ◌%◌, ◌++◌, replicate, IfOk, IfErr, MatchResult, Some, None};
 ghost use Rattle.model.specs.Archives.{archive_string};
-ghost use Rattle.model.specs.ArchiveReading.{length_at, string_at, tag_at};
+ghost use Rattle.model.specs.ArchiveReading.{length_at, string_at, token_at};
 ghost use Rattle.model.specs.declared.refusal.Refusal.TheVariants.{BadNar, Memory};
 ghost use Rattle.nar.specs.Outcomes.{Gives, IsMalformed};
 
@@ -47,9 +47,9 @@ pub(crate) fn read_string(bytes: &[u8]) -> Result<(&[u8], &[u8]), ReadError>
 /// # Errors
 ///
 /// - `Malformed` exactly where the text does not begin with it.
-#[tactic(auto, unfolding(model::specs::ArchiveReading::tag_at))]
+#[tactic(auto, unfolding(model::specs::ArchiveReading::token_at))]
 pub(crate) fn skip_string<'a>(bytes: &'a [u8], tag: &[u8]) -> Result<&'a [u8], ReadError>
-    ensures read { Gives (λ rest. rest.now) result (tag_at tag.now bytes.now) }
+    ensures read { Gives (λ rest. rest.now) result (token_at tag.now bytes.now) }
     ensures malformed { IfErr result IsMalformed }
 {
     let (text, rest) = read_string(bytes)?;

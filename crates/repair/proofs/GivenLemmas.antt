@@ -9,7 +9,7 @@ use Rattle.model.specs.Worlds.{Source, Label, Record, Desk, Pin, Entry, OfSource
 use Rattle.model.specs.References.{paths_of_labels}
 use Rattle.model.specs.Choices.{visible_records, visible_sources, sources_below, source_before, choose, Plan, source_among, closure_plan}
 use Rattle.model.specs.Repairs.{new_label, chosen_in, serving_texts}
-use Rattle.model.specs.Closures.{entry_before, entries_with, served_plan, texts_of_plan, closure, closure_texts, IsWhole, SeesSources, KeepsNoReplaced}
+use Rattle.model.specs.Closures.{entry_before, entries_with, served_plan, texts_of_plan, closure_entries, closure_texts, IsWhole, SeesSources, KeepsNoReplaced}
 use Rattle.model.proofs.BoolLemmas.{bytes_same}
 use Rattle.laws.proofs.MemberLemmas.{In, in_of, contains_of, in_append, in_flat_map, from_map, from_filter_map, from_flat_map, from_set}
 use Rattle.laws.proofs.ServedLemmas.{then_ok, relabelled_cases, serve_replacements, chosen_in_list, find_in, find_some}
@@ -113,7 +113,7 @@ module _ (texts : List (List ℕ)) (view : List Desk) (held : (d : Desk) → In 
 
     whole : IsWhole entries
     whole =
-        let made : closure view pins classes sources ≡ Ok entries = subst (λ (o : Result Plan Refusal). then_do o served_plan ≡ Ok entries) (sym planned) served in
+        let made : closure_entries view pins classes sources ≡ Ok entries = subst (λ (o : Result Plan Refusal). then_do o served_plan ≡ Ok entries) (sym planned) served in
         closures_whole view pins classes sources entries sees made
 
     -- where no two texts clash
@@ -159,7 +159,7 @@ module _ (texts : List (List ℕ)) (view : List Desk) (held : (d : Desk) → In 
 
   -- ---- the closure that is asked for
 
-  module _ (pins : List Pin) (classes sources : List (List ℕ)) (entries : List Entry) (given : closure view pins classes sources ≡ Ok entries)
+  module _ (pins : List Pin) (classes sources : List (List ℕ)) (entries : List Entry) (given : closure_entries view pins classes sources ≡ Ok entries)
       (hashed : All (Contains texts) (closure_texts view pins classes sources)) where
     closure_parts : (p : Plan) × (closure_plan view pins classes sources ≡ Ok p) × (served_plan p ≡ Ok entries)
     closure_parts = then_ok (closure_plan view pins classes sources) served_plan entries given

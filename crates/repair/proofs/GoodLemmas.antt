@@ -8,7 +8,7 @@ use Rattle.model.specs.Paths.{Scratch, IsPath, NoClash, store_path}
 use Rattle.model.specs.Derivations.{Derivation, name_of}
 use Rattle.model.specs.Classes.{Admission, known_at}
 use Rattle.model.specs.Worlds.{Setup, is_user, World, nothing, Resolved, Planned, Goal, Desk, known_of}
-use Rattle.model.specs.Closures.{closure, closure_texts}
+use Rattle.model.specs.Closures.{closure_entries, closure_texts}
 use Rattle.model.specs.Goals.{goal_at, with_goal_at, with_goal}
 use Rattle.model.specs.Endings.{Output, Failure}
 use Rattle.model.specs.Resolutions.{input_classes, resolved_over, scratch_texts}
@@ -77,9 +77,9 @@ module _ (texts : List (List ℕ)) (setup : Setup) (w : World) (sound : IsSoundW
         (goal_hashes texts s n it.goal it.admission it.there it.waits it.known (asked_texts texts setup w e (Plan n) user asked inside))
 
     -- its closure, and the path under which it is built
-    planned_parts : (closure s.view s.desk.pins classes d.sources ≡ Ok it.resolved.closure) × (store_path Scratch (sha256 it.resolved.text) (name_of d) ≡ it.resolved.scratch)
+    planned_parts : (closure_entries s.view s.desk.pins classes d.sources ≡ Ok it.resolved.closure) × (store_path Scratch (sha256 it.resolved.text) (name_of d) ≡ it.resolved.scratch)
     planned_parts =
-        let parts = then_ok (closure s.view s.desk.pins classes d.sources) (resolved_over classes d) it.resolved it.is in
+        let parts = then_ok (closure_entries s.view s.desk.pins classes d.sources) (resolved_over classes d) it.resolved it.is in
         let same = resolved_is parts.0 d classes it.resolved parts.2 in
         (parts.1 ∙ ap Ok same.0, same.1)
 
