@@ -3,14 +3,13 @@
 ghost use Rattle.std.specs.Prelude.{◌≡◌, ◌++◌, ℕ, List, [], length, Ok, None};
 ghost use Rattle.sha2.specs.Sha256.{sha256};
 
-use nar::{Faults, Sink};
 use sha2::{Digest, Sha256};
 use std::io;
 use std::io::Write;
 
 /// What takes a text in pieces, and gives its SHA-256 digest, however the text was cut. It takes no memory.
 ///
-/// It is a [`Sink`] for the archive of a tree, and a writer, which takes all that is written and never fails.
+/// It is a writer, which takes all that is written and never fails.
 #[derive(Drop)]
 pub struct Hasher {
     inner: Sha256,
@@ -41,26 +40,6 @@ impl Hasher {
     {
         let Hasher { inner } = self;
         inner.finalize()
-    }
-}
-
-impl Sink for Hasher {
-    ghost use Rattle.std.specs.Prelude.{◌++◌, ℕ, List};
-    ghost use Rattle.hashmod.specs.Hashing.{HasTaken};
-
-    ghost took = { λ start now text. (taken : List ℕ) → HasTaken start taken → HasTaken now (taken ++ text) };
-
-    fn take(&mut self, piece: &[u8]) {
-        self.update(piece);
-    }
-}
-
-/// It never fails.
-impl Faults for Hasher {
-    ghost failed = { λ _. 0 };
-
-    fn failures(&self) -> u64 {
-        0
     }
 }
 

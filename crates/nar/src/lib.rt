@@ -10,6 +10,7 @@
 //! | [`Tree::file`], [`Tree::link`], [`Tree::dir`] | a tree of its parts |
 //! | [`encode`], [`decode`] | the archive of a tree, and the tree of an archive |
 //! | [`write_nar`], [`hand_archive`] | the archive of a tree, written to a writer or handed to a [`Sink`], and never made |
+//! | [`nar_digest`] | the SHA-256 digest of the archive of a tree, which is not made |
 //! | [`write_whole`] | a text, written to a writer that counts its failures ([`Faults`]) |
 //! | [`tree_text`], [`read_tree_text`] | the tree text of a tree, and the tree of a tree text |
 //! | [`str_text`], [`read_str`] | one string of an archive, and the content of the string in front |
@@ -18,6 +19,7 @@
 
 mod archive_reader;
 mod archive_writer;
+mod digest;
 mod digits;
 mod faults;
 mod law;
@@ -38,6 +40,7 @@ mod writing;
 
 pub use archive_reader::decode;
 pub use archive_writer::{Nar, encode, write_nar};
+pub use digest::nar_digest;
 pub use digits::decode_digits;
 pub use faults::{Faults, has_failed};
 pub use law::{archives_are_read, archives_differ, strings_are_read, texts_differ};

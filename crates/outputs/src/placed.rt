@@ -5,9 +5,8 @@ ghost use Rattle.model.specs.Archives.{IsTree};
 ghost use Rattle.model.specs.Paths.{source_path};
 ghost use Rattle.model.specs.declared.refusal.Refusal.TheVariants.{Memory};
 
-use hashmod::nar_digest;
 use model::Refusal;
-use nar::Tree;
+use nar::{Tree, nar_digest};
 use std::alloc::Global;
 use storepath::{Kind, Name, StorePath, make_path};
 

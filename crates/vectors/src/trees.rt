@@ -1,9 +1,9 @@
 //! Trees and their archives.
 
 use crate::answer::Answer;
-use hashmod::{Hasher, nar_digest, sha256};
+use hashmod::{Hasher, sha256};
 use model::Refusal;
-use nar::{Nar, Tree, decode, encode, read_tree_text, tree_text, write_nar};
+use nar::{Nar, Tree, decode, encode, nar_digest, read_tree_text, tree_text, write_nar};
 use std::alloc::Global;
 
 /// Adds the text of a tree.

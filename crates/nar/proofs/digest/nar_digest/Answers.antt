@@ -1,7 +1,7 @@
 use Rattle.std.proofs.Common.{ℕ, List, [], ◌++◌, subst, sym, append-nil}
 use Rattle.model.specs.Archives.{nar}
 use Rattle.hashmod.specs.Hashing.{HasTaken}
-use Rattle.hashmod.proofs.digest.nar_digest.Goals as goal
+use Rattle.nar.proofs.digest.nar_digest.Goals as goal
 
 pub returns-clause-digest : goal.returns-clause-digest
 returns-clause-digest c =
