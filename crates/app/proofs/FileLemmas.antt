@@ -7,7 +7,7 @@ use Rattle.std.proofs.Math.ListN.{get_or-map}
 use Rattle.model.specs.declared.refusal.Refusal.{Refusal}
 use Rattle.model.specs.declared.refusal.Refusal.TheVariants.{Quota}
 use Rattle.command_line.specs.declared.settings.Run.{Run}
-use Rattle.running.specs.declared.sessions.Part.{Part}
+use Rattle.teams.specs.declared.sessions.Part.{Part}
 use Rattle.app.specs.declared.opening.Opened.{Opened}
 use Rattle.app.specs.declared.opening.Refused.{Refused}
 use Rattle.app.specs.Opening.{IsOpened, AreOpened, CannotOpen, IsUnopened}

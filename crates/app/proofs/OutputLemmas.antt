@@ -7,7 +7,7 @@ use Rattle.std.proofs.lemmas.Grind.{flat_map-append}
 use Rattle.std.proofs.lemmas.List.{append-nil, take_more, take-append-drop, take-append-le}
 use Rattle.std.proofs.Math.Seq.{take-append-add, take-length}
 use Rattle.model.specs.declared.refusal.Refusal.{Refusal}
-use Rattle.running.specs.declared.sessions.SessionOutput.{SessionOutput}
+use Rattle.teams.specs.declared.sessions.SessionOutput.{SessionOutput}
 use Rattle.app.specs.Runs.{texts_of, AppendsFront, end_or, place_or, first_end, first_place}
 
 -- ---- what is written

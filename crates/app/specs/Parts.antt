@@ -5,8 +5,8 @@ use Rattle.model.specs.declared.mode.Mode.TheVariants.{Run}
 use Rattle.model.specs.declared.refusal.Refusal.TheVariants.{BadUsers, InputFault, Memory}
 use Rattle.session.specs.Ahead.{LooksAhead}
 use Rattle.session.specs.Serving.{HasFailed}
-use Rattle.running.specs.InputHeads.{BeginsOtherwise, BeginsWithUsers}
-use Rattle.running.specs.declared.sessions.Part.{Part}
+use Rattle.session.specs.InputHeads.{BeginsOtherwise, BeginsWithUsers}
+use Rattle.teams.specs.declared.sessions.Part.{Part}
 use Rattle.app.specs.declared.opening.Opened.{Opened}
 use Rattle.app.specs.declared.opening.Refused.{Refused}
 

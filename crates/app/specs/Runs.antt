@@ -6,12 +6,12 @@ use Rattle.model.specs.declared.refusal.Refusal.TheVariants.{BadUsers, Quota, Me
 use Rattle.model.specs.Goals.{Running}
 use Rattle.model.specs.Worlds.{are_users}
 use Rattle.builder.specs.declared.runner.RunFault.{RunFault}
-use Rattle.running.specs.declared.sessions.SessionOutput.{SessionOutput}
-use Rattle.running.specs.declared.sessions.Part.{Part}
+use Rattle.teams.specs.declared.sessions.SessionOutput.{SessionOutput}
+use Rattle.teams.specs.declared.sessions.Part.{Part}
 use Rattle.running.specs.declared.runs.Results.{Results}
 use Rattle.running.specs.ServedSessions.{passes_needed}
 use Rattle.running.specs.Runs.{AreResults}
-use Rattle.running.specs.Sessions.{CannotBegin}
+use Rattle.teams.specs.Sessions.{CannotBegin}
 use Rattle.session.specs.Serving.{IsUnwritten}
 use Rattle.app.specs.declared.opening.Opened.{Opened}
 use Rattle.app.specs.declared.opening.Refused.{Refused}

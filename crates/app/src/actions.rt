@@ -6,7 +6,7 @@ ghost use Rattle.model.specs.declared.refusal.Refusal.TheVariants.{BadUsers, Quo
 ghost use Rattle.session.specs.Serving.{EndsByCounts, IsOwn, IsShown};
 ghost use Rattle.replaying.specs.Ended.{RepliesToAll, RepliesInPart, RepliesSoFar, WritesForUser, WritesForUserInPart};
 ghost use Rattle.replaying.specs.Striking.{StrikeEndsBy};
-ghost use Rattle.running.specs.Sessions.{CannotBegin};
+ghost use Rattle.teams.specs.Sessions.{CannotBegin};
 ghost use Rattle.running.specs.ServedSessions.{passes_needed};
 ghost use Rattle.running.specs.Runs.{AreResults};
 ghost use Rattle.app.specs.Actions.{IsReplay, WhereStrikes, nothing_told};
@@ -15,7 +15,7 @@ use builder::Runner;
 use command_line::{Action, Options};
 use model::Refusal;
 use replaying::{BadLines, Observer, Settings, replay, strike};
-use running::{Part, Results, run};
+use running::{Results, run};
 use schedule::{Limits, User};
 use session::Faults;
 use std::alloc::Global;
@@ -23,6 +23,7 @@ use std::hash::RandomState;
 use std::io::{Read, Write};
 use std::sync::Wait;
 use std::thread::Threads;
+use teams::Part;
 
 /// The limits that the options set.
 fn limits_of(options: &Options) -> Limits

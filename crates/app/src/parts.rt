@@ -4,11 +4,11 @@ ghost use Rattle.std.specs.Prelude.{IfOk, IfErr};
 ghost use Rattle.app.specs.Parts.{AreNamed, AreParts, HeadNames, IsPartOf, IsRefused, IsRefusedFor};
 
 use crate::opening::{Opened, Refused};
-use running::{InputHead, Part, look_ahead};
 use schedule::User;
-use session::Faults;
+use session::{Faults, InputHead, look_ahead};
 use std::alloc::Global;
 use std::io::Read;
+use teams::Part;
 
 /// What is run for a file, and the users whom it names.
 #[derive(Drop)]

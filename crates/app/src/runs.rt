@@ -16,7 +16,7 @@ use crate::waiting::tell_waiting;
 use builder::Runner;
 use command_line::{Options, Run};
 use model::Refusal;
-use running::{Results, SessionOutput};
+use running::Results;
 use session::{Counted, Faults, flush_after, write_whole};
 use std::alloc::Global;
 use std::hash::RandomState;
@@ -24,6 +24,7 @@ use std::io::{Eprint, Read, Write};
 use std::sync::Wait;
 use std::thread::Threads;
 use std::{io, mem};
+use teams::SessionOutput;
 
 /// Runs the lines of files that are open as sessions of one store.
 ///

@@ -16,7 +16,7 @@ use Rattle.history.specs.Histories.{row, unrecorded, IsReadAfter}
 use Rattle.builder.specs.Working.{Call}
 use Rattle.running.specs.Calling.{is_read, has_row, IsTold, own_rows, rows_for, AnsweredInOrder}
 use Rattle.running.specs.Meeting.{HasMet, unrecorded_cases, is_stopped, stopped_met, stopped_called}
-use Rattle.running.specs.Sessions.{Calls}
+use Rattle.teams.specs.Sessions.{Calls}
 
 -- ---- rows of one pass
 

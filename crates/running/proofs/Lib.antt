@@ -1,11 +1,6 @@
 mod ToldLemmas
 mod ChainLemmas
 mod Sending
-mod WaitLemmas
-mod MeetLemmas
-mod TeamLemmas
-mod InputHeadLemmas
-mod ServedLemmas
 mod RunLemmas
 mod AskedLemmas
 mod ServedSessionLemmas

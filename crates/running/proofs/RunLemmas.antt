@@ -25,12 +25,12 @@ use Rattle.session.specs.Serving.{Link, Chain}
 use Rattle.book.specs.Asking.{IsAskedBy}
 use Rattle.running.specs.Calling.{IsTold, Stand, is_read}
 use Rattle.running.specs.Meeting.{HasMet, IsNew, is_stopped, met_none, met_more, met_asking, stopped_told, stops_by}
-use Rattle.running.specs.Sessions.{Answers, Waits, IsStatusOf, AsksStatus, Calls, Served, ServedInPart}
-use Rattle.running.specs.Teams.{HasWorked, AllWorked}
+use Rattle.teams.specs.Sessions.{Answers, Waits, IsStatusOf, AsksStatus, Calls, Served, ServedInPart}
+use Rattle.teams.specs.Teams.{HasWorked, AllWorked}
 use Rattle.running.specs.ServedSessions.{numbers_in}
 use Rattle.running.specs.Runs.{Makes, is_told, tell, LinesStand, Ran, RanInPart, WorkerStands, WorkersStand, IsGivenBack}
-use Rattle.running.proofs.WaitLemmas.{calls_append}
-use Rattle.running.proofs.TeamLemmas.{rounds_chain}
+use Rattle.teams.proofs.WaitLemmas.{calls_append}
+use Rattle.teams.proofs.TeamLemmas.{rounds_chain}
 use Rattle.running.proofs.ChainLemmas.{own_longer, chain_adds, chain_counts, chain_stopped, chain_order}
 
 -- ---- 90 and 92

@@ -1,6 +1,6 @@
 -- Sessions that are served, their passes, and what they give.
 use Rattle.std.proofs.Common.{Result, Ok, Err, ◌≡◌, ℕ, zero, suc, ◌+◌, ◌-◌, ◌<◌, true, false, refl, sym, ◌∙◌, ap, subst, arith, List, [], ◌∷◌, ◌++◌, length, drop, Bool, Option}
-use Rattle.std.specs.Prelude.{map, sum, sum_by, slice_index_or, get_or, take, min, All, IfOk}
+use Rattle.std.specs.Prelude.{map, sum, sum_by, get_or, take, min, All, IfOk}
 use Rattle.std.proofs.lemmas.List.{length-map, length-append, map-append, append_assoc, append-nil, take_more}
 use Rattle.std.proofs.lemmas.List.Elements.{All-head, All-tail, All-drop, All-take}
 use lib.Seq.{drop-append_seam, take-append_seam}
@@ -12,20 +12,18 @@ use mathlib.Core.List.{IsPrefix}
 use Rattle.model.specs.declared.refusal.Refusal.{Refusal}
 use Rattle.model.specs.Worlds.{Setup}
 use Rattle.model.specs.Goals.{Running}
-use Rattle.events.specs.declared.event.Event.{Event}
-use Rattle.events.specs.declared.reply.Reply.{Reply}
 use Rattle.history.specs.Callers.{PassKnowledge, new_pass, below, rows_of, stops_of}
 use Rattle.book.specs.declared.closed_history.History.{History}
 use Rattle.book.specs.Closing.{rows_in}
-use Rattle.running.specs.declared.sessions.ServedSession.{ServedSession}
-use Rattle.running.specs.declared.sessions.Left.{Left}
-use Rattle.running.specs.declared.sessions.SessionOutput.{SessionOutput}
-use Rattle.running.specs.declared.sessions.Part.{Part}
+use Rattle.teams.specs.declared.sessions.ServedSession.{ServedSession}
+use Rattle.teams.specs.declared.sessions.Left.{Left}
+use Rattle.teams.specs.declared.sessions.SessionOutput.{SessionOutput}
+use Rattle.teams.specs.declared.sessions.Part.{Part}
 use Rattle.running.specs.Calling.{IsTold}
 use Rattle.running.specs.Meeting.{HasMet, IsNew, is_stopped, stops_by}
-use Rattle.running.specs.Sessions.{Outputs}
-use Rattle.running.specs.Teams.{AllNew, stops_in}
-use Rattle.running.specs.ServedSessions.{AreFirst, IsSessionFor, AreSessionsFor, passes_for, passes_needed, session_passes, passes_left, all_passes, numbers_in, all_numbers, stops_left, IsPool, ArePools, OutputOf, AllOutputs}
+use Rattle.teams.specs.Sessions.{Outputs, AllOutputs}
+use Rattle.teams.specs.Teams.{AllNew, stops_in}
+use Rattle.running.specs.ServedSessions.{AreFirst, IsSessionFor, AreSessionsFor, passes_for, passes_needed, session_passes, passes_left, all_passes, numbers_in, all_numbers, stops_left, IsPool, ArePools}
 use Rattle.running.specs.Runs.{IsGivenBack, AreOutputs, WorkersStand, AreServed, IsClosed, AreResults, are_accounted}
 use Rattle.running.specs.Asked.{are_asked}
 use Rattle.running.specs.declared.runs.Results.{Results}
@@ -251,23 +249,6 @@ pub all_push : {Q : Type 0} (lefts : List (Left PassKnowledge Q)) (left : Left P
 all_push [] left = append-nil (passes_left left)
 all_push (l ∷ ls) left =
     ap (λ (ps : List PassKnowledge). passes_left l ++ ps) (all_push ls left) ∙ sym (append_assoc (passes_left l) (all_passes ls) (passes_left left))
-
--- ---- outputs that threads gave
-
-module _ {S Q I : Type 0} (called : S → Event → Reply → S → Type 0) (met : S → S → Type 0) (stopped : S → Bool) (remaining : I → Option (List ℕ)) where
-  -- where each place has what its session leaves, all have
-  pub each_output : (served_sessions : List (ServedSession S Q I)) (lefts : List (Left S Q)) → length lefts ≡ length served_sessions
-      → ((i : ℕ) (d : Left S Q) → i < length served_sessions
-      → (session : ServedSession S Q I) × ((e : ServedSession S Q I) → slice_index_or served_sessions i e ≡ session) × OutputOf called met stopped remaining session (slice_index_or lefts i d))
-      → AllOutputs called met stopped remaining served_sessions lefts
-  each_output [] [] same each = tt
-  each_output (d ∷ ds) (l ∷ ls) same each =
-      let first = each 0 l (omega arith) in (
-        subst (λ (session : ServedSession S Q I). OutputOf called met stopped remaining session l) (sym (first.1 d)) first.2,
-        each_output ds ls (omega (arith, same)) (λ i e inside. each (suc i) e (omega (arith, inside))),
-      )
-  each_output [] (l ∷ ls) same each = absurd (omega (arith, same))
-  each_output (d ∷ ds) [] same each = absurd (omega (arith, same))
 
 -- ---- all files
 

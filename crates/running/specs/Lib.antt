@@ -1,8 +1,5 @@
 pub mod Calling
 pub mod Meeting
-pub mod Teams
-pub mod Sessions
-pub mod InputHeads
 pub mod ServedSessions
 pub mod Asked
 pub mod Runs

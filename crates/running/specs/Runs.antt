@@ -25,13 +25,13 @@ use Rattle.builder.specs.declared.ticket.Ticket.{Ticket}
 use Rattle.builder.specs.declared.worker.Worker.{Worker}
 use Rattle.builder.specs.Working.{Call}
 use Rattle.session.specs.Serving.{HasRefused}
-use Rattle.running.specs.declared.sessions.SessionOutput.{SessionOutput}
-use Rattle.running.specs.declared.sessions.Part.{Part}
+use Rattle.teams.specs.declared.sessions.SessionOutput.{SessionOutput}
+use Rattle.teams.specs.declared.sessions.Part.{Part}
 use Rattle.book.specs.Asking.{IsAskedBy}
 use Rattle.running.specs.Calling.{Stand, IsTold}
 use Rattle.running.specs.Meeting.{HasMet, stops_by}
-use Rattle.running.specs.Teams.{WorksInRounds}
-use Rattle.running.specs.Sessions.{AsksStatus, EndsBy}
+use Rattle.teams.specs.Teams.{WorksInRounds}
+use Rattle.teams.specs.Sessions.{AsksStatus, EndsBy}
 use Rattle.running.specs.ServedSessions.{passes_needed, session_passes}
 use Rattle.running.specs.Asked.{are_asked}
 use Rattle.running.specs.declared.runs.Results.{Results}

@@ -1,21 +1,17 @@
 -- The sessions of files that share a store, one by one, while they are served.
-use Rattle.std.specs.Prelude.{◌≡◌, ◌+◌, ◌-◌, ℕ, Bool, false, List, [], ◌∷◌, ◌++◌, length, map, Option, Result}
-use Rattle.std.specs.Io.KnownBytes.{prepend_known}
+use Rattle.std.specs.Prelude.{◌≡◌, ◌+◌, ◌-◌, ℕ, false, List, [], ◌∷◌, ◌++◌, length, map, Result}
 use Rattle.model.specs.Worlds.{Setup}
 use Rattle.model.specs.Goals.{Running}
-use Rattle.events.specs.declared.event.Event.{Event}
-use Rattle.events.specs.declared.reply.Reply.{Reply}
 use Rattle.history.specs.Callers.{PassKnowledge, new_pass, below}
 use Rattle.builder.specs.declared.runner.RunFault.{RunFault}
 use Rattle.builder.specs.declared.worker.Worker.{Worker}
 use Rattle.book.specs.Asking.{IsAskedBy}
 use Rattle.running.specs.Calling.{IsTold}
 use Rattle.running.specs.Meeting.{HasMet, IsNew, stops_by}
-use Rattle.running.specs.Teams.{TeamView, IsTeam, stops_in}
-use Rattle.running.specs.declared.sessions.ServedSession.{ServedSession}
-use Rattle.running.specs.declared.sessions.Left.{Left}
-use Rattle.running.specs.declared.sessions.Part.{Part}
-use Rattle.running.specs.Sessions.{Outputs}
+use Rattle.teams.specs.Teams.{TeamView, IsTeam, stops_in}
+use Rattle.teams.specs.declared.sessions.ServedSession.{ServedSession}
+use Rattle.teams.specs.declared.sessions.Left.{Left}
+use Rattle.teams.specs.declared.sessions.Part.{Part}
 
 -- these are the first of all passes, so many as they are, and none of them has made a call
 abbrev pub AreFirst : List PassKnowledge → Type 0
@@ -81,15 +77,3 @@ module _ {Q : Type 0} where
     abbrev pub ArePools : List (Left PassKnowledge Q) → Type 0
     ArePools [] = Unit {0}
     ArePools (left ∷ lefts) = IsPool left.team × ArePools lefts
-
--- each session leaves the output of its file, in their order
-module _ {S Q I : Type 0} (called : S → Event → Reply → S → Type 0) (met : S → S → Type 0) (stopped : S → Bool) (remaining : I → Option (List ℕ)) where
-  abbrev pub OutputOf : ServedSession S Q I → Left S Q → Type 0
-  OutputOf session left =
-      Outputs called met stopped (session.store, session.team.has_met_memory) (left.store, left.team.has_met_memory)
-      (prepend_known session.bytes.items (remaining session.reader)) left.output
-
-  abbrev pub AllOutputs : List (ServedSession S Q I) → List (Left S Q) → Type 0
-  AllOutputs [] [] = Unit {0}
-  AllOutputs (session ∷ served_sessions) (left ∷ lefts) = OutputOf session left × AllOutputs served_sessions lefts
-  AllOutputs served_sessions lefts = ⊥

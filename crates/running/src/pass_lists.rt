@@ -3,19 +3,18 @@
 ghost use Rattle.std.specs.Prelude.{◌≡◌, ◌+◌, ◌++◌, ◌∷◌, [], length, map, IfOk, IfErr};
 ghost use Rattle.model.specs.declared.refusal.Refusal.TheVariants.{Memory, Quota};
 ghost use Rattle.history.specs.Callers.{new_pass};
-ghost use Rattle.running.specs.Sessions.{CannotBegin};
+ghost use Rattle.teams.specs.Sessions.{CannotBegin};
 ghost use Rattle.running.specs.Meeting.{IsNew};
-ghost use Rattle.running.specs.Teams.{AllNew};
+ghost use Rattle.teams.specs.Teams.{AllNew};
 ghost use Rattle.running.specs.ServedSessions.{AreFirst, IsSessionFor, AreSessionsFor, IsPool, ArePools, session_passes, passes_for as needed_for, passes_left, all_passes, numbers_in, all_numbers};
 
-use crate::sessions::{Left, Part, ServedSession, SessionOutput};
 use crate::shared::SharedStore;
-use crate::teams::Team;
 use book::{Front, FrontId, Pass};
 use builder::{Runner, Worker};
 use model::Refusal;
 use std::alloc::{AllocError, Global};
 use std::sync::Wait;
+use teams::{Left, Part, ServedSession, SessionOutput, Team};
 
 /// A worker of a session that shares a front with others.
 type SharedWorker<'a, J, R, Q> = Worker<SharedStore<'a, J, R>, Q>;

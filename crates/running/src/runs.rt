@@ -10,14 +10,12 @@ ghost use Rattle.history.specs.NewFronts.{AreTokensOf};
 ghost use Rattle.book.specs.Keeping.{IsNew};
 ghost use Rattle.running.specs.Calling.{IsTold};
 ghost use Rattle.running.specs.Meeting.{HasMet, is_stopped};
-ghost use Rattle.running.specs.Sessions.{CannotBegin};
-ghost use Rattle.running.specs.ServedSessions.{AreFirst, AllOutputs, passes_needed, session_passes};
+ghost use Rattle.teams.specs.Sessions.{AllOutputs, CannotBegin};
+ghost use Rattle.running.specs.ServedSessions.{AreFirst, passes_needed, session_passes};
 ghost use Rattle.running.specs.Runs.{AreServed, IsClosed, AreResults, are_accounted};
 
 use crate::asked::are_asked;
 use crate::pass_lists::{Back, SharedLeft, SharedSession, end_sessions, numbers_of, sessions_for};
-use crate::rounds::Rounds;
-use crate::sessions::{Part, SessionOutput, all_at_once};
 use book::{Front, FrontId, FrontTokens, History, Pass, Row};
 use builder::Runner;
 use model::Refusal;
@@ -29,6 +27,7 @@ use std::io::Read;
 use std::marker::Brand;
 use std::sync::{Arc, Wait};
 use std::thread::Threads;
+use teams::{Part, Rounds, SessionOutput, all_at_once};
 
 /// What the lines of files gave, and what they did.
 #[derive(Drop)]

@@ -4,7 +4,6 @@ ghost use Rattle.std.specs.Prelude.{◌≡◌, false};
 ghost use Rattle.schedule.specs.Queries.{event_for};
 ghost use Rattle.running.specs.Calling.{is_read, IsTold};
 
-use crate::meeting::Meet;
 use book::{Front, FrontId, Pass};
 use builder::Store;
 use jobs::RunningJob;
@@ -13,6 +12,7 @@ use schedule::{Event, Query, Reply, User};
 use std::alloc::Global;
 use std::marker::Model;
 use std::sync::Wait;
+use teams::Meet;
 
 /// A front that threads share, and a pass of one's own to call it through. What is only read is answered
 /// from what is published, and waits for nobody.

@@ -7,4 +7,5 @@ pub mod FeedLemmas
 pub mod AheadLemmas
 pub mod EarlyLemmas
 pub mod HeadLemmas
+pub mod InputHeadLemmas
 pub mod TakingLemmas

@@ -13,6 +13,7 @@
 //! | [`flush_after`] | shows what was written, and says how it ended |
 //! | [`next_line`] | takes the next line of a reader |
 //! | [`read_ahead`] | finds the users of an input, and keeps what was read |
+//! | [`look_ahead`] | the same, and looks whether the first line that gets a reply is the one that names them |
 //! | [`Counted`] | counts the failures of a reader or a writer |
 //!
 //! What a line is, which row it gets and what is printed for it is said by the definitions of the
@@ -25,6 +26,7 @@ mod answer;
 mod asking;
 mod counted;
 mod head;
+mod input_head;
 mod serving;
 mod session;
 mod streams;
@@ -36,6 +38,7 @@ pub use asking::{Answered, ask, wait};
 pub use counted::Counted;
 pub use events::GoalId;
 pub use head::{Head, serve_head, users_of};
+pub use input_head::{InputHead, look_ahead};
 pub use lines::{Reading, answer_text};
 pub use model::Mode;
 pub use nar::{Faults, write_whole};

@@ -2,7 +2,7 @@ use Rattle.std.proofs.Common.{sym, ◌∙◌, ap, List, [], ◌∷◌, ◌++◌,
 use Rattle.std.specs.Prelude.{map}
 use Rattle.std.proofs.lemmas.List.{append_assoc, map-append}
 use Rattle.history.specs.Callers.{PassKnowledge}
-use Rattle.running.specs.declared.sessions.SessionOutput.{SessionOutput}
+use Rattle.teams.specs.declared.sessions.SessionOutput.{SessionOutput}
 use Rattle.running.specs.ServedSessions.{passes_left, all_passes, numbers_in, all_numbers}
 use Rattle.running.proofs.ServedSessionLemmas.{all_push, numbers_push, pools_push}
 use Rattle.running.proofs.pass_lists.end_sessions.Goals as goal

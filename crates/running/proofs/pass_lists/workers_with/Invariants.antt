@@ -1,6 +1,6 @@
 use Rattle.std.specs.Prelude.{◌≡◌, ◌+◌, length}
 use Rattle.running.specs.Meeting.{IsNew}
-use Rattle.running.specs.Teams.{AllNew}
+use Rattle.teams.specs.Teams.{AllNew}
 use Rattle.running.specs.ServedSessions.{AreFirst}
 use Rattle.running.proofs.pass_lists.workers_with.Given as goal
 

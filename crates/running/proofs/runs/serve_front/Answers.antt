@@ -1,7 +1,7 @@
 use Rattle.std.proofs.Common.{◌∙◌, ap, List, ◌++◌, ℕ, length}
 use Rattle.std.specs.Prelude.{map}
 use Rattle.history.specs.Callers.{PassKnowledge}
-use Rattle.running.specs.declared.sessions.SessionOutput.{SessionOutput}
+use Rattle.teams.specs.declared.sessions.SessionOutput.{SessionOutput}
 use Rattle.running.specs.ServedSessions.{session_passes, all_passes, all_numbers}
 use Rattle.running.proofs.ServedSessionLemmas.{all_served}
 use Rattle.running.proofs.runs.serve_front.Goals as goal

@@ -1,0 +1,4 @@
+pub mod WaitLemmas
+mod MeetLemmas
+pub mod TeamLemmas
+mod ServedLemmas

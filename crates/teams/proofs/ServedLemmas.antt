@@ -1,0 +1,112 @@
+-- What a session over a text in memory gives.
+use Rattle.std.proofs.Common.{◌≡◌, ◌⊎◌, inl, inr, ap, refl, sym, subst, arith, List, [], ◌∷◌, ◌++◌, length, ℕ, suc, ◌<◌, Option, Some, Result, Ok, Err}
+use Rattle.std.specs.Prelude.{Bool, slice_index_or, OnOk, IfErr, MatchResult}
+use Rattle.std.specs.Io.KnownBytes.{Consumes, IsAtEnd, prepend_known}
+use Rattle.std.proofs.lemmas.Bool.{false≢true}
+use Rattle.model.specs.declared.mode.Mode.TheVariants.{Run}
+use Rattle.model.specs.declared.refusal.Refusal.{Refusal}
+use Rattle.model.specs.declared.refusal.Refusal.TheVariants.{BadUsers, Memory, InputFault, OutputFault}
+use Rattle.model.specs.Lines.{lines_of}
+use Rattle.events.specs.declared.event.Event.{Event}
+use Rattle.events.specs.declared.reply.Reply.{Reply}
+use Rattle.session.specs.Serving.{Link, Finished, EndedEarly, IsOwn}
+use Rattle.session.proofs.RowLemmas.{appends-none, consumes-none, consumes-behind}
+use Rattle.teams.specs.declared.sessions.SessionOutput.{SessionOutput}
+use Rattle.teams.specs.declared.sessions.ServedSession.{ServedSession}
+use Rattle.teams.specs.declared.sessions.Left.{Left}
+use Rattle.teams.specs.Sessions.{Answers, Waits, Served, ServedInPart, Outputs, OutputOf, AllOutputs, EndsBy, kept_fault}
+
+module _ {S : Type 0} (called : S → Event → Reply → S → Type 0) (met : S → S → Type 0) (stopped : S → Bool) where
+  -- no line of users is refused by want of memory
+  kept_early : (first last : S × Bool) (text input : List ℕ) (at_end : Type 0) (why : Refusal)
+      → EndedEarly Run (Link (Answers called) (Waits called met stopped)) first last (Some []) (Some text) input at_end why
+      → EndedEarly Run (Link (Answers called) (Waits called met stopped)) first last (Some []) (Some text) input at_end (kept_fault why)
+  kept_early first last text input at_end OutputFault e = record {
+    rows = e.rows;
+    done = e.done;
+    cut = e.cut;
+    talks = e.talks;
+    chain = e.chain;
+    count = e.count;
+    text = e.text;
+    users = λ is. absurd (cc);
+    told = λ h. absurd (let is : OutputFault ≡ BadUsers = e.told h in cc);
+  }
+  kept_early first last text input at_end why e = e
+
+  kept_why : (why : Refusal) → (why ≡ InputFault) ⊎ IsOwn why → EndsBy (kept_fault why)
+  kept_why why (inl fault) = inl (ap kept_fault fault)
+  kept_why why (inr (inl output)) = inr (inr (ap kept_fault output))
+  kept_why why (inr (inr (inl memory))) = inr (inr (ap kept_fault memory))
+  kept_why why (inr (inr (inr users))) = inr (inl (ap kept_fault users))
+
+  served : (first last : S × Bool) (start end : Option (List ℕ)) (text : List ℕ) (ended kept : Result (Unit {0}) Refusal)
+      → OnOk ended ((input : List ℕ) × Consumes start end input × IsAtEnd end
+      × Finished Run (Link (Answers called) (Waits called met stopped)) first last (Some []) (Some text) (lines_of input))
+      → IfErr ended (λ why. (input : List ℕ) × Consumes start end input
+      × EndedEarly Run (Link (Answers called) (Waits called met stopped)) first last (Some []) (Some text) input (IsAtEnd end) why)
+      → IfErr ended (λ why. (why ≡ InputFault) ⊎ IsOwn why)
+      → MatchResult ended (λ _. kept ≡ Ok tt) (λ why. kept ≡ Err (kept_fault why))
+      → MatchResult kept (λ _. Served called met stopped first last start text) (ServedInPart called met stopped first last start text)
+  served first last start end text (Ok _) kept ok err by is =
+      subst (λ (k : Result (Unit {0}) Refusal). MatchResult k (λ _. Served called met stopped first last start text) (ServedInPart called met stopped first last start text)) (sym is)
+      (record { input = ok.0; end = end; read = ok.1; ended = ok.2; done = ok.3 })
+  served first last start end text (Err why) kept ok err by is =
+      subst (λ (k : Result (Unit {0}) Refusal). MatchResult k (λ _. Served called met stopped first last start text) (ServedInPart called met stopped first last start text)) (sym is)
+      (record { input = err.0; end = end; read = err.1; done = kept_early first last text err.0 (IsAtEnd end) why err.2; by = kept_why why by })
+
+  -- what was read, and what was written to
+  pub served_lines : (first last : S × Bool) (bytes : List ℕ) (start end : Option (List ℕ)) (text : List ℕ) (blank written : Option (List ℕ))
+      (ended kept : Result (Unit {0}) Refusal)
+      → blank ≡ Some [] → written ≡ Some text
+      → OnOk ended ((input : List ℕ) × Consumes start end input × IsAtEnd end
+      × Finished Run (Link (Answers called) (Waits called met stopped)) first last blank written (lines_of (bytes ++ input)))
+      → IfErr ended (λ why. (input : List ℕ) × Consumes start end input
+      × EndedEarly Run (Link (Answers called) (Waits called met stopped)) first last blank written (bytes ++ input) (IsAtEnd end) why)
+      → IfErr ended (λ why. (why ≡ InputFault) ⊎ IsOwn why)
+      → MatchResult ended (λ _. kept ≡ Ok tt) (λ why. kept ≡ Err (kept_fault why))
+      → MatchResult kept (λ _. Served called met stopped first last (prepend_known bytes start) text) (ServedInPart called met stopped first last (prepend_known bytes start) text)
+  served_lines first last bytes start end text blank written (Ok u) kept none all ok err by is =
+      served first last (prepend_known bytes start) end text (Ok u) kept
+      (bytes ++ ok.0, consumes-behind bytes start end ok.0 ok.1, ok.2, (rw (← none, ← all) ok.3)) tt tt is
+  served_lines first last bytes start end text blank written (Err why) kept none all ok err by is =
+      served first last (prepend_known bytes start) end text (Err why) kept tt
+      (bytes ++ err.0, consumes-behind bytes start end err.0 err.1, (rw (← none, ← all) err.2)) by is
+
+  -- no line of it was answered
+  pub none_served : (first : S × Bool) (start : Option (List ℕ)) (output : SessionOutput) → output.text.items ≡ []
+      → output.ended ≡ Err Memory → Outputs called met stopped first first start output
+  none_served first start output empty ended = rw (ended, empty) (record {
+    input = [];
+    end = start;
+    read = consumes-none start;
+    done = record {
+      rows = [];
+      done = [];
+      cut = λ more end. (lines_of more, refl);
+      talks = tt;
+      chain = refl;
+      count = 0;
+      text = appends-none (Some []);
+      users = λ is. absurd (cc);
+      told = λ h. absurd (false≢true h.0);
+    };
+    by = inr (inr refl);
+  })
+
+-- ---- outputs that threads gave
+
+module _ {S Q I : Type 0} (called : S → Event → Reply → S → Type 0) (met : S → S → Type 0) (stopped : S → Bool) (remaining : I → Option (List ℕ)) where
+  -- where each place has what its session leaves, all have
+  pub each_output : (served_sessions : List (ServedSession S Q I)) (lefts : List (Left S Q)) → length lefts ≡ length served_sessions
+      → ((i : ℕ) (d : Left S Q) → i < length served_sessions
+      → (session : ServedSession S Q I) × ((e : ServedSession S Q I) → slice_index_or served_sessions i e ≡ session) × OutputOf called met stopped remaining session (slice_index_or lefts i d))
+      → AllOutputs called met stopped remaining served_sessions lefts
+  each_output [] [] same each = tt
+  each_output (d ∷ ds) (l ∷ ls) same each =
+      let first = each 0 l (omega arith) in (
+        subst (λ (session : ServedSession S Q I). OutputOf called met stopped remaining session l) (sym (first.1 d)) first.2,
+        each_output ds ls (omega (arith, same)) (λ i e inside. each (suc i) e (omega (arith, inside))),
+      )
+  each_output [] (l ∷ ls) same each = absurd (omega (arith, same))
+  each_output (d ∷ ds) [] same each = absurd (omega (arith, same))

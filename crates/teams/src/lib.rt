@@ -1,0 +1,23 @@
+//! Sessions of files that share a store, each in a thread of its own, with a team of workers that build for it.
+//!
+//! | Name | What it is |
+//! |---|---|
+//! | [`all_at_once`] | serves sessions at once, and gives what they leave |
+//! | [`Part`], [`SessionOutput`] | a file whose lines are run, and what they gave |
+//! | [`ServedSession`], [`Left`] | a session before it is served, and what it leaves |
+//! | [`Team`] | workers who build together |
+//! | [`Meet`] | a store that learns what others of its kind were answered |
+//! | [`Rounds`] | the rounds that the sessions of a store have going |
+#![tactic(auto)]
+
+mod meeting;
+mod pools;
+mod rounds;
+mod sessions;
+mod team;
+mod waiting;
+
+pub use meeting::Meet;
+pub use rounds::Rounds;
+pub use sessions::{Left, Part, ServedSession, SessionOutput, all_at_once};
+pub use team::Team;
