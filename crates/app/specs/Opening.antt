@@ -5,7 +5,7 @@ use Rattle.model.specs.declared.refusal.Refusal.TheVariants.{InputFault, Memory}
 use Rattle.command_line.specs.declared.settings.Run.{Run}
 use Rattle.builder.specs.declared.preparing.Folders.{Folders}
 use Rattle.builder.specs.declared.processes.ProcessRunner.{ProcessRunner}
-use Rattle.app.specs.declared.narrator.Narrator.{Narrator}
+use Rattle.messages.specs.declared.narrator.Narrator.{Narrator}
 use Rattle.app.specs.declared.opening.Opened.{Opened}
 use Rattle.app.specs.declared.opening.Refused.{Refused}
 

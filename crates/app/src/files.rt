@@ -1,8 +1,8 @@
 //! The files that the program reads, and what it prints to.
 
-use crate::explaining::{Explained, Lines};
 use crate::fault::Fault;
 use command_line::Run;
+use messages::{Explained, Lines};
 use session::Counted;
 use std::alloc::AllocError;
 use std::fs::{File, Files};

@@ -2,18 +2,11 @@
 #![tactic(auto)]
 
 mod actions;
-mod columns;
-mod explaining;
 mod fault;
 mod files;
-mod heard;
-mod inputs;
-mod meanings;
-mod narrator;
 mod opening;
 mod parts;
 mod runs;
-mod waiting;
 
 use crate::fault::{
     CANNOT_READ_OR_WRITE, COMMAND_LINE_FAULT, Fault, OUT_OF_MEMORY, report, tell_bad_lines,

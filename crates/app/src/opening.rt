@@ -6,9 +6,9 @@ ghost use Rattle.command_line.specs.declared.settings.Run.{Run};
 ghost use Rattle.app.specs.Opening.{AreFoldersOf, AreOpened, AreRunners, BuildsIn, IsOpened, IsUnopened, CannotOpen};
 
 use crate::files;
-use crate::narrator::Narrator;
 use builder::{Folders, ProcessRunner, System};
 use command_line::Run;
+use messages::Narrator;
 use model::Refusal;
 use session::Counted;
 use std::alloc::{AllocError, AllocFailed, Global};

@@ -104,7 +104,7 @@ impl Running {
 /// anything. Where the goal failed and the builder has a log, it names that and shows the last lines of it. What
 /// cannot be said is let go.
 #[derive(Drop)]
-pub(crate) struct Narrator<'a, H, Q: Drop> {
+pub struct Narrator<'a, H, Q: Drop> {
     host: &'a H,
     is_verbose: bool,
     runner: Q,
@@ -113,7 +113,7 @@ pub(crate) struct Narrator<'a, H, Q: Drop> {
 
 impl<'a, H: Clock + Eprint, Q: Runner + Explains + Drop> Narrator<'a, H, Q> {
     /// One that builds by this runner.
-    pub(crate) fn new(host: &'a H, is_verbose: bool, runner: Q) -> Narrator<'a, H, Q>
+    pub fn new(host: &'a H, is_verbose: bool, runner: Q) -> Narrator<'a, H, Q>
         ensures verbose { result.is_verbose ≡ is_verbose }
         ensures runner { result.runner ≡ runner }
     {

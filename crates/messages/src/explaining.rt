@@ -12,14 +12,14 @@ const MOST_KEPT: usize = 128;
 
 /// The lines of a file, read one after another, beside their replies.
 #[derive(Drop)]
-pub(crate) struct Lines<B> {
+pub struct Lines<B> {
     reader: B,
     count: u64,
 }
 
 impl<B: BufRead> Lines<B> {
     /// The lines that are left of a reader.
-    pub(crate) fn new(reader: B) -> Lines<B> {
+    pub fn new(reader: B) -> Lines<B> {
         Lines { reader, count: 0 }
     }
 
@@ -63,7 +63,7 @@ impl Display for Comment {
 /// A writer of replies that writes behind each refusal, in a line that begins with `# `, what it means. The lines
 /// that are refused are read again where they can be.
 #[derive(Drop)]
-pub(crate) struct Explained<W, B> {
+pub struct Explained<W, B> {
     alloc: Global,
     writer: W,
     lines: Option<Lines<B>>,
@@ -73,7 +73,7 @@ pub(crate) struct Explained<W, B> {
 
 impl<W: Write + Drop, B: BufRead + Drop> Explained<W, B> {
     /// One that writes to this writer.
-    pub(crate) fn new(alloc: Global, writer: W, lines: Option<Lines<B>>) -> Explained<W, B> {
+    pub fn new(alloc: Global, writer: W, lines: Option<Lines<B>>) -> Explained<W, B> {
         Explained {
             alloc,
             writer,

@@ -1,8 +1,8 @@
 //! What the history of a run says of goals: how far each of them is.
 
 use crate::inputs::{Inputs, MOST_USERS, Notification, is_at};
-use book::Row;
 use events::{Job, Reply, Request, Status};
+use history::Row;
 use model::Refusal;
 use std::alloc::Global;
 use std::hash::RandomState;

@@ -3,7 +3,7 @@
 use crate::heard::{Asker, Goal, Heard};
 use crate::inputs::Lack;
 use crate::narrator::text_of;
-use book::Row;
+use history::Row;
 use indexmap::IndexMap;
 use model::Refusal;
 use std::alloc::Global;
@@ -148,12 +148,7 @@ fn tell_heard<H: Eprint>(
 
 /// Says on standard error which goals are left waiting by the history of a run, and for which inputs. What there is no
 /// memory for, and what cannot be said, is let go. It takes time that grows with the history and with what is said.
-pub(crate) fn tell_waiting<H: Eprint>(
-    host: &H,
-    alloc: Global,
-    hashing: RandomState,
-    rows: &[Arc<Row>],
-) {
+pub fn tell_waiting<H: Eprint>(host: &H, alloc: Global, hashing: RandomState, rows: &[Arc<Row>]) {
     if let Ok(heard) = Heard::new(alloc, hashing, rows) {
         let _ = tell_heard(host, alloc, hashing, &heard);
     }

@@ -1,0 +1,20 @@
+//! What the program says beside the replies.
+//!
+//! | Name | What it says |
+//! |---|---|
+//! | [`Explained`] | behind each refusal what it means, in the place where replies are written |
+//! | [`Narrator`] | as each builder starts, and how it and its goal ended |
+//! | [`tell_waiting`] | which goals are left waiting when a run has ended, and for what |
+#![tactic(auto)]
+
+mod columns;
+mod explaining;
+mod heard;
+mod inputs;
+mod meanings;
+mod narrator;
+mod waiting;
+
+pub use explaining::{Explained, Lines};
+pub use narrator::Narrator;
+pub use waiting::tell_waiting;
