@@ -13,7 +13,8 @@ use Rattle.app.specs.Runs.{texts_of, AppendsFront, end_or, place_or, first_end, 
 -- ---- what is written
 
 -- one text more
-pub written_more : (a b c : Option (List ℕ)) (outputs : List SessionOutput) (i : ℕ) (output : SessionOutput) → i < length outputs → output ≡ get_or outputs i output
+pub written_more : (a b c : Option (List ℕ)) (outputs : List SessionOutput) (i : ℕ) (output : SessionOutput) → i < length outputs
+    → output ≡ get_or outputs i output
     → Appends a b (texts_of (take i outputs)) → Appends b c output.text.items → Appends a c (texts_of (take (i + 1) outputs))
 written_more a b c outputs i output inside here before own =
     let more : take (i + 1) outputs ≡ take i outputs ++ output ∷ [] =

@@ -26,8 +26,10 @@ pub record ReadsAgain (X : Type 0) (item : ItemReader X) (text : List ℕ → X 
   pub again : (separator : List ℕ) (x : X) (rest : List ℕ) → Used separator → test x ≡ true → item separator (text separator x ++ rest) ≡ Some (x, rest)
   pub apart : (separator : List ℕ) (x : X) (rest : List ℕ) → Used separator → test x ≡ true → is_at closing (text separator x ++ rest) ≡ false
 
-pub items_again : {X : Type 0} (item : ItemReader X) (text : List ℕ → X → List ℕ) (test : X → Bool) (closing next : List ℕ) (Used : List ℕ → Type 0) → ReadsAgain X item text test closing Used → Used next
-    → (xs : List X) (n : ℕ) (separator rest : List ℕ) → Used separator → list_all test xs ≡ true → length xs < n → items_at item closing next n separator (items_text text closing next separator xs ++ rest) ≡ Some (xs, rest)
+pub items_again : {X : Type 0} (item : ItemReader X) (text : List ℕ → X → List ℕ) (test : X → Bool) (closing next : List ℕ) (Used : List ℕ → Type 0)
+    → ReadsAgain X item text test closing Used → Used next
+    → (xs : List X) (n : ℕ) (separator rest : List ℕ) → Used separator → list_all test xs ≡ true → length xs < n
+    → items_at item closing next n separator (items_text text closing next separator xs ++ rest) ≡ Some (xs, rest)
 unfolding items_at
 items_again item text test closing next Used reads u xs zero separator rest v h lt = absurd (omega (arith, lt))
 items_again item text test closing next Used reads u [] (suc n) separator rest v h lt = rw (is_at_front closing rest, drop-append_seam closing rest) refl
@@ -39,7 +41,8 @@ items_again item text test closing next Used reads u (x ∷ xs) (suc n) separato
     ∙ rw (reads.apart separator x (more ++ rest) v passes.0, reads.again separator x (more ++ rest) v passes.0) (ap (with_item_first x) others)
 
 -- each item has some text
-pub count_le : {X : Type 0} (text : List ℕ → X → List ℕ) (closing next : List ℕ) → ((separator : List ℕ) (x : X) → 0 < length (text separator x)) → (separator : List ℕ) (xs : List X)
+pub count_le : {X : Type 0} (text : List ℕ → X → List ℕ) (closing next : List ℕ) → ((separator : List ℕ) (x : X) → 0 < length (text separator x))
+    → (separator : List ℕ) (xs : List X)
     → length xs + length closing ≤ length (items_text text closing next separator xs)
 count_le text closing next some separator [] = omega arith
 count_le text closing next some separator (x ∷ xs) =
@@ -50,7 +53,8 @@ count_le text closing next some separator (x ∷ xs) =
 abbrev IsAgain : List ℕ → ℕ → Type 0
 IsAgain rest c = (character_at [] (character_text c ++ rest) ≡ Some (c, rest)) × (is_at (codes "\"") (character_text c ++ rest) ≡ false)
 
-plain_again : (c : ℕ) (rest : List ℕ) → is_character c ≡ true → (c == 34) ≡ false → (c == 92) ≡ false → (c == 10) ≡ false → (c == 13) ≡ false → (c == 9) ≡ false → IsAgain rest c
+plain_again : (c : ℕ) (rest : List ℕ) → is_character c ≡ true → (c == 34) ≡ false → (c == 92) ≡ false → (c == 10) ≡ false → (c == 13) ≡ false
+    → (c == 9) ≡ false → IsAgain rest c
 unfolding character_at character_text
 plain_again c rest h quote backslash newline return tab =
     let within : (nat_le 32 c && nat_le c 126) ≡ true = grind (arith, nat_tests) in
@@ -142,7 +146,8 @@ apart_from : (separator rest : List ℕ) → Separates separator → IsApart res
 apart_from separator rest (inl e) h = subst (IsApart rest) (sym e) h
 apart_from separator rest (inr e) h = subst (IsApart rest) (sym e) refl
 
-member_again : (opening closing : List ℕ) (separator text rest : List ℕ) → is_text text ≡ true → member_at opening closing separator (member_text opening closing separator text ++ rest) ≡ Some (text, rest)
+member_again : (opening closing : List ℕ) (separator text rest : List ℕ) → is_text text ≡ true
+    → member_at opening closing separator (member_text opening closing separator text ++ rest) ≡ Some (text, rest)
 unfolding member_at
 member_again opening closing separator text rest h =
     ap (λ s. tag_at separator s >>= λ r. quoted_at opening r >>= λ t. tag_at closing t.1 >>= λ e. Some (t.0, e)) (member_grouped separator opening (closed text) closing rest)
@@ -152,7 +157,8 @@ member_again opening closing separator text rest h =
 abbrev Opens : List ℕ → Type 0
 Opens opening = (rest : List ℕ) → IsApart (opening ++ rest) []
 
-member_reads : (opening closing : List ℕ) → Opens opening → ReadsAgain (List ℕ) (member_at opening closing) (member_text opening closing) is_text (codes "]") Separates
+member_reads : (opening closing : List ℕ) → Opens opening
+    → ReadsAgain (List ℕ) (member_at opening closing) (member_text opening closing) is_text (codes "]") Separates
 member_reads opening closing opens =
     record {
       again = λ separator text rest u h. member_again opening closing separator text rest h;
@@ -173,7 +179,8 @@ members_again tag opening closing texts rest opens h =
     rw (tag_again tag (whole ++ rest))
     (items_again (member_at opening closing) (member_text opening closing) is_text (codes "]") (codes ",") Separates (member_reads opening closing opens) (inr refl) texts (length (whole ++ rest)) [] rest (inl refl) h room)
 
-variable_again : (separator : List ℕ) (v : List ℕ × List ℕ) (rest : List ℕ) → is_variable v ≡ true → variable_at separator (behind separator v ++ rest) ≡ Some (v, rest)
+variable_again : (separator : List ℕ) (v : List ℕ × List ℕ) (rest : List ℕ) → is_variable v ≡ true
+    → variable_at separator (behind separator v ++ rest) ≡ Some (v, rest)
 unfolding variable_at
 variable_again separator v rest h =
     let texts = both_parts (is_text v.0) (is_text v.1) h in
@@ -197,7 +204,8 @@ variable_reads =
 variable_some : (separator : List ℕ) (v : List ℕ × List ℕ) → 0 < length (behind separator v)
 variable_some separator v = omega (arith, length-append separator (codes "(\"" ++ (closed v.0 ++ (codes ",\"" ++ (closed v.1 ++ codes ")")))))
 
-pub variables_again : (tag : List ℕ) (vs : List (List ℕ × List ℕ)) (rest : List ℕ) → list_all is_variable vs ≡ true → variables_at tag (tag ++ (variables_text [] vs ++ rest)) ≡ Some (vs, rest)
+pub variables_again : (tag : List ℕ) (vs : List (List ℕ × List ℕ)) (rest : List ℕ) → list_all is_variable vs ≡ true
+    → variables_at tag (tag ++ (variables_text [] vs ++ rest)) ≡ Some (vs, rest)
 unfolding variables_at
 variables_again tag vs rest h =
     let whole = variables_text [] vs in
@@ -209,7 +217,8 @@ variables_again tag vs rest h =
 -- ---- the whole
 
 -- a derivation's text is read as that derivation
-pub derivation_again : (d : Derivation) → list_all is_text d.inputs ≡ true → list_all is_text d.sources ≡ true → has_texts d ≡ true → derivation_at (derivation_text d) ≡ Some d
+pub derivation_again : (d : Derivation) → list_all is_text d.inputs ≡ true → list_all is_text d.sources ≡ true → has_texts d ≡ true
+    → derivation_at (derivation_text d) ≡ Some d
 unfolding derivation_at
 derivation_again d inputs_are sources_are h =
     let one = both_parts (is_text d.platform) (is_text d.builder && (list_all is_text d.arguments && list_all is_variable d.environment)) h in

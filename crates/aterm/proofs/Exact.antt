@@ -47,7 +47,8 @@ not_read text Memory h = tt
 not_read text _ h = h
 
 -- what is answered is the derivation of the text
-pub given_from_read : (text : List ℕ) (result : Result Derivation Refusal) → MatchResult result (λ d. IsDerivation d × (derivation_text d ≡ text)) (IsRefused text)
+pub given_from_read : (text : List ℕ) (result : Result Derivation Refusal)
+    → MatchResult result (λ d. IsDerivation d × (derivation_text d ≡ text)) (IsRefused text)
     → MatchResult result (λ d. derivation_of_text text ≡ Some d) (IsNotRead text)
 given_from_read text (Ok d) h = ap derivation_of_text (sym h.1) ∙ its_text d (derivation_passes d h.0)
 given_from_read text (Err r) h = not_read text r h

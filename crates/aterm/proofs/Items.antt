@@ -24,21 +24,24 @@ ends item closing next zero separator rest h e = absurd (omega (arith, h))
 ends item closing next (suc n) separator rest h e = rw e refl
 
 -- there is no item here
-pub fails : {X : Type 0} (item : ItemReader X) (closing next : List ℕ) (n : ℕ) (separator rest : List ℕ) → is_at closing rest ≡ false → item separator rest ≡ None
+pub fails : {X : Type 0} (item : ItemReader X) (closing next : List ℕ) (n : ℕ) (separator rest : List ℕ) → is_at closing rest ≡ false
+    → item separator rest ≡ None
     → items_at item closing next n separator rest ≡ None
 unfolding items_at
 fails item closing next zero separator rest e h = refl
 fails item closing next (suc n) separator rest e h = rw (e, h) refl
 
 -- one item, and then others
-pub one_more : {X : Type 0} (item : ItemReader X) (closing next : List ℕ) (n : ℕ) (separator rest : List ℕ) (x : X) (after : List ℕ) → is_at closing rest ≡ false → item separator rest ≡ Some (x, after)
+pub one_more : {X : Type 0} (item : ItemReader X) (closing next : List ℕ) (n : ℕ) (separator rest : List ℕ) (x : X) (after : List ℕ)
+    → is_at closing rest ≡ false → item separator rest ≡ Some (x, after)
     → items_at item closing next (suc n) separator rest ≡ with_item_first x (items_at item closing next n next after)
 unfolding items_at
 one_more item closing next n separator rest x after e h = rw (e, h) refl
 
 -- a loop over items, where what is read from the start is what is read from here, behind the items so far: the items end here
 pub loop_ends : {X : Type 0} (item : ItemReader X) (closing next : List ℕ) (whole : Option (List X × List ℕ)) (xs : List X) (n : ℕ) (separator rest after : List ℕ)
-    → whole ≡ onto xs (items_at item closing next n separator rest) → 0 < n → is_at closing rest ≡ true → drop (length closing) rest ≡ after → whole ≡ Some (xs, after)
+    → whole ≡ onto xs (items_at item closing next n separator rest) → 0 < n → is_at closing rest ≡ true → drop (length closing) rest ≡ after
+    → whole ≡ Some (xs, after)
 loop_ends item closing next whole xs n separator rest after stands h e d =
     stands ∙ ap (onto xs) (ends item closing next n separator rest h e) ∙ ap (λ ys. Some (ys, drop (length closing) rest)) (append-nil xs) ∙ ap (λ r. Some (xs, r)) d
 
@@ -56,7 +59,8 @@ loop_spent item closing next whole xs (suc n) separator rest stands h = absurd (
 
 -- an item is read
 pub loop_goes_on : {X : Type 0} (item : ItemReader X) (closing next : List ℕ) (whole : Option (List X × List ℕ)) (xs ys : List X) (end i : ℕ) (separator later rest : List ℕ) (x : X) (after : List ℕ)
-    → whole ≡ onto xs (items_at item closing next (end - i) separator rest) → i < end → is_at closing rest ≡ false → item separator rest ≡ Some (x, after) → xs ++ x ∷ [] ≡ ys → next ≡ later
+    → whole ≡ onto xs (items_at item closing next (end - i) separator rest) → i < end → is_at closing rest ≡ false
+    → item separator rest ≡ Some (x, after) → xs ++ x ∷ [] ≡ ys → next ≡ later
     → whole ≡ onto ys (items_at item closing next (end - (i + 1)) later after)
 loop_goes_on item closing next whole xs ys end i separator later rest x after stands lt e h pushed l =
     let less : end - i ≡ suc (end - (i + 1)) = omega arith in

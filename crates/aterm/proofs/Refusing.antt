@@ -53,7 +53,8 @@ parts_read text d (Ok parts) found h = found ∙ ap Some (sym h)
 parts_read text d (Err e) found h = unread_paths text d e found h
 
 pub made_or_refused : (text : List ℕ) (d : Derivation) (result : Result Derivation Refusal) → derivation_at text ≡ Some d
-    → MatchResult result (λ r. (r ≡ d) × IsDerivation d) (λ e. (e ≡ BadDerivation) × (IsDerivation d → ⊥)) → MatchResult result (λ r. IsDerivation r × (derivation_text r ≡ text)) (IsRefused text)
+    → MatchResult result (λ r. (r ≡ d) × IsDerivation d) (λ e. (e ≡ BadDerivation) × (IsDerivation d → ⊥))
+    → MatchResult result (λ r. IsDerivation r × (derivation_text r ≡ text)) (IsRefused text)
 made_or_refused text d (Ok r) found h =
     (subst IsDerivation (sym h.0) h.1, ap derivation_text h.0 ∙ derivation_sound text d found)
 made_or_refused text d (Err e) found h = subst (IsRefused text) (sym h.0) (other_read text d found h.1)

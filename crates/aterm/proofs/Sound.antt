@@ -38,7 +38,8 @@ abbrev pub ReadsAs : {X : Type 0} → ItemReader X → (List ℕ → X → List 
 ReadsAs {X} item text = (separator bytes rest : List ℕ) (x : X) → item separator bytes ≡ Some (x, rest) → bytes ≡ text separator x ++ rest
 
 pub items_sound : {X : Type 0} (item : ItemReader X) (text : List ℕ → X → List ℕ) (closing next : List ℕ) → ReadsAs item text
-    → (n : ℕ) (separator bytes rest : List ℕ) (xs : List X) → items_at item closing next n separator bytes ≡ Some (xs, rest) → bytes ≡ items_text text closing next separator xs ++ rest
+    → (n : ℕ) (separator bytes rest : List ℕ) (xs : List X) → items_at item closing next n separator bytes ≡ Some (xs, rest)
+    → bytes ≡ items_text text closing next separator xs ++ rest
 unfolding items_at
 items_sound item text closing next each zero separator bytes rest xs h = cc
 items_sound item text closing next each (suc n) separator bytes rest xs h =
@@ -118,7 +119,8 @@ variable_sound separator bytes rest v h =
     ∙ sym (variable_grouped separator (codes "(\"") (closed key.0.0) (codes ",\"") (closed value.0.0) (codes ")") end.0)
     ∙ ap (λ w. behind separator w ++ end.0) both.0 ∙ ap (λ s. behind separator v ++ s) both.1
 
-pub variables_sound : (tag bytes rest : List ℕ) (vs : List (List ℕ × List ℕ)) → variables_at tag bytes ≡ Some (vs, rest) → bytes ≡ tag ++ (variables_text [] vs ++ rest)
+pub variables_sound : (tag bytes rest : List ℕ) (vs : List (List ℕ × List ℕ)) → variables_at tag bytes ≡ Some (vs, rest)
+    → bytes ≡ tag ++ (variables_text [] vs ++ rest)
 unfolding variables_at
 variables_sound tag bytes rest vs h =
     let start = bind_some (tag_at tag bytes) (λ r. items_at variable_at (codes "]") (codes ",") (length r) [] r) (vs, rest) h in

@@ -36,7 +36,8 @@ members_text opening closing = items_text (member_text opening closing) (codes "
 abbrev pub variables_text : List ℕ → List (List ℕ × List ℕ) → List ℕ
 variables_text = items_text behind (codes "]") (codes ",")
 
-inputs_is : (separator : List ℕ) (paths : List (List ℕ)) → listed separator (map derivation_input_text paths) ≡ members_text (codes "(\"") (codes ",[\"out\"])") separator paths
+inputs_is : (separator : List ℕ) (paths : List (List ℕ))
+    → listed separator (map derivation_input_text paths) ≡ members_text (codes "(\"") (codes ",[\"out\"])") separator paths
 unfolding listed derivation_input_text quoted
 inputs_is separator [] = refl
 inputs_is separator (p ∷ ps) = rw (inputs_is (codes ",") ps) (simp append_assoc)
@@ -46,7 +47,8 @@ unfolding listed quoted
 strings_is separator [] = refl
 strings_is separator (t ∷ ts) = rw (strings_is (codes ",") ts) (simp (append_assoc, append-nil))
 
-regrouped : (s o q x c y e r : List ℕ) → s ++ (o ++ (q ++ x ++ q) ++ c ++ (q ++ y ++ q) ++ e) ++ r ≡ (s ++ ((o ++ q) ++ ((x ++ q) ++ ((c ++ q) ++ ((y ++ q) ++ e))))) ++ r
+regrouped : (s o q x c y e r : List ℕ)
+    → s ++ (o ++ (q ++ x ++ q) ++ c ++ (q ++ y ++ q) ++ e) ++ r ≡ (s ++ ((o ++ q) ++ ((x ++ q) ++ ((c ++ q) ++ ((y ++ q) ++ e))))) ++ r
 regrouped s o q x c y e r = simp append_assoc
 
 variables_is : (separator : List ℕ) (vs : List (List ℕ × List ℕ)) → listed separator (map variable_text vs) ≡ variables_text separator vs

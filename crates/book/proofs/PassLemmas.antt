@@ -8,7 +8,8 @@ more : (n : ℕ) → suc n ≡ n + 1
 more n = omega arith
 
 -- one pass more
-pub newcomers_next : (n : ℕ) (passes next : List PassKnowledge) (pass : PassKnowledge) → passes ≡ map new_pass (below n) → next ≡ passes ++ pass ∷ [] → pass ≡ new_pass n
+pub newcomers_next : (n : ℕ) (passes next : List PassKnowledge) (pass : PassKnowledge) → passes ≡ map new_pass (below n) → next ≡ passes ++ pass ∷ []
+    → pass ≡ new_pass n
     → next ≡ map new_pass (below (n + 1))
 newcomers_next n passes next pass all one new =
     one ∙ (ap (λ (made : List PassKnowledge). made ++ pass ∷ []) all

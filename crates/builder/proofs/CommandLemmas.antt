@@ -9,7 +9,8 @@ use Rattle.model.specs.Derivations.{Derivation}
 use Rattle.builder.specs.Commands.{variable_after, environment_of, Sets, SetsVariable}
 
 -- a variable was set, and no other
-pub variable_set : (old new : Command Global) (key value : List ℕ) → command_var new key ≡ Some (Some value) → SameOtherVars old new key → SetsVariable old key value new
+pub variable_set : (old new : Command Global) (key value : List ℕ) → command_var new key ≡ Some (Some value) → SameOtherVars old new key
+    → SetsVariable old key value new
 variable_set old new key value set others name = go (bytes_eq key name) refl
   where
     go : (b : Bool) → bytes_eq key name ≡ b → command_var new name ≡ cond b (Some (Some value)) (command_var old name)

@@ -16,7 +16,8 @@ off e = true≢false (sym e)
 
 -- ---- lists
 
-at_push : (views : List QueueEnd) (a b : QueueEnd) (j : ℕ) → get_elem? (views ++ a ∷ []) j ≡ some b → (get_elem? views j ≡ some b) ⊎ ((j ≡ length views) × (a ≡ b))
+at_push : (views : List QueueEnd) (a b : QueueEnd) (j : ℕ) → get_elem? (views ++ a ∷ []) j ≡ some b
+    → (get_elem? views j ≡ some b) ⊎ ((j ≡ length views) × (a ≡ b))
 at_push [] a b zero e = inr (refl, some-injective a b e)
 at_push [] a b (suc j) e = absurd (some-ne-none b (sym e))
 at_push (v ∷ views) a b zero e = inl e

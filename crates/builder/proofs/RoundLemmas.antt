@@ -30,7 +30,8 @@ put_none v is = record { some = []; begins = ([], refl); put = is ∙ ap (λ (ts
 longer : (xs ys : List Ticket) (y : Ticket) → IsPrefix xs ys → IsPrefix xs (ys ++ y ∷ [])
 longer xs ys y p = (p.0 ++ y ∷ [], sym (append_assoc xs p.0 (y ∷ [])) ∙ ap (λ l. l ++ y ∷ []) p.1)
 
-next_put : (old v w : QueueEnd) (some : List Ticket) (t : Ticket) → v ≡ producer (old.put ++ some) old.out old.back → Puts v t w → w ≡ producer (old.put ++ (some ++ t ∷ [])) old.out old.back
+next_put : (old v w : QueueEnd) (some : List Ticket) (t : Ticket) → v ≡ producer (old.put ++ some) old.out old.back → Puts v t w
+    → w ≡ producer (old.put ++ (some ++ t ∷ [])) old.out old.back
 next_put old v w some t was puts =
     puts
     ∙ ap (λ (h : QueueEnd). producer (h.put ++ t ∷ []) h.out h.back) was
@@ -58,7 +59,8 @@ stops_push : (ts : List Ticket) → AreStops ts → AreStops (ts ++ Stop ∷ [])
 stops_push [] are = (refl, tt)
 stops_push (t ∷ ts) are = (are.0, stops_push ts are.1)
 
-pub stops_more : (n : ℕ) (going done : Bool) (old v w : QueueEnd) → PutStops n going old v → (done ≡ true → (going ≡ true) × Puts v Stop w) → (done ≡ false → w ≡ v) → PutStops (n + 1) done old w
+pub stops_more : (n : ℕ) (going done : Bool) (old v w : QueueEnd) → PutStops n going old v → (done ≡ true → (going ≡ true) × Puts v Stop w)
+    → (done ≡ false → w ≡ v) → PutStops (n + 1) done old w
 stops_more n going true old v w h puts none = record {
   stops = h.stops ++ Stop ∷ [];
   are = stops_push h.stops h.are;
@@ -123,7 +125,8 @@ whole_push true true false false = refl
 
 -- what one worker more has met
 tally_push : (ready started took_stop : Bool) (ss : List Shift) (s : Shift) (old new : Tally) → old ≡ tally_of ready ss → took_stop ≡ has_stop s.took
-    → new.whole ≡ (old.whole && (started && took_stop)) → new.memory ≡ (old.memory || is_memory s.met) → new.stopped ≡ (old.stopped || is_stopped s.met) → new ≡ tally_of (ready && started) (ss ++ s ∷ [])
+    → new.whole ≡ (old.whole && (started && took_stop)) → new.memory ≡ (old.memory || is_memory s.met)
+    → new.stopped ≡ (old.stopped || is_stopped s.met) → new ≡ tally_of (ready && started) (ss ++ s ∷ [])
 tally_push ready started took_stop ss s old new was took whole memory stopped =
     let w : new.whole ≡ (all_stopped (ss ++ s ∷ []) && (ready && started)) =
     whole ∙ (λ i. (was i).whole && (started && took i)) ∙ whole_push (all_stopped ss) ready started (has_stop s.took) ∙ ap (λ b. b && (ready && started)) (sym (stopped_push ss s)) in
@@ -135,12 +138,14 @@ pub if_both : {H B : Type 0} (r : Result H B) (X Y Z : H → Type 0) → IfOk r 
 if_both (Ok h) X Y Z x y f = f h x y
 if_both (Err b) X Y Z x y f = tt
 
-pub pick : {H B : Type 0} (r : Result H B) (b : B) (P : B → Type 0) (K : H → B → Type 0) → IfOk r (λ h. K h b → P b) → IfErr r P → MatchResult r (λ h. K h b) (λ x. b ≡ x) → P b
+pub pick : {H B : Type 0} (r : Result H B) (b : B) (P : B → Type 0) (K : H → B → Type 0) → IfOk r (λ h. K h b → P b) → IfErr r P
+    → MatchResult r (λ h. K h b) (λ x. b ≡ x) → P b
 pick (Ok h) b P K f e m = f m
 pick (Err x) b P K f e m = subst P (sym m) e
 
 module _ {S Q : Type 0} (called : S → Event → Reply → S → Type 0) (asked : S → List ℕ → ℕ → Result Running Refusal → S → Type 0) (gives : Q → Running → Result (List ℕ) RunFault → Q → Type 0) where
-  work_push : (ws : List (Worker S Q)) (ss : List Shift) (vs : List (Worker S Q)) (w : Worker S Q) (s : Shift) (v : Worker S Q) → AllWork called asked gives ws ss vs → WorksShift called asked gives w s v
+  work_push : (ws : List (Worker S Q)) (ss : List Shift) (vs : List (Worker S Q)) (w : Worker S Q) (s : Shift) (v : Worker S Q)
+      → AllWork called asked gives ws ss vs → WorksShift called asked gives w s v
       → AllWork called asked gives (ws ++ w ∷ []) (ss ++ s ∷ []) (vs ++ v ∷ [])
   work_push [] [] [] w s v all works = (works, tt)
   work_push (a ∷ ws) (b ∷ bs) (c ∷ cs) w s v all works = (all.0, work_push ws bs cs w s v all.1 works)
@@ -149,7 +154,8 @@ module _ {S Q : Type 0} (called : S → Event → Reply → S → Type 0) (asked
   work_push (a ∷ ws) [] vs w s v all works = absurd all
   work_push (a ∷ ws) (b ∷ bs) [] w s v all works = absurd all
 
-  pub serves_none : (tickets : List Ticket) (count : ℕ) (left old : List (Worker S Q)) (k k' : QueueEnd) (all_put : Bool) (tally : Tally) → left ≡ [] → k ≡ producer [] k.out [] → IsPut tickets count all_put k k'
+  pub serves_none : (tickets : List Ticket) (count : ℕ) (left old : List (Worker S Q)) (k k' : QueueEnd) (all_put : Bool) (tally : Tally) → left ≡ []
+      → k ≡ producer [] k.out [] → IsPut tickets count all_put k k'
       → tally ≡ tally_of all_put [] → Serves called asked gives tickets count left old old k k' tally
   serves_none tickets count left old k k' all_put tally none new put counts = record {
     after = [];
@@ -164,9 +170,12 @@ module _ {S Q : Type 0} (called : S → Event → Reply → S → Type 0) (asked
   }
 
   pub serves_more : (tickets : List Ticket) (count : ℕ) (left rest old mid new : List (Worker S Q)) (w v : Worker S Q) (k k1 k2 k3 : QueueEnd) (hand hand' : Pass Ticket QueueEnd) (met : Option Refusal) (started took_stop : Bool) (inner_tally tally : Tally)
-      → left ≡ rest ++ w ∷ [] → k ≡ producer [] k.out [] → k1 ≡ producer k.put (k.out + 1) k.back → Serves called asked gives tickets count rest old mid k1 k2 inner_tally
-      → view hand ≡ consumer k.out [] → Returned called asked gives w hand v hand' met took_stop → k3 ≡ producer k2.put (view hand').number ((view hand').taken ∷ k2.back) → new ≡ mid ++ v ∷ []
-      → tally.whole ≡ (inner_tally.whole && (started && took_stop)) → tally.memory ≡ (inner_tally.memory || is_memory met) → tally.stopped ≡ (inner_tally.stopped || is_stopped met)
+      → left ≡ rest ++ w ∷ [] → k ≡ producer [] k.out [] → k1 ≡ producer k.put (k.out + 1) k.back
+      → Serves called asked gives tickets count rest old mid k1 k2 inner_tally
+      → view hand ≡ consumer k.out [] → Returned called asked gives w hand v hand' met took_stop
+      → k3 ≡ producer k2.put (view hand').number ((view hand').taken ∷ k2.back) → new ≡ mid ++ v ∷ []
+      → tally.whole ≡ (inner_tally.whole && (started && took_stop)) → tally.memory ≡ (inner_tally.memory || is_memory met)
+      → tally.stopped ≡ (inner_tally.stopped || is_stopped met)
       → Serves called asked gives tickets count left old new k k3 tally
   serves_more tickets count left rest old mid new w v k k1 k2 k3 hand hand' met started took_stop inner_tally tally popped fresh out inner is_hand returned back pushed whole memory stopped =
       let shift : Shift = record { took = (view hand').taken; calls = returned.calls; met = met } in

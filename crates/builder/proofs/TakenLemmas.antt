@@ -141,13 +141,15 @@ met_none (Some Stopped) known m p = absurd (true≢false p)
 met_none (Some why) known m p = absurd (off known)
 
 module _ {S Q : Type 0} (called : S → Event → Reply → S → Type 0) (asked : S → List ℕ → ℕ → Result Running Refusal → S → Type 0) (gives : Q → Running → Result (List ℕ) RunFault → Q → Type 0) where
-  some_back : (ws : List (Worker S Q)) (ss : List Shift) (vs : List (Worker S Q)) → AllWork called asked gives ws ss vs → 0 < length ws → backwards (tickets_of ss) ≡ [] → ⊥
+  some_back : (ws : List (Worker S Q)) (ss : List Shift) (vs : List (Worker S Q)) → AllWork called asked gives ws ss vs → 0 < length ws
+      → backwards (tickets_of ss) ≡ [] → ⊥
   some_back [] ss vs all some e = omega (arith, some)
   some_back (w ∷ ws) [] vs all some e = all
   some_back (w ∷ ws) (s ∷ ss) [] all some e = all
   some_back (w ∷ ws) (s ∷ ss) (v ∷ vs) all some e = push_some (backwards (tickets_of ss)) s.took e
 
-  all_none : (ws : List (Worker S Q)) (ss : List Shift) (vs : List (Worker S Q)) → AllWork called asked gives ws ss vs → one_met is_memory ss ≡ false → one_met is_stopped ss ≡ false → NoneMet ss
+  all_none : (ws : List (Worker S Q)) (ss : List Shift) (vs : List (Worker S Q)) → AllWork called asked gives ws ss vs → one_met is_memory ss ≡ false
+      → one_met is_stopped ss ≡ false → NoneMet ss
   all_none [] [] [] all m p = tt
   all_none [] [] (v ∷ vs) all m p = absurd all
   all_none [] (s ∷ ss) vs all m p = absurd all
@@ -174,7 +176,8 @@ module _ {S Q : Type 0} (called : S → Event → Reply → S → Type 0) (asked
     none_met = λ _. tt;
   }
 
-  pub is_round : (tickets items : List Ticket) (count : ℕ) (before after : List (Worker S Q)) (k k' : QueueEnd) (tally : Tally) → AreGoals tickets → k ≡ producer [] 0 []
+  pub is_round : (tickets items : List Ticket) (count : ℕ) (before after : List (Worker S Q)) (k k' : QueueEnd) (tally : Tally) → AreGoals tickets
+      → k ≡ producer [] 0 []
       → Serves called asked gives tickets count before [] after k k' tally → Told k' items → IsRound called asked gives tickets before after (answer_by tally)
   is_round tickets items count before after k k' tally goals new s told =
       let back = backwards (tickets_of s.shifts) in

@@ -19,7 +19,8 @@ use Rattle.builder.specs.Working.{Call, asking, is_planned, leads_own, met_by, E
 
 -- one call ends it
 pub ends_one : {S : Type 0} (called : S → Event → Reply → S → Type 0) (user : List ℕ) (e : Option Request) (actor : List ℕ) (request : Request) (reply : Reply) (s s' : S) (met : Option Refusal)
-    → e ≡ Some request → actor ≡ user → called s (asking actor request) reply s' → met ≡ met_by reply → Ends called user e ((asking actor request, reply) ∷ []) s met s'
+    → e ≡ Some request → actor ≡ user → called s (asking actor request) reply s' → met ≡ met_by reply
+    → Ends called user e ((asking actor request, reply) ∷ []) s met s'
 ends_one called user e actor request reply s s' met is own call m =
     subst (λ (x : Option Request). Ends called user x ((asking actor request, reply) ∷ []) s met s') (sym is) (ap (λ (u : List ℕ). asking u request) own, call, refl, m)
 
@@ -36,7 +37,8 @@ module _ {S Q : Type 0} (called : S → Event → Reply → S → Type 0) (asked
 
   -- a goal that leads a job after its Start, which its user has built
   pub starts_more : (actor leader : List ℕ) (reply : Reply) (calls : List Call) (s t : S) (q : Q) (met : Option Refusal) (s' : S) (q' : Q)
-      → actor ≡ user → called s (asking actor (Start number)) reply t → leads_own user number reply ≡ true → leader ≡ user → Asks called asked gives leader number calls t q met s' q'
+      → actor ≡ user → called s (asking actor (Start number)) reply t → leads_own user number reply ≡ true → leader ≡ user
+      → Asks called asked gives leader number calls t q met s' q'
       → Starts called asked gives user number ((asking actor (Start number), reply) ∷ calls) s q met s' q'
   starts_more actor leader reply calls s t q met s' q' own call is leads more = (
     ap (λ (u : List ℕ). asking u (Start number)) own,

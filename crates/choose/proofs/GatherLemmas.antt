@@ -282,7 +282,8 @@ module _ (view : Visible) (choice : List ℕ → Option Record) (own : IsChoiceA
       }
 
   -- what is below one record more
-  pub below_more : (A P : List (List ℕ)) (D : List Record) (p : Plan) (x : Record) → In x p.records → G A P D p → G A P (D ++ x ∷ []) (with_labels view choice x.labels p)
+  pub below_more : (A P : List (List ℕ)) (D : List Record) (p : Plan) (x : Record) → In x p.records → G A P D p
+      → G A P (D ++ x ∷ []) (with_labels view choice x.labels p)
   below_more A P D p x there g =
       let q : Plan = with_labels view choice x.labels p in
       let w = labels_more A P D x x.labels p g there (λ l h. h) in

@@ -33,7 +33,8 @@ same_there : (table : List Source) (records : List Recorded) (tree : Tree) (r : 
 same_there table [] tree r = refl
 same_there table (q ∷ records) tree r = rw (same_there table records tree r) refl
 
-pub has_entry-is_on : (beside : Beside) (table : List Source) (d : Holdings) (tree : Tree) (e : DeskEntry) → has_entry (entry_with tree e) (desk_of beside table d) ≡ is_on e d
+pub has_entry-is_on : (beside : Beside) (table : List Source) (d : Holdings) (tree : Tree) (e : DeskEntry)
+    → has_entry (entry_with tree e) (desk_of beside table d) ≡ is_on e d
 has_entry-is_on beside table d tree (entry.Source path) = sym (held_found table d.known.sources path)
 has_entry-is_on beside table d tree (entry.Record r) = same_there table d.records tree r
 
@@ -47,7 +48,8 @@ IsThere table d path tree = is_one_of (paths_of d) path ≡ true → tree_at pat
 abbrev Among : Holdings → List (List ℕ) → Type 0
 Among d paths = (path : List ℕ) → is_one_of paths path ≡ true → is_one_of (paths_of d) path ≡ true
 
-agree_at : (table : List Source) (paths : List (List ℕ)) (path : List ℕ) (tree : Tree) → (is_one_of paths path ≡ true → tree_at path table ≡ Some tree) → AgreeAt (record { path = path; tree = tree }) (sources_at table paths)
+agree_at : (table : List Source) (paths : List (List ℕ)) (path : List ℕ) (tree : Tree)
+    → (is_one_of paths path ≡ true → tree_at path table ≡ Some tree) → AgreeAt (record { path = path; tree = tree }) (sources_at table paths)
 agree_at table [] path tree there = tt
 agree_at table (p ∷ paths) path tree there =
     let P : List ℕ → ℕ = λ q. length (nar (unwrap_or (tree_at q table) (Link []))) in (
@@ -85,7 +87,8 @@ charge_of-entry beside table d tree (entry.Record r) charged there =
     trees_more [] q = refl
     trees_more (x ∷ rs) q = ap (λ rest. tree_of_record x ∷ rest) (trees_more rs q)
 
-    records_more : (beside : Beside) (table : List Source) (d : Holdings) (r : Recorded) (tree : Tree) → held (with_entry (entry_with tree (entry.Record r)) (desk_of beside table d)) ≡ held (desk_of beside table d) ++ record { path = r.path; tree = tree } ∷ []
+    records_more : (beside : Beside) (table : List Source) (d : Holdings) (r : Recorded) (tree : Tree)
+        → held (with_entry (entry_with tree (entry.Record r)) (desk_of beside table d)) ≡ held (desk_of beside table d) ++ record { path = r.path; tree = tree } ∷ []
     records_more beside table d r tree =
         ap (λ rest. sources_at table d.known.sources ++ rest) (trees_more (records_at table d.records) (with_tree tree r))
         ∙ sym (append_assoc (sources_at table d.known.sources) (map tree_of_record (records_at table d.records)) (record { path = r.path; tree = tree } ∷ []))
@@ -102,7 +105,8 @@ third_left a b c p d e f g = rw (e, f, g) refl
 below : (n m : ℕ) → nat_le (n + 1) m ≡ nat_lt n m
 below n m = grind (arith, nat_tests)
 
-pub is_within-entry : (users : List (List ℕ)) (beside : Beside) (table : List Source) (limit : ℕ) (d : Holdings) (tree : Tree) (e : DeskEntry) → IsSound table limit d
+pub is_within-entry : (users : List (List ℕ)) (beside : Beside) (table : List Source) (limit : ℕ) (d : Holdings) (tree : Tree) (e : DeskEntry)
+    → IsSound table limit d
     → IsThere table d (entry_path e) tree
     → is_within (record { users = users; charge = limit }) (with_entry (entry_with tree e) (desk_of beside table d)) ≡ is_roomy e (charged_more (entry_path e) (length (nar tree)) d) limit d
 unfolding is_within
@@ -129,7 +133,8 @@ is_within-entry users beside table limit d tree (entry.Record r) sound there =
 
 -- ---- the desk with it
 
-pub sources_at-push : (table : List Source) (paths : List (List ℕ)) (path : List ℕ) (tree : Tree) → tree_at path table ≡ Some tree → sources_at table (paths ++ path ∷ []) ≡ sources_at table paths ++ record { path = path; tree = tree } ∷ []
+pub sources_at-push : (table : List Source) (paths : List (List ℕ)) (path : List ℕ) (tree : Tree) → tree_at path table ≡ Some tree
+    → sources_at table (paths ++ path ∷ []) ≡ sources_at table paths ++ record { path = path; tree = tree } ∷ []
 sources_at-push table [] path tree e = rw e refl
 sources_at-push table (p ∷ paths) path tree e = rw (sources_at-push table paths path tree e) refl
 
@@ -142,7 +147,8 @@ records_at-push table (q ∷ records) r tree e = rw (records_at-push table recor
 pub desk_with : Beside → Holdings → List Source → List Record → Desk
 desk_with beside d sources records = record { trusted = beside.trusted; sources = sources; derivations = d.known.derivations; records = records; pins = d.pins; goals = beside.goals }
 
-pub desk_of-entry : (beside : Beside) (old new : List Source) (limit : ℕ) (d : Holdings) (tree : Tree) (e : DeskEntry) (archive : ℕ) → Extends old new → IsSound old limit d
+pub desk_of-entry : (beside : Beside) (old new : List Source) (limit : ℕ) (d : Holdings) (tree : Tree) (e : DeskEntry) (archive : ℕ) → Extends old new
+    → IsSound old limit d
     → tree_at (entry_path e) new ≡ Some tree
     → desk_of beside new (holds_entry e archive d) ≡ with_entry (entry_with tree e) (desk_of beside old d)
 unfolding desk_with
@@ -255,9 +261,11 @@ pub entry_had : (users : List (List ℕ)) (beside : Beside) (limit : ℕ) (table
     → add_entry (record { users = users; charge = limit }) (desk_of beside table d) (entry_with tree e) ≡ becomes (desk_of beside table d) (Path (entry_path e))
 entry_had users beside limit table d tree e on = rw (has_entry-is_on beside table d tree e, on) (ap (λ p. becomes (desk_of beside table d) (Path p)) (path_with tree e))
 
-pub entry_refused : (users : List (List ℕ)) (beside : Beside) (limit : ℕ) (table : List Source) (d : Holdings) (tree : Tree) (e : DeskEntry) → IsSound table limit d
+pub entry_refused : (users : List (List ℕ)) (beside : Beside) (limit : ℕ) (table : List Source) (d : Holdings) (tree : Tree) (e : DeskEntry)
+    → IsSound table limit d
     → IsThere table d (entry_path e) tree → is_on e d ≡ false
-    → is_roomy e (charged_more (entry_path e) (length (nar tree)) d) limit d ≡ false → add_entry (record { users = users; charge = limit }) (desk_of beside table d) (entry_with tree e) ≡ Err Quota
+    → is_roomy e (charged_more (entry_path e) (length (nar tree)) d) limit d ≡ false
+    → add_entry (record { users = users; charge = limit }) (desk_of beside table d) (entry_with tree e) ≡ Err Quota
 entry_refused users beside limit table d tree e sound there on over = rw (has_entry-is_on beside table d tree e, on, is_within-entry users beside table limit d tree e sound there, over) refl
 
 pub entry_new : (users : List (List ℕ)) (beside : Beside) (limit : ℕ) (table : List Source) (d : Holdings) (tree : Tree) (e : DeskEntry) → IsSound table limit d

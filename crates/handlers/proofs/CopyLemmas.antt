@@ -405,7 +405,8 @@ module _ (limit : ℕ) (old : List Source) (d : Holdings) (entries : List worlds
   roomy_as found more b found_is more_is roomy =
       subst (λ f. are_roomy (bare f) (charged_all f d) limit d ≡ b) found_is (subst (λ m. are_roomy (bare found) m limit d ≡ b) more_is roomy)
 
-  copied_as : (users : List (List ℕ)) (beside : Beside) (reply : replies.Reply) (b : Bool) → are_roomy (bare_entries (missing_on d entries)) its_more limit d ≡ b
+  copied_as : (users : List (List ℕ)) (beside : Beside) (reply : replies.Reply) (b : Bool)
+      → are_roomy (bare_entries (missing_on d entries)) its_more limit d ≡ b
       → copied users limit beside old d entries reply ≡ check Quota b (becomes (desk_of beside later_table its_desk) reply)
   copied_as users beside reply b roomy =
       ap (λ x. room (record { users = users; charge = limit }) x reply) (desk_copied old later_table limit d entries its_later its_there sound beside)

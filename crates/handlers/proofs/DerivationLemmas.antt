@@ -38,19 +38,24 @@ module _ (users : List (List ℕ)) (beside : Beside) (table : List Source) (limi
   abbrev pub new_outcome : Outcome
   new_outcome = admit_new (record { users = users; charge = limit }) (desk_of beside table d) derivation (known_at d.known (derivation_path derivation))
 
-  is_new : (answer : Result Admission Refusal) → known_at d.known (derivation_path derivation) ≡ None → admit d.known derivation ≡ answer → new_outcome ≡ admitted (record { users = users; charge = limit }) (desk_of beside table d) answer
+  is_new : (answer : Result Admission Refusal) → known_at d.known (derivation_path derivation) ≡ None → admit d.known derivation ≡ answer
+      → new_outcome ≡ admitted (record { users = users; charge = limit }) (desk_of beside table d) answer
   is_new answer none is =
       let K : Known → Outcome = λ known. admitted (record { users = users; charge = limit }) (desk_of beside table d) (admit known derivation) in
       rw none (ap K (known_of-desk_of beside table d) ∙ ap (admitted (record { users = users; charge = limit }) (desk_of beside table d)) is)
 
-  pub refused_fits : (e : Refusal) → known_at d.known (derivation_path derivation) ≡ None → (e ≡ Memory) ⊎ (admit d.known derivation ≡ Err e) → is_fault e ≡ false → new_outcome ≡ Err e
+  pub refused_fits : (e : Refusal) → known_at d.known (derivation_path derivation) ≡ None → (e ≡ Memory) ⊎ (admit d.known derivation ≡ Err e)
+      → is_fault e ≡ false → new_outcome ≡ Err e
   refused_fits e none (inl h) own = let wrong = rw h at own in cc
   refused_fits e none (inr h) own = is_new (Err e) none h
 
-  pub over_fits : (a : Admission) → IsSound table limit d → known_at d.known (derivation_path derivation) ≡ None → admit d.known derivation ≡ Ok a → nat_le (length d.known.derivations + 1) most_derivations ≡ false → new_outcome ≡ Err Quota
+  pub over_fits : (a : Admission) → IsSound table limit d → known_at d.known (derivation_path derivation) ≡ None → admit d.known derivation ≡ Ok a
+      → nat_le (length d.known.derivations + 1) most_derivations ≡ false → new_outcome ≡ Err Quota
   over_fits a sound none ok over = is_new (Ok a) none ok ∙ rw (is_within-derivation users beside table limit d a sound, over) refl
 
-  pub added_fits : (a : Admission) → IsSound table limit d → known_at d.known (derivation_path derivation) ≡ None → admit d.known derivation ≡ Ok a → nat_le (length d.known.derivations + 1) most_derivations ≡ true → new_outcome ≡ becomes (desk_of beside table (holds_derivation a d)) (told_of_derivation a)
+  pub added_fits : (a : Admission) → IsSound table limit d → known_at d.known (derivation_path derivation) ≡ None → admit d.known derivation ≡ Ok a
+      → nat_le (length d.known.derivations + 1) most_derivations ≡ true
+      → new_outcome ≡ becomes (desk_of beside table (holds_derivation a d)) (told_of_derivation a)
   added_fits a sound none ok within = is_new (Ok a) none ok ∙ rw (is_within-derivation users beside table limit d a sound, within) refl
 
 -- a refusal, which leaves the desk as it was
@@ -68,7 +73,8 @@ refused_added d derivation result e is clash adds =
     })
 
 -- a derivation that the desk has is only told
-pub had_added : (d : Holdings) (derivation : Derivation) (a : Admission) (result : Result Reply Refusal) → known_at d.known (derivation_path derivation) ≡ Some a
+pub had_added : (d : Holdings) (derivation : Derivation) (a : Admission) (result : Result Reply Refusal)
+    → known_at d.known (derivation_path derivation) ≡ Some a
     → IfOk result (λ r. reply_of r ≡ told_of_derivation a) → IfOk result (λ r. is_refused (reply_of r) ≡ false) → IfErr result (λ e. e ≡ Memory)
     → HasAddedDerivation d derivation result d
 had_added d derivation a (Ok r) known told answered memory = record {
@@ -87,17 +93,20 @@ had_added d derivation a (Err e) known told answered memory =
 pub too_large : (setup : Setup) (d : Desk) (text : List ℕ) → nat_le (length text) most_derivation_bytes ≡ false → add_derivation setup d text ≡ Err TooLarge
 too_large setup d text over = rw over refl
 
-pub no_derivation : (setup : Setup) (d : Desk) (text : List ℕ) → nat_le (length text) most_derivation_bytes ≡ true → derivation_of_text text ≡ None → add_derivation setup d text ≡ Err BadDerivation
+pub no_derivation : (setup : Setup) (d : Desk) (text : List ℕ) → nat_le (length text) most_derivation_bytes ≡ true → derivation_of_text text ≡ None
+    → add_derivation setup d text ≡ Err BadDerivation
 no_derivation setup d text within none = rw (within, none) refl
 
-pub derivation_read : (users : List (List ℕ)) (beside : Beside) (table : List Source) (limit : ℕ) (d : Holdings) (text : List ℕ) (derivation : Derivation) → nat_le (length text) most_derivation_bytes ≡ true → derivation_of_text text ≡ Some derivation
+pub derivation_read : (users : List (List ℕ)) (beside : Beside) (table : List Source) (limit : ℕ) (d : Holdings) (text : List ℕ) (derivation : Derivation)
+    → nat_le (length text) most_derivation_bytes ≡ true → derivation_of_text text ≡ Some derivation
     → add_derivation (record { users = users; charge = limit }) (desk_of beside table d) text ≡ new_outcome users beside table limit d derivation
 derivation_read users beside table limit d text derivation within is =
     let K : Known → Outcome = λ known. admit_new (record { users = users; charge = limit }) (desk_of beside table d) derivation (known_at known (derivation_path derivation)) in
     rw (within, is) (ap K (known_of-desk_of beside table d))
 
 -- a refusal to read a text fits
-pub unread_fits : (setup : Setup) (d new : Desk) (text : List ℕ) (e : Refusal) → nat_le (length text) most_derivation_bytes ≡ true → IsNotRead text e → Fits (add_derivation setup d text) new (Err e)
+pub unread_fits : (setup : Setup) (d new : Desk) (text : List ℕ) (e : Refusal) → nat_le (length text) most_derivation_bytes ≡ true → IsNotRead text e
+    → Fits (add_derivation setup d text) new (Err e)
 unread_fits setup d new text BadDerivation within none = λ own. no_derivation setup d text within none
 unread_fits setup d new text Memory within none = λ own. cc
 unread_fits setup d new text e within none = absurd none

@@ -214,7 +214,8 @@ module _ (table : List Source) (class path : List ℕ) where
   refers_as (r ∷ records) = ap (λ b. refers_to class path r || b) (refers_as records)
 
   -- whether a record that remains refers to it
-  pub needed_as : (d : Holdings) → list_any (model.refers_to_class class path) (model.remaining class path (records_at table d.records)) ≡ is_needed class path d
+  pub needed_as : (d : Holdings)
+      → list_any (model.refers_to_class class path) (model.remaining class path (records_at table d.records)) ≡ is_needed class path d
   needed_as d = ap (list_any (model.refers_to_class class path)) (remaining_as d.records) ∙ refers_as (remaining class path d.records)
 
   -- the desk of the model without them

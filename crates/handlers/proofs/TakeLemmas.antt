@@ -144,7 +144,8 @@ module _ (law : ServedAreMade) (users : List (List ℕ)) (limit : ℕ) (trust : 
       All-cons (IsHashed texts) (source_of_entry e) (map source_of_entry es) (one_hashed texts p hashed planned e (own e (inl refl)))
       (all_hashed texts p hashed planned es (λ x h. own x (inr h)))
 
-  pub entries_hashed : closure_entries (view_of run w u) (w u).pins classes sources ≡ Ok entries → HasSoundPlanOf run w u classes sources → (texts : List (List ℕ))
+  pub entries_hashed : closure_entries (view_of run w u) (w u).pins classes sources ≡ Ok entries → HasSoundPlanOf run w u classes sources
+      → (texts : List (List ℕ))
       → All (IsHashed texts) table → All (Contains texts) (closure_texts (view_of run w u) (w u).pins classes sources)
       → All (IsHashed texts) (map source_of_entry entries)
   entries_hashed served plans texts hashed inside =

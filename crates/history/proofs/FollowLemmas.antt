@@ -62,7 +62,8 @@ good_last setup w [] e good = (good.0, good.1)
 good_last setup w (x ∷ es) e good = good_last setup (after setup w x) es e good.2
 
 -- what it answers to what is only read
-reads : ClosuresAreGood → (core : Core) (rows : List Row) (e : Event) (reply : Reply) → Follows (setup_of core) core rows → IsCoreStep core (event_of e) (reply_of reply) core
+reads : ClosuresAreGood → (core : Core) (rows : List Row) (e : Event) (reply : Reply) → Follows (setup_of core) core rows
+    → IsCoreStep core (event_of e) (reply_of reply) core
     → IsModelRead (setup_of core) rows e reply
 reads law core rows e reply f steps = record {
   told = λ some.

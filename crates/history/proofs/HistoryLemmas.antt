@@ -39,7 +39,8 @@ unfolding world_after answers
 answers_push setup w [] e = refl
 answers_push setup w (x ∷ events) e = ap (λ (rest : List Answer). record { actor = x.actor; reply = reply_to setup w x } ∷ rest) (answers_push setup (after setup w x) events e)
 
-pub hashed_push : (setup : Setup) (w : World) (events : List Event) (e : Event) → hashed setup w (events ++ e ∷ []) ≡ hashed setup w events ++ texts_of_event setup (world_after setup w events) e
+pub hashed_push : (setup : Setup) (w : World) (events : List Event) (e : Event)
+    → hashed setup w (events ++ e ∷ []) ≡ hashed setup w events ++ texts_of_event setup (world_after setup w events) e
 unfolding world_after hashed
 hashed_push setup w [] e = append-nil (texts_of_event setup w e)
 hashed_push setup w (x ∷ events) e =

@@ -18,7 +18,8 @@ use Rattle.history.specs.Tied.{knower, stranger, absorbed, IsQuiet, Tied, Sees}
 abbrev Fits : FrontName → KnownName → Type 0
 Fits n v = v.knows ≡ true → v.name ≡ n
 
-fits_set : (n : FrontName) (views : List KnownName) (seat : ℕ) (w : KnownName) → ((j : ℕ) (u : KnownName) → get_elem? views j ≡ some u → Fits n u) → Fits n w → (j : ℕ) (u : KnownName)
+fits_set : (n : FrontName) (views : List KnownName) (seat : ℕ) (w : KnownName) → ((j : ℕ) (u : KnownName) → get_elem? views j ≡ some u → Fits n u)
+    → Fits n w → (j : ℕ) (u : KnownName)
     → get_elem? (set views seat w) j ≡ some u → Fits n u
 fits_set n views seat w others mine j u e =
     ⊎_elim
@@ -26,7 +27,8 @@ fits_set n views seat w others mine j u e =
     (λ (x : (j ≢ seat) × (get_elem? views j ≡ some u)). others j u x.1)
     (at_set views seat j w u e)
 
-fits_snoc : (n : FrontName) (views : List KnownName) (w : KnownName) → ((j : ℕ) (u : KnownName) → get_elem? views j ≡ some u → Fits n u) → Fits n w → (j : ℕ) (u : KnownName)
+fits_snoc : (n : FrontName) (views : List KnownName) (w : KnownName) → ((j : ℕ) (u : KnownName) → get_elem? views j ≡ some u → Fits n u) → Fits n w
+    → (j : ℕ) (u : KnownName)
     → get_elem? (views ++ w ∷ []) j ≡ some u → Fits n u
 fits_snoc n views w others mine j u e = ⊎_elim (λ was. others j u was) (λ (same : w ≡ u). subst (Fits n) same mine) (at_snoc views w u j e)
 

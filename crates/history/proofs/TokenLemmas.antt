@@ -22,7 +22,8 @@ off e = true≢false (sym e)
 -- ---- lists
 
 -- one element is last, or was there before
-at_push : (views : List TokenKnowledge) (a b : TokenKnowledge) (j : ℕ) → get_elem? (views ++ a ∷ []) j ≡ some b → (get_elem? views j ≡ some b) ⊎ ((j ≡ length views) × (a ≡ b))
+at_push : (views : List TokenKnowledge) (a b : TokenKnowledge) (j : ℕ) → get_elem? (views ++ a ∷ []) j ≡ some b
+    → (get_elem? views j ≡ some b) ⊎ ((j ≡ length views) × (a ≡ b))
 at_push [] a b zero e = inr (refl, some-injective a b e)
 at_push [] a b (suc j) e = absurd (some-ne-none b (sym e))
 at_push (v ∷ views) a b zero e = inl e
@@ -60,7 +61,8 @@ agrees_rows book claim r apart agrees = record {
 }
 
 -- a claim of all rows agrees
-agrees_all : (book : Recorded) (claim : Claimed) (rows : List Row) → (claim.stopped ≡ true → book.stopped ≡ true) → Agrees (with_rows book rows) (claim_of claim rows)
+agrees_all : (book : Recorded) (claim : Claimed) (rows : List Row) → (claim.stopped ≡ true → book.stopped ≡ true)
+    → Agrees (with_rows book rows) (claim_of claim rows)
 agrees_all book claim rows stopped = record { begins = prefix_self rows; no_more = refl; stopped = stopped }
 
 -- a claim agrees still when it is told whether the book is stopped
@@ -88,9 +90,11 @@ fits_set keeper book owner views place w others mine j u e =
     (at_set views place j w u e)
 
 -- the log records another book, with which all claims agree
-keeper_steps : (views : List TokenKnowledge) (h : HaveOneBook views) (place : ℕ) (v w : TokenKnowledge) → get_elem? views place ≡ some v → v.keeps ≡ true → w.recorded.next ≡ v.recorded.next
+keeper_steps : (views : List TokenKnowledge) (h : HaveOneBook views) (place : ℕ) (v w : TokenKnowledge) → get_elem? views place ≡ some v
+    → v.keeps ≡ true → w.recorded.next ≡ v.recorded.next
     → ((claim : Claimed) → place ≢ h.owner claim.number → Agrees v.recorded claim → Agrees w.recorded claim)
-    → (w.claims ≡ true → (place ≡ h.owner w.claimed.number) × (w.claimed.number < v.recorded.next) × Agrees w.recorded w.claimed) → HaveOneBook (set views place w)
+    → (w.claims ≡ true → (place ≡ h.owner w.claimed.number) × (w.claimed.number < v.recorded.next) × Agrees w.recorded w.claimed)
+    → HaveOneBook (set views place w)
 keeper_steps views h place v w at is same others own =
     let mine = (h.fits place v at).keeps is in record {
       keeper = h.keeper;
@@ -142,7 +146,8 @@ module _ {S : Type 0} where
       )
 
   -- the same, of a token that is such a log
-  pub grows_as : (slots place : ℕ) (me : Me S TokenKnowledge) (book : Recorded) (claim : Claimed) (rows : List Row) (r : Row) → me ≡ (both book claim, []) → rows ≡ book.rows ++ r ∷ [] → r.pass ≡ claim.number
+  pub grows_as : (slots place : ℕ) (me : Me S TokenKnowledge) (book : Recorded) (claim : Claimed) (rows : List Row) (r : Row)
+      → me ≡ (both book claim, []) → rows ≡ book.rows ++ r ∷ [] → r.pass ≡ claim.number
       → Allows rule slots place me 0 (λ n. n) (λ n w. w ≡ (both (with_rows me.0.recorded rows) (claim_of me.0.claimed rows), []))
   grows_as slots place me book claim rows r is all mine =
       subst (λ (m : Me S TokenKnowledge). Allows rule slots place m 0 (λ n. n) (λ n w. w ≡ (both (with_rows m.0.recorded rows) (claim_of m.0.claimed rows), []))) (sym is)
@@ -182,7 +187,8 @@ module _ {S : Type 0} where
   )
 
   -- the same, of a token that is such a log
-  pub stops_as : (slots place : ℕ) (me : Me S TokenKnowledge) (book : Recorded) → me ≡ (keeper book, []) → Allows rule slots place me 0 (λ n. n) (λ n w. w ≡ (keeper (stopped_book me.0.recorded), []))
+  pub stops_as : (slots place : ℕ) (me : Me S TokenKnowledge) (book : Recorded) → me ≡ (keeper book, [])
+      → Allows rule slots place me 0 (λ n. n) (λ n w. w ≡ (keeper (stopped_book me.0.recorded), []))
   stops_as slots place me book is = subst (λ (m : Me S TokenKnowledge). Allows rule slots place m 0 (λ n. n) (λ n w. w ≡ (keeper (stopped_book m.0.recorded), []))) (sym is) (stops slots place book)
 
   -- a claim goes to a new token
@@ -244,11 +250,13 @@ module _ {S : Type 0} where
       }
 
   -- the same, of a token that is the log
-  pub deals_as : (place : ℕ) (v : TokenKnowledge) (book : Recorded) → v ≡ keeper book → Splits rule place v (keeper (with_pass v.recorded)) (holder (first_claim v.recorded))
+  pub deals_as : (place : ℕ) (v : TokenKnowledge) (book : Recorded) → v ≡ keeper book
+      → Splits rule place v (keeper (with_pass v.recorded)) (holder (first_claim v.recorded))
   deals_as place v book is = subst (λ (u : TokenKnowledge). Splits rule place u (keeper (with_pass u.recorded)) (holder (first_claim u.recorded))) (sym is) (deals place book)
 
   -- the log takes in a claim
-  joins : (place : ℕ) (book : Recorded) (other : ℕ) (claim : Claimed) → Joins rule place (keeper book) other (holder claim) (both book claim) (without_claim (holder nothing_claimed))
+  joins : (place : ℕ) (book : Recorded) (other : ℕ) (claim : Claimed)
+      → Joins rule place (keeper book) other (holder claim) (both book claim) (without_claim (holder nothing_claimed))
   joins place book other claim s h at apart there =
       let w : TokenKnowledge = both book claim in
       let mine = (h.fits place (keeper book) at).keeps refl in

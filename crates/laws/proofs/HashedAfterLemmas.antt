@@ -43,16 +43,19 @@ module _ (Q : Source → Type 0) (setup : Setup) (reached : Bool) (end : End) wh
       either_desk (AllHeld Q) (has_record r d) (with_goal n (in_status (Done r.path) g) d) (if is_within setup (with_record r d) then added else failed) own
       (either_desk (AllHeld Q) (is_within setup (with_record r d)) added failed (held_with Q (OfRecord r) d own new) own)
 
-  output_held : (n : ℕ) (g : Goal) (o : Result Record Refusal) (d : Desk) → AllHeld Q d → ((r : Record) → o ≡ Ok r → Q (tree_of_record r)) → AllHeld Q (with_output setup n g o d)
+  output_held : (n : ℕ) (g : Goal) (o : Result Record Refusal) (d : Desk) → AllHeld Q d → ((r : Record) → o ≡ Ok r → Q (tree_of_record r))
+      → AllHeld Q (with_output setup n g o d)
   output_held n g (Ok r) d own new = done_held n g r d own (new r refl)
   output_held n g (Err why) d own new = own
 
   ended_held : (n : ℕ) (o : Option Goal) (d : Desk) → AllHeld Q d
-      → ((g : Goal) → o ≡ Some g → reached ≡ true → (r : Record) → Records end (known_of d) g r → Q (tree_of_record r)) → AllHeld Q (ended_goal setup reached end n o d)
+      → ((g : Goal) → o ≡ Some g → reached ≡ true → (r : Record) → Records end (known_of d) g r → Q (tree_of_record r))
+      → AllHeld Q (ended_goal setup reached end n o d)
   ended_held n None d own new = own
   ended_held n (Some g) d own new = by_end end reached (new g refl)
     where
-      by_end : (how : End) (b : Bool) → (b ≡ true → (r : Record) → Records how (known_of d) g r → Q (tree_of_record r)) → AllHeld Q (ended_goal setup b how n (Some g) d)
+      by_end : (how : End) (b : Bool) → (b ≡ true → (r : Record) → Records how (known_of d) g r → Q (tree_of_record r))
+          → AllHeld Q (ended_goal setup b how n (Some g) d)
       by_end how false new = own
       by_end (Output bytes) true new = output_held n g (built_record (known_of d) g bytes) d own (new refl)
       by_end Failure true new = own
@@ -123,7 +126,8 @@ module _ (Q : Source → Type 0) (setup : Setup) (w : World) (u : List ℕ) wher
       subst (AllHeld Q) (sym same) (either_desk (AllHeld Q) (bytes_eq x u) c.desk (w x) quiet.1 own)
 
   -- where a job of the actor has ended
-  pub after_end : (n : ℕ) (bytes x : List ℕ) → is_user setup x ≡ true → AllHeld Q (w x) → leads_job (record { leader = u; number = n }) (goal_at n (w u).goals) ≡ true
+  pub after_end : (n : ℕ) (bytes x : List ℕ) → is_user setup x ≡ true → AllHeld Q (w x)
+      → leads_job (record { leader = u; number = n }) (goal_at n (w u).goals) ≡ true
       → ((s : Source) → IsTreeOf (finish_texts setup w u n bytes) s → Q s)
       → AllHeld Q (delivered setup u (reaches setup w x u) (Ended n (Output bytes)) (w x))
   after_end n bytes x user own leads made =

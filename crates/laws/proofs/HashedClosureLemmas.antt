@@ -42,11 +42,13 @@ pub record IsTurn (choice : List ℕ → Option Record) (all : List Record) (pat
 
 module _ (V : List ℕ → Type 0) (choice : List ℕ → Option Record) where
   -- the texts of one record
-  repair_values : (r : Record) → ((path : List ℕ) → IsRepairPath (serve choice) r path → V path) → AreHashedFor V (texts_of_replacements r (replacements_of (serve choice) r.labels))
+  repair_values : (r : Record) → ((path : List ℕ) → IsRepairPath (serve choice) r path → V path)
+      → AreHashedFor V (texts_of_replacements r (replacements_of (serve choice) r.labels))
   unfolding relabelling_texts
   repair_values r value = by_replacements (replacements_of (serve choice) r.labels) refl
     where
-      by_tree : (replacements : List Replacement) → replacements_of (serve choice) r.labels ≡ Ok replacements → list_any changes_path replacements ≡ true → list_any (is_replaced_by r.path) replacements ≡ false
+      by_tree : (replacements : List Replacement) → replacements_of (serve choice) r.labels ≡ Ok replacements
+          → list_any changes_path replacements ≡ true → list_any (is_replaced_by r.path) replacements ≡ false
           → (o : Result Tree RewriteFault) → rewritten r replacements ≡ o → AreHashedFor V (resettling_texts r replacements o)
       by_tree replacements relabelling t none (Err why) put = for_none V
       by_tree replacements relabelling t none (Ok tree) put =
@@ -129,7 +131,8 @@ module _ (view : List Desk) (pins : List Pin) (classes sources : List (List ℕ)
       let t = record_there p.sources w.0 q (subst (λ z. In z w.0) same m.1) in
       (t.1, subst (In t.1) is (in_of (entries_with p.sources w.0) t.1 (t.0, t.2, t.3)), t.4.0, t.4.1)
 
-  turn_has : (path : List ℕ) → IsTurn choice p.records path → (o : Result (List Entry) Refusal) → served_plan p ≡ o → ClosureHas view pins classes sources o path
+  turn_has : (path : List ℕ) → IsTurn choice p.records path → (o : Result (List Entry) Refusal) → served_plan p ≡ o
+      → ClosureHas view pins classes sources o path
   unfolding served_plan
   turn_has path t (Err why) e = record {
     plan = p;
@@ -159,7 +162,8 @@ module _ (view : List Desk) (pins : List Pin) (classes sources : List (List ℕ)
 
 -- the texts of a closure are hashed for what it says of paths
 pub closure_values : (V : List ℕ → Type 0) (view : List Desk) (pins : List Pin) (classes sources : List (List ℕ))
-    → ((path : List ℕ) → ClosureHas view pins classes sources (closure_entries view pins classes sources) path → V path) → AreHashedFor V (closure_texts view pins classes sources)
+    → ((path : List ℕ) → ClosureHas view pins classes sources (closure_entries view pins classes sources) path → V path)
+    → AreHashedFor V (closure_texts view pins classes sources)
 closure_values V view pins classes sources value = by (closure_plan view pins classes sources) refl
   where
     by : (o : Result Plan Refusal) → closure_plan view pins classes sources ≡ o → AreHashedFor V (texts_of_plan o)
@@ -220,7 +224,8 @@ module _ (view : List Desk) (pins : List Pin) (classes sources : List (List ℕ)
   ]
 
   -- and its entry in the closure
-  pub asked_for : (entries : List Entry) → closure_entries view pins classes sources ≡ Ok entries → (c : List ℕ) → In c classes → (path : List ℕ) × (path_for c entries ≡ Some path)
+  pub asked_for : (entries : List Entry) → closure_entries view pins classes sources ≡ Ok entries → (c : List ℕ) → In c classes
+      → (path : List ℕ) × (path_for c entries ≡ Some path)
   unfolding served_plan
   asked_for entries e c h =
       let a = then_ok (closure_plan view pins classes sources) served_plan entries e in

@@ -106,7 +106,8 @@ module _ (Q : Source → Type 0) (setup : Setup) (w : World) (u : List ℕ) (own
 
   -- an output
   module _ (derivation : List ℕ) (tree : Tree) (made : (z : Source) → IsTreeOf (texts_of setup w u (Offer derivation tree)) z → Q z) where
-    by_settled : (a : Admission) → known_at (known_of (w u)) derivation ≡ Some a → (o : Result Settled RewriteFault) → output_settled (candidates (w u) a.derivation) a tree ≡ o
+    by_settled : (a : Admission) → known_at (known_of (w u)) derivation ≡ Some a → (o : Result Settled RewriteFault)
+        → output_settled (candidates (w u) a.derivation) a tree ≡ o
         → P (then_do (unless_rewrite_refused o) (λ z. add_entry setup (w u) (OfRecord (record_for (candidates (w u) a.derivation) a z))))
     by_settled a known (Err why) e = tt
     by_settled a known (Ok z) e =
@@ -117,7 +118,8 @@ module _ (Q : Source → Type 0) (setup : Setup) (w : World) (u : List ℕ) (own
         made (tree_of_record r) (OutputOf tree self_part references (name_of a.derivation) z e refl refl (rw known (All-contains_itself (settling_texts tree self_part references (name_of a.derivation))))) in
         entry_added P setup (w u) (OfRecord r) (refl, own) (refl, held_with Q (OfRecord r) (w u) own new) tt
 
-    by_known : (o : Option Admission) → known_at (known_of (w u)) derivation ≡ o → P (need UnknownDerivation o (λ a. offer_output setup (w u) tree (candidates (w u) a.derivation) a))
+    by_known : (o : Option Admission) → known_at (known_of (w u)) derivation ≡ o
+        → P (need UnknownDerivation o (λ a. offer_output setup (w u) tree (candidates (w u) a.derivation) a))
     by_known None e = tt
     by_known (Some a) e = by_settled a e (output_settled (candidates (w u) a.derivation) a tree) refl
 
@@ -143,7 +145,8 @@ module _ (Q : Source → Type 0) (setup : Setup) (w : World) (u : List ℕ) (own
     copied_held d g r had (Some a) None e = (refl, had)
     copied_held d g r had None built e = (refl, had)
 
-    planned_held : (g : Goal) → goal_at n (w u).goals ≡ Some g → (o : Option Resolved) → planned_in g.status g.resolved ≡ o → P (need WrongState o (start_goal setup s n g))
+    planned_held : (g : Goal) → goal_at n (w u).goals ≡ Some g → (o : Option Resolved) → planned_in g.status g.resolved ≡ o
+        → P (need WrongState o (start_goal setup s n g))
     planned_held g there None e = tt
     planned_held g there (Some r) e =
         let d : Desk = with_entries r.closure (w u) in
@@ -151,7 +154,8 @@ module _ (Q : Source → Type 0) (setup : Setup) (w : World) (u : List ℕ) (own
         one_of P (is_within setup d) (start_copied setup s d n g r (known_at (known_of (w u)) g.derivation) (finished_build s.view r)) (turns s (w u) n (in_status (Failed Quota) g))
         (λ within. copied_held d g r had (known_at (known_of (w u)) g.derivation) (finished_build s.view r) refl) (λ outside. (refl, own))
 
-    goal_held : (o : Option Goal) → goal_at n (w u).goals ≡ o → P (need UnknownGoal o (λ g. need WrongState (planned_in g.status g.resolved) (start_goal setup s n g)))
+    goal_held : (o : Option Goal) → goal_at n (w u).goals ≡ o
+        → P (need UnknownGoal o (λ g. need WrongState (planned_in g.status g.resolved) (start_goal setup s n g)))
     goal_held None e = tt
     goal_held (Some g) e = planned_held g e (planned_in g.status g.resolved) refl
 

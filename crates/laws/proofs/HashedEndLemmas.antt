@@ -94,7 +94,8 @@ module _ (setup : Setup) (end : End) where
   output_other n m g (Ok r) d other = done_other n m g r d other
   output_other n m g (Err why) d other = put_other n m (in_status (Failed why) g) d.goals other
 
-  pub ended_other : (reached : Bool) (n m : ℕ) (o : Option Goal) (d : Desk) → (n ≡ m → ⊥) → goal_at m (ended_goal setup reached end n o d).goals ≡ goal_at m d.goals
+  pub ended_other : (reached : Bool) (n m : ℕ) (o : Option Goal) (d : Desk) → (n ≡ m → ⊥)
+      → goal_at m (ended_goal setup reached end n o d).goals ≡ goal_at m d.goals
   ended_other reached n m None d other = refl
   ended_other false n m (Some g) d other = put_other n m (in_status Waiting g) d.goals other
   ended_other true n m (Some g) d other = by end
@@ -166,7 +167,8 @@ module _ (setup : Setup) (bytes : List ℕ) (tree : Tree) (read : tree_of_archiv
     }),
   )
 
-  by_settled : (path : List ℕ) (d : Desk) → goal_at m d.goals ≡ Some g → IsPathFor tree (hash_part_in r.scratch) (paths_of_labels (labels_from r)) (name_of a.derivation) path
+  by_settled : (path : List ℕ) (d : Desk) → goal_at m d.goals ≡ Some g
+      → IsPathFor tree (hash_part_in r.scratch) (paths_of_labels (labels_from r)) (name_of a.derivation) path
       → (o : Result Settled RewriteFault) → settled_under r.scratch (labels_from r) a tree ≡ o → PathIn o path
       → Becomes known g bytes m path (with_output setup m g (then_do (unless_rewrite_refused o) (λ s. Ok (record_for (labels_from r) a s))) d)
   by_settled path d there h (Err why) e own =
@@ -207,7 +209,8 @@ module _ (setup : Setup) (job : Job) (bytes : List ℕ) (tree : Tree) (read : tr
   V = IsOutputPath job bytes d later
 
   goal_values : (m : ℕ) → In m (members job 1 d.goals) → (g : Goal) → goal_at m d.goals ≡ Some g → is_in job g.status ≡ true
-      → (known : Option Admission) → known_at (known_of d) g.derivation ≡ known → (kept : Option Resolved) → g.resolved ≡ kept → AreHashedFor V (resolved_texts tree known kept)
+      → (known : Option Admission) → known_at (known_of d) g.derivation ≡ known → (kept : Option Resolved) → g.resolved ≡ kept
+      → AreHashedFor V (resolved_texts tree known kept)
   goal_values m h g there built None known kept e = for_none V
   goal_values m h g there built (Some a) known None e = for_none V
   goal_values m h g there built (Some a) known (Some r) e =

@@ -115,7 +115,8 @@ for_checked V why false next xs all = for_none (V (Err why))
 module _ (setup : Setup) (s : Observation) where
   -- ---- a source
 
-  pub source_values : (name : List ℕ) (tree : Tree) → AreHashedFor (IsAnswered s (AddSource name tree) (add_source setup s.desk name tree)) (source_texts name tree)
+  pub source_values : (name : List ℕ) (tree : Tree)
+      → AreHashedFor (IsAnswered s (AddSource name tree) (add_source setup s.desk name tree)) (source_texts name tree)
   source_values name tree =
       for_path (IsAnswered s (AddSource name tree) (add_source setup s.desk name tree)) Source (nar tree) name
       (add_source_cases (λ o. IsAnswered s (AddSource name tree) o (source_path tree name)) setup s.desk name tree

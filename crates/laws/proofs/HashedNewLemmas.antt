@@ -93,7 +93,8 @@ module _ (setup : Setup) (w : World) (e : Event) where
   old_held : (y : List ℕ) → AllHeld Q (w y)
   old_held y z h = inl (y, contains_of (trees_on (w y)) z (in_left z (held (w y)) (flat_map (λ g. kept_trees g.resolved) (w y).goals) h))
 
-  old_kept : (y : List ℕ) (n : ℕ) (g : Goal) (r : Resolved) → goal_at n (w y).goals ≡ Some g → g.resolved ≡ Some r → (a : Entry) → In a r.closure → Q (held_of a)
+  old_kept : (y : List ℕ) (n : ℕ) (g : Goal) (r : Resolved) → goal_at n (w y).goals ≡ Some g → g.resolved ≡ Some r → (a : Entry) → In a r.closure
+      → Q (held_of a)
   old_kept y n g r at is a h =
       let there : In (held_of a) (kept_trees g.resolved) = rw is (in_map held_of a r.closure h) in
       inl (
@@ -137,7 +138,8 @@ module _ (setup : Setup) (w : World) (e : Event) where
 
   -- ---- what goals keep
 
-  plan_untimely : (n : ℕ) (g : Goal) → goal_at n s.desk.goals ≡ Some g → is_waiting (as_seen s.reach g.status) ≡ false → outcome setup s (Plan n) ≡ Err WrongState
+  plan_untimely : (n : ℕ) (g : Goal) → goal_at n s.desk.goals ≡ Some g → is_waiting (as_seen s.reach g.status) ≡ false
+      → outcome setup s (Plan n) ≡ Err WrongState
   unfolding outcome
   plan_untimely n g there f = rw (there, f) refl
 
@@ -218,7 +220,8 @@ module _ (setup : Setup) (w : World) (e : Event) where
         ]
   ]
 
-  kept_after : (x : List ℕ) (n : ℕ) (g : Goal) (r : Resolved) → goal_at n (after setup w e x).goals ≡ Some g → g.resolved ≡ Some r → (a : Entry) → In a r.closure → Q (held_of a)
+  kept_after : (x : List ℕ) (n : ℕ) (g : Goal) (r : Resolved) → goal_at n (after setup w e x).goals ≡ Some g → g.resolved ≡ Some r → (a : Entry)
+      → In a r.closure → Q (held_of a)
   kept_after x n g r at is a h = elim (kept_or_planned x n g r at is) [
     | inl old ↦ old_kept x n old.0 r old.1 old.2 a h
     | inr new ↦ plan_kept new.0 a (subst (λ (z : Resolved). In a z.closure) (sym new.1) h)
@@ -313,7 +316,8 @@ module _ (setup : Setup) (w : World) (e : Event) where
       | inr new ↦ elim new [ inl same ↦ inr (subst (λ (z : Admission). IsPathOf texts z.path × IsPathOf texts z.class.path) same admitted_named) | inr none ↦ absurd none ]
     ]
 
-  derivations_after : (x : List ℕ) (a : Admission) → Contains (after setup w e x).derivations a → Contains (w x).derivations a ⊎ (IsPathOf texts a.path × IsPathOf texts a.class.path)
+  derivations_after : (x : List ℕ) (a : Admission) → Contains (after setup w e x).derivations a
+      → Contains (w x).derivations a ⊎ (IsPathOf texts a.path × IsPathOf texts a.class.path)
   derivations_after x a c =
       let h = in_of (after setup w e x).derivations a c in
       elim (after_grows setup w e x) [

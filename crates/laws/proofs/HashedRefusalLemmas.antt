@@ -32,7 +32,8 @@ Late why = comes_after_path why ≡ true
 late_if : (why is : Refusal) → why ≡ is → Late is → Late why
 late_if why is e late = subst Late (sym e) late
 
-output_late : (under : List ℕ) (labels : List Label) (a : Admission) (tree : Tree) (why : Refusal) (path : List ℕ) → IsOutputRefused under labels a tree why path → Late why
+output_late : (under : List ℕ) (labels : List Label) (a : Admission) (tree : Tree) (why : Refusal) (path : List ℕ)
+    → IsOutputRefused under labels a tree why path → Late why
 output_late under labels a tree why path (OutputNotTrue is settles for_path) = late_if why (RewriteRefused Accidental) is refl
 output_late under labels a tree why path (NoRoomForOutput s is settles same) = late_if why Quota is refl
 
@@ -40,14 +41,16 @@ derivation_late : (known : Known) (text : List ℕ) (why : Refusal) (path : List
 derivation_late known text why path (NotAdmitted d read new refused is) = admit_refusals Late refl refl known d why refused
 derivation_late known text why path (NoRoomForDerivation d a is read new admitted own) = late_if why Quota is refl
 
-closure_late : (view : List Desk) (pins : List Pin) (classes sources : List (List ℕ)) (why : Refusal) (path : List ℕ) → IsClosureRefused view pins classes sources why path → Late why
+closure_late : (view : List Desk) (pins : List Pin) (classes sources : List (List ℕ)) (why : Refusal) (path : List ℕ)
+    → IsClosureRefused view pins classes sources why path → Late why
 closure_late view pins classes sources why path is = refused_as Late (served_plan is.plan) why (served_plan_refused Late refl (λ fault. refl) is.plan) is.refused
 
 take_late : (view : List Desk) (pins : List Pin) (class : List ℕ) (why : Refusal) (path : List ℕ) → IsTakeRefused view pins class why path → Late why
 take_late view pins class why path (TakeRefused is) = closure_late view pins (class ∷ []) [] why path is
 take_late view pins class why path (NoRoomForEntries entries is given own) = late_if why Quota is refl
 
-plan_late : (view : List Desk) (pins : List Pin) (known : Known) (d : Derivation) (why : Refusal) (path : List ℕ) → IsPlanRefused view pins known d why path → Late why
+plan_late : (view : List Desk) (pins : List Pin) (known : Known) (d : Derivation) (why : Refusal) (path : List ℕ)
+    → IsPlanRefused view pins known d why path → Late why
 plan_late view pins known d why path (PlanRefused is) = closure_late view pins _ d.sources why path is
 plan_late view pins known d why path (TextRefused entries is given own refused) = late_if why (RewriteRefused Overlap) is refl
 
@@ -99,7 +102,8 @@ module _ (setup : Setup) (w : World) (e : Event) (why : Refusal) (refused : outc
   none_given s (Plan n) later path is = (let no = is.says in absurd (cc))
   none_given s r later path is = is
 
-  says_late : (other : Refusal) (path : List ℕ) → Says (reply_to setup w e) other → IsRefusedWith (observation_of setup w e.actor) e.request other path → Late why
+  says_late : (other : Refusal) (path : List ℕ) → Says (reply_to setup w e) other
+      → IsRefusedWith (observation_of setup w e.actor) e.request other path → Late why
   says_late other path says is = elim says [
     | inl t ↦
         let both : Refused why ≡ Refused other = sym told ∙ t in

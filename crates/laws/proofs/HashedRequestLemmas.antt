@@ -143,7 +143,8 @@ module _ (entries : List Entry) (d : Derivation) where
   unfolding resolved_text
   text_refused served why e = by (list_any (is_crowded (images_for served)) (rewritten_strings d)) e
     where
-      by : (b : Bool) → then_do (if b then Err (RewriteRefused Overlap) else Ok (derivation_text (resolved_derivation served d))) (resolved_to entries d) ≡ Err why
+      by : (b : Bool)
+          → then_do (if b then Err (RewriteRefused Overlap) else Ok (derivation_text (resolved_derivation served d))) (resolved_to entries d) ≡ Err why
           → why ≡ RewriteRefused Overlap
       by true e = cc
       by false e = absurd (cc)
@@ -171,7 +172,8 @@ module _ (s : Observation) (n : ℕ) (g : Goal) (there : goal_at n s.desk.goals 
   abbrev classes : List (List ℕ)
   classes = input_classes (known_of s.desk) d
 
-  refused_value : (path : List ℕ) (why : Refusal) → IsPlanRefused s.view s.desk.pins (known_of s.desk) d why path → IsAnswered s (Plan n) (plan_resolved s n g (Err why)) path
+  refused_value : (path : List ℕ) (why : Refusal) → IsPlanRefused s.view s.desk.pins (known_of s.desk) d why path
+      → IsAnswered s (Plan n) (plan_resolved s n g (Err why)) path
   refused_value path NotRealised is = inr (NotRealised, inl refl, record { goal = g; there = there; admission = a; known = known; plan = is })
   refused_value path why is = inr (why, inr refl, record { goal = g; there = there; admission = a; known = known; plan = is })
 
@@ -198,7 +200,8 @@ module _ (s : Observation) (n : ℕ) (g : Goal) (there : goal_at n s.desk.goals 
       )
 
   entry_value : (path : List ℕ) (entries : List Entry) → closures.closure_entries s.view s.desk.pins classes d.sources ≡ Ok entries
-      → IsRepairedEntry s.view s.desk.pins classes d.sources entries path → (o : Result Resolved Refusal) → resolved_over classes d entries ≡ o → IsAnswered s (Plan n) (plan_resolved s n g o) path
+      → IsRepairedEntry s.view s.desk.pins classes d.sources entries path → (o : Result Resolved Refusal) → resolved_over classes d entries ≡ o
+      → IsAnswered s (Plan n) (plan_resolved s n g o) path
   entry_value path entries e own (Ok r) is =
       let same = resolved_is entries d classes r is in
       kept_value path r (inr (subst (λ es. IsRepairedEntry s.view s.desk.pins classes d.sources es path) same.0 own))

@@ -34,7 +34,8 @@ turn_texts choice (z ∷ rs) ys e r h x there =
     ])
 
 -- the texts of a record that is repaired are those of its tree
-repaired_texts : (choice : List ℕ → Option Record) (r q : Record) (replacements : List Replacement) → replacements_of (serve choice) r.labels ≡ Ok replacements → (is : IsRepaired r replacements q)
+repaired_texts : (choice : List ℕ → Option Record) (r q : Record) (replacements : List Replacement)
+    → replacements_of (serve choice) r.labels ≡ Ok replacements → (is : IsRepaired r replacements q)
     → texts_of_replacements r (replacements_of (serve choice) r.labels) ≡ settling_texts is.put (hash_part_in r.path) (paths_of_labels (new_labels replacements)) (name_in r.path)
 unfolding relabelling_texts
 repaired_texts choice r q replacements relabelling is = rw (relabelling, is.replaced, is.others, is.rewriting) refl
@@ -71,7 +72,8 @@ module _ (view : List Desk) (pins : List Pin) (classes sources : List (List ℕ)
           | inr is ↦ made (tree_of_record q) (repaired_made r q s.replacements relabelling is served all w.1)
         ]
       where
-        repaired_made : (r q : Record) (replacements : List Replacement) → replacements_of (serve (chosen_in p.records)) r.labels ≡ Ok replacements → (is : IsRepaired r replacements q)
+        repaired_made : (r q : Record) (replacements : List Replacement) → replacements_of (serve (chosen_in p.records)) r.labels ≡ Ok replacements
+            → (is : IsRepaired r replacements q)
             → (served : List Record) → serve_all p.records ≡ Ok served → In r p.records → IsTreeOf (closure_texts view pins classes sources) (tree_of_record q)
         repaired_made r q replacements relabelling is served all there =
             let texts : List (List ℕ) = settling_texts is.put (hash_part_in r.path) (paths_of_labels (new_labels replacements)) (name_in r.path) in

@@ -65,7 +65,8 @@ module _ (setup : Setup) (w : World) (e : Event) (user : is_user setup e.actor �
       ∙ ap (λ d. delivered setup e.actor (reaches setup w x e.actor) (Notified n (Output bytes)) d) same
       ∙ ap (λ b. delivered setup e.actor b (Notified n (Output bytes)) (w x)) reached
 
-  finish_values : (n : ℕ) (bytes : List ℕ) → e.request ≡ Finish n bytes → outcome setup s e.request ≡ finish setup s n bytes → AreHashedFor V (texts_of setup w e.actor (Finish n bytes))
+  finish_values : (n : ℕ) (bytes : List ℕ) → e.request ≡ Finish n bytes → outcome setup s e.request ≡ finish setup s n bytes
+      → AreHashedFor V (texts_of setup w e.actor (Finish n bytes))
   finish_values n bytes asked is =
       let job : Job = record { leader = e.actor; number = n } in
       elim (either (leads_job job (goal_at n (w e.actor).goals))) [
@@ -77,7 +78,8 @@ module _ (setup : Setup) (w : World) (e : Event) (user : is_user setup e.actor �
             (λ x path reached h. Ended n bytes x asked (subst (λ d. IsOutputPath job bytes (w x) d path) (sym (desk_ended n bytes x ends reached)) h)))
       ]
 
-  answered_values : (r : Request) → e.request ≡ r → AreHashedFor (IsAnswered s r (outcome setup s r)) (texts_of setup w e.actor r) → AreHashedFor V (texts_of setup w e.actor r)
+  answered_values : (r : Request) → e.request ≡ r → AreHashedFor (IsAnswered s r (outcome setup s r)) (texts_of setup w e.actor r)
+      → AreHashedFor V (texts_of setup w e.actor r)
   answered_values r asked all =
       let is : outcome_of setup w e ≡ outcome setup s r = outcome_is (outcome setup s r) (ap (outcome setup s) asked) in
       for_values (IsAnswered s r (outcome setup s r)) V (texts_of setup w e.actor r)

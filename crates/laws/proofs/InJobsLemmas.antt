@@ -94,7 +94,8 @@ module _ (setup : Setup) (jobs : Job → Bool) where
   output_in n g (Ok r) d = done_in n g r d
   output_in n g (Err why) d = goal_put jobs n (in_status (Failed why) g) d refl
 
-  ended_with_in : (n : ℕ) (g : Goal) (end : End) (d : Desk) → ended_with setup n (goal_in jobs g) end (desk_in jobs d) ≡ desk_in jobs (ended_with setup n g end d)
+  ended_with_in : (n : ℕ) (g : Goal) (end : End) (d : Desk)
+      → ended_with setup n (goal_in jobs g) end (desk_in jobs d) ≡ desk_in jobs (ended_with setup n g end d)
   ended_with_in n g (Output bytes) d = output_in n g (built_record (known_of d) g bytes) d
   ended_with_in n g Failure d = goal_put jobs n (in_status (Failed BuilderFailed) g) d refl
 
@@ -105,7 +106,8 @@ module _ (setup : Setup) (jobs : Job → Bool) where
       desk_if reached reached (ended_with setup n (goal_in jobs g) end (desk_in jobs d)) (with_goal n (in_status Waiting g) (desk_in jobs d))
       (ended_with setup n g end d) (with_goal n (in_status Waiting g) d) refl (ended_with_in n g end d) (goal_put jobs n (in_status Waiting g) d refl)
 
-  all_ended_in : (reached : Bool) (end : End) (ns : List ℕ) (d : Desk) → ended_goals setup reached end ns (desk_in jobs d) ≡ desk_in jobs (ended_goals setup reached end ns d)
+  all_ended_in : (reached : Bool) (end : End) (ns : List ℕ) (d : Desk)
+      → ended_goals setup reached end ns (desk_in jobs d) ≡ desk_in jobs (ended_goals setup reached end ns d)
   unfolding ended_goals
   all_ended_in reached end [] d = refl
   all_ended_in reached end (n ∷ ns) d =
@@ -197,7 +199,8 @@ status_both jobs others (Building job) = elim (either (jobs job)) [ inl t ↦ rw
 status_both jobs others (Done path) = refl
 status_both jobs others (Failed why) = refl
 
-goals_both : (jobs others : Job → Bool) (goals : List Goal) → map (goal_in others) (map (goal_in jobs) goals) ≡ map (goal_in (λ job. jobs job && others job)) goals
+goals_both : (jobs others : Job → Bool) (goals : List Goal)
+    → map (goal_in others) (map (goal_in jobs) goals) ≡ map (goal_in (λ job. jobs job && others job)) goals
 goals_both jobs others [] = refl
 goals_both jobs others (g ∷ goals) =
     let one = status_both jobs others g.status in

@@ -59,11 +59,13 @@ module _ (jobs : Job → Bool) where
   checked_in why true c o p same is = rw (← same) is
   checked_in why false c o p same is = rw (← same) refl
 
-  either_in : (b c : Bool) (o p x y : Outcome) → b ≡ c → o ≡ outcome_in jobs x → p ≡ outcome_in jobs y → (if b then o else p) ≡ outcome_in jobs (if c then x else y)
+  either_in : (b c : Bool) (o p x y : Outcome) → b ≡ c → o ≡ outcome_in jobs x → p ≡ outcome_in jobs y
+      → (if b then o else p) ≡ outcome_in jobs (if c then x else y)
   either_in true c o p x y same one other = rw (← same) one
   either_in false c o p x y same one other = rw (← same) other
 
-  needed_in : {X : Type 0} (why : Refusal) (x : Option X) (f g : X → Outcome) → ((y : X) → f y ≡ outcome_in jobs (g y)) → need why x f ≡ outcome_in jobs (need why x g)
+  needed_in : {X : Type 0} (why : Refusal) (x : Option X) (f g : X → Outcome) → ((y : X) → f y ≡ outcome_in jobs (g y))
+      → need why x f ≡ outcome_in jobs (need why x g)
   needed_in why None f g h = refl
   needed_in why (Some y) f g h = h y
 
@@ -87,7 +89,8 @@ module _ (jobs : Job → Bool) where
       let trees : visible_sources (map (desk_in jobs) view) ≡ visible_sources view = flat_map-map (λ d. d.sources) (desk_in jobs) view in
       λ i. then_do (plan_by (records i) (trees i) (λ class. choose_among (records i) pins class) classes sources) served_plan
 
-  resolve_in : (view : List Desk) (pins : List Pin) (known : Known) (d : Derivation) → resolve (map (desk_in jobs) view) pins known d ≡ resolve view pins known d
+  resolve_in : (view : List Desk) (pins : List Pin) (known : Known) (d : Derivation)
+      → resolve (map (desk_in jobs) view) pins known d ≡ resolve view pins known d
   resolve_in view pins known d =
       let classes : List (List ℕ) = input_classes known d in
       ap (λ o. then_do o (resolved_over classes d)) (closure_in view pins classes d.sources)
@@ -172,7 +175,8 @@ module _ (jobs : Job → Bool) where
         ap (plan_resolved t n (goal_in jobs g)) (resolve_in s.view s.desk.pins (known_of s.desk) a.derivation)
         ∙ plan_resolved_in n g (resolve_for s a.derivation))))
 
-    again_in : (d e : Desk) (n : ℕ) (g : Goal) (r : Record) → d ≡ desk_in jobs e → done_again setup t d n (goal_in jobs g) r ≡ outcome_in jobs (done_again setup s e n g r)
+    again_in : (d e : Desk) (n : ℕ) (g : Goal) (r : Record) → d ≡ desk_in jobs e
+        → done_again setup t d n (goal_in jobs g) r ≡ outcome_in jobs (done_again setup s e n g r)
     again_in d e n g r is =
         let done : Goal = in_status (Done r.path) g in
         let failed : Goal = in_status (Failed Quota) g in
@@ -262,7 +266,8 @@ module _ (jobs : Job → Bool) where
         of (Done path) = refl
         of (Failed why) = refl
 
-    all_let_go_in : (class path : List ℕ) (goals : List Goal) → map (let_go class path) (map (goal_in jobs) goals) ≡ map (goal_in jobs) (map (let_go class path) goals)
+    all_let_go_in : (class path : List ℕ) (goals : List Goal)
+        → map (let_go class path) (map (goal_in jobs) goals) ≡ map (goal_in jobs) (map (let_go class path) goals)
     all_let_go_in class path [] = refl
     all_let_go_in class path (g ∷ goals) =
         let one = let_go_in class path g in

@@ -88,7 +88,8 @@ as_it x y at = let own : y ≡ x = sym (some_same x y at) in (ap (λ (q : Goal).
 
 -- a goal in the place of one of the same derivation that kept the same
 put_kept : (i : ℕ) (x g : Goal) (goals : List Goal) → slice_get goals i ≡ Some g → x.resolved ≡ g.resolved → x.derivation ≡ g.derivation
-    → (j : ℕ) (y : Goal) → slice_get (slice_set goals i x) j ≡ Some y → (h : Goal) × (slice_get goals j ≡ Some h) × (y.resolved ≡ h.resolved) × (y.derivation ≡ h.derivation)
+    → (j : ℕ) (y : Goal) → slice_get (slice_set goals i x) j ≡ Some y
+    → (h : Goal) × (slice_get goals j ≡ Some h) × (y.resolved ≡ h.resolved) × (y.derivation ≡ h.derivation)
 put_kept i x g [] there same derived j y at = absurd (cc)
 put_kept zero x g (z ∷ goals) there same derived zero y at =
     let own = as_it x y at in
@@ -105,7 +106,8 @@ put_none zero x (z ∷ goals) (suc j) absent = absent
 put_none (suc i) x (z ∷ goals) zero absent = absent
 put_none (suc i) x (z ∷ goals) (suc j) absent = put_none i x goals j absent
 
-follows_put : {known : Known} (n : ℕ) (x g : Goal) (goals : List Goal) → goal_at n goals ≡ Some g → x.resolved ≡ g.resolved → x.derivation ≡ g.derivation → Stands x
+follows_put : {known : Known} (n : ℕ) (x g : Goal) (goals : List Goal) → goal_at n goals ≡ Some g → x.resolved ≡ g.resolved
+    → x.derivation ≡ g.derivation → Stands x
     → Follows known goals (with_goal_at n x goals)
 follows_put zero x g goals there same derived stands = follows_itself goals
 follows_put {known} (suc i) x g goals there same derived stands = record { kept = kept; none = none; stand = λ all. All-set Stands goals i x stands all }
@@ -136,7 +138,8 @@ pushed_none derivation [] i absent = refl
 pushed_none derivation (z ∷ goals) zero absent = absent
 pushed_none derivation (z ∷ goals) (suc i) absent = pushed_none derivation goals i absent
 
-follows_new : {known : Known} (derivation : List ℕ) (goals : List Goal) → is_some (known_at known derivation) ≡ true → Follows known goals (goals ++ new_goal derivation ∷ [])
+follows_new : {known : Known} (derivation : List ℕ) (goals : List Goal) → is_some (known_at known derivation) ≡ true
+    → Follows known goals (goals ++ new_goal derivation ∷ [])
 follows_new {known} derivation goals knows = record {
   kept = kept;
   none = none;
@@ -196,11 +199,13 @@ follows_let_go {known} class path goals = record { kept = kept; none = none; sta
 
 -- ---- the end of a job
 
-follows_if : {known : Known} (b : Bool) (goals : List Goal) (c d : Desk) → Follows known goals c.goals → Follows known goals d.goals → Follows known goals (if b then c else d).goals
+follows_if : {known : Known} (b : Bool) (goals : List Goal) (c d : Desk) → Follows known goals c.goals → Follows known goals d.goals
+    → Follows known goals (if b then c else d).goals
 follows_if true goals c d one other = one
 follows_if false goals c d one other = other
 
-follows_done : {known : Known} (setup : Setup) (n : ℕ) (g : Goal) (r : Record) (d : Desk) → goal_at n d.goals ≡ Some g → Follows known d.goals (done_with setup n g r d).goals
+follows_done : {known : Known} (setup : Setup) (n : ℕ) (g : Goal) (r : Record) (d : Desk) → goal_at n d.goals ≡ Some g
+    → Follows known d.goals (done_with setup n g r d).goals
 follows_done {known} setup n g r d there =
     let done : Follows known d.goals (with_goal_at n (in_status (Done r.path) g) d.goals) = follows_status n (Done r.path) g d.goals there refl in
     let failed : Follows known d.goals (with_goal_at n (in_status (Failed Quota) g) d.goals) = follows_status n (Failed Quota) g d.goals there refl in
@@ -208,21 +213,25 @@ follows_done {known} setup n g r d there =
     follows_if (has_record r d) d.goals (with_goal n (in_status (Done r.path) g) d) added done
     (follows_if (is_within setup (with_record r d)) d.goals (with_goal n (in_status (Done r.path) g) (with_record r d)) (with_goal n (in_status (Failed Quota) g) d) done failed)
 
-follows_output : {known : Known} (setup : Setup) (n : ℕ) (g : Goal) (o : Result Record Refusal) (d : Desk) → goal_at n d.goals ≡ Some g → Follows known d.goals (with_output setup n g o d).goals
+follows_output : {known : Known} (setup : Setup) (n : ℕ) (g : Goal) (o : Result Record Refusal) (d : Desk) → goal_at n d.goals ≡ Some g
+    → Follows known d.goals (with_output setup n g o d).goals
 follows_output setup n g (Ok r) d there = follows_done setup n g r d there
 follows_output setup n g (Err why) d there = follows_status n (Failed why) g d.goals there refl
 
-follows_ended_with : {known : Known} (setup : Setup) (n : ℕ) (g : Goal) (end : End) (d : Desk) → goal_at n d.goals ≡ Some g → Follows known d.goals (ended_with setup n g end d).goals
+follows_ended_with : {known : Known} (setup : Setup) (n : ℕ) (g : Goal) (end : End) (d : Desk) → goal_at n d.goals ≡ Some g
+    → Follows known d.goals (ended_with setup n g end d).goals
 follows_ended_with setup n g (Output bytes) d there = follows_output setup n g (built_record (known_of d) g bytes) d there
 follows_ended_with setup n g Failure d there = follows_status n (Failed BuilderFailed) g d.goals there refl
 
-follows_ended : {known : Known} (setup : Setup) (reached : Bool) (end : End) (n : ℕ) (o : Option Goal) (d : Desk) → goal_at n d.goals ≡ o → Follows known d.goals (ended_goal setup reached end n o d).goals
+follows_ended : {known : Known} (setup : Setup) (reached : Bool) (end : End) (n : ℕ) (o : Option Goal) (d : Desk) → goal_at n d.goals ≡ o
+    → Follows known d.goals (ended_goal setup reached end n o d).goals
 follows_ended setup reached end n None d there = follows_itself d.goals
 follows_ended setup reached end n (Some g) d there =
     follows_if reached d.goals (ended_with setup n g end d) (with_goal n (in_status Waiting g) d)
     (follows_ended_with setup n g end d there) (follows_status n Waiting g d.goals there refl)
 
-follows_all_ended : {known : Known} (setup : Setup) (reached : Bool) (end : End) (ns : List ℕ) (d : Desk) → Follows known d.goals (ended_goals setup reached end ns d).goals
+follows_all_ended : {known : Known} (setup : Setup) (reached : Bool) (end : End) (ns : List ℕ) (d : Desk)
+    → Follows known d.goals (ended_goals setup reached end ns d).goals
 unfolding ended_goals
 follows_all_ended setup reached end [] d = follows_itself d.goals
 follows_all_ended setup reached end (n ∷ ns) d =
@@ -230,7 +239,8 @@ follows_all_ended setup reached end (n ∷ ns) d =
     follows_further d.goals next.goals (ended_goals setup reached end ns next).goals
     (follows_ended setup reached end n (goal_at n d.goals) d refl) (follows_all_ended setup reached end ns next)
 
-follows_delivered : {known : Known} (setup : Setup) (actor : List ℕ) (reached : Bool) (notification : Notification) (d : Desk) → Follows known d.goals (delivered setup actor reached notification d).goals
+follows_delivered : {known : Known} (setup : Setup) (actor : List ℕ) (reached : Bool) (notification : Notification) (d : Desk)
+    → Follows known d.goals (delivered setup actor reached notification d).goals
 follows_delivered setup actor reached NoNotification d = follows_itself d.goals
 follows_delivered setup actor reached (Ended n end) d = follows_all_ended setup reached end (members (record { leader = actor; number = n }) 1 d.goals) d
 
@@ -419,7 +429,8 @@ module _ (setup : Setup) (w : World) (e : Event) (u : List ℕ) (reached : Bool)
       let d : Desk = if bytes_eq u e.actor then c.desk else w u in
       follows_further (w u).goals d.goals (delivered setup e.actor reached c.notification d).goals follows (follows_delivered setup e.actor reached c.notification d)
 
-  after_outcome : (o : Outcome) → outcome_of setup w e ≡ o → Fits (observation_of setup w e.actor) e.request o → FollowsOrPlans setup w e u (desk_after setup e.actor o u reached (w u))
+  after_outcome : (o : Outcome) → outcome_of setup w e ≡ o → Fits (observation_of setup w e.actor) e.request o
+      → FollowsOrPlans setup w e u (desk_after setup e.actor o u reached (w u))
   after_outcome (Err why) is fits = inl (follows_itself (w u).goals)
   after_outcome (Ok c) is (inl follows) = inl (delivered_follows c (own_or_other c follows))
   after_outcome (Ok c) is (inr plans) = elim (either (bytes_eq u e.actor)) [
@@ -470,7 +481,8 @@ resolved_plan view pins known d r is =
     (two.0, two.1)
 
 -- the goals of the actor after a change of which nothing is delivered
-pub goals_after : (setup : Setup) (w : World) (e : Event) (d : Desk) (reply : Reply) → outcome_of setup w e ≡ becomes d reply → (after setup w e e.actor).goals ≡ d.goals
+pub goals_after : (setup : Setup) (w : World) (e : Event) (d : Desk) (reply : Reply) → outcome_of setup w e ≡ becomes d reply
+    → (after setup w e e.actor).goals ≡ d.goals
 goals_after setup w e d reply o =
     ap (λ (p : Outcome). (desk_after setup e.actor p e.actor (reaches setup w e.actor e.actor) (w e.actor)).goals) o
     ∙ ap (λ (b : Bool). (if b then d else w e.actor).goals) (bytes_same e.actor)
@@ -604,7 +616,8 @@ kept_now setup done e n r plans number same good =
     not_cut (x ∷ since) rest same = cc
 
 -- the goals of a user after an event of his that plans one
-pub goals_planned : (setup : Setup) (w : World) (e : Event) (u : List ℕ) (plans : PlansGoal (observation_of setup w e.actor) e.request (outcome_of setup w e)) → u ≡ e.actor
+pub goals_planned : (setup : Setup) (w : World) (e : Event) (u : List ℕ) (plans : PlansGoal (observation_of setup w e.actor) e.request (outcome_of setup w e))
+    → u ≡ e.actor
     → (after setup w e u).goals ≡ with_goal_at plans.number (planned_goal plans.goal plans.resolved) (w u).goals
 goals_planned setup w e u plans own =
     let new : Goal = planned_goal plans.goal plans.resolved in
@@ -614,18 +627,21 @@ goals_planned setup w e u plans own =
 -- what the goal keeps then is well kept
 kept_planned : (setup : Setup) (done : List Event) (e : Event) (u : List ℕ) (n : ℕ) (g : Goal) (r : Resolved)
     → (plans : PlansGoal (observation_of setup (world_after setup nothing done) e.actor) e.request (outcome_of setup (world_after setup nothing done) e))
-    → u ≡ e.actor → n ≡ plans.number → planned_goal plans.goal plans.resolved ≡ g → g.resolved ≡ Some r → KeepsGoodClosure setup (world_after setup nothing done) e
+    → u ≡ e.actor → n ≡ plans.number → planned_goal plans.goal plans.resolved ≡ g → g.resolved ≡ Some r
+    → KeepsGoodClosure setup (world_after setup nothing done) e
     → IsWellKept setup (done ++ e ∷ []) u n r
 kept_planned setup done e u n g r plans own number is kept good =
     let same : r ≡ plans.resolved = some_same r plans.resolved (sym kept ∙ ap (λ (y : Goal). y.resolved) (sym is)) in
     subst (λ x. IsWellKept setup (done ++ e ∷ []) x n r) (sym own) (kept_now setup done e n r plans number same good)
 
-outcome_planned : (setup : Setup) (s : Observation) (n : ℕ) → reply_of (outcome setup s (Plan n)) ≡ replies.Status Planned → PlansGoal s (Plan n) (outcome setup s (Plan n))
+outcome_planned : (setup : Setup) (s : Observation) (n : ℕ) → reply_of (outcome setup s (Plan n)) ≡ replies.Status Planned
+    → PlansGoal s (Plan n) (outcome setup s (Plan n))
 unfolding outcome
 outcome_planned setup s n = planned_so s n
 
 -- an event that is answered that the goal is planned plans it
-plans_it : (setup : Setup) (w : World) (u : List ℕ) (n : ℕ) → IsPlanned setup w u n → PlansGoal (observation_of setup w u) (Plan n) (outcome_of setup w (planning u n))
+plans_it : (setup : Setup) (w : World) (u : List ℕ) (n : ℕ) → IsPlanned setup w u n
+    → PlansGoal (observation_of setup w u) (Plan n) (outcome_of setup w (planning u n))
 plans_it setup w u n =
     let s : Observation = observation_of setup w u in
     cond_both (is_user setup u) (outcome setup s (Plan n)) (Err UnknownUser) (λ (o : Outcome). reply_of o ≡ replies.Status Planned → PlansGoal s (Plan n) o)
@@ -682,7 +698,8 @@ kept_more setup done e u good well n g r there kept =
 -- ---- nothing else changes what is kept
 
 -- an event that is answered that a goal is planned is its user's own and asks for it
-asks_itself : (setup : Setup) (w : World) (e : Event) (u : List ℕ) (n : ℕ) → u ≡ e.actor → (plans : PlansGoal (observation_of setup w e.actor) e.request (outcome_of setup w e))
+asks_itself : (setup : Setup) (w : World) (e : Event) (u : List ℕ) (n : ℕ) → u ≡ e.actor
+    → (plans : PlansGoal (observation_of setup w e.actor) e.request (outcome_of setup w e))
     → n ≡ plans.number → (e ≡ planning u n) × IsPlanned setup w u n
 asks_itself setup w e u n own plans number =
     let event : e ≡ planning u n = λ j. record { actor = sym own j; request = (plans.asked ∙ ap Plan (sym number)) j } in
@@ -707,13 +724,15 @@ only_plans setup w e u n old new was now = elim (after_follows setup w e u) [
     none_some g e = cc
 
 -- each event of a run whose closures are good keeps a good one
-good_at : (setup : Setup) (w : World) (done : List Event) (e : Event) (events : List Event) → GiveGoodClosures setup w (done ++ e ∷ events) → KeepsGoodClosure setup (world_after setup w done) e
+good_at : (setup : Setup) (w : World) (done : List Event) (e : Event) (events : List Event) → GiveGoodClosures setup w (done ++ e ∷ events)
+    → KeepsGoodClosure setup (world_after setup w done) e
 unfolding world_after GiveGoodClosures
 good_at setup w [] e events good = good.1
 good_at setup w (x ∷ done) e events good = good_at setup (after setup w x) done e events good.2
 
 -- events that follow others
-kept_all : (setup : Setup) (u : List ℕ) (done events : List Event) → GiveGoodClosures setup nothing (done ++ events) → WellKept setup done u → WellKept setup (done ++ events) u
+kept_all : (setup : Setup) (u : List ℕ) (done events : List Event) → GiveGoodClosures setup nothing (done ++ events) → WellKept setup done u
+    → WellKept setup (done ++ events) u
 kept_all setup u done [] good well = subst (λ all. WellKept setup all u) (sym (append-nil done)) well
 kept_all setup u done (e ∷ events) good well =
     subst (λ all. WellKept setup all u) (append_assoc done (e ∷ []) events)

@@ -12,11 +12,13 @@ use Rattle.model.specs.Lines.{split}
 use Rattle.model.specs.ParsedLines.{is_rest_of_line, is_empty_word, words_by}
 
 -- a text is one word
-pub by_text : (kinds : List WordKind) (text : List ℕ) (words : List (List ℕ)) → is_rest_of_line kinds ≡ true → words ≡ text ∷ [] → Some words ≡ words_by kinds text
+pub by_text : (kinds : List WordKind) (text : List ℕ) (words : List (List ℕ)) → is_rest_of_line kinds ≡ true → words ≡ text ∷ []
+    → Some words ≡ words_by kinds text
 by_text kinds text words e w = rw e (ap Some w)
 
 -- a text with an empty word is none
-pub by_empty : (kinds : List WordKind) (text : List ℕ) → is_rest_of_line kinds ≡ false → list_any is_empty_word (split 32 text) ≡ true → None ≡ words_by kinds text
+pub by_empty : (kinds : List WordKind) (text : List ℕ) → is_rest_of_line kinds ≡ false → list_any is_empty_word (split 32 text) ≡ true
+    → None ≡ words_by kinds text
 by_empty kinds text e any = rw (e, any) refl
 
 -- the test of two numbers

@@ -35,7 +35,8 @@ pub fill-step : (told : List LineResult) (old new rest piece others : List ℕ) 
     → joined_texts (Some new) (pieces_text told (split 123 others)) ≡ joined_texts (Some old) (pieces_text told (split 123 rest))
 fill-step told old new rest piece others e f = ap (λ a. joined_texts a (pieces_text told (split 123 others))) f ∙ sym (fill-more told old rest piece others e)
 
-pub fill-stop : (told : List LineResult) (old rest piece others : List ℕ) → cut_at 123 rest ≡ Some (piece, others) → None ≡ joined_texts (Some old) (expanded_piece told piece)
+pub fill-stop : (told : List LineResult) (old rest piece others : List ℕ) → cut_at 123 rest ≡ Some (piece, others)
+    → None ≡ joined_texts (Some old) (expanded_piece told piece)
     → None ≡ joined_texts (Some old) (pieces_text told (split 123 rest))
 fill-stop told old rest piece others e f = ap (λ a. joined_texts a (pieces_text told (split 123 others))) f ∙ sym (fill-more told old rest piece others e)
 
@@ -54,6 +55,7 @@ ltb-false : (m n : ℕ) → n ≤ m → ltb m n ≡ false
 ltb-false m n h = grind arith
 
 -- a line of printable bytes, and neither too long nor quiet, is its text
-pub parsed_line-text : (mode : Mode) (begun : Bool) (told : List LineResult) (line : List ℕ) (text : Option (List ℕ)) → length line ≤ longest_line → is_quiet line ≡ false
+pub parsed_line-text : (mode : Mode) (begun : Bool) (told : List LineResult) (line : List ℕ) (text : Option (List ℕ)) → length line ≤ longest_line
+    → is_quiet line ≡ false
     → list_all is_printable line ≡ true → filled told line ≡ text → parsed_line mode begun told line ≡ parsed_text mode begun text
 parsed_line-text mode begun told line text h q p e = rw (ltb-false longest_line (length line) h, q, p, e) refl

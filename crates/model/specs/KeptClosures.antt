@@ -31,7 +31,8 @@ pub record IsWellKept (setup : Setup) (events : List Event) (u : List ℕ) (n : 
   pub world : World
   pub reached : world ≡ world_after setup nothing before
   pub told : IsPlanned setup world u n
-  pub last : (since rest : List Event) → later ≡ since ++ planning u n ∷ rest → IsPlanned setup (world_after setup nothing (before ++ planning u n ∷ since)) u n → ⊥
+  pub last : (since rest : List Event) → later ≡ since ++ planning u n ∷ rest
+      → IsPlanned setup (world_after setup nothing (before ++ planning u n ∷ since)) u n → ⊥
   pub goal : Goal
   pub there : goal_at n (world u).goals ≡ Some goal
   pub admission : Admission
@@ -45,12 +46,14 @@ pub record IsWellKept (setup : Setup) (events : List Event) (u : List ℕ) (n : 
 -- where each closure that is given or kept while events are taken is good, what goals keep after them is
 abbrev pub KeptClosuresAreGood : Type 0
 KeptClosuresAreGood = (setup : Setup) (events : List Event) (u : List ℕ) (n : ℕ) (g : Goal) (r : Resolved)
-    → GiveGoodClosures setup nothing events → goal_at n (world_after setup nothing events u).goals ≡ Some g → g.resolved ≡ Some r → IsWellKept setup events u n r
+    → GiveGoodClosures setup nothing events → goal_at n (world_after setup nothing events u).goals ≡ Some g → g.resolved ≡ Some r
+    → IsWellKept setup events u n r
 
 -- an event changes what a goal keeps only where it is the user's own and is answered that it planned the goal
 abbrev pub OnlyPlansChangeKept : Type 0
 OnlyPlansChangeKept = (setup : Setup) (w : World) (e : Event) (u : List ℕ) (n : ℕ) (old new : Goal)
-    → goal_at n (w u).goals ≡ Some old → goal_at n (after setup w e u).goals ≡ Some new → (new.resolved ≡ old.resolved) ⊎ ((e ≡ planning u n) × IsPlanned setup w u n)
+    → goal_at n (w u).goals ≡ Some old → goal_at n (after setup w e u).goals ≡ Some new
+    → (new.resolved ≡ old.resolved) ⊎ ((e ≡ planning u n) × IsPlanned setup w u n)
 
 -- whether a goal is planned, or is built
 abbrev pub is_planned : Status → Bool

@@ -236,7 +236,8 @@ module _ (d : Inside) (is : IsConsistent d) (class path : List ℕ) where
       ]
 
   -- other paths are held as before
-  other_paths : (q : List ℕ) → bytes_eq q path ≡ false → list_any (bytes_eq q) (paths_of before) ≡ list_any (bytes_eq q) (paths_of (without_records class path before))
+  other_paths : (q : List ℕ) → bytes_eq q path ≡ false
+      → list_any (bytes_eq q) (paths_of before) ≡ list_any (bytes_eq q) (paths_of (without_records class path before))
   other_paths q other =
       let front = d.known.sources in
       list_any-append (bytes_eq q) front (map (λ r. r.path) d.records)

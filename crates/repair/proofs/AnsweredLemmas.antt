@@ -143,7 +143,8 @@ goal_hashes texts s n g a there waits known inside =
 
 -- ---- a closure that is given
 
-replied : (d : Desk) (o : Result (List Entry) Refusal) (entries : List Entry) → reply_of (then_do o (λ given. becomes d (replies.Closure given))) ≡ replies.Closure entries
+replied : (d : Desk) (o : Result (List Entry) Refusal) (entries : List Entry)
+    → reply_of (then_do o (λ given. becomes d (replies.Closure given))) ≡ replies.Closure entries
     → o ≡ Ok entries
 replied d (Ok given) entries h = cc
 replied d (Err why) entries h = cc
@@ -153,7 +154,8 @@ not_entries : (why : Refusal) (entries : List Entry) → Refused why ≡ replies
 not_entries why entries e = cc
 
 -- where a closure is given, it is that of a user of the run
-pub entries_given : (setup : Setup) (w : World) (e : Event) (class : List ℕ) (entries : List Entry) → e.request ≡ Closure class → reply_to setup w e ≡ replies.Closure entries
+pub entries_given : (setup : Setup) (w : World) (e : Event) (class : List ℕ) (entries : List Entry) → e.request ≡ Closure class
+    → reply_to setup w e ≡ replies.Closure entries
     → (is_user setup e.actor ≡ true) × (closure_for (observation_of setup w e.actor) class ≡ Ok entries)
 unfolding outcome
 entries_given setup w e class entries asked told = elim (either (is_user setup e.actor)) [

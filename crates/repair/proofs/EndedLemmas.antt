@@ -57,11 +57,13 @@ module _ (texts : List (List ℕ)) (setup : Setup) (reached : Bool) (end : End) 
   output_held n g (Err why) d is new = idle n (in_status (Failed why) g) d refl is
 
   ended_held : (n : ℕ) (o : Option Goal) (d : Desk) → IsHeld texts d
-      → ((g : Goal) → o ≡ Some g → reached ≡ true → (r : Record) → Records end (known_of d) g r → Fits texts d.sources r) → IsHeld texts (ended_goal setup reached end n o d)
+      → ((g : Goal) → o ≡ Some g → reached ≡ true → (r : Record) → Records end (known_of d) g r → Fits texts d.sources r)
+      → IsHeld texts (ended_goal setup reached end n o d)
   ended_held n None d is new = is
   ended_held n (Some g) d is new = by_end end reached (new g refl)
     where
-      by_end : (how : End) (b : Bool) → (b ≡ true → (r : Record) → Records how (known_of d) g r → Fits texts d.sources r) → IsHeld texts (ended_goal setup b how n (Some g) d)
+      by_end : (how : End) (b : Bool) → (b ≡ true → (r : Record) → Records how (known_of d) g r → Fits texts d.sources r)
+          → IsHeld texts (ended_goal setup b how n (Some g) d)
       by_end how false new = idle n (in_status Waiting g) d refl is
       by_end (Output bytes) true new = output_held n g (built_record (known_of d) g bytes) d is (new refl)
       by_end Failure true new = idle n _ d refl is
@@ -151,7 +153,8 @@ module _ (texts : List (List ℕ)) (setup : Setup) (w : World) (u x : List ℕ) 
       (contains_of (finish_texts setup w u n bytes) y (text_there m h g there reach tree read y k))))
       r built)
     where
-      text_there : (m : ℕ) → In m ends → (g : Goal) → goal_at m (w x).goals ≡ Some g → reaches setup w x u ≡ true → (tree : Tree) → tree_of_archive bytes ≡ Some tree
+      text_there : (m : ℕ) → In m ends → (g : Goal) → goal_at m (w x).goals ≡ Some g → reaches setup w x u ≡ true → (tree : Tree)
+          → tree_of_archive bytes ≡ Some tree
           → (y : List ℕ) → In y (member_texts tree (w x) (Some g)) → In y (finish_texts setup w u n bytes)
       text_there m h g there reach tree read y k =
           let v = any_member (λ z. bytes_eq z x) setup.users user in

@@ -84,7 +84,8 @@ entries_sorted p o es entries a sorted =
     let set = sorted_set entry_before entry_before-Weak (members_with p.sources (values_of es)) entries (members_apart p o es a) sorted.0 sorted.1 in
     ap (λ x. then_do x (served_entries p.sources)) (all_served p es a) ∙ ap Ok (sym set)
 
-pub plan_served : (p : Plan) → IsInOrder p → (es : Served) (sources : List Source) (answer : Result (Vec Entry) Refusal) → AreServed p p.records es → sources ≡ p.sources
+pub plan_served : (p : Plan) → IsInOrder p → (es : Served) (sources : List Source) (answer : Result (Vec Entry) Refusal) → AreServed p p.records es
+    → sources ≡ p.sources
     → MatchResult answer (λ v. AreEntries sources es v.items) (λ e. e ≡ Memory)
     → MatchResult answer (λ v. served_plan p ≡ Ok v.items) (λ e. (e ≡ Memory) ⊎ (served_plan p ≡ Err e))
 plan_served p o es sources (Ok v) a s h = entries_sorted p o es v.items a (subst (λ ss. AreEntries ss es v.items) s h)

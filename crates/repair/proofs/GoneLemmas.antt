@@ -54,7 +54,8 @@ standing_at text (q ∷ ps) all p h = elim h [
 ]
 
 -- at each place of a key it stands in the archive
-window_of : (keys : Keys) → AreKeys keys → (tree : Tree) → IsTree tree → (p : Place) → In p (occurrences keys tree) → (keys p.1 ≡ true) × (window_at tree p.0 ≡ p.1)
+window_of : (keys : Keys) → AreKeys keys → (tree : Tree) → IsTree tree → (p : Place) → In p (occurrences keys tree)
+    → (keys p.1 ≡ true) × (window_at tree p.0 ≡ p.1)
 window_of keys ok tree is p h =
     let there : In p (places_in keys 0 (nar tree)) = subst (In p) (sym (places_in-nar keys ok tree is)) h in (
       found_at keys (places_in keys 0 (nar tree)) (Found-places_in keys 0 (nar tree)) p there,
@@ -124,7 +125,8 @@ gone_settled tree own candidates name s path is keys part done where_gone p ther
 -- ---- the image of a replaced path
 
 -- all replacements of one hash part lead to one, so that is its image
-image_in : (replacements : List Replacement) (part image : List ℕ) → ((m : Replacement) → In m replacements → hash_part_in m.label.path ≡ part → hash_part_in m.path ≡ image)
+image_in : (replacements : List Replacement) (part image : List ℕ)
+    → ((m : Replacement) → In m replacements → hash_part_in m.label.path ≡ part → hash_part_in m.path ≡ image)
     → (m : Replacement) → In m replacements → hash_part_in m.label.path ≡ part → image_of (pairs replacements) part ≡ image
 image_in [] part image all m h e = absurd h
 image_in (x ∷ xs) part image all m h e = elim (cases_Bool (bytes_eq (hash_part_in x.label.path) part)) [
@@ -135,7 +137,8 @@ image_in (x ∷ xs) part image all m h e = elim (cases_Bool (bytes_eq (hash_part
   ])
 ]
 
-among_in : (replacements : List Replacement) (part : List ℕ) (m : Replacement) → In m replacements → hash_part_in m.label.path ≡ part → among (keys_of (pairs replacements)) part ≡ true
+among_in : (replacements : List Replacement) (part : List ℕ) (m : Replacement) → In m replacements → hash_part_in m.label.path ≡ part
+    → among (keys_of (pairs replacements)) part ≡ true
 among_in [] part m h e = absurd h
 among_in (x ∷ xs) part m h e = elim h [
   | inl is ↦ or_left (bytes_eq (hash_part_in x.label.path) part) _
@@ -145,7 +148,8 @@ among_in (x ∷ xs) part m h e = elim h [
 
 -- ---- a record whose labels were replaced
 
-label_path_in : (r : Record) (replacements : List Replacement) → AreReplacements r.labels replacements → (m : Replacement) → In m replacements → Contains (replaced_paths r replacements) m.label.path
+label_path_in : (r : Record) (replacements : List Replacement) → AreReplacements r.labels replacements → (m : Replacement) → In m replacements
+    → Contains (replaced_paths r replacements) m.label.path
 label_path_in r replacements are m h =
     contains_of (replaced_paths r replacements) m.label.path (in_left m.label.path (paths_of_labels r.labels) (map (λ (n : Replacement). n.path) replacements)
     (in_map (λ (l : Label). l.path) m.label r.labels (in_of r.labels m.label (are.labelled m (contains_of replacements m h)))))
@@ -163,7 +167,8 @@ any_in p m (x ∷ replacements) h t = elim h [
 ]
 
 -- the images of a record replace the hash part of a label whose path is replaced
-part_replaced : (r : Record) (replacements : List Replacement) → IsSoundRecord r → AreReplacements r.labels replacements → PartsTellApart (replaced_paths r replacements) → (m : Replacement) → In m replacements
+part_replaced : (r : Record) (replacements : List Replacement) → IsSoundRecord r → AreReplacements r.labels replacements
+    → PartsTellApart (replaced_paths r replacements) → (m : Replacement) → In m replacements
     → bytes_eq m.path m.label.path ≡ false → bytes_eq (hash_part_in r.path) (hash_part_in m.label.path) ≡ false
     → is_replaced (images_of (hash_part_in r.path) replacements) (hash_part_in m.label.path) ≡ true
 part_replaced r replacements sound are apart m h replaced other =

@@ -95,7 +95,8 @@ module _ (texts : List (List ℕ)) (setup : Setup) (w : World) (sound : IsSoundW
     planned_good clean = closure_good texts s.view seen s.desk.pins classes d.sources it.resolved.closure planned_parts.0 closure_hashed clean
 
     -- a goal then is the one that was planned, or was there before
-    then_there : (m : ℕ) (g : Goal) → goal_at m (after setup w e u).goals ≡ Some g → ((m ≡ n) × (planned_goal it.goal it.resolved ≡ g)) ⊎ (goal_at m s.desk.goals ≡ Some g)
+    then_there : (m : ℕ) (g : Goal) → goal_at m (after setup w e u).goals ≡ Some g
+        → ((m ≡ n) × (planned_goal it.goal it.resolved ≡ g)) ⊎ (goal_at m s.desk.goals ≡ Some g)
     then_there m g at =
         let new : Goal = planned_goal it.goal it.resolved in
         put_cases n m new it.goal g s.desk.goals it.there

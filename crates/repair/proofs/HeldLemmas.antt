@@ -83,7 +83,8 @@ held_grown texts old later is grows = record {
 }
 
 -- a desk with the same sources, records and goals
-pub held_same : (texts : List (List ℕ)) (old later : Desk) → IsHeld texts old → later.sources ≡ old.sources → later.records ≡ old.records → later.goals ≡ old.goals
+pub held_same : (texts : List (List ℕ)) (old later : Desk) → IsHeld texts old → later.sources ≡ old.sources → later.records ≡ old.records
+    → later.goals ≡ old.goals
     → IsHeld texts later
 held_same texts old later is sources records goals = held_grown texts old later is (record {
   sources = λ s h. inl (subst (In s) sources h);
@@ -149,7 +150,8 @@ held_goal texts n x d is has = held_grown texts d (with_goal n x d) is (record {
 })
 
 -- a goal more
-pub held_new : (texts : List (List ℕ)) (x : Goal) (d later : Desk) → IsHeld texts d → HasBuilt d.sources x → later.sources ≡ d.sources → later.records ≡ d.records
+pub held_new : (texts : List (List ℕ)) (x : Goal) (d later : Desk) → IsHeld texts d → HasBuilt d.sources x → later.sources ≡ d.sources
+    → later.records ≡ d.records
     → later.goals ≡ d.goals ++ x ∷ [] → IsHeld texts later
 held_new texts x d later is has sources records goals = held_grown texts d later is (record {
   sources = λ s h. inl (subst (In s) sources h);
@@ -163,7 +165,8 @@ held_new texts x d later is has sources records goals = held_grown texts d later
 waits_built : (sources : List Source) (g : Goal) → HasBuilt sources (in_status Waiting g)
 waits_built sources g built r kept s k = absurd (cc)
 
-let_go_in : (class path : List ℕ) (sources : List Source) (g : Goal) (goals : List Goal) → In g (map (let_go class path) goals) → In g goals ⊎ HasBuilt sources g
+let_go_in : (class path : List ℕ) (sources : List Source) (g : Goal) (goals : List Goal) → In g (map (let_go class path) goals)
+    → In g goals ⊎ HasBuilt sources g
 let_go_in class path sources g goals h =
     let w = from_map (let_go class path) g goals h in
     subst (λ x. In x goals ⊎ HasBuilt sources x) w.2
@@ -252,7 +255,8 @@ below_label r path h =
     let named = named_by w.0 path w.0.class w.2 in
     (w.0, w.1, named.0, named.1)
 
-entry_of_source : (e : Entry) (path : List ℕ) (class : Option Class) → path_of_entry e ≡ path → path_of_class (class_of_entry e) ≡ path_of_class class → class ≡ None
+entry_of_source : (e : Entry) (path : List ℕ) (class : Option Class) → path_of_entry e ≡ path → path_of_class (class_of_entry e) ≡ path_of_class class
+    → class ≡ None
     → (s : Source) × (e ≡ OfSource s) × (s.path ≡ path)
 entry_of_source (OfSource s) path class same of none = (s, refl, same)
 entry_of_source (OfRecord r) path class same of none = let no : Some r.class.path ≡ None = of ∙ ap path_of_class none in absurd (cc)
@@ -267,7 +271,8 @@ whole_source entries r whole h path below =
     (s.0, subst (λ e. In e entries) s.1 (in_of entries w.1 (w.0, w.2, w.3)), s.2 ∙ l.3)
 
 -- a desk to which a whole closure is copied
-pub held_entries : (texts : List (List ℕ)) (entries : List Entry) (d : Desk) → IsHeld texts d → ((e : Entry) → In e entries → IsMadeEntry texts e) → IsWhole entries
+pub held_entries : (texts : List (List ℕ)) (entries : List Entry) (d : Desk) → IsHeld texts d → ((e : Entry) → In e entries → IsMadeEntry texts e)
+    → IsWhole entries
     → IsHeld texts (with_entries entries d)
 held_entries texts entries d is made whole =
     let later : Desk = with_entries entries d in

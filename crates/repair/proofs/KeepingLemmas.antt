@@ -50,7 +50,8 @@ module _ {K V : Type 0} (f : V → ℕ) where
       | false ↦ λ t. rw t (value_of es)
     ]) refl
 
-    stays_found : (es : List (K × V)) (o : Option (K × V)) → lookup_entry test es ≡ o → lookup test (option_map_or (λ e. e ∷ remove_entry test es) o es) ≡ lookup test es
+    stays_found : (es : List (K × V)) (o : Option (K × V)) → lookup_entry test es ≡ o
+        → lookup test (option_map_or (λ e. e ∷ remove_entry test es) o es) ≡ lookup test es
     stays_found es None h = refl
     stays_found es (Some e) h =
         let passes : test e.0 ≡ true = (Contains-lookup_entry test es e h).1 in
@@ -109,7 +110,8 @@ module _ {K V : Type 0} (f : V → ℕ) where
         rw (value_of (eq k) c.entries) (put_by (lookup_entry (eq k) c.entries) some most refl)
 
 -- the same, of a cache that is so afterwards, where o was displaced
-pub put_counts : {K V : Type 0} (f : V → ℕ) (eq : K → K → Bool) (c new : LruCache K V) (k : K) (v : V) (o : Option (K × V)) → length c.entries ≤ c.cap → 0 < c.cap
+pub put_counts : {K V : Type 0} (f : V → ℕ) (eq : K → K → Bool) (c new : LruCache K V) (k : K) (v : V) (o : Option (K × V)) → length c.entries ≤ c.cap
+    → 0 < c.cap
     → o ≡ displaced eq c k v → new ≡ lru_cache (put_entries eq c k v) c.cap → total f new.entries + if_there f o ≡ total f c.entries + f v
 put_counts {K = K} {V = V} f eq c new k v o most some old is =
     ap (λ (n : LruCache K V). total f n.entries + if_there f o) is

@@ -77,13 +77,15 @@ leads_within p entries s own path (Some class) h leads =
     subst (λ z. In z (paths_in p entries)) (sym leads.2)
     (in_right leads.0.path (flat_map (λ (r : Record). paths_of_labels r.labels) p.records) (flat_map paths_of_record entries) there)
 
-label_within : (p : Plan) (entries : List Entry) (r : Record) → In r p.records → (path : List ℕ) → In path (paths_of_labels r.labels) → In path (paths_in p entries)
+label_within : (p : Plan) (entries : List Entry) (r : Record) → In r p.records → (path : List ℕ) → In path (paths_of_labels r.labels)
+    → In path (paths_in p entries)
 label_within p entries r there path h =
     in_left path (flat_map (λ (r : Record). paths_of_labels r.labels) p.records) (flat_map paths_of_record entries)
     (in_flat_map (λ (r : Record). paths_of_labels r.labels) r path p.records there h)
 
 replaced_within : (p : Plan) (entries : List Entry) → ServedPlan p entries → (r : Record) → In r p.records → (replacements : List Replacement)
-    → replacements_of (serve (chosen_in p.records)) r.labels ≡ Ok replacements → (path : List ℕ) → In path (replaced_paths r replacements) → In path (paths_in p entries)
+    → replacements_of (serve (chosen_in p.records)) r.labels ≡ Ok replacements → (path : List ℕ) → In path (replaced_paths r replacements)
+    → In path (paths_in p entries)
 replaced_within p entries s r there replacements e path h = elim (in_append path (paths_of_labels r.labels) (map (λ (m : Replacement). m.path) replacements) h) [
   | inl labelled ↦ label_within p entries r there path labelled
   | inr new ↦
@@ -115,7 +117,8 @@ leads_lower serves own path labelled class lower e leads is =
     let same : to.0 ≡ lower = ok_is to.0 lower (serves class.path) to.1 is in
     to.2 ∙ ap (λ (z : Record). z.path) same
 
-is_replaced_label : (m : Replacement) (path : List ℕ) (l : Label) → m.path ≡ path → m.label ≡ l → bytes_eq path l.path ≡ false → bytes_eq m.path m.label.path ≡ false
+is_replaced_label : (m : Replacement) (path : List ℕ) (l : Label) → m.path ≡ path → m.label ≡ l → bytes_eq path l.path ≡ false
+    → bytes_eq m.path m.label.path ≡ false
 is_replaced_label m path l to of e = ap (λ a. bytes_eq a m.label.path) to ∙ ap (λ (z : Label). bytes_eq path z.path) of ∙ e
 
 -- what serves a class that the entry serves

@@ -26,7 +26,8 @@ ordered records visible choice own classes sources =
     }
 
 -- what is planned is in order
-pub plan_is_in_order : (view : List Desk) (pins : List Pin) (classes sources : List (List ℕ)) (p : Plan) → closure_plan view pins classes sources ≡ Ok p → IsInOrder p
+pub plan_is_in_order : (view : List Desk) (pins : List Pin) (classes sources : List (List ℕ)) (p : Plan)
+    → closure_plan view pins classes sources ≡ Ok p → IsInOrder p
 plan_is_in_order view pins classes sources p e =
     let records = visible_records view in
     subst IsInOrder (plan_is records (visible_sources view) (choose view pins) classes sources p e)

@@ -140,7 +140,8 @@ label_source : (e : Entry) (l : Label) → label_of_entry e ≡ l → l.class �
 label_source (OfSource s) l is none = (s, refl, ap (λ (k : Label). k.path) is)
 label_source (OfRecord r) l is none = absurd (no_class r l is none)
 
-pub closure_source : (sources : List Source) (r : Resolved) → HasClosure sources r → (l : Label) → In l (labels_from r) → l.class ≡ None → HasSource sources l.path
+pub closure_source : (sources : List Source) (r : Resolved) → HasClosure sources r → (l : Label) → In l (labels_from r) → l.class ≡ None
+    → HasSource sources l.path
 closure_source sources r has l h none =
     let w = from_map label_of_entry l r.closure (from_labels_in_order (map label_of_entry r.closure) l h) in
     let s = label_source w.0 l w.2 none in

@@ -44,7 +44,8 @@ put_found (e ∷ es) class one = elim (either (bytes_eq class e.0)) [
 pub err_is : {X : Type 0} (why other : Refusal) (o : Result X Refusal) → o ≡ Err why → o ≡ Err other → why ≡ other
 err_is why other o d e = cc
 
-stays : (class : List ℕ) (old new : MadeRepairs) → KeepsOthers class old new → (r : Record) (replacements : List Replacement) → bytes_eq r.class.path class ≡ false
+stays : (class : List ℕ) (old new : MadeRepairs) → KeepsOthers class old new → (r : Record) (replacements : List Replacement)
+    → bytes_eq r.class.path class ≡ false
     → IsMade old r replacements → IsMade new r replacements
 stays class old new keeps r replacements apart made = record { one = made.one; there = keeps r.class.path apart ∙ made.there; is = made.is }
 
@@ -66,7 +67,8 @@ repairs_all choice made [] all = tt
 repairs_all choice made (r ∷ rs) all = (All-head (HasRepair choice made) r rs all, λ q served. repairs_all choice made rs (All-tail (HasRepair choice made) r rs all))
 
 -- and so it is where it is there up to one that is refused
-pub repairs_until : (choice : List ℕ → Option Record) (made : MadeRepairs) (rs behind : List Record) (r : Record) (why : Refusal) → All (HasRepair choice made) rs
+pub repairs_until : (choice : List ℕ → Option Record) (made : MadeRepairs) (rs behind : List Record) (r : Record) (why : Refusal)
+    → All (HasRepair choice made) rs
     → HasRepair choice made r → serve choice r.class.path ≡ Err why → HasRepairs choice made (rs ++ r ∷ behind)
 repairs_until choice made [] behind r why all last refused = (last, λ q served. absurd (not_both q why (serve choice r.class.path) refused served))
 repairs_until choice made (x ∷ rs) behind r why all last refused =

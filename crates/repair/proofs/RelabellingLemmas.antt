@@ -24,7 +24,8 @@ use Rattle.repair.specs.Relabelling.{IsRefused, IsRewritten, IsNotRewritten, res
 -- ---- labels
 
 -- one label more has a path that is one
-pub paths_step : (labels : List Label) (k : ℕ) (l : Label) → k < length labels → l ≡ get_or labels k l → All IsPath (paths_of_labels (take k labels)) → IsPath l.path
+pub paths_step : (labels : List Label) (k : ℕ) (l : Label) → k < length labels → l ≡ get_or labels k l → All IsPath (paths_of_labels (take k labels))
+    → IsPath l.path
     → All IsPath (paths_of_labels (take (k + 1) labels))
 paths_step labels k l lt is all path =
     subst (All IsPath) (sym (ap paths_of_labels (take_next labels k l lt is) ∙ map_push (λ (m : Label). m.path) (take k labels) l))
@@ -53,7 +54,8 @@ substituted_ok : (images : Images) (tree new : Tree) → fault (among (keys_of i
 unfolding substituted
 substituted_ok images tree new sound truly is = rw (sound, truly) (ap Ok (sym is))
 
-substituted_accident : (images : Images) (tree : Tree) (why : Refusal) → fault (among (keys_of images)) tree ≡ None → IsAccident (is_true_put images tree ≡ false) why
+substituted_accident : (images : Images) (tree : Tree) (why : Refusal) → fault (among (keys_of images)) tree ≡ None
+    → IsAccident (is_true_put images tree ≡ false) why
     → IsRefused (substituted images tree) why
 unfolding substituted
 substituted_accident images tree (RewriteRefused Accidental) sound is = inr (rw (sound, is) refl)
@@ -62,18 +64,21 @@ substituted_accident images tree (RewriteRefused Overlap) sound is = absurd is
 substituted_accident images tree Memory sound is = inl refl
 substituted_accident images tree why sound is = absurd is
 
-substituted_fault : (images : Images) (tree : Tree) (why : Refusal) → IsFault (fault (among (keys_of images)) tree) why → IsRefused (substituted images tree) why
+substituted_fault : (images : Images) (tree : Tree) (why : Refusal) → IsFault (fault (among (keys_of images)) tree) why
+    → IsRefused (substituted images tree) why
 unfolding substituted
 substituted_fault images tree (RewriteRefused why) is = inr (ap (λ f. unless_rewrite_refused (put_unless f images tree)) is)
 substituted_fault images tree Memory is = inl refl
 substituted_fault images tree why is = absurd is
 
-is_rewritten : (r : Record) (replacements : List Replacement) (images : Images) (tree : Tree) → images ≡ images_of (hash_part_in r.path) replacements → tree ≡ r.tree
+is_rewritten : (r : Record) (replacements : List Replacement) (images : Images) (tree : Tree) → images ≡ images_of (hash_part_in r.path) replacements
+    → tree ≡ r.tree
     → substituted images tree ≡ rewritten r replacements
 is_rewritten r replacements images tree i t = λ j. substituted (i j) (t j)
 
 -- by a substitution where no fault was found
-pub rewritten_by : (r : Record) (replacements : List Replacement) (images : Images) (tree : Tree) (o : Result Tree Refusal) → images ≡ images_of (hash_part_in r.path) replacements
+pub rewritten_by : (r : Record) (replacements : List Replacement) (images : Images) (tree : Tree) (o : Result Tree Refusal)
+    → images ≡ images_of (hash_part_in r.path) replacements
     → tree ≡ r.tree → fault (among (keys_of images)) tree ≡ None → IfOk o (λ new. new ≡ put images tree) → IfOk o (λ _. is_true_put images tree ≡ true)
     → IfErr o (IsAccident (is_true_put images tree ≡ false)) → MatchResult o (IsRewritten r replacements) (IsNotRewritten r replacements)
 rewritten_by r replacements images tree (Ok new) i t sound is truly why = sym (is_rewritten r replacements images tree i t) ∙ substituted_ok images tree new sound truly is
@@ -82,7 +87,8 @@ rewritten_by r replacements images tree (Err e) i t sound is truly why =
 
 -- where one was found
 pub rewritten_fault : (r : Record) (replacements : List Replacement) (images : Images) (tree : Tree) (keys : List (List ℕ)) (why : Refusal)
-    → images ≡ images_of (hash_part_in r.path) replacements → tree ≡ r.tree → keys ≡ keys_of images → IsFault (fault (among keys) tree) why → IsNotRewritten r replacements why
+    → images ≡ images_of (hash_part_in r.path) replacements → tree ≡ r.tree → keys ≡ keys_of images → IsFault (fault (among keys) tree) why
+    → IsNotRewritten r replacements why
 rewritten_fault r replacements images tree keys why i t k is =
     subst (λ o. IsRefused o why) (is_rewritten r replacements images tree i t)
     (substituted_fault images tree why (subst (λ ks. IsFault (fault (among ks) tree) why) k is))
@@ -90,7 +96,8 @@ rewritten_fault r replacements images tree keys why i t k is =
 -- ---- a record whose labels are replaced
 
 -- which is repaired by what its tree was rewritten to and then settled as
-pub repaired_by : (r : Record) (replacements : List Replacement) (labels : List Label) (tree : Tree) (s : Settled) (o : Result Record Refusal) → rewritten r replacements ≡ Ok tree
+pub repaired_by : (r : Record) (replacements : List Replacement) (labels : List Label) (tree : Tree) (s : Settled) (o : Result Record Refusal)
+    → rewritten r replacements ≡ Ok tree
     → labels ≡ new_labels replacements → resettled_with r labels tree ≡ Ok s → MatchResult o (λ made. made ≡ settled_as r labels s) (λ e. e ≡ Memory)
     → MatchResult o (λ made. repaired r replacements ≡ Ok made) (λ e. (e ≡ Memory) ⊎ (repaired r replacements ≡ Err e))
 repaired_by r replacements labels tree s (Ok made) new are settled is =
@@ -98,15 +105,18 @@ repaired_by r replacements labels tree s (Ok made) new are settled is =
     rw (new, done) (ap Ok (sym (is ∙ ap (λ ls. settled_as r ls s) are)))
 repaired_by r replacements labels tree s (Err e) new are settled is = inl is
 
-pub relabelled_not : (r copy : Record) (replacements : List Replacement) → false ≡ list_any changes_path replacements → copy ≡ r → relabelled r replacements ≡ Ok copy
+pub relabelled_not : (r copy : Record) (replacements : List Replacement) → false ≡ list_any changes_path replacements → copy ≡ r
+    → relabelled r replacements ≡ Ok copy
 unfolding relabelled
 relabelled_not r copy replacements f c = rw (← f) (ap Ok (sym c))
 
-pub relabelled_own : (r : Record) (replacements : List Replacement) → true ≡ list_any changes_path replacements → true ≡ list_any (is_replaced_by r.path) replacements
+pub relabelled_own : (r : Record) (replacements : List Replacement) → true ≡ list_any changes_path replacements
+    → true ≡ list_any (is_replaced_by r.path) replacements
     → relabelled r replacements ≡ Err (RewriteRefused Accidental)
 unfolding relabelled
 relabelled_own r replacements t u = rw (← t, ← u) refl
 
-pub relabelled_by : (r : Record) (replacements : List Replacement) → true ≡ list_any changes_path replacements → false ≡ list_any (is_replaced_by r.path) replacements → relabelled r replacements ≡ repaired r replacements
+pub relabelled_by : (r : Record) (replacements : List Replacement) → true ≡ list_any changes_path replacements
+    → false ≡ list_any (is_replaced_by r.path) replacements → relabelled r replacements ≡ repaired r replacements
 unfolding relabelled
 relabelled_by r replacements t f = rw (← t, ← f) refl

@@ -64,7 +64,8 @@ pub record IsSoundDesk (texts : List (List ℕ)) (d : Desk) : Type 0 where
   pub kept : (n : ℕ) (g : Goal) (r : Resolved) → goal_at n d.goals ≡ Some g → g.resolved ≡ Some r → IsKept texts r
 
 -- what is known of a derivation is on the desk
-pub known_sound : (texts : List (List ℕ)) (d : Desk) (path : List ℕ) (a : Admission) → IsSoundDesk texts d → known_at (known_of d) path ≡ Some a → IsSoundAdmission a
+pub known_sound : (texts : List (List ℕ)) (d : Desk) (path : List ℕ) (a : Admission) → IsSoundDesk texts d → known_at (known_of d) path ≡ Some a
+    → IsSoundAdmission a
 known_sound texts d path a is known = is.derivations a (find_in (λ (z : Admission). bytes_eq z.path path) d.derivations a known).0
 
 -- a desk after an outcome of which nothing is delivered
@@ -120,7 +121,8 @@ module _ (texts : List (List ℕ)) (setup : Setup) (w : World) (u : List ℕ) (o
         let has : HasLabelled (w u).sources r = output_labelled (w u).sources labels a z (candidate_source (w u) a.derivation) in
         entry_added P setup (w u) (OfRecord r) (refl, own.held) (refl, held_record texts r (w u) own.held made has) tt
 
-    by_known : (o : Option Admission) → known_at (known_of (w u)) derivation ≡ o → P (need UnknownDerivation o (λ a. offer_output setup (w u) tree (candidates (w u) a.derivation) a))
+    by_known : (o : Option Admission) → known_at (known_of (w u)) derivation ≡ o
+        → P (need UnknownDerivation o (λ a. offer_output setup (w u) tree (candidates (w u) a.derivation) a))
     by_known None e = tt
     by_known (Some a) e = by_settled a e (output_settled (candidates (w u) a.derivation) a tree) refl
 
@@ -169,7 +171,8 @@ module _ (texts : List (List ℕ)) (setup : Setup) (w : World) (u : List ℕ) (o
     copied_held g had keeps None built e = entered_held g had keeps
 
   module _ (n : ℕ) where
-    planned_held : (g : Goal) → goal_at n (w u).goals ≡ Some g → (o : Option Resolved) → planned_in g.status g.resolved ≡ o → P (need WrongState o (start_goal setup s n g))
+    planned_held : (g : Goal) → goal_at n (w u).goals ≡ Some g → (o : Option Resolved) → planned_in g.status g.resolved ≡ o
+        → P (need WrongState o (start_goal setup s n g))
     planned_held g there None e = tt
     planned_held g there (Some r) e =
         let keeps : g.resolved ≡ Some r = kept_in g.status g.resolved r e in
@@ -181,7 +184,8 @@ module _ (texts : List (List ℕ)) (setup : Setup) (w : World) (u : List ℕ) (o
         (λ within. copied_held n r g had keeps (known_at (known_of (w u)) g.derivation) (finished_build s.view r) refl)
         (λ outside. (refl, turned n (in_status (Failed Quota) g) (λ built q kept z h. absurd (cc))))
 
-    goal_held : (o : Option Goal) → goal_at n (w u).goals ≡ o → P (need UnknownGoal o (λ g. need WrongState (planned_in g.status g.resolved) (start_goal setup s n g)))
+    goal_held : (o : Option Goal) → goal_at n (w u).goals ≡ o
+        → P (need UnknownGoal o (λ g. need WrongState (planned_in g.status g.resolved) (start_goal setup s n g)))
     goal_held None e = tt
     goal_held (Some g) e = planned_held g e (planned_in g.status g.resolved) refl
 

@@ -24,7 +24,8 @@ use Rattle.repair.proofs.TurnLemmas.{split_at, each_stop}
 
 -- ---- what is served so far
 
-are_served_push : (choice : List ℕ → Option Record) (rs : List Record) (es : Served) (r v : Record) (class : List ℕ) → AreServedBy choice rs es → class ≡ r.class.path
+are_served_push : (choice : List ℕ → Option Record) (rs : List Record) (es : Served) (r v : Record) (class : List ℕ) → AreServedBy choice rs es
+    → class ≡ r.class.path
     → serve choice r.class.path ≡ Ok v → AreServedBy choice (rs ++ r ∷ []) (es ++ (class, v) ∷ [])
 are_served_push choice [] [] r v class a c s = (c, s, tt)
 are_served_push choice [] (e ∷ es) r v class a c s = absurd a
@@ -49,7 +50,8 @@ found_for choice (q ∷ rs) (x ∷ es) class v a e = elim (either (bytes_eq clas
 ]
 
 -- where there is none, it is for none of the records
-pub missing_for : (choice : List ℕ → Option Record) (rs : List Record) (es : Served) (class : List ℕ) → AreServedBy choice rs es → lookup (bytes_eq class) es ≡ None
+pub missing_for : (choice : List ℕ → Option Record) (rs : List Record) (es : Served) (class : List ℕ) → AreServedBy choice rs es
+    → lookup (bytes_eq class) es ≡ None
     → (r : Record) → In r rs → r.class.path ≡ class → ⊥
 missing_for choice [] [] class a e r h same = absurd h
 missing_for choice [] (x ∷ es) class a e r h same = absurd a

@@ -17,7 +17,8 @@ use Rattle.repair.proofs.TreeLemmas.{relabelled_sound}
 
 -- ---- replacements by what is served
 
-leads_alike : (serves : List ℕ → Result Record Refusal) (own p q : List ℕ) (class : Option Class) → LeadsTo serves own p class → LeadsTo serves own q class → p ≡ q
+leads_alike : (serves : List ℕ → Result Record Refusal) (own p q : List ℕ) (class : Option Class) → LeadsTo serves own p class
+    → LeadsTo serves own q class → p ≡ q
 leads_alike serves own p q None a b = a ∙ sym b
 leads_alike serves own p q (Some class) a b =
     let same : a.0 ≡ b.0 = ok_is a.0 b.0 (serves class.path) a.1 b.1 in
@@ -30,7 +31,8 @@ leads_path serves are own p (Some class) is a = subst IsPath (sym a.2) (are clas
 
 -- replacements are so where all that serves has paths
 pub are_replacements : (serves : List ℕ → Result Record Refusal) → ((c : List ℕ) (q : Record) → serves c ≡ Ok q → IsPath q.path)
-    → (labels : List Label) (replacements : List Replacement) → All (λ l. IsPath l.path) labels → replacements_of serves labels ≡ Ok replacements → AreReplacements labels replacements
+    → (labels : List Label) (replacements : List Replacement) → All (λ l. IsPath l.path) labels → replacements_of serves labels ≡ Ok replacements
+    → AreReplacements labels replacements
 are_replacements serves are labels replacements paths e = record {
   labelled = λ m h. contains_of labels m.label (replacements_from serves labels replacements e m (in_of replacements m h)).0;
   paths = λ m h.

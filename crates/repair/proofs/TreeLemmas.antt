@@ -77,7 +77,8 @@ from_labels_in_order x [] h = absurd h
 from_labels_in_order x (l ∷ ls) h = elim (from_with_label l x (labels_in_order ls) h) [ inl e ↦ inl e | inr there ↦ inr (from_labels_in_order x ls there) ]
 
 -- the path of a label of replacements is that of one of them
-pub from_new_labels : (path : List ℕ) (replacements : List Replacement) → In path (paths_of_labels (new_labels replacements)) → (m : Replacement) × In m replacements × (m.path ≡ path)
+pub from_new_labels : (path : List ℕ) (replacements : List Replacement) → In path (paths_of_labels (new_labels replacements))
+    → (m : Replacement) × In m replacements × (m.path ≡ path)
 from_new_labels path replacements h =
     let l = from_map (λ (l : Label). l.path) path (new_labels replacements) h in
     let m = from_map new_label l.0 replacements (from_labels_in_order l.0 (map new_label replacements) l.1) in
@@ -110,13 +111,15 @@ are_pairs (m ∷ ms) are =
     let here = are m (inl refl) in
     (part_of_path m.label.path here.0, part_of_path m.path here.1, are_pairs ms (λ n h. are n (inr h)))
 
-pub are_images : (own : List ℕ) (replacements : List Replacement) → IsHashPart own → ((m : Replacement) → In m replacements → IsPath m.label.path × IsPath m.path)
+pub are_images : (own : List ℕ) (replacements : List Replacement) → IsHashPart own
+    → ((m : Replacement) → In m replacements → IsPath m.label.path × IsPath m.path)
     → AreImages (images_of own replacements)
 are_images own replacements part are = (part, part, are_pairs replacements are)
 
 -- ---- replacements of a sound record
 
-pub paths_of_replacement : (r : Record) (replacements : List Replacement) → IsSoundRecord r → AreReplacements r.labels replacements → (m : Replacement) → In m replacements → IsPath m.label.path × IsPath m.path
+pub paths_of_replacement : (r : Record) (replacements : List Replacement) → IsSoundRecord r → AreReplacements r.labels replacements
+    → (m : Replacement) → In m replacements → IsPath m.label.path × IsPath m.path
 paths_of_replacement r replacements sound are m h =
     let there = contains_of replacements m h in
     (All-contains (λ (l : Label). IsPath l.path) r.labels m.label sound.labels (are.labelled m there), are.paths m there)
@@ -140,7 +143,8 @@ pub record Parts (r : Record) (replacements : List Replacement) (tree : Tree) (s
   pub candidates : (path : List ℕ) → In path (paths_of_labels (new_labels replacements)) → IsPath path
   pub keys : AreKeys (among (sought (hash_part_in r.path) (paths_of_labels (new_labels replacements))))
 
-pub parts_of : (r : Record) (replacements : List Replacement) (tree : Tree) (s : Settled) → IsSoundRecord r → AreReplacements r.labels replacements → rewritten r replacements ≡ Ok tree
+pub parts_of : (r : Record) (replacements : List Replacement) (tree : Tree) (s : Settled) → IsSoundRecord r → AreReplacements r.labels replacements
+    → rewritten r replacements ≡ Ok tree
     → Parts r replacements tree s
 unfolding substituted
 parts_of r replacements tree s sound are e =
@@ -171,7 +175,8 @@ tree_of_settled tree own candidates name s is keys done =
     subst IsTree parts.2 (tree-put (settling own candidates s.path) images tree is none)
 
 -- a record whose labels were replaced has a path and a tree
-pub relabelled_sound : (r : Record) (replacements : List Replacement) (q : Record) → IsSoundRecord r → AreReplacements r.labels replacements → relabelled r replacements ≡ Ok q → IsPath q.path × IsTree q.tree
+pub relabelled_sound : (r : Record) (replacements : List Replacement) (q : Record) → IsSoundRecord r → AreReplacements r.labels replacements
+    → relabelled r replacements ≡ Ok q → IsPath q.path × IsTree q.tree
 relabelled_sound r replacements q sound are e = elim (relabelled_cases r replacements q e) [
   | inl same ↦ (subst (λ (z : Record). IsPath z.path) same.1 sound.path, subst (λ (z : Record). IsTree z.tree) same.1 sound.tree)
   | inr new ↦

@@ -54,7 +54,8 @@ module _ (charge : ℕ) (all : List ℕ) (blank written start end : Option (List
       }
 
   -- those that were read whole
-  pub quiet_so_far : (input : List ℕ) → Consumes start end input → AnsweredSoFar Service Idle tt tt blank written input → ReplayedSoFar charge blank written all end
+  pub quiet_so_far : (input : List ℕ) → Consumes start end input → AnsweredSoFar Service Idle tt tt blank written input
+      → ReplayedSoFar charge blank written all end
   quiet_so_far input read s = record {
     input = input;
     read = subst (λ t. Consumes t end input) known read;
@@ -71,7 +72,8 @@ is_answered start mid blank between input seen users rest read b =
     record { read = subst (λ t. Consumes start mid t) b.cut read; progress = b.progress }
 
 -- the users that were found are those of all of the input
-pub names_all : (all input : List ℕ) (start mid blank between : Option (List ℕ)) (seen : Seen) (users : List (List ℕ)) (rest : List ℕ) → start ≡ Some all → Consumes start mid input
+pub names_all : (all input : List ℕ) (start mid blank between : Option (List ℕ)) (seen : Seen) (users : List (List ℕ)) (rest : List ℕ)
+    → start ≡ Some all → Consumes start mid input
     → IsBegun Service blank between input seen users rest → LooksAhead Service all (Some users)
 names_all all input start mid blank between seen users rest known read b =
     let left = consumed all input start mid known read in
@@ -79,7 +81,8 @@ names_all all input start mid blank between seen users rest known read b =
     (sym (left.2 ∙ ap (λ t. t ++ left.0) b.cut ∙ append_assoc b.front rest left.0)) (b.names (rest ++ left.0))
 
 -- what was read in all
-pub read_behind : (start mid end blank between : Option (List ℕ)) (front : List ℕ) (seen : Seen) (rest input : List ℕ) → IsAnswered start mid blank between front seen rest
+pub read_behind : (start mid end blank between : Option (List ℕ)) (front : List ℕ) (seen : Seen) (rest input : List ℕ)
+    → IsAnswered start mid blank between front seen rest
     → Consumes mid end input → Consumes start end (front ++ (rest ++ input))
 read_behind start mid end blank between front seen rest input a read =
     subst (λ t. Consumes start end t) (append_assoc front rest input) (consumes-more start mid end (front ++ rest) input a.read read)

@@ -31,7 +31,8 @@ pub are_answered : (charge : ℕ) (done : List (List ℕ)) (rows : List LineRow)
 are_answered charge done rows t some = answered_as charge rows (users_in rows) (none_asked (fresh Service) done rows refl t) some
 
 -- by a store for the users that were found ahead
-pub by_store : (charge : ℕ) (users : List (List ℕ)) (all : List ℕ) (done rest : List (List ℕ)) (rows : List LineRow) → LooksAhead Service all (Some users) → done ++ rest ≡ lines_of all
+pub by_store : (charge : ℕ) (users : List (List ℕ)) (all : List ℕ) (done rest : List (List ℕ)) (rows : List LineRow)
+    → LooksAhead Service all (Some users) → done ++ rest ≡ lines_of all
     → Talks (fresh Service) done rows → AreOfOneStore (record { users = users; charge = charge }) rows → AreAnswered charge rows
 by_store charge users all done rest rows found cut t one = are_answered charge done rows t (λ named n.
     let same : users ≡ named = same_users (fresh Service) found.done done found.rest rest found.rows rows refl found.talks t (sym found.cut ∙ sym cut) users named found.named n in
@@ -40,7 +41,8 @@ by_store charge users all done rest rows found cut t one = are_answered charge d
 -- ---- the input
 
 -- what was consumed of known bytes, and what is left of them
-pub consumed : (all input : List ℕ) (start end : Option (List ℕ)) → start ≡ Some all → Consumes start end input → (left : List ℕ) × (end ≡ Some left) × (all ≡ input ++ left) × (IsAtEnd end → left ≡ [])
+pub consumed : (all input : List ℕ) (start end : Option (List ℕ)) → start ≡ Some all → Consumes start end input
+    → (left : List ℕ) × (end ≡ Some left) × (all ≡ input ++ left) × (IsAtEnd end → left ≡ [])
 consumed all input None end is h = cc
 consumed all input (Some xs) None is h = absurd h
 consumed all input (Some xs) (Some left) is h = let same : xs ≡ all = cc in (left, refl, sym same ∙ h, λ e. e)
@@ -54,7 +56,8 @@ consumed_all all input start end is h done =
 -- ---- all lines, and the first lines
 
 -- all was answered and then flushed
-pub flushed : (charge : ℕ) (blank written written' : Option (List ℕ)) (lines : List (List ℕ)) → Replayed charge blank written lines → Appends written written' [] → Replayed charge blank written' lines
+pub flushed : (charge : ℕ) (blank written written' : Option (List ℕ)) (lines : List (List ℕ)) → Replayed charge blank written lines
+    → Appends written written' [] → Replayed charge blank written' lines
 flushed charge blank written written' lines h kept = record {
   rows = h.rows;
   talks = h.talks;
@@ -63,7 +66,8 @@ flushed charge blank written written' lines h kept = record {
   answered = h.answered;
 }
 
-pub flushed_in_part : (charge : ℕ) (blank written written' : Option (List ℕ)) (lines : List (List ℕ)) (why : Refusal) → ReplayedInPart charge blank written lines why → Appends written written' []
+pub flushed_in_part : (charge : ℕ) (blank written written' : Option (List ℕ)) (lines : List (List ℕ)) (why : Refusal)
+    → ReplayedInPart charge blank written lines why → Appends written written' []
     → ReplayedInPart charge blank written' lines why
 flushed_in_part charge blank written written' lines why h kept = record {
   rows = h.rows;
@@ -78,7 +82,8 @@ flushed_in_part charge blank written written' lines why h kept = record {
 }
 
 -- all was answered, and the flush failed
-pub not_flushed : (charge : ℕ) (blank written written' : Option (List ℕ)) (lines : List (List ℕ)) (why : Refusal) → (why ≡ BadUsers → ⊥) → Replayed charge blank written lines → Appends written written' []
+pub not_flushed : (charge : ℕ) (blank written written' : Option (List ℕ)) (lines : List (List ℕ)) (why : Refusal) → (why ≡ BadUsers → ⊥)
+    → Replayed charge blank written lines → Appends written written' []
     → ReplayedInPart charge blank written' lines why
 not_flushed charge blank written written' lines why own h kept = record {
   rows = h.rows;

@@ -21,7 +21,8 @@ nothing_known (Err why) charge user timed known blank = λ all k. inl (appends-n
 
 -- where a text was found, what was written of it
 pub struck_rest : {T : Type 0} (r : Result T Refusal) (charge : ℕ) (user : List ℕ) (timed : Bool) (known : List ℕ → Type 0) (blank written : Option (List ℕ)) (text : List ℕ)
-    → ((all : List ℕ) → known all → IsStruck charge user timed (lines_of all) text) → ((count : ℕ) × Appends blank written (take count text)) → IfErr r IsUnwritten
+    → ((all : List ℕ) → known all → IsStruck charge user timed (lines_of all) text) → ((count : ℕ) × Appends blank written (take count text))
+    → IfErr r IsUnwritten
     → IfErr r (λ why. (all : List ℕ) → known all → StruckEarly charge user timed blank written (lines_of all) why)
 struck_rest (Ok t) charge user timed known blank written text is h fault = tt
 struck_rest (Err why) charge user timed known blank written text is h fault = λ all k. inr (record { text = text; is = is all k; count = h.0; part = h.1; fault = fault })

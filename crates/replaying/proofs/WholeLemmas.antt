@@ -35,7 +35,8 @@ module _ (charge : ℕ) (all : List ℕ) (blank written : Option (List ℕ)) whe
       }
 
 -- then it was flushed
-pub so_far_flushed : (charge : ℕ) (all : List ℕ) (blank written written' end : Option (List ℕ)) → ReplayedSoFar charge blank written all end → Appends written written' []
+pub so_far_flushed : (charge : ℕ) (all : List ℕ) (blank written written' end : Option (List ℕ)) → ReplayedSoFar charge blank written all end
+    → Appends written written' []
     → ReplayedSoFar charge blank written' all end
 so_far_flushed charge all blank written written' end h kept = record {
   input = h.input;

@@ -116,7 +116,8 @@ pub record RunSoFar (setup : Setup) (user : List ℕ) (all rest : List (List ℕ
   pub user_is : notes.user ≡ user
 
 -- from any start on: where these bytes are left to be read, all lines are answered so
-abbrev pub RunsOut : Setup → (left : Option (List ℕ)) (notes : Notes) (old : Only) (events : List Event) (notes' : Notes) (new : Only) (events' : List Event) → Type 0
+abbrev pub RunsOut : Setup
+    → (left : Option (List ℕ)) (notes : Notes) (old : Only) (events : List Event) (notes' : Notes) (new : Only) (events' : List Event) → Type 0
 RunsOut setup left notes old events notes' new events' = (user : List ℕ) (all : List (List ℕ)) (rest : List ℕ) → left ≡ Some rest
     → RunSoFar setup user all (lines_of rest) notes old events → RunSoFar setup user all [] notes' new events'
 

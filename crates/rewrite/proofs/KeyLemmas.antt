@@ -72,7 +72,8 @@ Inside-pieces images are n ps =
     Inside-imaged images are n (n + length (joined ps)) (places_of_pieces keys n ps) (Within-pieces keys (key_is_part images are) n ps)
     (Found-pieces keys n ps)
 
-pub Inside-places : (images : Images) → AreImages images → (n : ℕ) (s : List ℕ) → Inside n (n + length s) (imaged images (places_in (among (keys_of images)) n s))
+pub Inside-places : (images : Images) → AreImages images → (n : ℕ) (s : List ℕ)
+    → Inside n (n + length s) (imaged images (places_in (among (keys_of images)) n s))
 Inside-places images are n s =
     let keys = among (keys_of images) in
     Inside-imaged images are n (n + length s) (places_in keys n s) (Within-places_in keys (key_is_part images are) n s) (Found-places_in keys n s)

@@ -57,8 +57,10 @@ rows_append n (c ∷ cs) ds = elim (either (has_row c)) [
 -- ---- one call
 
 -- a call that has a row adds it, and no other of the pass
-answered_own : (old new : Caller) (e : Event) (r : Reply) (before : List Row) → rows_of old.number old.sure ≡ old.calls → rows_of new.number new.sure ≡ new.calls
-    → IsPrefix old.sure before → new ≡ answered old (before ++ row old.number e r ∷ []) → own_rows old.number new.sure ≡ own_rows old.number old.sure ++ row old.number e r ∷ []
+answered_own : (old new : Caller) (e : Event) (r : Reply) (before : List Row) → rows_of old.number old.sure ≡ old.calls
+    → rows_of new.number new.sure ≡ new.calls
+    → IsPrefix old.sure before → new ≡ answered old (before ++ row old.number e r ∷ [])
+    → own_rows old.number new.sure ≡ own_rows old.number old.sure ++ row old.number e r ∷ []
 answered_own old new e r before counted counted_now longer same =
     let n : ℕ = old.number in
     let sure : new.sure ≡ before ++ row n e r ∷ [] = ap (λ (p : Caller). p.sure) same in

@@ -140,7 +140,8 @@ module _ (setup : Setup) where
   status_read : (goals : List GoalId) (event : Event) → IsStatusOf goals event → is_read event ≡ true
   status_read goals event is = ap is_read is.4
 
-  statuses_stop : (goals : List GoalId) (calls : List Call) (old new : PassKnowledge) → AsksStatus goals calls → CallChain old calls new → stops_by new ≡ stops_by old
+  statuses_stop : (goals : List GoalId) (calls : List Call) (old new : PassKnowledge) → AsksStatus goals calls → CallChain old calls new
+      → stops_by new ≡ stops_by old
   statuses_stop goals [] old new asks chain = chain.stops
   statuses_stop goals (c ∷ cs) old new asks chain =
       statuses_stop goals cs chain.1 new asks.1 chain.4
@@ -288,6 +289,7 @@ module _ (setup : Setup) where
       workers_stand ws (All-tail (IsGivenBack history) w.store (map (λ v. v.store) ws) back) worked.1,
     )
 
-    pub stand_append : (ms ns : List ℕ) → WorkersStand setup gives history ms → WorkersStand setup gives history ns → WorkersStand setup gives history (ms ++ ns)
+    pub stand_append : (ms ns : List ℕ) → WorkersStand setup gives history ms → WorkersStand setup gives history ns
+        → WorkersStand setup gives history (ms ++ ns)
     stand_append [] ns one two = two
     stand_append (m ∷ ms) ns one two = (one.0, stand_append ms ns one.1 two)

@@ -81,7 +81,8 @@ new_push [] w all one = (one, tt)
 new_push (v ∷ vs) w all one = (all.0, new_push vs w all.1 one)
 
 -- one more such worker
-pub new_more : {Q : Type 0} (ws vs : List (Worker PassKnowledge Q)) (w : Worker PassKnowledge Q) (n : ℕ) → vs ≡ ws ++ w ∷ [] → AllNew IsNew ws → w.store ≡ new_pass n
+pub new_more : {Q : Type 0} (ws vs : List (Worker PassKnowledge Q)) (w : Worker PassKnowledge Q) (n : ℕ) → vs ≡ ws ++ w ∷ [] → AllNew IsNew ws
+    → w.store ≡ new_pass n
     → AllNew IsNew vs
 new_more ws vs w n same all one = subst (AllNew IsNew) (sym same) (new_push ws w all (is_new w.store n one))
 
@@ -126,7 +127,8 @@ module _ {Q : Type 0} (history : History) where
       (All-take (IsGivenBack history) (length own) (own ++ all_passes ls) (All-tail (IsGivenBack history) l.store (own ++ all_passes ls) back))
 
   -- and those of the sessions behind it
-  pub rest_back : (l : Left PassKnowledge Q) (ls : List (Left PassKnowledge Q)) → All (IsGivenBack history) (all_passes (l ∷ ls)) → All (IsGivenBack history) (all_passes ls)
+  pub rest_back : (l : Left PassKnowledge Q) (ls : List (Left PassKnowledge Q)) → All (IsGivenBack history) (all_passes (l ∷ ls))
+      → All (IsGivenBack history) (all_passes ls)
   rest_back l ls back =
       let own : List PassKnowledge = map (λ w. w.store) l.team.workers in
       subst (All (IsGivenBack history)) (drop-append_seam own (all_passes ls))
@@ -153,7 +155,8 @@ module _ {I Q : Type 0} where
   sessions_push count (p ∷ ps) part [] session all one = absurd all
 
   -- the numbers of their passes
-  pub session_numbers : (numbers : List ℕ) (parts : List (Part I Q)) (served_sessions : List (ServedSession PassKnowledge Q I)) → AreSessionsFor numbers parts served_sessions
+  pub session_numbers : (numbers : List ℕ) (parts : List (Part I Q)) (served_sessions : List (ServedSession PassKnowledge Q I))
+      → AreSessionsFor numbers parts served_sessions
       → map (λ (d : ServedSession PassKnowledge Q I). d.store.caller.number) served_sessions ≡ numbers
   session_numbers [] [] [] all = refl
   session_numbers (n ∷ ns) (p ∷ ps) (d ∷ ds) all =
@@ -245,7 +248,8 @@ pub pools_push : {Q : Type 0} (setup : Setup) (gives : Q → Running → Result 
 pools_push setup gives [] left all one = (one, tt)
 pools_push setup gives (l ∷ ls) left all one = (all.0, pools_push setup gives ls left all.1 one)
 
-pub all_push : {Q : Type 0} (lefts : List (Left PassKnowledge Q)) (left : Left PassKnowledge Q) → all_passes (lefts ++ left ∷ []) ≡ all_passes lefts ++ passes_left left
+pub all_push : {Q : Type 0} (lefts : List (Left PassKnowledge Q)) (left : Left PassKnowledge Q)
+    → all_passes (lefts ++ left ∷ []) ≡ all_passes lefts ++ passes_left left
 all_push [] left = append-nil (passes_left left)
 all_push (l ∷ ls) left =
     ap (λ (ps : List PassKnowledge). passes_left l ++ ps) (all_push ls left) ∙ sym (append_assoc (passes_left l) (all_passes ls) (passes_left left))
@@ -257,7 +261,8 @@ module _ {I Q : Type 0} (setup : Setup) (gives : Q → Running → Result (List 
   pub all_served : (numbers : List ℕ) (parts : List (Part I Q)) (served_sessions : List (ServedSession PassKnowledge Q I)) (lefts : List (Left PassKnowledge Q))
       (sessions workers : List ℕ) (passes : List PassKnowledge) (outputs : List SessionOutput)
       → AreSessionsFor numbers parts served_sessions → AllOutputs (IsTold setup) HasMet is_stopped remaining served_sessions lefts → ArePools setup gives lefts
-      → sessions ≡ map (λ (d : ServedSession PassKnowledge Q I). d.store.caller.number) served_sessions → workers ≡ all_numbers lefts → passes ≡ all_passes lefts
+      → sessions ≡ map (λ (d : ServedSession PassKnowledge Q I). d.store.caller.number) served_sessions → workers ≡ all_numbers lefts
+      → passes ≡ all_passes lefts
       → outputs ≡ map (λ (l : Left PassKnowledge Q). l.output) lefts → AreServed setup gives remaining numbers parts sessions workers passes outputs
   all_served numbers parts served_sessions lefts sessions workers passes outputs are all pools named numbered back gave = record {
     named = named ∙ session_numbers numbers parts served_sessions are;

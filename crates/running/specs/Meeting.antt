@@ -46,7 +46,8 @@ met_more p q r first next = record {
 }
 
 -- who asks for a job adds no row, as who meets others
-pub met_asking : (setup : Setup) (p q : PassKnowledge) (user : List ℕ) (number : ℕ) (told : Result Running Refusal) → IsAskedBy setup p user number told q → HasMet p q
+pub met_asking : (setup : Setup) (p q : PassKnowledge) (user : List ℕ) (number : ℕ) (told : Result Running Refusal)
+    → IsAskedBy setup p user number told q → HasMet p q
 met_asking setup p q user number told asked = elim (either (is_told_stopped told)) [
   | inl stops ↦
       let same = asked.stopped (stopped_if told stops) in
@@ -93,7 +94,8 @@ seen_told setup p q other event reply told has = prefix_trans other.caller.sure 
 pub unrecorded_cases : (reply : Reply) → unrecorded reply ≡ true → (reply ≡ Refused Memory) ⊎ (reply ≡ Refused Stopped)
 unrecorded_cases (Refused why) gave = refusal_cases why gave
   where
-    refusal_cases : (why : Refusal) → (is_memory_refusal why || is_stopped_refusal why) ≡ true → (Refused why ≡ Refused Memory) ⊎ (Refused why ≡ Refused Stopped)
+    refusal_cases : (why : Refusal) → (is_memory_refusal why || is_stopped_refusal why) ≡ true
+        → (Refused why ≡ Refused Memory) ⊎ (Refused why ≡ Refused Stopped)
     refusal_cases Memory gave = inl refl
     refusal_cases Stopped gave = inr refl
     refusal_cases why gave = absurd (cc)
@@ -109,7 +111,8 @@ stopped_met p q met is = met.remains is
 pub stopped_told : (setup : Setup) (p q : PassKnowledge) (event : Event) → IsTold setup p event (Refused Stopped) q → is_stopped q ≡ true
 stopped_told setup p q event told = ap (λ (c : Caller). c.stopped) (told.stopped refl)
 
-pub stopped_called : (setup : Setup) (p q : PassKnowledge) (event : Event) (reply : Reply) → IsTold setup p event reply q → is_stopped p ≡ true → is_stopped q ≡ true
+pub stopped_called : (setup : Setup) (p q : PassKnowledge) (event : Event) (reply : Reply) → IsTold setup p event reply q → is_stopped p ≡ true
+    → is_stopped q ≡ true
 stopped_called setup p q event reply told is = elim (either (unrecorded reply)) [
   | inl gave ↦ elim (unrecorded_cases reply gave) [
     | inl memory ↦ ap (λ (c : Caller). c.stopped) (told.memory memory) ∙ is
@@ -130,7 +133,8 @@ stops_by p = p.stops
 pub stops_met : (p q : PassKnowledge) → HasMet p q → stops_by q ≡ stops_by p
 stops_met p q met = met.stops
 
-pub stops_called : (setup : Setup) (p q : PassKnowledge) (event : Event) (reply : Reply) → IsTold setup p event reply q → reply ≢ Refused Memory → stops_by q ≡ stops_by p
+pub stops_called : (setup : Setup) (p q : PassKnowledge) (event : Event) (reply : Reply) → IsTold setup p event reply q → reply ≢ Refused Memory
+    → stops_by q ≡ stops_by p
 stops_called setup p q event reply told other = told.no_stop other
 
 pub stops_new : (p : PassKnowledge) → IsNew p → stops_by p ≡ 0

@@ -42,7 +42,8 @@ module _ (users : List (List ℕ)) (old : ℕ → ℕ → Bool) (all : List Even
   unfolding trust_after all_undoing
   turning_first = record { done = []; rest = all; cut = refl; count = refl; items_are = sym (append-nil all); trust_is = refl }
 
-  pub turning_next : (items left : List Event) (trust : ℕ → ℕ → Bool) (turn : ℕ) (e back : Event) (now : ℕ → ℕ → Bool) → IsTurning users old all items trust turn
+  pub turning_next : (items left : List Event) (trust : ℕ → ℕ → Bool) (turn : ℕ) (e back : Event) (now : ℕ → ℕ → Bool)
+      → IsTurning users old all items trust turn
       → turn < length all → items ≡ e ∷ left → back ≡ undoing (said_by users e) trust e → now ≡ trust_with (said_by users e) trust
       → IsTurning users old all (left ++ back ∷ []) now (turn + 1)
   turning_next items left trust turn e back now so below is back_is now_is = of so.rest refl
@@ -202,7 +203,8 @@ module _ (users : List (List ℕ)) (charge place : ℕ) (all : List Event) where
                 else kept_from setup user (after setup w x) so.later) ≡ kept_from setup user w (x ∷ so.later)
             kept_step w x = refl
 
-  all_kept : (items : List Event) (trust : ℕ → ℕ → Bool) (set turn : ℕ) (so : IsKeeping items trust set turn) → so.first ≡ [] → items ≡ strike_timed setup user all
+  all_kept : (items : List Event) (trust : ℕ → ℕ → Bool) (set turn : ℕ) (so : IsKeeping items trust set turn) → so.first ≡ []
+      → items ≡ strike_timed setup user all
   unfolding all_undoing world_after
   all_kept items trust set turn so none =
       so.items_are ∙ ap (λ l. so.kept ++ all_undoing users nobody l) none ∙ append-nil so.kept ∙ so.kept_are

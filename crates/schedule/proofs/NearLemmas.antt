@@ -179,7 +179,8 @@ module _ (users : List (List ℕ)) (charge : ℕ) where
         let elsewhere = trusted_elsewhere users trust s.user s.other u differs in
         of s.trusted elsewhere
       where
-        of : (b : Bool) → (trusted_at users (with_pair s.user s.other trust) u ≡ trusted_at users trust u) × (trusted_at users (without_pair s.user s.other trust) u ≡ trusted_at users trust u)
+        of : (b : Bool)
+            → (trusted_at users (with_pair s.user s.other trust) u ≡ trusted_at users trust u) × (trusted_at users (without_pair s.user s.other trust) u ≡ trusted_at users trust u)
             → trusted_at users (with_said s.user s.other b trust) u v ≡ trusted_at users trust u v
         of true both = ap (λ (t : List ℕ → Bool). t v) both.0
         of false both = ap (λ (t : List ℕ → Bool). t v) both.1

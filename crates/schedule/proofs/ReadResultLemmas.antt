@@ -26,7 +26,8 @@ read_well_formed (Status number) = tt
 read_well_formed (Closure class) = tt
 read_well_formed (Fetch path) = tt
 
-handled_step : OneTreeAtAPath → NeverFails → (core : Core) (e : events.Event) (given : Result Reply Refusal) → IsWellFormed e.request → IsHandled (parts_of core) e given (parts_of core)
+handled_step : OneTreeAtAPath → NeverFails → (core : Core) (e : events.Event) (given : Result Reply Refusal) → IsWellFormed e.request
+    → IsHandled (parts_of core) e given (parts_of core)
     → IsCoreStep core e (reply_of (told given)) core
 handled_step one never core e (Ok reply) well handled = served_step core core e reply well handled
 handled_step one never core e (Err why) well handled = refused_step one never core core e why well handled

@@ -32,7 +32,8 @@ all_members P (p ∷ paths) holds =
     All-cons P p paths (holds p (or_left (bytes_eq p p) _ (bytes_same p))) (all_members P paths (λ q m. holds q (or_right (bytes_eq p q) _ m)))
 
 -- each archive is that of a path that is held
-archives_held : (paths : List (List ℕ)) (archives : List (List ℕ × ℕ)) → ((p : List ℕ) → list_any (bytes_eq p) (paths_held archives) ≡ true → is_one_of paths p ≡ true)
+archives_held : (paths : List (List ℕ)) (archives : List (List ℕ × ℕ))
+    → ((p : List ℕ) → list_any (bytes_eq p) (paths_held archives) ≡ true → is_one_of paths p ≡ true)
     → All (λ a. is_one_of paths a.0 ≡ true) archives
 archives_held paths [] within = All-nil (λ a. is_one_of paths a.0 ≡ true)
 archives_held paths (a ∷ archives) within =
@@ -86,7 +87,8 @@ module _ (old : List Source) (test : List ℕ → Bool) where
         let records = records_kept d.records records_pass in
         λ i. record { trusted = beside.trusted; sources = sources i; derivations = d.known.derivations; records = records i; pins = d.pins; goals = beside.goals }
 
-    sized_kept : (archives : List (List ℕ × ℕ)) → All (λ a. is_one_of (paths_of d) a.0 ≡ true) archives → All (IsSized old) archives → All (IsSized now) archives
+    sized_kept : (archives : List (List ℕ × ℕ)) → All (λ a. is_one_of (paths_of d) a.0 ≡ true) archives → All (IsSized old) archives
+        → All (IsSized now) archives
     sized_kept [] held sized = All-nil (IsSized now)
     sized_kept (a ∷ archives) held sized =
         let inside : is_one_of (paths_of d) a.0 ≡ true = All-head (λ b. is_one_of (paths_of d) b.0 ≡ true) a archives held in
@@ -107,7 +109,8 @@ module _ (old : List Source) (test : List ℕ → Bool) where
       closed = sound.closed;
     }
 
-  pub desks_swept : (limit : ℕ) (desks : List Holdings) → ((p : List ℕ) → hold_path desks p ≡ true → Passes p) → All IsHolding desks → All (IsSound old limit) desks
+  pub desks_swept : (limit : ℕ) (desks : List Holdings) → ((p : List ℕ) → hold_path desks p ≡ true → Passes p) → All IsHolding desks
+      → All (IsSound old limit) desks
       → All (IsSound now limit) desks
   desks_swept limit [] pass holding sound = All-nil (IsSound now limit)
   desks_swept limit (d ∷ desks) pass holding sound =
@@ -148,7 +151,8 @@ module _ (old : List Source) (test : List ℕ → Bool) where
       All-cons (IsResolvedIn now) g goals (goal_swept g (λ p m. pass p (or_left (keeps_path g p) _ m)) (All-head (IsResolvedIn old) g goals sound))
       (own_swept goals (λ p m. pass p (or_right (keeps_path g p) _ m)) (All-tail (IsResolvedIn old) g goals sound))
 
-  pub goals_swept : (all : List (List Goal)) → ((p : List ℕ) → keep_any_path all p ≡ true → Passes p) → All (AreGoalsSound old) all → All (AreGoalsSound now) all
+  pub goals_swept : (all : List (List Goal)) → ((p : List ℕ) → keep_any_path all p ≡ true → Passes p) → All (AreGoalsSound old) all
+      → All (AreGoalsSound now) all
   goals_swept [] pass sound = All-nil (AreGoalsSound now)
   goals_swept (goals ∷ all) pass sound =
       All-cons (AreGoalsSound now) goals all (own_swept goals (λ p m. pass p (or_left (keep_path goals p) _ m)) (All-head (AreGoalsSound old) goals all sound))
@@ -196,7 +200,8 @@ holds_stored core u path h =
     among_stored (beside_at core.state.users (trusts core.state.trust) core.state.jobs.goals) core.state.table.sources core.state.limits.charge core.state.users core.state.desks.items u path core.state.run.sound h
 
 -- what is left was made by texts that were hashed
-pub hashed_swept : (texts : List (List ℕ)) (old new : Core) (test : List ℕ → Bool) → stored_in new ≡ kept_at test (stored_in old) → HasHashed texts old → HasHashed texts new
+pub hashed_swept : (texts : List (List ℕ)) (old new : Core) (test : List ℕ → Bool) → stored_in new ≡ kept_at test (stored_in old)
+    → HasHashed texts old → HasHashed texts new
 unfolding stored_in HasHashed
 hashed_swept texts old new test are hashed =
     subst (All (IsHashed texts)) (sym are) (All-filter (λ s. test s.path) (IsHashed texts) old.state.table.sources hashed)

@@ -75,14 +75,16 @@ names-line {mode} blank written input seen held users b p g more =
     (found-line input seen held (Names users) (Some users) more (searched-of blank written input seen held b p) g refl (λ e. cc))
 
 -- whether users are named by a row, by what its line comes to
-row-begins : (goals : List GoalId) (r : Reading) (seen : Seen) (row : LineRow) → IsNamedBy r None → IsRowOf goals r row → seen.begun ≡ false → (seen_after seen row).begun ≡ false
+row-begins : (goals : List GoalId) (r : Reading) (seen : Seen) (row : LineRow) → IsNamedBy r None → IsRowOf goals r row → seen.begun ≡ false
+    → (seen_after seen row).begun ≡ false
 row-begins goals reading.Silent seen row n e b = rw e b
 row-begins goals (reading.Names users) seen row n e b = absurd n
 row-begins goals (reading.Refuses why) seen row n e b = rw e b
 row-begins goals (reading.Asks event) seen row n e b = rw e.1 b
 row-begins goals reading.Waits seen row n e b = rw e.2 b
 
-row-names : (goals : List GoalId) (parsed : ParsedLine) (r : Reading) (users : Vec (List ℕ)) → IsNamedBy r (Some users) → Becomes parsed r → Gets goals parsed (Names users.items)
+row-names : (goals : List GoalId) (parsed : ParsedLine) (r : Reading) (users : Vec (List ℕ)) → IsNamedBy r (Some users) → Becomes parsed r
+    → Gets goals parsed (Names users.items)
 row-names goals parsed reading.Silent users n b = absurd n
 row-names goals parsed (reading.Names named) users n b = rw n (b goals)
 row-names goals parsed (reading.Refuses why) users n b = absurd n
@@ -98,7 +100,8 @@ head-line seen seen' held line written written' r None b same is named row of ne
 head-line seen seen' held line written written' r (Some users) b same is named row of next goes =
     (subst (λ t. GetsNext seen t (Names users.items)) same (row-names seen.goals (parsed_of seen line) r users named is), goes)
 
-pub head-goes : (written written' : Option (List ℕ)) (seen seen' : Seen) (held : List ℕ) (users : Option (Vec (List ℕ))) → IsHeadLine written written' seen seen' held users
+pub head-goes : (written written' : Option (List ℕ)) (seen seen' : Seen) (held : List ℕ) (users : Option (Vec (List ℕ)))
+    → IsHeadLine written written' seen seen' held users
     → GoesIdle written written' seen seen' held [] (10 ∷ [])
 head-goes written written' seen seen' held None h = h.1
 head-goes written written' seen seen' held (Some users) h = h.1
@@ -150,7 +153,8 @@ module _ (written between : Option (List ℕ)) (seen half : Seen) (held part fro
     idle-left = piece-rest front line rest piece behind cut parts
 
     -- and names users
-    pub idle-names : (users : List (List ℕ)) → half.begun ≡ false → GetsNext half part' (Names users) → NamesBehind written seen held (front ++ (line ++ 10 ∷ [])) users
+    pub idle-names : (users : List (List ℕ)) → half.begun ≡ false → GetsNext half part' (Names users)
+        → NamesBehind written seen held (front ++ (line ++ 10 ∷ [])) users
     idle-names users b g mode blank input p more =
         subst (λ t. LooksAhead mode (t ++ more) (Some users)) (input-line input front line)
         (names-line blank between ((input ++ front) ++ line) half part' users b (idle-begun mode tt blank input p) g more)

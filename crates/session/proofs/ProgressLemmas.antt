@@ -26,7 +26,8 @@ answer_printed : (n : ℕ) (actor : List ℕ) (reply : Reply) → length (answer
 answer_printed n actor reply h = some_text (decimal n ++ 32 ∷ actor ++ 32 ∷ reply_text reply) [] 10 h
 
 -- a line of users that is refused has a text
-refusal_printed : (mode : Mode) (rows : List LineRow) (seen : Seen) (row : LineRow) → seen ≡ after_all (fresh mode) rows → (after_all (fresh mode) rows).refused ≡ false
+refusal_printed : (mode : Mode) (rows : List LineRow) (seen : Seen) (row : LineRow) → seen ≡ after_all (fresh mode) rows
+    → (after_all (fresh mode) rows).refused ≡ false
     → (seen_after seen row).refused ≡ true → (n : ℕ) → length (row_text n row) ≤ 0 → ⊥
 refusal_printed mode rows seen Silent is going r n h = true≢false (sym r ∙ ap (λ (s : Seen). s.refused) is ∙ going)
 refusal_printed mode rows seen (Names users) is going r n h = true≢false (sym r ∙ ap (λ (s : Seen). s.refused) is ∙ going)
@@ -227,7 +228,8 @@ module _ {mode : Mode} {A : Type 0} (L : A → LineRow → A → Type 0) (first 
 
   pub early-write : (now next : A) (written written' : Option (List ℕ)) (input : List ℕ) (seen seen' : Seen) (held line text shown more : List ℕ)
       (why : Refusal)
-      → (why ≡ BadUsers → ⊥) → line ≡ held → shown ≡ text → Gives (GetsNext seen line) L seen seen' now next text → Progress mode L first now blank written input seen held
+      → (why ≡ BadUsers → ⊥) → line ≡ held → shown ≡ text → Gives (GetsNext seen line) L seen seen' now next text
+      → Progress mode L first now blank written input seen held
       → ((n : ℕ) × (n < length shown) × Appends written written' (take n shown)) → EndedEarly mode L first next blank written' (input ++ 10 ∷ more) ⊥ why
   early-write now next written written' input seen seen' held line text shown more why u same e w p a =
       early-line now next written written' input seen held w.0 a.0 more why p (subst (λ t. GetsNext seen t w.0) same w.1) w.4
@@ -320,7 +322,8 @@ module _ (reader reader' writer writer' : ℕ) (why : Refusal) (fault : IsFault 
   more_output e = elim fault [ inl i ↦ let bad : InputFault ≡ OutputFault = sym i.0 ∙ e in cc | inr o ↦ o.1 ]
 
 -- by another fact that says where the input is at its end
-pub early-weakened : {mode : Mode} {A : Type 0} (L : A → LineRow → A → Type 0) (first now : A) (blank written : Option (List ℕ)) (input : List ℕ) (at_end at_end' : Type 0) (why : Refusal) → (at_end → at_end')
+pub early-weakened : {mode : Mode} {A : Type 0} (L : A → LineRow → A → Type 0) (first now : A) (blank written : Option (List ℕ)) (input : List ℕ) (at_end at_end' : Type 0) (why : Refusal)
+    → (at_end → at_end')
     → EndedEarly mode L first now blank written input at_end why → EndedEarly mode L first now blank written input at_end' why
 early-weakened L first now blank written input at_end at_end' why f s = record {
   rows = s.rows;
@@ -339,7 +342,8 @@ lines-all : (input more : List ℕ) → more ≡ [] → lines_of input ≡ lines
 lines-all input more e = ap lines_of (sym (append-nil input) ∙ ap (λ t. input ++ t) (sym e))
 
 -- ended in the last line, which lacks its newline
-pub early-closed : {mode : Mode} {A : Type 0} (L : A → LineRow → A → Type 0) (first now : A) (blank written : Option (List ℕ)) (input : List ℕ) (why : Refusal) → lines_of (input ++ 10 ∷ []) ≡ lines_of input
+pub early-closed : {mode : Mode} {A : Type 0} (L : A → LineRow → A → Type 0) (first now : A) (blank written : Option (List ℕ)) (input : List ℕ) (why : Refusal)
+    → lines_of (input ++ 10 ∷ []) ≡ lines_of input
     → EndedEarly mode L first now blank written (input ++ 10 ∷ []) ⊥ why → EndedEarly mode L first now blank written input (Unit {0}) why
 early-closed L first now blank written input why same s = record {
   rows = s.rows;
@@ -383,7 +387,8 @@ early-other L first now blank written input at_end other own s = record {
   told = λ h. absurd (by_memory Memory refl (s.told h));
 }
 
-pub finished-flushed : {mode : Mode} {A : Type 0} (L : A → LineRow → A → Type 0) (first now : A) (blank written written' : Option (List ℕ)) (all : List (List ℕ)) → Finished mode L first now blank written all
+pub finished-flushed : {mode : Mode} {A : Type 0} (L : A → LineRow → A → Type 0) (first now : A) (blank written written' : Option (List ℕ)) (all : List (List ℕ))
+    → Finished mode L first now blank written all
     → Appends written written' [] → Finished mode L first now blank written' all
 finished-flushed L first now blank written written' all f k = record {
   rows = f.rows;

@@ -108,7 +108,8 @@ module _ (start mid left : Option (List ℕ)) (held held' : List ℕ) (b : Begun
   ends ended all known = subst (λ m. OnSome m (IsAtEnd left)) (left_of all b.part start mid known b.taken).1 ended
 
   -- there is no more: it is the last one
-  pub line-last : TakesPart mid left held held' [] → OnSome mid (IsAtEnd left) → 0 < length held' → (all : List ℕ) → start ≡ Some all → IsFirstLine all left held'
+  pub line-last : TakesPart mid left held held' [] → OnSome mid (IsAtEnd left) → 0 < length held' → (all : List ℕ) → start ≡ Some all
+      → IsFirstLine all left held'
   line-last t ended some all known =
       let more = begun-more t in
       let a = all_taken all more.part start left known more.taken (ends ended all known) in

@@ -60,7 +60,8 @@ pub record IsBegun (mode : Mode) (blank written : Option (List ℕ)) (input : Li
   pub names : (more : List ℕ) → LooksAhead mode (front ++ more) (Some users)
 
 -- that, or all lines are answered and nobody was asked
-abbrev pub IsHead : (mode : Mode) (blank written : Option (List ℕ)) (input : List ℕ) (at_end : Type 0) → (seen : Seen) (users : Option (Vec (List ℕ))) (rest : List ℕ) → Type 0
+abbrev pub IsHead : (mode : Mode) (blank written : Option (List ℕ)) (input : List ℕ) (at_end : Type 0)
+    → (seen : Seen) (users : Option (Vec (List ℕ))) (rest : List ℕ) → Type 0
 IsHead mode blank written input at_end seen None rest = at_end × Finished mode Idle tt tt blank written (lines_of input)
 IsHead mode blank written input at_end seen (Some users) rest = IsBegun mode blank written input seen users.items rest
 

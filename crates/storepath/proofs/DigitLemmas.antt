@@ -66,6 +66,7 @@ pub small_number : (i m digit n : ℕ) → m < 32 ^ i → digit < 32 → n ≡ 3
 small_number i m digit n h small e = rw (add-one i, pow-suc 32 i) (omega (arith, h))
 
 -- one more digit is read
-pub read_digit : (text : List ℕ) (i m n digit : ℕ) → i < length text → digit < 32 → get_or digits_32 digit 0 ≡ get_or text i 0 → n ≡ 32 * m + digit → digits_of i m ≡ take i text → digits_of (i + 1) n ≡ take (i + 1) text
+pub read_digit : (text : List ℕ) (i m n digit : ℕ) → i < length text → digit < 32 → get_or digits_32 digit 0 ≡ get_or text i 0 → n ≡ 32 * m + digit
+    → digits_of i m ≡ take i text → digits_of (i + 1) n ≡ take (i + 1) text
 read_digit text i m n digit h small is e read =
     digits_of-push i m n digit e small ∙ rw (read, is) (sym (take_more text i 0 h))

@@ -11,7 +11,8 @@ references_text-append [] ys = refl
 references_text-append (x ∷ xs) ys = rw (references_text-append xs ys) (sym (append_assoc (codes ":" ++ x) (references_text xs) (references_text ys)))
 
 -- one more reference
-pub references_text-more : (paths : List (List ℕ)) (i : ℕ) (path : List ℕ) → i < length paths → path ≡ get_or paths i path → references_text (take (i + 1) paths) ≡ (references_text (take i paths) ++ codes ":") ++ path
+pub references_text-more : (paths : List (List ℕ)) (i : ℕ) (path : List ℕ) → i < length paths → path ≡ get_or paths i path
+    → references_text (take (i + 1) paths) ≡ (references_text (take i paths) ++ codes ":") ++ path
 unfolding references_text
 references_text-more paths i path h is =
     rw (take_more paths i path h, ← is, references_text-append (take i paths) (path ∷ []), append-nil) (sym (append_assoc (references_text (take i paths)) (codes ":") path))

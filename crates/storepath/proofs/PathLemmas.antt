@@ -80,7 +80,8 @@ long_enough text rest path e =
     omega (arith, ap length (rest_of text rest path e), length-append (base32 path.hash_part) (codes "-" ++ path.name), length-base32 path.hash_part)
 
 -- a path, put together
-pub joined_path : (text rest name hash_part : List ℕ) → text ≡ codes "/nix/store/" ++ rest → drop 32 rest ≡ codes "-" ++ name → IsFolded hash_part → base32 hash_part ≡ take 32 rest → is_name name ≡ true → IsPath text
+pub joined_path : (text rest name hash_part : List ℕ) → text ≡ codes "/nix/store/" ++ rest → drop 32 rest ≡ codes "-" ++ name → IsFolded hash_part
+    → base32 hash_part ≡ take 32 rest → is_name name ≡ true → IsPath text
 joined_path text rest name hash_part store dash folded digits named = record {
   hash_part = hash_part;
   name = name;

@@ -39,7 +39,8 @@ module _ {S Q : Type 0} where
       )
 
   -- the store knows what one more was answered
-  pub knows_next : (met knows : S → S → Type 0) → ((s t other : S) → met s t → knows s other → knows t other) → (s t : S) (us : List (Worker S Q)) (i : ℕ) (v : Worker S Q)
+  pub knows_next : (met knows : S → S → Type 0) → ((s t other : S) → met s t → knows s other → knows t other)
+      → (s t : S) (us : List (Worker S Q)) (i : ℕ) (v : Worker S Q)
       → i < length us → met s t → All (λ w. knows s w.store) (take i us) → knows t v.store → All (λ w. knows t w.store) (take (i + 1) (slice_set us i v))
   knows_next met knows on s t us i v inside one all own =
       subst (All (λ w. knows t w.store)) (sym (take_more_set us i v inside))

@@ -15,7 +15,8 @@ use Rattle.front_trials.specs.contracts.turns.Member.TheInside as Inside
 use Rattle.book.proofs.Crossing.{front_sync, pass_send}
 use Rattle.front_trials.proofs.turns.at_once.Goals as goal
 
-inside_send : (a : NamedLft) (J R T : RattleType) (n : FrontId.Ghosts J.Denot) (l : Ledger.Ghosts J.Denot) → IsSync R → IsSend T → IsSend (Inside.the_row a J R T n l)
+inside_send : (a : NamedLft) (J R T : RattleType) (n : FrontId.Ghosts J.Denot) (l : Ledger.Ghosts J.Denot) → IsSync R → IsSend T
+    → IsSend (Inside.the_row a J R T n l)
 inside_send a J R T n l y s =
     let front : IsSync (Front.the_row J n l) = front_sync J n l in
     declared_send (Inside.the_type a J R T n l) (
@@ -29,7 +30,8 @@ inside_send a J R T n l y s =
       ),
     )
 
-member_send : (a : NamedLft) (J R T : RattleType) (n : FrontId.Ghosts J.Denot) (l : Ledger.Ghosts J.Denot) → IsSync R → IsSend T → IsSend (Member.the_row a J R T n l)
+member_send : (a : NamedLft) (J R T : RattleType) (n : FrontId.Ghosts J.Denot) (l : Ledger.Ghosts J.Denot) → IsSync R → IsSend T
+    → IsSend (Member.the_row a J R T n l)
 member_send a J R T n l y s = let inside : IsSend (Inside.the_row a J R T n l) = inside_send a J R T n l y s in search (view_send, inside) depth 5
 
 pub each_at_once-requires-send-S : goal.each_at_once-requires-send-S

@@ -36,7 +36,8 @@ over_no_clash d e (inl memory) = rw memory refl
 over_no_clash d e (inr quota) = rw quota.0 refl
 
 -- the desk has no derivation at the path of its file
-absent : (d : Holdings) (a : Admission) → known_at d.known a.path ≡ None → admit d.known a.derivation ≡ Ok a → known_at d.known (derivation_path a.derivation) ≡ None
+absent : (d : Holdings) (a : Admission) → known_at d.known a.path ≡ None → admit d.known a.derivation ≡ Ok a
+    → known_at d.known (derivation_path a.derivation) ≡ None
 absent d a none ok = ap (known_at d.known) (sym (admitted_path d.known a.derivation a ok)) ∙ none
 
 pub returns-in_err-path : goal.returns-in_err-path

@@ -23,7 +23,8 @@ returns-clause-sound c =
     })
 
 -- its labels are replaced in one way
-one_way : (c : After-relabelled) (replacements : List Replacement) → IsRelabelledBy c.args.served.now.entries c.args.chosen.now replacements → replacements ≡ c.deref.result.now
+one_way : (c : After-relabelled) (replacements : List Replacement) → IsRelabelledBy c.args.served.now.entries c.args.chosen.now replacements
+    → replacements ≡ c.deref.result.now
 one_way c replacements to =
     let r = c.args.chosen.now in
     let is : replacements_of (served_in c.args.served.now.entries r.class.rank) r.labels ≡ Ok c.in_ok-replacements.replacements.items =

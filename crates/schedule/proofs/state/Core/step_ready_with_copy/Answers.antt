@@ -26,7 +26,8 @@ handle-handled-requires-clause-named c =
     ∙ sym (name_found c.args.self.now.state.users c.args.event.actor c.in-Some.place (sym c.in-Some.ensures)).1
 
 -- that of a user of the run
-handled : (c : After-handle-handled) → IsHandled (parts_of c.args.self.now.state) (event_of c.args.event) c.handle-handled.result (parts_of c.handle-handled.new.state)
+handled : (c : After-handle-handled)
+    → IsHandled (parts_of c.args.self.now.state) (event_of c.args.event) c.handle-handled.result (parts_of c.handle-handled.new.state)
 handled c =
     let old = c.args.self.now.state in
     subst (λ (p : User × Request). IsHandled (parts_of old) (record { actor = c.args.event.actor; request = request_of p.1 }) c.handle-handled.result
