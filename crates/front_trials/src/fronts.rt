@@ -1,4 +1,4 @@
-//! A front that is called through its one pass, threads that share one, and one that is closed at once.
+//! A front that is called through its one pass, and threads that share one.
 
 ghost use Rattle.std.specs.Prelude.{◌≡◌};
 ghost use Rattle.history.specs.NewFronts.{AreTokensOf};
@@ -123,50 +123,5 @@ pub(crate) fn threads<R: Threads + Wait + Sync>(
     out.add_text(" rows, ");
     out.add(&ones);
     out.add_text(" of the second pass");
-    Ok(())
-}
-
-/// Whether passes have the numbers from 0 on.
-fn are_in_order<J: FrontId>(passes: &[Pass<J>]) -> bool {
-    let mut are_in_order = true;
-    let mut number = 0u64;
-    for pass in passes {
-        are_in_order = are_in_order & (pass.number() == number);
-        number = number.saturating_add(1);
-    }
-    are_in_order
-}
-
-/// Whether the passes of a front have the numbers from 0 on, and how many rows it has when it is closed
-/// with no call made.
-fn closed_at_once<J: FrontId, R: Wait>(
-    rt: &R,
-    alloc: Global,
-    new: NewFront,
-) -> Result<(bool, usize), Refusal>
-    requires blank { AreTokensOf J.name J.parts J.stops J.table J.book new.blank }
-    requires parts { J.parts ≡ 3 }
-    requires core { IsNew J.setup new.core }
-{
-    let NewFront { blank, core } = new;
-    let (front, passes) = Front::<J>::new(rt, alloc, blank, core, 3)?;
-    let in_order = are_in_order(&passes);
-    Ok((in_order, front.close(rt, passes).rows.len()))
-}
-
-/// Three passes that make no call: whether their numbers are 0, 1 and 2, and how many rows there are.
-pub(crate) fn passes<R: Wait>(
-    rt: &R,
-    alloc: Global,
-    hashing: RandomState,
-    out: &mut Answer,
-) -> Result<(), Refusal> {
-    let new = NewFront::new(alloc, new_core(alloc, hashing)?, 3)?;
-    let (in_order, rows) = closed_at_once::<Brand, _>(rt, alloc, new)?;
-    let order = if in_order { "in order" } else { "out of order" };
-    out.add_text(order);
-    out.add_text(", ");
-    out.add(&rows);
-    out.add_text(" rows");
     Ok(())
 }

@@ -8,7 +8,6 @@
 mod books;
 mod calls;
 mod crowd;
-mod exchanged;
 mod fronts;
 mod held;
 mod new_front;
