@@ -12,6 +12,7 @@ use Rattle.app.specs.declared.opening.Opened.{Opened}
 use Rattle.app.specs.declared.opening.Refused.{Refused}
 use Rattle.app.specs.Opening.{IsOpened, AreOpened, CannotOpen, IsUnopened}
 use Rattle.app.specs.Parts.{IsPartOf, AreParts, HeadNames, AreNamed, IsRefusedFor, IsRefusedAmong}
+use Rattle.model.specs.Limits.{most_passes}
 
 -- ---- as they are opened
 
@@ -86,5 +87,5 @@ refused_at remaining failed (f ∷ fs) (suc i) file refused inside here one =
 -- ---- why nothing is run
 
 -- where it is told that so many are too many, no other error is
-pub too_many : {T : Type 0} (n : ℕ) (result : Result T Refusal) (why : Refusal) → result ≡ Err why → (64 < n → result ≡ Err Quota) → 64 < n → why ≡ Quota
+pub too_many : {T : Type 0} (n : ℕ) (result : Result T Refusal) (why : Refusal) → result ≡ Err why → (most_passes < n → result ≡ Err Quota) → most_passes < n → why ≡ Quota
 too_many n result why is full more = let same : Err why ≡ Err Quota = sym is ∙ full more in cc

@@ -16,6 +16,7 @@ use Rattle.session.specs.Serving.{IsUnwritten}
 use Rattle.app.specs.declared.opening.Opened.{Opened}
 use Rattle.app.specs.declared.opening.Refused.{Refused}
 use Rattle.app.specs.Parts.{AreParts, AreNamed, IsRefusedAmong}
+use Rattle.model.specs.Limits.{most_passes}
 
 -- ---- what is run
 
@@ -28,7 +29,7 @@ module _ {I Q : Type 0} (charge : ℕ) (gives : Q → Running → Result (List �
     pub parts_are : AreParts remaining files parts
     pub named : AreNamed remaining parts users
     pub users_are : are_users users ≡ true
-    pub few : passes_needed parts ≤ 64
+    pub few : passes_needed parts ≤ most_passes
     pub results_are : AreResults (record { users = users; charge = charge }) gives remaining parts results
 
 module _ {I Q : Type 0} (remaining : I → Option (List ℕ)) (failed : I → ℕ) where
@@ -40,8 +41,8 @@ module _ {I Q : Type 0} (remaining : I → Option (List ℕ)) (failed : I → �
     pub named : AreNamed remaining parts users
     pub begin : CannotBegin why
     pub bad_users : why ≡ BadUsers → are_users users ≡ false
-    pub quota : why ≡ Quota → 64 < passes_needed parts
-    pub full : 64 < passes_needed parts → why ≡ Quota
+    pub quota : why ≡ Quota → most_passes < passes_needed parts
+    pub full : most_passes < passes_needed parts → why ≡ Quota
 
   -- no line was run: memory was refused, a file is, or no session can begin
   abbrev pub HasNotRun : List (Opened I Q) → Refused → Type 0

@@ -10,6 +10,7 @@ ghost use Rattle.teams.specs.Sessions.{CannotBegin};
 ghost use Rattle.running.specs.ServedSessions.{passes_needed};
 ghost use Rattle.running.specs.Runs.{AreResults};
 ghost use Rattle.app.specs.Actions.{IsReplay, WhereStrikes, nothing_told};
+ghost use Rattle.model.specs.Limits.{most_passes};
 
 use builder::Runner;
 use command_line::{Action, Options};
@@ -119,8 +120,8 @@ pub(crate) fn run_parts<
     ensures users { IfOk result (λ _. are_users users.items ≡ true) }
     ensures why { IfErr result CannotBegin }
     ensures bad_users { IfErr result (λ why. why ≡ BadUsers → are_users users.items ≡ false) }
-    ensures quota { IfErr result (λ why. why ≡ Quota → 64 < passes_needed parts.items) }
-    ensures full { 64 < passes_needed parts.items → result ≡ Err Quota }
+    ensures quota { IfErr result (λ why. why ≡ Quota → most_passes < passes_needed parts.items) }
+    ensures full { most_passes < passes_needed parts.items → result ≡ Err Quota }
 {
     run(host, alloc, hashing, users, limits_of(options), parts)
 }

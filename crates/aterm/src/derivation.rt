@@ -10,7 +10,7 @@ ghost use Rattle.model.specs.declared.refusal.Refusal.TheVariants.{BadDerivation
 ghost use Rattle.aterm.specs.Parts.{derivation_of};
 
 use crate::text::{Text, is_text};
-use model::Refusal;
+use model::{LONGEST_KEY, Refusal};
 use std::marker::Model;
 use storepath::{StorePath, is_name};
 
@@ -188,7 +188,7 @@ fn has_sound_builder(parts: &Parts) -> bool
 fn is_key(key: &[u8]) -> bool
     ensures { result ≡ is_key key.now }
 {
-    if key.is_empty() || key.len() > 64 || key[0].is_ascii_digit() {
+    if key.is_empty() || key.len() > LONGEST_KEY || key[0].is_ascii_digit() {
         return false;
     }
     has_key_characters(key) && key != b"INPUTS".as_slice()

@@ -1,6 +1,7 @@
 //! What threads share.
 
 ghost use Rattle.std.specs.Prelude.{◌≡◌, ◌<◌, ◌≤◌, ◌⊎◌, [], true, false, drop, length, map, sum, All, IfOk, IfErr, Err};
+ghost use Rattle.model.specs.Limits.{most_passes};
 ghost use mathlib.Core.List.{IsPrefix};
 ghost use Rattle.left_right.specs.Sides.{view};
 ghost use Rattle.model.specs.declared.refusal.Refusal.TheVariants.{Memory, Stopped};
@@ -126,7 +127,7 @@ fn writer_of<J: FrontId, R: Wait>(
 ) -> Result<SnapshotWriter, Refusal>
     requires core { IsNew J.setup cores.now }
     requires none { (none.now.seen.log ≡ []) × (none.now.seen.book ≡ J.book) }
-    requires readers { (0 < readers) × (readers ≤ 64) }
+    requires readers { (0 < readers) × (readers ≤ most_passes) }
     ensures core { IfOk result (λ writer. writer.desk.shown.value.core ≡ cores.now) }
     ensures rows { IfOk result (λ writer. writer.desk.shown.value.seen ≡ []) }
     ensures name { IfOk result (λ writer.
@@ -167,7 +168,7 @@ impl<J: FrontId> Book<J> {
         requires core { IsNew J.setup core }
         requires blank { AreTokensOf J.name J.parts J.stops J.table J.book blank }
         requires parts { J.parts ≡ n }
-        requires some { (0 < n) × (n ≤ 64) }
+        requires some { (0 < n) × (n ≤ most_passes) }
         ensures book { IfOk result (λ made. made.0 ≡ record { core = core; rows = []; stopped = false }) }
         ensures passes { IfOk result (λ made. made.1.items ≡ map new_pass (below n)) }
         ensures memory { IfErr result (λ why. why ≡ Memory) }
@@ -225,7 +226,7 @@ impl<J: FrontId> Front<J> {
         requires core { IsNew J.setup core }
         requires blank { AreTokensOf J.name J.parts J.stops J.table J.book blank }
         requires parts { J.parts ≡ n }
-        requires some { (0 < n) × (n ≤ 64) }
+        requires some { (0 < n) × (n ≤ most_passes) }
         ensures passes { IfOk result (λ made. made.1.items ≡ map new_pass (below n)) }
         ensures memory { IfErr result (λ why. why ≡ Memory) }
     {

@@ -5,10 +5,11 @@ ghost use Rattle.builder.specs.Pieces.{IsRead};
 
 use crate::fault::Fault;
 use crate::outside::Outside;
+use model::MOST_ARCHIVE_BYTES;
 use std::alloc::Global;
 
 /// The most bytes that are kept of what a process writes: one more than an archive may have.
-const MOST_OUTPUT: usize = 67_108_865;
+const MOST_OUTPUT: usize = MOST_ARCHIVE_BYTES + 1;
 
 /// Reads to the end of what a process writes, and gives the first 67,108,865 bytes of it. What comes after
 /// them is dropped.

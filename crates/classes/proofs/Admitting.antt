@@ -14,7 +14,8 @@ use Rattle.model.specs.declared.refusal.Refusal.TheVariants.{MissingInput, RankT
 use Rattle.model.specs.Paths.{OutputClass, store_path}
 use Rattle.model.specs.Derivations.{Derivation, derivation_text, name_of}
 use Rattle.model.specs.DerivationTexts.{derivation_of_text}
-use Rattle.model.specs.Classes.{Admission, Known, known_at, mask_of, rank_at, greatest, sorted, derivation_path, class_of, greatest_rank, admission_of, admit}
+use Rattle.model.specs.Classes.{Admission, Known, known_at, mask_of, rank_at, greatest, sorted, derivation_path, class_of, admission_of, admit}
+use Rattle.model.specs.Limits.{greatest_rank}
 use Rattle.model.proofs.BoolLemmas.{either}
 use Rattle.classes.specs.Inputs.{has_inputs}
 use Rattle.classes.specs.Admitting.{path_in, mask_in, rank_in, taken_from, IsKnownAs, AreKnownAs, AreInputs, admission_by, has_sources, IsReadFrom, Input}

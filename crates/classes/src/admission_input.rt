@@ -9,6 +9,7 @@ ghost use Rattle.model.specs.Paths.{OutputClass, store_path};
 ghost use Rattle.model.specs.Derivations.{name_of};
 ghost use Rattle.model.specs.Classes.{greatest, derivation_path, admit};
 ghost use Rattle.model.specs.declared.refusal.Refusal.TheVariants.{MissingInput, Memory};
+ghost use Rattle.model.specs.Limits.{greatest_rank};
 
 use crate::admitted::Admitted;
 use crate::admitted_text::AdmittedText;
@@ -16,13 +17,10 @@ use crate::class::Class;
 use crate::known::Known;
 use aterm::{Derivation, Text, print_with_inputs};
 use hashmod::sha256;
-use model::Refusal;
+use model::{GREATEST_RANK, Refusal};
 use std::alloc::{AllocError, Global};
 use std::marker::Model;
 use storepath::{Kind, Name, StorePath, make_path};
-
-/// The greatest rank.
-const GREATEST_RANK: u8 = 64;
 
 // The digest of an input's masked text, in base 16.
 fn mask(alloc: Global, input: &Admitted) -> Result<Text, AllocError>
@@ -46,7 +44,7 @@ fn masks_of(alloc: Global, inputs: &[Admitted]) -> Result<Vec<Text>, AllocError>
 // The greatest rank of the inputs, 0 with none.
 fn greatest_of(inputs: &[Admitted]) -> u8
     ensures greatest { result ≡ greatest (map rank_in inputs.now) }
-    ensures most { result ≤ 64 }
+    ensures most { result ≤ greatest_rank }
 {
     let mut greatest = 0;
     for input in inputs {

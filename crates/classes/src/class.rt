@@ -1,6 +1,7 @@
 //! Output classes.
 
 ghost use Rattle.std.specs.Prelude.{◌≡◌, ◌≤◌};
+ghost use Rattle.model.specs.Limits.{greatest_rank};
 
 use std::alloc::AllocError;
 use std::marker::Model;
@@ -48,7 +49,7 @@ impl Class {
     /// One more than the greatest rank of the inputs, 1 with none: at most 64.
     pub fn rank(&self) -> u8
         ensures rank { result ≡ self.now.rank }
-        ensures most { result ≤ 64 }
+        ensures most { result ≤ greatest_rank }
     {
         self.rank
     }

@@ -15,7 +15,8 @@ use Rattle.clap.specs.declared.parser.matches.ArgMatches.{ArgMatches}
 use Rattle.clap.specs.Faults.{fault_of, is_simple_and_free}
 use Rattle.clap.specs.Kinds.{HasKind, Kinds}
 use Rattle.clap.specs.declared.error.Error.{Error}
-use Rattle.command_line.specs.Intstore.{intstore, most_files, with_rules, with_subcommands}
+use Rattle.command_line.specs.Intstore.{intstore, with_rules, with_subcommands}
+use Rattle.model.specs.Limits.{most_files}
 use Rattle.command_line.specs.Named.{AnswersWords, AreFilesOf, AskFor, rows_in}
 use Rattle.command_line.specs.declared.settings.Options.{Options}
 use Rattle.command_line.specs.Steps.{AreArguments, AreCommands, IsArgument, IsCommand, IsFound}

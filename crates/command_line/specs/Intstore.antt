@@ -5,14 +5,7 @@ use Rattle.clap.specs.Walk.{Rule}
 use Rattle.clap.specs.Simple.{App, Shape, new_app, new_rule, on_top, with_rule, with_subcommand}
 use Rattle.clap.specs.declared.builder.action.ArgAction.TheVariants.{Set, SetTrue}
 use Rattle.clap.specs.declared.builder.value_parser.ValueParser.TheVariants as parser
-
--- the most workers that a run may have
-abbrev pub most_workers : ℕ
-most_workers = 7
-
--- the most files that a run may have
-abbrev pub most_files : ℕ
-most_files = 8
+use Rattle.model.specs.Limits.{most_files, most_workers, most_charge}
 
 -- `--charge N`: a number from 1 to 1,073,741,824, and the latter where the option is left out
 abbrev pub charge_rule : Rule
@@ -20,7 +13,7 @@ charge_rule = record (new_rule (codes "charge")) {
   long = Some (codes "charge");
   action = Some Set;
   value_names = 1;
-  parser = Some (parser.Unsigned 1 1073741824);
+  parser = Some (parser.Unsigned 1 most_charge);
   defaults = codes "1073741824" ∷ [];
 }
 

@@ -12,7 +12,8 @@ use Rattle.clap.specs.Faults.{fault_of}
 use Rattle.clap.specs.declared.error.Error.{Error}
 use Rattle.clap.specs.declared.error.kind.ErrorKind.TheVariants.{MissingRequiredArgument}
 use Rattle.clap.specs.declared.parser.matches.ArgMatches.{ArgMatches}
-use Rattle.command_line.specs.Intstore.{intstore, most_files, most_workers}
+use Rattle.command_line.specs.Intstore.{intstore}
+use Rattle.model.specs.Limits.{most_files, most_workers}
 use Rattle.command_line.specs.declared.settings.Action.{Action}
 use Rattle.command_line.specs.declared.settings.Action.TheVariants as action
 use Rattle.command_line.specs.declared.settings.Options.{Options}

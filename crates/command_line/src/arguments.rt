@@ -9,10 +9,11 @@ ghost use Rattle.command_line.specs.Named.{AnswersWords};
 ghost use Rattle.command_line.specs.Steps.{AreCommands, IsArgument, IsCommand};
 
 use crate::matched::options_in;
-use crate::settings::{MOST_FILES, Options};
+use crate::settings::Options;
 use clap::builder::ValueParser;
 use clap::error::ErrorKind;
 use clap::{Arg, ArgAction, Command, Error, value_parser};
+use model::MOST_FILES;
 use std::alloc::{AllocError, Global};
 
 /// The option `--charge`.

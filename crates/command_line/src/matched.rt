@@ -8,9 +8,9 @@ ghost use Rattle.command_line.specs.Named.{AreFilesOf, AreOptionsOf, AskFor, IsA
 ghost use Rattle.command_line.specs.Named.{IsChargeOf, IsRunOf, IsWorkersOf, rows_in};
 ghost use Rattle.command_line.specs.Steps.{IsFound};
 
-use crate::settings::{Action, MOST_FILES, MOST_WORKERS, Options, Run};
+use crate::settings::{Action, Options, Run};
 use clap::ArgMatches;
-use model::LARGEST_CHARGE;
+use model::{LARGEST_CHARGE, MOST_FILES, MOST_WORKERS};
 use std::alloc::{AllocError, Global};
 
 /// The limit on the charge: as given, or the largest. The parser has refused every other number.

@@ -1,14 +1,7 @@
 //! What the program is to do.
 
 ghost use Rattle.std.specs.Prelude.{◌≤◌, length};
-ghost use Rattle.model.specs.Limits.{most_charge};
-ghost use Rattle.command_line.specs.Intstore.{most_files, most_workers};
-
-/// The most workers that a run may have.
-pub(crate) const MOST_WORKERS: u64 = 7;
-
-/// The most files that a run may have.
-pub(crate) const MOST_FILES: usize = 8;
+ghost use Rattle.model.specs.Limits.{most_charge, most_files, most_workers};
 
 /// What is done, and with which files.
 #[derive(Drop)]

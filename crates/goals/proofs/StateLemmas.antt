@@ -16,8 +16,9 @@ use Rattle.handlers.specs.Viewing.{bare, desk_at}
 use Rattle.handlers.specs.Handling.{IsHandledAtPlace, IsHandledByAll}
 use Rattle.handlers.proofs.RunLemmas.{at_place_of}
 use Rattle.handlers.proofs.StateLemmas.{has_desk}
+use Rattle.model.specs.Limits.{most_users}
 
-pub few_of : (s : State) → length s.users ≤ 64
+pub few_of : (s : State) → length s.users ≤ most_users
 few_of s = few_users s.users s.run.listed
 
 module _ (s : State) (place : ℕ) (below : HasPlace s place) where

@@ -5,7 +5,8 @@ use Rattle.model.specs.declared.refusal.Refusal.{Refusal}
 use Rattle.model.specs.declared.refusal.Refusal.TheVariants.{Memory, MissingInput, RankTooHigh, TooLarge, BadDerivation, Quota}
 use Rattle.model.specs.Derivations.{Derivation}
 use Rattle.model.specs.DerivationTexts.{derivation_of_text}
-use Rattle.model.specs.Classes.{Admission, Known, known_at, derivation_path, class_of, has_all, greatest_rank, admission_of, admit}
+use Rattle.model.specs.Classes.{Admission, Known, known_at, derivation_path, class_of, has_all, admission_of, admit}
+use Rattle.model.specs.Limits.{greatest_rank}
 use Rattle.model.specs.Limits.{most_derivations}
 use Rattle.model.specs.Worlds.{Source, Setup, Desk}
 use Rattle.model.specs.Limits.{most_derivation_bytes}

@@ -18,9 +18,10 @@ use Rattle.handlers.specs.Runs.{IsRun}
 use Rattle.handlers.proofs.RunLemmas.{by_observation_of, at_own_desk, still_run, with_desk}
 use Rattle.std.proofs.lemmas.List.Elements.{All-get_or}
 use Rattle.handlers.proofs.ClosureLemmas.{all_complete}
+use Rattle.model.specs.Limits.{most_users}
 
-pub few_desks : (s : State) → length s.desks.items ≤ 64
-few_desks s = subst (λ n. n ≤ 64) (sym s.run.paired) (few_users s.users s.run.listed)
+pub few_desks : (s : State) → length s.desks.items ≤ most_users
+few_desks s = subst (λ n. n ≤ most_users) (sym s.run.paired) (few_users s.users s.run.listed)
 
 pub complete_desks : (s : State) → IsComplete s.table.sources s.desks.items
 complete_desks s = all_complete s.table.sources s.limits.charge s.desks.items s.run.sound

@@ -1,7 +1,7 @@
 //! Taking a closure.
 
 ghost use Rattle.std.specs.Prelude.{◌≡◌, ◌≤◌, ◌⊎◌, ◌+◌, map, Some, None, All, length, nat_le, IfOk, IfErr, MatchResult};
-ghost use Rattle.model.specs.Limits.{most_sources, most_records};
+ghost use Rattle.model.specs.Limits.{most_sources, most_records, most_archive_bytes};
 ghost use Rattle.model.specs.Events.{Take as TakeRequest};
 ghost use Rattle.model.specs.Closures.{path_for};
 ghost use Rattle.model.specs.declared.refusal.Refusal.TheVariants.{Memory, NotRealised};
@@ -65,7 +65,7 @@ fn missing_on(
 ) -> Result<Vec<(DeskEntry, u64)>, Refusal>
     ensures found { IfOk result (λ found.
         found.items ≡ map counted (missing_on desk.now entries.now)) }
-    ensures small { IfOk result (λ found. All (λ e. e.1 ≤ 67108864) found.items) }
+    ensures small { IfOk result (λ found. All (λ e. e.1 ≤ most_archive_bytes) found.items) }
     ensures memory { IfErr result (λ e. e ≡ Memory) }
 {
     let mut found = Vec::new(alloc);

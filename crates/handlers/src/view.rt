@@ -4,6 +4,7 @@ ghost use Rattle.std.specs.Prelude.{◌≡◌, ◌≤◌, length, map, IfOk};
 ghost use Rattle.trust.specs.Trusting.{holds, trusts};
 ghost use Rattle.handlers.specs.States.{HasPlace};
 ghost use Rattle.handlers.specs.Viewing.{places_of, desk_at, desks_of, IsView};
+ghost use Rattle.model.specs.Limits.{most_users};
 
 use crate::state::State;
 use realise::Desk;
@@ -12,7 +13,7 @@ use trust::{UserSet, has_place};
 
 /// The desks of the users of a set, in order.
 fn desks_at<'a>(alloc: Global, set: UserSet, desks: &'a [Desk]) -> Result<Vec<&'a Desk>, AllocError>
-    requires { length desks.now ≤ 64 }
+    requires { length desks.now ≤ most_users }
     ensures { IfOk result (λ found. desks_of found.items
         ≡ map (desk_at desks.now) (places_of (holds set) (length desks.now))) }
 {

@@ -7,6 +7,7 @@ ghost use Rattle.model.specs.ForgetRequests.{is_entry_at, is_built_from, builds_
 ghost use Rattle.trust.specs.Trusting.{holds};
 ghost use Rattle.trust.specs.Naming.{names};
 ghost use Rattle.jobs.specs.Owned.{with_goals, ChangesOwn};
+ghost use Rattle.model.specs.Limits.{most_users};
 
 use crate::goal::Goal;
 use crate::goals::Goals;
@@ -56,7 +57,7 @@ pub(crate) fn builds_with(
     path: &StorePath,
     goal: &Goal,
 ) -> bool
-    requires { length users.now ≤ 64 }
+    requires { length users.now ≤ most_users }
     ensures { result
         ≡ builds_with (names users.now (holds reached)) class.now path.now goal.now }
 {
@@ -76,7 +77,7 @@ impl Goals {
         class: &StorePath,
         path: &StorePath,
     ) -> bool
-        requires { length users.now ≤ 64 }
+        requires { length users.now ≤ most_users }
         ensures { result ≡ list_any
             (builds_with (names users.now (holds reached)) class.now path.now) self.now.goals }
     {

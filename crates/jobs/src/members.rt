@@ -4,6 +4,7 @@ ghost use Rattle.std.specs.Prelude.{◌<◌, length};
 ghost use Rattle.jobs.specs.Owned.{goals_at};
 ghost use Rattle.trust.specs.Trusting.{trusts};
 ghost use Rattle.jobs.specs.Leading.{AreReached};
+ghost use Rattle.model.specs.Limits.{most_users};
 
 use crate::users::Jobs;
 use events::Job;
@@ -18,8 +19,8 @@ pub fn members_reached<'a>(
     place: usize,
     job: &Job,
 ) -> &'a [u16]
-    requires leader { leader < 64 }
-    requires place { place < 64 }
+    requires leader { leader < most_users }
+    requires place { place < most_users }
     requires of_run { place < length jobs.now.goals }
     ensures { AreReached (trusts trust.now) leader job.now (goals_at place jobs.now) place result.now }
 {

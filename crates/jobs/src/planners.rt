@@ -3,6 +3,7 @@
 ghost use Rattle.std.specs.Prelude.{◌≡◌, ◌<◌, [], MatchResult};
 ghost use Rattle.model.specs.declared.refusal.Refusal.TheVariants.{Memory};
 ghost use Rattle.jobs.specs.Planners.{users_at, AddsPlace};
+ghost use Rattle.model.specs.Limits.{most_users};
 
 use indexmap::IndexMap;
 use model::Refusal;
@@ -45,7 +46,7 @@ impl Planners {
 
     /// Puts a place in at a path. The one error is memory, and changes nothing.
     pub(crate) fn insert(&mut self, path: StorePath, place: usize) -> Result<(), Refusal>
-        requires { place < 64 }
+        requires { place < most_users }
         ensures { MatchResult result
             (λ _. AddsPlace path place self.old.sets.entries self.new.sets.entries)
             (λ e. (e ≡ Memory) × (self.new.sets.entries ≡ self.old.sets.entries)) }

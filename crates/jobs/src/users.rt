@@ -2,7 +2,7 @@
 
 ghost use Rattle.std.specs.Prelude.{◌≡◌, ◌≤◌, ◌<◌, ◌+◌, ◌⊎◌, ◌↔◌, true, false, [], ◌∷◌, ◌++◌, length, map, None, Some, Err, IfErr, IfOk, IfSome, OnOk, OnErr, is_some, option_copied};
 ghost use Rattle.model.specs.declared.refusal.Refusal.TheVariants.{Memory, Quota};
-ghost use Rattle.model.specs.Limits.{most_goals};
+ghost use Rattle.model.specs.Limits.{most_goals, most_users};
 ghost use Rattle.model.specs.Worlds.{Building};
 ghost use Rattle.std.specs.List.{list_any};
 ghost use Rattle.model.specs.ForgetRequests.{builds_with, let_go};
@@ -46,6 +46,7 @@ impl Drop for Jobs {
 }
 
 impl Model for Jobs {
+    ghost use Rattle.model.specs.Limits.{most_users};
     ghost use Rattle.std.specs.Prelude.{length, map, ◌≤◌};
     ghost use Rattle.jobs.specs.Owned.{Owned, OwnedByAll, all_of};
     ghost use Rattle.jobs.specs.Codes.{owned_by_all_code};
@@ -57,7 +58,7 @@ impl Model for Jobs {
 
     ghost view = { λ j. all_of j.all.items };
 
-    ghost invariant = { λ j. (length j.all.items ≤ 64)
+    ghost invariant = { λ j. (length j.all.items ≤ most_users)
         × HasPlannersOfAll j.planners.sets.entries (all_of j.all.items) };
 }
 
@@ -68,7 +69,7 @@ impl Jobs {
     ///
     /// - `Memory` only where memory was refused.
     pub fn new(alloc: Global, hashing: RandomState, users: &[User]) -> Result<Jobs, Refusal>
-        requires { length users.now ≤ 64 }
+        requires { length users.now ≤ most_users }
         ensures value { IfOk result (λ jobs.
             jobs ≡ record { users = users.now; goals = map (λ u. []) users.now }) }
         ensures memory { IfErr result (λ e. e ≡ Memory) }
@@ -233,7 +234,7 @@ impl Jobs {
         path: &StorePath,
     ) -> bool
         requires of_run { place < length self.now.goals }
-        requires few { length users.now ≤ 64 }
+        requires few { length users.now ≤ most_users }
         ensures { result ≡ list_any
             (builds_with (names users.now (holds reached)) class.now path.now)
             (goals_at place self.now) }

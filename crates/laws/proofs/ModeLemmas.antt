@@ -7,7 +7,8 @@ use Rattle.model.specs.declared.refusal.Refusal.TheVariants.{BadUsers, BadLine, 
 use Rattle.model.specs.Worlds.{Job, are_users}
 use Rattle.model.specs.Replies.{Reply}
 use Rattle.model.specs.Lines.{LineResult, split, cut_at, filled}
-use Rattle.model.specs.ParsedLines.{ParsedLine, Command, parsed_names, parsed_users, parsed_first, command_in, parsed_command, parsed_later, parsed_text, parsed_line, is_empty_word, is_quiet, is_printable, longest_line}
+use Rattle.model.specs.ParsedLines.{ParsedLine, Command, parsed_names, parsed_users, parsed_first, command_in, parsed_command, parsed_later, parsed_text, parsed_line, is_empty_word, is_quiet, is_printable}
+use Rattle.model.specs.Limits.{longest_line}
 use Rattle.model.specs.ParsedLines as parsed
 use Rattle.model.specs.Talk.{LineRow, Silent, Names, Refuses, Asks, Waits, Seen, seen_after, parsed_of, Gets, GetsNext, Talks, awaited_in}
 

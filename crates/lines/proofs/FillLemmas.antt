@@ -3,7 +3,8 @@ use Rattle.std.proofs.Common.{◌≡◌, ℕ, Bool, ◌≤◌, true, false, cond
 use Rattle.std.proofs.lemmas.List.{append-nil}
 use Rattle.std.specs.List.{list_all}
 use Rattle.model.specs.declared.mode.Mode.{Mode}
-use Rattle.model.specs.ParsedLines.{longest_line, is_quiet, is_printable, parsed_line, parsed_text}
+use Rattle.model.specs.ParsedLines.{is_quiet, is_printable, parsed_line, parsed_text}
+use Rattle.model.specs.Limits.{longest_line}
 use Rattle.model.specs.Lines.{LineResult, cut_at, split, joined_texts, expanded_piece, pieces_text, text_from_pieces, filled}
 use Rattle.lines.proofs.CutLemmas.{split-one, split-more}
 

@@ -12,6 +12,7 @@ use Rattle.model.specs.declared.verb.WordKind.TheVariants as kind
 use Rattle.model.specs.Lines.{split}
 use Rattle.model.specs.ParsedLines.{Refuses, parsed_names, parsed_users, is_empty_word, is_rest_of_line, so_many, words_by}
 use Rattle.lines.proofs.NumberLemmas.{leb-false}
+use Rattle.model.specs.Limits.{most_users}
 
 and-false : (a : Bool) → (a && false) ≡ false
 and-false true = refl
@@ -29,22 +30,22 @@ list_all-false p (x ∷ xs) (suc i) h e = rw (list_all-false p xs i (omega arith
 pub not_users : (words : List (List ℕ)) (i : ℕ) → i < length words → 32 < length (get_or words i []) → are_users words ≡ false
 unfolding are_users
 not_users words i h long =
-    rw (list_all-false is_user_name words i h (long-user (get_or words i []) long), and-false (leb (length words) 64)) (and-false (ltb 0 (length words)))
+    rw (list_all-false is_user_name words i h (long-user (get_or words i []) long), and-false (leb (length words) most_users)) (and-false (ltb 0 (length words)))
 
-pub many_users : (words : List (List ℕ)) → 64 < length words → are_users words ≡ false
+pub many_users : (words : List (List ℕ)) → most_users < length words → are_users words ≡ false
 unfolding are_users
-many_users words h = rw (leb-false (length words) 64 h) (and-false (ltb 0 (length words)))
+many_users words h = rw (leb-false (length words) most_users h) (and-false (ltb 0 (length words)))
 
-too_many : (names : List (List ℕ)) → 64 < length names → parsed_names names ≡ Refuses BadUsers
+too_many : (names : List (List ℕ)) → most_users < length names → parsed_names names ≡ Refuses BadUsers
 too_many names h = rw (many_users names h) refl
 
-parsed_names-take : (n : ℕ) (names : List (List ℕ)) → 64 < n → parsed_names (take n names) ≡ parsed_names names
+parsed_names-take : (n : ℕ) (names : List (List ℕ)) → most_users < n → parsed_names (take n names) ≡ parsed_names names
 parsed_names-take n names h = elim (cases_lt n (length names)) [
   | inl lt ↦ too_many (take n names) (omega (arith, length-take n names)) ∙ sym (too_many names (omega arith))
   | inr le ↦ ap parsed_names (take_all n names (omega arith))
 ]
 
-parsed_users-take_more : (n : ℕ) (words : List (List ℕ)) → 64 < n → parsed_users (take (suc n) words) ≡ parsed_users words
+parsed_users-take_more : (n : ℕ) (words : List (List ℕ)) → most_users < n → parsed_users (take (suc n) words) ≡ parsed_users words
 parsed_users-take_more n [] h = refl
 parsed_users-take_more n (word ∷ names) h = rw (parsed_names-take n names h) refl
 

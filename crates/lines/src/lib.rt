@@ -19,5 +19,5 @@ mod words;
 pub use cutting::cut;
 pub use line::Reading;
 pub use line_result::{LineResult, told_in};
-pub use parsing::{LONGEST_LINE, read_line};
+pub use parsing::read_line;
 pub use texts::answer_text;

@@ -14,14 +14,11 @@ use crate::line::Reading;
 use crate::line_result::LineResult;
 use crate::words::read_users;
 use events::Event;
-use model::{Mode, Refusal};
+use model::{LONGEST_LINE, MOST_USERS, Mode, Refusal};
 use std::alloc::Global;
 
-/// The most bytes of a line, without its newline and before its expansions.
-pub const LONGEST_LINE: usize = 268_435_456;
-
 /// So many words of a line tell whether it is a list of users: `users`, 64 names and one more.
-const MOST_WORDS: usize = 66;
+const MOST_WORDS: usize = MOST_USERS + 2;
 
 fn is_quiet(line: &[u8]) -> bool
     ensures { result ≡ is_quiet line.now }

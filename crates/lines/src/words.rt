@@ -13,13 +13,10 @@ use crate::numbers::numeral_up_to;
 use aterm::Text;
 use events::Output;
 use hex::FromHexError;
-use model::{MOST_GOALS, Refusal};
+use model::{LONGEST_USER_NAME, MOST_GOALS, Refusal};
 use nar::{Tree, decode_digits, read_tree_text};
 use std::alloc::{AllocError, Global};
 use trust::{User, are_users};
-
-/// The greatest length of a user's name, in bytes.
-const LONGEST_USER: usize = 32;
 
 /// The greatest exit status of a builder.
 const GREATEST_STATUS: usize = 255;
@@ -29,7 +26,7 @@ pub(crate) fn read_user(alloc: Global, word: &[u8]) -> Result<User, Refusal>
     ensures read { IfOk result (λ user. (user ≡ word.now) × (is_user_name word.now ≡ true)) }
     ensures refused { IfErr result (λ why. (why ≡ Memory) ⊎ IsIll kind.User word.now why) }
 {
-    if word.len() > LONGEST_USER {
+    if word.len() > LONGEST_USER_NAME {
         return Err(Refusal::BadLine);
     }
     let user = User::new(alloc, word)?;
@@ -126,7 +123,7 @@ pub(crate) fn read_users(alloc: Global, words: &[Word<'_>]) -> Result<Option<Vec
 {
     let mut users = Vec::new(alloc);
     for word in words {
-        if word.bytes().len() > LONGEST_USER {
+        if word.bytes().len() > LONGEST_USER_NAME {
             return Ok(None);
         }
         users.push(User::new(alloc, word.bytes())?)?;

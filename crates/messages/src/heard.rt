@@ -1,9 +1,9 @@
 //! What the history of a run says of goals: how far each of them is.
 
-use crate::inputs::{Inputs, MOST_USERS, Notification, is_at};
+use crate::inputs::{Inputs, Notification, is_at};
 use events::{Job, Reply, Request, Status};
 use history::Row;
-use model::Refusal;
+use model::{MOST_USERS, Refusal};
 use std::alloc::Global;
 use std::hash::RandomState;
 use std::mem;

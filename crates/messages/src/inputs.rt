@@ -2,16 +2,13 @@
 
 use aterm::parse;
 use indexmap::IndexMap;
-use model::Refusal;
+use model::{MOST_USERS, Refusal};
 use std::alloc::{AllocError, Global};
 use std::fmt;
 use std::fmt::{Display, Formatter};
 use std::hash::RandomState;
 use storepath::StorePath;
 use trust::{UserSet, has_place};
-
-/// The most users of a store.
-pub(crate) const MOST_USERS: usize = 64;
 
 /// What a user has of a class.
 #[derive(Clone, Copy)]

@@ -10,6 +10,7 @@ use Rattle.model.specs.declared.verb.Verb.{Verb}
 use Rattle.model.specs.declared.verb.WordKind.{WordKind}
 use Rattle.model.specs.declared.verb.WordKind.TheVariants as kind
 use Rattle.model.specs.Worlds.{are_users}
+use Rattle.model.specs.Limits.{longest_line}
 use Rattle.model.specs.Lines.{LineResult, split, cut_at, filled}
 use Rattle.model.specs.Verbs.{verb_in, kinds_of}
 
@@ -85,10 +86,6 @@ parsed_later mode text (Some r) = if bytes_eq r.0 (codes "users") then Refuses B
 abbrev pub parsed_text : Mode → Bool → Option (List ℕ) → ParsedLine
 parsed_text mode begun None = Refuses BadLine
 parsed_text mode begun (Some text) = if begun then parsed_later mode text (cut_at 32 text) else parsed_first (split 32 text)
-
--- the most bytes of a line, without its newline and before its expansions
-abbrev pub longest_line : ℕ
-longest_line = 268435456
 
 -- an empty line and a comment get no reply
 abbrev pub is_quiet : List ℕ → Bool

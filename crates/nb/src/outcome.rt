@@ -6,6 +6,7 @@ ghost use Rattle.model.specs.Archives.{File};
 ghost use Rattle.model.specs.declared.refusal.Refusal.TheVariants.{Memory};
 ghost use Rattle.nar.specs.Refusing.{IsNoTree};
 ghost use Rattle.nb.specs.Outcomes.{file, EndsWith, Writes, WritesFile, WritesPaths, IsOutcome};
+ghost use Rattle.model.specs.Limits.{most_archive_bytes};
 
 use crate::inputs::paths_in;
 use crate::task::{Task, task_of};
@@ -38,7 +39,7 @@ fn nothing(alloc: Global, status: u8) -> Outcome
 /// The archive of a plain file with these bytes.
 fn archive_of(bytes: Vec<u8>) -> Result<Vec<u8>, Refusal>
     ensures archive { IfOk result (λ archive. archive.items ≡ file bytes.items) }
-    ensures limit { IfOk result (λ _. length (file bytes.items) ≤ 67108864) }
+    ensures limit { IfOk result (λ _. length (file bytes.items) ≤ most_archive_bytes) }
     ensures refused { IfErr result (IsNoTree (File false bytes.items)) }
 {
     let alloc = *bytes.allocator();

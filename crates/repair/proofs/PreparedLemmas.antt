@@ -7,7 +7,7 @@ use Rattle.std.proofs.lemmas.List.Elements.{All-nil, All-cons, All-head, All-tai
 use Rattle.indexmap.specs.IndexMap.{insert_entry}
 use Rattle.model.specs.declared.refusal.Refusal.{Refusal}
 use Rattle.model.specs.declared.refusal.Refusal.TheVariants.{Memory}
-use Rattle.model.specs.Classes.{greatest_rank}
+use Rattle.model.specs.Limits.{greatest_rank}
 use Rattle.model.specs.Worlds.{Record}
 use Rattle.model.specs.Choices.{Plan}
 use Rattle.model.specs.Repairs.{Replacement, serve, chosen_in}

@@ -7,7 +7,8 @@ use Rattle.std.proofs.lemmas.Bool.Decides.{nat_tests}
 use Rattle.model.specs.declared.refusal.Refusal.{Refusal}
 use Rattle.model.specs.declared.refusal.Refusal.TheVariants.{NotRealised, Memory}
 use Rattle.model.specs.Results.{then_do, each}
-use Rattle.model.specs.Classes.{Class, greatest_rank}
+use Rattle.model.specs.Classes.{Class}
+use Rattle.model.specs.Limits.{greatest_rank}
 use Rattle.model.specs.Worlds.{Record}
 use Rattle.model.specs.Choices.{rank_before, Plan}
 use Rattle.model.specs.Repairs.{replacements_of, relabelled, served, serve, chosen_in, serve_all}

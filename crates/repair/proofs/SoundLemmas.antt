@@ -5,7 +5,8 @@ use Rattle.std.proofs.lemmas.List.Elements.{All-contains}
 use Rattle.model.specs.declared.refusal.Refusal.{Refusal}
 use Rattle.model.specs.Archives.{IsTree}
 use Rattle.model.specs.Paths.{IsPath}
-use Rattle.model.specs.Classes.{Class, greatest_rank}
+use Rattle.model.specs.Classes.{Class}
+use Rattle.model.specs.Limits.{greatest_rank}
 use Rattle.model.specs.Worlds.{Label, Record}
 use Rattle.model.specs.Repairs.{Replacement, replacements_of, relabelled, served, chosen_in}
 use Rattle.laws.proofs.MemberLemmas.{in_of, contains_of}

@@ -2,7 +2,7 @@
 
 ghost use Rattle.std.specs.Prelude.{◌≡◌, ◌≢◌, ◌≤◌, ◌⊎◌, List, IfOk, MatchResult, is_some, Ok, Err};
 ghost use Rattle.classes.specs.Admitting.{one_more};
-ghost use Rattle.model.specs.Classes.{greatest_rank};
+ghost use Rattle.model.specs.Limits.{greatest_rank};
 ghost use Rattle.model.specs.Settling.{name_in};
 ghost use Rattle.model.specs.References.{paths_of_labels};
 ghost use Rattle.model.specs.Repairs.{Replacement as ReplacementValue, relabelled, repaired};

@@ -2,7 +2,7 @@
 
 ghost use Rattle.std.specs.Prelude.{◌≡◌, ◌<◌, ◌≤◌, ◌-◌, ◌^◌, min, [], true, false, length, map, Err, IfOk, IfErr};
 ghost use Rattle.std.specs.Arc.{arc_value};
-ghost use Rattle.model.specs.Limits.{most_charge};
+ghost use Rattle.model.specs.Limits.{most_charge, most_passes};
 ghost use Rattle.model.specs.Worlds.{are_users};
 ghost use Rattle.model.specs.declared.refusal.Refusal.TheVariants.{Memory, BadUsers, Quota};
 ghost use Rattle.schedule.specs.Standing.{setup_for};
@@ -18,7 +18,7 @@ use crate::asked::are_asked;
 use crate::pass_lists::{Back, SharedLeft, SharedSession, end_sessions, numbers_of, sessions_for};
 use book::{Front, FrontId, FrontTokens, History, Pass, Row};
 use builder::Runner;
-use model::Refusal;
+use model::{MOST_PASSES, Refusal};
 use schedule::{Core, Limits, User};
 use session::Faults;
 use std::alloc::{AllocError, Global};
@@ -190,7 +190,7 @@ fn run_core<
     requires blank { AreTokensOf J.name J.parts J.stops J.table J.book blank }
     requires parts { J.parts ≡ count }
     requires core { IsNew J.setup core }
-    requires some { (0 < count) × (count ≤ 64) }
+    requires some { (0 < count) × (count ≤ most_passes) }
     requires needed { count ≡ passes_needed parts.items }
     ensures results { IfOk result (AreResults J.setup Q.gives I.remaining parts.items) }
     ensures memory { IfErr result (λ why. why ≡ Memory) }
@@ -234,11 +234,11 @@ pub fn run<R: Threads + Wait + Sync, Q: Runner + Send + Drop, I: Read + Faults +
     ensures users { IfOk result (λ _. are_users users.items ≡ true) }
     ensures why { IfErr result CannotBegin }
     ensures bad_users { IfErr result (λ why. why ≡ BadUsers → are_users users.items ≡ false) }
-    ensures quota { IfErr result (λ why. why ≡ Quota → 64 < passes_needed parts.items) }
-    ensures full { 64 < passes_needed parts.items → result ≡ Err Quota }
+    ensures quota { IfErr result (λ why. why ≡ Quota → most_passes < passes_needed parts.items) }
+    ensures full { most_passes < passes_needed parts.items → result ≡ Err Quota }
 {
     let count = count_passes(&parts);
-    if count > 64 {
+    if count > MOST_PASSES as u64 {
         return Err(Refusal::Quota);
     }
     let core = Core::new(alloc, hashing, users, limits)?;

@@ -24,6 +24,7 @@ use Rattle.schedule.specs.Ever.{run_of}
 use Rattle.schedule.specs.Undoing.{said_of, said_in, said_by, trust_with}
 use Rattle.trust.proofs.UsersLemmas.{distinct_users}
 use Rattle.schedule.proofs.EverLemmas.{found_below}
+use Rattle.model.specs.Limits.{most_users}
 
 -- ---- what is said, and of whom
 
@@ -69,7 +70,7 @@ said_is users actor (Distrust named) said is =
 said_is users actor request said is = cc
 
 -- both are places of users of the run
-pub said_below : (users : List (List ℕ)) (e : Event) (said : Said) → are_users users ≡ true → said_by users e ≡ Some said → (said.user < 64) × (said.other < 64)
+pub said_below : (users : List (List ℕ)) (e : Event) (said : Said) → are_users users ≡ true → said_by users e ≡ Some said → (said.user < most_users) × (said.other < most_users)
 said_below users e said listed is =
     let so = said_is users e.actor e.request said is in
     ((found_below users e.actor said.user listed so.user).1, (found_below users so.named said.other listed so.other).1)

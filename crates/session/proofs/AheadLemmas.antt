@@ -3,7 +3,7 @@ use Rattle.std.proofs.Common.{◌≡◌, inl, inr, ℕ, ◌+◌, ◌<◌, true, 
 use Rattle.std.proofs.lemmas.List.{append-nil}
 use Rattle.model.specs.declared.mode.Mode.{Mode}
 use Rattle.model.specs.Lines.{lines_of}
-use Rattle.model.specs.ParsedLines.{longest_line}
+use Rattle.model.specs.Limits.{longest_line}
 use Rattle.model.specs.Talk.{LineRow, Silent, Names, Refuses, Asks, Waits, Seen, fresh, GetsNext, seen_after, after_all, users_in}
 use Rattle.session.specs.Serving.{HasNoNewline, HoldsMore}
 use Rattle.session.specs.Ahead.{Searched, LooksAhead}

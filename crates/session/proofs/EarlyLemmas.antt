@@ -6,7 +6,8 @@ use Rattle.model.specs.declared.mode.Mode.{Mode}
 use Rattle.model.specs.declared.refusal.Refusal.TheVariants.{BadLine, BadUsers, TooLarge}
 use Rattle.model.specs.Worlds.{Job as GoalId, are_users}
 use Rattle.model.specs.Lines.{LineResult, split, filled}
-use Rattle.model.specs.ParsedLines.{ParsedLine, parsed_names, parsed_users, parsed_text, parsed_line, is_empty_word, is_quiet, is_printable, longest_line}
+use Rattle.model.specs.ParsedLines.{ParsedLine, parsed_names, parsed_users, parsed_text, parsed_line, is_empty_word, is_quiet, is_printable}
+use Rattle.model.specs.Limits.{longest_line}
 use Rattle.model.specs.ParsedLines as parsed
 use Rattle.model.specs.Talk.{LineRow, Silent, Names, Refuses, Asks, Waits, Seen, parsed_of, Gets, GetsNext}
 use Rattle.session.specs.Heads.{Idle}

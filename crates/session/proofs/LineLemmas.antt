@@ -7,7 +7,8 @@ use Rattle.model.specs.Talk.{Seen, parsed_of}
 use Rattle.std.proofs.Common.{inl, inr, add-one}
 use Rattle.std.proofs.lemmas.Bool.{cases_lt, lt-ltb}
 use Rattle.model.specs.declared.refusal.Refusal.TheVariants.{TooLarge}
-use Rattle.model.specs.ParsedLines.{longest_line, Refuses}
+use Rattle.model.specs.ParsedLines.{Refuses}
+use Rattle.model.specs.Limits.{longest_line}
 
 -- a newline ends a line
 pub lines-newline : (p more : List ℕ) → HasNoNewline p → lines_of (p ++ 10 ∷ more) ≡ p ∷ lines_of more

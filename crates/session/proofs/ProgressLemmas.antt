@@ -10,7 +10,7 @@ use Rattle.std.specs.Prelude.{Result, Ok, Err, OnOk, IfErr}
 use Rattle.model.specs.declared.mode.Mode.{Mode}
 use Rattle.model.specs.declared.refusal.Refusal.{Refusal}
 use Rattle.model.specs.declared.refusal.Refusal.TheVariants.{BadUsers, InputFault, OutputFault, Memory}
-use Rattle.model.specs.ParsedLines.{longest_line}
+use Rattle.model.specs.Limits.{longest_line}
 use Rattle.model.specs.Lines.{lines_of}
 use Rattle.model.specs.Replies.{Reply, Refused}
 use Rattle.model.specs.Talk.{LineRow, Silent, Names, Refuses, Asks, Waits, Seen, fresh, GetsNext, seen_after, after_all, Talks, text_from, row_text, answer_text, reply_text}

@@ -7,7 +7,7 @@ use Rattle.std.specs.Io.BufRead.{DropsConsumable}
 use Rattle.std.specs.Io.KnownBytes.{Consumes, IsAtEnd, Keeps}
 use Rattle.std.proofs.BufReadLemmas.{Consumes_shown}
 use Rattle.model.specs.Lines.{lines_of, cut_at}
-use Rattle.model.specs.ParsedLines.{longest_line}
+use Rattle.model.specs.Limits.{longest_line}
 use Rattle.session.specs.Serving.{HasNoNewline, HoldsMore, IsHeld}
 use Rattle.session.specs.Taking.{TakesPart, IsFirstLine}
 use Rattle.session.proofs.LineLemmas.{lines-newline, lines-last, HasNoNewline-append, nothing-held}

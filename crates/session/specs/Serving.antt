@@ -9,7 +9,7 @@ use Rattle.model.specs.Events.{Event}
 use Rattle.model.specs.Replies.{Reply}
 use Rattle.model.specs.Worlds.{Job as GoalId}
 use Rattle.model.specs.Lines.{lines_of}
-use Rattle.model.specs.ParsedLines.{longest_line}
+use Rattle.model.specs.Limits.{longest_line}
 pub use Rattle.nar.specs.Writing.{HasFailed, IsFault, MayBeFault, IsUnwritten}
 use Rattle.model.specs.Talk.{LineRow, Silent, Names, Refuses, Asks, Waits, Seen, fresh, seen_after, after_all, Talks, row_text, text_from}
 

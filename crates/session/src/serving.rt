@@ -12,8 +12,8 @@ ghost use Rattle.session.specs.Serving.{Finished, HoldsMore, IsFault, IsNoFault,
 use crate::answer::Answer;
 use crate::session::Session;
 use crate::streams::{flush, read_more, want_of};
-use lines::{LONGEST_LINE, cut};
-use model::{Mode, Refusal};
+use lines::cut;
+use model::{LONGEST_LINE, Mode, Refusal};
 use nar::{Faults, write_whole};
 use std::alloc::{AllocError, Global};
 use std::io::{Read, Write};

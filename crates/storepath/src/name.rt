@@ -3,13 +3,10 @@
 ghost use Rattle.std.specs.Prelude.{◌≡◌, ◌↔◌, ◌⊎◌, ℕ, List, true, false, IfOk, IfErr};
 ghost use Rattle.model.specs.Paths.{is_name, is_name_byte};
 
-use model::{Refusal, SharedBytes};
+use model::{LONGEST_NAME, Refusal, SharedBytes};
 use std::alloc::{AllocError, Global};
 use std::marker::Model;
 use std::{fmt, str};
-
-/// The greatest length of a name, in bytes.
-const LONGEST: usize = 211;
 
 /// Whether a byte may stand in a name.
 fn is_name_byte(byte: u8) -> bool
@@ -22,7 +19,7 @@ fn is_name_byte(byte: u8) -> bool
 pub fn is_name(text: &[u8]) -> bool
     ensures { result ≡ is_name text.now }
 {
-    if text.is_empty() || text.len() > LONGEST || text[0] == b'.' {
+    if text.is_empty() || text.len() > LONGEST_NAME || text[0] == b'.' {
         return false;
     }
     text.iter().all(|byte| is_name_byte(*byte))

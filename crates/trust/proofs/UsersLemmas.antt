@@ -8,6 +8,7 @@ use Rattle.std.proofs.lemmas.List.Folds.{list_any-append}
 use Rattle.model.specs.Reach.{is_among}
 use Rattle.model.specs.Worlds.{are_distinct, are_users, is_user_name}
 use Rattle.model.proofs.BoolLemmas.{both_parts}
+use Rattle.model.specs.Limits.{most_users}
 
 -- a name behind others, in a list of distinct names, is none of them
 pub not_before : (names : List (List ℕ)) (name : List ℕ) (rest : List (List ℕ)) → are_distinct (names ++ name ∷ rest) ≡ true
@@ -28,13 +29,13 @@ unfolding are_users
 distinct_users users listed =
     let rest : Bool = list_all is_user_name users && are_distinct users in
     let named : rest ≡ true =
-    (both_parts (nat_le (length users) 64) rest (both_parts (nat_lt 0 (length users)) (nat_le (length users) 64 && rest) listed).1).1 in
+    (both_parts (nat_le (length users) most_users) rest (both_parts (nat_lt 0 (length users)) (nat_le (length users) most_users && rest) listed).1).1 in
     (both_parts (list_all is_user_name users) (are_distinct users) named).1
 
-pub few_users : (users : List (List ℕ)) → are_users users ≡ true → length users ≤ 64
+pub few_users : (users : List (List ℕ)) → are_users users ≡ true → length users ≤ most_users
 unfolding are_users
 few_users users listed =
     let rest : Bool = list_all is_user_name users && are_distinct users in
-    let few : nat_le (length users) 64 ≡ true =
-    (both_parts (nat_le (length users) 64) rest (both_parts (nat_lt 0 (length users)) (nat_le (length users) 64 && rest) listed).1).0 in
+    let few : nat_le (length users) most_users ≡ true =
+    (both_parts (nat_le (length users) most_users) rest (both_parts (nat_lt 0 (length users)) (nat_le (length users) most_users && rest) listed).1).0 in
     grind (arith, nat_tests, few)

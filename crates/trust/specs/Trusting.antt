@@ -2,6 +2,7 @@
 use Rattle.std.specs.Prelude.{◌≡◌, ℕ, ◌<◌, ◌==◌, Bool, true, false, not, ◌&&◌, ◌||◌, List, slice_index, if◌then◌else◌}
 use Rattle.std.specs.Int.{bit_at}
 use Rattle.std.proofs.Common.{bit_or}
+use Rattle.model.specs.Limits.{most_users}
 
 -- whether the bit of a place is set
 abbrev pub holds : ℕ → ℕ → Bool
@@ -42,7 +43,7 @@ pub record IsReach (trust : ℕ → ℕ → Bool) (user : ℕ) (set : ℕ → Bo
 
 -- of 64 users each reaches those of his word
 abbrev pub AreReached : List ℕ → List ℕ → Type 0
-AreReached rows reached = (user : ℕ) → user < 64 → IsReach (trusts rows) user (holds (slice_index reached user))
+AreReached rows reached = (user : ℕ) → user < most_users → IsReach (trusts rows) user (holds (slice_index reached user))
 
 -- whom somebody reaches who reached these, once a user trusts one more, who reaches more
 abbrev pub reached_with : ℕ → ℕ → ℕ → ℕ

@@ -2,23 +2,22 @@
 
 ghost use Rattle.std.specs.Prelude.{◌≡◌, ℕ, ◌<◌, ◌==◌, ◌&&◌, not, false, slice_index};
 ghost use Rattle.trust.specs.Trusting.{holds, trusts, with_pair, without_pair, with_said, IsReach, IsReachOf, AreReached, reached_with};
+ghost use Rattle.model.specs.Limits.{most_users};
 
 use crate::places::{UserSet, has_place};
+use model::MOST_USERS;
 use std::marker::Model;
-
-/// The most users.
-const USERS: usize = 64;
 
 // A set without the user at a place.
 fn without(set: UserSet, place: usize) -> UserSet
-    requires { place < 64 }
+    requires { place < most_users }
     ensures { (v : ℕ) → holds result v ≡ (not (v == place) && holds set v) }
 {
     set & !(1 << place)
 }
 
 /// The users whom the users at some places reach: one after another is asked whom he trusts, until all are.
-fn reach_of(rows: &[UserSet; USERS], users: UserSet) -> UserSet
+fn reach_of(rows: &[UserSet; MOST_USERS], users: UserSet) -> UserSet
     ensures { IsReachOf (trusts rows.now) (holds users) (holds result) }
 {
     let mut reached: UserSet = users;
@@ -32,19 +31,19 @@ fn reach_of(rows: &[UserSet; USERS], users: UserSet) -> UserSet
 }
 
 /// The users whom the user at a place reaches.
-fn reach_of_one(rows: &[UserSet; USERS], user: usize) -> UserSet
-    requires { user < 64 }
+fn reach_of_one(rows: &[UserSet; MOST_USERS], user: usize) -> UserSet
+    requires { user < most_users }
     ensures { IsReach (trusts rows.now) user (holds result) }
 {
     reach_of(rows, 1 << user)
 }
 
 /// Whom each user reaches.
-fn reach_of_each(rows: &[UserSet; USERS]) -> [UserSet; USERS]
+fn reach_of_each(rows: &[UserSet; MOST_USERS]) -> [UserSet; MOST_USERS]
     ensures { AreReached rows.now result }
 {
-    let mut reached = [0; USERS];
-    for user in 0..USERS {
+    let mut reached = [0; MOST_USERS];
+    for user in 0..MOST_USERS {
         reached[user] = reach_of_one(rows, user);
     }
     reached
@@ -52,7 +51,7 @@ fn reach_of_each(rows: &[UserSet; USERS]) -> [UserSet; USERS]
 
 /// Whom somebody reaches who reached these, once the user at a place trusts one more, who reaches more.
 fn reached_with(reached: UserSet, user: usize, more: UserSet) -> UserSet
-    requires { user < 64 }
+    requires { user < most_users }
     ensures { result ≡ reached_with reached user more }
 {
     if has_place(reached, user) {
@@ -63,14 +62,18 @@ fn reached_with(reached: UserSet, user: usize, more: UserSet) -> UserSet
 }
 
 /// Whom each user reaches, once one trusts another as well: who reached the one reaches all whom the other reaches.
-fn each_reached_with(reached: &[UserSet; USERS], user: usize, other: usize) -> [UserSet; USERS]
-    requires of_run { user < 64 }
-    requires other_of_run { other < 64 }
-    ensures { (place : ℕ) → place < 64 → slice_index result place
+fn each_reached_with(
+    reached: &[UserSet; MOST_USERS],
+    user: usize,
+    other: usize,
+) -> [UserSet; MOST_USERS]
+    requires of_run { user < most_users }
+    requires other_of_run { other < most_users }
+    ensures { (place : ℕ) → place < most_users → slice_index result place
         ≡ reached_with (slice_index reached.now place) user (slice_index reached.now other) }
 {
-    let mut after = [0; USERS];
-    for place in 0..USERS {
+    let mut after = [0; MOST_USERS];
+    for place in 0..MOST_USERS {
         after[place] = reached_with(reached[place], user, reached[other]);
     }
     after
@@ -79,8 +82,8 @@ fn each_reached_with(reached: &[UserSet; USERS], user: usize, other: usize) -> [
 /// Who trusts whom, among 64 users. A user is named by his place in the list of a run, from 0 on. Whom each
 /// of them reaches is kept, and found anew only where trust changes.
 pub struct Trust {
-    rows: [UserSet; USERS],
-    reached: [UserSet; USERS],
+    rows: [UserSet; MOST_USERS],
+    reached: [UserSet; MOST_USERS],
 }
 
 impl Drop for Trust {
@@ -109,15 +112,15 @@ impl Trust {
     pub fn new() -> Trust
         ensures { trusts result ≡ (λ u v. false) }
     {
-        let rows = [0; USERS];
+        let rows = [0; MOST_USERS];
         let reached = reach_of_each(&rows);
         Trust { rows, reached }
     }
 
     /// From now on a user trusts another.
     pub fn add(&mut self, user: usize, other: usize)
-        requires of_run { user < 64 }
-        requires other_of_run { other < 64 }
+        requires of_run { user < most_users }
+        requires other_of_run { other < most_users }
         ensures { trusts self.new ≡ with_pair user other (trusts self.old) }
     {
         self.rows[user] |= 1 << other;
@@ -126,8 +129,8 @@ impl Trust {
 
     /// From now on a user does not trust another.
     pub fn remove(&mut self, user: usize, other: usize)
-        requires of_run { user < 64 }
-        requires other_of_run { other < 64 }
+        requires of_run { user < most_users }
+        requires other_of_run { other < most_users }
         ensures { trusts self.new ≡ without_pair user other (trusts self.old) }
     {
         self.rows[user] = without(self.rows[user], other);
@@ -136,8 +139,8 @@ impl Trust {
 
     /// From now on a user trusts another, or does not. Whether he did is given back.
     pub fn replace(&mut self, user: usize, other: usize, trusted: bool) -> bool
-        requires of_run { user < 64 }
-        requires other_of_run { other < 64 }
+        requires of_run { user < most_users }
+        requires other_of_run { other < most_users }
         ensures before { result ≡ trusts self.old user other }
         ensures now { trusts self.new ≡ with_said user other trusted (trusts self.old) }
     {
@@ -152,7 +155,7 @@ impl Trust {
 
     /// The users whom a user reaches: himself and, with each, all whom that one trusts.
     pub fn closure(&self, user: usize) -> UserSet
-        requires { user < 64 }
+        requires { user < most_users }
         ensures { IsReach (trusts self.now) user (holds result) }
     {
         self.reached[user]

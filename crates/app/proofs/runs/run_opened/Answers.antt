@@ -6,11 +6,12 @@ use Rattle.running.specs.ServedSessions.{passes_needed}
 use Rattle.app.specs.Runs.{CannotRun}
 use Rattle.app.proofs.FileLemmas.{too_many}
 use Rattle.app.proofs.runs.run_opened.Goals as goal
+use Rattle.model.specs.Limits.{most_passes}
 
 pub returns-in-Err-clause-refused : goal.returns-in-Err-clause-refused
 returns-in-Err-clause-refused g c =
     let found = c.in_ok-users.field-0 in
-    let full : 64 < passes_needed found.parts.items → c.run_parts.result ≡ Err Quota = search rules in
+    let full : most_passes < passes_needed found.parts.items → c.run_parts.result ≡ Err Quota = search rules in
     inr (inl (subst (λ (why : Refusal). CannotRun g.I.Read.remaining g.I.Faults.failed c.args.files.items why) (sym c.of_none.ensures) (record {
       users = found.users.items;
       parts = found.parts.items;

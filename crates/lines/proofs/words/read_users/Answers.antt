@@ -23,11 +23,11 @@ returns-in_err-push c =
     let p = err_from_is_err_and c.from_residual-in_err-push.result c.from_residual-in_err-push.ensures.1 in
     rw (p.1, p.2) (record { read = tt; memory = refl })
 
-pub returns-then-bytes-gt-LONGEST_USER-clause-read : goal.returns-then-bytes-gt-LONGEST_USER-clause-read
-returns-then-bytes-gt-LONGEST_USER-clause-read c =
+pub returns-then-bytes-gt-LONGEST_USER_NAME-clause-read : goal.returns-then-bytes-gt-LONGEST_USER_NAME-clause-read
+returns-then-bytes-gt-LONGEST_USER_NAME-clause-read c =
     let same : c.bytes.result.now ≡ get_or c.args.words.now c.loop-word.word-index [] =
     c.bytes.ensures ∙ c.word-item.is ∙ get_or_default c.args.words.now c.loop-word.word-index c.word-item.result [] c.loop-word-test.true in
-    not_users c.args.words.now c.loop-word.word-index c.loop-word-test.true (subst (λ (w : List ℕ). 32 < length w) same c.if-bytes-gt-LONGEST_USER.true)
+    not_users c.args.words.now c.loop-word.word-index c.loop-word-test.true (subst (λ (w : List ℕ). 32 < length w) same c.if-bytes-gt-LONGEST_USER_NAME.true)
 
 pub returns-then-are_users : goal.returns-then-are_users
 returns-then-are_users c =

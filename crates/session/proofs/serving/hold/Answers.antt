@@ -1,6 +1,6 @@
 use Rattle.std.proofs.Common.{◌≡◌, ◌∙◌, ap, ◌++◌, ◌+◌, ◌-◌, length, take, min, arith}
 use Rattle.std.proofs.lemmas.List.{take_min}
-use Rattle.model.specs.ParsedLines.{longest_line}
+use Rattle.model.specs.Limits.{longest_line}
 use Rattle.session.proofs.LineLemmas.{held-more}
 use Rattle.session.proofs.serving.hold.Goals as goal
 
