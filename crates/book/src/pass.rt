@@ -198,10 +198,9 @@ impl<J: FrontId> Pass<J> {
         reply
     }
 
-    /// Makes values as [`Pass::prepare`] does, and leaves the records that it repaired.
-    fn prepare_once(&mut self, event: &Event) -> Result<Ready, Refusal>
-        ensures prepared { IfOk result
-            (IsPreparedAfter J.setup self.new.seen (event_of event.now)) }
+    /// What an event needs to be made after rows that are published, which the pass has seen then.
+    fn need_published(&mut self, event: &Event) -> Result<PrepareInput, Refusal>
+        ensures need { IfOk result (IsNeedAfter J.setup self.new.seen (event_of event.now)) }
         ensures seen { IsPrefix self.old.seen self.new.seen }
         ensures same { self.new ≡ seeing self.old self.new.seen }
         ensures memory { IfErr result (λ why. why ≡ Memory) }
@@ -211,17 +210,32 @@ impl<J: FrontId> Pass<J> {
             return Err(Refusal::Memory);
         };
         if self.see(rows) {
-            needed?.make(self.alloc, event, &mut self.repaired)
+            needed
         } else {
             Err(Refusal::Memory)
         }
     }
 
+    /// Makes values as [`Pass::prepare`] does, and leaves the records that it repaired.
+    fn prepare_once(&mut self, event: &Event) -> Result<Ready, Refusal>
+        ensures prepared { IfOk result
+            (IsPreparedAfter J.setup self.new.seen (event_of event.now)) }
+        ensures seen { IsPrefix self.old.seen self.new.seen }
+        ensures same { self.new ≡ seeing self.old self.new.seen }
+        ensures memory { IfErr result (λ why. why ≡ Memory) }
+    {
+        let needed = match PrepareInput::anywhere(event) {
+            Some(needed) => needed,
+            None => self.need_published(event)?,
+        };
+        needed.make(self.alloc, event, &mut self.repaired)
+    }
+
     /// Makes values that an event needs, so that [`Front::commit`](crate::Front::commit) need not make them
-    /// under the lock. They are made after rows that are published, which begin with all that the pass had
-    /// seen, and are what it has seen then: the path of a source, what is known of a derivation, what comes of
-    /// a tree that is offered, what comes of the output of a job for the goal that leads it, and the records that
-    /// are repaired for a closure that is taken or that a goal is built from. It takes no lock, and waits for nobody;
+    /// under the lock: the path of a source, what is known of a derivation, what comes of a tree that is offered,
+    /// what comes of the output of a job for the goal that leads it, and the records that are repaired for a closure
+    /// that is taken or that a goal is built from. All but the first are made after rows that are published, which
+    /// begin with all that the pass had seen, and are what it has seen then. It takes no lock, and waits for nobody;
     /// and nobody waits for it while a derivation is parsed, nor while they are made. Those records that it repaired
     /// last it keeps, as for [`Pass::read`]; where memory is refused, they are let go.
     ///

@@ -42,7 +42,7 @@ pub struct Cache {
     /// Those of one step, if it is for one.
     made: Option<Made>,
     /// Those that were used last, if it keeps them.
-    kept: Option<Kept>,
+    kept: Option<Box<Kept>>,
     computed: u64,
 }
 
@@ -75,7 +75,7 @@ impl Cache {
         ensures none { IfOk result (λ cache. (cache.made ≡ None) × KeepsNone cache.kept) }
         ensures counts { IfOk result (λ cache. (cache.computed ≡ 0) × (hits_of cache.kept ≡ 0)) }
     {
-        let kept = Kept::new(alloc, hashing, most, most_bytes)?;
+        let kept = Box::new(alloc, Kept::new(alloc, hashing, most, most_bytes)?)?;
         Ok(Cache {
             made: None,
             kept: Some(kept),
@@ -84,14 +84,14 @@ impl Cache {
     }
 
     /// A cache for one step, which keeps all that is made or found with it. It takes no memory.
-    pub fn none(alloc: Global) -> Cache
+    pub fn none() -> Cache
         ensures bound { bound_of result.kept ≡ None }
         ensures step { IsForStep result }
         ensures none { made_in result.made ≡ [] }
         ensures counts { result.computed ≡ 0 }
     {
         Cache {
-            made: Some(Made::none(alloc)),
+            made: Some(Made::none()),
             kept: None,
             computed: 0,
         }

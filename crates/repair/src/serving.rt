@@ -102,5 +102,5 @@ pub fn served_closure(alloc: Global, plan: &Plan) -> Result<Vec<Entry>, Refusal>
         (λ e. (e ≡ Memory) ⊎ (served_plan plan.now ≡ Err e)) }
     ensures sound { IfOk result (λ _. IsSoundPlan plan.now) }
 {
-    served_closure_with(alloc, plan, &mut Cache::none(alloc))
+    served_closure_with(alloc, plan, &mut Cache::none())
 }

@@ -1,10 +1,10 @@
 -- What is prepared on the desk of a place is prepared for its user, in the world that the core stands for.
-use Rattle.std.proofs.Common.{◌≡◌, ℕ, Bool, true, List, length, refl, sym, ap, subst, Some, Result, Ok, Err}
+use Rattle.std.proofs.Common.{◌≡◌, ℕ, Bool, true, false, true≢false, List, length, refl, sym, ap, subst, Some, Result, Ok, Err}
 use Rattle.std.specs.Prelude.{IfOk, Option}
 use Rattle.model.specs.declared.refusal.Refusal.{Refusal}
 use Rattle.model.specs.Archives.{Tree}
 use Rattle.model.specs.Classes.{known_at}
-use Rattle.model.specs.Events.{AddDerivation, Offer, Take, Plan, Finish}
+use Rattle.model.specs.Events.{Event, Request, AddSource, AddDerivation, Offer, Fetch, Trust, Distrust, Pin, Unpin, Closure, Take, Build, Status, Plan, Start, Finish, Fail, Forget}
 use Rattle.model.specs.Worlds.{Source, Desk, Goal, Label, are_users}
 use Rattle.trust.specs.Naming.{place_of, name_at, IsWithin}
 use Rattle.trust.proofs.PlaceLemmas.{name_found}
@@ -34,7 +34,9 @@ use Rattle.handlers.specs.Serving.{HasRepairedFor}
 use Rattle.goals.specs.Planning.{HasRepairedForGoal}
 use Rattle.schedule.specs.declared.state.Core.{Core}
 use Rattle.schedule.specs.Standing.{world_of, setup_of}
-use Rattle.schedule.specs.Preparing.{seen_by, HasAdmissionFor, HasInput, HasOutcome, HasRepairedAll}
+use Rattle.schedule.specs.Preparing.{seen_by, HasAdmissionFor, HasInput, HasOutcome, HasRepairedAll, IsMade, IsPreparedAnywhere, hangs_on_state}
+use Rattle.schedule.specs.declared.preparing.PrepareInput.{PrepareInput}
+use Rattle.schedule.specs.declared.work.Ready.{Ready}
 
 -- ---- on one desk, as the model sees it
 
@@ -109,3 +111,38 @@ pub planned_by : (one other : Observation) (result : Result (Option choices.Plan
 planned_by one other (Ok plan) n same needed = λ cache has.
     subst (λ s. HasRepairedForGoal s n (made_in cache.made)) same (needed (made_in cache.made) has)
 planned_by one other (Err why) n same needed = tt
+
+-- ---- where it hangs on nothing
+
+-- a request that needs nothing of what there is has all that it would need of that
+abbrev NeedsNothing : Request → Type 0
+NeedsNothing r = ((d : Desk) (made : Admissions) → HasAdmissionFor d r made)
+    × ((d : Desk) (user : List ℕ) (made : Settlements) → HasOutcome d user r made) × ((s : Observation) (cache : Cache) → HasRepairedAll s r cache)
+
+needs_nothing : (r : Request) → hangs_on_state r ≡ false → NeedsNothing r
+needs_nothing (AddSource name tree) h = (λ d made. tt, λ d user made. tt, λ s cache. tt)
+needs_nothing (AddDerivation text) h = absurd (true≢false h)
+needs_nothing (Offer path tree) h = absurd (true≢false h)
+needs_nothing (Fetch path) h = (λ d made. tt, λ d user made. tt, λ s cache. tt)
+needs_nothing (Trust user) h = (λ d made. tt, λ d user made. tt, λ s cache. tt)
+needs_nothing (Distrust user) h = (λ d made. tt, λ d user made. tt, λ s cache. tt)
+needs_nothing (Pin class path) h = (λ d made. tt, λ d user made. tt, λ s cache. tt)
+needs_nothing (Unpin class) h = (λ d made. tt, λ d user made. tt, λ s cache. tt)
+needs_nothing (Closure class) h = (λ d made. tt, λ d user made. tt, λ s cache. tt)
+needs_nothing (Take class) h = absurd (true≢false h)
+needs_nothing (Build path) h = (λ d made. tt, λ d user made. tt, λ s cache. tt)
+needs_nothing (Status number) h = (λ d made. tt, λ d user made. tt, λ s cache. tt)
+needs_nothing (Plan number) h = absurd (true≢false h)
+needs_nothing (Start number) h = (λ d made. tt, λ d user made. tt, λ s cache. tt)
+needs_nothing (Finish number output) h = absurd (true≢false h)
+needs_nothing (Fail number status) h = (λ d made. tt, λ d user made. tt, λ s cache. tt)
+needs_nothing (Forget class path) h = (λ d made. tt, λ d user made. tt, λ s cache. tt)
+
+-- what such an event needs is what is made of it alone
+pub prepared_anywhere : (e : Event) (need : PrepareInput) → hangs_on_state e.request ≡ false → (ready : Ready) → IsMade need e.request ready → IsPreparedAnywhere e ready
+prepared_anywhere e need h ready made = let nothing = needs_nothing e.request h in record {
+  path = made.path;
+  admission = λ d. nothing.0 d ready.work.admissions;
+  outcome = λ d. nothing.1 d e.actor ready.work.settlements;
+  repaired = λ s. nothing.2 s ready.work.cache;
+}

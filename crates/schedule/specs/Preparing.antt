@@ -1,5 +1,5 @@
 -- Values that are made before a step.
-use Rattle.std.specs.Prelude.{◌≡◌, ℕ, true, List, Option, Some, None, Ok}
+use Rattle.std.specs.Prelude.{◌≡◌, ℕ, Bool, true, false, List, Option, Some, None, Ok}
 use Rattle.model.specs.Archives.{Tree}
 use Rattle.model.specs.ArchiveReading.{tree_of_archive}
 use Rattle.model.specs.Classes.{Admission, known_at}
@@ -66,6 +66,15 @@ HasRepairedAll s request cache = Unit {0}
 abbrev pub seen_by : Core → List ℕ → Observation
 seen_by core user = observation_of (setup_of core) (world_of core) user
 
+-- whether what a request needs to be made hangs on what there is: on a desk, or on what its user sees
+abbrev pub hangs_on_state : Request → Bool
+hangs_on_state (AddDerivation text) = true
+hangs_on_state (Offer path tree) = true
+hangs_on_state (Take class) = true
+hangs_on_state (Plan n) = true
+hangs_on_state (Finish n output) = true
+hangs_on_state request = false
+
 -- what a request needs was made
 pub record IsMade (need : PrepareInput) (request : Request) (ready : Ready) : Type 0 where
   pub path : HasPath request ready.work.sources
@@ -79,3 +88,10 @@ pub record IsPrepared (core : Core) (event : Event) (ready : Ready) : Type 0 whe
   pub admission : is_among event.actor (setup_of core).users ≡ true → HasAdmissionFor (world_of core event.actor) event.request ready.work.admissions
   pub outcome : is_among event.actor (setup_of core).users ≡ true → HasOutcome (world_of core event.actor) event.actor event.request ready.work.settlements
   pub repaired : is_among event.actor (setup_of core).users ≡ true → HasRepairedAll (seen_by core event.actor) event.request ready.work.cache
+
+-- the values that an event needs are there, whatever its user has and sees
+pub record IsPreparedAnywhere (event : Event) (ready : Ready) : Type 0 where
+  pub path : HasPath event.request ready.work.sources
+  pub admission : (d : Desk) → HasAdmissionFor d event.request ready.work.admissions
+  pub outcome : (d : Desk) → HasOutcome d event.actor event.request ready.work.settlements
+  pub repaired : (s : Observation) → HasRepairedAll s event.request ready.work.cache

@@ -1,6 +1,6 @@
 //! Values that are made before a step.
 
-ghost use Rattle.std.specs.Prelude.{◌≡◌, ◌<◌, ℕ, List, Some, length, IfOk, IfErr, OnOk};
+ghost use Rattle.std.specs.Prelude.{◌≡◌, ◌<◌, ℕ, List, Some, length, IfOk, IfErr, IfSome, OnOk};
 ghost use Rattle.std.specs.Option.{option_copied};
 ghost use Rattle.model.specs.declared.refusal.Refusal.TheVariants.{Memory};
 ghost use Rattle.classes.specs.Admitting.{HasMade};
@@ -14,7 +14,7 @@ ghost use Rattle.trust.specs.Naming.{place_of};
 ghost use Rattle.handlers.specs.States.{HasPlace};
 ghost use Rattle.schedule.specs.declared.work.Ready.{Ready as ReadyValue};
 ghost use Rattle.schedule.specs.Standing.{world_of};
-ghost use Rattle.schedule.specs.Preparing.{output_of, seen_by, HasPath, HasAdmissionFor, HasInput, HasOutcome, HasRepairedAll, IsPrepared, IsMade};
+ghost use Rattle.schedule.specs.Preparing.{output_of, seen_by, HasPath, HasAdmissionFor, HasInput, HasOutcome, HasRepairedAll, IsPrepared, IsMade, IsPreparedAnywhere, hangs_on_state};
 
 use crate::preparation::Preparation;
 use crate::state::Core;
@@ -134,7 +134,42 @@ fn prepare_repairs(
     }
 }
 
+/// Whether what a request needs to be made hangs on what there is.
+fn hangs_on_state(request: &Request) -> bool
+    ensures { result ≡ hangs_on_state (request_of request.now) }
+{
+    matches!(
+        request,
+        Request::AddDerivation(_)
+            | Request::Offer(_, _)
+            | Request::Take(_)
+            | Request::Plan(_)
+            | Request::Finish(_, _)
+    )
+}
+
 impl PrepareInput {
+    /// What an event needs to be made by no core.
+    fn none() -> PrepareInput {
+        PrepareInput {
+            input: None,
+            admission: None,
+            plan: None,
+        }
+    }
+
+    /// What an event needs to be made, where that hangs on no core: the path of a source, or nothing.
+    #[tactic(auto, using(crate::proofs::PreparingLemmas::prepared_anywhere))]
+    pub fn anywhere(event: &Event) -> Option<PrepareInput>
+        ensures { IfSome result (λ need. (ready : ReadyValue) → IsMade need (event_of event.now).request ready
+            → IsPreparedAnywhere (event_of event.now) ready) }
+    {
+        if hangs_on_state(&event.request) {
+            return None;
+        }
+        Some(PrepareInput::none())
+    }
+
     /// Makes the values that the event needs. That takes long: the path of a source, a derivation with its class,
     /// and what comes of a tree that is offered or built, are hashed, and records of a closure are repaired. Those
     /// that were used last are taken from the cache, where it has them, and it keeps what is repaired; whatever it
@@ -244,11 +279,7 @@ impl Core {
     {
         let event = preparation.event;
         let Some(place) = self.state.users.place_of(&event.actor) else {
-            return Ok(PrepareInput {
-                input: None,
-                admission: None,
-                plan: None,
-            });
+            return Ok(PrepareInput::none());
         };
         let input = self.input_for(alloc, place, &event.request)?;
         let plan = self.plan_for(alloc, place, &event.request)?;
@@ -274,6 +305,6 @@ impl Core {
     {
         let preparation = Preparation::new(alloc, event)?;
         let need = self.need(alloc, preparation)?;
-        need.make(alloc, event, &mut Cache::none(alloc))
+        need.make(alloc, event, &mut Cache::none())
     }
 }

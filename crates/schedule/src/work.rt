@@ -28,7 +28,7 @@ impl Work {
             sources: Sources::none(alloc),
             admissions: Admissions::none(alloc),
             settlements: Settlements::none(alloc),
-            cache: Cache::none(alloc),
+            cache: Cache::none(),
         }
     }
 

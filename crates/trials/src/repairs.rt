@@ -100,7 +100,7 @@ pub(crate) fn repairs(
     let (most, rest) = number(argument)?;
     let (numbers, _) = number(rest)?;
     let served = served(alloc)?;
-    let bare = paths_served(alloc, numbers, &served, &mut Cache::none(alloc))?;
+    let bare = paths_served(alloc, numbers, &served, &mut Cache::none())?;
     let mut cache = cache_of(alloc, hashing, most)?;
     let first = paths_served(alloc, numbers, &served, &mut cache)?;
     let second = paths_served(alloc, numbers, &served, &mut cache)?;
