@@ -224,10 +224,10 @@ impl<J: FrontId> Pass<J> {
         ensures same { self.new ≡ seeing self.old self.new.seen }
         ensures memory { IfErr result (λ why. why ≡ Memory) }
     {
-        let needed = match PrepareInput::anywhere(event) {
-            Some(needed) => needed,
-            None => self.need_published(event)?,
-        };
+        if let Some(ready) = Ready::anywhere(self.alloc, event)? {
+            return Ok(ready);
+        }
+        let needed = self.need_published(event)?;
         needed.make(self.alloc, event, &mut self.repaired)
     }
 

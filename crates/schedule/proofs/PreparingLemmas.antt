@@ -34,8 +34,7 @@ use Rattle.handlers.specs.Serving.{HasRepairedFor}
 use Rattle.goals.specs.Planning.{HasRepairedForGoal}
 use Rattle.schedule.specs.declared.state.Core.{Core}
 use Rattle.schedule.specs.Standing.{world_of, setup_of}
-use Rattle.schedule.specs.Preparing.{seen_by, HasAdmissionFor, HasInput, HasOutcome, HasRepairedAll, IsMade, IsPreparedAnywhere, hangs_on_state}
-use Rattle.schedule.specs.declared.preparing.PrepareInput.{PrepareInput}
+use Rattle.schedule.specs.Preparing.{seen_by, HasAdmissionFor, HasInput, HasOutcome, HasPath, HasRepairedAll, IsPreparedAnywhere, hangs_on_state}
 use Rattle.schedule.specs.declared.work.Ready.{Ready}
 
 -- ---- on one desk, as the model sees it
@@ -138,10 +137,10 @@ needs_nothing (Finish number output) h = absurd (true≢false h)
 needs_nothing (Fail number status) h = (λ d made. tt, λ d user made. tt, λ s cache. tt)
 needs_nothing (Forget class path) h = (λ d made. tt, λ d user made. tt, λ s cache. tt)
 
--- what such an event needs is what is made of it alone
-pub prepared_anywhere : (e : Event) (need : PrepareInput) → hangs_on_state e.request ≡ false → (ready : Ready) → IsMade need e.request ready → IsPreparedAnywhere e ready
-prepared_anywhere e need h ready made = let nothing = needs_nothing e.request h in record {
-  path = made.path;
+-- what such an event needs is the path of a source, if it adds one
+pub prepared_anywhere : (e : Event) (ready : Ready) → hangs_on_state e.request ≡ false → HasPath e.request ready.work.sources → IsPreparedAnywhere e ready
+prepared_anywhere e ready h path = let nothing = needs_nothing e.request h in record {
+  path = path;
   admission = λ d. nothing.0 d ready.work.admissions;
   outcome = λ d. nothing.1 d e.actor ready.work.settlements;
   repaired = λ s. nothing.2 s ready.work.cache;

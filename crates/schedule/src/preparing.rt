@@ -1,6 +1,6 @@
 //! Values that are made before a step.
 
-ghost use Rattle.std.specs.Prelude.{◌≡◌, ◌<◌, ℕ, List, Some, length, IfOk, IfErr, IfSome, OnOk};
+ghost use Rattle.std.specs.Prelude.{◌≡◌, ◌<◌, ℕ, List, Some, length, true, IfOk, IfErr, IfSome, IfNone, OnOk};
 ghost use Rattle.std.specs.Option.{option_copied};
 ghost use Rattle.model.specs.declared.refusal.Refusal.TheVariants.{Memory};
 ghost use Rattle.classes.specs.Admitting.{HasMade};
@@ -148,28 +148,30 @@ fn hangs_on_state(request: &Request) -> bool
     )
 }
 
-impl PrepareInput {
-    /// What an event needs to be made by no core.
-    fn none() -> PrepareInput {
-        PrepareInput {
-            input: None,
-            admission: None,
-            plan: None,
-        }
-    }
-
-    /// What an event needs to be made, where that hangs on no core: the path of a source, or nothing.
+impl Ready {
+    /// Makes the values that an event needs before a step, if they hang on nothing that there is: the path of a
+    /// source, or none. There are none where a core has to tell what is needed, by [`Core::need`].
+    ///
+    /// # Errors
+    ///
+    /// - `Memory` only where memory was refused.
     #[tactic(auto, using(crate::proofs::PreparingLemmas::prepared_anywhere))]
-    pub fn anywhere(event: &Event) -> Option<PrepareInput>
-        ensures { IfSome result (λ need. (ready : ReadyValue) → IsMade need (event_of event.now).request ready
-            → IsPreparedAnywhere (event_of event.now) ready) }
+    pub fn anywhere(alloc: Global, event: &Event) -> Result<Option<Ready>, Refusal>
+        ensures made { IfOk result (λ made. IfSome made (IsPreparedAnywhere (event_of event.now))) }
+        ensures none { IfOk result (λ made. IfNone made (
+            hangs_on_state (event_of event.now).request ≡ true)) }
+        ensures memory { IfErr result (λ why. why ≡ Memory) }
     {
         if hangs_on_state(&event.request) {
-            return None;
+            return Ok(None);
         }
-        Some(PrepareInput::none())
+        let mut work = Work::none(alloc);
+        prepare_source(alloc, &mut work.sources, &event.request)?;
+        Ok(Some(Ready::of(work)))
     }
+}
 
+impl PrepareInput {
     /// Makes the values that the event needs. That takes long: the path of a source, a derivation with its class,
     /// and what comes of a tree that is offered or built, are hashed, and records of a closure are repaired. Those
     /// that were used last are taken from the cache, where it has them, and it keeps what is repaired; whatever it
@@ -279,7 +281,11 @@ impl Core {
     {
         let event = preparation.event;
         let Some(place) = self.state.users.place_of(&event.actor) else {
-            return Ok(PrepareInput::none());
+            return Ok(PrepareInput {
+                input: None,
+                admission: None,
+                plan: None,
+            });
         };
         let input = self.input_for(alloc, place, &event.request)?;
         let plan = self.plan_for(alloc, place, &event.request)?;
