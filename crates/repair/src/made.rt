@@ -1,6 +1,6 @@
 //! Repaired records that are kept for one step.
 
-ghost use Rattle.std.specs.Prelude.{◌≡◌, [], IfErr, IfSome, IfNone, OnOk};
+ghost use Rattle.std.specs.Prelude.{◌≡◌, [], true, is_some, IfErr, IfSome, IfNone, OnOk};
 ghost use Rattle.model.specs.Repairs.{repaired};
 ghost use Rattle.model.specs.declared.refusal.Refusal.TheVariants.{Memory};
 ghost use Rattle.repair.specs.AtHand.{IsMade, KeepsOthers};
@@ -49,7 +49,8 @@ impl Made {
 
     /// Makes the table of records, if there is none yet. The one error is memory.
     fn open(&mut self, alloc: Global) -> Result<(), AllocError>
-        ensures { repairs_in self.new.repairs ≡ repairs_in self.old.repairs }
+        ensures same { repairs_in self.new.repairs ≡ repairs_in self.old.repairs }
+        ensures some { OnOk result (is_some self.new.repairs ≡ true) }
     {
         if self.repairs.is_none() {
             self.repairs = Some(Box::new(alloc, IndexMap::new(alloc))?);
@@ -76,7 +77,7 @@ impl Made {
         let one = Repair::new(alloc, chosen, replacements, outcome)?;
         self.open(alloc)?;
         let Some(repairs) = &mut self.repairs else {
-            return Err(Refusal::Memory);
+            unreachable!();
         };
         let _before = repairs.insert(class, one)?;
         Ok(())

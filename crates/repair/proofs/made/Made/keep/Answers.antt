@@ -25,7 +25,7 @@ returns-clause-made c =
 pub returns-clause-others : goal.returns-clause-others
 returns-clause-others c other apart =
     let same : c.deref_mut.result.now.entries ≡ repairs_in c.args.self.now.repairs =
-    ap (λ m. m.entries) c.deref_mut.ensures.value ∙ ap repairs_in (sym c.in-Some.is) ∙ c.open.ensures in
+    ap (λ m. m.entries) c.deref_mut.ensures.value ∙ ap repairs_in (sym c.in-Some.is) ∙ c.open.ensures.same in
     let kept : lookup (bytes_eq other) c.insert.new.self.entries ≡ lookup (bytes_eq other) c.deref_mut.result.now.entries =
     c.in_ok-_before.ensures.updates.0 other
     ∙ ap (λ b. cond b (Some c.in_ok-one.one) (lookup (bytes_eq other) c.deref_mut.result.now.entries)) (bytes_eq_sym c.in_ok-class.class other ∙ ap (bytes_eq other) (class_of c) ∙ apart) in
