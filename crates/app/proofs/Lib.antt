@@ -1,3 +1,2 @@
 mod ToldLemmas
-mod FileLemmas
 mod OutputLemmas

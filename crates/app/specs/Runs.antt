@@ -13,9 +13,9 @@ use Rattle.running.specs.ServedSessions.{passes_needed}
 use Rattle.running.specs.Runs.{AreResults}
 use Rattle.teams.specs.Sessions.{CannotBegin}
 use Rattle.session.specs.Serving.{IsUnwritten}
-use Rattle.app.specs.declared.opening.Opened.{Opened}
-use Rattle.app.specs.declared.opening.Refused.{Refused}
-use Rattle.app.specs.Parts.{AreParts, AreNamed, IsRefusedAmong}
+use Rattle.inputs.specs.declared.opening.Opened.{Opened}
+use Rattle.inputs.specs.declared.opening.Refused.{Refused}
+use Rattle.inputs.specs.Parts.{AreParts, AreNamed, IsRefusedAmong}
 use Rattle.model.specs.Limits.{most_passes}
 
 -- ---- what is run

@@ -61,15 +61,6 @@ pub(crate) fn tell_missing_folders(rt: &HostRuntime, run: &Run) {
     }
 }
 
-/// A file that is to be read, or nothing where it cannot be opened.
-pub(crate) fn open<R: Files>(rt: &R, name: &str) -> Result<Option<Counted<R::File>>, AllocError> {
-    match fs::open(rt, name) {
-        Ok(file) => Ok(Some(Counted::new(file))),
-        Err(error) if error.kind() == ErrorKind::OutOfMemory => Err(AllocError),
-        Err(_) => Ok(None),
-    }
-}
-
 /// The lines of a file, to be read beside another reader of it: of a file that is no pipe and no terminal, where it
 /// can be opened.
 fn lines_beside(rt: &HostRuntime, name: &str) -> io::Result<Option<Lines<BufReader<File>>>> {

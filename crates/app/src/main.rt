@@ -4,15 +4,13 @@
 mod actions;
 mod fault;
 mod files;
-mod opening;
-mod parts;
 mod runs;
 
 use crate::fault::{
     CANNOT_READ_OR_WRITE, COMMAND_LINE_FAULT, Fault, OUT_OF_MEMORY, report, tell_bad_lines,
 };
-use crate::opening::Machine;
 use command_line::{Action, Options, options};
+use inputs::{Machine, open, open_all};
 use model::Refusal;
 use replaying::BadLines;
 use session::Counted;
@@ -44,7 +42,7 @@ fn run_reader(
 /// Runs lines of a file as the options ask, says on standard error what went wrong, and gives the exit status.
 /// A file that cannot be opened ends like one that cannot be read.
 fn run_file(rt: &HostRuntime, wait: &impl Wait, options: &Options, name: &str) -> io::Result<u8> {
-    let Some(mut reader) = files::open(rt, name)? else {
+    let Some(mut reader) = open(rt, name)? else {
         return Ok(report(rt, &Err(Refusal::InputFault), name));
     };
     let told = run_reader(rt, wait, options, name, &mut reader)?;
@@ -113,7 +111,7 @@ fn main(rt: HostRuntime) -> ExitCode {
             Action::Strike { file, .. } => run_file(&rt, &rt, &options, file.as_str()),
             Action::Run(run) => {
                 files::tell_missing_folders(&rt, run);
-                match opening::open_all(rt.alloc(), &Machine(&rt), run) {
+                match open_all(rt.alloc(), &Machine(&rt), run) {
                     Ok(files) => runs::run_files(&rt, &rt, &options, run, files),
                     Err(refused) => Ok(runs::report_refused(&rt, refused)),
                 }

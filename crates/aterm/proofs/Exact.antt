@@ -5,7 +5,7 @@ use Rattle.model.specs.Derivations.{Derivation, IsDerivation, is_derivation, der
 use Rattle.model.specs.DerivationTexts.{derivation_at, only_sound, derivation_of_text}
 use Rattle.model.specs.declared.refusal.Refusal.{Refusal}
 use Rattle.model.specs.declared.refusal.Refusal.TheVariants.{BadDerivation, Memory}
-use Rattle.nar.proofs.ReadingLemmas.{if_true, some_same}
+use Rattle.model.proofs.ReadingLemmas.{if_true, some_same}
 use Rattle.aterm.specs.Laws.{DerivationsPass, ReadingIsExact}
 use Rattle.aterm.specs.Refused.{IsRefused, IsNotRead}
 use Rattle.aterm.proofs.Tests.{derivation_passes, derivation_from_test}

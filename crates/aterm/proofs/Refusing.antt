@@ -5,13 +5,13 @@ use Rattle.model.specs.Derivations.{Derivation, IsDerivation, derivation_text, H
 use Rattle.model.specs.declared.refusal.Refusal.{Refusal}
 use Rattle.model.specs.declared.refusal.Refusal.TheVariants.{BadDerivation}
 use Rattle.model.specs.DerivationTexts.{derivation_at}
-use Rattle.nar.proofs.ReadingLemmas.{some_same}
-use Rattle.nar.specs.Outcomes.{Fails}
+use Rattle.model.proofs.ReadingLemmas.{some_same}
+use Rattle.model.specs.ReadOutcomes.{Fails}
 use Rattle.aterm.specs.Parts.{derivation_of}
 use Rattle.aterm.specs.declared.derivation.Parts.{Parts}
 use Rattle.aterm.specs.Refused.{HasNoPaths, IsRefused, IsUnread}
-use Rattle.nar.specs.declared.steps.ReadError.{ReadError}
-use Rattle.nar.specs.declared.steps.ReadError.TheVariants.{Memory, Malformed}
+use Rattle.model.specs.declared.read_error.ReadError.{ReadError}
+use Rattle.model.specs.declared.read_error.ReadError.TheVariants.{Memory, Malformed}
 use Rattle.aterm.proofs.SoundWhole.{derivation_sound}
 use Rattle.aterm.proofs.Complete.{derivation_again}
 use Rattle.aterm.proofs.PathTexts.{paths_are_texts}

@@ -7,7 +7,7 @@ use Rattle.model.specs.Derivations.{character_text}
 use Rattle.aterm.proofs.Texts.{items_text, closed, closed_is, member_text, members_text, behind, variables_text, member_grouped, variable_grouped}
 use Rattle.model.specs.Results.{◌>>=◌}
 use Rattle.model.specs.DerivationTexts.{ItemReader, is_at, tag_at, with_item_first, items_at, escaped_at, plain_at, character_at, quoted_at, member_at, members_at, variable_at, variables_at}
-use Rattle.nar.proofs.ReadingLemmas.{if_true, if_either, some_same}
+use Rattle.model.proofs.ReadingLemmas.{if_true, if_either, some_same}
 
 -- ---- steps
 

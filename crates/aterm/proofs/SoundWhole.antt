@@ -7,7 +7,7 @@ use Rattle.aterm.proofs.Texts.{head, closed, members_text, variables_text, text_
 use Rattle.aterm.proofs.Sound.{bind_some, string_sound, members_sound, variables_sound}
 use Rattle.model.specs.Results.{◌>>=◌}
 use Rattle.model.specs.DerivationTexts.{quoted_at, members_at, variables_at, derivation_at}
-use Rattle.nar.proofs.ReadingLemmas.{if_true, some_same}
+use Rattle.model.proofs.ReadingLemmas.{if_true, some_same}
 
 -- what is read, with what was read before it
 abbrev made : List (List ℕ) → List (List ℕ) → List ℕ → List ℕ → List (List ℕ) → List (List ℕ × List ℕ) → Derivation

@@ -5,8 +5,8 @@ use Rattle.model.specs.Derivations.{Derivation, HasNoDerivation}
 use Rattle.model.specs.DerivationTexts.{derivation_of_text}
 use Rattle.model.specs.declared.refusal.Refusal.{Refusal}
 use Rattle.model.specs.declared.refusal.Refusal.TheVariants as refusal
-use Rattle.nar.specs.declared.steps.ReadError.{ReadError}
-use Rattle.nar.specs.declared.steps.ReadError.TheVariants.{Memory, Malformed}
+use Rattle.model.specs.declared.read_error.ReadError.{ReadError}
+use Rattle.model.specs.declared.read_error.ReadError.TheVariants.{Memory, Malformed}
 
 -- why texts are not read as paths
 abbrev pub AreNoPaths : List (List ℕ) → ReadError → Type 0

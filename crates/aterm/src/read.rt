@@ -8,12 +8,11 @@ ghost use Rattle.aterm.specs.Parts.{derivation_of};
 ghost use Rattle.aterm.specs.Runs.{ends_run};
 ghost use Rattle.aterm.specs.Strings.{derivation_read};
 ghost use Rattle.aterm.specs.Refused.{AreNoPaths, HasNoPaths, IsRefused, IsNotRead, IsUnread};
-ghost use Rattle.nar.specs.Outcomes.{Gives};
+ghost use Rattle.model.specs.ReadOutcomes.{Gives};
 
 use crate::derivation::{Derivation, Parts};
 use crate::text::Text;
-use model::Refusal;
-use nar::ReadError;
+use model::{ReadError, Refusal};
 use std::alloc::Global;
 use storepath::{StorePath, read_path};
 

@@ -17,10 +17,10 @@ ghost use Rattle.book.specs.declared.lag.Lag.TheVariants.{Nothing, Row as Lacked
 
 use crate::lag::Lag;
 use crate::publisher::Publisher;
+use closure_laws::closures_are_good;
 use history::{FrontId, Row};
 use laws::{isolation, timed_isolation};
 use model::Refusal;
-use repair::closures_are_good;
 use schedule::{Core, Event, Ready, Reply};
 use std::alloc::{AllocError, Global};
 use std::marker::Model;

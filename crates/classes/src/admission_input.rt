@@ -13,14 +13,13 @@ ghost use Rattle.model.specs.Limits.{greatest_rank};
 
 use crate::admitted::Admitted;
 use crate::admitted_text::AdmittedText;
-use crate::class::Class;
 use crate::known::Known;
 use aterm::{Derivation, Text, print_with_inputs};
 use hashmod::sha256;
 use model::{GREATEST_RANK, Refusal};
 use std::alloc::{AllocError, Global};
 use std::marker::Model;
-use storepath::{Kind, Name, StorePath, make_path};
+use storepath::{Class, Kind, Name, StorePath, make_path};
 
 // The digest of an input's masked text, in base 16.
 fn mask(alloc: Global, input: &Admitted) -> Result<Text, AllocError>

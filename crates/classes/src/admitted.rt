@@ -2,12 +2,11 @@
 
 ghost use Rattle.std.specs.Prelude.{◌≡◌, IfOk};
 
-use crate::class::Class;
 use aterm::Derivation;
 use std::alloc::{AllocError, Global};
 use std::marker::Model;
 use std::sync::Arc;
-use storepath::StorePath;
+use storepath::{Class, StorePath};
 
 /// What is known of a derivation, each once.
 struct Parts {

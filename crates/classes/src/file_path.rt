@@ -6,11 +6,11 @@ ghost use Rattle.model.specs.Derivations.{derivation_text, name_of};
 ghost use Rattle.model.specs.Classes.{is_one_of, sorted, derivation_path};
 ghost use Rattle.model.specs.declared.refusal.Refusal.TheVariants.{Memory};
 
-use crate::paths::set_of;
 use aterm::Derivation;
 use hashmod::sha256;
 use indexmap::IndexSet;
 use model::Refusal;
+use path_sets::set_of;
 use std::alloc::Global;
 use storepath::{Kind, Name, StorePath, make_path};
 

@@ -1,14 +1,14 @@
 //! What a desk knows.
 
 ghost use Rattle.std.specs.Prelude.{◌≡◌, ◌⊎◌, None, Ok, Err, false, [], ◌∷◌, ◌++◌, MatchResult, option_copied, length};
-ghost use Rattle.scan.specs.PathSets.{AreNew};
+ghost use Rattle.path_sets.specs.PathSets.{AreNew};
 ghost use Rattle.model.specs.Classes.{known_at, is_one_of};
 ghost use Rattle.model.specs.declared.refusal.Refusal.TheVariants.{Memory};
 
 use crate::admitted::Admitted;
 use indexmap::IndexMap;
 use model::Refusal;
-use scan::PathSet;
+use path_sets::PathSet;
 use std::alloc::Global;
 use std::marker::Model;
 use storepath::StorePath;

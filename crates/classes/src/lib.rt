@@ -5,17 +5,14 @@ mod admission_input;
 mod admissions;
 mod admitted;
 mod admitted_text;
-mod class;
 mod file_path;
 mod inputs;
 mod known;
-mod paths;
 
 pub use admission_input::AdmissionInput;
 pub use admissions::Admissions;
 pub use admitted::Admitted;
-pub use class::Class;
 pub use file_path::path_of_text;
 pub use inputs::input_classes;
 pub use known::Known;
-pub use paths::set_of;
+pub use storepath::Class;

@@ -7,6 +7,8 @@ mod job;
 mod output;
 mod reply;
 mod status;
+mod striking;
+mod undoing;
 
 pub use copied_reply::CopiedReply;
 pub use event::{Event, Request};
@@ -14,3 +16,4 @@ pub use job::{GoalId, Job};
 pub use output::Output;
 pub use reply::Reply;
 pub use status::Status;
+pub use striking::{strike, strike_timed};

@@ -22,7 +22,7 @@ use Rattle.events.specs.declared.reply.Reply.TheVariants as reply
 use Rattle.events.specs.declared.status.Status.TheVariants as status
 use Rattle.events.specs.Terms.{reply_of}
 use Rattle.realise.specs.Holdings.{Holdings}
-use Rattle.repair.specs.RepairLaws.{ServedAreMade}
+use Rattle.closure_laws.specs.RepairLaws.{ServedAreMade}
 use Rattle.repair.specs.AtHand.{MadeRepairs}
 use Rattle.repair.specs.Prepared.{HasRepaired, HasRepairedIf}
 use Rattle.jobs.specs.Owned.{OwnedByAll, goals_at, with_goals_at, ChangesGoal}

@@ -16,7 +16,6 @@ ghost use Rattle.records.specs.Trees.{record_at};
 ghost use Rattle.goals.specs.Reusing.{path_before, is_found_at, done_path, found_by, found_on, found_in, class_for, IsFinishedBuild, IsHeldAmong, UsesAgain};
 
 use crate::planned::Planned;
-use classes::Class;
 use handlers::State;
 use jobs::{Goal, Status};
 use model::Refusal;
@@ -24,7 +23,7 @@ use realise::{Desk, RecordsOf};
 use records::{Label, Realisation, Record, Resolved};
 use std::alloc::Global;
 use store::Table;
-use storepath::StorePath;
+use storepath::{Class, StorePath};
 use trust::{UserSet, has_place};
 
 /// Whether a label is among these.

@@ -43,7 +43,8 @@ use Rattle.handlers.specs.Parts.{beside_at, desk_among}
 use Rattle.handlers.specs.Serving.{AreServed, AreNotServed, AtPlace, IsServedAt, IsPlanned, IsNotPlanned, IsPlannedAt, MayServe}
 use Rattle.handlers.specs.Handling.{Fits, RefusedAtOnce, IsHandledKeeping, IsHandledByObservation}
 use Rattle.handlers.specs.Viewing.{bare, desk_at, IsView}
-use Rattle.handlers.proofs.WorldLemmas.{place_found, desk_found}
+use Rattle.trust.proofs.FirstPlaceLemmas.{place_found}
+use Rattle.handlers.proofs.WorldLemmas.{desk_found}
 use Rattle.handlers.proofs.StepLemmas.{TakesMemory, may_lack}
 use Rattle.handlers.proofs.HandlingLemmas.{place_there, sound_at, is_left}
 use Rattle.handlers.proofs.SupportLemmas.{gains_nothing}

@@ -19,7 +19,7 @@ use Rattle.model.specs.Worlds as worlds
 use Rattle.model.specs.Closures.{class_of_entry, tree_of_entry, path_of_class}
 use Rattle.model.proofs.BoolLemmas.{either, bytes_same, or_cases, both_parts}
 use Rattle.laws.proofs.MemberLemmas.{In, in_of, contains_of, from_filter, in_filter}
-use Rattle.repair.proofs.MadeLemmas.{all_from}
+use Rattle.closure_laws.proofs.MadeLemmas.{all_from}
 use Rattle.laws.proofs.SetLemmas.{clash}
 use Rattle.records.specs.Recorded.{Recorded, without_tree, same_recorded}
 use Rattle.records.specs.declared.desk_entry.DeskEntry.{DeskEntry}

@@ -36,7 +36,8 @@ use Rattle.handlers.specs.Handling.{Fits, Serves, ServesAtOnce, Stores, IsKept, 
 use Rattle.handlers.proofs.DeskLemmas.{sound_kept}
 use Rattle.handlers.proofs.DerivationLemmas.{derivation_read}
 use Rattle.store.proofs.TableLemmas.{put_once-Extends, put_once-All, found_holds}
-use Rattle.handlers.proofs.WorldLemmas.{IsPlace, place_found, place_below, place_is_among, no_place, desk_found}
+use Rattle.trust.proofs.FirstPlaceLemmas.{IsPlace, place_found, place_below, place_is_among, no_place}
+use Rattle.handlers.proofs.WorldLemmas.{desk_found}
 use Rattle.handlers.proofs.GoalLemmas.{goals_kept, all_goals_kept, goals_sound_at, beside_elsewhere, beside_here, goals_put_back}
 use Rattle.handlers.specs.Supported.{AreSupportedOn, GainsOnly}
 use Rattle.handlers.proofs.SupportLemmas.{gains_nothing, still_supported, supported_set}

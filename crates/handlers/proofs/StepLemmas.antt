@@ -26,7 +26,8 @@ use Rattle.handlers.specs.Handling.{is_fault, takes_no_memory, NeverLacksMemory,
 use Rattle.laws.proofs.SourceRequestLemmas.{add_source_cases, fetch_cases}
 use Rattle.laws.proofs.DerivationRequestLemmas.{add_derivation_cases}
 use Rattle.laws.proofs.OfferRequestLemmas.{offer_cases}
-use Rattle.handlers.proofs.WorldLemmas.{IsPlace, place_is_among, desk_found, among_changed, same_world}
+use Rattle.trust.proofs.FirstPlaceLemmas.{IsPlace, place_is_among}
+use Rattle.handlers.proofs.WorldLemmas.{desk_found, among_changed, same_world}
 
 -- what holds after either result holds
 pub either_way : {X E : Type 0} (r : Result X E) (P : Type 0) → OnOk r P → OnErr r P → P

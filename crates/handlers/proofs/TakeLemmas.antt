@@ -28,7 +28,7 @@ use Rattle.trust.specs.Trusting.{trusts}
 use Rattle.records.specs.Recorded.{Recorded}
 use Rattle.realise.specs.Holdings.{Holdings}
 use Rattle.records.specs.Trees.{source_at, record_at}
-use Rattle.repair.specs.RepairLaws.{IsServedEntry, ServedAreMade}
+use Rattle.closure_laws.specs.RepairLaws.{IsServedEntry, ServedAreMade}
 use Rattle.events.specs.declared.reply.Reply as Rust
 use Rattle.events.specs.declared.reply.Reply.TheVariants.{Path}
 use Rattle.handlers.specs.declared.state.State.{State}

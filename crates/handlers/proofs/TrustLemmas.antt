@@ -22,7 +22,8 @@ use Rattle.handlers.specs.Sound.{Beside, desk_of, IsSound, AreGoalsSound}
 use Rattle.handlers.specs.Viewing.{bare}
 use Rattle.handlers.specs.Parts.{goals_of, beside_at, parts, desk_among, IsStep}
 use Rattle.handlers.specs.Handling.{IsHandled}
-use Rattle.handlers.proofs.WorldLemmas.{IsPlace, place_found, place_is_among, no_place, desk_found}
+use Rattle.trust.proofs.FirstPlaceLemmas.{IsPlace, place_found, place_is_among, no_place}
+use Rattle.handlers.proofs.WorldLemmas.{desk_found}
 use Rattle.handlers.proofs.StepLemmas.{step_done}
 use Rattle.handlers.proofs.HandlingLemmas.{place_there, all_left}
 

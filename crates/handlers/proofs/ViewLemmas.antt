@@ -16,7 +16,8 @@ use Rattle.realise.specs.Holdings.{Holdings}
 use Rattle.handlers.specs.Sound.{desk_of}
 use Rattle.handlers.specs.Parts.{beside_at, desk_among}
 use Rattle.handlers.specs.Viewing.{places_of, bare, desk_at, IsView}
-use Rattle.handlers.proofs.WorldLemmas.{place_found, desk_found}
+use Rattle.trust.proofs.FirstPlaceLemmas.{place_found}
+use Rattle.handlers.proofs.WorldLemmas.{desk_found}
 use Rattle.handlers.proofs.HandlingLemmas.{place_there}
 use Rattle.trust.proofs.UsersLemmas.{distinct_users}
 

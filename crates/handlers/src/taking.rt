@@ -14,12 +14,13 @@ ghost use Rattle.handlers.specs.Taking.{tree_with_path, counted, missing_on, are
 
 use crate::given::entries_for;
 use crate::state::State;
+use closure_laws::served_are_made;
 use events::{CopiedReply, Reply};
 use model::{MOST_RECORDS, MOST_SOURCES, Refusal};
 use nar::Tree;
 use realise::{Desk, Limits};
 use records::{DeskEntry, Realisation};
-use repair::{Cache, served_are_made};
+use repair::Cache;
 use std::alloc::Global;
 use store::Table;
 use storepath::StorePath;

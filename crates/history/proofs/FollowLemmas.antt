@@ -12,7 +12,7 @@ use Rattle.model.specs.Steps.{world_after, after, reply_to}
 use Rattle.model.specs.Replies.{is_memory}
 use Rattle.model.specs.HashedTexts.{hashed, texts_of_event}
 use Rattle.model.specs.GivenClosures.{GivesGoodClosure, KeepsGoodClosure, GiveGoodClosures}
-use Rattle.repair.specs.GoodClosures.{IsWellFormed, ClosuresAreGood}
+use Rattle.closure_laws.specs.GoodClosures.{IsWellFormed, ClosuresAreGood}
 use Rattle.events.specs.declared.event.Event.{Event}
 use Rattle.events.specs.declared.reply.Reply.{Reply}
 use Rattle.events.specs.Terms.{event_of, reply_of}

@@ -8,7 +8,7 @@ use Rattle.model.specs.Worlds.{Setup, nothing}
 use Rattle.model.specs.Outcomes.{observation_of}
 use Rattle.model.specs.Steps.{world_after}
 use Rattle.model.specs.HashedTexts.{hashed}
-use Rattle.repair.specs.GoodClosures.{AreWellFormed}
+use Rattle.closure_laws.specs.GoodClosures.{AreWellFormed}
 use Rattle.schedule.specs.declared.state.Core.{Core}
 use Rattle.schedule.specs.Standing.{world_of, HasHashed}
 use Rattle.schedule.specs.declared.work.Ready.{Ready}

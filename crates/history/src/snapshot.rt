@@ -12,9 +12,9 @@ ghost use Rattle.history.specs.Showing.{showing};
 
 use crate::history_prefix::HistoryPrefix;
 use crate::law::Shown;
+use closure_laws::closures_are_good;
 use left_right::Absorb;
 use model::Refusal;
-use repair::closures_are_good;
 use schedule::{Core, Preparation, PrepareInput, Query, ReadResult};
 use std::alloc::{AllocError, Global};
 use std::marker::Model;

@@ -4,8 +4,8 @@ ghost use Rattle.std.specs.Prelude.{◌≡◌, ◌↔◌, IsTrue, option_copied}
 ghost use Rattle.std.specs.Cmp.Lexicographic.{pointwise};
 ghost use Rattle.jobs.specs.Shared.{equal_class, equal_class_of, equal_label, equal_but_tree, equal_but_trees, trees};
 
-use classes::Class;
 use records::{Entry, Label, Resolved};
+use storepath::Class;
 
 /// Whether two classes are equal: their paths and their ranks.
 fn equal_class(one: &Class, other: &Class) -> bool

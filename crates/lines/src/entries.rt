@@ -6,9 +6,9 @@ ghost use Rattle.model.specs.Closures.{class_of_entry, labels_of_entry, tree_of_
 ghost use Rattle.model.specs.Talk.{class_text, label_text, labels_text, entry_text};
 
 use crate::pieces::{add, add_number};
-use classes::Class;
 use records::{Entry, Label};
 use std::alloc::{AllocError, Global};
+use storepath::Class;
 
 /// Adds a mark, and what a path is there for: the path of a class, or `source`.
 fn add_class(text: &mut Vec<u8>, mark: &[u8], class: Option<&Class>) -> Result<(), AllocError>

@@ -21,6 +21,7 @@ pub mod Choices
 pub mod Repairs
 pub mod Closures
 pub mod ArchiveReading
+pub mod ReadOutcomes
 pub mod Outputs
 pub mod Goals
 pub mod Endings

@@ -2,12 +2,12 @@
 
 ghost use Rattle.std.specs.Prelude.{IfErr};
 ghost use Rattle.model.specs.ArchiveReading.{executable_at, head_at, closed_at, name_at};
-ghost use Rattle.nar.specs.Outcomes.{Gives, IsMalformed};
+ghost use Rattle.model.specs.ReadOutcomes.{Gives, IsMalformed};
 ghost use Rattle.nar.specs.Steps.{next_is_entry, next_name_at};
 
 use crate::names::{comes_before, is_name};
-use crate::steps::ReadError;
 use crate::strings::{read_string, skip_string};
+use model::ReadError;
 
 /// The beginning of a node, with the name of its kind, and the rest.
 ///

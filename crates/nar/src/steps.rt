@@ -2,40 +2,9 @@
 
 ghost use Rattle.std.specs.Prelude.{IfErr};
 ghost use Rattle.model.specs.ArchiveReading.{split_at, prefix_at};
-ghost use Rattle.nar.specs.Outcomes.{Gives, IsMalformed};
+ghost use Rattle.model.specs.ReadOutcomes.{Gives, IsMalformed};
 
-use std::alloc::{AllocError, AllocFailed};
-
-/// Why nothing was read.
-#[derive(Drop)]
-pub enum ReadError {
-    /// No text that is read so begins with these bytes.
-    Malformed,
-    /// Memory was refused.
-    Memory,
-}
-
-impl From<AllocError> for ReadError {
-    ghost use Rattle.std.specs.Prelude.{◌≡◌};
-    ghost use Rattle.nar.specs.declared.steps.ReadError.TheVariants.{Memory};
-
-    ghost from_gives = { λ _ e. e ≡ Memory };
-
-    fn from(_error: AllocError) -> ReadError {
-        ReadError::Memory
-    }
-}
-
-impl<T: Drop> From<AllocFailed<T>> for ReadError {
-    ghost use Rattle.std.specs.Prelude.{◌≡◌};
-    ghost use Rattle.nar.specs.declared.steps.ReadError.TheVariants.{Memory};
-
-    ghost from_gives = { λ _ e. e ≡ Memory };
-
-    fn from(_error: AllocFailed<T>) -> ReadError {
-        ReadError::Memory
-    }
-}
+use model::ReadError;
 
 /// So many bytes, and the rest.
 ///

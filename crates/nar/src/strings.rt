@@ -6,12 +6,12 @@ ghost use Rattle.std.specs.Prelude.{◌≡◌, ◌-◌, ◌%◌, ◌++◌, repli
 ghost use Rattle.model.specs.Archives.{archive_string};
 ghost use Rattle.model.specs.ArchiveReading.{length_at, string_at, token_at};
 ghost use Rattle.model.specs.declared.refusal.Refusal.TheVariants.{BadNar, Memory};
-ghost use Rattle.nar.specs.Outcomes.{Gives, IsMalformed};
+ghost use Rattle.model.specs.ReadOutcomes.{Gives, IsMalformed};
 
-use crate::steps::{ReadError, skip_prefix, split};
+use crate::steps::{skip_prefix, split};
 use crate::text::Text;
 use crate::walk::put_string;
-use model::Refusal;
+use model::{ReadError, Refusal};
 use std::alloc::Global;
 
 const ZEROS: [u8; 8] = [0; 8];

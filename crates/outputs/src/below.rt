@@ -8,9 +8,10 @@ ghost use Rattle.outputs.specs.Below.{AreBelow};
 ghost use Rattle.outputs.specs.Reaching.{AreReached, AreSame, IsReached, IsStep, chosen, has_class, is_label_for, is_named, is_named_in, is_news, is_record_named};
 
 use aterm::Derivation;
-use classes::{Known, input_classes, set_of};
+use classes::{Known, input_classes};
 use indexmap::IndexSet;
 use model::Refusal;
+use path_sets::set_of;
 use realise::{Desk, RecordsOf};
 use records::{Label, Record};
 use std::alloc::Global;

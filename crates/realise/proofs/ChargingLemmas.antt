@@ -7,7 +7,7 @@ use Rattle.std.proofs.lemmas.List.Folds.{list_any-append}
 use Rattle.std.proofs.lemmas.List.Sums.{sum_by-cons}
 use Rattle.indexmap.specs.IndexSet.{insert_key}
 use Rattle.model.specs.Classes.{is_one_of}
-use Rattle.scan.proofs.PathSetLemmas.{one_of_keys}
+use Rattle.path_sets.proofs.PathSetLemmas.{one_of_keys}
 use Rattle.classes.proofs.EntryLemmas.{any_insert}
 use Rattle.records.specs.Recorded.{Recorded}
 use Rattle.records.specs.declared.desk_entry.DeskEntry.{DeskEntry}

@@ -16,7 +16,7 @@ use Rattle.model.specs.Classes.{Class}
 use Rattle.model.specs.Worlds.{Label}
 use Rattle.model.specs.ForgetRequests.{is_class_at}
 use Rattle.model.proofs.BoolLemmas.{either, same_bytes, bytes_eq_sym, both_parts, or_cases}
-use Rattle.scan.proofs.PathSetLemmas.{one_of_keys}
+use Rattle.path_sets.proofs.PathSetLemmas.{one_of_keys}
 use Rattle.records.specs.Recorded.{Recorded}
 use Rattle.realise.proofs.CountedLemmas.{some_more}
 use Rattle.realise.specs.declared.desk.Desk.TheInside.{Inside}

@@ -10,7 +10,7 @@ use Rattle.std.proofs.lemmas.Map.Made.{is_some-lookup}
 use Rattle.indexmap.specs.IndexSet.{insert_key}
 use Rattle.model.specs.Classes.{is_one_of}
 use Rattle.model.proofs.BoolLemmas.{either}
-use Rattle.scan.proofs.PathSetLemmas.{one_of_keys}
+use Rattle.path_sets.proofs.PathSetLemmas.{one_of_keys}
 use Rattle.classes.proofs.EntryLemmas.{any_insert}
 use Rattle.records.specs.declared.desk_entry.DeskEntry.{DeskEntry}
 use Rattle.realise.specs.Held.{paths_held, bytes_held, with_archive, with_archives, charged_beside, IsSetOf}

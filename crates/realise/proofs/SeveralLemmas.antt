@@ -8,7 +8,7 @@ use Rattle.model.specs.Classes.{Known, is_one_of}
 use Rattle.model.specs.Reach.{is_among}
 use Rattle.model.specs.Worlds.{are_distinct}
 use Rattle.model.proofs.BoolLemmas.{both_parts, bytes_eq_sym}
-use Rattle.scan.specs.PathSets.{AreNew}
+use Rattle.path_sets.specs.PathSets.{AreNew}
 use Rattle.records.specs.Recorded.{Recorded}
 use Rattle.records.specs.declared.desk_entry.DeskEntry.{DeskEntry}
 use Rattle.records.specs.declared.desk_entry.DeskEntry.TheVariants as entry

@@ -4,7 +4,7 @@ ghost use Rattle.std.specs.Prelude.{◌≡◌, ◌⊎◌, ◌+◌, ◌<◌, ◌�
 ghost use Rattle.std.specs.Option.{option_copied};
 ghost use Rattle.model.specs.Classes.{known_at, is_one_of};
 ghost use Rattle.model.specs.Worlds.{pinned, unpinned};
-ghost use Rattle.scan.specs.PathSets.{AreNew};
+ghost use Rattle.path_sets.specs.PathSets.{AreNew};
 ghost use Rattle.records.specs.DeskEntries.{entry_path};
 ghost use Rattle.std.specs.Map.Iter.{ShowsInOrder, deref};
 ghost use Rattle.realise.specs.Held.{paths_held, IsSetOf};

@@ -9,13 +9,12 @@ ghost use Rattle.records.specs.ClosureEntries.{is_entry_of};
 
 use crate::label::Label;
 use crate::realisation::{Realisation, Source};
-use classes::Class;
 use model::Refusal;
 use nar::Tree;
 use std::alloc::AllocError;
 use std::marker::Model;
 use std::sync::ArcSlice;
-use storepath::StorePath;
+use storepath::{Class, StorePath};
 
 /// What stands in an entry.
 enum Item {

@@ -3,10 +3,9 @@
 ghost use Rattle.std.specs.Prelude.{◌≡◌, option_copied};
 ghost use Rattle.model.specs.Worlds.{same_class};
 
-use classes::Class;
 use std::alloc::AllocError;
 use std::marker::Model;
-use storepath::StorePath;
+use storepath::{Class, StorePath};
 
 /// A path that a tree refers to, with the class that it is an output of; a source has none.
 pub struct Label {

@@ -8,12 +8,12 @@ ghost use Rattle.records.specs.Ordered.{least_class, labels_at};
 ghost use Rattle.records.specs.Recorded.{AreInPathOrder};
 
 use crate::label::Label;
-use classes::{Class, set_of};
 use indexmap::IndexSet;
 use model::Refusal;
+use path_sets::set_of;
 use std::alloc::Global;
 use std::collections::BTreeMap;
-use storepath::StorePath;
+use storepath::{Class, StorePath};
 
 /// Whether the class of a label goes before that of another: by its path, and before a source.
 pub fn is_class_before(one: Option<&Class>, other: Option<&Class>) -> bool

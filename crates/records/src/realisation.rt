@@ -5,11 +5,10 @@ ghost use Rattle.records.specs.Recorded.{with_tree, AreInPathOrder, without_tree
 
 use crate::label::Label;
 use crate::record::Record;
-use classes::Class;
 use nar::Tree;
 use std::alloc::AllocError;
 use std::marker::Model;
-use storepath::StorePath;
+use storepath::{Class, StorePath};
 
 /// A record with its tree. A copy shares both.
 pub struct Realisation {

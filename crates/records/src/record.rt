@@ -7,12 +7,11 @@ ghost use Rattle.records.specs.Recorded.{AreInPathOrder, same_recorded};
 ghost use Rattle.model.specs.declared.refusal.Refusal.TheVariants.{Memory};
 
 use crate::label::Label;
-use classes::Class;
 use model::Refusal;
 use std::alloc::{AllocError, Global};
 use std::marker::Model;
 use std::sync::{Arc, ArcSlice};
-use storepath::StorePath;
+use storepath::{Class, StorePath};
 
 /// What a record says.
 struct Parts {

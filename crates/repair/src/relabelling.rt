@@ -22,9 +22,10 @@ use crate::replacements::{
 use indexmap::IndexMap;
 use model::{Refusal, RewriteFault};
 use nar::{Nar, encode};
+use path_sets::PathSet;
 use records::{Label, Realisation, Record};
 use rewrite::{Candidates, Named, settle, substitute};
-use scan::{PathSet, occurrences};
+use scan::occurrences;
 use std::alloc::{AllocError, Global};
 use storepath::{Name, StorePath};
 

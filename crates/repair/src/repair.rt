@@ -11,12 +11,11 @@ ghost use Rattle.records.specs.Codes.{record_code};
 
 use crate::relabelling::repaired;
 use crate::replacements::Replacement;
-use classes::Class;
 use model::Refusal;
 use nar::Tree;
 use records::Realisation;
 use std::alloc::{AllocError, Global};
-use storepath::StorePath;
+use storepath::{Class, StorePath};
 
 /// Whether two classes are one, of one rank.
 fn same_class(one: &Class, other: &Class) -> bool

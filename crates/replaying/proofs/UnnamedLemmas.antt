@@ -10,7 +10,7 @@ use Rattle.model.specs.Worlds.{are_users}
 use Rattle.model.specs.Lines.{lines_of}
 use Rattle.model.specs.Talk.{LineRow, Silent, Names, Refuses, Asks, Waits, Seen, fresh, seen_after, after_all, GetsNext, users_in}
 use Rattle.laws.proofs.TalkLemmas.{named_are_users}
-use Rattle.schedule.specs.Ever.{why_untold}
+use Rattle.events.specs.Ever.{why_untold}
 use Rattle.schedule.specs.Standing.{IsRefusedFor}
 use Rattle.session.specs.Serving.{IsUnwritten, IsWant, TellsEnd}
 use Rattle.session.specs.Taking.{IsFirstLine}

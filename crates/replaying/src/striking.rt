@@ -7,7 +7,7 @@ ghost use Rattle.model.specs.Limits.{most_charge};
 ghost use Rattle.model.specs.Steps.{replies_to};
 ghost use Rattle.model.specs.declared.refusal.Refusal.TheVariants.{InputFault, Memory, OutputFault};
 ghost use Rattle.events.specs.Terms.{event_of, answer_of};
-ghost use Rattle.schedule.specs.Ever.{run_of, why_untold};
+ghost use Rattle.events.specs.Ever.{run_of, why_untold};
 ghost use Rattle.schedule.specs.Standing.{setup_for};
 ghost use Rattle.session.specs.Serving.{EndsByCounts, HasFailed, IsShown, IsUnwritten};
 ghost use Rattle.replaying.specs.BadLines.{end_of, ended_with};

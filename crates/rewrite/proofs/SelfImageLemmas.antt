@@ -16,7 +16,7 @@ use Rattle.model.proofs.BoolLemmas.{bytes_same, same_bytes}
 use Rattle.laws.proofs.MapLemmas.{both_ways, kept_image, parts_split}
 use Rattle.laws.proofs.MemberLemmas.{In, in_left, in_right, in_append, in_filter, from_filter, in_flat_map, from_flat_map}
 use Rattle.laws.proofs.SetLemmas.{same_set}
-use Rattle.scan.specs.PathSets.{with_part}
+use Rattle.path_sets.specs.PathSets.{with_part}
 use Rattle.rewrite.specs.Laws.{text_with}
 use Rattle.rewrite.specs.Settled.{HasPartsOf, has_part}
 use Rattle.model.specs.Paths.{IsPath}

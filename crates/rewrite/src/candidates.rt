@@ -2,7 +2,7 @@
 
 ghost use Rattle.std.specs.Prelude.{◌≡◌};
 
-use scan::PathSet;
+use path_sets::PathSet;
 use std::marker::Model;
 use storepath::StorePath;
 

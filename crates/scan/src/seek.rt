@@ -4,7 +4,7 @@ ghost use Rattle.std.specs.Prelude.{◌≡◌, ◌+◌, ◌^◌, ◌<◌, ℕ};
 ghost use Rattle.model.specs.Occurrences.{Keys as KeysOf, AreKeys};
 
 use crate::keys::Keys;
-use crate::path_set::PathSet;
+use path_sets::PathSet;
 
 /// What tells whether 32 bytes are a hash part that is sought, and counts how often it was asked.
 pub trait Seek {
@@ -69,7 +69,7 @@ pub struct SoughtBeside<'a> {
 impl Seek for SoughtBeside<'_> {
     ghost use Rattle.std.specs.Prelude.{◌++◌};
     ghost use Rattle.model.specs.Occurrences.{among};
-    ghost use Rattle.scan.specs.PathSets.{parts_of};
+    ghost use Rattle.path_sets.specs.PathSets.{parts_of};
 
     ghost keys = { λ s. among (s.keys.now ++ parts_of s.paths.now) };
 

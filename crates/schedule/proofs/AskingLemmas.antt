@@ -10,7 +10,7 @@ use Rattle.model.specs.RunningJobs.{with_kept, led_job, job_led_by}
 use Rattle.trust.specs.Naming.{place_of, name_at, IsWithin}
 use Rattle.realise.specs.Holdings.{Holdings}
 use Rattle.handlers.specs.Parts.{desk_among, beside_at, goals_of}
-use Rattle.handlers.proofs.WorldLemmas.{place_found, place_is_among, no_place}
+use Rattle.trust.proofs.FirstPlaceLemmas.{place_found, place_is_among, no_place}
 use Rattle.trust.proofs.PlaceLemmas.{name_found}
 use Rattle.handlers.proofs.ClosureLemmas.{his_desk}
 

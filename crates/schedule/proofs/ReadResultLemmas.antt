@@ -4,7 +4,7 @@ use Rattle.model.specs.declared.refusal.Refusal.{Refusal}
 use Rattle.model.specs.Events as events
 use Rattle.model.specs.Laws.{NeverFails}
 use Rattle.rewrite.specs.Laws.{OneTreeAtAPath}
-use Rattle.repair.specs.GoodClosures.{IsWellFormed}
+use Rattle.closure_laws.specs.GoodClosures.{IsWellFormed}
 use Rattle.handlers.specs.Handling.{IsHandled}
 use Rattle.events.specs.declared.reply.Reply.{Reply}
 use Rattle.events.specs.declared.reply.Reply.TheVariants.{Refused}

@@ -3,6 +3,7 @@
 ghost use Rattle.std.specs.Prelude.{◌≡◌, ◌↔◌, true, false, length, IfOk, IfErr};
 ghost use Rattle.std.specs.List.{list_all};
 ghost use Rattle.model.specs.Paths.{is_digit_32};
+ghost use Rattle.model.specs.Occurrences.{IsHashPart};
 ghost use Rattle.storepath.specs.Parts.{is_hash_part};
 
 use crate::base32::is_digit;
@@ -80,6 +81,14 @@ impl HashPart {
         ensures value { result.now ≡ self.now }
         ensures length { length self.now ≡ 32 }
         ensures digits { list_all is_digit_32 self.now ≡ true }
+    {
+        &self.digits
+    }
+
+    /// The same as an array.
+    pub fn digits(&self) -> &[u8; 32]
+        ensures value { result.now ≡ self.now }
+        ensures digits { IsHashPart self.now }
     {
         &self.digits
     }

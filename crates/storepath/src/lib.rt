@@ -2,6 +2,7 @@
 #![tactic(auto)]
 
 mod base32;
+mod class;
 mod hash_part;
 mod kind;
 mod laws;
@@ -10,6 +11,7 @@ mod order;
 mod path;
 
 pub use base32::{from_base32, to_base32};
+pub use class::Class;
 pub use hash_part::HashPart;
 pub use kind::{Kind, make_path};
 pub use laws::{paths_differ, paths_pass};

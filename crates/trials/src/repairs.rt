@@ -1,6 +1,5 @@
 //! Records that are repaired, with what a cache keeps of them.
 
-use classes::Class;
 use indexmap::IndexMap;
 use model::Refusal;
 use nar::Tree;
@@ -9,7 +8,7 @@ use repair::{Cache, serve};
 use std::alloc::Global;
 use std::hash::RandomState;
 use std::num::NonZeroUsize;
-use storepath::{StorePath, read_path};
+use storepath::{Class, StorePath, read_path};
 use trial_lines::{Answer, number};
 
 /// The number of the path that records name, and of that by which what they name is served.

@@ -6,8 +6,9 @@ use crate::paths::paths_of;
 use crate::trees::{decoded, tell as tell_tree};
 use model::Refusal;
 use nar::{Nar, encode, read_tree_text};
+use path_sets::PathSet;
 use rewrite::{Candidates, Images, Named, settle, source, substitute};
-use scan::{Keys, PathSet, Places, occurrences};
+use scan::{Keys, Places, occurrences};
 use std::alloc::Global;
 use storepath::{HashPart, Name, StorePath};
 

@@ -1,7 +1,7 @@
 use Rattle.std.proofs.Common.{rules, ◌≡◌, ◌∷◌, codes, [], ◌++◌, true, false, arith, length, drop}
 use Rattle.std.proofs.lemmas.Result.{err_from_is_err_and}
 use Rattle.model.specs.DerivationTexts.{is_at, member_at, members_at}
-use Rattle.nar.proofs.ReadingLemmas.{fails_on}
+use Rattle.model.proofs.ReadingLemmas.{fails_on}
 use Rattle.aterm.proofs.Items.{loop_ends, loop_fails, loop_spent, loop_goes_on}
 use Rattle.aterm.proofs.read.read_members.Goals as goal
 

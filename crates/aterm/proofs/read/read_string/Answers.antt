@@ -2,7 +2,7 @@ use Rattle.std.proofs.Common.{rules, ◌≡◌, ◌∷◌, codes, [], ◌++◌, 
 use Rattle.std.proofs.lemmas.Result.{err_from_is_err_and}
 use Rattle.std.specs.Prelude.{Some}
 use Rattle.model.specs.DerivationTexts.{is_at}
-use Rattle.nar.proofs.ReadingLemmas.{fails_on}
+use Rattle.model.proofs.ReadingLemmas.{fails_on}
 use Rattle.aterm.proofs.PlainRuns.{run_read, run_never_ends, quote_read, none_read, escape_read, escape_is, no_escape, escape_shorter, tag_shorter}
 use Rattle.aterm.proofs.read.read_string.Goals as goal
 

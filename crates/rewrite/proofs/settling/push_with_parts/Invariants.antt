@@ -1,6 +1,6 @@
 use Rattle.std.proofs.Common.{◌≡◌, ◌++◌, take}
 use Rattle.std.specs.List.{flat_map}
-use Rattle.scan.specs.PathSets.{with_part}
+use Rattle.path_sets.specs.PathSets.{with_part}
 use Rattle.rewrite.proofs.settling.push_with_parts.Given as goal
 
 abbrev pub invariant-loop-part : goal.invariant-loop-part

@@ -1,5 +1,5 @@
 use Rattle.std.proofs.Common.{◌≡◌, ◌+◌, ◌<◌, ◌^◌, ℕ, List, refl, sym, ap, subst, ◌∙◌, arith}
-use Rattle.scan.specs.PathSets.{AreNew}
+use Rattle.path_sets.specs.PathSets.{AreNew}
 use Rattle.records.specs.declared.desk_entry.DeskEntry.{DeskEntry}
 use Rattle.realise.specs.Held.{paths_held, bytes_held, with_archives, IsSetOf}
 use Rattle.realise.specs.Holdings.{Holdings, paths_of, bare, holds_each, charged_all, sources_in, IsClosed}

@@ -6,7 +6,7 @@ use Rattle.events.specs.Terms.{event_of}
 use Rattle.schedule.specs.Queries.{event_for}
 use Rattle.schedule.specs.Standing.{parts_of}
 use Rattle.handlers.proofs.HandlingLemmas.{stranger}
-use Rattle.handlers.proofs.WorldLemmas.{place_below}
+use Rattle.trust.proofs.FirstPlaceLemmas.{place_below}
 use Rattle.schedule.proofs.state.Core.find.Goals as goal
 
 pub find_at-requires : goal.find_at-requires

@@ -1,5 +1,5 @@
 use Rattle.std.proofs.Common.{◌≡◌, ◌∙◌, List, ℕ, None, Some, false, true, sym}
-use Rattle.handlers.proofs.WorldLemmas.{no_place}
+use Rattle.trust.proofs.FirstPlaceLemmas.{no_place}
 use Rattle.trust.specs.Naming.{place_of}
 use Rattle.schedule.specs.Standing.{setup_of}
 use Rattle.schedule.proofs.state.Core.need.Goals as goal

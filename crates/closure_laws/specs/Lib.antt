@@ -1,0 +1,3 @@
+pub mod SoundPlans
+pub mod RepairLaws
+pub mod GoodClosures

@@ -1,5 +1,0 @@
-use Rattle.scan.proofs.PathSetLemmas.{are_keys}
-use Rattle.scan.proofs.path_table.PathTable.sound.Goals as goal
-
-pub returns-clause-keys : goal.returns-clause-keys
-returns-clause-keys c = rw (← c.self.view_is) (are_keys c.self.inside.paths.keys c.self.invariant.parts_are)

@@ -1,8 +1,0 @@
-use Rattle.std.specs.Prelude.{map}
-use Rattle.trust.specs.Trusting.{trusts}
-use Rattle.events.specs.Terms.{event_of}
-use Rattle.schedule.proofs.KeepingLemmas.{IsTurning}
-use Rattle.schedule.proofs.striking.exchange_all.Given as goal
-
-abbrev pub invariant-loop-turn : goal.invariant-loop-turn
-invariant-loop-turn l = IsTurning l.users (trusts l.fn.trust) (map event_of l.fn.events.items) (map event_of l.events.items) (trusts l.trust) l._turn
