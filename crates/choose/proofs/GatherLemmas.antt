@@ -10,8 +10,8 @@ use Rattle.laws.proofs.MemberLemmas.{In, in_left, in_right, in_append, in_filter
 use Rattle.laws.proofs.ClosureLemmas.{some_same}
 use Rattle.choose.specs.Visible.{Visible, source_in}
 use Rattle.choose.specs.Gathering.{has_class, with_chosen, with_class, has_source, with_found, with_source, with_named, with_label, with_labels, IsChoiceAmong, IsGathered}
-use Rattle.choose.proofs.SetLemmas.{apart_push}
-use Rattle.choose.proofs.OrderLemmas.{classes_apart, sources_apart}
+use Rattle.records.proofs.SetLemmas.{apart_push}
+use Rattle.records.proofs.EntryOrderLemmas.{classes_apart, sources_apart}
 use Rattle.choose.proofs.ReachedLemmas.{needed_first, needed_next, source_own}
 use Rattle.choose.proofs.ChoosingLemmas.{false_true}
 

@@ -1,5 +1,3 @@
-pub mod SetLemmas
-pub mod OrderLemmas
 pub mod ReachedLemmas
 pub mod ChoosingLemmas
 pub mod SourceLemmas

@@ -16,9 +16,10 @@ use Rattle.model.proofs.BoolLemmas.{either, bytes_same}
 use Rattle.laws.proofs.MemberLemmas.{In, in_of, contains_of, any_true, in_right}
 use Rattle.laws.proofs.ClosureLemmas.{chosen_among}
 use Rattle.choose.specs.Visible.{Visible, choose_in, source_in, plan_in}
-use Rattle.choose.specs.Gathering.{has_class, with_chosen, with_class, has_source, with_found, with_source, with_named, with_label, with_labels, IsChoiceAmong, IsGathered, IsTooMuch, IsInOrder}
-use Rattle.choose.proofs.SetLemmas.{sorted_ascends}
-use Rattle.choose.proofs.OrderLemmas.{rank_before-Weak, source_before-Weak}
+use Rattle.records.specs.Plans.{IsInOrder}
+use Rattle.choose.specs.Gathering.{has_class, with_chosen, with_class, has_source, with_found, with_source, with_named, with_label, with_labels, IsChoiceAmong, IsGathered, IsTooMuch}
+use Rattle.records.proofs.SetLemmas.{sorted_ascends}
+use Rattle.records.proofs.EntryOrderLemmas.{rank_before-Weak, source_before-Weak}
 use Rattle.choose.proofs.ReachedLemmas.{one_of_class, planned, too_many, none_chosen}
 use Rattle.choose.proofs.ChoosingLemmas.{false_true}
 use Rattle.choose.proofs.GatherLemmas.{asked_more, sources_more, below_more}

@@ -15,9 +15,9 @@ use Rattle.laws.proofs.AllReachedLemmas.{reached_first, reached_next, reached_le
 use Rattle.choose.specs.Visible.{Visible}
 use Rattle.choose.specs.Gathering.{IsChoiceAmong, IsGathered}
 use Rattle.laws.proofs.SetLemmas.{Ascends, same_members, set_ascends}
-use Rattle.choose.proofs.SetLemmas.{no_more, apart_distinct}
+use Rattle.records.proofs.SetLemmas.{no_more, apart_distinct}
 use Rattle.laws.proofs.OrderLemmas.{same_source}
-use Rattle.choose.proofs.OrderLemmas.{rank_before-Weak, same_class_path, source_before-Weak}
+use Rattle.records.proofs.EntryOrderLemmas.{rank_before-Weak, same_class_path, source_before-Weak}
 
 -- ---- what is needed
 

@@ -6,7 +6,7 @@ use Rattle.model.specs.Worlds.{Source, Label, Record}
 use Rattle.model.specs.Classes.{Class}
 use Rattle.model.specs.Choices.{is_of, rank_before, source_before, needed_records, classes_below, sources_below, Plan}
 use Rattle.laws.proofs.MemberLemmas.{In}
-use Rattle.laws.proofs.SetLemmas.{Ascends}
+use Rattle.records.specs.Plans.{AreApart}
 use Rattle.choose.specs.Visible.{Visible, source_in}
 
 abbrev pub has_class : List ℕ → Plan → Bool
@@ -51,15 +51,6 @@ pub record AreKeys (classes paths : List (List ℕ)) (records : List Record) (so
 
 -- ---- what is kept while it is gathered
 
--- two members are parted by an order
-abbrev pub IsApart : {X : Type 0} → (X → X → Bool) → X → X → Type 0
-IsApart before x y = (before x y ≡ true) ⊎ (before y x ≡ true)
-
--- all members are parted from one another
-abbrev pub AreApart : {X : Type 0} → (X → X → Bool) → List X → Type 0
-AreApart before [] = Unit {0}
-AreApart {X = X} before (x ∷ xs) = ((y : X) → In y xs → IsApart before x y) × AreApart before xs
-
 -- what is chosen for a class is one of these records, and is of the class
 abbrev pub IsChoiceAmong : List Record → (List ℕ → Option Record) → Type 0
 IsChoiceAmong records choice = (c : List ℕ) (r : Record) → choice c ≡ Some r → In r records × (r.class.path ≡ c)
@@ -89,14 +80,3 @@ pub record IsTooMuch (view : Visible) (choice : List ℕ → Option Record) (cla
   pub plan : Plan
   pub gathered : IsGathered view choice classes sources asked_classes asked_sources below plan
   pub many : most_entries < length plan.records + length plan.sources
-
--- ---- what a plan keeps
-
--- records and sources are in order, with one record for a class
-pub record IsInOrder (p : Plan) : Type 0 where
-  pub records : Ascends rank_before p.records
-  pub once : (q r : Record) → In q p.records → In r p.records → q.class.path ≡ r.class.path → q ≡ r
-  pub sources : Ascends source_before p.sources
-
-abbrev pub AreInOrder : List Record → List Source → Type 0
-AreInOrder records sources = IsInOrder (record { records = records; sources = sources })

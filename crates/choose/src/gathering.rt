@@ -39,7 +39,7 @@ impl Drop for Gathering {
 }
 
 impl Model for Gathering {
-    ghost use Rattle.choose.specs.Codes.{plan_code};
+    ghost use Rattle.records.specs.Codes.{plan_code};
     ghost use Rattle.choose.specs.Gathering.{AreKeys};
     ghost use Rattle.model.specs.Choices.{Plan as PlanValue};
 

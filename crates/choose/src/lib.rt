@@ -5,11 +5,9 @@
 mod choice;
 mod gathering;
 mod order;
-mod planned;
 mod planning;
 mod view;
 
-pub use planned::Plan;
 pub use planning::plan;
-pub use records::{Closure, Entry, Realisation, Source};
+pub use records::{Closure, Entry, Plan, Realisation, Source};
 pub use view::View;

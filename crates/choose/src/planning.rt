@@ -12,11 +12,10 @@ ghost use Rattle.choose.specs.Gathering.{IsChoiceAmong, IsGathered, HasClasses, 
 
 use crate::gathering::Gathering;
 use crate::order::{compare_records, compare_sources};
-use crate::planned::Plan;
 use crate::view::View;
 use model::Refusal;
 use realise::Pins;
-use records::{Realisation, Source};
+use records::{Plan, Realisation, Source};
 use std::alloc::Global;
 use storepath::StorePath;
 
@@ -141,5 +140,5 @@ pub fn plan(
     let (found_records, found_sources) = gathering.into_parts();
     let records = sort_records(found_records)?;
     let sources = sort_sources(found_sources)?;
-    Ok(Plan { records, sources })
+    Ok(Plan::new(records, sources))
 }

@@ -11,7 +11,7 @@ use Rattle.model.specs.Choices.{Plan}
 use Rattle.model.specs.Repairs.{Replacement, replacements_of, serve, chosen_in, serve_all}
 use Rattle.model.specs.Closures.{entry_before, entries_with, served_entries, served_plan}
 use Rattle.laws.proofs.MemberLemmas.{In, in_of, contains_of, in_left, in_right, in_append, in_map, from_map, in_flat_map, Stands, in_set}
-use Rattle.choose.proofs.OrderLemmas.{one_entry}
+use Rattle.records.proofs.EntryOrderLemmas.{one_entry}
 use Rattle.records.specs.Sound.{IsSoundRecord, IsSoundPlan}
 use Rattle.closure_laws.specs.SoundPlans.{AreReplacements, PartsTellApart}
 use Rattle.closure_laws.specs.RepairLaws.{replaced_paths, paths_of_record, paths_in, PlansKeepNoReplaced}

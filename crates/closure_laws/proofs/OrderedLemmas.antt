@@ -5,9 +5,9 @@ use Rattle.model.specs.Worlds.{Source, Record, Desk, Pin}
 use Rattle.model.specs.Choices.{Plan, rank_before, source_before, needed_records, visible_records, visible_sources, choose, needed_sources, source_among, closure_plan}
 use Rattle.laws.proofs.MemberLemmas.{In, from_set}
 use Rattle.laws.proofs.ClosureLemmas.{IsOfClass, choose_own, needed_chosen, chosen_for, sources_for, plan_is}
-use Rattle.choose.specs.Gathering.{IsInOrder}
+use Rattle.records.specs.Plans.{IsInOrder}
 use Rattle.laws.proofs.SetLemmas.{set_ascends}
-use Rattle.choose.proofs.OrderLemmas.{rank_before-Weak, source_before-Weak}
+use Rattle.records.proofs.EntryOrderLemmas.{rank_before-Weak, source_before-Weak}
 use Rattle.choose.proofs.ReachedLemmas.{one_of_class}
 use Rattle.closure_laws.specs.RepairLaws.{ClosuresKeepNoReplaced}
 use Rattle.closure_laws.proofs.KeptLemmas.{plans_keep_no_replaced}

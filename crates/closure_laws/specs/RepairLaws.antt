@@ -9,7 +9,7 @@ use Rattle.model.specs.References.{paths_of_labels}
 use Rattle.model.specs.Choices.{Plan, closure_plan}
 use Rattle.model.specs.Repairs.{Replacement, relabelled, serve, chosen_in, serving_texts}
 use Rattle.model.specs.Closures.{tree_of_entry, served_plan, KeepsNoReplaced}
-use Rattle.choose.specs.Gathering.{IsInOrder}
+use Rattle.records.specs.Plans.{IsInOrder}
 use Rattle.records.specs.Sound.{IsSoundRecord, IsSoundPlan}
 use Rattle.closure_laws.specs.SoundPlans.{AreReplacements, PartsTellApart}
 

@@ -24,7 +24,7 @@ ghost use Rattle.goals.specs.Planning.{IsResolvedAt, IsPlannedToBuildAt, HasRepa
 ghost use Rattle.goals.specs.Sharing.{EqualsAllLike};
 
 use aterm::Derivation;
-use choose::{Plan, View};
+use choose::View;
 use classes::input_classes;
 use closure_laws::served_are_made;
 use events::CopiedReply;
@@ -32,7 +32,7 @@ use handlers::{State, desks_in_view, plan_or_none, trees_of};
 use jobs::{Jobs, Status};
 use laws::closures_are_whole;
 use model::Refusal;
-use records::Resolved;
+use records::{Plan, Resolved};
 use repair::{Cache, resolve_with};
 use std::alloc::Global;
 use store::Table;

@@ -30,7 +30,7 @@ use Rattle.realise.specs.Holdings.{Holdings, IsClosed}
 use Rattle.laws.proofs.SetLemmas.{Ascends, set_ascends}
 use Rattle.choose.specs.Visible.{Visible, visible_on, seen, IsDeskStored, AreStored, IsComplete}
 use Rattle.choose.proofs.DeskLemmas.{desks_seen}
-use Rattle.choose.proofs.OrderLemmas.{entry_before-Weak}
+use Rattle.records.proofs.EntryOrderLemmas.{entry_before-Weak}
 use Rattle.choose.proofs.LabelledLemmas.{sees_in, view_sees_sources}
 use Rattle.records.specs.Sound.{IsSoundPlan}
 use Rattle.trust.specs.Naming.{place_of, IsWithin}

@@ -15,7 +15,7 @@ use Rattle.model.specs.Closures.{entry_before, tree_of_entry}
 use Rattle.model.proofs.BoolLemmas.{either, same_bytes, both_parts}
 use Rattle.laws.proofs.MemberLemmas.{In}
 use Rattle.laws.proofs.SetLemmas.{Ascends, irreflexive, clash}
-use Rattle.choose.proofs.OrderLemmas.{entry_before-Weak}
+use Rattle.records.proofs.EntryOrderLemmas.{entry_before-Weak}
 use Rattle.records.specs.declared.desk_entry.DeskEntry.{DeskEntry}
 use Rattle.records.specs.declared.desk_entry.DeskEntry.TheVariants as entry
 use Rattle.records.specs.Recorded.{with_tree, without_tree}

@@ -16,11 +16,11 @@ ghost use Rattle.handlers.specs.States.{HasPlace, Handles, observation_at};
 
 use crate::state::State;
 use crate::view::desks_in_view;
-use choose::{Plan, View, plan};
+use choose::{View, plan};
 use events::{CopiedReply, Reply};
 use laws::closures_are_whole;
 use model::Refusal;
-use records::{Closure, Entry};
+use records::{Closure, Entry, Plan};
 use repair::{Cache, served_closure_with};
 use std::alloc::Global;
 use storepath::StorePath;

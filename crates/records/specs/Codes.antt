@@ -6,6 +6,7 @@ use Rattle.model.specs.Archives.{Tree}
 use Rattle.model.specs.TreeCode.{tree_code}
 use Rattle.model.specs.Classes.{Class}
 use Rattle.model.specs.Worlds.{Source, Label, Record, Entry, OfSource, OfRecord, Resolved}
+use Rattle.model.specs.Choices.{Plan}
 
 abbrev pub class_code : Coded Class
 class_code = code_by (List ℕ × ℕ) (coded× (coded_list coded_ℕ) coded_ℕ) (λ c. (c.path, c.rank)) (λ p. record { path = p.0; rank = p.1 }) (λ _. refl)
@@ -41,3 +42,7 @@ abbrev pub resolved_code : Coded Resolved
 resolved_code =
     code_by (List Entry × (List ℕ × List ℕ)) (coded× (coded_list entry_code) (coded× (coded_list coded_ℕ) (coded_list coded_ℕ)))
     (λ r. (r.closure, (r.text, r.scratch))) (λ p. record { closure = p.0; text = p.1.0; scratch = p.1.1 }) (λ _. refl)
+
+abbrev pub plan_code : Coded Plan
+plan_code = code_by (List Record × List Source) (coded× (coded_list record_code) (coded_list source_code)) (λ v. (v.records, v.sources))
+    (λ p. record { records = p.0; sources = p.1 }) (λ _. refl)

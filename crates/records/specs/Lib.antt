@@ -6,3 +6,4 @@ pub mod Codes
 pub mod ClosureEntries
 pub mod Sound
 pub mod Trees
+pub mod Plans

@@ -11,10 +11,10 @@ use Rattle.model.specs.Choices.{rank_before, source_before, Plan}
 use Rattle.model.specs.Repairs.{serve, chosen_in, serve_all}
 use Rattle.model.specs.Closures.{entry_before, served_entries, served_plan}
 use Rattle.laws.proofs.MemberLemmas.{In, in_append, from_map}
-use Rattle.choose.specs.Gathering.{IsApart, AreApart, IsInOrder}
+use Rattle.records.specs.Plans.{IsApart, AreApart, IsInOrder}
 use Rattle.laws.proofs.SetLemmas.{Ascends, clash, irreflexive}
-use Rattle.choose.proofs.SetLemmas.{sorted_set}
-use Rattle.choose.proofs.OrderLemmas.{rank_before-Weak, source_before-Weak, entry_before-Weak, entries_apart}
+use Rattle.records.proofs.SetLemmas.{sorted_set}
+use Rattle.records.proofs.EntryOrderLemmas.{rank_before-Weak, source_before-Weak, entry_before-Weak, entries_apart}
 use Rattle.repair.specs.Served.{Served, values_of}
 use Rattle.repair.specs.Serving.{AreServedBy, AreServed, members_with, AreEntries}
 use Rattle.laws.proofs.ServedLemmas.{serve_class, chosen_in_class}

@@ -14,7 +14,7 @@ use Rattle.model.specs.Repairs.{Replacement, serve, chosen_in}
 use Rattle.model.proofs.BoolLemmas.{either, same_bytes, bytes_same}
 use Rattle.laws.proofs.MemberLemmas.{In}
 use Rattle.laws.proofs.ServedLemmas.{not_both}
-use Rattle.choose.specs.Gathering.{IsInOrder}
+use Rattle.records.specs.Plans.{IsInOrder}
 use Rattle.rewrite.proofs.StepLemmas.{take_next}
 use Rattle.repair.specs.AtHand.{MadeRepairs, IsMade, KeepsOthers}
 use Rattle.repair.specs.Counting.{IsToRepair}

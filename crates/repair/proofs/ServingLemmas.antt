@@ -15,8 +15,8 @@ use Rattle.model.specs.Repairs.{replacements_of, relabelled, served, serve, chos
 use Rattle.model.proofs.BoolLemmas.{either, same_bytes, bytes_same}
 use Rattle.laws.proofs.MemberLemmas.{In, in_append, in_left, in_right}
 use Rattle.laws.proofs.SetLemmas.{Ascends, clash, irreflexive}
-use Rattle.choose.specs.Gathering.{IsInOrder}
-use Rattle.choose.proofs.OrderLemmas.{rank_before-Weak}
+use Rattle.records.specs.Plans.{IsInOrder}
+use Rattle.records.proofs.EntryOrderLemmas.{rank_before-Weak}
 use Rattle.repair.specs.Served.{Served, values_of, if_below, or_not_realised, served_in, served_from}
 use Rattle.repair.specs.Serving.{AreServedBy, AreServed}
 use Rattle.laws.proofs.ServedLemmas.{served_none, served_high, served_low, serve_rank, serve_replacements, chosen_in_list, chosen_in_one, option_cases}

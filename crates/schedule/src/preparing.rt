@@ -19,7 +19,6 @@ ghost use Rattle.schedule.specs.Preparing.{output_of, seen_by, HasPath, HasAdmis
 use crate::preparation::Preparation;
 use crate::state::Core;
 use crate::work::{Ready, Work};
-use choose::Plan;
 use classes::{AdmissionInput, Admissions, path_of_text};
 use endings::input_for_finish;
 use events::{Event, Request};
@@ -28,6 +27,7 @@ use handlers::{input_for_derivation, input_for_offer, plan_for_take};
 use model::Refusal;
 use nar::Tree;
 use outputs::{Input, Settlements, Sources};
+use records::Plan;
 use repair::{Cache, served_closure_with};
 use std::alloc::Global;
 

@@ -4,10 +4,10 @@ ghost use Rattle.std.specs.Prelude.{◌≡◌};
 ghost use Rattle.schedule.specs.ReadResults.{IsServedFrom};
 ghost use Rattle.schedule.specs.declared.read_result.ReadResult.TheVariants.{Planned};
 
-use choose::Plan;
 use events::Reply;
 use handlers::serve_plan;
 use model::Refusal;
+use records::Plan;
 use repair::Cache;
 use std::alloc::Global;
 

@@ -15,12 +15,12 @@ ghost use Rattle.schedule.specs.Stepping.{IsCoreStep};
 use crate::query::{Query, Question};
 use crate::read_result::ReadResult;
 use crate::state::Core;
-use choose::Plan;
 use events::{CopiedReply, Reply};
 use goals::status;
 use handlers::{State, fetch, plan_for};
 use laws::never_fails;
 use model::Refusal;
+use records::Plan;
 use rewrite::one_tree_at_a_path;
 use std::alloc::Global;
 

@@ -37,8 +37,8 @@ returns-in_err-gather_below-clause-planned c desks is =
     rw (p.1, p.2) (subst (λ v. (e ≡ Memory) ⊎ (plan_in v pins classes sources ≡ Err e)) (sym is)
     (plan_too_large view pins classes sources e c.in_ok-gathering.ensures.0 (c.in_err-gather_below.ensures classes sources classes sources g)))
 
-pub invariant_of-result : goal.invariant_of-result
-invariant_of-result c =
+pub new-requires : goal.new-requires
+new-requires c =
     let view = c.args.view.now in
     let pins = c.args.pins.now in
     let choice = choose_in view pins in
@@ -63,12 +63,12 @@ returns-clause-planned c desks is =
     let g = c.in_ok-gather_sources.ensures choice classes classes (chosen_among view.records pins) (c.in_ok-gathering.ensures.1 sources) in
     let h = c.in_ok-gather_below.ensures classes sources classes sources g in
     let made : Plan = record { records = c.in_ok-records.records.items; sources = c.in_ok-sources.sources.items } in
-    subst (λ v. plan_in v pins classes sources ≡ Ok made) (sym is)
+    rw c.new.ensures (subst (λ v. plan_in v pins classes sources ≡ Ok made) (sym is)
     (plan_found view pins classes sources c.gather_below.new.gathering made c.in_ok-gathering.ensures.0 h.0 h.1
     (subst (λ xs. IsPermutation xs c.in_ok-records.records.items) c.into_parts-found_records.ensures.records c.in_ok-records.ensures.0)
     c.in_ok-records.ensures.1
     (subst (λ xs. IsPermutation xs c.in_ok-sources.sources.items) c.into_parts-found_records.ensures.sources c.in_ok-sources.ensures.0)
-    c.in_ok-sources.ensures.1)
+    c.in_ok-sources.ensures.1))
 
 pub returns-clause-seen : goal.returns-clause-seen
 returns-clause-seen c =
@@ -80,8 +80,8 @@ returns-clause-seen c =
     let g = c.in_ok-gather_sources.ensures choice classes classes (chosen_among view.records pins) (c.in_ok-gathering.ensures.1 sources) in
     let h = c.in_ok-gather_below.ensures classes sources classes sources g in
     let moved = subst (λ xs. IsPermutation xs c.in_ok-records.records.items) c.into_parts-found_records.ensures.records c.in_ok-records.ensures.0 in
-    planned_sees view pins classes sources c.gather_below.new.gathering c.in_ok-records.records.items h.0 moved
-    (sees_in view c.view.inside.table.now.sources (desks_of c.view.inside.desks.items) c.view.view_is c.view.invariant.closed)
+    rw c.new.ensures (planned_sees view pins classes sources c.gather_below.new.gathering c.in_ok-records.records.items h.0 moved
+    (sees_in view c.view.inside.table.now.sources (desks_of c.view.inside.desks.items) c.view.view_is c.view.invariant.closed))
 
 pub returns-clause-closed : goal.returns-clause-closed
 returns-clause-closed c =

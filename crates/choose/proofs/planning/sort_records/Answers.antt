@@ -1,6 +1,6 @@
 use Rattle.std.proofs.lemmas.List.Sorted.{answers_always}
 use Rattle.model.specs.Choices.{rank_before}
-use Rattle.choose.proofs.OrderLemmas.{rank_before-Weak}
+use Rattle.records.proofs.EntryOrderLemmas.{rank_before-Weak}
 use Rattle.std.proofs.Common.{rules}
 use Rattle.choose.proofs.planning.sort_records.Goals as goal
 

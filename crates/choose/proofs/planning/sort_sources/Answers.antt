@@ -1,6 +1,6 @@
 use Rattle.std.proofs.lemmas.List.Sorted.{answers_always}
 use Rattle.model.specs.Choices.{source_before}
-use Rattle.choose.proofs.OrderLemmas.{source_before-Weak}
+use Rattle.records.proofs.EntryOrderLemmas.{source_before-Weak}
 use Rattle.std.proofs.Common.{rules}
 use Rattle.choose.proofs.planning.sort_sources.Goals as goal
 

@@ -4,7 +4,7 @@ use Rattle.std.specs.List.Sorted.{IsPermutation}
 use Rattle.std.proofs.lemmas.List.Sorted.{answers_always}
 use Rattle.model.specs.Worlds.{Entry, OfSource, OfRecord}
 use Rattle.model.specs.Closures.{entry_before}
-use Rattle.choose.proofs.OrderLemmas.{entry_before-Weak}
+use Rattle.records.proofs.EntryOrderLemmas.{entry_before-Weak}
 use Rattle.repair.specs.Served.{values_of}
 use Rattle.repair.specs.Serving.{members_with}
 use Rattle.repair.proofs.entries.entries_with.Goals as goal

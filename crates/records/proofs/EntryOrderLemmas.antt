@@ -13,8 +13,8 @@ use Rattle.model.proofs.BoolLemmas.{either}
 use Rattle.laws.proofs.MemberLemmas.{Stands}
 use Rattle.laws.proofs.OrderLemmas.{bytes_apart, first_apart}
 use Rattle.laws.proofs.SetLemmas.{bytes_weak}
-use Rattle.choose.specs.Gathering.{IsApart}
-use Rattle.choose.proofs.SetLemmas.{first_by-Weak}
+use Rattle.records.specs.Plans.{IsApart}
+use Rattle.records.proofs.SetLemmas.{first_by-Weak}
 
 -- ---- numbers
 

@@ -1,15 +1,15 @@
 //! What a closure needs.
 
 ghost use Rattle.std.specs.Prelude.{◌≡◌};
-ghost use Rattle.choose.specs.Gathering.{IsInOrder};
+ghost use Rattle.records.specs.Plans.{AreInOrder, IsInOrder};
 
-use records::{Realisation, Source};
+use crate::realisation::{Realisation, Source};
 use std::marker::Model;
 
 /// What a closure needs: the chosen records by rank and then class path, and the sources by path.
 pub struct Plan {
-    pub(crate) records: Vec<Realisation>,
-    pub(crate) sources: Vec<Source>,
+    records: Vec<Realisation>,
+    sources: Vec<Source>,
 }
 
 impl Drop for Plan {
@@ -22,14 +22,14 @@ impl Drop for Plan {
 }
 
 impl Model for Plan {
-    ghost use Rattle.choose.specs.Codes.{plan_code};
+    ghost use Rattle.records.specs.Codes.{plan_code};
     ghost use Rattle.model.specs.Choices.{Plan as PlanValue};
 
     ghost Value = { PlanValue };
 
     ghost coded = { plan_code };
 
-    ghost use Rattle.choose.specs.Gathering.{AreInOrder};
+    ghost use Rattle.records.specs.Plans.{AreInOrder};
 
     ghost view = { λ p. record { records = p.records.items; sources = p.sources.items } };
 
@@ -37,6 +37,15 @@ impl Model for Plan {
 }
 
 impl Plan {
+    /// The plan of records in the order of rank and then class path, one for each class, and of sources in that of
+    /// paths.
+    pub fn new(records: Vec<Realisation>, sources: Vec<Source>) -> Plan
+        requires { AreInOrder records.items sources.items }
+        ensures { result ≡ record { records = records.items; sources = sources.items } }
+    {
+        Plan { records, sources }
+    }
+
     /// The chosen records by rank and then class path, one for each class.
     pub fn records(&self) -> &[Realisation]
         ensures records { result.now ≡ self.now.records }

@@ -10,7 +10,7 @@ use Rattle.model.specs.Orders.{first_by, set_of}
 use Rattle.model.proofs.BoolLemmas.{either}
 use Rattle.laws.proofs.MemberLemmas.{In, in_of, contains_of, in_append, from_set, in_set}
 use Rattle.laws.proofs.SetLemmas.{Ascends, clash, irreflexive, same_members, set_ascends}
-use Rattle.choose.specs.Gathering.{IsApart, AreApart}
+use Rattle.records.specs.Plans.{IsApart, AreApart}
 
 -- ---- orders
 
