@@ -3,7 +3,7 @@
 //! - `# TEXT` is printed as it is.
 //! - `CALL ARGUMENT` runs a call.
 
-use crate::{books, crowd, fronts, held, reads, sweeps, values};
+use crate::{books, crowd, held, sweeps, values};
 use model::Refusal;
 use std::alloc::Global;
 use std::hash::RandomState;
@@ -25,14 +25,11 @@ pub(crate) fn answer_line<R: Threads + Wait + Sync>(
             out.add_text(line);
             Ok(())
         }
-        "threads" => fronts::threads(rt, alloc, hashing, out),
         "held" => held::held(rt, alloc, hashing, argument, out),
         "prepared_while_held" => held::prepared_while_held(rt, alloc, hashing, argument, out),
         "crowd" => crowd::crowd(rt, alloc, hashing, argument, out),
-        "reads" => reads::reads(rt, alloc, hashing, argument, out),
         "sweeps" => sweeps::sweeps(rt, alloc, hashing, argument, out),
         "applied" => books::applied(rt, alloc, hashing, argument, out),
-        "made_alone" => values::alone(alloc, hashing, argument, out),
         "made_unprepared" => values::committed(rt, alloc, hashing, argument, out),
         "made_prepared" => values::prepared(rt, alloc, hashing, argument, out),
         _ => Err(Refusal::BadLine),

@@ -6,9 +6,8 @@ ghost use Rattle.book.specs.Keeping.{IsNew};
 
 use crate::new_front::NewFront;
 use crate::reads::{Scripts, answered_at_once};
-use crate::traces::Entry;
 use crate::turns::closed;
-use book::{Front, FrontId};
+use book::{Front, FrontId, Row};
 use model::Refusal;
 use std::alloc::Global;
 use std::hash::RandomState;
@@ -21,7 +20,7 @@ use trial_lines::Answer;
 const MEMBERS: usize = 10;
 
 /// How many answers threads got.
-fn count_answers(traces: &[Vec<Entry>]) -> usize {
+fn count_answers(traces: &[Vec<Row>]) -> usize {
     let mut count = 0usize;
     for trace in traces {
         count = count.saturating_add(trace.len());

@@ -7,7 +7,7 @@ ghost use Rattle.book.specs.Keeping.{IsNew};
 use crate::fronts::Called;
 use crate::new_front::NewFront;
 use crate::reads::{Scripts, answered_at_once};
-use crate::traces::{Entry, text_of};
+use crate::traces::text_of;
 use crate::turns::{Member, Task, all_at_once, closed, is_set_in_time};
 use book::{Front, FrontId, History, Pass, Row};
 use model::Refusal;
@@ -35,23 +35,23 @@ fn read_while_held<J: FrontId + Send + Sync, R: Threads + Wait + Sync>(
     front: &Front<J>,
     passes: Vec<Pass<J>>,
     argument: &str,
-) -> Result<(Vec<Pass<J>>, Vec<Vec<Entry>>), Refusal> {
+) -> Result<(Vec<Pass<J>>, Vec<Vec<Row>>), Refusal> {
     let _hold = front.hold(rt);
     answered_at_once(rt, alloc, front, passes, Scripts::new(argument))
 }
 
 /// Adds what was read by the pass that has added the path, and by the other one.
-fn tell_held(alloc: Global, traces: &[Vec<Entry>], out: &mut Answer) -> Result<(), Refusal> {
+fn tell_held(alloc: Global, traces: &[Vec<Row>], out: &mut Answer) -> Result<(), Refusal> {
     for trace in traces {
-        for entry in trace {
-            tell_entry(out, entry.row.pass, &text_of(alloc, &entry.row)?);
+        for row in trace {
+            tell_read(out, row.pass, &text_of(alloc, row)?);
         }
     }
     Ok(())
 }
 
 /// Adds the text that the first pass has read, and of the other whether it is one of the two that may be.
-fn tell_entry(out: &mut Answer, pass: u64, text: &[u8]) {
+fn tell_read(out: &mut Answer, pass: u64, text: &[u8]) {
     if pass == 0 {
         out.add_bytes(text);
     } else {

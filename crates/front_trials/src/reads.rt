@@ -1,29 +1,19 @@
-//! Lines that threads answer through a front, of which those that ask are read, and a front that is read
-//! and swept after each line.
+//! Lines that threads answer through a front, of which those that ask are read.
 
-ghost use Rattle.std.specs.Prelude.{◌≡◌};
-ghost use Rattle.history.specs.NewFronts.{AreTokensOf};
-ghost use Rattle.book.specs.Keeping.{IsNew};
-
-use crate::new_front::NewFront;
-use crate::traces::Entry;
-use crate::turns::{Member, Task, all_at_once, closed};
+use crate::turns::{Member, Task, all_at_once};
 use book::{Front, FrontId, Pass, Row};
 use model::Refusal;
 use schedule::{Event, Query, Reply};
 use session::{GoalId, Mode, Session};
 use std::alloc::{AllocError, Global};
-use std::hash::RandomState;
-use std::marker::Brand;
 use std::sync::Wait;
 use std::thread::Threads;
-use trial_lines::Answer;
 
 /// Lines that a thread answers, and what each event of them was answered.
 #[derive(Drop)]
 pub(crate) struct Lines<'a> {
     text: &'a str,
-    trace: Vec<Entry>,
+    trace: Vec<Row>,
 }
 
 impl<'a> Lines<'a> {
@@ -43,11 +33,11 @@ fn answered<J: FrontId, R: Wait>(
     event: Event,
 ) -> Result<Reply, Refusal> {
     let asked = event.clone()?;
-    let (reply, is_read) = match Query::of(event) {
-        Ok(query) => (member.pass.read(query), true),
-        Err(event) => (commit(member, alloc, event), false),
+    let reply = match Query::of(event) {
+        Ok(query) => member.pass.read(query),
+        Err(event) => commit(member, alloc, event),
     };
-    keep(member, asked, &reply, is_read)?;
+    keep(member, asked, &reply)?;
     Ok(reply)
 }
 
@@ -71,14 +61,13 @@ fn keep<J: FrontId, R: Wait>(
     member: &mut Member<'_, J, R, Lines<'_>>,
     event: Event,
     reply: &Reply,
-    is_read: bool,
 ) -> Result<(), AllocError> {
     let row = Row {
         pass: member.pass.number(),
         event,
         reply: reply.clone()?,
     };
-    member.task.trace.push(Entry { row, is_read })?;
+    member.task.trace.push(row)?;
     Ok(())
 }
 
@@ -154,7 +143,7 @@ impl<'a> Scripts<'a> {
 }
 
 /// What the events of some lines were answered.
-fn traces_of(alloc: Global, tasks: Vec<Lines<'_>>) -> Result<Vec<Vec<Entry>>, AllocError> {
+fn traces_of(alloc: Global, tasks: Vec<Lines<'_>>) -> Result<Vec<Vec<Row>>, AllocError> {
     let mut traces = Vec::new(alloc);
     for task in tasks {
         let Lines { trace, .. } = task;
@@ -181,87 +170,8 @@ pub(crate) fn answered_at_once<J: FrontId + Send + Sync, R: Threads + Wait + Syn
     front: &Front<J>,
     passes: Vec<Pass<J>>,
     scripts: Scripts<'_>,
-) -> Result<(Vec<Pass<J>>, Vec<Vec<Entry>>), Refusal> {
+) -> Result<(Vec<Pass<J>>, Vec<Vec<Row>>), Refusal> {
     let tasks = scripts.tasks(alloc, passes.len())?;
     let (passes, tasks) = at_once(rt, alloc, front, passes, tasks)?;
     Ok((passes, traces_of(alloc, tasks)?))
-}
-
-/// Adds what each line gets, and sweeps the front behind it.
-fn tell_lines<J: FrontId, R: Wait>(
-    alloc: Global,
-    member: &mut Member<'_, J, R, Lines<'_>>,
-    out: &mut Answer,
-) -> Result<(), Refusal> {
-    let text = member.task.text;
-    let mut session = Session::new(alloc, Mode::Service);
-    for line in text.split(';') {
-        out.add_bytes(&session.line(alloc, line.as_bytes(), member)?);
-        member.front.sweep(member.rt, alloc)?;
-    }
-    Ok(())
-}
-
-/// Answers the lines by a pass of a new front, and gives it back, and how many of them were read.
-fn tell_lines_of_one<J: FrontId, R: Wait>(
-    rt: &R,
-    alloc: Global,
-    front: &Front<J>,
-    pass: Pass<J>,
-    lines: &str,
-    out: &mut Answer,
-) -> Result<(Pass<J>, usize), Refusal> {
-    let mut member = Member {
-        rt,
-        alloc,
-        front,
-        pass,
-        task: Lines::new(alloc, lines),
-        ended: Ok(()),
-    };
-    tell_lines(alloc, &mut member, out)?;
-    let Member { pass, task, .. } = member;
-    let reads = task.trace.iter().filter(|entry| entry.is_read).count();
-    Ok((pass, reads))
-}
-
-/// Answers the lines by a new front, swept after each of them, and adds how many were read, and how many
-/// rows there are.
-fn read_by_one<J: FrontId, R: Wait>(
-    rt: &R,
-    alloc: Global,
-    new: NewFront,
-    lines: &String,
-    out: &mut Answer,
-) -> Result<(), Refusal>
-    requires blank { AreTokensOf J.name J.parts J.stops J.table J.book new.blank }
-    requires parts { J.parts ≡ 1 }
-    requires core { IsNew J.setup new.core }
-{
-    let NewFront { blank, core } = new;
-    let (front, mut passes) = Front::<J>::new(rt, alloc, blank, core, 1)?;
-    let pass = passes.pop().unwrap();
-    let (pass, reads) = tell_lines_of_one(rt, alloc, &front, pass, lines.as_str(), out)?;
-    passes.push(pass)?;
-    let history = closed(rt, front, passes, 1)?;
-    out.add(&reads);
-    out.add_text(" read, ");
-    out.add(&history.rows.len());
-    out.add_text(" rows");
-    Ok(())
-}
-
-/// `INPUT`: answers the lines of the input, to the users whom it names, and reads those that are questions.
-/// The front is swept after each line. Prints what each line gets, how many were read, and how many rows
-/// there are.
-pub(crate) fn reads<R: Wait>(
-    rt: &R,
-    alloc: Global,
-    hashing: RandomState,
-    input: &str,
-    out: &mut Answer,
-) -> Result<(), Refusal> {
-    let new = NewFront::of(alloc, hashing, input, 1)?;
-    let lines = String::from_str(alloc, input)?;
-    read_by_one::<Brand, _>(rt, alloc, new, &lines, out)
 }

@@ -7,34 +7,13 @@ ghost use Rattle.book.specs.Keeping.{IsNew};
 use crate::new_front::NewFront;
 use book::{Front, FrontId, Pass};
 use model::Refusal;
-use schedule::{Core, Event, Query, Ready, Reply};
+use schedule::{Event, Query, Ready, Reply};
 use session::GoalId;
 use std::alloc::Global;
 use std::hash::RandomState;
 use std::marker::Brand;
 use std::sync::Wait;
-use trial_lines::{Answer, core_for, tell_lines};
-
-/// A core, which takes each event with nothing made before.
-#[derive(Drop)]
-struct Stepping {
-    core: Core,
-}
-
-/// No line of the service waits.
-impl session::Answer for Stepping {
-    ghost answers = { λ old event reply new. Unit {0} };
-
-    ghost waited = { λ old goals reply new. Unit {0} };
-
-    fn call(&mut self, alloc: Global, event: Event) -> Reply {
-        self.core.step(alloc, event)
-    }
-
-    fn wait(&mut self, _alloc: Global, _goals: &[GoalId]) -> Reply {
-        Reply::Ok
-    }
-}
+use trial_lines::{Answer, tell_lines};
 
 /// A front and its one pass, which reads what is asked, and prepares the other events or does not.
 #[derive(Drop)]
@@ -82,25 +61,6 @@ impl<J: FrontId, R: Wait> session::Answer for Committing<'_, J, R> {
     fn wait(&mut self, _alloc: Global, _goals: &[GoalId]) -> Reply {
         Reply::Ok
     }
-}
-
-/// `INPUT`: answers the lines of the input, to the users whom it names, by a core. Prints what each line
-/// gets, how many values the steps made, and how many repaired records were at hand.
-pub(crate) fn alone(
-    alloc: Global,
-    hashing: RandomState,
-    input: &str,
-    out: &mut Answer,
-) -> Result<(), Refusal> {
-    let mut store = Stepping {
-        core: core_for(alloc, hashing, input)?,
-    };
-    tell_lines(alloc, &mut store, input, out)?;
-    out.add(&store.core.computed());
-    out.add_text(" made, ");
-    out.add(&store.core.hits());
-    out.add_text(" at hand");
-    Ok(())
 }
 
 /// Answers the lines by a new front, and adds how many values were made, and were at hand.

@@ -32,6 +32,7 @@ pub(crate) fn answer_line(
         "run" => stores::run(alloc, hashing, out),
         "derivation" => stores::reply_to_text(alloc, hashing, argument, out),
         "repairs" => repairs::repairs(alloc, hashing, argument, out),
+        "made_alone" => prepared::made_alone(alloc, hashing, argument, out),
         "prepared" => prepared::prepare_each(alloc, hashing, argument, out),
         "another" => prepared::another(alloc, hashing, argument, out),
         "followed" => prepared::followed(alloc, hashing, argument, out),

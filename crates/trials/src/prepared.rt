@@ -1,5 +1,6 @@
-//! Sessions whose events are prepared, each for its own step.
+//! Sessions whose events are prepared, each for its own step, or are not.
 
+use crate::sessions::Store;
 use model::Refusal;
 use schedule::{Core, Event, Ready, Reply};
 use session::GoalId;
@@ -64,6 +65,25 @@ impl session::Answer for Followers {
     fn wait(&mut self, _alloc: Global, _goals: &[GoalId]) -> Reply {
         Reply::Ok
     }
+}
+
+/// `INPUT`: answers the lines of the input, to the users whom it names, by a store. Prints what each line
+/// gets, how many values the steps made, and how many repaired records were at hand.
+pub(crate) fn made_alone(
+    alloc: Global,
+    hashing: RandomState,
+    input: &str,
+    out: &mut Answer,
+) -> Result<(), Refusal> {
+    let mut store = Store {
+        core: core_for(alloc, hashing, input)?,
+    };
+    tell_lines(alloc, &mut store, input, out)?;
+    out.add(&store.core.computed());
+    out.add_text(" made, ");
+    out.add(&store.core.hits());
+    out.add_text(" at hand");
+    Ok(())
 }
 
 /// `INPUT`: answers the lines of the input, to the users whom it names, and prepares each event for its

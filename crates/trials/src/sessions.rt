@@ -11,8 +11,8 @@ use trial_lines::{Answer, Calls, Sink, Source, calls_of, new_core, store_of, wit
 
 /// A store that answers each event by a step, and builds nothing: a wait has ended at once.
 #[derive(Drop)]
-struct Store {
-    core: Core,
+pub(crate) struct Store {
+    pub(crate) core: Core,
 }
 
 impl session::Answer for Store {

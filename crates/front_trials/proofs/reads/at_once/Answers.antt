@@ -7,15 +7,12 @@ use Rattle.std.specs.contracts.alloc.Global as Global
 use Rattle.std.specs.contracts.impls.GlobalAllocator.TheImpl.{ghosts}
 use Rattle.std.proofs.Crossing.{crosses, Vec-send}
 use Rattle.book.proofs.CoreCrossing.{row_send}
-use Rattle.front_trials.specs.contracts.traces.Entry as Entry
+use Rattle.history.specs.contracts.row.Row as Row
 use Rattle.front_trials.specs.contracts.reads.Lines as Lines
 use Rattle.front_trials.proofs.reads.at_once.Goals as goal
 
-entry_send : IsSend Entry.the_row
-entry_send = declared_send Entry.the_type (row_send, (search sendable, tt))
-
-trace_send : IsSend (Vec.the_row Entry.the_row Global.the_row ghosts)
-trace_send = Vec-send Entry.the_row entry_send
+trace_send : IsSend (Vec.the_row Row.the_row Global.the_row ghosts)
+trace_send = Vec-send Row.the_row row_send
 
 lines_send : (a : NamedLft) → IsSend (Lines.the_row a)
 lines_send a = declared_send (Lines.the_type a) (search (sendable, crosses) depth 20, (trace_send, tt))
