@@ -4,7 +4,7 @@ use Rattle.std.specs.Arc.{arc_value}
 use Rattle.model.specs.Events.{Event}
 use Rattle.model.specs.Steps.{after}
 use Rattle.store.specs.Stored.{kept_at}
-use Rattle.handlers.specs.Parts.{stored_after}
+use Rattle.store_state.specs.Parts.{stored_after}
 use Rattle.schedule.specs.declared.state.Core.{Core}
 use Rattle.schedule.specs.Standing.{world_of, setup_of, stored_in, IsUnchanged}
 use Rattle.schedule.specs.Sweeping.{is_held}

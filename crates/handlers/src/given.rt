@@ -1,21 +1,18 @@
 //! Asking for a closure.
 
-ghost use Rattle.std.specs.Prelude.{◌≡◌, ◌≢◌, List, IfOk, IfErr, IfSome, IfNone, Ok, Err};
+ghost use Rattle.std.specs.Prelude.{◌≡◌, List, IfOk, IfErr, Ok};
 ghost use Rattle.model.specs.Worlds.{Entry as EntryValue};
 ghost use Rattle.model.specs.Closures.{served_plan};
 ghost use Rattle.model.specs.Events.{Closure as ClosureRequest};
-ghost use Rattle.model.specs.declared.refusal.Refusal.{Refusal as RefusalValue};
 ghost use Rattle.model.specs.declared.refusal.Refusal.TheVariants.{Memory};
 ghost use Rattle.trust.specs.Trusting.{trusts};
 ghost use Rattle.repair.specs.AtHand.{MadeRepairs};
 ghost use Rattle.repair.specs.Counting.{made_in};
 ghost use Rattle.repair.specs.Prepared.{HasRepairedIf};
-ghost use Rattle.handlers.specs.Serving.{IsServedAt, IsPlannedAt, IsServedOf, HasRepairedFor};
-ghost use Rattle.handlers.specs.Sound.{IsClosure};
-ghost use Rattle.handlers.specs.States.{HasPlace, Handles, observation_at};
+ghost use Rattle.store_state.specs.Serving.{IsServedAt, IsPlannedAt, IsServedOf, HasRepairedFor};
+ghost use Rattle.store_state.specs.Sound.{IsClosure};
+ghost use Rattle.store_state.specs.States.{HasPlace, Handles, observation_at};
 
-use crate::state::State;
-use crate::view::desks_in_view;
 use choose::{View, plan};
 use events::{CopiedReply, Reply};
 use laws::closures_are_whole;
@@ -23,6 +20,7 @@ use model::Refusal;
 use records::{Closure, Entry, Plan};
 use repair::{Cache, served_closure_with};
 use std::alloc::Global;
+use store_state::{State, desks_in_view, plan_or_none};
 use storepath::StorePath;
 
 /// What the closure of a class needs, of all that the user at a place sees.
@@ -49,19 +47,6 @@ pub fn plan_for(
     let view = View::new(&state.table, seen);
     let classes = [class.clone()?];
     plan(alloc, &view, state.desks[place].pins(), &classes, &[])
-}
-
-/// A plan, if there is one. The one error is memory.
-pub fn plan_or_none(plan: Result<Plan, Refusal>) -> Result<Option<Plan>, Refusal>
-    ensures some { IfOk result (λ found. IfSome found (λ p. plan ≡ Ok p)) }
-    ensures none { IfOk result (λ found. IfNone found ((why : RefusalValue) × (plan ≡ Err why) × (why ≢ Memory))) }
-    ensures memory { IfErr result (λ why. (why ≡ Memory) × (plan ≡ Err Memory)) }
-{
-    match plan {
-        Ok(plan) => Ok(Some(plan)),
-        Err(Refusal::Memory) => Err(Refusal::Memory),
-        Err(_) => Ok(None),
-    }
 }
 
 /// What the closure of a class needs that the user at a place takes, if there is such a plan. What is repaired for
