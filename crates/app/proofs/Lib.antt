@@ -1,2 +1,1 @@
 mod ToldLemmas
-mod OutputLemmas

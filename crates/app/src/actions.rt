@@ -4,6 +4,7 @@ ghost use Rattle.std.specs.Prelude.{◌≡◌, ◌<◌, ◌⊎◌, true, false, 
 ghost use Rattle.model.specs.Worlds.{are_users};
 ghost use Rattle.model.specs.declared.refusal.Refusal.TheVariants.{BadUsers, Quota, InputFault};
 ghost use Rattle.session.specs.Serving.{EndsByCounts, IsOwn, IsShown};
+ghost use Rattle.replaying.specs.BadLines.{end_of};
 ghost use Rattle.replaying.specs.Ended.{RepliesToAll, RepliesInPart, RepliesSoFar, WritesForUser, WritesForUserInPart};
 ghost use Rattle.replaying.specs.Striking.{StrikeEndsBy};
 ghost use Rattle.teams.specs.Sessions.{CannotBegin};
@@ -14,6 +15,7 @@ ghost use Rattle.model.specs.Limits.{most_passes};
 
 use builder::Runner;
 use command_line::{Action, Options};
+use messages::Fault;
 use model::Refusal;
 use replaying::{BadLines, Observer, Settings, replay, strike};
 use running::{Results, run};
@@ -21,7 +23,7 @@ use schedule::{Limits, User};
 use session::Faults;
 use std::alloc::Global;
 use std::hash::RandomState;
-use std::io::{Read, Write};
+use std::io::{Eprint, Read, Write};
 use std::sync::Wait;
 use std::thread::Threads;
 use teams::Part;
@@ -124,4 +126,22 @@ pub(crate) fn run_parts<
     ensures full { most_passes < passes_needed parts.items → result ≡ Err Quota }
 {
     run(host, alloc, hashing, users, limits_of(options), parts)
+}
+
+/// Says on standard error that lines were refused with 25, where some were of which nothing is printed, and gives
+/// how the run ended. What cannot be said is let go.
+pub(crate) fn tell_bad_lines(
+    rt: &impl Eprint,
+    told: Result<Option<BadLines>, Refusal>,
+) -> Result<(), Refusal>
+    ensures { result ≡ end_of told }
+{
+    match told {
+        Ok(Some(BadLines { count, first })) => {
+            let _ = rt.eprintln(Fault::BadLines(count, first));
+            Ok(())
+        }
+        Ok(None) => Ok(()),
+        Err(why) => Err(why),
+    }
 }

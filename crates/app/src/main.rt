@@ -2,15 +2,13 @@
 #![tactic(auto)]
 
 mod actions;
-mod fault;
-mod files;
 mod runs;
+mod streams;
 
-use crate::fault::{
-    CANNOT_READ_OR_WRITE, COMMAND_LINE_FAULT, Fault, OUT_OF_MEMORY, report, tell_bad_lines,
-};
+use crate::actions::tell_bad_lines;
 use command_line::{Action, Options, options};
-use inputs::{Machine, open, open_all};
+use files::{Machine, open, open_all, report_refused};
+use messages::{CANNOT_READ_OR_WRITE, COMMAND_LINE_FAULT, Fault, OUT_OF_MEMORY, report};
 use model::Refusal;
 use replaying::BadLines;
 use session::Counted;
@@ -32,10 +30,10 @@ fn run_reader(
 ) -> io::Result<Result<Option<BadLines>, Refusal>> {
     let hashing = RandomState::new(rt)?;
     if let Action::Replay { explain: true, .. } = &options.action {
-        let mut writer = Counted::new(files::explained(rt, name)?);
+        let mut writer = Counted::new(streams::explained(rt, name)?);
         return Ok(actions::run_lines(wait, rt.alloc(), hashing, options, reader, &mut writer));
     }
-    let mut writer = files::output(rt)?;
+    let mut writer = streams::output(rt)?;
     Ok(actions::run_lines(wait, rt.alloc(), hashing, options, reader, &mut writer))
 }
 
@@ -101,7 +99,7 @@ fn exit_status(rt: &HostRuntime, ended: io::Result<u8>) -> u8 {
 // The runners of `run` are made here, where it is known what the runtime is: a function over any runtime
 // could not hand them to threads.
 fn main(rt: HostRuntime) -> ExitCode {
-    let held = match files::hold_closed_streams(&rt) {
+    let held = match streams::hold_closed_streams(&rt) {
         Ok(held) => held,
         Err(error) => return ExitCode::from(exit_status(&rt, Err(io::Error::from(error)))),
     };
@@ -110,10 +108,10 @@ fn main(rt: HostRuntime) -> ExitCode {
             Action::Replay { file, .. } => run_file(&rt, &rt, &options, file.as_str()),
             Action::Strike { file, .. } => run_file(&rt, &rt, &options, file.as_str()),
             Action::Run(run) => {
-                files::tell_missing_folders(&rt, run);
+                streams::tell_missing_folders(&rt, run);
                 match open_all(rt.alloc(), &Machine(&rt), run) {
                     Ok(files) => runs::run_files(&rt, &rt, &options, run, files),
-                    Err(refused) => Ok(runs::report_refused(&rt, refused)),
+                    Err(refused) => Ok(report_refused(&rt, refused)),
                 }
             }
         },

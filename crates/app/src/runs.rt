@@ -1,29 +1,27 @@
 //! Files whose lines are run as sessions of one store that builds.
 
-ghost use Rattle.std.specs.Prelude.{◌≡◌, ◌⊎◌, [], Err, OnOk, IfOk, IfErr, map, slice_index_or, string_bytes};
+ghost use Rattle.std.specs.Prelude.{◌≡◌, ◌⊎◌, IfOk, IfErr};
 ghost use Rattle.std.specs.Io.KnownBytes.{Appends};
 ghost use Rattle.model.specs.declared.refusal.Refusal.TheVariants.{OutputFault};
-ghost use Rattle.session.specs.Serving.{IsShown, IsUnwritten, MayBeFault};
-ghost use Rattle.app.specs.Runs.{AppendsFront, HasNotRun, HasNotPrinted, IsFirstFault, RunsFiles, first_end, texts_of};
-ghost use Rattle.app.specs.Ends.{status_of_end};
+ghost use Rattle.session.specs.Serving.{IsShown, MayBeFault};
+ghost use Rattle.files.specs.Outputs.{texts_of};
+ghost use Rattle.app.specs.Runs.{HasNotRun, HasNotPrinted, RunsFiles};
 
 use crate::actions::run_parts;
-use crate::fault::report;
-use crate::files;
+use crate::streams;
 use builder::Runner;
 use command_line::{Options, Run};
-use inputs::{Opened, Parts, Refused, parts_of};
+use files::{Opened, Parts, Refused, parts_of, print_all, report_all, report_refused};
 use messages::tell_waiting;
 use model::Refusal;
 use running::Results;
-use session::{Counted, Faults, flush_after, write_whole};
+use session::Faults;
 use std::alloc::Global;
 use std::hash::RandomState;
-use std::io::{Eprint, Read, Write};
+use std::io::{Read, Write};
 use std::sync::Wait;
 use std::thread::Threads;
 use std::{io, mem};
-use teams::SessionOutput;
 
 /// Runs the lines of files that are open as sessions of one store.
 ///
@@ -51,43 +49,6 @@ fn run_opened<
         Ok(results) => Ok(results),
         Err(why) => Err(Refused::of_none(why)),
     }
-}
-
-/// Writes what files gave, in their order.
-fn write_texts<W: Write + Faults>(
-    writer: &mut W,
-    before: u64,
-    outputs: &[SessionOutput],
-) -> Result<(), Refusal>
-    ensures ok { OnOk result (Appends (W.contents writer.old) (W.contents writer.new) (texts_of outputs.now)) }
-    ensures err { IfErr result (λ _. AppendsFront (W.contents writer.old) (W.contents writer.new) (texts_of outputs.now)) }
-    ensures errors { IfErr result IsUnwritten }
-{
-    for output in outputs {
-        write_whole(writer, before, output.text.as_slice())?;
-    }
-    Ok(())
-}
-
-/// Prints what files gave, in their order.
-///
-/// # Errors
-///
-/// A beginning of it is written then.
-///
-/// - `OutputFault` only where the writer failed during the call by its count.
-/// - `Memory` only where it failed and did not count that.
-fn print_all<W: Write + Faults>(writer: &mut W, outputs: &[SessionOutput]) -> Result<(), Refusal>
-    ensures ok { OnOk result (Appends (W.contents writer.old) (W.contents writer.new) (texts_of outputs.now)) }
-    ensures err { IfErr result (λ _. AppendsFront (W.contents writer.old) (W.contents writer.new) (texts_of outputs.now)) }
-    ensures errors { IfErr result IsUnwritten }
-    ensures fault { IfErr result (MayBeFault OutputFault (W.failed writer.old) (W.failed writer.new)) }
-    ensures shown { IsShown result (W.failed writer.old) (W.failed writer.new) }
-{
-    let before = writer.failures();
-    let ended = write_texts(writer, before, outputs);
-    // Nothing is read here, and so no reader can have failed.
-    flush_after(&Counted::new(()), 0, writer, before, ended)
 }
 
 /// Runs the lines of files that are open as sessions of one store, and prints what they gave, in their order.
@@ -130,46 +91,6 @@ fn run_and_print<
     }
 }
 
-/// The name at a place, or nothing.
-fn name_at(names: &[String], place: usize) -> &str
-    ensures { result.now ≡ slice_index_or (map string_bytes names.now) place [] }
-{
-    match names.get(place) {
-        Some(name) => name.as_str(),
-        None => "",
-    }
-}
-
-/// The first end that is none of all lines, and the name of its file.
-fn first_fault<'a>(names: &'a [String], outputs: &[SessionOutput]) -> Option<Refused<'a>>
-    ensures { IsFirstFault (map string_bytes names.now) outputs.now result }
-{
-    for (place, output) in outputs.iter().enumerate() {
-        if let Err(why) = output.ended {
-            let name = name_at(names, place);
-            return Some(Refused { name, why });
-        }
-    }
-    None
-}
-
-/// Says how files ended, and gives the exit status.
-pub(crate) fn report_refused(rt: &impl Eprint, refused: Refused<'_>) -> u8
-    ensures { result ≡ status_of_end (Err refused.entry.why) }
-{
-    report(rt, &Err(refused.why), refused.name)
-}
-
-/// Says how the files of these names ended that gave these outputs, and gives the exit status.
-fn report_all(rt: &impl Eprint, names: &[String], outputs: &[SessionOutput]) -> u8
-    ensures { result ≡ status_of_end (first_end outputs.now) }
-{
-    match first_fault(names, outputs) {
-        Some(refused) => report_refused(rt, refused),
-        None => report(rt, &Ok(()), ""),
-    }
-}
-
 /// Runs the lines of files that are open as sessions of one store that builds, prints what they gave, says on
 /// standard error what went wrong, and gives the exit status.
 ///
@@ -188,7 +109,7 @@ pub(crate) fn run_files<
     files: Vec<Opened<'_, I, Q>>,
 ) -> io::Result<u8> {
     let hashing = RandomState::new(rt)?;
-    let mut writer = files::output(rt)?;
+    let mut writer = streams::output(rt)?;
     match run_and_print(host, rt.alloc(), hashing, options, files, &mut writer) {
         Ok(Results { outputs, history }) => {
             if run.verbose {

@@ -9,7 +9,8 @@ use Rattle.events.specs.declared.reply.Reply.TheVariants.{Refused}
 use Rattle.history.specs.Callers.{Caller, PassKnowledge, answered, told_stopped, stops_of, Matches}
 use Rattle.history.specs.Histories.{unrecorded, IsLegal, IsAnswered}
 use Rattle.history.specs.Histories as histories
-use Rattle.book.specs.Keeping.{Contents, Steps, IsModelReply, TookEvent, Stops, KeepsCore}
+use Rattle.book.specs.Keeping.{Contents, IsModelReply, Stops, KeepsCore}
+use Rattle.cores.specs.Turns.{Steps, TookEvent}
 
 -- an event of a caller is answered by a book of so many parts, one for each caller; stops are how many of his calls stopped it
 pub record IsApplied

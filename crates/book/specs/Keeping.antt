@@ -10,10 +10,9 @@ use Rattle.events.specs.declared.event.Event.{Event}
 use Rattle.events.specs.declared.reply.Reply.{Reply}
 use Rattle.schedule.specs.Standing.{world_of, setup_of, stored_in, IsUnchanged}
 use Rattle.events.specs.Terms.{event_of, reply_of}
-use Rattle.schedule.specs.Stepping.{IsCoreStep}
 use Rattle.history.specs.declared.row.Row.{Row}
 use Rattle.history.specs.Histories.{events_of, answers_of, unrecorded}
-use Rattle.history.specs.Following.{HasReached}
+use Rattle.publishing.specs.Following.{HasReached}
 
 -- a book as contracts see it: its core, its rows, and whether it is stopped
 pub record Contents : Type 0 where
@@ -24,15 +23,6 @@ pub record Contents : Type 0 where
 -- a core that has taken no event
 abbrev pub IsNew : Setup → Core → Type 0
 IsNew setup core = (setup_of core ≡ setup) × (world_of core ≡ nothing) × (stored_in core ≡ [])
-
--- the core takes the event, gives the reply and becomes the new one
-abbrev pub Steps : Core → Event → Reply → Core → Type 0
-Steps old event reply new = IsCoreStep old (event_of event) (reply_of reply) new
-
--- the core has taken an event
-pub record TookEvent (old : Core) (event : Event) (new : Core) : Type 0 where
-  pub reply : Reply
-  pub step : Steps old event reply new
 
 -- the events of the rows are well formed, and the replies are the model's, wherever texts have no clash and all that the events
 -- hash is among them; and unless the book is stopped, the core is that of the world reached

@@ -19,14 +19,15 @@ ghost use Rattle.book.specs.Closing.{rows_in};
 ghost use Rattle.book.specs.Keeping.{IsNew, StandsFor};
 
 use crate::closed_history::History;
-use crate::cores::{Asked, Cores, event_again};
 use crate::counts::{Account, Counts, Tally};
 use crate::pass::Pass;
-use crate::publisher::Publisher;
+use crate::taking::take;
 use closure_laws::closures_are_good;
+use cores::{Asked, Cores, event_again};
 use history::{Caller, FrontId, HistoryPrefix, Log, Row, StopCount};
 use laws::{isolation, timed_isolation};
 use model::Refusal;
+use publishing::Publisher;
 use schedule::{Core, Event, Ready, Reply, RunningJob, User};
 use std::alloc::{AllocError, Global};
 use std::marker::Model;
@@ -207,7 +208,7 @@ impl<J: FrontId> Book<J> {
             draft,
             ready,
         };
-        let answered = match cores.take(rt, alloc, publisher, asked) {
+        let answered = match take(rt, alloc, cores, publisher, asked) {
             Ok(answered) => answered,
             Err(why) => return Reply::Refused(why),
         };

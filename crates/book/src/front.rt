@@ -10,8 +10,8 @@ ghost use Rattle.history.specs.NewFronts.{AreTokensOf};
 ghost use Rattle.history.specs.Callers.{knowing, stops_of, below, rows_of, new_pass};
 ghost use Rattle.history.specs.Tokens.{nothing_recorded};
 ghost use Rattle.history.specs.Histories.{IsLegal};
-ghost use Rattle.history.specs.FrontId.{name_of};
-ghost use Rattle.history.specs.Tied.{knower};
+ghost use Rattle.publishing.specs.FrontNames.{name_of};
+ghost use Rattle.publishing.specs.Tied.{knower};
 ghost use Rattle.book.specs.Applying.{HasCalled};
 ghost use Rattle.book.specs.Asking.{HasAsked};
 ghost use Rattle.book.specs.Closing.{rows_in};
@@ -19,15 +19,12 @@ ghost use Rattle.book.specs.Keeping.{IsNew};
 
 use crate::book::{Book, refuse};
 use crate::closed_history::History;
-use crate::cores::Cores;
 use crate::counts::{Account, Counts, Tally};
 use crate::pass::Pass;
-use crate::publisher::Publisher;
-use history::{
-    Caller, FrontId, FrontTokens, HistoryPrefix, Snapshot, SnapshotWriter, StopCount, begin,
-    reader_of,
-};
+use cores::Cores;
+use history::{Caller, FrontId, FrontTokens, HistoryPrefix, StopCount};
 use model::Refusal;
+use publishing::{Publisher, Snapshot, SnapshotWriter, begin, reader_of};
 use schedule::{Core, Event, Ready, Reply, RunningJob, User};
 use std::alloc::Global;
 use std::num::NonZeroUsize;

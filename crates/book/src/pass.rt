@@ -9,18 +9,18 @@ ghost use Rattle.schedule.specs.Queries.{event_for};
 ghost use Rattle.history.specs.Callers.{knowing, rows_of, seeing};
 ghost use Rattle.history.specs.Histories.{row, unrecorded, IsLegal, IsReadAfter};
 ghost use Rattle.events.specs.Terms.{event_of};
-ghost use Rattle.history.specs.Following.{FindsRead, IsNeedAfter, IsPreparedAfter};
-ghost use Rattle.history.specs.FrontId.{name_of, book_in, setup_in};
-ghost use Rattle.history.specs.Tied.{knower};
+ghost use Rattle.publishing.specs.Following.{FindsRead, IsNeedAfter, IsPreparedAfter};
+ghost use Rattle.publishing.specs.FrontNames.{name_of, book_in, setup_in};
+ghost use Rattle.publishing.specs.Tied.{knower};
 ghost use Rattle.book.specs.Applying.{IsApplied, HasCalled};
 ghost use Rattle.book.specs.Asking.{HasAsked};
 
 use crate::book::Book;
 use crate::counts::Account;
-use crate::publisher::insist;
-use history::{FrontId, HistoryPrefix, SnapshotReader, is_unrecorded, look, need};
+use history::{FrontId, HistoryPrefix, is_unrecorded};
 use laws::{isolation, kept_closures_are_good, timed_isolation};
 use model::Refusal;
+use publishing::{SnapshotReader, insist, look, need};
 use schedule::{
     Cache, Event, Preparation, PrepareInput, Query, ReadResult, Ready, Reply, RunningJob, User,
 };
@@ -59,8 +59,8 @@ impl<J: FrontId> Model for Pass<J> {
     ghost use Rattle.std.specs.Prelude.{◌≡◌, length};
     ghost use mathlib.Core.List.{IsPrefix};
     ghost use Rattle.history.specs.Callers.{PassKnowledge};
-    ghost use Rattle.history.specs.FrontId.{name_of};
-    ghost use Rattle.history.specs.Tied.{knower};
+    ghost use Rattle.publishing.specs.FrontNames.{name_of};
+    ghost use Rattle.publishing.specs.Tied.{knower};
 
     ghost Value = { PassKnowledge };
 

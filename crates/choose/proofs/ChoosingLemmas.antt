@@ -13,7 +13,8 @@ use Rattle.model.proofs.BoolLemmas.{either}
 use Rattle.laws.proofs.ClosureLemmas.{from_other, least_in}
 use Rattle.laws.proofs.MemberLemmas.{In, in_right, in_map, from_filter, from_flat_map}
 use Rattle.records.specs.Recorded.{Recorded}
-use Rattle.realise.specs.Holdings.{Holdings, paths_of, is_record_of}
+use Rattle.desk_records.specs.RecordLists.{is_record_of}
+use Rattle.realise.specs.Holdings.{Holdings, paths_of}
 use Rattle.choose.specs.Visible.{Visible, seen, desks_of, IsStored, IsDeskStored, AreStored, recorded_before, is_recorded_at, is_any_or_at, those_at, records_on, is_recorded_pinned, choose_recorded, choose_in}
 use Rattle.records.specs.Trees.{record_at}
 

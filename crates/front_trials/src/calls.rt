@@ -3,16 +3,15 @@
 //! - `# TEXT` is printed as it is.
 //! - `CALL ARGUMENT` runs a call.
 
-use crate::{books, crowd, held, sweeps, values};
+use crate::{sweeps, values};
 use model::Refusal;
 use std::alloc::Global;
 use std::hash::RandomState;
 use std::sync::Wait;
-use std::thread::Threads;
 use trial_lines::{Answer, cut};
 
 /// Adds what a line gives. The one error is a line that is not understood.
-pub(crate) fn answer_line<R: Threads + Wait + Sync>(
+pub(crate) fn answer_line<R: Wait>(
     rt: &R,
     alloc: Global,
     hashing: RandomState,
@@ -25,11 +24,7 @@ pub(crate) fn answer_line<R: Threads + Wait + Sync>(
             out.add_text(line);
             Ok(())
         }
-        "held" => held::held(rt, alloc, hashing, argument, out),
-        "prepared_while_held" => held::prepared_while_held(rt, alloc, hashing, argument, out),
-        "crowd" => crowd::crowd(rt, alloc, hashing, argument, out),
         "sweeps" => sweeps::sweeps(rt, alloc, hashing, argument, out),
-        "applied" => books::applied(rt, alloc, hashing, argument, out),
         "made_unprepared" => values::committed(rt, alloc, hashing, argument, out),
         "made_prepared" => values::prepared(rt, alloc, hashing, argument, out),
         _ => Err(Refusal::BadLine),

@@ -1,20 +1,13 @@
-//! Runs fronts, with threads and without, on the lines of standard input, and prints what each line gives.
+//! Runs fronts without threads on the lines of standard input, and prints what each line gives.
 //!
 //! A line is a call, a blank and its argument; [`calls`] says what else a line may be. In the texts of
 //! inputs and outputs `;` stands for a newline. What the lines should give comes from outside:
 //! `tests/trials` computes it.
 #![tactic(auto)]
 
-mod books;
 mod calls;
-mod crowd;
-mod fronts;
-mod held;
-mod new_front;
-mod reads;
+mod committing;
 mod sweeps;
-mod traces;
-mod turns;
 mod values;
 
 use crate::calls::answer_line;

@@ -4,8 +4,7 @@ ghost use Rattle.std.specs.Prelude.{◌≡◌};
 ghost use Rattle.history.specs.NewFronts.{AreTokensOf};
 ghost use Rattle.book.specs.Keeping.{IsNew};
 
-use crate::fronts::Called;
-use crate::new_front::NewFront;
+use crate::committing::Committing;
 use book::{Front, FrontId};
 use model::Refusal;
 use session::{Mode, Session};
@@ -13,12 +12,12 @@ use std::alloc::Global;
 use std::hash::RandomState;
 use std::marker::Brand;
 use std::sync::Wait;
-use trial_lines::Answer;
+use trial_lines::{Answer, NewFront};
 
 /// Adds how many paths are stored, before a sweep and after it.
 fn sweep_once<J: FrontId, R: Wait>(
     alloc: Global,
-    store: &mut Called<'_, J, R>,
+    store: &mut Committing<'_, J, R>,
     out: &mut Answer,
 ) -> Result<(), Refusal> {
     out.add_text("stored ");
@@ -33,7 +32,7 @@ fn sweep_once<J: FrontId, R: Wait>(
 /// Adds what each line of an input gets, and what is stored then.
 fn tell_lines<J: FrontId, R: Wait>(
     alloc: Global,
-    store: &mut Called<'_, J, R>,
+    store: &mut Committing<'_, J, R>,
     lines: &str,
     out: &mut Answer,
 ) -> Result<(), Refusal> {
@@ -60,7 +59,12 @@ fn answer_by_front<J: FrontId, R: Wait>(
     let NewFront { blank, core } = new;
     let (front, mut passes) = Front::<J>::new(rt, alloc, blank, core, 1)?;
     let pass = passes.pop().unwrap();
-    let mut store = Called { rt, front, pass };
+    let mut store = Committing {
+        rt,
+        front,
+        pass,
+        prepares: true,
+    };
     tell_lines(alloc, &mut store, lines.as_str(), out)
 }
 

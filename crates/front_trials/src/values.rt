@@ -4,64 +4,14 @@ ghost use Rattle.std.specs.Prelude.{◌≡◌};
 ghost use Rattle.history.specs.NewFronts.{AreTokensOf};
 ghost use Rattle.book.specs.Keeping.{IsNew};
 
-use crate::new_front::NewFront;
-use book::{Front, FrontId, Pass};
+use crate::committing::Committing;
+use book::{Front, FrontId};
 use model::Refusal;
-use schedule::{Event, Query, Ready, Reply};
-use session::GoalId;
 use std::alloc::Global;
 use std::hash::RandomState;
 use std::marker::Brand;
 use std::sync::Wait;
-use trial_lines::{Answer, tell_lines};
-
-/// A front and its one pass, which reads what is asked, and prepares the other events or does not.
-#[derive(Drop)]
-struct Committing<'a, J: FrontId, R> {
-    rt: &'a R,
-    front: Front<J>,
-    pass: Pass<J>,
-    prepares: bool,
-}
-
-impl<J: FrontId, R: Wait> Committing<'_, J, R> {
-    /// What is made for an event before it is committed.
-    fn ready_for(&mut self, alloc: Global, event: &Event) -> Result<Ready, Refusal> {
-        if self.prepares {
-            self.pass.prepare(event)
-        } else {
-            Ok(Ready::none(alloc))
-        }
-    }
-
-    /// Commits an event.
-    fn commit(&mut self, alloc: Global, event: Event) -> Reply {
-        match self.ready_for(alloc, &event) {
-            Ok(ready) => self
-                .front
-                .commit(self.rt, alloc, &mut self.pass, event, ready),
-            Err(why) => Reply::Refused(why),
-        }
-    }
-}
-
-/// No line of the service waits.
-impl<J: FrontId, R: Wait> session::Answer for Committing<'_, J, R> {
-    ghost answers = { λ old event reply new. Unit {0} };
-
-    ghost waited = { λ old goals reply new. Unit {0} };
-
-    fn call(&mut self, alloc: Global, event: Event) -> Reply {
-        match Query::of(event) {
-            Ok(query) => self.pass.read(query),
-            Err(event) => self.commit(alloc, event),
-        }
-    }
-
-    fn wait(&mut self, _alloc: Global, _goals: &[GoalId]) -> Reply {
-        Reply::Ok
-    }
-}
+use trial_lines::{Answer, NewFront, tell_lines};
 
 /// Answers the lines by a new front, and adds how many values were made, and were at hand.
 fn answer_by_front<J: FrontId, R: Wait>(

@@ -22,7 +22,8 @@ use Rattle.trust.specs.Naming.{place_of, names, trusted_at, IsWithin}
 use Rattle.events.specs.declared.reply.Reply as Rust
 use Rattle.events.specs.Terms.{reply_of}
 use Rattle.realise.specs.Held.{paths_held}
-use Rattle.realise.specs.Holdings.{Holdings, is_recorded_at, is_needed, without_records}
+use Rattle.desk_records.specs.RecordLists.{is_recorded_at}
+use Rattle.realise.specs.Holdings.{Holdings, is_needed, without_records}
 use Rattle.realise.proofs.ForgettingLemmas.{labelled_still}
 use Rattle.store_state.specs.Sound.{Beside, desk_of, IsSound, IsResolvedIn, AreGoalsSound}
 use Rattle.store_state.specs.Parts.{goals_of}

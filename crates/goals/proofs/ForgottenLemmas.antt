@@ -11,7 +11,8 @@ use Rattle.trust.specs.Naming.{names}
 use Rattle.events.specs.declared.reply.Reply as Rust
 use Rattle.events.specs.Terms.{reply_of}
 use Rattle.realise.specs.Held.{paths_held}
-use Rattle.realise.specs.Holdings.{Holdings, is_recorded_at, is_needed, without_records}
+use Rattle.desk_records.specs.RecordLists.{is_recorded_at}
+use Rattle.realise.specs.Holdings.{Holdings, is_needed, without_records}
 use Rattle.jobs.specs.Owned.{OwnedByAll, goals_at, with_goals_at}
 use Rattle.store_state.specs.declared.state.State.{State}
 use Rattle.store_state.specs.States.{parts_of}

@@ -21,7 +21,8 @@ use Rattle.laws.proofs.MemberLemmas.{In, in_of, any_of, in_right, in_map, from_m
 use Rattle.laws.proofs.ClosureLemmas.{least_in}
 use Rattle.laws.proofs.LabelLemmas.{from_labels_in_order}
 use Rattle.records.specs.Recorded.{Recorded}
-use Rattle.realise.specs.Holdings.{Holdings, paths_of, is_record_of, records_of}
+use Rattle.desk_records.specs.RecordLists.{is_record_of}
+use Rattle.realise.specs.Holdings.{Holdings, paths_of, records_of}
 use Rattle.records.specs.Trees.{record_at}
 use Rattle.choose.specs.Visible.{IsStored, IsDeskStored, AreStored}
 use Rattle.choose.proofs.ChoosingLemmas.{least_from_append, all_in}

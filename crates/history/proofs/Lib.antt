@@ -1,6 +1,3 @@
-pub mod FollowLemmas
-pub mod Ties
-pub mod LegalLemmas
 pub mod Prefixes
 pub mod TokenLemmas
 pub mod RowLemmas

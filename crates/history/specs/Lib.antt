@@ -1,9 +1,4 @@
-pub mod FrontId
 pub mod NewFronts
-pub mod Following
-pub mod ReadResults
-pub mod Showing
-pub mod Tied
 pub mod Callers
 pub mod Tokens
 pub mod HistoryPrefixes

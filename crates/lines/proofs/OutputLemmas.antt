@@ -6,8 +6,8 @@ use Rattle.hex.specs.declared.error.FromHexError.{FromHexError}
 use Rattle.hex.specs.declared.error.FromHexError.TheVariants.{OutOfMemory}
 use Rattle.hex.proofs.HexLemmas.{decode_of-encode_lower}
 use Rattle.model.specs.Archives.{AreBytes}
-use Rattle.nar.specs.TextReading.{is_lower_digit}
-use Rattle.nar.proofs.LowerDigits.{digit_is_lower}
+use Rattle.tree_text.specs.TextReading.{is_lower_digit}
+use Rattle.tree_text.proofs.LowerDigits.{digit_is_lower}
 use Rattle.std.specs.Prelude.{Err}
 
 -- the digits of bytes are in lower case

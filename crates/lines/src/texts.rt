@@ -11,10 +11,11 @@ use crate::entries::add_entries;
 use crate::pieces::{add, add_number};
 use events::{Job, Reply, Status};
 use model::Refusal;
-use nar::{Tree, tree_text};
+use nar::Tree;
 use records::Entry;
 use std::alloc::{AllocError, Global};
 use storepath::StorePath;
+use tree_text::tree_text;
 
 /// Adds that a goal is built, and its job, by its leader and the number of his goal.
 fn add_job(alloc: Global, text: &mut Vec<u8>, job: &Job) -> Result<(), AllocError>

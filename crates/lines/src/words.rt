@@ -6,7 +6,7 @@ ghost use Rattle.model.specs.declared.refusal.Refusal.TheVariants.{Memory, BadLi
 ghost use Rattle.model.specs.declared.verb.WordKind.TheVariants as kind;
 ghost use Rattle.model.specs.Worlds.{is_user_name, are_users};
 ghost use Rattle.model.specs.Words.{IsTreeText, IsRawText, IsOutputText, IsNoOutputOf, IsIll, number_in, is_goal_number, is_exit_status};
-ghost use Rattle.nar.specs.TextReading.{is_lower_digit};
+ghost use Rattle.tree_text.specs.TextReading.{is_lower_digit};
 
 use crate::cutting::Word;
 use crate::numbers::numeral_up_to;
@@ -14,8 +14,9 @@ use aterm::Text;
 use events::Output;
 use hex::FromHexError;
 use model::{LONGEST_USER_NAME, MOST_GOALS, Refusal};
-use nar::{Tree, decode_digits, read_tree_text};
+use nar::Tree;
 use std::alloc::{AllocError, Global};
+use tree_text::{decode_digits, read_tree_text};
 use trust::{User, are_users};
 
 /// The greatest exit status of a builder.

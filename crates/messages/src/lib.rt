@@ -2,6 +2,7 @@
 //!
 //! | Name | What it says |
 //! |---|---|
+//! | [`Fault`], [`report`] | why it cannot go on, with its exit status |
 //! | [`Explained`] | behind each refusal what it means, in the place where replies are written |
 //! | [`Narrator`] | as each builder starts, and how it and its goal ended |
 //! | [`tell_waiting`] | which goals are left waiting when a run has ended, and for what |
@@ -9,6 +10,7 @@
 
 mod columns;
 mod explaining;
+mod fault;
 mod heard;
 mod inputs;
 mod meanings;
@@ -16,5 +18,9 @@ mod narrator;
 mod waiting;
 
 pub use explaining::{Explained, Lines};
+pub use fault::{
+    ANSWERED, BAD_USERS, CANNOT_READ_OR_WRITE, COMMAND_LINE_FAULT, Fault, OUT_OF_MEMORY, fault_of,
+    report, status_of,
+};
 pub use narrator::Narrator;
 pub use waiting::tell_waiting;

@@ -7,7 +7,7 @@ ghost use Rattle.model.specs.Archives.{is_entry_name, is_entry_byte, bytes_befor
 /// Whether a text is the name of an entry: 1 to 255 bytes, neither "." nor "..", no zero byte and no
 /// slash.
 #[tactic(auto, unfolding(model::specs::Archives::is_entry_name))]
-pub(crate) fn is_name(name: &[u8]) -> bool
+pub fn is_name(name: &[u8]) -> bool
     ensures test { result ≡ is_entry_name name.now }
     ensures bytes { AreBytes name.now }
     ensures short { result ≡ true → length name.now ≤ 255 }
@@ -29,7 +29,7 @@ fn has_name_bytes(name: &[u8]) -> bool
 
 /// Whether one text stands before another in the order of bytes, which is that of a directory's
 /// entries.
-pub(crate) fn comes_before(first: &[u8], second: &[u8]) -> bool
+pub fn comes_before(first: &[u8], second: &[u8]) -> bool
     ensures { result ≡ bytes_before first.now second.now }
 {
     first.cmp(second).is_lt()

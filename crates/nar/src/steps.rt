@@ -12,7 +12,7 @@ use model::ReadError;
 ///
 /// - `Malformed` exactly where there are fewer.
 #[tactic(auto, unfolding(model::specs::ArchiveReading::split_at))]
-pub(crate) fn split(bytes: &[u8], count: usize) -> Result<(&[u8], &[u8]), ReadError>
+pub fn split(bytes: &[u8], count: usize) -> Result<(&[u8], &[u8]), ReadError>
     ensures read { Gives (λ r. (r.0.now, r.1.now)) result (split_at count bytes.now) }
     ensures malformed { IfErr result IsMalformed }
 {
@@ -28,7 +28,7 @@ pub(crate) fn split(bytes: &[u8], count: usize) -> Result<(&[u8], &[u8]), ReadEr
 ///
 /// - `Malformed` exactly where the text does not begin with them.
 #[tactic(auto, unfolding(model::specs::ArchiveReading::prefix_at))]
-pub(crate) fn skip_prefix<'a>(bytes: &'a [u8], prefix: &[u8]) -> Result<&'a [u8], ReadError>
+pub fn skip_prefix<'a>(bytes: &'a [u8], prefix: &[u8]) -> Result<&'a [u8], ReadError>
     ensures read { Gives (λ rest. rest.now) result (prefix_at prefix.now bytes.now) }
     ensures malformed { IfErr result IsMalformed }
 {

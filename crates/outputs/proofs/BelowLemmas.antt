@@ -15,7 +15,7 @@ use Rattle.laws.proofs.MemberLemmas.{In, any_true, from_any, in_filter, from_fil
 use Rattle.laws.proofs.AllReachedLemmas.{reached_first, reached_next, reached_least}
 use Rattle.records.specs.Recorded.{Recorded, without_tree}
 use Rattle.records.specs.Ordered.{source_label, record_label}
-use Rattle.realise.specs.Holdings.{is_recorded_at}
+use Rattle.desk_records.specs.RecordLists.{is_recorded_at}
 use Rattle.outputs.specs.Below.{AreBelow, AreCandidates}
 use Rattle.outputs.specs.Reaching.{is_for, is_label_for, has_class, chosen, AreSame, below_at, fresh_at}
 use Rattle.outputs.proofs.SameLemmas.{same_order, same_behind}

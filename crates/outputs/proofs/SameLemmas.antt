@@ -10,7 +10,7 @@ use Rattle.model.proofs.BoolLemmas.{either, both_parts, same_bytes, bytes_same, 
 use Rattle.records.specs.Recorded.{Recorded}
 use Rattle.records.specs.Ordered.{record_label}
 use Rattle.records.proofs.PathOrderLemmas.{bytes_weak, irreflexive, goes_on, other_way}
-use Rattle.realise.specs.Holdings.{is_recorded_at}
+use Rattle.desk_records.specs.RecordLists.{is_recorded_at}
 use Rattle.outputs.specs.Reaching.{AreSame}
 
 clash : {X : Type 0} (b : Bool) → b ≡ true → b ≡ false → X

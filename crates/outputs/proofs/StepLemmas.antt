@@ -13,7 +13,7 @@ use Rattle.model.specs.Classes.{Class}
 use Rattle.model.specs.Worlds.{Label}
 use Rattle.model.proofs.BoolLemmas.{either, or_cases, both_parts, same_bytes}
 use Rattle.records.specs.Recorded.{Recorded}
-use Rattle.realise.specs.Holdings.{is_recorded_at, is_record_of}
+use Rattle.desk_records.specs.RecordLists.{is_recorded_at, is_record_of}
 use Rattle.realise.proofs.ForgettingLemmas.{any_kept}
 use Rattle.outputs.specs.Reaching.{is_for, is_label_for, is_named_in, has_class, is_named, is_record_named, is_known, is_news, chosen, AreSame, below_at, fresh_at, IsReached}
 use Rattle.outputs.specs.declared.below.Reached.{Reached}

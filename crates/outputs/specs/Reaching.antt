@@ -4,7 +4,7 @@ use Rattle.std.specs.List.{list_any}
 use Rattle.model.specs.Classes.{Class}
 use Rattle.model.specs.Worlds.{Label}
 use Rattle.records.specs.Recorded.{Recorded}
-use Rattle.realise.specs.Holdings.{is_recorded_at}
+use Rattle.desk_records.specs.RecordLists.{is_recorded_at}
 use Rattle.outputs.specs.declared.below.Reached.{Reached}
 
 -- ---- labels

@@ -18,11 +18,12 @@ use Rattle.model.specs.ForgetRequests.{is_class_at}
 use Rattle.model.proofs.BoolLemmas.{either, same_bytes, bytes_eq_sym, both_parts, or_cases}
 use Rattle.path_sets.proofs.PathSetLemmas.{one_of_keys}
 use Rattle.records.specs.Recorded.{Recorded}
-use Rattle.realise.proofs.CountedLemmas.{some_more}
+use Rattle.desk_records.proofs.CountedLemmas.{some_more}
 use Rattle.realise.specs.declared.desk.Desk.TheInside.{Inside}
 use Rattle.realise.specs.Held.{Held, paths_held, bytes_held, without_archive, bytes_at}
 use Rattle.realise.specs.Kept.{holdings_of, IsConsistent}
-use Rattle.realise.specs.Holdings.{Holdings, paths_of, stays_held, is_recorded_at, remaining, refers_to, is_needed, is_at, has_labelled, IsClosed, IsClosedWith, without_records}
+use Rattle.desk_records.specs.RecordLists.{is_recorded_at, remaining, refers_to}
+use Rattle.realise.specs.Holdings.{Holdings, paths_of, stays_held, is_needed, is_at, has_labelled, IsClosed, IsClosedWith, without_records}
 
 -- ---- what is charged for a path
 

@@ -1,10 +1,7 @@
 pub mod AdditionLemmas
 pub mod PinLemmas
-pub mod CountedLemmas
-pub mod DeskLemmas
 pub mod ChargingLemmas
 pub mod SeveralLemmas
 pub mod HoldingLemmas
 pub mod KeepingLemmas
 pub mod ForgettingLemmas
-mod NumberLemmas

@@ -5,7 +5,7 @@ use Rattle.std.specs.Map.{lookup, remove_entry}
 use Rattle.indexmap.specs.IndexMap.{insert_entry}
 use Rattle.model.specs.Worlds.{pin_of, pinned, unpinned}
 use Rattle.model.proofs.BoolLemmas.{either, same_bytes, bytes_eq_sym}
-use Rattle.realise.specs.Indexed.{pin_at, pins_at}
+use Rattle.realise.specs.Pinned.{pin_at, pins_at}
 
 pub pin_of_entries : (class : List ℕ) (entries : List (List ℕ × List ℕ)) → pin_of (pins_at entries) class ≡ lookup (bytes_eq class) entries
 pin_of_entries class [] = refl

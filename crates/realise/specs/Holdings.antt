@@ -1,14 +1,14 @@
 -- What contracts see of a desk, and of what is put on it.
-use Rattle.std.specs.Prelude.{◌≡◌, ℕ, ◌<◌, ◌^◌, Bool, true, false, ◌&&◌, not, List, [], ◌∷◌, ◌++◌, ◌+◌, ◌-◌, nat_lt, nat_le, length, map, filter, sum_by, bytes_eq, All, Option, Some, None, if◌then◌else◌}
+use Rattle.std.specs.Prelude.{◌≡◌, ℕ, ◌<◌, ◌^◌, Bool, true, false, ◌&&◌, List, [], ◌∷◌, ◌++◌, ◌+◌, ◌-◌, nat_lt, nat_le, length, map, filter, sum_by, bytes_eq, All, Option, Some, None, if◌then◌else◌}
 use Rattle.std.specs.List.{list_any}
 use Rattle.model.specs.Classes.{Class, Admission, Known, is_one_of}
 use Rattle.model.specs.Worlds.{Pin, are_distinct}
 use Rattle.model.specs.Limits.{most_sources, most_records}
-use Rattle.model.specs.ForgetRequests.{is_class_at}
 use Rattle.records.specs.Recorded.{Recorded, same_recorded}
 use Rattle.records.specs.DeskEntries.{entry_path}
 use Rattle.records.specs.declared.desk_entry.DeskEntry.{DeskEntry}
 use Rattle.records.specs.declared.desk_entry.DeskEntry.TheVariants as entry
+use Rattle.desk_records.specs.RecordLists.{is_record_of, remaining, refers_to}
 use Rattle.realise.specs.Held.{with_archive, without_archive, bytes_at}
 
 -- ---- desks
@@ -25,10 +25,6 @@ pub record Holdings : Type 0 where
 abbrev pub paths_of : Holdings → List (List ℕ)
 paths_of d = d.known.sources ++ map (λ r. r.path) d.records
 
--- whether a record is of a class
-abbrev pub is_record_of : List ℕ → Recorded → Bool
-is_record_of class r = bytes_eq r.class.path class
-
 -- the records of a class
 abbrev pub records_of : List ℕ → Holdings → List Recorded
 records_of class d = filter (is_record_of class) d.records
@@ -42,18 +38,6 @@ abbrev pub with_pins : List Pin → Holdings → Holdings
 with_pins pins d = record d { pins = pins }
 
 -- ---- what is forgotten
-
--- whether a record is of a class, at a path
-abbrev pub is_recorded_at : List ℕ → List ℕ → Recorded → Bool
-is_recorded_at class path r = bytes_eq r.class.path class && bytes_eq r.path path
-
--- the others
-abbrev pub remaining : List ℕ → List ℕ → List Recorded → List Recorded
-remaining class path records = filter (λ r. not (is_recorded_at class path r)) records
-
--- whether a record has a label of a class at a path
-abbrev pub refers_to : List ℕ → List ℕ → Recorded → Bool
-refers_to class path r = list_any (λ l. is_class_at class path l.path l.class) r.labels
 
 -- whether a record that remains has such a label
 abbrev pub is_needed : List ℕ → List ℕ → Holdings → Bool

@@ -1,9 +1,5 @@
 pub mod Additions
-pub mod Counted
-pub mod Grouped
 pub mod Held
 pub mod Holdings
-pub mod Indexed
 pub mod Kept
-pub mod Numbers
-pub mod Tallied
+pub mod Pinned

@@ -11,12 +11,11 @@ ghost use Rattle.realise.specs.Held.{paths_held, IsSetOf};
 ghost use Rattle.realise.specs.Holdings.{known_with, records_with, IsNewSource, records_of, paths_of, is_on, has_place, charged_more, holds_entry, holds_derivation, with_pins, bare, IsClosed, IsClosedWithEntry, holds_each, charged_all, AreAbsent, AreCountable};
 ghost use Rattle.model.specs.declared.refusal.Refusal.TheVariants.{Memory};
 
-use crate::by_class::Records;
 use crate::holding::Holding;
 use crate::parts::parted;
 use crate::pins::Pins;
-use crate::records_of::RecordsOf;
 use classes::{Admitted, Known};
+use desk_records::{Records, RecordsOf};
 use indexmap::map::Keys;
 use model::{MOST_RECORDS, MOST_SOURCES, Refusal};
 use records::{DeskEntry, Record};

@@ -4,20 +4,13 @@ ghost use Rattle.std.specs.Prelude.{◌≡◌, ◌++◌, true, false, map, bytes
 ghost use Rattle.std.specs.List.{list_any};
 ghost use Rattle.model.specs.Classes.{is_one_of};
 ghost use Rattle.realise.specs.Held.{paths_held};
-ghost use Rattle.realise.specs.Holdings.{is_recorded_at, is_needed, without_records};
+ghost use Rattle.desk_records.specs.RecordLists.{is_recorded_at};
+ghost use Rattle.realise.specs.Holdings.{is_needed, without_records};
 
-use crate::by_class::Records;
 use crate::desk::Desk;
 use classes::Known;
-use records::Record;
+use desk_records::Records;
 use storepath::StorePath;
-
-/// Whether a record is of a class, at a path.
-pub(crate) fn is_recorded_at(class: &StorePath, path: &StorePath, one: &Record) -> bool
-    ensures { result ≡ is_recorded_at class.now path.now one.now }
-{
-    one.path() == path && one.class().path() == class
-}
 
 /// Whether a source or a record is at a path. No record is looked at.
 fn is_there(known: &Known, records: &Records, path: &StorePath) -> bool

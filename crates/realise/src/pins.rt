@@ -28,7 +28,7 @@ impl Drop for Pins {
 impl Model for Pins {
     ghost use Rattle.std.specs.Prelude.{List};
     ghost use Rattle.model.specs.Worlds.{Pin};
-    ghost use Rattle.realise.specs.Indexed.{pins_at};
+    ghost use Rattle.realise.specs.Pinned.{pins_at};
 
     ghost Value = { List Pin };
 

@@ -18,8 +18,8 @@ use Rattle.events.specs.Terms.{reply_of}
 use Rattle.history.specs.declared.row.Row.{Row}
 use Rattle.history.specs.Histories.{event_in, events_of, answers_of, unrecorded, IsLegal, IsToldAfter}
 use Rattle.history.proofs.HistoryLemmas.{answers_push, hashed_push, events_push, rows_push, legal_none}
-use Rattle.history.proofs.LegalLemmas.{legal_with}
-use Rattle.history.proofs.FollowLemmas.{good_last}
+use Rattle.publishing.proofs.LegalLemmas.{legal_with}
+use Rattle.publishing.proofs.FollowLemmas.{good_last}
 
 -- where no two of some texts clash, no two of texts among them do
 clean_among : (xs ys : List (List ℕ)) → All (Contains ys) xs → NoClash ys → NoClash xs

@@ -6,12 +6,11 @@ use Rattle.std.specs.Io.KnownBytes.{Appends}
 use Rattle.model.specs.declared.refusal.Refusal.{Refusal}
 use Rattle.model.specs.declared.refusal.Refusal.TheVariants.{OutputFault}
 use Rattle.model.specs.Lines.{lines_of}
-use Rattle.session.specs.Serving.{IsUnwritten, TellsEnd}
+use Rattle.session.specs.Serving.{IsUnwritten}
 use Rattle.session.proofs.RowLemmas.{appends-none, appends-flushed}
 use Rattle.replaying.specs.declared.bad_lines.BadLines.{BadLines}
 use Rattle.replaying.specs.BadLines.{end_of, ended_with}
 use Rattle.replaying.specs.Striking.{IsStruck, Struck, StruckEarly}
-use Rattle.replaying.proofs.WholeLemmas.{Told}
 
 -- where it ended before anything was written
 pub nothing_known : {T : Type 0} (r : Result T Refusal) (charge : ℕ) (user : List ℕ) (timed : Bool) (known : List ℕ → Type 0) (blank : Option (List ℕ))
@@ -26,11 +25,6 @@ pub struck_rest : {T : Type 0} (r : Result T Refusal) (charge : ℕ) (user : Lis
     → IfErr r (λ why. (all : List ℕ) → known all → StruckEarly charge user timed blank written (lines_of all) why)
 struck_rest (Ok t) charge user timed known blank written text is h fault = tt
 struck_rest (Err why) charge user timed known blank written text is h fault = λ all k. inr (record { text = text; is = is all k; count = h.0; part = h.1; fault = fault })
-
--- a want of memory or a failure of the writer is told as one of them
-still_unwritten : (first why : Refusal) (input output : Type 0) → TellsEnd first input output why → IsUnwritten first → IsUnwritten why
-still_unwritten first why input output h (inl o) = elim (subst (λ x. TellsEnd x input output why) o h) [ inl f ↦ inl f.0 | inr m ↦ inr m.0 ]
-still_unwritten first why input output h (inr m) = elim (subst (λ x. TellsEnd x input output why) m h) [ inl f ↦ inl f.0 | inr m' ↦ inr m'.0 ]
 
 module _ (charge : ℕ) (user : List ℕ) (timed : Bool) (lines : List (List ℕ)) (blank written written' : Option (List ℕ)) (kept : Appends written written' []) where
   pub all_flushed : (bad : Option BadLines) → Struck charge user timed blank written lines bad → Struck charge user timed blank written' lines bad
@@ -59,19 +53,6 @@ module _ (charge : ℕ) (user : List ℕ) (timed : Bool) (lines : List (List ℕ
     part = appends-flushed blank written written' (take h.count h.text) h.part kept;
     fault = told h.fault;
   })
-
--- what an end is told as, where all was printed, or nothing or a beginning
-pub early_after : (old new : ℕ) (input output : Type 0) (r e : Result (Unit {0}) Refusal) (P : Type 0) (Q S : Refusal → Type 0)
-    → IfErr r (Told e old new input output) → OnOk e P → IfErr e Q → (P → S OutputFault)
-    → ((first why : Refusal) → (IsUnwritten first → IsUnwritten why) → Q first → S why) → IfErr r S
-early_after old new input output (Ok u) e P Q S is p q unshown later = tt
-early_after old new input output (Err why) (Ok v) P Q S (inl f) p q unshown later = subst S (sym f.0) (unshown p)
-early_after old new input output (Err why) (Err first) P Q S (inl f) p q unshown later = later first why (λ u. inl f.0) q
-early_after old new input output (Err why) (Ok v) P Q S (inr t) p q unshown later = let bad : Ok v ≡ Err t.0 = t.1 in cc
-early_after old new input output (Err why) (Err first) P Q S (inr t) p q unshown later =
-    let is : first ≡ t.0 = let e : Err first ≡ Err t.0 = t.1 in cc in
-    let tells : TellsEnd first input output why = subst (λ x. TellsEnd x input output why) (sym is) t.2 in
-    later first why (still_unwritten first why input output tells) q
 
 -- ---- what was told before the end
 

@@ -22,7 +22,7 @@ use Rattle.replaying.specs.declared.numbers.FirstRun.{FirstRun}
 use Rattle.replaying.specs.Recording.{Begins, NamesUsers, RefusesFirst, IsFirstRun}
 use Rattle.replaying.specs.Striking.{IsUnnamed, RefusesUsers, StrikeEndsBy}
 use Rattle.replaying.proofs.RecordingLemmas.{gets_held}
-use Rattle.replaying.proofs.WholeLemmas.{Told}
+use Rattle.session.proofs.FlushLemmas.{Told}
 
 -- ---- what the lines say of the users
 

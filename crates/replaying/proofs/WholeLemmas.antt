@@ -7,7 +7,8 @@ use Rattle.model.specs.declared.refusal.Refusal.{Refusal}
 use Rattle.model.specs.declared.refusal.Refusal.TheVariants.{BadUsers, InputFault, OutputFault, Memory}
 use Rattle.model.specs.Lines.{lines_of}
 use Rattle.model.specs.Talk.{text_from}
-use Rattle.session.specs.Serving.{IsFault, TellsEnd}
+use Rattle.session.specs.Serving.{TellsEnd}
+use Rattle.session.proofs.FlushLemmas.{Told}
 use Rattle.session.specs.Ahead.{LooksAhead}
 use Rattle.session.proofs.RowLemmas.{appends-flushed}
 use Rattle.replaying.specs.WholeLines.{ReplayedSoFar, ServedSoFar}
@@ -76,10 +77,6 @@ kept_told first why other told = elim other [
   | inl o ↦ inr o
   | inr m ↦ let e : first ≡ InputFault = m.1 in elim told [ inl b ↦ cc | inr o ↦ cc ]
 ]
-
--- what an error is after such an end: that the flush failed, or the end as it is told
-abbrev pub Told : (e : Result (Unit {0}) Refusal) (old new : ℕ) (input output : Type 0) → Refusal → Type 0
-Told e old new input output why = IsFault OutputFault old new why ⊎ ((first : Refusal) × (e ≡ Err first) × TellsEnd first input output why)
 
 module _ (old new : ℕ) (input output : Type 0) where
   -- after any end: what holds where all was answered, or of the end, holds of what is told

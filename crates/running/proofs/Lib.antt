@@ -2,5 +2,4 @@ mod ToldLemmas
 mod ChainLemmas
 mod Sending
 mod RunLemmas
-mod AskedLemmas
 mod ServedSessionLemmas

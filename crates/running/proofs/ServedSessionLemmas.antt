@@ -25,7 +25,7 @@ use Rattle.teams.specs.Sessions.{Outputs, AllOutputs}
 use Rattle.teams.specs.Teams.{AllNew, stops_in}
 use Rattle.running.specs.ServedSessions.{AreFirst, IsSessionFor, AreSessionsFor, passes_for, passes_needed, session_passes, passes_left, all_passes, numbers_in, all_numbers, stops_left, IsPool, ArePools}
 use Rattle.running.specs.Runs.{IsGivenBack, AreOutputs, WorkersStand, AreServed, IsClosed, AreResults, are_accounted}
-use Rattle.running.specs.Asked.{are_asked}
+use Rattle.teams.specs.Asked.{are_asked}
 use Rattle.running.specs.declared.runs.Results.{Results}
 use Rattle.history.specs.declared.row.Row.{Row}
 use Rattle.history.specs.Histories.{IsLegal}

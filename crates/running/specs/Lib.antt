@@ -1,5 +1,4 @@
 pub mod Calling
 pub mod Meeting
 pub mod ServedSessions
-pub mod Asked
 pub mod Runs

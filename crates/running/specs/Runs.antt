@@ -33,7 +33,7 @@ use Rattle.running.specs.Meeting.{HasMet, stops_by}
 use Rattle.teams.specs.Teams.{WorksInRounds}
 use Rattle.teams.specs.Sessions.{AsksStatus, EndsBy}
 use Rattle.running.specs.ServedSessions.{passes_needed, session_passes}
-use Rattle.running.specs.Asked.{are_asked}
+use Rattle.teams.specs.Asked.{are_asked}
 use Rattle.running.specs.declared.runs.Results.{Results}
 
 -- these are the calls that lines of these rows make, in their order: the event of a line with the reply that is printed for it, and

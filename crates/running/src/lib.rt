@@ -5,7 +5,6 @@
 //! | [`run`] | runs the lines of files, each in a thread of its own, with workers that build |
 #![tactic(auto)]
 
-mod asked;
 mod pass_lists;
 mod runs;
 mod shared;

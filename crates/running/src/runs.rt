@@ -14,7 +14,6 @@ ghost use Rattle.teams.specs.Sessions.{AllOutputs, CannotBegin};
 ghost use Rattle.running.specs.ServedSessions.{AreFirst, passes_needed, session_passes};
 ghost use Rattle.running.specs.Runs.{AreServed, IsClosed, AreResults, are_accounted};
 
-use crate::asked::are_asked;
 use crate::pass_lists::{Back, SharedLeft, SharedSession, end_sessions, numbers_of, sessions_for};
 use book::{Front, FrontId, FrontTokens, History, Pass, Row};
 use builder::Runner;
@@ -27,7 +26,7 @@ use std::io::Read;
 use std::marker::Brand;
 use std::sync::{Arc, Wait};
 use std::thread::Threads;
-use teams::{Part, Rounds, SessionOutput, all_at_once};
+use teams::{Part, Rounds, SessionOutput, all_at_once, are_asked};
 
 /// What the lines of files gave, and what they did.
 #[derive(Drop)]

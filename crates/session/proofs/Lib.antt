@@ -9,3 +9,4 @@ pub mod EarlyLemmas
 pub mod HeadLemmas
 pub mod InputHeadLemmas
 pub mod TakingLemmas
+pub mod FlushLemmas

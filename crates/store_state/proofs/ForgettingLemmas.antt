@@ -15,7 +15,8 @@ use Rattle.model.proofs.BoolLemmas.{either, same_bytes, bytes_eq_sym, both_parts
 use Rattle.records.specs.Recorded.{Recorded}
 use Rattle.records.specs.Trees.{tree_in, source_at, record_at}
 use Rattle.realise.specs.Held.{paths_held, bytes_at}
-use Rattle.realise.specs.Holdings.{Holdings, paths_of, is_recorded_at, remaining, refers_to, is_needed, stays_held, without_records}
+use Rattle.desk_records.specs.RecordLists.{is_recorded_at, remaining, refers_to}
+use Rattle.realise.specs.Holdings.{Holdings, paths_of, is_needed, stays_held, without_records}
 use Rattle.realise.proofs.ForgettingLemmas.{stays_closed, all_left}
 use Rattle.store_state.specs.Sound.{Beside, sources_at, records_at, desk_of, IsSized, IsSound}
 use Rattle.store_state.proofs.ChargeLemmas.{has_path, weight, first_adds}

@@ -1,4 +1,5 @@
 pub mod WaitLemmas
 mod MeetLemmas
+mod AskedLemmas
 pub mod TeamLemmas
 mod ServedLemmas

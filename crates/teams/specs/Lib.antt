@@ -1,2 +1,3 @@
 pub mod Teams
 pub mod Sessions
+pub mod Asked

@@ -8,8 +8,10 @@
 //! | [`Team`] | workers who build together |
 //! | [`Meet`] | a store that learns what others of its kind were answered |
 //! | [`Rounds`] | the rounds that the sessions of a store have going |
+//! | [`are_asked`] | whether workers went on only with goals that their files had asked for |
 #![tactic(auto)]
 
+mod asked;
 mod meeting;
 mod pools;
 mod rounds;
@@ -17,6 +19,7 @@ mod sessions;
 mod team;
 mod waiting;
 
+pub use asked::are_asked;
 pub use meeting::Meet;
 pub use rounds::Rounds;
 pub use sessions::{Left, Part, ServedSession, SessionOutput, all_at_once};

@@ -7,12 +7,13 @@ ghost use Rattle.schedule.specs.Standing.{world_of, stored_in};
 use crate::answer::Answer;
 use crate::text::with_newlines;
 use model::Refusal;
-use nar::{Tree, tree_text};
+use nar::Tree;
 use schedule::{Core, Event, LARGEST_CHARGE, Limits, Reply, Request, User};
 use session::{Ahead, Mode, read_ahead};
 use std::alloc::Global;
 use std::hash::RandomState;
 use storepath::{Name, read_path};
+use tree_text::tree_text;
 
 /// The path of an empty file named `a`.
 const PATH: &[u8] = b"/nix/store/w996igw5fhzp5pmk8g9bfv99is99b0ap-a";

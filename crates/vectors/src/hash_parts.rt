@@ -5,12 +5,13 @@ use crate::lines::cut;
 use crate::paths::paths_of;
 use crate::trees::{decoded, tell as tell_tree};
 use model::Refusal;
-use nar::{Nar, encode, read_tree_text};
+use nar::{Nar, encode};
 use path_sets::PathSet;
 use rewrite::{Candidates, Images, Named, settle, source, substitute};
 use scan::{Keys, Places, occurrences};
 use std::alloc::Global;
 use storepath::{HashPart, Name, StorePath};
+use tree_text::read_tree_text;
 
 /// The archive of a tree's text.
 fn archive_of(alloc: Global, text: &str) -> Result<Nar, Refusal> {

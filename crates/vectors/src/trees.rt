@@ -3,8 +3,9 @@
 use crate::answer::Answer;
 use hashmod::{Hasher, sha256};
 use model::Refusal;
-use nar::{Nar, Tree, decode, encode, nar_digest, read_tree_text, tree_text, write_nar};
+use nar::{Nar, Tree, decode, encode, nar_digest, write_nar};
 use std::alloc::Global;
+use tree_text::{read_tree_text, tree_text};
 
 /// Adds the text of a tree.
 pub(crate) fn tell(alloc: Global, tree: &Tree, out: &mut Answer) -> Result<(), Refusal> {

@@ -1,7 +1,7 @@
 use Rattle.std.proofs.Common.{sym, ◌∙◌, subst, List, inr}
 use Rattle.teams.specs.declared.sessions.SessionOutput.{SessionOutput}
 use Rattle.session.specs.Serving.{IsUnwritten}
-use Rattle.app.specs.Runs.{AppendsFront, texts_of}
+use Rattle.files.specs.Outputs.{AppendsFront, texts_of}
 use Rattle.app.proofs.runs.run_and_print.Goals as goal
 
 pub returns-clause-refused : goal.returns-clause-refused

@@ -4,7 +4,7 @@ use Rattle.model.specs.declared.refusal.Refusal.{Refusal}
 use Rattle.model.specs.declared.refusal.Refusal.TheVariants.{Quota}
 use Rattle.running.specs.ServedSessions.{passes_needed}
 use Rattle.app.specs.Runs.{CannotRun}
-use Rattle.inputs.proofs.FileLemmas.{too_many}
+use Rattle.files.proofs.FileLemmas.{too_many}
 use Rattle.app.proofs.runs.run_opened.Goals as goal
 use Rattle.model.specs.Limits.{most_passes}
 

@@ -1,8 +1,8 @@
 use Rattle.std.specs.Prelude.{◌≡◌, ◌+◌, map, [], false}
 use Rattle.history.specs.Callers.{below}
 use Rattle.left_right.specs.Sides.{view}
-use Rattle.history.specs.FrontId.{name_of}
-use Rattle.history.specs.Tied.{knower}
+use Rattle.publishing.specs.FrontNames.{name_of}
+use Rattle.publishing.specs.Tied.{knower}
 use Rattle.history.specs.Callers.{new_pass}
 use Rattle.book.proofs.front.passes_of.Given as goal
 

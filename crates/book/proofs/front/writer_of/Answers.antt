@@ -1,7 +1,7 @@
 use Rattle.std.proofs.Common.{ap, ◌∙◌}
-use Rattle.history.specs.declared.law.Shown.{Shown}
+use Rattle.publishing.specs.declared.law.Shown.{Shown}
 use Rattle.book.proofs.KeepingLemmas.{starts_following}
-use Rattle.book.proofs.PublisherLemmas.{tied_first}
+use Rattle.publishing.proofs.PublisherLemmas.{tied_first}
 use Rattle.book.proofs.front.writer_of.Goals as goal
 
 pub new-first-requires : goal.new-first-requires

@@ -8,7 +8,8 @@ use Rattle.jobs.specs.Owned.{OwnedByAll}
 use Rattle.events.specs.declared.reply.Reply.TheVariants.{Ok as OkReply}
 use Rattle.events.specs.Terms.{reply_of}
 use Rattle.realise.specs.Held.{paths_held}
-use Rattle.realise.specs.Holdings.{Holdings, is_recorded_at, without_records}
+use Rattle.desk_records.specs.RecordLists.{is_recorded_at}
+use Rattle.realise.specs.Holdings.{Holdings, without_records}
 use Rattle.store_state.specs.States.{parts_of}
 use Rattle.store_state.specs.Viewing.{desk_at}
 use Rattle.store_state.proofs.RunLemmas.{still_run}

@@ -1,6 +1,6 @@
 use Rattle.std.proofs.Common.{rules, inr, refl, sym, ◌∙◌}
 use Rattle.hex.proofs.HexLemmas.{decode_of-ok}
-use Rattle.nar.proofs.LowerDigits.{encode_lower-decode_of}
+use Rattle.tree_text.proofs.LowerDigits.{encode_lower-decode_of}
 use Rattle.lines.proofs.OutputLemmas.{not-lower, not-read}
 use Rattle.lines.proofs.words.read_raw.Goals as goal
 

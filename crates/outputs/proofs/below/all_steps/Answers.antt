@@ -2,7 +2,7 @@ use Rattle.std.proofs.Common.{◌≡◌, ◌+◌, suc, ◌≤◌, length, ap, sy
 use Rattle.std.specs.Prelude.{filter}
 use Rattle.std.proofs.lemmas.List.{nil_from_length}
 use Rattle.std.proofs.lemmas.Bool.Decides.{nat_tests}
-use Rattle.realise.specs.Holdings.{is_recorded_at}
+use Rattle.desk_records.specs.RecordLists.{is_recorded_at}
 use Rattle.outputs.specs.Reaching.{has_class, below_at, fresh_at, chosen, IsReached}
 use Rattle.outputs.proofs.SameLemmas.{same_as_nothing}
 use Rattle.outputs.proofs.StepLemmas.{stays}

@@ -2,7 +2,7 @@ use Rattle.std.proofs.Common.{ℕ, List, ◌<◌, ◌++◌, length, ap, sym, sub
 use Rattle.std.specs.Prelude.{filter, bytes_eq}
 use Rattle.std.specs.List.{IsDistinct}
 use Rattle.std.proofs.lemmas.List.{take_all}
-use Rattle.realise.specs.Holdings.{is_record_of, is_recorded_at}
+use Rattle.desk_records.specs.RecordLists.{is_record_of, is_recorded_at}
 use Rattle.outputs.specs.Reaching.{has_class, is_record_named}
 use Rattle.outputs.proofs.StepLemmas.{joined, joined_more, of_named}
 use Rattle.outputs.proofs.below.records_named.Goals as goal

@@ -1,6 +1,6 @@
 use Rattle.std.proofs.Common.{◌≡◌, take}
 use Rattle.std.specs.Prelude.{filter}
-use Rattle.realise.specs.Holdings.{is_record_of}
+use Rattle.desk_records.specs.RecordLists.{is_record_of}
 use Rattle.outputs.specs.Reaching.{is_record_named}
 use Rattle.outputs.proofs.StepLemmas.{joined}
 use Rattle.outputs.proofs.below.records_named.Given as goal

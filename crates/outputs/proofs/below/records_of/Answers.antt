@@ -1,7 +1,7 @@
 use Rattle.std.proofs.Common.{◌≡◌, ℕ, List, ◌<◌, ◌++◌, length, get_or, ap, sym, ◌∙◌, arith}
 use Rattle.std.specs.Prelude.{filter}
 use Rattle.std.proofs.lemmas.List.{take_all}
-use Rattle.realise.specs.Holdings.{is_record_of, is_recorded_at}
+use Rattle.desk_records.specs.RecordLists.{is_record_of, is_recorded_at}
 use Rattle.outputs.proofs.StepLemmas.{joined, joined_more, of_classes}
 use Rattle.outputs.proofs.below.records_of.Goals as goal
 

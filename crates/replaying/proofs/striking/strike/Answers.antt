@@ -1,5 +1,6 @@
 use Rattle.replaying.proofs.InputLemmas.{after_ok}
-use Rattle.replaying.proofs.StruckLemmas.{all_flushed, not_flushed, early_told, early_after, end_ok, end_with, end_err, with_ok, with_err, with_told}
+use Rattle.session.proofs.FlushLemmas.{early_after}
+use Rattle.replaying.proofs.StruckLemmas.{all_flushed, not_flushed, early_told, end_ok, end_with, end_err, with_ok, with_err, with_told}
 use Rattle.replaying.proofs.UnnamedLemmas.{still_why}
 use Rattle.replaying.proofs.striking.strike.Goals as goal
 

@@ -13,8 +13,9 @@ use Rattle.history.specs.declared.row.Row.{Row}
 use Rattle.history.specs.declared.log.Recorded.{Recorded}
 use Rattle.history.specs.Callers.{Caller, answered, stops_of, Matches}
 use Rattle.history.specs.Histories.{row, unrecorded, IsLegal}
-use Rattle.book.specs.Publishing.{Published}
-use Rattle.book.specs.Keeping.{Contents, Kept, Steps, IsModelReply, TookEvent}
+use Rattle.publishing.specs.Publishing.{Published}
+use Rattle.book.specs.Keeping.{Contents, Kept, IsModelReply}
+use Rattle.cores.specs.Turns.{Steps, TookEvent}
 use Rattle.book.proofs.KeepingLemmas.{goes_on, stops, replied, is_legal, sure_of_all}
 use Rattle.book.proofs.book.Book.answer.Given.{Over}
 use Rattle.book.proofs.book.Book.answer.Goals.{After-audit-2}
@@ -167,7 +168,7 @@ pub invariant_of-self-in-Err : goal.invariant_of-self-in-Err
 invariant_of-self-in-Err g c =
     let old = c.self.inside in (
       rw c.draft.ensures.rows
-          (kept_same g.J.FrontId.setup old.cores c.take.new.self old.stopped (map arc_value old.history.items) c.self.invariant.0 c.in-Err.ensures.refused),
+          (kept_same g.J.FrontId.setup old.cores c.take.new.cores old.stopped (map arc_value old.history.items) c.self.invariant.0 c.in-Err.ensures.refused),
       ap (λ rows. length (map arc_value rows)) c.draft.ensures.rows ∙ (c.self.invariant.1 ∙ sym c.audit.ensures.same.1),
       c.self.invariant.2,
       c.self.invariant.3,
@@ -219,7 +220,7 @@ pub invariant_of-self-in_default-answered : goal.invariant_of-self-in_default-an
 invariant_of-self-in_default-answered g c =
     let old = c.self.inside in (
       rw c.draft.ensures.rows
-          (stops g.J.FrontId.setup old.cores c.take.new.self old.stopped (map arc_value old.history.items) c.self.invariant.0 c.take.ensures.given),
+          (stops g.J.FrontId.setup old.cores c.take.new.cores old.stopped (map arc_value old.history.items) c.self.invariant.0 c.take.ensures.given),
       ap (λ rows. length (map arc_value rows)) c.draft.ensures.rows ∙ (c.self.invariant.1 ∙ sym c.audit.ensures.same.1),
       c.self.invariant.2,
       c.self.invariant.3,
@@ -236,7 +237,7 @@ invariant_of-self-in_default-answered g c =
 pub returns-in_default-answered : goal.returns-in_default-answered
 returns-in_default-answered g c =
     let then = (goal.at.returns-in_default-answered g c).After-audit-2 in
-    let taken : TookEvent c.self.inside.cores c.args.event c.take.new.self = rw c.in_default-answered.is at c.in-Ok-take.ensures.lost in
+    let taken : TookEvent c.self.inside.cores c.args.event c.take.new.cores = rw c.in_default-answered.is at c.in-Ok-take.ensures.lost in
     let goes : c.args.self.now.stopped ≡ true → ⊥ = not_stopped g then c.if-stopped.false in
     record {
       applied = record {
@@ -254,7 +255,7 @@ returns-in_default-answered g c =
         only_then = λ stopped. absurd (not_both _ refl stopped);
         told = λ stopped. absurd (not_both _ refl stopped);
         stops = λ _. refl;
-        taken = λ _. subst (λ (core : Core). TookEvent core c.args.event c.take.new.self) (core_then g then) taken;
+        taken = λ _. subst (λ (core : Core). TookEvent core c.args.event c.take.new.cores) (core_then g then) taken;
         counted_stop = λ _. omega (arith, c.add.ensures.amount, c.audit-2.ensures.amount);
         no_stop = λ other. absurd (other refl);
         stops_alone = stop_counted g then;
@@ -297,9 +298,9 @@ last_row g c =
 some_row : (g : Over) (c : goal.After-push g) → unrecorded (arc_value c.in-Some.row).reply ≡ false
 some_row g c = subst (λ (r : Row). unrecorded r.reply ≡ false) (sym (last_row g c)) (rw c.in-Some.is at c.in-Ok-take.ensures.some)
 
-step_of : (g : Over) (c : goal.After-push g) → Steps c.self.inside.cores (arc_value c.in-Some.row).event (arc_value c.in-Some.row).reply c.take.new.self
+step_of : (g : Over) (c : goal.After-push g) → Steps c.self.inside.cores (arc_value c.in-Some.row).event (arc_value c.in-Some.row).reply c.take.new.cores
 step_of g c =
-    subst (λ (r : Row). Steps c.self.inside.cores r.event r.reply c.take.new.self) (sym (last_row g c))
+    subst (λ (r : Row). Steps c.self.inside.cores r.event r.reply c.take.new.cores) (sym (last_row g c))
     (rw c.in-Some.is at c.in-Ok-take.ensures.step)
 
 rows_now : (g : Over) (c : goal.After-push g)
@@ -315,14 +316,14 @@ recorded_now g c =
     (λ i. log i ++ c.deref.ensures i ∷ []) ∙ sym (rows_now g c)
 
 kept_now : (g : Over) (c : goal.After-push g)
-    → Kept g.J.FrontId.setup c.take.new.self false (map arc_value c.self.inside.history.items ++ arc_value c.in-Some.row ∷ [])
+    → Kept g.J.FrontId.setup c.take.new.cores false (map arc_value c.self.inside.history.items ++ arc_value c.in-Some.row ∷ [])
 kept_now g c =
-    goes_on g.J.FrontId.setup c.self.inside.cores c.take.new.self (map arc_value c.self.inside.history.items) (arc_value c.in-Some.row)
+    goes_on g.J.FrontId.setup c.self.inside.cores c.take.new.cores (map arc_value c.self.inside.history.items) (arc_value c.in-Some.row)
     (going g c) (some_row g c) (step_of g c)
 
 shown_now : (g : Over) (c : goal.After-push g)
     → c.take.new.publisher
-    ≡ record { core = c.take.new.self; rows = c.self.inside.publisher.rows ++ arc_value c.in-Some.row ∷ []; whole = true }
+    ≡ record { core = c.take.new.cores; rows = c.self.inside.publisher.rows ++ arc_value c.in-Some.row ∷ []; whole = true }
 shown_now g c = rw c.in-Some.is at c.in-Ok-take.ensures.shown
 
 pub take-requires-clause-kept : goal.take-requires-clause-kept
@@ -353,17 +354,17 @@ returns g c =
     let old = c.self.inside in
     let some : unrecorded c.in-Some.reply ≡ false = rw c.in-Some.is at c.in-Ok-take.ensures.some in
     let none : unrecorded c.in-Some.reply ≡ true → ⊥ = not_true some in
-    let stepped : Steps old.cores c.args.event c.in-Some.reply c.take.new.self = rw c.in-Some.is at c.in-Ok-take.ensures.step in
+    let stepped : Steps old.cores c.args.event c.in-Some.reply c.take.new.cores = rw c.in-Some.is at c.in-Ok-take.ensures.step in
     let goes : c.args.self.now.stopped ≡ true → ⊥ = not_stopped g then c.if-stopped.false in
     let pass : c.audit.new.self ≡ c.args.account.now.caller = pass_then g then c.if-stopped.false in
     let number : c.number.result ≡ c.args.account.now.caller.number = c.number.ensures ∙ ap (λ (p : Caller). p.number) pass in
     record {
       applied = record {
         row = λ _. rows_now g c ∙ (λ i. rows_then g then i ++ (last_row g c ∙ ap (λ n. row n c.args.event c.in-Some.reply) number) i ∷ []);
-        step = λ _. subst (λ (core : Core). Steps core c.args.event c.in-Some.reply c.take.new.self) (core_then g then) stepped;
+        step = λ _. subst (λ (core : Core). Steps core c.args.event c.in-Some.reply c.take.new.cores) (core_then g then) stepped;
         reply = λ _.
             subst (λ (x : List Row × Row). IsModelReply g.J.FrontId.setup x.0 x.1.event x.1.reply) (λ i. (rows_then g then i, last_row g c i))
-            (replied g.J.FrontId.setup old.cores c.take.new.self (map arc_value old.history.items) (arc_value c.in-Some.row)
+            (replied g.J.FrontId.setup old.cores c.take.new.cores (map arc_value old.history.items) (arc_value c.in-Some.row)
             (going g c) (some_row g c) (step_of g c));
         counted = λ _. c.add_row.ensures.pass ∙ (λ i. answered (pass i) (recorded_now g c i));
         matches = matching g then;
@@ -380,7 +381,7 @@ returns g c =
         counted_stop = λ stops. absurd (not_true c.if-stopped.false stops.1);
         no_stop = λ _. c.audit-2.ensures.amount;
         stops_alone = stop_counted g then;
-        legal = rw (rows_now g c) (is_legal g.J.FrontId.setup c.take.new.self false _ (kept_now g c) c.isolation.ensures c.timed_isolation.ensures c.closures_are_good.ensures);
+        legal = rw (rows_now g c) (is_legal g.J.FrontId.setup c.take.new.cores false _ (kept_now g c) c.isolation.ensures c.timed_isolation.ensures c.closures_are_good.ensures);
       };
       part = c.audit-2.ensures.parts ∙ c.requires.part;
     }

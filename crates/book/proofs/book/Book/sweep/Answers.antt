@@ -1,9 +1,9 @@
-use Rattle.std.proofs.Common.{true, false, true≢false, List, map, sym, ap, ◌∙◌, subst}
+use Rattle.std.proofs.Common.{false, true≢false, List, map, sym, ap, ◌∙◌, subst}
 use Rattle.std.specs.Arc.{arc_value}
 use Rattle.schedule.specs.declared.state.Core.{Core}
 use Rattle.history.specs.declared.row.Row.{Row}
 use Rattle.book.specs.Keeping.{Kept}
-use Rattle.book.specs.Publishing.{Published, IsFollowing}
+use Rattle.publishing.specs.Publishing.{Published, IsFollowing}
 use Rattle.book.proofs.KeepingLemmas.{may_follow}
 use Rattle.book.proofs.SweepingLemmas.{kept_swept}
 use Rattle.book.proofs.book.Book.sweep.Goals as goal

@@ -4,9 +4,9 @@ use Rattle.history.specs.declared.row.Row.{Row}
 use Rattle.history.specs.Callers.{PassKnowledge}
 use Rattle.history.specs.Histories.{row, IsLegal}
 use Rattle.schedule.specs.Queries.{event_for}
-use Rattle.history.specs.FrontId.{setup_in}
-use Rattle.history.specs.Following.{FindsRead}
-use Rattle.history.proofs.LegalLemmas.{legal_with}
+use Rattle.publishing.specs.FrontNames.{setup_in}
+use Rattle.publishing.specs.Following.{FindsRead}
+use Rattle.publishing.proofs.LegalLemmas.{legal_with}
 use Rattle.book.proofs.pass.Pass.read_once.Goals as goal
 
 pub returns-then-see-clause-read : goal.returns-then-see-clause-read

@@ -5,7 +5,8 @@ use Rattle.model.specs.Classes.{is_one_of}
 use Rattle.records.specs.Recorded.{Recorded}
 use Rattle.realise.specs.declared.desk.Desk.TheInside.{Inside}
 use Rattle.realise.specs.Held.{paths_held}
-use Rattle.realise.specs.Holdings.{Holdings, is_recorded_at, is_needed, stays_held, without_records}
+use Rattle.desk_records.specs.RecordLists.{is_recorded_at}
+use Rattle.realise.specs.Holdings.{Holdings, is_needed, stays_held, without_records}
 use Rattle.realise.specs.Kept.{holdings_of}
 use Rattle.realise.proofs.ForgettingLemmas.{held_there, kept_view, kept_consistent, gone_view, gone_consistent}
 use Rattle.realise.proofs.desk.Desk.forget.Goals as goal

@@ -1,5 +1,5 @@
 use Rattle.std.proofs.Common.{ap, ◌∙◌}
-use Rattle.realise.specs.Indexed.{pins_at}
+use Rattle.realise.specs.Pinned.{pins_at}
 use Rattle.realise.proofs.PinLemmas.{pinned_entries}
 use Rattle.realise.proofs.pins.Pins.put.Goals as goal
 

@@ -1,7 +1,7 @@
 use Rattle.std.proofs.Common.{ap, sym, ◌∙◌}
 use Rattle.std.specs.Prelude.{◌≡◌, bytes_eq, None}
 use Rattle.std.specs.Map.{lookup, remove_entry}
-use Rattle.realise.specs.Indexed.{pins_at}
+use Rattle.realise.specs.Pinned.{pins_at}
 use Rattle.realise.proofs.PinLemmas.{unpinned_entries}
 use Rattle.realise.proofs.pins.Pins.remove.Goals as goal
 

@@ -1,0 +1,4 @@
+pub mod ReplyLemmas
+pub mod CacheCrossing
+pub mod CoreCrossing
+pub mod TurnLemmas

@@ -1,9 +1,0 @@
-use Rattle.std.proofs.Common.{ap, ◌∙◌, fold}
-use Rattle.history.specs.Tied.{absorbed}
-use Rattle.history.proofs.Ties.{turns_still}
-use Rattle.history.proofs.ends.begin.Goals as goal
-
-pub publish_as-writer-requires : goal.publish_as-writer-requires
-publish_as-writer-requires g c next is =
-    let now = c.args.writer.desk.shown.value in
-    turns_still _ _ now next (is ∙ ap (fold absorbed now) c.requires.ready)

@@ -1,8 +1,0 @@
-use Rattle.inputs.specs.Parts.{AreParts}
-use Rattle.inputs.proofs.FileLemmas.{NamedSoFar}
-use Rattle.inputs.proofs.parts.parts_of.Given as goal
-
--- there is a part for each file so far, and the first of them names the users
-abbrev pub invariant-loop-file : goal.invariant-loop-file
-invariant-loop-file g l =
-    AreParts g.I.Read.remaining l.yielded l.parts.items × NamedSoFar g.I.Read.remaining l.parts.items l.named

@@ -1,0 +1,4 @@
+pub mod FollowLemmas
+pub mod Ties
+pub mod LegalLemmas
+pub mod PublisherLemmas

@@ -1,0 +1,2 @@
+pub mod ServedPathLemmas
+pub mod ResolvingLemmas

@@ -1,0 +1,4 @@
+pub mod TextReading
+pub mod Refusing
+pub mod Laws
+pub mod Digits

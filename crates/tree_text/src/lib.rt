@@ -1,0 +1,18 @@
+//! The tree text of a tree: it writes the tree on one line of a request or a reply.
+//!
+//! | Calls | What they give |
+//! |---|---|
+//! | [`tree_text`], [`read_tree_text`] | the tree text of a tree, and the tree of a tree text |
+//! | [`decode_digits`] | the bytes of digits of base 16, many at a time |
+#![tactic(auto)]
+
+mod digits;
+mod law;
+mod lengths;
+mod reader;
+mod writer;
+
+pub use digits::decode_digits;
+pub use law::texts_differ;
+pub use reader::read_tree_text;
+pub use writer::tree_text;
