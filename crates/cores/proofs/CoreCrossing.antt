@@ -42,7 +42,7 @@ use Rattle.outputs.specs.contracts.settlements.Settlements as Settlements
 use Rattle.outputs.specs.contracts.sources.Sources as Sources
 use Rattle.events.specs.contracts.event.Event as Event
 use Rattle.events.specs.contracts.reply.Reply as Reply
-use Rattle.store_state.specs.contracts.state.State as State
+use Rattle.handlers.specs.contracts.state.State as State
 use Rattle.schedule.specs.contracts.state.Core as Core
 use Rattle.schedule.specs.contracts.work.Work as Work
 use Rattle.schedule.specs.contracts.work.Ready as Ready

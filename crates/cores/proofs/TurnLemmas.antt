@@ -5,7 +5,7 @@ use Rattle.model.specs.Worlds.{Setup, World}
 use Rattle.model.specs.Events.{Event}
 use Rattle.model.specs.Replies.{Reply, Refused, is_memory, is_clash, is_refused}
 use Rattle.model.specs.Steps.{after}
-use Rattle.store_state.specs.Parts.{IsStep, stored_after}
+use Rattle.handlers.specs.Parts.{IsStep, stored_after}
 use Rattle.schedule.specs.declared.state.Core.{Core}
 use Rattle.schedule.specs.Standing.{world_of, HasHashed, IsUnchanged}
 use Rattle.schedule.specs.Stepping.{IsCoreStep, HasStepped}

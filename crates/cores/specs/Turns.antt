@@ -4,7 +4,7 @@ use Rattle.std.specs.Arc.{arc_value}
 use Rattle.model.specs.Events as events
 use Rattle.model.specs.Steps.{after}
 use Rattle.store.specs.Stored.{kept_at}
-use Rattle.store_state.specs.Parts.{stored_after}
+use Rattle.handlers.specs.Parts.{stored_after}
 use Rattle.events.specs.declared.event.Event.{Event}
 use Rattle.events.specs.declared.reply.Reply.{Reply}
 use Rattle.events.specs.Terms.{event_of, reply_of}

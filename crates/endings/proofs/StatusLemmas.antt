@@ -7,8 +7,8 @@ use Rattle.model.specs.Worlds.{Status, Goal}
 use Rattle.model.specs.Goals.{goal_at, with_goal_at, in_status}
 use Rattle.jobs.specs.Owned.{OwnedByAll, with_goals_at}
 use Rattle.jobs.proofs.NumberLemmas.{some_at}
-use Rattle.store_state.specs.Supported.{goals_of}
-use Rattle.store_state.proofs.PuttingLemmas.{all_front}
+use Rattle.handlers.specs.Supported.{goals_of}
+use Rattle.handlers.proofs.PuttingLemmas.{all_front}
 use Rattle.events.specs.declared.status.Status as Rust
 use Rattle.events.specs.Statuses.{status_of}
 use Rattle.endings.specs.DeskDeltas.{with_status, with_statuses, status_at, IsSettable}

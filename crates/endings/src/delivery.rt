@@ -7,20 +7,20 @@ ghost use Rattle.endings.specs.DeskDeltas.{delta_in, status_at};
 ghost use Rattle.std.specs.Option.{option_copied};
 ghost use Rattle.jobs.specs.Owned.{goals_at};
 ghost use Rattle.trust.specs.Trusting.{trusts};
-ghost use Rattle.store_state.specs.States.{HasPlace};
-ghost use Rattle.store_state.specs.Viewing.{desk_at};
+ghost use Rattle.handlers.specs.States.{HasPlace};
+ghost use Rattle.handlers.specs.Viewing.{desk_at};
 ghost use Rattle.endings.specs.Delivery.{Receives, trees_built, tree_built, all_trees, AreStored, AreBuiltFor, IsDeliveredAtPlace, AreDelivered, IsMadeBeside, IsNotMade};
 
 use crate::delta::{DeskDelta, delta_for, waiting};
 use crate::job_end::JobEnd;
 use crate::settling::{Built, built_on};
+use handlers::State;
 use jobs::{Job, Status, members_reached};
 use model::Refusal;
 use nar::Tree;
 use outputs::Settlements;
 use std::alloc::Global;
 use store::Table;
-use store_state::State;
 use storepath::StorePath;
 use trust::has_place;
 

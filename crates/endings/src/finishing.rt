@@ -13,19 +13,20 @@ ghost use Rattle.trust.specs.Trusting.{trusts};
 ghost use Rattle.trust.specs.Naming.{name_at};
 ghost use Rattle.jobs.specs.Owned.{goals_at};
 ghost use Rattle.store.specs.Stored.{AreNew, sources_of};
-ghost use Rattle.store_state.specs.Parts.{goals_of};
-ghost use Rattle.store_state.specs.Viewing.{desk_at};
+ghost use Rattle.handlers.specs.Parts.{goals_of};
+ghost use Rattle.handlers.specs.Viewing.{desk_at};
 ghost use Rattle.endings.specs.DeskDeltas.{last_status, status_at, with_delta, with_statuses};
 ghost use Rattle.endings.specs.Committing.{delta_at, statuses_for, AreToAdd, MayGain, AreSettable};
 ghost use Rattle.endings.specs.Delivery.{IsNotMade};
 ghost use Rattle.endings.specs.Finishing.{IsPrepared};
-ghost use Rattle.store_state.specs.States.{HasPlace, Handles};
+ghost use Rattle.handlers.specs.States.{HasPlace, Handles};
 
 use crate::committing::{additions_of, gained_by_all, set_all};
 use crate::delivery::delivered_by_all;
 use crate::delta::DeskDelta;
 use crate::job_end::JobEnd;
 use events::{CopiedReply, Output, Reply};
+use handlers::State;
 use jobs::{Job, Jobs, Status, leads};
 use model::Refusal;
 use nar::Tree;
@@ -33,7 +34,6 @@ use outputs::Settlements;
 use realise::{Addition, Desk, Limits, add_to_each};
 use std::alloc::{AllocError, Global};
 use store::Table;
-use store_state::State;
 use storepath::StorePath;
 
 /// How far the goal of a number, which was this far, is once goals have got these states. The one error

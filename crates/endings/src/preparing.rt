@@ -7,18 +7,18 @@ ghost use Rattle.model.specs.declared.refusal.Refusal.TheVariants.{Memory};
 ghost use Rattle.outputs.specs.declared.settlement.Settlement.{Settlement};
 ghost use Rattle.outputs.specs.Kept.{HasNeeded};
 ghost use Rattle.trust.specs.Naming.{name_at};
-ghost use Rattle.store_state.specs.Parts.{goals_of};
-ghost use Rattle.store_state.specs.States.{HasPlace};
-ghost use Rattle.store_state.specs.Viewing.{desk_at};
+ghost use Rattle.handlers.specs.Parts.{goals_of};
+ghost use Rattle.handlers.specs.States.{HasPlace};
+ghost use Rattle.handlers.specs.Viewing.{desk_at};
 ghost use Rattle.endings.specs.Built.{HasBuilt};
 ghost use Rattle.endings.specs.Preparing.{HasLedOutput, HasNeededFor};
 
+use handlers::State;
 use jobs::{Goal, leads};
 use model::Refusal;
 use outputs::{Candidates, Input};
 use realise::Desk;
 use std::alloc::Global;
-use store_state::State;
 
 /// What a job's output is settled by for a goal on its user's desk once the job has ended, whatever its tree
 /// is. Nothing is settled where the desk has no such derivation, or the goal was not planned.

@@ -3,8 +3,8 @@
 ghost use Rattle.std.specs.Prelude.{◌≡◌, All, List, IfOk, IfErr, length, map};
 ghost use Rattle.std.specs.Option.{option_copied};
 ghost use Rattle.jobs.specs.Owned.{goals_at};
-ghost use Rattle.store_state.specs.States.{HasPlace};
-ghost use Rattle.store_state.specs.Viewing.{desk_at};
+ghost use Rattle.handlers.specs.States.{HasPlace};
+ghost use Rattle.handlers.specs.Viewing.{desk_at};
 ghost use Rattle.model.specs.Endings.{labels_from, output_record};
 ghost use Rattle.model.specs.Occurrences.{IsHashPart};
 ghost use Rattle.model.specs.Paths.{IsPath};
@@ -14,6 +14,7 @@ ghost use Rattle.model.specs.declared.refusal.Refusal.TheVariants.{Memory};
 ghost use Rattle.endings.specs.Built.{IsBuiltBy, IsBuiltOn, IsClosedBuilt, HasInput, HasInputFrom, AreBuiltOn, built_of, built_output, record_under, all_built, numbered, HaveInputs};
 
 use classes::Admitted;
+use handlers::State;
 use jobs::Goal;
 use model::Refusal;
 use nar::Tree;
@@ -21,7 +22,6 @@ use outputs::{Candidates, SettledTree, Settlements, record_of};
 use realise::Desk;
 use records::{Record, Resolved};
 use std::alloc::Global;
-use store_state::State;
 use storepath::StorePath;
 
 /// What was built for a goal: its record and its tree, or why it has none.

@@ -10,10 +10,10 @@ use Rattle.model.specs.Events as events
 use Rattle.events.specs.declared.reply.Reply.TheVariants.{Goal as GoalReply}
 use Rattle.realise.specs.Holdings.{Holdings}
 use Rattle.jobs.specs.Owned.{OwnedByAll, goals_at, with_goals_at}
-use Rattle.store_state.specs.declared.state.State.{State}
-use Rattle.store_state.specs.States.{parts_of, HasPlace}
-use Rattle.store_state.specs.Runs.{IsRun}
-use Rattle.store_state.proofs.RunLemmas.{still_run, by_goals_of}
+use Rattle.handlers.specs.declared.state.State.{State}
+use Rattle.handlers.specs.States.{parts_of, HasPlace}
+use Rattle.handlers.specs.Runs.{IsRun}
+use Rattle.handlers.proofs.RunLemmas.{still_run, by_goals_of}
 use Rattle.goals.proofs.AskingLemmas.{build_done}
 
 abbrev more : State → ℕ → List ℕ → List Goal

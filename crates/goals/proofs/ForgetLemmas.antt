@@ -25,16 +25,16 @@ use Rattle.realise.specs.Held.{paths_held}
 use Rattle.desk_records.specs.RecordLists.{is_recorded_at}
 use Rattle.realise.specs.Holdings.{Holdings, is_needed, without_records}
 use Rattle.realise.proofs.ForgettingLemmas.{labelled_still}
-use Rattle.store_state.specs.Sound.{Beside, desk_of, IsSound, IsResolvedIn, AreGoalsSound}
-use Rattle.store_state.specs.Parts.{goals_of}
-use Rattle.store_state.specs.Supported.{IsEntryOn, IsSupported, AreSupportedOn}
-use Rattle.store_state.specs.Viewing.{desk_at}
-use Rattle.store_state.specs.Handling.{IsHandledWithGoals}
-use Rattle.store_state.proofs.GoalLemmas.{goals_sound_at}
+use Rattle.handlers.specs.Sound.{Beside, desk_of, IsSound, IsResolvedIn, AreGoalsSound}
+use Rattle.handlers.specs.Parts.{goals_of}
+use Rattle.handlers.specs.Supported.{IsEntryOn, IsSupported, AreSupportedOn}
+use Rattle.handlers.specs.Viewing.{desk_at}
+use Rattle.handlers.specs.Handling.{IsHandledWithGoals}
+use Rattle.handlers.proofs.GoalLemmas.{goals_sound_at}
 use Rattle.trust.proofs.UsersLemmas.{distinct_users}
-use Rattle.store_state.proofs.ForgettingLemmas.{sound_without, there_as, needed_as, desk_without}
-use Rattle.store_state.proofs.ViewLemmas.{reach_of}
-use Rattle.store_state.proofs.ClosureLemmas.{world, his_desk, his_sound}
+use Rattle.handlers.proofs.ForgettingLemmas.{sound_without, there_as, needed_as, desk_without}
+use Rattle.handlers.proofs.ViewLemmas.{reach_of}
+use Rattle.handlers.proofs.ClosureLemmas.{world, his_desk, his_sound}
 use Rattle.goals.proofs.AskingLemmas.{goals_handled}
 
 -- ---- goals that are let go

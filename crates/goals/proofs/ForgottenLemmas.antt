@@ -14,10 +14,10 @@ use Rattle.realise.specs.Held.{paths_held}
 use Rattle.desk_records.specs.RecordLists.{is_recorded_at}
 use Rattle.realise.specs.Holdings.{Holdings, is_needed, without_records}
 use Rattle.jobs.specs.Owned.{OwnedByAll, goals_at, with_goals_at}
-use Rattle.store_state.specs.declared.state.State.{State}
-use Rattle.store_state.specs.States.{parts_of}
-use Rattle.store_state.specs.Viewing.{desk_at}
-use Rattle.store_state.specs.Handling.{IsHandledByAll}
+use Rattle.handlers.specs.declared.state.State.{State}
+use Rattle.handlers.specs.States.{parts_of}
+use Rattle.handlers.specs.Viewing.{desk_at}
+use Rattle.handlers.specs.Handling.{IsHandledByAll}
 use Rattle.goals.proofs.StateLemmas.{all_so}
 use Rattle.goals.proofs.ForgetLemmas.{forget_done}
 

@@ -27,16 +27,16 @@ use Rattle.repair.specs.AtHand.{MadeRepairs}
 use Rattle.repair.specs.Prepared.{HasRepaired, HasRepairedIf}
 use Rattle.jobs.specs.Owned.{OwnedByAll, goals_at, with_goals_at, ChangesGoal}
 use Rattle.jobs.specs.Statuses.{planned_with}
-use Rattle.store_state.specs.declared.state.State.{State}
-use Rattle.store_state.specs.States.{parts_of, HasPlace, Handles, observation_at}
-use Rattle.store_state.specs.Runs.{IsRun}
-use Rattle.store_state.specs.Stored.{source_of_entry}
-use Rattle.store_state.specs.Sound.{IsClosure, IsStored}
-use Rattle.store_state.specs.Viewing.{desk_at}
-use Rattle.store_state.specs.Handling.{IsHandledByAll}
-use Rattle.store_state.proofs.RunLemmas.{still_run}
-use Rattle.store_state.specs.Serving.{AtPlace}
-use Rattle.store_state.proofs.PlannedLemmas.{IsPlanOf, of_him, needed_by}
+use Rattle.handlers.specs.declared.state.State.{State}
+use Rattle.handlers.specs.States.{parts_of, HasPlace, Handles, observation_at}
+use Rattle.handlers.specs.Runs.{IsRun}
+use Rattle.handlers.specs.Stored.{source_of_entry}
+use Rattle.handlers.specs.Sound.{IsClosure, IsStored}
+use Rattle.handlers.specs.Viewing.{desk_at}
+use Rattle.handlers.specs.Handling.{IsHandledByAll}
+use Rattle.handlers.proofs.RunLemmas.{still_run}
+use Rattle.handlers.specs.Serving.{AtPlace}
+use Rattle.handlers.proofs.PlannedLemmas.{IsPlanOf, of_him, needed_by}
 use Rattle.goals.specs.Planning.{plan_to_build, IsPlannedToBuildAt, HasRepairedForGoal, IsResolvedFor, IsNotResolvedFor, IsToPlan, TellsToPlan, HasNoneToPlan, fails, IsNotKept}
 use Rattle.goals.proofs.StateLemmas.{left_so, goals_so}
 use Rattle.goals.proofs.PlanLemmas.{one_derivation, told_of_him, none_of_him, own_there, not_to_plan, not_kept, not_resolved, failed, planned, goal_there}

@@ -32,15 +32,15 @@ use Rattle.trust.proofs.PlaceLemmas.{name_found}
 use Rattle.jobs.specs.Joining.{same_as}
 use Rattle.jobs.specs.Numbers.{numbers, has_scratch, is_done_under}
 use Rattle.jobs.specs.Statuses.{is_done, path_in}
-use Rattle.store_state.specs.Sound.{Beside, desk_of, records_at}
-use Rattle.store_state.specs.Parts.{beside_at}
-use Rattle.store_state.specs.Viewing.{places_of, desk_at}
-use Rattle.store_state.specs.Supported.{goals_of}
-use Rattle.store_state.proofs.DeskLemmas.{known_of-desk_of}
+use Rattle.handlers.specs.Sound.{Beside, desk_of, records_at}
+use Rattle.handlers.specs.Parts.{beside_at}
+use Rattle.handlers.specs.Viewing.{places_of, desk_at}
+use Rattle.handlers.specs.Supported.{goals_of}
+use Rattle.handlers.proofs.DeskLemmas.{known_of-desk_of}
 use Rattle.trust.proofs.UsersLemmas.{distinct_users}
-use Rattle.store_state.proofs.ViewLemmas.{view_is, places_in, places_out, places_below}
-use Rattle.store_state.specs.Taking.{IsLabelledBy}
-use Rattle.store_state.proofs.ClosureLemmas.{world, his_desk}
+use Rattle.handlers.proofs.ViewLemmas.{view_is, places_in, places_out, places_below}
+use Rattle.handlers.specs.Taking.{IsLabelledBy}
+use Rattle.handlers.proofs.ClosureLemmas.{world, his_desk}
 use Rattle.goals.specs.Reusing.{path_before, is_found_at, done_path, found_at, found_by, found_if, found_on, found_in, class_if, class_for, used_again, IsHeldWith, IsFinishedBuild, IsUsedAgain}
 
 -- ---- one after another

@@ -11,8 +11,8 @@ use Rattle.model.specs.Worlds.{Source, Label, Record, Entry, OfSource, OfRecord,
 use Rattle.model.proofs.BoolLemmas.{both_parts, same_bytes}
 use Rattle.store.specs.Stored.{Extends}
 use Rattle.jobs.specs.Shared.{equal_class, equal_class_of, equal_label, equal_but_tree, equal_but_trees, trees}
-use Rattle.store_state.specs.Sound.{IsStored, AreGoalsSound}
-use Rattle.store_state.proofs.GoalLemmas.{goals_kept, goal_stored}
+use Rattle.handlers.specs.Sound.{IsStored, AreGoalsSound}
+use Rattle.handlers.proofs.GoalLemmas.{goals_kept, goal_stored}
 use Rattle.goals.specs.Sharing.{EqualsAllLike}
 
 same_number : (m n : ℕ) → (m == n) ≡ true → m ≡ n

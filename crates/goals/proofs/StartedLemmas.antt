@@ -15,15 +15,15 @@ use Rattle.realise.specs.Holdings.{Holdings}
 use Rattle.jobs.specs.Owned.{OwnedByAll, goals_at, ChangesGoal}
 use Rattle.events.specs.declared.reply.Reply as Rust
 use Rattle.events.specs.Terms.{reply_of}
-use Rattle.store_state.specs.declared.state.State.{State}
-use Rattle.store_state.specs.States.{parts_of, HasPlace, Handles}
-use Rattle.store_state.specs.Runs.{IsRun}
-use Rattle.store_state.specs.Parts.{Parts}
-use Rattle.store_state.specs.Sound.{IsStored}
-use Rattle.store_state.specs.Handling.{IsHandledByAll}
-use Rattle.store_state.specs.Viewing.{bare, desk_at}
-use Rattle.store_state.proofs.RunLemmas.{still_run}
-use Rattle.store_state.specs.Taking.{with_built, CopiesEntries}
+use Rattle.handlers.specs.declared.state.State.{State}
+use Rattle.handlers.specs.States.{parts_of, HasPlace, Handles}
+use Rattle.handlers.specs.Runs.{IsRun}
+use Rattle.handlers.specs.Parts.{Parts}
+use Rattle.handlers.specs.Sound.{IsStored}
+use Rattle.handlers.specs.Handling.{IsHandledByAll}
+use Rattle.handlers.specs.Viewing.{bare, desk_at}
+use Rattle.handlers.proofs.RunLemmas.{still_run}
+use Rattle.handlers.specs.Taking.{with_built, CopiesEntries}
 use Rattle.goals.specs.Planning.{fails}
 use Rattle.goals.specs.Reusing.{UsesAgain}
 use Rattle.goals.specs.Starting.{IsToStart, IsNotToStart, IsJoined, HasNoRoom, uncopied_status}

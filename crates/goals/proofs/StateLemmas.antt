@@ -10,12 +10,12 @@ use Rattle.trust.specs.Trusting.{trusts}
 use Rattle.trust.proofs.UsersLemmas.{few_users}
 use Rattle.realise.specs.Holdings.{Holdings}
 use Rattle.jobs.specs.Owned.{OwnedByAll, goals_at, with_goals_at}
-use Rattle.store_state.specs.declared.state.State.{State}
-use Rattle.store_state.specs.States.{parts_of, HasPlace, Handles}
-use Rattle.store_state.specs.Viewing.{bare, desk_at}
-use Rattle.store_state.specs.Handling.{IsHandledAtPlace, IsHandledByAll}
-use Rattle.store_state.proofs.RunLemmas.{at_place_of}
-use Rattle.store_state.proofs.StateLemmas.{has_desk}
+use Rattle.handlers.specs.declared.state.State.{State}
+use Rattle.handlers.specs.States.{parts_of, HasPlace, Handles}
+use Rattle.handlers.specs.Viewing.{bare, desk_at}
+use Rattle.handlers.specs.Handling.{IsHandledAtPlace, IsHandledByAll}
+use Rattle.handlers.proofs.RunLemmas.{at_place_of}
+use Rattle.handlers.proofs.StateLemmas.{has_desk}
 use Rattle.model.specs.Limits.{most_users}
 
 pub few_of : (s : State) → length s.users ≤ most_users

@@ -13,9 +13,9 @@ use Rattle.model.specs.Closures.{entry_before, class_of_entry, path_of_class}
 use Rattle.model.proofs.BoolLemmas.{either, same_bytes, bytes_same, both_parts}
 use Rattle.laws.proofs.SetLemmas.{Ascends}
 use Rattle.store.specs.Stored.{put_all, put_once, IsTaken}
-use Rattle.store_state.specs.Stored.{source_of_entry, AreTaken}
-use Rattle.store_state.specs.Sound.{IsClosure, IsStored}
-use Rattle.store_state.specs.Taking.{has_built, with_built}
+use Rattle.handlers.specs.Stored.{source_of_entry, AreTaken}
+use Rattle.handlers.specs.Sound.{IsClosure, IsStored}
+use Rattle.handlers.specs.Taking.{has_built, with_built}
 
 -- ---- a closure that is there
 

@@ -15,10 +15,10 @@ use Rattle.realise.specs.Holdings.{Holdings, records_of}
 use Rattle.jobs.specs.Statuses.{path_in}
 use Rattle.jobs.specs.Joining.{same_as}
 use Rattle.jobs.specs.Numbers.{numbers, is_done_under}
-use Rattle.store_state.specs.Parts.{Parts, parts, world_in}
-use Rattle.store_state.specs.Viewing.{desk_at}
-use Rattle.store_state.specs.Supported.{goals_of}
-use Rattle.store_state.specs.Taking.{IsLabelledBy}
+use Rattle.handlers.specs.Parts.{Parts, parts, world_in}
+use Rattle.handlers.specs.Viewing.{desk_at}
+use Rattle.handlers.specs.Supported.{goals_of}
+use Rattle.handlers.specs.Taking.{IsLabelledBy}
 
 -- ---- the records of one desk
 

@@ -8,12 +8,12 @@ ghost use Rattle.trust.specs.Trusting.{holds};
 ghost use Rattle.trust.specs.Naming.{names};
 ghost use Rattle.realise.specs.Holdings.{is_needed};
 ghost use Rattle.jobs.specs.Owned.{goals_at};
-ghost use Rattle.store_state.specs.Viewing.{desk_at};
-ghost use Rattle.store_state.specs.States.{HasPlace, Handles};
+ghost use Rattle.handlers.specs.Viewing.{desk_at};
+ghost use Rattle.handlers.specs.States.{HasPlace, Handles};
 
 use events::CopiedReply;
+use handlers::State;
 use model::Refusal;
-use store_state::State;
 use storepath::StorePath;
 use trust::UserSet;
 

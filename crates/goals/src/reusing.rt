@@ -10,19 +10,19 @@ ghost use Rattle.model.specs.Orders.{lesser, least_from, least};
 ghost use Rattle.model.specs.declared.refusal.Refusal.TheVariants.{Memory};
 ghost use Rattle.trust.specs.Trusting.{holds, trusts};
 ghost use Rattle.jobs.specs.Owned.{goals_at};
-ghost use Rattle.store_state.specs.Viewing.{places_of, desk_at};
-ghost use Rattle.store_state.specs.States.{HasPlace, parts_of};
+ghost use Rattle.handlers.specs.Viewing.{places_of, desk_at};
+ghost use Rattle.handlers.specs.States.{HasPlace, parts_of};
 ghost use Rattle.records.specs.Trees.{record_at};
 ghost use Rattle.goals.specs.Reusing.{path_before, is_found_at, done_path, found_by, found_on, found_in, class_for, IsFinishedBuild, IsHeldAmong, UsesAgain};
 
 use crate::planned::Planned;
+use handlers::State;
 use jobs::{Goal, Status};
 use model::Refusal;
 use realise::{Desk, RecordsOf};
 use records::{Label, Realisation, Record, Resolved};
 use std::alloc::Global;
 use store::Table;
-use store_state::State;
 use storepath::{Class, StorePath};
 use trust::{UserSet, has_place};
 

@@ -14,8 +14,8 @@ use Rattle.records.specs.Recorded.{Recorded}
 use Rattle.realise.specs.Holdings.{Holdings, is_at, IsClosedWith}
 use Rattle.records.specs.Trees.{source_at, record_at}
 use Rattle.outputs.specs.Outputs.{IsRecordOf}
-use Rattle.store_state.specs.Sound.{Beside, desk_of}
-use Rattle.store_state.proofs.ClosedLemmas.{IsLabelled}
+use Rattle.handlers.specs.Sound.{Beside, desk_of}
+use Rattle.handlers.proofs.ClosedLemmas.{IsLabelled}
 use Rattle.records.proofs.LabelLemmas.{all_in_order}
 use Rattle.handlers.specs.Offering.{AreLabels}
 

@@ -25,15 +25,15 @@ use Rattle.records.specs.declared.desk_entry.DeskEntry.TheVariants as entry
 use Rattle.store.specs.Stored.{IsAdded, IsTaken}
 use Rattle.records.specs.DeskEntries.{entry_with}
 use Rattle.realise.specs.Holdings.{Holdings}
-use Rattle.store_state.specs.Stored.{settled_source, output_stored}
-use Rattle.store_state.specs.Sound.{desk_of, IsSound, IsHashed, Beside}
-use Rattle.store_state.specs.Supported.{GainsOnly}
+use Rattle.handlers.specs.Stored.{settled_source, output_stored}
+use Rattle.handlers.specs.Sound.{desk_of, IsSound, IsHashed, Beside}
+use Rattle.handlers.specs.Supported.{GainsOnly}
 use Rattle.events.specs.Terms.{reply_of}
 use Rattle.handlers.specs.Offering.{AreLabels, IsOutput, IsNotSettled, IsNoOutput}
-use Rattle.store_state.specs.Handling.{Fits, IsKept, IsHandledBeside, AddsEntry}
-use Rattle.store_state.proofs.DeskLemmas.{known_of-desk_of, records_without}
-use Rattle.store_state.proofs.StepLemmas.{offer_at_once}
-use Rattle.store_state.proofs.HandlingLemmas.{left, entry_handled}
+use Rattle.handlers.specs.Handling.{Fits, IsKept, IsHandledBeside, AddsEntry}
+use Rattle.handlers.proofs.DeskLemmas.{known_of-desk_of, records_without}
+use Rattle.handlers.proofs.StepLemmas.{offer_at_once}
+use Rattle.handlers.proofs.HandlingLemmas.{left, entry_handled}
 
 -- it has its path by texts that were hashed
 pub output_hashed : (texts : List (List ℕ)) (beside : Beside) (table : List Source) (d : Holdings) (a : Admission) (tree new : Tree) (r : Recorded)

@@ -17,15 +17,15 @@ use Rattle.trust.proofs.NameLemmas.{trusted_added, trusted_removed, trusted_else
 use Rattle.events.specs.declared.reply.Reply as reply
 use Rattle.events.specs.declared.reply.Reply.TheVariants as Rust
 use Rattle.realise.specs.Holdings.{Holdings}
-use Rattle.store_state.specs.Stored.{stored_by}
-use Rattle.store_state.specs.Sound.{Beside, desk_of, IsSound, AreGoalsSound}
-use Rattle.store_state.specs.Viewing.{bare}
-use Rattle.store_state.specs.Parts.{goals_of, beside_at, parts, desk_among, IsStep}
-use Rattle.store_state.specs.Handling.{IsHandled}
+use Rattle.handlers.specs.Stored.{stored_by}
+use Rattle.handlers.specs.Sound.{Beside, desk_of, IsSound, AreGoalsSound}
+use Rattle.handlers.specs.Viewing.{bare}
+use Rattle.handlers.specs.Parts.{goals_of, beside_at, parts, desk_among, IsStep}
+use Rattle.handlers.specs.Handling.{IsHandled}
 use Rattle.trust.proofs.FirstPlaceLemmas.{IsPlace, place_found, place_is_among, no_place}
-use Rattle.store_state.proofs.WorldLemmas.{desk_found}
-use Rattle.store_state.proofs.StepLemmas.{step_done}
-use Rattle.store_state.proofs.HandlingLemmas.{place_there, all_left}
+use Rattle.handlers.proofs.WorldLemmas.{desk_found}
+use Rattle.handlers.proofs.StepLemmas.{step_done}
+use Rattle.handlers.proofs.HandlingLemmas.{place_there, all_left}
 
 -- these goals, beside whom a user trusts
 abbrev trusting : List Goal → (List ℕ → Bool) → Beside

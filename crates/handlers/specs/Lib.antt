@@ -1,2 +1,13 @@
+pub mod Supported
+pub mod Sound
+pub mod Parts
+pub mod Viewing
+pub mod Given
+pub mod Stored
+pub mod Handling
+pub mod Runs
+pub mod States
+pub mod Serving
+pub mod Taking
 pub mod Adding
 pub mod Offering

@@ -8,10 +8,10 @@ ghost use Rattle.model.specs.declared.refusal.Refusal.TheVariants.{Clash, Memory
 ghost use Rattle.store.specs.Stored.{IsTaken, IsAdded};
 ghost use Rattle.records.specs.DeskEntries.{entry_path};
 ghost use Rattle.realise.specs.Holdings.{is_on, holds_entry, charged_more, is_roomy, IsClosedWithEntry};
-ghost use Rattle.store_state.specs.Sound.{IsSound};
-ghost use Rattle.store_state.specs.Supported.{GainsOnly};
+ghost use Rattle.handlers.specs.Sound.{IsSound};
+ghost use Rattle.handlers.specs.Supported.{GainsOnly};
 ghost use Rattle.events.specs.Terms.{reply_of};
-ghost use Rattle.store_state.specs.Handling.{IsKept, AddsEntry};
+ghost use Rattle.handlers.specs.Handling.{IsKept, AddsEntry};
 ghost use Rattle.handlers.specs.Adding.{IsFree};
 
 use events::{CopiedReply, Reply};

@@ -9,10 +9,13 @@ ghost use Rattle.trust.specs.Trusting.{trusts};
 ghost use Rattle.repair.specs.AtHand.{MadeRepairs};
 ghost use Rattle.repair.specs.Counting.{made_in};
 ghost use Rattle.repair.specs.Prepared.{HasRepairedIf};
-ghost use Rattle.store_state.specs.Serving.{IsServedAt, IsPlannedAt, IsServedOf, HasRepairedFor};
-ghost use Rattle.store_state.specs.Sound.{IsClosure};
-ghost use Rattle.store_state.specs.States.{HasPlace, Handles, observation_at};
+ghost use Rattle.handlers.specs.Serving.{IsServedAt, IsPlannedAt, IsServedOf, HasRepairedFor};
+ghost use Rattle.handlers.specs.Sound.{IsClosure};
+ghost use Rattle.handlers.specs.States.{HasPlace, Handles, observation_at};
 
+use crate::planned::plan_or_none;
+use crate::state::State;
+use crate::view::desks_in_view;
 use choose::{View, plan};
 use events::{CopiedReply, Reply};
 use laws::closures_are_whole;
@@ -20,7 +23,6 @@ use model::Refusal;
 use records::{Closure, Entry, Plan};
 use repair::{Cache, served_closure_with};
 use std::alloc::Global;
-use store_state::{State, desks_in_view, plan_or_none};
 use storepath::StorePath;
 
 /// What the closure of a class needs, of all that the user at a place sees.

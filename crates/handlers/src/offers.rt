@@ -10,13 +10,14 @@ ghost use Rattle.model.specs.Events.{Offer as OfferRequest};
 ghost use Rattle.model.specs.OfferRequests.{output_settled};
 ghost use Rattle.model.specs.Results.{unless_rewrite_refused};
 ghost use Rattle.model.specs.declared.refusal.Refusal.TheVariants.{Memory};
-ghost use Rattle.store_state.specs.States.{HasPlace, Handles};
+ghost use Rattle.handlers.specs.States.{HasPlace, Handles};
 ghost use Rattle.outputs.specs.Outputs.{IsRecordOf};
 ghost use Rattle.outputs.specs.declared.settlement.Settlement.{Settlement};
 ghost use Rattle.outputs.specs.Kept.{HasNeeded};
 ghost use Rattle.handlers.specs.Offering.{IsOutput, IsNotSettled, IsNoOutput, HasOffered};
 
 use crate::entries::add_entry;
+use crate::state::State;
 use classes::Admitted;
 use events::CopiedReply;
 use model::Refusal;
@@ -25,7 +26,6 @@ use outputs::{Candidates, Input, SettledTree, Settlements, record_of};
 use realise::Desk;
 use records::{DeskEntry, Record};
 use std::alloc::Global;
-use store_state::State;
 use storepath::StorePath;
 
 /// What comes of an output of a derivation that may refer to these. The one error beside it is memory.

@@ -9,10 +9,11 @@ ghost use Rattle.model.specs.Replies as replies;
 ghost use Rattle.model.specs.declared.refusal.Refusal.TheVariants.{Memory};
 ghost use Rattle.realise.specs.Holdings.{paths_of};
 ghost use Rattle.events.specs.Terms.{reply_of};
-ghost use Rattle.store_state.specs.Handling.{IsHandledByDesk};
-ghost use Rattle.store_state.specs.States.{HasPlace, Handles};
+ghost use Rattle.handlers.specs.Handling.{IsHandledByDesk};
+ghost use Rattle.handlers.specs.States.{HasPlace, Handles};
 
 use crate::entries::add_entry;
+use crate::state::State;
 use events::{CopiedReply, Reply};
 use model::Refusal;
 use nar::Tree;
@@ -21,7 +22,6 @@ use realise::Desk;
 use records::DeskEntry;
 use std::alloc::Global;
 use store::Table;
-use store_state::State;
 use storepath::{Name, StorePath};
 
 /// Adds a tree to the desk of the user at a place as a source of a name. The reply is its path; one that is there already

@@ -5,16 +5,17 @@ ghost use Rattle.model.specs.Events.{Take as TakeRequest};
 ghost use Rattle.model.specs.Closures.{path_for};
 ghost use Rattle.model.specs.declared.refusal.Refusal.TheVariants.{Memory, NotRealised};
 ghost use Rattle.repair.specs.Counting.{made_in};
-ghost use Rattle.store_state.specs.Serving.{HasRepairedFor};
-ghost use Rattle.store_state.specs.States.{HasPlace, Handles, observation_at};
+ghost use Rattle.handlers.specs.Serving.{HasRepairedFor};
+ghost use Rattle.handlers.specs.States.{HasPlace, Handles, observation_at};
 
+use crate::copying::copy_all;
 use crate::given::entries_for;
+use crate::state::State;
 use closure_laws::served_are_made;
 use events::{CopiedReply, Reply};
 use model::Refusal;
 use repair::Cache;
 use std::alloc::Global;
-use store_state::{State, copy_all};
 use storepath::StorePath;
 
 /// The path by which a class is served among entries.

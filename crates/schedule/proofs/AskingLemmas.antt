@@ -9,10 +9,10 @@ use Rattle.model.specs.Goals.{goal_at, is_in, Running}
 use Rattle.model.specs.RunningJobs.{with_kept, led_job, job_led_by}
 use Rattle.trust.specs.Naming.{place_of, name_at, IsWithin}
 use Rattle.realise.specs.Holdings.{Holdings}
-use Rattle.store_state.specs.Parts.{desk_among, beside_at, goals_of}
+use Rattle.handlers.specs.Parts.{desk_among, beside_at, goals_of}
 use Rattle.trust.proofs.FirstPlaceLemmas.{place_found, place_is_among, no_place}
 use Rattle.trust.proofs.PlaceLemmas.{name_found}
-use Rattle.store_state.proofs.ClosureLemmas.{his_desk}
+use Rattle.handlers.proofs.ClosureLemmas.{his_desk}
 
 module _ (users : List (List ℕ)) (limit : ℕ) (trust : ℕ → ℕ → Bool) (goals : List (List Goal)) (table : List Source) (desks : List Holdings) (user : List ℕ) where
   abbrev world : World

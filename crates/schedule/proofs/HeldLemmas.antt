@@ -11,8 +11,8 @@ use Rattle.realise.specs.Holdings.{Holdings, paths_of}
 use Rattle.store.specs.Stored.{kept_at}
 use Rattle.trust.specs.Trusting.{trusts}
 use Rattle.trust.proofs.UsersLemmas.{distinct_users}
-use Rattle.store_state.specs.Sound.{Beside, sources_at, records_at, desk_of}
-use Rattle.store_state.specs.Parts.{desk_among, beside_at, goals_of}
+use Rattle.handlers.specs.Sound.{Beside, sources_at, records_at, desk_of}
+use Rattle.handlers.specs.Parts.{desk_among, beside_at, goals_of}
 use Rattle.schedule.specs.declared.state.Core.{Core}
 use Rattle.schedule.specs.Standing.{world_of, setup_of, stored_in}
 use Rattle.schedule.specs.Sweeping.{is_held, hold_path, holds_path, keep_path, keep_any_path}

@@ -17,11 +17,11 @@ use Rattle.outputs.specs.declared.settlement.Settlement.{Settlement}
 use Rattle.handlers.specs.Offering.{HasOffered}
 use Rattle.endings.specs.Built.{HasBuilt}
 use Rattle.endings.specs.Preparing.{HasLedOutput, HasNeededFor}
-use Rattle.store_state.specs.Parts.{desk_among, beside_at, goals_of}
-use Rattle.store_state.specs.Sound.{Beside, desk_of}
-use Rattle.store_state.specs.Viewing.{desk_at}
-use Rattle.store_state.proofs.DeskLemmas.{known_of-desk_of}
-use Rattle.store_state.proofs.ClosureLemmas.{his_desk}
+use Rattle.handlers.specs.Parts.{desk_among, beside_at, goals_of}
+use Rattle.handlers.specs.Sound.{Beside, desk_of}
+use Rattle.handlers.specs.Viewing.{desk_at}
+use Rattle.handlers.proofs.DeskLemmas.{known_of-desk_of}
+use Rattle.handlers.proofs.ClosureLemmas.{his_desk}
 use Rattle.outputs.specs.declared.settlements.Settlements.{Settlements}
 use Rattle.model.specs.Choices as choices
 use Rattle.model.specs.Outcomes.{Observation, observation_of}
@@ -29,8 +29,8 @@ use Rattle.repair.specs.AtHand.{MadeRepairs}
 use Rattle.repair.specs.Counting.{made_in}
 use Rattle.repair.specs.Prepared.{HasRepairedIf}
 use Rattle.repair.specs.declared.cache.Cache.{Cache}
-use Rattle.store_state.specs.States.{observation_at}
-use Rattle.store_state.specs.Serving.{HasRepairedFor}
+use Rattle.handlers.specs.States.{observation_at}
+use Rattle.handlers.specs.Serving.{HasRepairedFor}
 use Rattle.goals.specs.Planning.{HasRepairedForGoal}
 use Rattle.schedule.specs.declared.state.Core.{Core}
 use Rattle.schedule.specs.Standing.{world_of, setup_of}

@@ -5,7 +5,7 @@ use Rattle.model.specs.Events as events
 use Rattle.model.specs.Laws.{NeverFails}
 use Rattle.rewrite.specs.Laws.{OneTreeAtAPath}
 use Rattle.closure_laws.specs.GoodClosures.{IsWellFormed}
-use Rattle.store_state.specs.Handling.{IsHandled}
+use Rattle.handlers.specs.Handling.{IsHandled}
 use Rattle.events.specs.declared.reply.Reply.{Reply}
 use Rattle.events.specs.declared.reply.Reply.TheVariants.{Refused}
 use Rattle.events.specs.Terms.{request_of, reply_of}

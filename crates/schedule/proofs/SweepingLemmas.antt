@@ -16,12 +16,12 @@ use Rattle.realise.specs.Holdings.{Holdings, paths_of}
 use Rattle.store.specs.Stored.{kept_at}
 use Rattle.store.proofs.EntryLemmas.{kept_tree}
 use Rattle.trust.specs.Trusting.{trusts}
-use Rattle.store_state.specs.Sound.{Beside, sources_at, records_at, desk_of, IsHashed, IsSized, IsSound, IsStored, IsResolvedIn, AreGoalsSound}
-use Rattle.store_state.specs.Parts.{desk_among, beside_at}
-use Rattle.store_state.proofs.WorldLemmas.{among_stored}
+use Rattle.handlers.specs.Sound.{Beside, sources_at, records_at, desk_of, IsHashed, IsSized, IsSound, IsStored, IsResolvedIn, AreGoalsSound}
+use Rattle.handlers.specs.Parts.{desk_among, beside_at}
+use Rattle.handlers.proofs.WorldLemmas.{among_stored}
 use Rattle.schedule.specs.declared.state.Core.{Core}
 use Rattle.schedule.specs.Standing.{world_of, stored_in, HasHashed, HoldsStored}
-use Rattle.store_state.proofs.DeskLemmas.{IsKnown}
+use Rattle.handlers.proofs.DeskLemmas.{IsKnown}
 use Rattle.schedule.proofs.HoldingLemmas.{one_of_sym}
 use Rattle.schedule.specs.Sweeping.{is_held, hold_path, has_entry_at, is_built_from_path, keeps_path, keep_path, keep_any_path, IsHolding}
 

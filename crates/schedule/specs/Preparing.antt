@@ -19,7 +19,7 @@ use Rattle.outputs.specs.declared.sources.Sources.{Sources}
 use Rattle.repair.specs.Counting.{made_in}
 use Rattle.repair.specs.Prepared.{HasRepairedIf}
 use Rattle.repair.specs.declared.cache.Cache.{Cache}
-use Rattle.store_state.specs.Serving.{HasRepairedFor}
+use Rattle.handlers.specs.Serving.{HasRepairedFor}
 use Rattle.goals.specs.Planning.{HasRepairedForGoal}
 use Rattle.endings.specs.Built.{HasBuilt}
 use Rattle.schedule.specs.declared.state.Core.{Core}

@@ -3,7 +3,7 @@ use Rattle.std.specs.Prelude.{◌≡◌, Result, Ok, Err}
 use Rattle.model.specs.declared.refusal.Refusal.{Refusal}
 use Rattle.events.specs.declared.reply.Reply.{Reply}
 use Rattle.events.specs.declared.reply.Reply.TheVariants.{Refused}
-use Rattle.store_state.specs.Serving.{IsServedOf}
+use Rattle.handlers.specs.Serving.{IsServedOf}
 use Rattle.schedule.specs.declared.read_result.ReadResult.{ReadResult}
 use Rattle.schedule.specs.declared.read_result.ReadResult.TheVariants.{Told, Planned}
 

@@ -11,7 +11,7 @@ ghost use Rattle.repair.specs.Prepared.{HasRepairedIf};
 ghost use Rattle.repair.specs.declared.cache.Cache.{Cache as CacheValue};
 ghost use Rattle.events.specs.Terms.{event_of, request_of};
 ghost use Rattle.trust.specs.Naming.{place_of};
-ghost use Rattle.store_state.specs.States.{HasPlace};
+ghost use Rattle.handlers.specs.States.{HasPlace};
 ghost use Rattle.schedule.specs.declared.work.Ready.{Ready as ReadyValue};
 ghost use Rattle.schedule.specs.Standing.{world_of};
 ghost use Rattle.schedule.specs.Preparing.{output_of, seen_by, HasPath, HasAdmissionFor, HasInput, HasOutcome, HasRepairedAll, IsPrepared, IsMade, IsPreparedAnywhere, hangs_on_state};

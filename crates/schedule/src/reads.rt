@@ -2,11 +2,11 @@
 
 ghost use Rattle.std.specs.Prelude.{◌≡◌, Result};
 ghost use Rattle.model.specs.declared.refusal.Refusal.{Refusal as RefusalValue};
-ghost use Rattle.store_state.specs.Handling.{IsHandled};
-ghost use Rattle.store_state.specs.States.{HasPlace, Handles};
+ghost use Rattle.handlers.specs.Handling.{IsHandled};
+ghost use Rattle.handlers.specs.States.{HasPlace, Handles};
 ghost use Rattle.events.specs.Terms.{request_of, event_of, reply_of};
 ghost use Rattle.events.specs.declared.reply.Reply.{Reply as ReplyValue};
-ghost use Rattle.store_state.specs.Serving.{MayServe};
+ghost use Rattle.handlers.specs.Serving.{MayServe};
 ghost use Rattle.schedule.specs.Standing.{parts_of};
 ghost use Rattle.schedule.specs.Queries.{request_in, event_for};
 ghost use Rattle.schedule.specs.ReadResults.{MayGive, IsServedFrom};
@@ -17,13 +17,12 @@ use crate::read_result::ReadResult;
 use crate::state::Core;
 use events::{CopiedReply, Reply};
 use goals::status;
-use handlers::{fetch, plan_for};
+use handlers::{State, fetch, plan_for};
 use laws::never_fails;
 use model::Refusal;
 use records::Plan;
 use rewrite::one_tree_at_a_path;
 use std::alloc::Global;
-use store_state::State;
 
 /// What is found where a reply is made.
 fn told(reply: Result<CopiedReply, Refusal>) -> Result<ReadResult, Refusal>

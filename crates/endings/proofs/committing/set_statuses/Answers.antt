@@ -1,7 +1,7 @@
 use Rattle.std.proofs.Common.{◌∙◌}
 use Rattle.std.specs.Prelude.{map}
 use Rattle.events.specs.Statuses.{status_of}
-use Rattle.store_state.specs.Supported.{goals_of}
+use Rattle.handlers.specs.Supported.{goals_of}
 use Rattle.endings.specs.DeskDeltas.{status_at}
 use Rattle.endings.proofs.StatusLemmas.{statuses_before, last_there, popped}
 use Rattle.endings.proofs.committing.set_statuses.Goals as goal

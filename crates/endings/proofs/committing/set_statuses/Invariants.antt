@@ -1,7 +1,7 @@
 use Rattle.std.proofs.Common.{◌≡◌, length}
 use Rattle.std.specs.Prelude.{map}
 use Rattle.jobs.specs.Owned.{with_goals_at}
-use Rattle.store_state.specs.Supported.{goals_of}
+use Rattle.handlers.specs.Supported.{goals_of}
 use Rattle.endings.specs.DeskDeltas.{with_statuses, status_at}
 use Rattle.endings.specs.Committing.{AreSettable}
 use Rattle.endings.proofs.committing.set_statuses.Given as goal

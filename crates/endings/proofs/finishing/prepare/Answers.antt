@@ -4,7 +4,7 @@ use Rattle.std.specs.Option.{option_copied}
 use Rattle.std.proofs.lemmas.Result.{err_from_is_err_and}
 use Rattle.model.specs.Worlds.{Goal, Status}
 use Rattle.model.specs.Goals.{goal_at}
-use Rattle.store_state.specs.Parts.{goals_of}
+use Rattle.handlers.specs.Parts.{goals_of}
 use Rattle.events.specs.Statuses.{status_of}
 use Rattle.trust.specs.Trusting.{trusts}
 use Rattle.store.specs.Stored.{put_all, sources_of, AreThere}

@@ -6,14 +6,14 @@ use Rattle.model.specs.Archives.{Tree}
 use Rattle.model.specs.Goals.{goal_at}
 use Rattle.model.specs.Worlds.{Goal, Job}
 use Rattle.realise.specs.Holdings.{Holdings}
-use Rattle.store_state.specs.Parts.{goals_of}
-use Rattle.store_state.specs.Viewing.{desk_at}
+use Rattle.handlers.specs.Parts.{goals_of}
+use Rattle.handlers.specs.Viewing.{desk_at}
 use Rattle.outputs.specs.declared.input.Input.{Input}
 use Rattle.outputs.specs.declared.settlement.Settlement.{Settlement}
 use Rattle.outputs.specs.Kept.{HasNeeded}
 use Rattle.endings.specs.Built.{HasBuilt}
 use Rattle.endings.specs.Preparing.{HasLedOutput, HasNeededFor}
-use Rattle.store_state.proofs.StateLemmas.{has_desk}
+use Rattle.handlers.proofs.StateLemmas.{has_desk}
 use Rattle.endings.proofs.MadeLemmas.{at_place}
 use Rattle.endings.proofs.preparing.input_for_finish.Goals as goal
 

@@ -6,8 +6,8 @@ use Rattle.model.specs.Goals.{goal_at}
 use Rattle.model.specs.Worlds.{Goal}
 use Rattle.jobs.specs.Owned.{goals_at}
 use Rattle.realise.specs.Holdings.{Holdings}
-use Rattle.store_state.specs.Viewing.{desk_at}
-use Rattle.store_state.proofs.StateLemmas.{has_desk}
+use Rattle.handlers.specs.Viewing.{desk_at}
+use Rattle.handlers.proofs.StateLemmas.{has_desk}
 use Rattle.endings.specs.Built.{IsClosedBuilt, all_built, built_at, built_of, built_output, numbered}
 use Rattle.endings.proofs.BuiltLemmas.{built_more, inputs_more}
 use Rattle.endings.proofs.LoopLemmas.{one_more, all_done}

@@ -2,7 +2,7 @@ use Rattle.std.proofs.Common.{◌≡◌, ◌++◌, drop, map}
 use Rattle.std.specs.Prelude.{All}
 use Rattle.std.specs.Option.{option_copied}
 use Rattle.jobs.specs.Owned.{goals_at}
-use Rattle.store_state.specs.Viewing.{desk_at}
+use Rattle.handlers.specs.Viewing.{desk_at}
 use Rattle.endings.specs.Built.{all_built, numbered, IsClosedBuilt, HaveInputs}
 use Rattle.endings.proofs.settling.built_on.Given as goal
 

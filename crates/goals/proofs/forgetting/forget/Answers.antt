@@ -10,9 +10,9 @@ use Rattle.events.specs.Terms.{reply_of}
 use Rattle.realise.specs.Held.{paths_held}
 use Rattle.desk_records.specs.RecordLists.{is_recorded_at}
 use Rattle.realise.specs.Holdings.{Holdings, without_records}
-use Rattle.store_state.specs.States.{parts_of}
-use Rattle.store_state.specs.Viewing.{desk_at}
-use Rattle.store_state.proofs.RunLemmas.{still_run}
+use Rattle.handlers.specs.States.{parts_of}
+use Rattle.handlers.specs.Viewing.{desk_at}
+use Rattle.handlers.proofs.RunLemmas.{still_run}
 use Rattle.goals.proofs.StateLemmas.{few_of, own_desk, left_so}
 use Rattle.goals.proofs.ForgetLemmas.{forget_absent, forget_used}
 use Rattle.goals.proofs.ForgottenLemmas.{forgotten}

@@ -2,8 +2,8 @@ use Rattle.std.proofs.Common.{◌≡◌, sym, ◌∙◌, ap}
 use Rattle.std.proofs.lemmas.List.{get_or_default}
 use Rattle.model.specs.Resolutions.{input_classes}
 use Rattle.realise.specs.Holdings.{Holdings}
-use Rattle.store_state.specs.Viewing.{bare, desk_at}
-use Rattle.store_state.proofs.StateLemmas.{has_desk}
+use Rattle.handlers.specs.Viewing.{bare, desk_at}
+use Rattle.handlers.proofs.StateLemmas.{has_desk}
 use Rattle.goals.proofs.ResolveLemmas.{classes_are}
 use Rattle.goals.proofs.planning.classes_for.Goals as goal
 

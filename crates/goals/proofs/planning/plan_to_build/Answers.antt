@@ -6,9 +6,9 @@ use Rattle.model.specs.Resolutions.{input_classes}
 use Rattle.realise.specs.Holdings.{Holdings}
 use Rattle.trust.specs.Trusting.{trusts}
 use Rattle.choose.specs.Visible.{desks_of}
-use Rattle.store_state.specs.Viewing.{bare, desk_at}
-use Rattle.store_state.proofs.ClosureLemmas.{IsPlanFor, closure_of_plan, view_complete}
-use Rattle.store_state.proofs.StateLemmas.{complete_desks, has_desk}
+use Rattle.handlers.specs.Viewing.{bare, desk_at}
+use Rattle.handlers.proofs.ClosureLemmas.{IsPlanFor, closure_of_plan, view_complete}
+use Rattle.handlers.proofs.StateLemmas.{complete_desks, has_desk}
 use Rattle.goals.proofs.ResolveLemmas.{planned_to_build}
 use Rattle.goals.proofs.planning.plan_to_build.Goals as goal
 

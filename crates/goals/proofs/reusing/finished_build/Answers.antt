@@ -2,7 +2,7 @@ use Rattle.std.proofs.Common.{◌<◌, ◌∙◌, sym, ap, arith}
 use Rattle.std.specs.Prelude.{option_copied, length}
 use Rattle.model.specs.Orders.{least}
 use Rattle.trust.specs.Trusting.{holds, trusts}
-use Rattle.store_state.specs.Viewing.{places_of}
+use Rattle.handlers.specs.Viewing.{places_of}
 use Rattle.goals.specs.Reusing.{path_before, found_in}
 use Rattle.goals.proofs.StateLemmas.{few_of}
 use Rattle.goals.proofs.ReuseLemmas.{finished_so, held_so}

@@ -5,9 +5,9 @@ use Rattle.model.specs.Orders.{least}
 use Rattle.trust.specs.Trusting.{holds}
 use Rattle.records.specs.Recorded.{Recorded}
 use Rattle.realise.specs.Holdings.{Holdings}
-use Rattle.store_state.specs.Viewing.{desk_at, places_of}
-use Rattle.store_state.specs.Supported.{goals_of}
-use Rattle.store_state.proofs.StateLemmas.{few_desks}
+use Rattle.handlers.specs.Viewing.{desk_at, places_of}
+use Rattle.handlers.specs.Supported.{goals_of}
+use Rattle.handlers.proofs.StateLemmas.{few_desks}
 use Rattle.goals.specs.Reusing.{path_before, found_among, found_on, found_in}
 use Rattle.jobs.specs.Planners.{HasPlanners}
 use Rattle.jobs.proofs.PlannerLemmas.{none_done, left_out_of, of_both}

@@ -2,7 +2,7 @@ use Rattle.std.proofs.Common.{◌≡◌}
 use Rattle.std.specs.Prelude.{option_copied}
 use Rattle.model.specs.Orders.{least}
 use Rattle.trust.specs.Trusting.{holds}
-use Rattle.store_state.specs.Viewing.{places_of}
+use Rattle.handlers.specs.Viewing.{places_of}
 use Rattle.goals.specs.Reusing.{path_before, found_in}
 use Rattle.goals.proofs.reusing.least_for_all.Given as goal
 

@@ -7,7 +7,7 @@ use Rattle.model.specs.Orders.{least_from}
 use Rattle.records.specs.Recorded.{Recorded}
 use Rattle.jobs.specs.Owned.{goals_at}
 use Rattle.jobs.specs.Numbers.{finished}
-use Rattle.store_state.specs.Viewing.{desk_at}
+use Rattle.handlers.specs.Viewing.{desk_at}
 use Rattle.goals.specs.Reusing.{path_before, found_if, found_among, found_on}
 use Rattle.goals.proofs.StateLemmas.{own_desk}
 use Rattle.goals.proofs.ReuseLemmas.{number_next, nothing_left, nothing_found}

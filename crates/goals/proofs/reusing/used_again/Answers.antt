@@ -5,8 +5,8 @@ use Rattle.model.specs.Endings.{labels_from}
 use Rattle.trust.specs.Trusting.{trusts}
 use Rattle.jobs.specs.Owned.{goals_at}
 use Rattle.realise.specs.Holdings.{Holdings}
-use Rattle.store_state.specs.Viewing.{desk_at}
-use Rattle.store_state.proofs.StateLemmas.{complete_desks}
+use Rattle.handlers.specs.Viewing.{desk_at}
+use Rattle.handlers.proofs.StateLemmas.{complete_desks}
 use Rattle.goals.specs.Reusing.{class_for, IsFinishedBuild}
 use Rattle.goals.proofs.ReuseLemmas.{held_stored, unknown_class, nothing_built, built_used}
 use Rattle.goals.proofs.reusing.used_again.Goals as goal

@@ -8,11 +8,11 @@ use Rattle.model.specs.Worlds.{Failed}
 use Rattle.events.specs.declared.reply.Reply.TheVariants.{Status as StatusReply}
 use Rattle.events.specs.declared.status.Status.TheVariants as status
 use Rattle.events.specs.Terms.{reply_of}
-use Rattle.store_state.specs.Sound.{IsSound}
-use Rattle.store_state.specs.Viewing.{desk_at}
-use Rattle.store_state.specs.Taking.{CopiesEntries}
-use Rattle.store_state.proofs.TakeLemmas.{copied_here}
-use Rattle.store_state.proofs.StateLemmas.{has_desk}
+use Rattle.handlers.specs.Sound.{IsSound}
+use Rattle.handlers.specs.Viewing.{desk_at}
+use Rattle.handlers.specs.Taking.{CopiesEntries}
+use Rattle.handlers.proofs.TakeLemmas.{copied_here}
+use Rattle.handlers.proofs.StateLemmas.{has_desk}
 use Rattle.goals.proofs.StateLemmas.{with_goals}
 use Rattle.goals.proofs.StartLemmas.{goal_closure}
 use Rattle.goals.proofs.StartedLemmas.{run_started, owned_started, its_closure, lacking_so, failed_so}

@@ -5,9 +5,9 @@ use Rattle.model.specs.Goals.{in_status, is_building}
 use Rattle.model.specs.Worlds.{Building}
 use Rattle.model.specs.Replies as replies
 use Rattle.events.specs.Terms.{reply_of}
-use Rattle.store_state.specs.Sound.{IsSound}
-use Rattle.store_state.proofs.TakeLemmas.{copied_here}
-use Rattle.store_state.proofs.StateLemmas.{has_desk}
+use Rattle.handlers.specs.Sound.{IsSound}
+use Rattle.handlers.proofs.TakeLemmas.{copied_here}
+use Rattle.handlers.proofs.StateLemmas.{has_desk}
 use Rattle.goals.proofs.StateLemmas.{with_goals}
 use Rattle.goals.proofs.StartLemmas.{goal_closure, entered_there, entered_inside}
 use Rattle.goals.proofs.StartedLemmas.{run_started, owned_started, no_memory_so, entered_so, left_job, owned_left}

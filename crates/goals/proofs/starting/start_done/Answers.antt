@@ -8,14 +8,14 @@ use Rattle.model.specs.Events as events
 use Rattle.model.specs.Replies as replies
 use Rattle.events.specs.Terms.{reply_of}
 use Rattle.jobs.specs.Owned.{ChangesGoal}
-use Rattle.store_state.specs.Parts.{Parts}
-use Rattle.store_state.specs.Sound.{IsSound}
-use Rattle.store_state.specs.States.{parts_of}
-use Rattle.store_state.specs.Handling.{IsHandledByAll}
-use Rattle.store_state.specs.Taking.{IsLabelledBy, with_built}
-use Rattle.store_state.proofs.TakeLemmas.{copied_here}
+use Rattle.handlers.specs.Parts.{Parts}
+use Rattle.handlers.specs.Sound.{IsSound}
+use Rattle.handlers.specs.States.{parts_of}
+use Rattle.handlers.specs.Handling.{IsHandledByAll}
+use Rattle.handlers.specs.Taking.{IsLabelledBy, with_built}
+use Rattle.handlers.proofs.TakeLemmas.{copied_here}
 use Rattle.goals.specs.Starting.{HasNoRoom}
-use Rattle.store_state.proofs.StateLemmas.{has_desk}
+use Rattle.handlers.proofs.StateLemmas.{has_desk}
 use Rattle.goals.proofs.StateLemmas.{with_goals}
 use Rattle.goals.proofs.StartLemmas.{goal_closure}
 use Rattle.goals.proofs.StartedLemmas.{run_started, owned_started, no_memory_so, both_stored, lacking_so, done_so, put_back, left_copies}

@@ -1,6 +1,6 @@
 use Rattle.std.proofs.Common.{rules, ◌≡◌, sym, ap, ◌∙◌, Some}
 use Rattle.model.specs.Classes.{known_at, derivation_path}
-use Rattle.store_state.proofs.DerivationLemmas.{admitted_path, had_added}
+use Rattle.handlers.proofs.DerivationLemmas.{admitted_path, had_added}
 use Rattle.handlers.proofs.derivations.add_admitted.Goals as goal
 
 pub returns-in-Some : goal.returns-in-Some

@@ -8,14 +8,14 @@ use Rattle.model.specs.declared.refusal.Refusal.TheVariants.{TooLarge, Memory}
 use Rattle.model.specs.DerivationTexts.{derivation_of_text}
 use Rattle.model.specs.Worlds.{Source}
 use Rattle.realise.specs.Holdings.{Holdings}
-use Rattle.store_state.specs.Handling.{IsHandledByDesk}
+use Rattle.handlers.specs.Handling.{IsHandledByDesk}
 use Rattle.model.specs.Limits.{most_derivation_bytes}
 use Rattle.model.specs.Events.{AddDerivation}
 use Rattle.model.specs.Steps.{outcome}
-use Rattle.store_state.specs.Sound.{desk_of}
-use Rattle.store_state.proofs.DerivationLemmas.{too_large, unread_fits, unread_no_clash}
-use Rattle.store_state.proofs.StepLemmas.{derivation_at_once}
-use Rattle.store_state.proofs.HandlingLemmas.{left, derivation_handled}
+use Rattle.handlers.specs.Sound.{desk_of}
+use Rattle.handlers.proofs.DerivationLemmas.{too_large, unread_fits, unread_no_clash}
+use Rattle.handlers.proofs.StepLemmas.{derivation_at_once}
+use Rattle.handlers.proofs.HandlingLemmas.{left, derivation_handled}
 use Rattle.handlers.proofs.derivations.add_derivation.Goals as goal
 
 pub returns-then-bytes-gt-MOST_DERIVATION_BYTES-clause-handled : goal.returns-then-bytes-gt-MOST_DERIVATION_BYTES-clause-handled

@@ -11,13 +11,13 @@ use Rattle.model.specs.DerivationRequests.{told_of_derivation}
 use Rattle.model.specs.Classes.{Admission, known_at, derivation_path, admit}
 use Rattle.model.specs.Worlds.{Source}
 use Rattle.events.specs.Terms.{reply_of}
-use Rattle.store_state.specs.Sound.{desk_of, IsSound, Beside}
-use Rattle.store_state.specs.Handling.{is_fault}
+use Rattle.handlers.specs.Sound.{desk_of, IsSound, Beside}
+use Rattle.handlers.specs.Handling.{is_fault}
 use Rattle.realise.specs.Holdings.{Holdings, holds_derivation}
-use Rattle.store_state.proofs.DeskLemmas.{sound-derivation}
+use Rattle.handlers.proofs.DeskLemmas.{sound-derivation}
 use Rattle.model.specs.Limits.{most_derivations}
 use Rattle.model.specs.Replies.{is_clash_refusal}
-use Rattle.store_state.proofs.DerivationLemmas.{new_outcome, admitted_path, refused_added, over_fits, added_fits}
+use Rattle.handlers.proofs.DerivationLemmas.{new_outcome, admitted_path, refused_added, over_fits, added_fits}
 use Rattle.handlers.proofs.derivations.add_new.Goals as goal
 
 -- no more than the limit is refused where memory is not

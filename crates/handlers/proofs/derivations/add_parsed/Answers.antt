@@ -6,7 +6,7 @@ use Rattle.model.specs.Derivations.{Derivation}
 use Rattle.model.specs.Classes.{Known, admit}
 use Rattle.model.specs.Replies.{is_clash_refusal}
 use Rattle.laws.proofs.DerivationRequestLemmas.{admit_refusals}
-use Rattle.store_state.proofs.DerivationLemmas.{refused_added, refused_fits}
+use Rattle.handlers.proofs.DerivationLemmas.{refused_added, refused_fits}
 use Rattle.handlers.proofs.derivations.add_parsed.Goals as goal
 
 -- no refusal of an admission is a clash

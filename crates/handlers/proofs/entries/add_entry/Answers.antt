@@ -6,17 +6,17 @@ use Rattle.model.specs.declared.refusal.Refusal.TheVariants.{Memory, Clash}
 use Rattle.model.specs.Archives.{Tree, nar}
 use Rattle.model.specs.Replies.{Path}
 use Rattle.model.specs.Outcomes.{becomes}
-use Rattle.store_state.specs.Handling.{is_fault}
+use Rattle.handlers.specs.Handling.{is_fault}
 use Rattle.model.specs.Worlds.{Source, tree_at}
 use Rattle.store.specs.Stored.{Extends, IsTaken, put_once}
 use Rattle.records.specs.DeskEntries.{entry_path}
 use Rattle.realise.specs.Holdings.{Holdings, charged_more, is_on, is_roomy}
 use Rattle.events.specs.Terms.{reply_of}
-use Rattle.store_state.specs.Sound.{desk_of, IsSound}
+use Rattle.handlers.specs.Sound.{desk_of, IsSound}
 use Rattle.store.proofs.TableLemmas.{put_once-Extends}
-use Rattle.store_state.proofs.ClosedLemmas.{still_labelled}
-use Rattle.store_state.proofs.SupportLemmas.{gains_nothing, gains_kept}
-use Rattle.store_state.proofs.AddingLemmas.{IsThere, there_if_stored, entry_known, entry_had, entry_refused, entry_new, desk_of-entry, sound-entry}
+use Rattle.handlers.proofs.ClosedLemmas.{still_labelled}
+use Rattle.handlers.proofs.SupportLemmas.{gains_nothing, gains_kept}
+use Rattle.handlers.proofs.AddingLemmas.{IsThere, there_if_stored, entry_known, entry_had, entry_refused, entry_new, desk_of-entry, sound-entry}
 use Rattle.handlers.specs.Adding.{IsFree}
 use Rattle.handlers.proofs.entries.add_entry.Goals as goal
 

@@ -5,8 +5,8 @@ use Rattle.model.specs.Events as events
 use Rattle.model.specs.Replies as replies
 use Rattle.events.specs.Terms.{reply_of}
 use Rattle.trust.specs.Trusting.{trusts}
-use Rattle.store_state.proofs.ClosureLemmas.{closure_handled, closure_refused}
-use Rattle.store_state.proofs.StateLemmas.{by_sight}
+use Rattle.handlers.proofs.ClosureLemmas.{closure_handled, closure_refused}
+use Rattle.handlers.proofs.StateLemmas.{by_sight}
 use Rattle.handlers.proofs.given.closure.Goals as goal
 
 pub returns-in_err-entries : goal.returns-in_err-entries

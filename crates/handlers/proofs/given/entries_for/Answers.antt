@@ -1,8 +1,8 @@
 use Rattle.std.proofs.lemmas.Result.{err_from_is_err_and}
 use Rattle.trust.specs.Trusting.{trusts}
-use Rattle.store_state.specs.Serving.{IsPlanned}
-use Rattle.store_state.proofs.ClosureLemmas.{served_at, unplanned_at, closure_if_served}
-use Rattle.store_state.proofs.PlannedLemmas.{of_him}
+use Rattle.handlers.specs.Serving.{IsPlanned}
+use Rattle.handlers.proofs.ClosureLemmas.{served_at, unplanned_at, closure_if_served}
+use Rattle.handlers.proofs.PlannedLemmas.{of_him}
 use Rattle.handlers.proofs.given.entries_for.Goals as goal
 
 pub returns-in_err-planned-clause-served : goal.returns-in_err-planned-clause-served

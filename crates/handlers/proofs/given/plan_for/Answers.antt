@@ -4,9 +4,9 @@ use Rattle.model.specs.Choices.{closure_plan}
 use Rattle.realise.specs.Holdings.{Holdings}
 use Rattle.trust.specs.Trusting.{trusts}
 use Rattle.choose.specs.Visible.{desks_of}
-use Rattle.store_state.specs.Viewing.{bare, desk_at}
-use Rattle.store_state.proofs.ClosureLemmas.{IsPlanFor, planned_at, closure_of_plan, view_complete}
-use Rattle.store_state.proofs.StateLemmas.{complete_desks, has_desk}
+use Rattle.handlers.specs.Viewing.{bare, desk_at}
+use Rattle.handlers.proofs.ClosureLemmas.{IsPlanFor, planned_at, closure_of_plan, view_complete}
+use Rattle.handlers.proofs.StateLemmas.{complete_desks, has_desk}
 use Rattle.handlers.proofs.given.plan_for.Goals as goal
 
 pub new-view-requires-clause-stored : goal.new-view-requires-clause-stored

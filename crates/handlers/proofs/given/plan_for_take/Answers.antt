@@ -1,6 +1,6 @@
-use Rattle.store_state.specs.Serving.{plan_for}
-use Rattle.store_state.specs.States.{observation_at}
-use Rattle.store_state.proofs.PlannedLemmas.{planned_for_him, needed_by}
+use Rattle.handlers.specs.Serving.{plan_for}
+use Rattle.handlers.specs.States.{observation_at}
+use Rattle.handlers.proofs.PlannedLemmas.{planned_for_him, needed_by}
 use Rattle.handlers.proofs.given.plan_for_take.Goals as goal
 
 pub returns-clause-needed : goal.returns-clause-needed

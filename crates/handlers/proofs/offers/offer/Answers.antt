@@ -8,7 +8,7 @@ use Rattle.records.specs.declared.desk_entry.DeskEntry.TheVariants as entry
 use Rattle.handlers.specs.Offering.{IsOutput}
 use Rattle.handlers.proofs.OfferLemmas.{unknown_handled, refused_handled, offer_handled}
 use Rattle.handlers.proofs.LabelLemmas.{output_closed}
-use Rattle.store_state.proofs.StateLemmas.{found_desk, sound_desk, at_kept_desk, at_new_desk}
+use Rattle.handlers.proofs.StateLemmas.{found_desk, sound_desk, at_kept_desk, at_new_desk}
 use Rattle.handlers.proofs.offers.offer.Goals as goal
 
 pub returns-in_default : goal.returns-in_default

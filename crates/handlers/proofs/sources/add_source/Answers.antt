@@ -2,10 +2,10 @@ use Rattle.std.proofs.Common.{◌≡◌, refl, rules, Err}
 use Rattle.std.proofs.lemmas.Result.{err_from_is_err_and}
 use Rattle.model.specs.declared.refusal.Refusal.TheVariants.{Memory}
 use Rattle.model.specs.Events.{AddSource}
-use Rattle.store_state.specs.Sound.{desk_of}
-use Rattle.store_state.proofs.StepLemmas.{source_at_once}
-use Rattle.store_state.proofs.HandlingLemmas.{left, source_handled}
-use Rattle.store_state.proofs.StateLemmas.{own_desk, own_desk_is, sound_desk, at_kept_desk, at_new_desk}
+use Rattle.handlers.specs.Sound.{desk_of}
+use Rattle.handlers.proofs.StepLemmas.{source_at_once}
+use Rattle.handlers.proofs.HandlingLemmas.{left, source_handled}
+use Rattle.handlers.proofs.StateLemmas.{own_desk, own_desk_is, sound_desk, at_kept_desk, at_new_desk}
 use Rattle.handlers.proofs.sources.add_source.Goals as goal
 
 pub returns-in_err-path : goal.returns-in_err-path

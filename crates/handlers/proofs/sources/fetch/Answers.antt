@@ -3,10 +3,10 @@ use Rattle.model.specs.declared.refusal.Refusal.TheVariants.{NotHeld}
 use Rattle.model.specs.Events.{Fetch}
 use Rattle.model.specs.Worlds.{held_at}
 use Rattle.model.specs.Steps.{outcome}
-use Rattle.store_state.specs.Sound.{desk_of}
-use Rattle.store_state.proofs.DeskLemmas.{held_in_table}
-use Rattle.store_state.proofs.StepLemmas.{fetch_at_once}
-use Rattle.store_state.proofs.HandlingLemmas.{left, fetch_handled}
+use Rattle.handlers.specs.Sound.{desk_of}
+use Rattle.handlers.proofs.DeskLemmas.{held_in_table}
+use Rattle.handlers.proofs.StepLemmas.{fetch_at_once}
+use Rattle.handlers.proofs.HandlingLemmas.{left, fetch_handled}
 use Rattle.handlers.proofs.sources.fetch.Goals as goal
 
 pub returns-in-Some : goal.returns-in-Some

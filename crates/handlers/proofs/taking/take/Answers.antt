@@ -6,10 +6,10 @@ use Rattle.model.specs.Events as events
 use Rattle.model.specs.Worlds.{Entry}
 use Rattle.trust.specs.Trusting.{trusts}
 use Rattle.events.specs.Terms.{reply_of}
-use Rattle.store_state.specs.States.{parts_of}
-use Rattle.store_state.proofs.RunLemmas.{by_own_observation}
-use Rattle.store_state.proofs.StateLemmas.{by_sight}
-use Rattle.store_state.proofs.TakeLemmas.{take_unserved, take_unnamed, take_done, take_refused, copied_here, run_taken}
+use Rattle.handlers.specs.States.{parts_of}
+use Rattle.handlers.proofs.RunLemmas.{by_own_observation}
+use Rattle.handlers.proofs.StateLemmas.{by_sight}
+use Rattle.handlers.proofs.TakeLemmas.{take_unserved, take_unnamed, take_done, take_refused, copied_here, run_taken}
 use Rattle.handlers.proofs.taking.take.Goals as goal
 
 pub returns-in_err-entries-clause-handled : goal.returns-in_err-entries-clause-handled

@@ -6,8 +6,8 @@ use Rattle.trust.specs.Trusting.{trusts}
 use Rattle.trust.specs.Naming.{place_of}
 use Rattle.trust.proofs.PlaceLemmas.{name_found}
 use Rattle.events.specs.declared.reply.Reply.TheVariants.{Ok as OkReply}
-use Rattle.store_state.specs.Parts.{parts}
-use Rattle.store_state.specs.Handling.{IsHandled}
+use Rattle.handlers.specs.Parts.{parts}
+use Rattle.handlers.specs.Handling.{IsHandled}
 use Rattle.trust.proofs.UsersLemmas.{few_users}
 use Rattle.handlers.proofs.TrustLemmas.{trust_unknown, trust_own, trust_handled}
 use Rattle.handlers.proofs.trusting.add_trust.Goals as goal

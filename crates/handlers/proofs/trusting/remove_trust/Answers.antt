@@ -4,8 +4,8 @@ use Rattle.trust.specs.Trusting.{trusts}
 use Rattle.trust.specs.Naming.{place_of}
 use Rattle.trust.proofs.PlaceLemmas.{name_found}
 use Rattle.events.specs.declared.reply.Reply.TheVariants.{Ok as OkReply}
-use Rattle.store_state.specs.Parts.{parts}
-use Rattle.store_state.specs.Handling.{IsHandled}
+use Rattle.handlers.specs.Parts.{parts}
+use Rattle.handlers.specs.Handling.{IsHandled}
 use Rattle.trust.proofs.UsersLemmas.{few_users}
 use Rattle.handlers.proofs.TrustLemmas.{distrust_unknown, distrust_handled}
 use Rattle.handlers.proofs.trusting.remove_trust.Goals as goal

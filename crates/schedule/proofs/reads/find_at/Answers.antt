@@ -2,15 +2,15 @@ use Rattle.std.proofs.Common.{◌≡◌, List, get_or, sym, subst, Result}
 use Rattle.std.proofs.lemmas.List.{set-get_or}
 use Rattle.trust.specs.Trusting.{trusts}
 use Rattle.realise.specs.Holdings.{Holdings}
-use Rattle.store_state.specs.Viewing.{bare, desk_at}
-use Rattle.store_state.specs.Handling.{IsHandled, IsHandledByDesk}
-use Rattle.store_state.specs.States.{parts_of}
-use Rattle.store_state.proofs.RunLemmas.{by_own_desk, by_observation_of}
+use Rattle.handlers.specs.Viewing.{bare, desk_at}
+use Rattle.handlers.specs.Handling.{IsHandled, IsHandledByDesk}
+use Rattle.handlers.specs.States.{parts_of}
+use Rattle.handlers.proofs.RunLemmas.{by_own_desk, by_observation_of}
 use Rattle.model.specs.declared.refusal.Refusal.{Refusal}
 use Rattle.model.specs.Events.{Event}
 use Rattle.events.specs.declared.reply.Reply.{Reply}
 use Rattle.events.specs.Terms.{request_of}
-use Rattle.store_state.proofs.ClosureLemmas.{handled_of_plan}
+use Rattle.handlers.proofs.ClosureLemmas.{handled_of_plan}
 use Rattle.schedule.specs.Queries.{request_in}
 use Rattle.schedule.proofs.reads.find_at.Goals as goal
 

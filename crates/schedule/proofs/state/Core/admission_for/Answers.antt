@@ -5,9 +5,9 @@ use Rattle.trust.specs.Trusting.{trusts}
 use Rattle.events.specs.Terms.{request_of}
 use Rattle.classes.specs.Admitting.{Made, HasMade, HasAdmission}
 use Rattle.classes.specs.declared.admissions.Admissions.{Admissions}
-use Rattle.store_state.proofs.StateLemmas.{has_desk}
+use Rattle.handlers.proofs.StateLemmas.{has_desk}
 use Rattle.endings.proofs.MadeLemmas.{at_place}
-use Rattle.store_state.specs.Viewing.{desk_at}
+use Rattle.handlers.specs.Viewing.{desk_at}
 use Rattle.schedule.specs.Standing.{world_of}
 use Rattle.schedule.specs.Preparing.{HasAdmissionFor}
 use Rattle.schedule.proofs.PreparingLemmas.{admitted_by}

@@ -1,11 +1,11 @@
 use Rattle.std.proofs.Common.{sym, ◌∙◌, subst, Result}
 use Rattle.model.specs.declared.refusal.Refusal.{Refusal}
 use Rattle.events.specs.declared.reply.Reply.{Reply}
-use Rattle.store_state.specs.Handling.{IsHandled}
+use Rattle.handlers.specs.Handling.{IsHandled}
 use Rattle.events.specs.Terms.{event_of}
 use Rattle.schedule.specs.Queries.{event_for}
 use Rattle.schedule.specs.Standing.{parts_of}
-use Rattle.store_state.proofs.HandlingLemmas.{stranger}
+use Rattle.handlers.proofs.HandlingLemmas.{stranger}
 use Rattle.trust.proofs.FirstPlaceLemmas.{place_below}
 use Rattle.schedule.proofs.state.Core.find.Goals as goal
 

@@ -8,9 +8,9 @@ use Rattle.outputs.specs.Kept.{HasNeeded}
 use Rattle.outputs.specs.declared.settlement.Settlement.{Settlement}
 use Rattle.outputs.specs.declared.settlements.Settlements.{Settlements}
 use Rattle.handlers.specs.Offering.{HasOffered}
-use Rattle.store_state.proofs.StateLemmas.{has_desk}
+use Rattle.handlers.proofs.StateLemmas.{has_desk}
 use Rattle.endings.proofs.MadeLemmas.{at_place}
-use Rattle.store_state.specs.Viewing.{desk_at}
+use Rattle.handlers.specs.Viewing.{desk_at}
 use Rattle.schedule.specs.Standing.{world_of}
 use Rattle.schedule.specs.Preparing.{HasInput, HasOutcome}
 use Rattle.schedule.proofs.PreparingLemmas.{offered_by, ended_by}

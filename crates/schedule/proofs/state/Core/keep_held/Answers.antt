@@ -3,9 +3,9 @@ use Rattle.std.specs.Prelude.{All, bytes_eq}
 use Rattle.indexmap.specs.IndexSet.{contains}
 use Rattle.model.specs.Worlds.{Source}
 use Rattle.trust.specs.Trusting.{trusts}
-use Rattle.store_state.specs.Sound.{IsSound, AreGoalsSound}
-use Rattle.store_state.specs.Parts.{desk_among, beside_at}
-use Rattle.store_state.proofs.WorldLemmas.{same_world}
+use Rattle.handlers.specs.Sound.{IsSound, AreGoalsSound}
+use Rattle.handlers.specs.Parts.{desk_among, beside_at}
+use Rattle.handlers.proofs.WorldLemmas.{same_world}
 use Rattle.schedule.specs.Standing.{world_of, setup_of, stored_in}
 use Rattle.schedule.proofs.SweepingLemmas.{swept_is, core_sound, core_goals, core_world}
 use Rattle.schedule.proofs.state.Core.keep_held.Goals as goal

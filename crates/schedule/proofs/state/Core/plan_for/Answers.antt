@@ -4,7 +4,7 @@ use Rattle.events.specs.Terms.{request_of}
 use Rattle.repair.specs.Counting.{made_in}
 use Rattle.repair.specs.Prepared.{HasRepairedIf}
 use Rattle.repair.specs.declared.cache.Cache.{Cache}
-use Rattle.store_state.specs.States.{observation_at}
+use Rattle.handlers.specs.States.{observation_at}
 use Rattle.schedule.specs.Preparing.{seen_by, HasRepairedAll}
 use Rattle.schedule.proofs.PreparingLemmas.{seen_there, taken_by, planned_by}
 use Rattle.schedule.proofs.state.Core.plan_for.Goals as goal

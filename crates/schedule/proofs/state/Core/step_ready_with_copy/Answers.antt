@@ -6,9 +6,9 @@ use Rattle.trust.specs.declared.user.User.{User}
 use Rattle.events.specs.declared.event.Request.{Request}
 use Rattle.events.specs.declared.reply.Reply.{Reply}
 use Rattle.events.specs.Terms.{request_of, event_of}
-use Rattle.store_state.specs.Handling.{IsHandled}
-use Rattle.store_state.specs.States.{parts_of}
-use Rattle.store_state.proofs.HandlingLemmas.{stranger}
+use Rattle.handlers.specs.Handling.{IsHandled}
+use Rattle.handlers.specs.States.{parts_of}
+use Rattle.handlers.proofs.HandlingLemmas.{stranger}
 use Rattle.schedule.proofs.StepLemmas.{has_served, has_refused}
 use Rattle.schedule.proofs.state.Core.step_ready_with_copy.Goals.{After-handle-handled}
 use Rattle.schedule.proofs.state.Core.step_ready_with_copy.Goals as goal

@@ -1,6 +1,0 @@
-use Rattle.std.proofs.Common.{◌≡◌, ◌++◌, drop, map}
-use Rattle.store_state.specs.Taking.{tree_with_path}
-use Rattle.store_state.proofs.copying.trees_of.Given as goal
-
-abbrev pub invariant-loop-entry : goal.invariant-loop-entry
-invariant-loop-entry l = l.trees.items ++ map tree_with_path (drop l.entry-index l.entries) ≡ map tree_with_path l.entries
