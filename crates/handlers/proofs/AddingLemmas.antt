@@ -24,7 +24,8 @@ use Rattle.realise.specs.Holdings.{Holdings, paths_of, is_on, holds_entry, has_p
 use Rattle.handlers.specs.Sound.{sources_at, records_at, desk_of, IsSized, IsSound, Beside}
 use Rattle.handlers.proofs.ChargeLemmas.{weight, AgreeAt, weight-between}
 use Rattle.handlers.proofs.ClosedLemmas.{stays_closed}
-use Rattle.handlers.proofs.DeskLemmas.{IsKnown, same_sources, same_records, sources_known, records_known, known_kept, sized_kept, sized_with, held_found, held_known, held_paths, length-sources_at, length-records_at}
+use Rattle.handlers.proofs.DeskLemmas.{IsKnown, same_sources, same_records, sources_known, records_known, known_kept, sized_kept, sized_with}
+use Rattle.handlers.proofs.DeskLemmas.{held_found, held_known, held_paths, length-sources_at, length-records_at}
 
 -- ---- whether it is there
 

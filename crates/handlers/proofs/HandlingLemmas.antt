@@ -32,7 +32,9 @@ use Rattle.handlers.specs.Sound.{Beside, desk_of, IsSound, AreGoalsSound, IsHash
 use Rattle.events.specs.Terms.{reply_of}
 use Rattle.handlers.specs.Parts.{goals_of, beside_at, Parts, parts, world_in, desk_among}
 use Rattle.handlers.specs.Viewing.{bare}
-use Rattle.handlers.specs.Handling.{Fits, Serves, ServesAtOnce, Stores, IsKept, AreKept, IsHandledKeeping, IsHandledBeside, IsHandledAtDesk, IsHandledByDesk, IsHandledWithGoals, IsHandledByObservation, IsHandledAtPlace, IsHandledByGoals, IsReadAtPlace, AddsEntry, HasAddedDerivation, IsHandled, is_fault}
+use Rattle.handlers.specs.Handling.{Fits, Serves, ServesAtOnce, Stores, IsKept, AreKept, IsHandledKeeping, IsHandledBeside, IsHandledAtDesk}
+use Rattle.handlers.specs.Handling.{IsHandledByDesk, IsHandledWithGoals, IsHandledByObservation, IsHandledAtPlace, IsHandledByGoals, IsReadAtPlace}
+use Rattle.handlers.specs.Handling.{AddsEntry, HasAddedDerivation, IsHandled, is_fault}
 use Rattle.handlers.proofs.DeskLemmas.{sound_kept}
 use Rattle.handlers.proofs.DerivationLemmas.{derivation_read}
 use Rattle.store.proofs.TableLemmas.{put_once-Extends, put_once-All, found_holds}
@@ -41,7 +43,9 @@ use Rattle.handlers.proofs.WorldLemmas.{desk_found}
 use Rattle.handlers.proofs.GoalLemmas.{goals_kept, all_goals_kept, goals_sound_at, beside_elsewhere, beside_here, goals_put_back}
 use Rattle.handlers.specs.Supported.{AreSupportedOn, GainsOnly}
 use Rattle.handlers.proofs.SupportLemmas.{gains_nothing, still_supported, supported_set}
-use Rattle.handlers.proofs.StepLemmas.{either_way, on_ok_any, on_err_any, kept_sound, kept_later, kept_desk, source_hashed, source_at_once, derivation_at_once, fetch_at_once, step_unknown, step_at_once, step_no_memory, TakesMemory, may_lack, told_result, refused_result, world_kept}
+use Rattle.handlers.proofs.StepLemmas.{either_way, on_ok_any, on_err_any, kept_sound, kept_later, kept_desk, source_hashed, source_at_once}
+use Rattle.handlers.proofs.StepLemmas.{derivation_at_once, fetch_at_once, step_unknown, step_at_once, step_no_memory, TakesMemory, may_lack}
+use Rattle.handlers.proofs.StepLemmas.{told_result, refused_result, world_kept}
 
 -- ---- all events
 

@@ -12,7 +12,8 @@ use Rattle.trust.proofs.PlaceLemmas.{place_found}
 use Rattle.realise.specs.Holdings.{Holdings}
 use Rattle.handlers.specs.declared.state.State.{State}
 use Rattle.handlers.specs.Parts.{Parts, goals_of}
-use Rattle.handlers.specs.Handling.{IsHandled, IsHandledByAll, IsHandledAtDesk, IsHandledByDesk, IsHandledByTrust, IsReadAtPlace, IsHandledByObservation, IsHandledAtPlace, IsHandledByGoals, IsHandledByAllGoals}
+use Rattle.handlers.specs.Handling.{IsHandled, IsHandledByAll, IsHandledAtDesk, IsHandledByDesk, IsHandledByTrust, IsReadAtPlace}
+use Rattle.handlers.specs.Handling.{IsHandledByObservation, IsHandledAtPlace, IsHandledByGoals, IsHandledByAllGoals}
 use Rattle.trust.proofs.UsersLemmas.{distinct_users}
 use Rattle.handlers.proofs.HandlingLemmas.{Asks, at_desk, by_desk, by_reading, by_observation, at_place, by_goals, parts_with}
 use Rattle.handlers.specs.Runs.{IsRun}
