@@ -2,7 +2,6 @@
 use denote.Param.Send.{IsSend, IsSync, sendable, view_send}
 use denote.Param.SendFields.{declared_send, declared_sync, variants_send}
 use Rattle.std.proofs.Crossing.{crosses}
-use Rattle.std.proofs.Crossing as heap
 use Rattle.nar.proofs.node.Node.TheLaws.TheKnot.{both_send-Node, both_sync-Node}
 use Rattle.nar.specs.contracts.tree.Tree as Tree
 use Rattle.model.specs.contracts.refusal.Refusal as Refusal
@@ -122,7 +121,7 @@ event_send = search (sendable, crosses, tree_send, path_send) depth 60 fits 5000
 event_sync : IsSync Event.the_row
 event_sync = search (sendable, crosses, tree_sync, path_sync) depth 60 fits 5000
 
-reply_send : IsSend Reply.the_row
+pub reply_send : IsSend Reply.the_row
 reply_send = search (sendable, crosses, tree_send, path_send, closure_send) depth 60 fits 5000
 
 reply_sync : IsSync Reply.the_row

@@ -1,13 +1,19 @@
 -- A core that takes an event in the place of another one that is the same.
-use Rattle.std.proofs.Common.{◌≡◌, ℕ, List, false, refl, sym, ◌∙◌, subst, Result, Ok, Err}
-use Rattle.std.specs.Prelude.{OnOk}
-use Rattle.model.specs.Worlds.{Setup, World}
-use Rattle.model.specs.Events.{Event}
+use Rattle.std.proofs.Common.{◌≡◌, ℕ, Bool, List, true, false, refl, sym, ◌∙◌, subst, Result, Ok, Err}
+use Rattle.std.specs.Prelude.{OnOk, MatchBool, ◌||◌}
+use Rattle.std.specs.Global.{Global}
+use Rattle.std.specs.declared.sync.Arc.{Arc}
+use Rattle.model.specs.Worlds.{Setup, World, Source}
+use Rattle.model.specs.Events.{Event, Request, Fetch, Closure, Status, is_query}
+use Rattle.model.specs.Laws.{QueriesChangeNothing}
 use Rattle.model.specs.Replies.{Reply, Refused, is_memory, is_clash, is_refused}
 use Rattle.model.specs.Steps.{after}
 use Rattle.handlers.specs.Parts.{IsStep, stored_after}
+use Rattle.handlers.specs.Stored.{stored_by}
+use Rattle.store.specs.Stored.{put_all}
+use Rattle.events.specs.Terms.{reply_of}
 use Rattle.schedule.specs.declared.state.Core.{Core}
-use Rattle.schedule.specs.Standing.{world_of, HasHashed, IsUnchanged}
+use Rattle.schedule.specs.Standing.{world_of, setup_of, stored_in, HasHashed, IsUnchanged}
 use Rattle.schedule.specs.Stepping.{IsCoreStep, HasStepped}
 use Rattle.schedule.proofs.RunLemmas.{hashed_kept}
 use Rattle.schedule.proofs.HeldLemmas.{swept_alike}
@@ -15,7 +21,8 @@ use Rattle.history.specs.Histories.{event_in}
 use Rattle.std.specs.Arc.{arc_value}
 use Rattle.cores.specs.declared.lag.Lag.{Lag}
 use Rattle.cores.specs.declared.lag.Lag.TheVariants.{Nothing, Row, Sweep, Unknown}
-use Rattle.cores.specs.Turns.{Behind, HasTaken, IsSwept, CatchesUp}
+use Rattle.cores.specs.Turns.{Behind, HasTaken, IsSwept, CatchesUp, changes_nothing}
+use Rattle.history.specs.declared.row.Row as rows
 
 -- ---- nothing changed
 
@@ -140,3 +147,38 @@ has_taken old new event reply stepped some = record {
   world = (stepped.step.step (no_memory reply some) (no_clash reply some)).world;
   stored = stepped.stored some;
 }
+
+-- ---- what changes nothing
+
+-- a query stores nothing
+stores_nothing : (setup : Setup) (w : World) (u : List ℕ) (request : Request) (sources : List Source) → is_query request ≡ true
+    → put_all (stored_by setup w u request) sources ≡ sources
+stores_nothing setup w u (Fetch path) sources asks = refl
+stores_nothing setup w u (Closure class) sources asks = refl
+stores_nothing setup w u (Status n) sources asks = refl
+stores_nothing setup w u request sources asks = absurd (cc)
+
+-- a core that took a query which was not refused is as it was
+query_taken : (old new : Core) (event : Event) → QueriesChangeNothing → is_query event.request ≡ true → HasTaken old event new → IsUnchanged old new
+query_taken old new event queries asks taken = record {
+  setup = taken.setup;
+  world = taken.world ∙ queries (setup_of old) (world_of old) event asks;
+  stored = taken.stored ∙ stores_nothing (setup_of old) (world_of old) event.actor event.request (stored_in old) asks;
+}
+
+-- what a core lacks of one that took an event, where that was refused or is a query, and where it is neither
+lacks_by : (lag lacked : Lag) (old new : Core) (event : Event) (reply : Reply) (refused asks : Bool) → is_refused reply ≡ refused → is_query event.request ≡ asks
+    → QueriesChangeNothing → HasStepped old event reply new → (HasTaken old event new → Behind lacked old new)
+    → MatchBool (refused || asks) (lag ≡ Nothing) (lag ≡ lacked) → Behind lag old new
+lacks_by lag lacked old new event reply true asks is_it is queries stepped lacks lag_is = subst (λ (l : Lag). Behind l old new) (sym lag_is) (stepped.step.refused is_it)
+lacks_by lag lacked old new event reply false true is_it is queries stepped lacks lag_is =
+    subst (λ (l : Lag). Behind l old new) (sym lag_is) (query_taken old new event queries is (has_taken old new event reply stepped is_it))
+lacks_by lag lacked old new event reply false false is_it is queries stepped lacks lag_is =
+    subst (λ (l : Lag). Behind l old new) (sym lag_is) (lacks (has_taken old new event reply stepped is_it))
+
+-- a core lacks nothing of one that took the event of a row which changes nothing, and else that event
+pub behind_after : (lag : Lag) (row : Arc rows.Row Global) (old new : Core) → QueriesChangeNothing
+    → HasStepped old (event_in (arc_value row)) (reply_of (arc_value row).reply) new
+    → MatchBool (changes_nothing (arc_value row)) (lag ≡ Nothing) (lag ≡ Row row) → Behind lag old new
+behind_after lag row old new queries stepped lag_is =
+    lacks_by lag (Row row) old new (event_in (arc_value row)) (reply_of (arc_value row).reply) _ _ refl refl queries stepped (λ taken. taken) lag_is

@@ -1,7 +1,9 @@
 -- A core that takes an event, and what one core lacks of another.
-use Rattle.std.specs.Prelude.{◌≡◌}
+use Rattle.std.specs.Prelude.{◌≡◌, ◌||◌, Bool}
 use Rattle.std.specs.Arc.{arc_value}
 use Rattle.model.specs.Events as events
+use Rattle.model.specs.Events.{is_query}
+use Rattle.model.specs.Replies.{is_refused}
 use Rattle.model.specs.Steps.{after}
 use Rattle.store.specs.Stored.{kept_at}
 use Rattle.handlers.specs.Parts.{stored_after}
@@ -13,6 +15,7 @@ use Rattle.schedule.specs.Standing.{world_of, setup_of, stored_in, IsUnchanged}
 use Rattle.schedule.specs.Stepping.{IsCoreStep}
 use Rattle.schedule.specs.Sweeping.{is_held}
 use Rattle.history.specs.Histories.{event_in}
+use Rattle.history.specs.declared.row.Row as rows
 use Rattle.cores.specs.declared.lag.Lag.{Lag}
 use Rattle.cores.specs.declared.lag.Lag.TheVariants.{Nothing, Row, Sweep, Unknown}
 
@@ -36,6 +39,10 @@ pub record IsSwept (old new : Core) : Type 0 where
   pub setup : setup_of new ≡ setup_of old
   pub world : world_of new ≡ world_of old
   pub stored : stored_in new ≡ kept_at (is_held old) (stored_in old)
+
+-- a core that took the event of a row is as it was: the event was refused, or asks for what is there
+abbrev pub changes_nothing : rows.Row → Bool
+changes_nothing row = is_refused (reply_of row.reply) || is_query (event_in row).request
 
 -- a core is as another one will be that takes what it lacks
 abbrev pub Behind : Lag → Core → Core → Type 0

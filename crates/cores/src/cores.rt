@@ -4,18 +4,21 @@ ghost use Rattle.std.specs.Prelude.{◌≡◌, [], true, false, IfOk, IfErr, IfS
 ghost use Rattle.std.specs.Arc.{arc_value};
 ghost use Rattle.model.specs.declared.refusal.Refusal.TheVariants.{Memory};
 ghost use Rattle.model.specs.Worlds.{nothing};
+ghost use Rattle.model.specs.Events.{is_query};
 ghost use Rattle.model.specs.Replies.{is_refused};
-ghost use Rattle.events.specs.Terms.{reply_of};
+ghost use Rattle.events.specs.Terms.{reply_of, request_of};
 ghost use Rattle.events.specs.declared.reply.Reply.TheVariants.{Refused};
 ghost use Rattle.schedule.specs.Standing.{world_of, setup_of, stored_in, HasHashed, IsUnchanged};
 ghost use Rattle.schedule.specs.Sweeping.{is_held};
 ghost use Rattle.store.specs.Stored.{kept_at};
 ghost use Rattle.history.specs.Histories.{row, event_in, unrecorded};
-ghost use Rattle.cores.specs.Turns.{HasTaken, IsSwept, CatchesUp, Steps, TookEvent};
+ghost use Rattle.cores.specs.Turns.{HasTaken, IsSwept, CatchesUp, Steps, TookEvent, changes_nothing};
 ghost use Rattle.cores.specs.declared.lag.Lag.TheVariants.{Nothing, Row as LackedRow};
 
 use crate::lag::Lag;
+use events::Request;
 use history::Row;
+use laws::queries_change_nothing;
 use model::Refusal;
 use schedule::{Core, Event, Ready, Reply};
 use std::alloc::{AllocError, Global};
@@ -111,11 +114,21 @@ fn complete(draft: &mut Arc<Row>, reply: Reply) -> Option<Arc<Row>>
     Arc::try_clone(draft).ok()
 }
 
-/// What a core lacks of one that took the event of a row.
-fn lag_after(reply: &Reply, row: Arc<Row>) -> Lag
-    ensures { MatchBool (is_refused (reply_of reply.now)) (result ≡ Nothing) (result ≡ LackedRow row) }
+/// Whether an event changes nothing that there is, whatever its reply.
+fn is_query(event: &Event) -> bool
+    ensures { result ≡ is_query (request_of event.now.request) }
 {
-    if is_refused(reply) {
+    matches!(
+        event.request,
+        Request::Fetch(_) | Request::Closure(_) | Request::Status(_)
+    )
+}
+
+/// What a core lacks of one that took the event of a row: nothing where that was refused, or changes nothing.
+fn lag_after(row: Arc<Row>) -> Lag
+    ensures { MatchBool (changes_nothing (arc_value row)) (result ≡ Nothing) (result ≡ LackedRow row) }
+{
+    if is_refused(&row.reply) || is_query(&row.event) {
         Lag::Nothing
     } else {
         Lag::Row(row)
@@ -274,6 +287,7 @@ impl Cores {
             mut draft,
             mut ready,
         } = asked;
+        queries_change_nothing();
         bring_up(alloc, other, lag, made)?;
         let Some(core) = Arc::get_mut(other) else {
             return Err(Refusal::Memory);
@@ -290,7 +304,7 @@ impl Cores {
             *lag = Lag::Unknown;
             return Ok(None);
         };
-        *lag = lag_after(&reply, row);
+        *lag = lag_after(row);
         Ok(Some((reply, draft)))
     }
 
