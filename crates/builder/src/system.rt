@@ -16,7 +16,7 @@ use std::{fs, io};
 const MOST_TRIES: u32 = 1_000;
 
 /// How much is read of an output at once.
-const PIECE: usize = 65_536;
+const PIECE: usize = 16_384;
 
 /// Reads. A call that a signal interrupts is made again.
 fn read_again<R: Read>(reader: &mut R, buffer: &mut [u8]) -> io::Result<usize>
