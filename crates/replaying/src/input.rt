@@ -1,6 +1,6 @@
 //! Running the lines of one input.
 
-ghost use Rattle.std.specs.Prelude.{◌≡◌, ◌≤◌, ◌⊎◌, [], true, OnOk, IfErr};
+ghost use Rattle.std.specs.Prelude.{◌≡◌, ◌≤◌, ◌⊎◌, [], OnOk, IfErr};
 ghost use Rattle.model.specs.Limits.{most_charge};
 ghost use Rattle.model.specs.Worlds.{nothing};
 ghost use Rattle.schedule.specs.Standing.{setup_of, world_of, stored_in};

@@ -1,7 +1,7 @@
 //! The passes of a front, given to the sessions of files and to their workers, and given back.
 
 ghost use Rattle.std.specs.Prelude.{◌≡◌, ◌+◌, ◌++◌, ◌∷◌, [], length, map, IfOk, IfErr};
-ghost use Rattle.model.specs.declared.refusal.Refusal.TheVariants.{Memory, Quota};
+ghost use Rattle.model.specs.declared.refusal.Refusal.TheVariants.{Quota};
 ghost use Rattle.history.specs.Callers.{new_pass};
 ghost use Rattle.teams.specs.Sessions.{CannotBegin};
 ghost use Rattle.running.specs.Meeting.{IsNew};

@@ -1,6 +1,6 @@
 //! Writing the text of a tree.
 
-ghost use Rattle.std.specs.Prelude.{◌≡◌, ◌++◌, OnOk, IfOk, IfErr, Bool, true, length};
+ghost use Rattle.std.specs.Prelude.{◌≡◌, ◌++◌, OnOk, IfOk, IfErr, true};
 ghost use Rattle.hex.specs.Hex.{encode_lower};
 ghost use Rattle.model.specs.Archives.{File, Link, Directory};
 ghost use Rattle.model.specs.TreeTexts.{tree_text_of, entries_text_of, separator, file_mark as mark_of_file};
@@ -26,9 +26,19 @@ pub fn tree_text(alloc: Global, tree: &Tree) -> Result<Vec<u8>, Refusal>
     ensures text { IfOk result (λ text. text.items ≡ tree_text_of tree.now) }
     ensures memory { IfErr result (λ why. why ≡ Memory) }
 {
-    let mut text = Vec::with_capacity(alloc, text_len(tree.node()))?;
-    write_node(&mut text, tree.node())?;
+    let mut text = Vec::new(alloc);
+    add_tree_text(&mut text, tree)?;
     Ok(text)
+}
+
+/// Adds the tree text of a tree, as [`tree_text`] gives it, behind a text. Memory is taken once, with room for one
+/// byte more behind it. The error is want of memory.
+pub fn add_tree_text(text: &mut Vec<u8>, tree: &Tree) -> Result<(), AllocError>
+    ensures { OnOk result (text.new.items ≡ text.old.items ++ tree_text_of tree.now) }
+{
+    let len = text_len(tree.node());
+    text.reserve_exact(len.saturating_add(1))?;
+    write_node(text, tree.node())
 }
 
 #[cycle(node_text)]
