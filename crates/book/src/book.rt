@@ -1,10 +1,9 @@
 //! What lies under the lock.
 
-ghost use Rattle.std.specs.Prelude.{◌≡◌, ◌≢◌, ◌+◌, ◌++◌, ◌<◌, ◌∷◌, ◌⊎◌, [], length, vec_len, map, sum, All, true, false, OnOk, OnErr, IfOk, IfErr, Err};
+ghost use Rattle.std.specs.Prelude.{◌≡◌, ◌≢◌, ◌++◌, ◌<◌, ◌∷◌, ◌⊎◌, [], length, vec_len, map, sum, All, true, false, OnOk, OnErr, IfOk, IfErr, Err};
 ghost use Rattle.std.specs.Vec.{vec_capacity};
 ghost use Rattle.std.specs.Arc.{arc_value};
 ghost use mathlib.Core.List.{IsPrefix};
-ghost use Rattle.model.specs.Worlds.{nothing};
 ghost use Rattle.model.specs.declared.refusal.Refusal.TheVariants.{Memory, Stopped};
 ghost use Rattle.schedule.specs.Standing.{world_of, setup_of, stored_in};
 ghost use Rattle.jobs.specs.Asking.{IsAnswerTo};

@@ -109,7 +109,7 @@ fn passes_of<J: FrontId>(
         let caller = Caller::new(number, calls, tally.log.next_claim());
         let repaired = core.cache_for(alloc, most, most_bytes)?;
         let account = Account { caller, stops };
-        passes.push(Pass::new(account, none.clone(), reader, repaired, alloc))?;
+        passes.push(Pass::new(account, none.clone(), reader, repaired, most_bytes, alloc))?;
     }
     Ok(passes)
 }

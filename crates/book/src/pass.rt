@@ -1,26 +1,27 @@
 //! The callers of a front, with what they have seen.
 
-ghost use Rattle.std.specs.Prelude.{◌≡◌, ◌≢◌, ◌<◌, [], true, false, length, IfOk, IfErr, IfSome, Err, MatchBool};
+ghost use Rattle.std.specs.Prelude.{◌≡◌, ◌≢◌, ◌<◌, ℕ, [], true, false, length, IfOk, IfErr, IfSome, Err, MatchBool};
 ghost use mathlib.Core.List.{IsPrefix};
 ghost use Rattle.left_right.specs.Sides.{view};
 ghost use Rattle.model.specs.declared.refusal.Refusal.TheVariants.{Memory, Stopped};
 ghost use Rattle.events.specs.declared.reply.Reply.TheVariants.{Refused};
 ghost use Rattle.schedule.specs.Queries.{event_for};
 ghost use Rattle.history.specs.Callers.{knowing, rows_of, seeing};
-ghost use Rattle.history.specs.Histories.{row, unrecorded, IsLegal, IsReadAfter};
+ghost use Rattle.history.specs.Histories.{row, unrecorded, IsReadAfter};
 ghost use Rattle.events.specs.Terms.{event_of};
-ghost use Rattle.publishing.specs.Following.{FindsRead, IsNeedAfter, IsPreparedAfter};
-ghost use Rattle.publishing.specs.FrontNames.{name_of, book_in, setup_in};
+ghost use Rattle.publishing.specs.Following.{IsNeedAfter, IsPreparedAfter};
+ghost use Rattle.publishing.specs.FrontNames.{name_of};
 ghost use Rattle.publishing.specs.Tied.{knower};
 ghost use Rattle.book.specs.Applying.{IsApplied, HasCalled};
 ghost use Rattle.book.specs.Asking.{HasAsked};
 
 use crate::book::Book;
 use crate::counts::Account;
+use crate::last_closure::{LastClosure, closure_query};
 use history::{FrontId, HistoryPrefix, is_unrecorded};
 use laws::{isolation, kept_closures_are_good, timed_isolation};
 use model::Refusal;
-use publishing::{SnapshotReader, insist, look, need};
+use publishing::{SnapshotReader, insist, look, need, published_rows};
 use schedule::{
     Cache, Event, Preparation, PrepareInput, Query, ReadResult, Ready, Reply, RunningJob, User,
 };
@@ -37,6 +38,9 @@ pub struct Pass<J: FrontId> {
     reader: SnapshotReader,
     /// Records that were repaired for what it read and prepared.
     repaired: Cache,
+    /// The closure that it read last, if it keeps it, whose archives have no more than `most_bytes` bytes.
+    last: Option<LastClosure<J>>,
+    most_bytes: u32,
     alloc: Global,
 }
 
@@ -48,6 +52,8 @@ impl<J: FrontId> Drop for Pass<J> {
             seen: _,
             reader: _,
             repaired: _,
+            last: _,
+            most_bytes: _,
             alloc: _,
         } = self;
     }
@@ -101,6 +107,7 @@ impl<J: FrontId> Pass<J> {
         seen: HistoryPrefix,
         reader: SnapshotReader,
         repaired: Cache,
+        most_bytes: u32,
         alloc: Global,
     ) -> Pass<J>
         requires caller { account.caller.sure ≡ [] }
@@ -115,6 +122,8 @@ impl<J: FrontId> Pass<J> {
             seen,
             reader,
             repaired,
+            last: None,
+            most_bytes,
             alloc,
         }
     }
@@ -161,10 +170,32 @@ impl<J: FrontId> Pass<J> {
         true
     }
 
-    /// Answers a query as [`Pass::read`] does, and leaves the records that it repaired.
+    /// The closure that it read last, if a query asks for it again, and no row was published since.
+    fn read_again(&mut self, query: &Query) -> Option<Reply>
+        ensures read { IfSome result (λ reply.
+            IsReadAfter J.setup self.old.caller.number self.old.seen (event_for query.now) reply) }
+        ensures going { IfSome result (λ reply. reply ≢ Refused Stopped) }
+        ensures same { self.new ≡ self.old }
+    {
+        let Pass {
+            seen,
+            reader,
+            last,
+            alloc,
+            ..
+        } = self;
+        let last = last.as_mut()?;
+        let rows = published_rows(reader)?;
+        if rows.len() != seen.len() {
+            return None;
+        }
+        last.read_again(*alloc, query, seen)
+    }
+
+    /// Answers a query as [`Pass::read`] does, and leaves the records that it repaired. Whoever asks gets this reply.
     fn read_once(&mut self, query: Query) -> Reply
-        ensures read { unrecorded result ≡ false
-            → IsReadAfter J.setup self.old.caller.number self.new.seen (event_for query) result }
+        ensures read { unrecorded result ≡ false → (number : ℕ)
+            → IsReadAfter J.setup number self.new.seen (event_for query) result }
         ensures seen { IsPrefix self.old.seen self.new.seen }
         ensures same { self.new ≡ seeing self.old self.new.seen }
         ensures going { result ≢ Refused Stopped }
@@ -185,7 +216,9 @@ impl<J: FrontId> Pass<J> {
     /// answered calls among them, and are what it has seen then; with the query as one row more they are
     /// a legal history. It takes no lock, and waits for nobody; and nobody waits for it while the records of
     /// a closure are repaired. Those that it repaired last are kept, for as long as the pass lives and memory is
-    /// not refused to it. The reply is 90 `Memory` where memory was refused, and never 92 `Stopped`.
+    /// not refused to it. So is the closure that it read last, unless it is large or the pass makes a call: as long as no
+    /// row is published it is given again, with its text from the second time on. The reply is 90 `Memory` where memory was
+    /// refused, and never 92 `Stopped`.
     pub fn read(&mut self, query: Query) -> Reply
         ensures read { unrecorded result ≡ false
             → IsReadAfter J.setup self.old.caller.number self.new.seen (event_for query) result }
@@ -193,8 +226,17 @@ impl<J: FrontId> Pass<J> {
         ensures same { self.new ≡ seeing self.old self.new.seen }
         ensures going { result ≢ Refused Stopped }
     {
+        if let Some(reply) = self.read_again(&query) {
+            return reply;
+        }
+        let asked = closure_query(&query);
         let reply = self.read_once(query);
         let_go_after(&mut self.repaired, &reply);
+        if let Some(asked) = asked {
+            self.last = LastClosure::new(asked, &reply, &self.seen, self.most_bytes);
+        } else if is_unrecorded(&reply) {
+            self.last = None;
+        }
         reply
     }
 
@@ -252,6 +294,7 @@ impl<J: FrontId> Pass<J> {
         let made = self.prepare_once(event);
         if made.is_err() {
             self.repaired.empty();
+            self.last = None;
         }
         made
     }
@@ -313,6 +356,8 @@ impl<J: FrontId> Pass<J> {
             seen,
             reader: _reader,
             repaired: _,
+            last: _,
+            most_bytes: _,
             alloc: _,
         } = self;
         insist(rt, seen.begins(rows));
@@ -363,8 +408,10 @@ impl<J: FrontId> Book<J> {
             sure,
             seen,
             repaired,
+            last,
             ..
         } = pass;
+        *last = None;
         insist(rt, seen.begins(&self.seen()));
         let reply = self.answer(rt, alloc, account, event, ready);
         *seen = self.seen();

@@ -3,7 +3,7 @@
 //! - `# TEXT` is printed as it is.
 //! - `CALL ARGUMENT` runs a call.
 
-use crate::{sweeps, values};
+use crate::{passes, sweeps, values};
 use model::Refusal;
 use std::alloc::Global;
 use std::hash::RandomState;
@@ -25,6 +25,7 @@ pub(crate) fn answer_line<R: Wait>(
             Ok(())
         }
         "sweeps" => sweeps::sweeps(rt, alloc, hashing, argument, out),
+        "passes" => passes::passes(rt, alloc, hashing, argument, out),
         "made_unprepared" => values::committed(rt, alloc, hashing, argument, out),
         "made_prepared" => values::prepared(rt, alloc, hashing, argument, out),
         _ => Err(Refusal::BadLine),

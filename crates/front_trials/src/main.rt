@@ -7,6 +7,7 @@
 
 mod calls;
 mod committing;
+mod passes;
 mod sweeps;
 mod values;
 

@@ -38,7 +38,7 @@ fn tell_lines<J: FrontId, R: Wait>(
 ) -> Result<(), Refusal> {
     let mut session = Session::new(alloc, Mode::Service);
     for line in lines.split(';') {
-        out.add_bytes(&session.line(alloc, line.as_bytes(), store)?);
+        out.add_bytes(&session.line(alloc, line.as_bytes(), store)?.into_bytes()?);
         sweep_once(alloc, store, out)?;
     }
     Ok(())

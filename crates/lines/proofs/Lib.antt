@@ -5,3 +5,4 @@ pub mod EntryLemmas
 pub mod FillLemmas
 pub mod OutputLemmas
 pub mod CommandLemmas
+pub mod PrintedLemmas

@@ -1,7 +1,6 @@
 //! What a line asks for its user.
 
-ghost use Rattle.std.specs.Prelude.{◌≡◌, ◌∷◌, [], length, IfOk, IfErr, MatchResult, option_map};
-ghost use Rattle.model.specs.declared.refusal.Refusal.TheVariants.{Memory};
+ghost use Rattle.std.specs.Prelude.{◌≡◌, ◌∷◌, [], length, IfOk, MatchResult, option_map};
 ghost use Rattle.model.specs.declared.verb.Verb.TheVariants as verbs;
 ghost use Rattle.model.specs.declared.verb.WordKind.TheVariants as kinds;
 ghost use Rattle.model.specs.Verbs.{kinds_of, verb_in};

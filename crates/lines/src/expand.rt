@@ -1,7 +1,7 @@
 //! The expansions of a line.
 
-ghost use Rattle.std.specs.Prelude.{◌≡◌, ◌∷◌, ◌++◌, [], IfOk, OnOk, MatchOption, if◌then◌else◌, option_map, slice_index_or};
-ghost use Rattle.model.specs.Lines.{named_line, is_letter, expansion_in, nothing_told, told_by, part_by, expanded, expanded_piece, joined_texts, filled};
+ghost use Rattle.std.specs.Prelude.{◌≡◌, ◌++◌, IfOk, OnOk, MatchOption, if◌then◌else◌, option_map, slice_index_or};
+ghost use Rattle.model.specs.Lines.{named_line, is_letter, expansion_in, nothing_told, told_by, part_by, expanded_piece, joined_texts, filled};
 
 use crate::cutting::cut;
 use crate::line_result::LineResult;

@@ -13,6 +13,7 @@ mod line_result;
 mod numbers;
 mod parsing;
 mod pieces;
+mod printed;
 mod texts;
 mod words;
 
@@ -20,4 +21,5 @@ pub use cutting::cut;
 pub use line::Reading;
 pub use line_result::{LineResult, told_in};
 pub use parsing::read_line;
-pub use texts::answer_text;
+pub use printed::Printed;
+pub use texts::{answer_text, printed_answer, with_text};

@@ -1,6 +1,6 @@
 //! The text of replies.
 
-ghost use Rattle.std.specs.Prelude.{◌≡◌, ◌++◌, ◌∷◌, [], OnOk, IfOk, IfErr, codes};
+ghost use Rattle.std.specs.Prelude.{◌≡◌, ◌++◌, ◌∷◌, [], OnOk, IfOk, IfErr, IfSome, codes};
 ghost use Rattle.model.specs.declared.refusal.Refusal.TheVariants.{Memory};
 ghost use Rattle.model.specs.Replies as replies;
 ghost use Rattle.model.specs.Talk.{job_text, status_text, reply_text, answer_text};
@@ -9,13 +9,14 @@ ghost use Rattle.events.specs.Terms.{reply_of};
 
 use crate::entries::add_entries;
 use crate::pieces::{add, add_number};
+use crate::printed::Printed;
 use events::{Job, Reply, Status};
-use model::Refusal;
+use model::{Refusal, SharedBytes};
 use nar::Tree;
 use records::Entry;
 use std::alloc::{AllocError, Global};
 use storepath::StorePath;
-use tree_text::tree_text;
+use tree_text::add_tree_text;
 
 /// Adds that a goal is built, and its job, by its leader and the number of his goal.
 fn add_job(alloc: Global, text: &mut Vec<u8>, job: &Job) -> Result<(), AllocError>
@@ -48,15 +49,13 @@ fn add_derivation(text: &mut Vec<u8>, path: &StorePath, class: &StorePath) -> Re
     add(text, b" class ", class.bytes())
 }
 
-/// Adds a tree.
-fn add_tree(alloc: Global, text: &mut Vec<u8>, tree: &Tree) -> Result<(), AllocError>
+/// Adds a tree. Then there is room for a newline behind it.
+fn add_tree(text: &mut Vec<u8>, tree: &Tree) -> Result<(), AllocError>
     ensures { OnOk result
         (text.new.items ≡ text.old.items ++ reply_text (replies.Tree tree.now)) }
 {
-    match tree_text(alloc, tree) {
-        Ok(words) => add(text, b"tree ", words.as_slice()),
-        Err(_) => Err(AllocError),
-    }
+    text.extend_from_slice(b"tree ")?;
+    add_tree_text(text, tree)
 }
 
 /// Adds how many entries a closure has, and the entries.
@@ -85,7 +84,7 @@ fn add_reply(alloc: Global, text: &mut Vec<u8>, reply: &Reply) -> Result<(), All
         Reply::Ok => text.extend_from_slice(b"ok"),
         Reply::Path(path) => add(text, b"path ", path.bytes()),
         Reply::Derivation { path, class } => add_derivation(text, path, class),
-        Reply::Tree(tree) => add_tree(alloc, text, tree),
+        Reply::Tree(tree) => add_tree(text, tree),
         Reply::Closure(closure) => add_closure(alloc, text, closure.entries()),
         Reply::Goal(number) => add_number(alloc, text, b"goal ", usize::from(*number)),
         Reply::Status(status) => add_status(alloc, text, status),
@@ -127,4 +126,68 @@ pub fn answer_text(
     let mut text = number.to_string(alloc)?.into_bytes();
     add_answer(alloc, &mut text, actor, reply)?;
     Ok(text)
+}
+
+/// The text that is printed for a closure. The one error is memory.
+fn closure_text(alloc: Global, entries: &[Entry]) -> Result<SharedBytes, AllocError>
+    ensures { IfOk result (λ text. text ≡ reply_text (replies.Closure entries.now)) }
+{
+    let mut text = Vec::new(alloc);
+    add_closure(alloc, &mut text, entries)?;
+    SharedBytes::from_vec(text)
+}
+
+/// The same reply; a closure has its text then, so that [`printed_answer`] need not make it again.
+///
+/// # Errors
+///
+/// - `Memory` only where memory was refused.
+pub fn with_text(alloc: Global, reply: Reply) -> Result<Reply, Refusal>
+    ensures same { IfOk result (λ same. same ≡ reply) }
+    ensures memory { IfErr result (λ why. why ≡ Memory) }
+{
+    let Reply::Closure(closure) = &reply else {
+        return Ok(reply);
+    };
+    if closure.text().is_some() {
+        return Ok(reply);
+    }
+    let text = closure_text(alloc, closure.entries())?;
+    Ok(Reply::Closure(closure.clone()?.with_text(text)))
+}
+
+/// The text of a closure, if it was made. The one error is memory.
+fn text_in(reply: &Reply) -> Result<Option<SharedBytes>, AllocError>
+    ensures { IfOk result (λ found. IfSome found (λ text. text ≡ reply_text (reply_of reply.now))) }
+{
+    let Reply::Closure(closure) = reply else {
+        return Ok(None);
+    };
+    match closure.text() {
+        Some(text) => Ok(Some(text.clone()?)),
+        None => Ok(None),
+    }
+}
+
+/// What is printed for a line, as [`answer_text`] gives it. The text of a closure that was made before is not copied.
+///
+/// # Errors
+///
+/// - `Memory` only where memory was refused.
+pub fn printed_answer(
+    alloc: Global,
+    number: usize,
+    actor: &[u8],
+    reply: &Reply,
+) -> Result<Printed, Refusal>
+    ensures text { IfOk result (λ printed. printed ≡ answer_text number actor.now (reply_of reply.now)) }
+    ensures memory { IfErr result (λ why. why ≡ Memory) }
+{
+    let Some(made) = text_in(reply)? else {
+        return Ok(Printed::of_text(answer_text(alloc, number, actor, reply)?));
+    };
+    let mut text = number.to_string(alloc)?.into_bytes();
+    add(&mut text, b" ", actor)?;
+    text.extend_from_slice(b" ")?;
+    Ok(Printed::with_rest(text, made))
 }

@@ -1,10 +1,9 @@
 //! Publishing, and looking at what is published.
 
-ghost use Rattle.std.specs.Prelude.{◌≡◌, [], drop, fold, true, false, IfSome, IfOk, IfErr, MatchBool};
+ghost use Rattle.std.specs.Prelude.{◌≡◌, [], drop, fold, true, false, IfSome, IfOk, MatchBool};
 ghost use Rattle.left_right.specs.Sides.{view};
 ghost use Rattle.schedule.specs.Queries.{event_for};
 ghost use Rattle.history.specs.Histories.{IsLegal};
-ghost use Rattle.model.specs.declared.refusal.Refusal.TheVariants.{Memory};
 ghost use Rattle.events.specs.Terms.{event_of};
 ghost use Rattle.publishing.specs.ReadResults.{IsFoundAfter, IsFoundNeeded};
 ghost use Rattle.publishing.specs.FrontNames.{book_in, setup_in};
@@ -52,6 +51,30 @@ pub fn look(reader: &mut SnapshotReader, query: Query) -> Option<(ReadResult, Hi
         (λ t. IsFoundAfter (view reader.old.place).name (event_for query) t.0 t.1) }
 {
     replace_with(reader, query, enter_and_look)
+}
+
+/// Enters the snapshot that is published, and gives its rows.
+fn enter_and_see(reader: SnapshotReader, _nothing: ()) -> (SnapshotReader, Option<HistoryPrefix>)
+    requires { (view reader.place).knows ≡ true }
+    ensures view { view result.0.place ≡ view reader.place }
+    ensures book { IfSome result.1 (λ rows. rows.seen.book ≡ book_in (view reader.place).name) }
+{
+    match reader.enter_as::<Looks>() {
+        Ok(reading) => {
+            let rows = reading.get().seen();
+            (reading.leave(), Some(rows))
+        }
+        Err(reader) => (reader, None),
+    }
+}
+
+/// The rows that are published. It waits for nobody. There are none where the writer is gone.
+pub fn published_rows(reader: &mut SnapshotReader) -> Option<HistoryPrefix>
+    requires { (view reader.old.place).knows ≡ true }
+    ensures view { view reader.new.place ≡ view reader.old.place }
+    ensures book { IfSome result (λ rows. rows.seen.book ≡ book_in (view reader.old.place).name) }
+{
+    replace_with(reader, (), enter_and_see)
 }
 
 /// Enters the snapshot that is published, and finds what an event needs to be made there.

@@ -1,7 +1,7 @@
 //! Who publishes.
 
 ghost use Rattle.std.specs.Arc.{arc_value};
-ghost use Rattle.std.specs.Prelude.{◌≡◌, ◌+◌, ◌<◌, ◌++◌, ◌∷◌, [], drop, true, false, MatchBool};
+ghost use Rattle.std.specs.Prelude.{◌≡◌, ◌<◌, ◌++◌, ◌∷◌, [], drop, true, false, MatchBool};
 ghost use Rattle.history.specs.Histories.{IsLegal};
 ghost use Rattle.publishing.specs.FrontNames.{name_of, setup_in};
 ghost use Rattle.publishing.specs.Tied.{IsQuiet};

@@ -1,15 +1,17 @@
 //! The entries of closures.
 
-ghost use Rattle.std.specs.Prelude.{◌≡◌, option_copied, IfOk, MatchResult};
+ghost use Rattle.std.specs.Prelude.{◌≡◌, option_copied, IfOk, IfSome, MatchResult};
 ghost use Rattle.model.specs.declared.refusal.Refusal.TheVariants.{Memory};
 ghost use Rattle.model.specs.Worlds.{OfSource, OfRecord, path_of_entry};
 ghost use Rattle.model.specs.Closures.{class_of_entry, labels_of_entry, tree_of_entry};
+ghost use Rattle.model.specs.Replies as replies;
+ghost use Rattle.model.specs.Talk.{reply_text};
 ghost use Rattle.records.specs.DeskEntries.{entry_with};
 ghost use Rattle.records.specs.ClosureEntries.{is_entry_of};
 
 use crate::label::Label;
 use crate::realisation::{Realisation, Source};
-use model::Refusal;
+use model::{Refusal, SharedBytes};
 use nar::Tree;
 use std::alloc::AllocError;
 use std::marker::Model;
@@ -155,21 +157,27 @@ impl Clone for Entry {
     }
 }
 
-/// The entries of a closure. A copy shares them.
+/// The entries of a closure, and the text that is printed for them, where it was made. A copy shares both.
 pub struct Closure {
     entries: ArcSlice<Entry>,
+    text: Option<SharedBytes>,
 }
 
 impl Drop for Closure {
     fn drop(self) {
-        let Closure { entries: _ } = self;
+        let Closure {
+            entries: _,
+            text: _,
+        } = self;
     }
 }
 
 impl Model for Closure {
     ghost use Rattle.std.specs.Arc.{arc_slice_items};
     ghost use Rattle.std.specs.Coded.{coded_list};
-    ghost use Rattle.std.specs.Prelude.{List};
+    ghost use Rattle.std.specs.Prelude.{◌≡◌, List, IfSome};
+    ghost use Rattle.model.specs.Talk.{reply_text};
+    ghost use Rattle.model.specs.Replies as replies;
     ghost use Rattle.records.specs.Codes.{entry_code};
     ghost use Rattle.model.specs.Worlds.{Entry as EntryValue};
 
@@ -178,10 +186,12 @@ impl Model for Closure {
     ghost coded = { coded_list entry_code };
 
     ghost view = { λ c. arc_slice_items c.entries };
+
+    ghost invariant = { λ c. IfSome c.text (λ text. text ≡ reply_text (replies.Closure (arc_slice_items c.entries))) };
 }
 
 impl Closure {
-    /// A closure of these entries.
+    /// A closure of these entries, whose text is not made.
     ///
     /// # Errors
     ///
@@ -190,7 +200,29 @@ impl Closure {
         ensures { MatchResult result (λ made. made ≡ entries.items) (λ e. e ≡ Memory) }
     {
         let entries = ArcSlice::from_vec(entries)?;
-        Ok(Closure { entries })
+        Ok(Closure {
+            entries,
+            text: None,
+        })
+    }
+
+    /// The same closure with the text that is printed for it, so that it need not be made again.
+    pub fn with_text(self, text: SharedBytes) -> Closure
+        requires { text ≡ reply_text (replies.Closure self) }
+        ensures { result ≡ self }
+    {
+        let Closure { entries, text: _ } = self;
+        Closure {
+            entries,
+            text: Some(text),
+        }
+    }
+
+    /// The text that is printed for it, if it was made.
+    pub fn text(&self) -> Option<&SharedBytes>
+        ensures { IfSome result (λ text. text.now ≡ reply_text (replies.Closure self.now)) }
+    {
+        self.text.as_ref()
     }
 
     /// The entries, by path, then by the path of the class, with a class before a source.
@@ -201,14 +233,20 @@ impl Closure {
     }
 }
 
-/// The copy is equal, and shares the entries. It fails only where memory is refused.
+/// The copy is equal, and shares the entries and the text. It fails only where memory is refused.
 impl Clone for Closure {
     ghost use Rattle.std.specs.Prelude.{◌≡◌};
 
     ghost is_clone = { λ original copy. copy ≡ original };
 
     fn clone(&self) -> Result<Closure, AllocError> {
-        let entries = self.entries.clone()?;
-        Ok(Closure { entries })
+        let text = match &self.text {
+            Some(text) => Some(text.clone()?),
+            None => None,
+        };
+        Ok(Closure {
+            entries: self.entries.clone()?,
+            text,
+        })
     }
 }

@@ -1,6 +1,5 @@
 -- One line of a session.
 use Rattle.std.proofs.Common.{◌≡◌, ◌⊎◌, inl, inr, ℕ, ◌+◌, Bool, true, ◌||◌, List, [], ◌∷◌, ◌++◌, length, refl, ap, subst, ◌∙◌, codes, Option, Result, Ok, Err, IfOk}
-use Rattle.std.specs.Global.{Vec}
 use Rattle.model.specs.declared.mode.Mode.{Mode}
 use Rattle.model.specs.declared.refusal.Refusal.{Refusal}
 use Rattle.model.specs.Events as events
@@ -31,18 +30,18 @@ row-gets goals parsed reading.Waits row b e = rw e.2 (b goals e.0 e.1)
 -- a row with neither an event nor a wait
 module _ (mode : Mode) (begun refused : Bool) (told told' : List LineResult) (goals : List GoalId) (n : ℕ) (one : LineResult) (e₁ : told' ≡ told ++ one ∷ [])
     (e₂ : one ≡ nothing_told) (e₃ : n ≡ length told + 1) where
-  pub row-named : (result : Result (Vec ℕ) Refusal) → IfOk result (λ text. text.items ≡ answer_text n (codes "-") replies.Ok)
+  pub row-named : (result : Result (List ℕ) Refusal) → IfOk result (λ text. text ≡ answer_text n (codes "-") replies.Ok)
       → IfOk result (λ text. (users : List (List ℕ))
-      → GivesRow (Names users) (seen_by mode begun refused told goals) (seen_by mode true refused told' goals) text.items)
+      → GivesRow (Names users) (seen_by mode begun refused told goals) (seen_by mode true refused told' goals) text)
   row-named (Ok text) e₄ = λ users. (
     ap (λ ts. seen_by mode true refused ts goals) (e₁ ∙ ap (λ x. told ++ x ∷ []) e₂),
     e₄ ∙ ap (λ k. answer_text k (codes "-") replies.Ok) e₃,
   )
   row-named (Err why) e₄ = tt
 
-  pub row-refused : (why : Refusal) (refused' : Bool) (result : Result (Vec ℕ) Refusal) → refused' ≡ (is_bad_users why || refused)
-      → IfOk result (λ text. text.items ≡ answer_text n (codes "-") (replies.Refused why))
-      → IfOk result (λ text. GivesRow (Refuses why) (seen_by mode begun refused told goals) (seen_by mode begun refused' told' goals) text.items)
+  pub row-refused : (why : Refusal) (refused' : Bool) (result : Result (List ℕ) Refusal) → refused' ≡ (is_bad_users why || refused)
+      → IfOk result (λ text. text ≡ answer_text n (codes "-") (replies.Refused why))
+      → IfOk result (λ text. GivesRow (Refuses why) (seen_by mode begun refused told goals) (seen_by mode begun refused' told' goals) text)
   row-refused why refused' (Ok text) f e₄ = (
     ap (λ x. seen_by mode begun x told' goals) f
         ∙ ap (λ ts. seen_by mode begun (is_bad_users why || refused) ts goals) (e₁ ∙ ap (λ x. told ++ x ∷ []) e₂),
@@ -81,9 +80,9 @@ module _ {A : Type 0} (R : A → events.Event → replies.Reply → A → Type 0
   )
 
   -- a row with neither leaves the answer alone
-  pub gives-row : (r : Reading) (row : LineRow) (seen next : Seen) (now : A) (result : Result (Vec ℕ) Refusal) → IsRowOf seen.goals r row
-      → Link R W now row now → IfOk result (λ text. GivesRow row seen next text.items)
-      → IfOk result (λ text. Gives (IsRowOf seen.goals r) (Link R W) seen next now now text.items)
+  pub gives-row : (r : Reading) (row : LineRow) (seen next : Seen) (now : A) (result : Result (List ℕ) Refusal) → IsRowOf seen.goals r row
+      → Link R W now row now → IfOk result (λ text. GivesRow row seen next text)
+      → IfOk result (λ text. Gives (IsRowOf seen.goals r) (Link R W) seen next now now text)
   gives-row r row seen next now (Ok text) is l h = (row, is, h.0, h.1, l)
   gives-row r row seen next now (Err why) is l h = tt
 

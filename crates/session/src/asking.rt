@@ -10,7 +10,7 @@ ghost use Rattle.session.specs.Answered.{IsAnswered};
 
 use crate::answer::Answer;
 use events::{Event, GoalId, Reply};
-use lines::{LineResult, answer_text, told_in};
+use lines::{LineResult, Printed, printed_answer, told_in};
 use model::Refusal;
 use std::alloc::Global;
 use trust::User;
@@ -23,7 +23,7 @@ pub struct Answered {
     /// The goal that it gives the actor, if it does, named as the job that it would lead.
     pub goal: Option<GoalId>,
     /// What is printed for it.
-    pub text: Vec<u8>,
+    pub text: Printed,
 }
 
 /// The goal that a reply gives the actor.
@@ -41,7 +41,7 @@ fn take_reply(alloc: Global, number: usize, actor: User, reply: Reply) -> Result
     ensures ok { IfOk result (IsAnswered number actor (reply_of reply)) }
     ensures memory { IfErr result (λ why. why ≡ Memory) }
 {
-    let text = answer_text(alloc, number, actor.bytes(), &reply)?;
+    let text = printed_answer(alloc, number, actor.bytes(), &reply)?;
     let goal = goal_by(actor, &reply);
     let told = told_in(reply);
     Ok(Answered { told, goal, text })
@@ -81,14 +81,14 @@ pub fn wait<A: Answer>(
     number: usize,
     goals: &[GoalId],
     answer: &mut A,
-) -> Result<Vec<u8>, Refusal>
+) -> Result<Printed, Refusal>
     ensures ok { IfOk result (λ text. (reply : replies.Reply) × (ends_wait reply ≡ true)
-        × (text.items ≡ answer_text number (codes "-") reply)
+        × (text ≡ answer_text number (codes "-") reply)
         × A.waited answer.old goals.now reply answer.new) }
     ensures memory { IfErr result (λ why. why ≡ Memory) }
     ensures waited { (reply : replies.Reply) × (ends_wait reply ≡ true)
         × A.waited answer.old goals.now reply answer.new }
 {
     let reply = answer.wait(alloc, goals);
-    answer_text(alloc, number, b"-", &reply)
+    printed_answer(alloc, number, b"-", &reply)
 }

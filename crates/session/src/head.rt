@@ -13,7 +13,7 @@ use crate::session::Session;
 use crate::streams::{read_more, want_of};
 use lines::{Reading, cut};
 use model::{Mode, Refusal};
-use nar::{Faults, write_whole};
+use nar::Faults;
 use std::alloc::{AllocError, Global};
 use std::io::{Read, Write};
 use trust::User;
@@ -67,7 +67,7 @@ fn answer_line<W: Write + Faults, A: Answer>(
     *held = Vec::new(alloc);
     let users = users_of(&reading)?;
     let text = session.answer(alloc, reading, nobody)?;
-    write_whole(writer, before, text.as_slice())?;
+    text.write(writer, before)?;
     if session.is_refused() {
         return Err(Refusal::BadUsers);
     }

@@ -39,7 +39,7 @@ pub use counted::Counted;
 pub use events::GoalId;
 pub use head::{Head, serve_head, users_of};
 pub use input_head::{InputHead, look_ahead};
-pub use lines::{Reading, answer_text};
+pub use lines::{Printed, Reading, answer_text};
 pub use model::Mode;
 pub use nar::{Faults, write_whole};
 pub use serving::{Begun, serve, serve_behind, serve_on, serve_whole_lines};

@@ -4,7 +4,6 @@ ghost use Rattle.std.specs.Prelude.{◌≡◌, ◌<◌, ◌⊎◌, ◌∷◌, �
 ghost use Rattle.std.specs.Io.KnownBytes.{Consumes, IsAtEnd};
 ghost use Rattle.model.specs.declared.refusal.Refusal.TheVariants.{InputFault, Memory, OutputFault};
 ghost use Rattle.model.specs.Lines.{lines_of};
-ghost use Rattle.model.specs.Talk.{fresh};
 ghost use Rattle.session.specs.Serving.{Link, GoesOn, EndsIn, Finishes, EndsAtLast, AnsweredSoFar, EndedEarly};
 ghost use Rattle.session.specs.Serving.{EndsBehind, EndsByCounts, FinishesBehind, HasFailed, IsShown, StopsBehind};
 ghost use Rattle.session.specs.Serving.{Finished, HoldsMore, IsFault, IsNoFault, IsOwn, MayBeFault, NotShown};
@@ -14,7 +13,7 @@ use crate::session::Session;
 use crate::streams::{flush, read_more, want_of};
 use lines::cut;
 use model::{LONGEST_LINE, Mode, Refusal};
-use nar::{Faults, write_whole};
+use nar::Faults;
 use std::alloc::{AllocError, Global};
 use std::io::{Read, Write};
 
@@ -94,7 +93,7 @@ fn end_line<W: Write + Faults, A: Answer>(
     let reading = ongoing.session.read(alloc, ongoing.held.as_slice())?;
     ongoing.held = Vec::new(alloc);
     let text = ongoing.session.answer(alloc, reading, answer)?;
-    write_whole(writer, before, text.as_slice())?;
+    text.write(writer, before)?;
     if ongoing.session.is_refused() {
         return Err(Refusal::BadUsers);
     }

@@ -1,6 +1,6 @@
 //! Sessions, a line at a time.
 
-ghost use Rattle.std.specs.Prelude.{◌≡◌, ◌⊎◌, ℕ, List, length, IfOk, IfErr, OnOk, OnErr};
+ghost use Rattle.std.specs.Prelude.{◌≡◌, ℕ, List, length, IfOk, IfErr, OnOk, OnErr};
 ghost use Rattle.model.specs.declared.refusal.Refusal.TheVariants.{Memory};
 ghost use Rattle.model.specs.Talk.{Silent, Names, Refuses, fresh, parsed_of, GetsNext, is_bad_users, with_asked};
 ghost use Rattle.lines.specs.declared.line.Reading.TheVariants as readings;
@@ -10,7 +10,7 @@ ghost use Rattle.session.specs.Serving.{Link, Gives, GivesRow, StopsAt};
 use crate::answer::Answer;
 use crate::asking::{ask, wait};
 use events::{Event, GoalId, Reply};
-use lines::{LineResult, Reading, answer_text, read_line};
+use lines::{LineResult, Printed, Reading, printed_answer, read_line};
 use model::{Mode, Refusal};
 use std::alloc::{AllocError, Global};
 use std::marker::Model;
@@ -102,9 +102,9 @@ impl Session {
         alloc: Global,
         reading: Reading,
         answer: &mut A,
-    ) -> Result<Vec<u8>, Refusal>
+    ) -> Result<Printed, Refusal>
         ensures ok { IfOk result (λ text. Gives (IsRowOf self.old.goals reading)
-            (Link A.answers A.waited) self.old self.new answer.old answer.new text.items) }
+            (Link A.answers A.waited) self.old self.new answer.old answer.new text) }
         ensures memory { IfErr result (λ why. why ≡ Memory) }
         ensures err { OnErr result
             (StopsAt (IsRowOf self.old.goals reading) (Link A.answers A.waited) answer.old answer.new) }
@@ -119,35 +119,35 @@ impl Session {
     }
 
     /// Answers a line for which nothing is printed.
-    fn pass_over(&mut self, alloc: Global) -> Result<Vec<u8>, Refusal>
-        ensures ok { IfOk result (λ text. GivesRow Silent self.old self.new text.items) }
+    fn pass_over(&mut self, alloc: Global) -> Result<Printed, Refusal>
+        ensures ok { IfOk result (λ text. GivesRow Silent self.old self.new text) }
         ensures memory { IfErr result (λ why. why ≡ Memory) }
     {
         self.told.push(LineResult::nothing())?;
-        Ok(Vec::new(alloc))
+        Ok(Printed::nothing(alloc))
     }
 
     /// Answers the line that names the users, whoever they are.
-    fn begin(&mut self, alloc: Global) -> Result<Vec<u8>, Refusal>
+    fn begin(&mut self, alloc: Global) -> Result<Printed, Refusal>
         ensures ok { IfOk result (λ text. (users : List (List ℕ))
-            → GivesRow (Names users) self.old self.new text.items) }
+            → GivesRow (Names users) self.old self.new text) }
         ensures memory { IfErr result (λ why. why ≡ Memory) }
     {
         let number = self.told.len() + 1;
         self.told.push(LineResult::nothing())?;
         self.begun = true;
-        answer_text(alloc, number, b"-", &Reply::Ok)
+        printed_answer(alloc, number, b"-", &Reply::Ok)
     }
 
     /// Answers a line that is refused.
-    fn refuse(&mut self, alloc: Global, why: Refusal) -> Result<Vec<u8>, Refusal>
-        ensures ok { IfOk result (λ text. GivesRow (Refuses why) self.old self.new text.items) }
+    fn refuse(&mut self, alloc: Global, why: Refusal) -> Result<Printed, Refusal>
+        ensures ok { IfOk result (λ text. GivesRow (Refuses why) self.old self.new text) }
         ensures memory { IfErr result (λ why. why ≡ Memory) }
     {
         let number = self.told.len() + 1;
         self.told.push(LineResult::nothing())?;
         self.refused = is_bad_users(why) | self.refused;
-        answer_text(alloc, number, b"-", &Reply::Refused(why))
+        printed_answer(alloc, number, b"-", &Reply::Refused(why))
     }
 
     /// Answers a line that makes this event.
@@ -156,9 +156,9 @@ impl Session {
         alloc: Global,
         event: Event,
         answer: &mut A,
-    ) -> Result<Vec<u8>, Refusal>
+    ) -> Result<Printed, Refusal>
         ensures ok { IfOk result (λ text. Gives (IsRowOf self.old.goals (readings.Asks event))
-            (Link A.answers A.waited) self.old self.new answer.old answer.new text.items) }
+            (Link A.answers A.waited) self.old self.new answer.old answer.new text) }
         ensures memory { IfErr result (λ why. why ≡ Memory) }
         ensures err { OnErr result (StopsAt (IsRowOf self.old.goals (readings.Asks event))
             (Link A.answers A.waited) answer.old answer.new) }
@@ -170,9 +170,9 @@ impl Session {
     }
 
     /// Answers a line that waits for the goals so far.
-    fn wait<A: Answer>(&mut self, alloc: Global, answer: &mut A) -> Result<Vec<u8>, Refusal>
+    fn wait<A: Answer>(&mut self, alloc: Global, answer: &mut A) -> Result<Printed, Refusal>
         ensures ok { IfOk result (λ text. Gives (IsRowOf self.old.goals readings.Waits)
-            (Link A.answers A.waited) self.old self.new answer.old answer.new text.items) }
+            (Link A.answers A.waited) self.old self.new answer.old answer.new text) }
         ensures memory { IfErr result (λ why. why ≡ Memory) }
         ensures err { OnErr result (StopsAt (IsRowOf self.old.goals readings.Waits)
             (Link A.answers A.waited) answer.old answer.new) }
@@ -194,9 +194,9 @@ impl Session {
         alloc: Global,
         line: &[u8],
         answer: &mut A,
-    ) -> Result<Vec<u8>, Refusal>
+    ) -> Result<Printed, Refusal>
         ensures ok { IfOk result (λ text. Gives (GetsNext self.old line.now)
-            (Link A.answers A.waited) self.old self.new answer.old answer.new text.items) }
+            (Link A.answers A.waited) self.old self.new answer.old answer.new text) }
         ensures memory { IfErr result (λ why. why ≡ Memory) }
         ensures err { OnErr result (StopsAt (GetsNext self.old line.now)
             (Link A.answers A.waited) answer.old answer.new) }

@@ -14,7 +14,7 @@ pub fn tell_lines<A: session::Answer>(
 ) -> Result<(), Refusal> {
     let mut session = Session::new(alloc, Mode::Service);
     for line in lines.split(';') {
-        out.add_bytes(&session.line(alloc, line.as_bytes(), store)?);
+        out.add_bytes(&session.line(alloc, line.as_bytes(), store)?.into_bytes()?);
     }
     Ok(())
 }

@@ -114,7 +114,7 @@ fn tell_line(
     store: &mut Store,
     out: &mut Answer,
 ) -> Result<(), Refusal> {
-    out.add_bytes(&session.line(alloc, line.as_bytes(), store)?);
+    out.add_bytes(&session.line(alloc, line.as_bytes(), store)?.into_bytes()?);
     Ok(())
 }
 

@@ -13,14 +13,14 @@ returns-then-not-is_empty-clause-first c = λ is.
 pub loop-line-preserved : goal.loop-line-preserved
 loop-line-preserved c =
     let gave = c.in_ok-text.ensures.ok in
-    let none : length c.in_ok-text.text.items ≡ 0 = search rules in
-    let empty = empty_text c.in_ok-text.text.items none in
-    let next = next_silent c.loop-line.session c.line.new.self c.loop-line.rest.now c.in-Some.line.now c.in-Some.behind.now _ gave.0 c.in_ok-text.text.items
+    let none : length c.in_ok-text.text ≡ 0 = search rules in
+    let empty = empty_text c.in_ok-text.text none in
+    let next = next_silent c.loop-line.session c.line.new.self c.loop-line.rest.now c.in-Some.line.now c.in-Some.behind.now _ gave.0 c.in_ok-text.text
     c.in-Some.ensures.parts gave.1 gave.2 gave.3 empty c.loop-line.invariant.0 in (
       next.0,
       λ first. c.loop-line.invariant.1 (next.1 first),
       λ first. still_first c.loop-line.session c.line.new.self c.loop-line.rest.now c.in-Some.line.now c.in-Some.behind.now _ gave.0
-          c.in_ok-text.text.items c.in-Some.ensures.parts gave.1 gave.2 gave.3 empty (c.loop-line.invariant.2 first),
+          c.in_ok-text.text c.in-Some.ensures.parts gave.1 gave.2 gave.3 empty (c.loop-line.invariant.2 first),
     )
 
 pub returns-clause-first : goal.returns-clause-first
@@ -35,7 +35,7 @@ pub returns-then-not-is_empty-clause-others : goal.returns-then-not-is_empty-cla
 returns-then-not-is_empty-clause-others c = λ is first.
     let gave = c.in_ok-text.ensures.ok in
     let told : c.has_users.result ≡ false = cc in
-    next_others c.loop-line.session c.line.new.self c.loop-line.rest.now c.in-Some.line.now c.in-Some.behind.now _ gave.0 c.in_ok-text.text.items
+    next_others c.loop-line.session c.line.new.self c.loop-line.rest.now c.in-Some.line.now c.in-Some.behind.now _ gave.0 c.in_ok-text.text
     c.in-Some.ensures.parts gave.1 gave.2 gave.3 (sym c.has_users.ensures ∙ told) (λ none. search rules) (c.loop-line.invariant.2 first)
 
 pub returns-clause-others : goal.returns-clause-others

@@ -21,41 +21,41 @@ returns-in_err-text-clause-err g c = err-is _ _ _ c.from_residual-in_err-text.en
     c.as_slice.result.now c.in_ok-reading.reading c.args.answer.now c.answer.new.answer
     c.in_ok-reading.ensures.read c.in_err-text.ensures.err))
 
-pub returns-in_err-write_whole-clause-err : goal.returns-in_err-write_whole-clause-err
-returns-in_err-write_whole-clause-err g c = err-is _ _ _ c.from_residual-in_err-write_whole.ensures.1 (λ more mode first blank input p.
+pub returns-in_err-write-clause-err : goal.returns-in_err-write-clause-err
+returns-in_err-write-clause-err g c = err-is _ _ _ c.from_residual-in_err-write.ensures.1 (λ more mode first blank input p.
     early-write (Link g.A.Answer.answers g.A.Answer.waited) first blank c.args.answer.now c.answer.new.answer (g.W.Write.contents c.args.writer.now)
-    (g.W.Write.contents c.write_whole.new.writer) input c.args.ongoing.now.session.now
+    (g.W.Write.contents c.write.new.writer) input c.args.ongoing.now.session.now
     c.answer.new.self c.args.ongoing.now.held.items c.as_slice.result.now
-    c.in_ok-text.text.items c.as_slice-2.result.now more _
-    (by_output _ c.in_err-write_whole.ensures.errors) c.as_slice.ensures.value c.as_slice-2.ensures.value
+    c.in_ok-text.text c.in_ok-text.text more _
+    (by_output _ c.in_err-write.ensures.errors) c.as_slice.ensures.value refl
     (line-gives (Link g.A.Answer.answers g.A.Answer.waited) c.args.ongoing.now.session.now
     c.as_slice.result.now c.in_ok-reading.reading c.args.answer.now c.answer.new.self
-    c.answer.new.answer c.in_ok-text.text.items c.in_ok-reading.ensures.read c.in_ok-text.ensures.ok)
-    p c.in_err-write_whole.ensures.err)
+    c.answer.new.answer c.in_ok-text.text c.in_ok-reading.ensures.read c.in_ok-text.ensures.ok)
+    p c.in_err-write.ensures.err)
 
 pub returns-then-is_refused-clause-err : goal.returns-then-is_refused-clause-err
 returns-then-is_refused-clause-err g c = λ more mode first blank input p.
     early-refused (Link g.A.Answer.answers g.A.Answer.waited) first blank c.args.answer.now c.answer.new.answer (g.W.Write.contents c.args.writer.now)
-    (g.W.Write.contents c.write_whole.new.writer) input c.args.ongoing.now.session.now
+    (g.W.Write.contents c.write.new.writer) input c.args.ongoing.now.session.now
     c.answer.new.self c.args.ongoing.now.held.items c.as_slice.result.now
-    c.in_ok-text.text.items c.as_slice-2.result.now more _ c.as_slice.ensures.value c.as_slice-2.ensures.value
+    c.in_ok-text.text c.in_ok-text.text more _ c.as_slice.ensures.value refl
     (line-gives (Link g.A.Answer.answers g.A.Answer.waited) c.args.ongoing.now.session.now
     c.as_slice.result.now c.in_ok-reading.reading c.args.answer.now c.answer.new.self
-    c.answer.new.answer c.in_ok-text.text.items c.in_ok-reading.ensures.read c.in_ok-text.ensures.ok)
-    p c.in_ok-write_whole.ensures.ok (sym c.is_refused.ensures ∙ c.if-is_refused.true) refl
+    c.answer.new.answer c.in_ok-text.text c.in_ok-reading.ensures.read c.in_ok-text.ensures.ok)
+    p c.in_ok-write.ensures.ok (sym c.is_refused.ensures ∙ c.if-is_refused.true) refl
 
 pub returns-clause-ok : goal.returns-clause-ok
 returns-clause-ok g c = λ mode first blank input p.
-    subst (λ t. Progress mode (Link g.A.Answer.answers g.A.Answer.waited) first c.answer.new.answer blank (g.W.Write.contents c.write_whole.new.writer)
+    subst (λ t. Progress mode (Link g.A.Answer.answers g.A.Answer.waited) first c.answer.new.answer blank (g.W.Write.contents c.write.new.writer)
     (input ++ 10 ∷ []) c.answer.new.self t) (sym c.new.ensures.items)
     (progress-write (Link g.A.Answer.answers g.A.Answer.waited) first blank c.args.answer.now c.answer.new.answer (g.W.Write.contents c.args.writer.now)
-    (g.W.Write.contents c.write_whole.new.writer) input c.args.ongoing.now.session.now
+    (g.W.Write.contents c.write.new.writer) input c.args.ongoing.now.session.now
     c.answer.new.self c.args.ongoing.now.held.items c.as_slice.result.now
-    c.in_ok-text.text.items c.as_slice-2.result.now c.as_slice.ensures.value c.as_slice-2.ensures.value
+    c.in_ok-text.text c.in_ok-text.text c.as_slice.ensures.value refl
     (line-gives (Link g.A.Answer.answers g.A.Answer.waited) c.args.ongoing.now.session.now
     c.as_slice.result.now c.in_ok-reading.reading c.args.answer.now c.answer.new.self
-    c.answer.new.answer c.in_ok-text.text.items c.in_ok-reading.ensures.read c.in_ok-text.ensures.ok)
-    p c.in_ok-write_whole.ensures.ok (sym c.is_refused.ensures ∙ c.if-is_refused.false))
+    c.answer.new.answer c.in_ok-text.text c.in_ok-reading.ensures.read c.in_ok-text.ensures.ok)
+    p c.in_ok-write.ensures.ok (sym c.is_refused.ensures ∙ c.if-is_refused.false))
 
 -- ---- which errors there are, and the faults that they come of
 
@@ -71,11 +71,11 @@ returns-in_err-text-clause-errors g c = err-is _ _ _ c.from_residual-in_err-text
 pub returns-in_err-text-clause-fault : goal.returns-in_err-text-clause-fault
 returns-in_err-text-clause-fault g c = err-is _ _ _ c.from_residual-in_err-text.ensures.1 (memory_not_output _ _ _ c.in_err-text.ensures.memory)
 
-pub returns-in_err-write_whole-clause-errors : goal.returns-in_err-write_whole-clause-errors
-returns-in_err-write_whole-clause-errors g c = err-is _ _ _ c.from_residual-in_err-write_whole.ensures.1 (own_output _ c.in_err-write_whole.ensures.errors)
+pub returns-in_err-write-clause-errors : goal.returns-in_err-write-clause-errors
+returns-in_err-write-clause-errors g c = err-is _ _ _ c.from_residual-in_err-write.ensures.1 (own_output _ c.in_err-write.ensures.errors)
 
-pub returns-in_err-write_whole-clause-fault : goal.returns-in_err-write_whole-clause-fault
-returns-in_err-write_whole-clause-fault g c = err-is _ _ _ c.from_residual-in_err-write_whole.ensures.1 c.in_err-write_whole.ensures.fault
+pub returns-in_err-write-clause-fault : goal.returns-in_err-write-clause-fault
+returns-in_err-write-clause-fault g c = err-is _ _ _ c.from_residual-in_err-write.ensures.1 c.in_err-write.ensures.fault
 
 pub returns-then-is_refused-clause-errors : goal.returns-then-is_refused-clause-errors
 returns-then-is_refused-clause-errors g c = inr (inr refl)

@@ -10,11 +10,11 @@ use Rattle.publishing.proofs.LegalLemmas.{legal_with}
 use Rattle.book.proofs.pass.Pass.read_once.Goals as goal
 
 pub returns-then-see-clause-read : goal.returns-then-see-clause-read
-returns-then-see-clause-read g c some =
+returns-then-see-clause-read g c some number =
     let rows : List Row = c.in-Some.rows.seen.log in
     let event = event_for c.args.query in
     let reply = c.serve.result in
-    let r : Row = row c.args.self.now.caller.number event reply in
+    let r : Row = row number event reply in
     let setup = ap (λ v. setup_in v.name) c.self.invariant.2 in
     let looked = rw c.in-Some.is at c.look.ensures.looked in
     let legal = subst (λ (s : Setup). IsLegal s rows) setup looked.legal in

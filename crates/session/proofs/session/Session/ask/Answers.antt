@@ -26,5 +26,5 @@ returns-clause-ok g c =
     let a = c.in_ok-answered.ensures.ok in
     rw (← c.self.view_is)
     (gives-asked g.A.Answer.answers g.A.Answer.waited i.mode i.begun i.refused i.told.items c.push.new.self.items i.goals.items c.add_goal.new.goals.items
-    c.in_ok-answered.answered.text.items (c.len.result + 1) c.args.event a.0 c.in_ok-answered.answered.told c.in_ok-answered.answered.goal
+    c.in_ok-answered.answered.text (c.len.result + 1) c.args.event a.0 c.in_ok-answered.answered.told c.in_ok-answered.answered.goal
     c.args.answer.now c.ask.new.answer c.in_ok-push.ensures.items a.1.0 c.in_ok-add_goal.ensures a.1.1 (omega (arith, i.told.ok.0)) a.1.2 a.2)

@@ -9,5 +9,5 @@ returns-clause-ok c =
     let refused : (c.is_bad_users.result || i.refused) ≡ (is_bad_users c.args.why || i.refused) = ap (λ b. b || i.refused) c.is_bad_users.ensures in
     rw (← c.self.view_is)
     (row-refused i.mode i.begun i.refused i.told.items c.push.new.self.items i.goals.items (c.len-number.result + 1) c.nothing.result
-    c.in_ok-push.ensures.items c.nothing.ensures (omega (arith, i.told.ok.0)) c.args.why (c.is_bad_users.result || i.refused) c.answer_text.result refused
-    c.answer_text.ensures.text)
+    c.in_ok-push.ensures.items c.nothing.ensures (omega (arith, i.told.ok.0)) c.args.why (c.is_bad_users.result || i.refused) c.printed_answer.result refused
+    c.printed_answer.ensures.text)

@@ -22,5 +22,5 @@ returns-clause-ok g c =
     let a = c.in_ok-text.ensures.ok in
     rw (← c.self.view_is)
     (gives-waited g.A.Answer.answers g.A.Answer.waited i.mode i.begun i.refused i.told.items c.push.new.self.items i.goals.items c.as_slice.result.now
-    c.in_ok-text.text.items (c.len.result + 1) a.0 c.nothing.result c.args.answer.now c.wait.new.answer
+    c.in_ok-text.text (c.len.result + 1) a.0 c.nothing.result c.args.answer.now c.wait.new.answer
     c.in_ok-push.ensures.items c.nothing.ensures c.as_slice.ensures.value (omega (arith, i.told.ok.0)) a.1 a.2 a.3)
