@@ -23,6 +23,20 @@ struct Apart<'a, J: FrontId, R> {
     others: Pass<J>,
 }
 
+/// Reads what is asked through a pass, and calls the front for the other events.
+fn answer<J: FrontId, R: Wait>(
+    rt: &R,
+    alloc: Global,
+    front: &Front<J>,
+    pass: &mut Pass<J>,
+    event: Event,
+) -> Reply {
+    match Query::of(event) {
+        Ok(query) => pass.read(query),
+        Err(event) => front.call(rt, alloc, pass, event),
+    }
+}
+
 /// No line of the service waits.
 impl<J: FrontId, R: Wait> session::Answer for Apart<'_, J, R> {
     ghost answers = { λ old event reply new. Unit {0} };
@@ -30,20 +44,10 @@ impl<J: FrontId, R: Wait> session::Answer for Apart<'_, J, R> {
     ghost waited = { λ old goals reply new. Unit {0} };
 
     fn call(&mut self, alloc: Global, event: Event) -> Reply {
-        let Apart {
-            rt,
-            front,
-            alice,
-            others,
-        } = self;
-        let pass = if event.actor.bytes() == b"alice".as_slice() {
-            alice
+        if event.actor.bytes() == b"alice".as_slice() {
+            answer(self.rt, alloc, &self.front, &mut self.alice, event)
         } else {
-            others
-        };
-        match Query::of(event) {
-            Ok(query) => pass.read(query),
-            Err(event) => front.call(*rt, alloc, pass, event),
+            answer(self.rt, alloc, &self.front, &mut self.others, event)
         }
     }
 
