@@ -167,10 +167,11 @@ query_taken old new event queries asks taken = record {
 }
 
 -- what a core lacks of one that took an event, where that was refused or is a query, and where it is neither
-lacks_by : (lag lacked : Lag) (old new : Core) (event : Event) (reply : Reply) (refused asks : Bool) → is_refused reply ≡ refused → is_query event.request ≡ asks
-    → QueriesChangeNothing → HasStepped old event reply new → (HasTaken old event new → Behind lacked old new)
+lacks_by : (lag lacked : Lag) (old new : Core) (event : Event) (reply : Reply) (refused asks : Bool) → is_refused reply ≡ refused
+    → is_query event.request ≡ asks → QueriesChangeNothing → HasStepped old event reply new → (HasTaken old event new → Behind lacked old new)
     → MatchBool (refused || asks) (lag ≡ Nothing) (lag ≡ lacked) → Behind lag old new
-lacks_by lag lacked old new event reply true asks is_it is queries stepped lacks lag_is = subst (λ (l : Lag). Behind l old new) (sym lag_is) (stepped.step.refused is_it)
+lacks_by lag lacked old new event reply true asks is_it is queries stepped lacks lag_is =
+    subst (λ (l : Lag). Behind l old new) (sym lag_is) (stepped.step.refused is_it)
 lacks_by lag lacked old new event reply false true is_it is queries stepped lacks lag_is =
     subst (λ (l : Lag). Behind l old new) (sym lag_is) (query_taken old new event queries is (has_taken old new event reply stepped is_it))
 lacks_by lag lacked old new event reply false false is_it is queries stepped lacks lag_is =

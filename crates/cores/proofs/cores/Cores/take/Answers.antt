@@ -44,7 +44,8 @@ invariant_of-self-2 c =
     let is = c.in-Some-complete.ensures.row.0 ∙ c.in-Some-complete.ensures.row.1 in
     let event = ap (λ (r : Row). r.event) is ∙ c.requires in
     let reply = ap (λ (r : Row). r.reply) is ∙ c.into_both-reply.ensures.copy in
-    let stepped = subst (λ (x : Event × Reply). HasStepped before (event_of x.0) (reply_of x.1) new) (λ i. (sym event i, sym reply i)) c.step_ready_with_copy.ensures in
+    let stepped = subst (λ (x : Event × Reply). HasStepped before (event_of x.0) (reply_of x.1) new) (λ i. (sym event i, sym reply i))
+    c.step_ready_with_copy.ensures in
     let behind = behind_after lag c.in-Some-complete.row before new c.queries_change_nothing.ensures stepped c.lag_after.ensures in
     subst (λ (x : Core × Core). Behind lag x.0 x.1) (λ i. (sym (ap arc_value c.swap.ensures.y_after) i, sym (ap arc_value c.swap.ensures.x_after) i))
     (behind_still lag before shown new behind (unchanged_back shown before same))
