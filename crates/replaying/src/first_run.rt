@@ -1,6 +1,7 @@
 //! Running the lines of an input for the events that they make.
 
-ghost use Rattle.std.specs.Prelude.{◌≡◌, ◌≤◌, ◌⊎◌, ◌++◌, ◌∷◌, ℕ, List, if◌then◌else◌, true, false, [], map, slice_get, bytes_eq, MatchOption, Some, IfOk, IfErr, OnOk};
+ghost use Rattle.std.specs.Prelude.{◌≡◌, ◌≤◌, ◌⊎◌, ◌++◌, ◌∷◌, ℕ, List, if◌then◌else◌, true, false, []};
+ghost use Rattle.std.specs.Prelude.{map, slice_get, bytes_eq, MatchOption, Some, IfOk, IfErr, OnOk};
 ghost use Rattle.model.specs.declared.refusal.Refusal.TheVariants.{InputFault, Memory, UnknownUser};
 ghost use Rattle.model.specs.Lines.{lines_of};
 ghost use Rattle.model.specs.Limits.{most_charge};
