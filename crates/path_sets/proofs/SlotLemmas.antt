@@ -75,9 +75,11 @@ pub marked_more : (parts : List (List ℕ)) (old new part window : List ℕ) →
     → among (parts ++ part ∷ []) window ≡ true → is_marked new window ≡ true
 marked_more parts old new part window marked more there =
     more ∙ elim (or_cases (among parts window) (bytes_eq part window || false) (sym (list_any-append (λ p. bytes_eq p window) parts (part ∷ [])) ∙ there)) [
-      | inl before ↦ ap (λ b. eqb (slot_of part) (slot_of window) || b) (marked before) ∙ or-true (eqb (slot_of part) (slot_of window))
+      | inl before ↦ ap (λ b. eqb (slot_of (length old) part) (slot_of (length old) window) || b) (marked before)
+          ∙ or-true (eqb (slot_of (length old) part) (slot_of (length old) window))
       | inr last ↦ elim (or_cases (bytes_eq part window) false last) [
-        | inl same ↦ ap (λ b. b || is_marked old window) (eq-eqb (slot_of part) (slot_of window) (ap slot_of ((bytes_eq-Decides part window).0 same)))
+        | inl same ↦ ap (λ b. b || is_marked old window) (eq-eqb (slot_of (length old) part) (slot_of (length old) window)
+            (ap (slot_of (length old)) ((bytes_eq-Decides part window).0 same)))
         | inr never ↦ absurd (false≢true never)
       ]
     ]

@@ -105,7 +105,7 @@ impl PathTable {
         Ok(PathTable {
             paths: Vec::new(alloc),
             groups: IndexMap::new(alloc),
-            slots: Slots::new(alloc)?,
+            slots: Slots::new(alloc, usize::MAX)?,
             texts: Vec::new(alloc),
         })
     }

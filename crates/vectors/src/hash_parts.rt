@@ -38,7 +38,7 @@ pub(crate) fn of_archive(
 
 /// `KEY..`: where hash parts stand in an archive, in bytes, each with the hash part.
 fn found(alloc: Global, archive: &Nar, words: &str, out: &mut Answer) -> Result<(), Refusal> {
-    let mut keys = Keys::new(alloc)?;
+    let mut keys = Keys::new(alloc, words.len())?;
     add_keys(&mut keys, words)?;
     tell_places(&occurrences(alloc, archive, &keys)?, out);
     Ok(())
