@@ -14,6 +14,9 @@ use model::Refusal;
 use std::alloc::{AllocError, Global};
 use storepath::StorePath;
 
+// Room for a short text, which most are.
+const SHORT_TEXT: usize = 512;
+
 // What stands before the inputs.
 const HEAD: &[u8] = b"Derive([(\"out\",\"\",\"\",\"\")],[";
 
@@ -176,7 +179,7 @@ pub fn print_parts(alloc: Global, parts: &Parts) -> Result<Vec<u8>, Refusal>
         (λ text. text.items ≡ derivation_text (derivation_of parts.now))
         (λ e. e ≡ Memory) }
 {
-    let mut out = Vec::new(alloc);
+    let mut out = Vec::with_capacity(alloc, SHORT_TEXT)?;
     put_paths(&mut out, HEAD, BEFORE_INPUT, &parts.inputs, BEHIND_INPUT)?;
     put_rest(&mut out, parts)?;
     Ok(out)
@@ -210,7 +213,7 @@ pub fn print_with_inputs(
         (λ e. e ≡ Memory) }
 {
     let parts = derivation.parts();
-    let mut out = Vec::new(alloc);
+    let mut out = Vec::with_capacity(alloc, SHORT_TEXT)?;
     put_texts(&mut out, HEAD, BEFORE_INPUT, inputs, BEHIND_INPUT)?;
     put_rest(&mut out, parts)?;
     Ok(out)

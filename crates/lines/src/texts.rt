@@ -18,6 +18,9 @@ use std::alloc::{AllocError, Global};
 use storepath::StorePath;
 use tree_text::add_tree_text;
 
+/// Room for a short answer behind its number.
+const SHORT_ANSWER: usize = 96;
+
 /// Adds that a goal is built, and its job, by its leader and the number of his goal.
 fn add_job(alloc: Global, text: &mut Vec<u8>, job: &Job) -> Result<(), AllocError>
     ensures { OnOk result
@@ -124,6 +127,7 @@ pub fn answer_text(
     ensures memory { IfErr result (λ why. why ≡ Memory) }
 {
     let mut text = number.to_string(alloc)?.into_bytes();
+    text.reserve(SHORT_ANSWER)?;
     add_answer(alloc, &mut text, actor, reply)?;
     Ok(text)
 }

@@ -69,6 +69,9 @@ impl Kind<'_> {
     }
 }
 
+/// Room for the longest text that a hash part is made of where there are no references.
+const LONGEST_ALONE: usize = 320;
+
 /// The text that a hash part is made of.
 #[tactic(auto, using(std::proofs::Common::append_assoc), unfolding(model::specs::Paths::fingerprint))]
 fn fingerprint(
@@ -79,7 +82,7 @@ fn fingerprint(
 ) -> Result<Vec<u8>, AllocError>
     ensures { IfOk result (λ text. text.items ≡ fingerprint (kind_of kind.now) digest.now name.now) }
 {
-    let mut text = Vec::new(alloc);
+    let mut text = Vec::with_capacity(alloc, LONGEST_ALONE)?;
     kind.append_to(&mut text)?;
     text.extend_from_slice(b":sha256:")?;
     text.extend_from_slice(hex::encode(alloc, digest.as_slice())?.as_bytes())?;

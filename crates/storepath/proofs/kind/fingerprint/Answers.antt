@@ -10,7 +10,7 @@ returns c =
     let named = c.extend_from_slice-3.new.self.items in
     let shown : c.as_bytes.result.now ≡ encode_lower c.args.digest.now =
     c.as_bytes.ensures.value ∙ c.in_ok-encode.ensures ∙ ap encode_lower c.as_slice.ensures in
-    fingerprint-appended (kind_of c.args.kind.now) c.args.digest.now c.args.name.now c.new-text.result.items c.append_to.new.text.items before
-    c.extend_from_slice-2.new.self.items named c.extend_from_slice-4.new.self.items c.new-text.ensures.items c.in_ok-append_to.ensures
+    fingerprint-appended (kind_of c.args.kind.now) c.args.digest.now c.args.name.now c.in_ok-text.text.items c.append_to.new.text.items before
+    c.extend_from_slice-2.new.self.items named c.extend_from_slice-4.new.self.items c.in_ok-text.ensures.items c.in_ok-append_to.ensures
     c.in_ok-extend_from_slice.ensures.items (c.in_ok-extend_from_slice-2.ensures.items ∙ ap (λ t. before ++ t) shown)
     c.in_ok-extend_from_slice-3.ensures.items (c.in_ok-extend_from_slice-4.ensures.items ∙ ap (λ t. named ++ t) c.bytes.ensures.value)
