@@ -4,7 +4,7 @@ ghost use Rattle.std.specs.Prelude.{◌≡◌, ◌≤◌, ◌+◌, ◌⊎◌, If
 ghost use Rattle.hex.specs.Hex.{encode_lower};
 ghost use Rattle.sha2.specs.Sha256.{sha256};
 ghost use Rattle.classes.specs.Inputs.{has_inputs};
-ghost use Rattle.classes.specs.Admitting.{mask_in, rank_in, text_with_masks, admission_by, has_sources, AreInputs, IsReadFrom, IsInput, made_by};
+ghost use Rattle.classes.specs.Admitting.{mask_in, rank_in, text_with_masks, admission_by, has_sources, AreInputs, HasInputs, IsReadFrom, IsInput, made_by};
 ghost use Rattle.model.specs.Paths.{OutputClass, store_path};
 ghost use Rattle.model.specs.Derivations.{name_of};
 ghost use Rattle.model.specs.Classes.{greatest, derivation_path, admit};
@@ -99,16 +99,22 @@ fn rank_for(derivation: &Derivation, known: &Known, inputs: &[Admitted]) -> Resu
     Ok(greatest + 1)
 }
 
-// The digest of the masked text of a derivation with these inputs.
+// The digest of the masked text of a derivation that has this text and these inputs: with none it is the text
+// itself.
 fn masked_digest(
     alloc: Global,
+    text: &Text,
     derivation: &Derivation,
     inputs: &[Admitted],
 ) -> Result<[u8; 32], Refusal>
+    requires { HasInputs text.now derivation.now inputs.now }
     ensures { MatchResult result
         (λ masked. masked ≡ sha256 (text_with_masks inputs.now derivation.now))
         (λ e. e ≡ Memory) }
 {
+    if inputs.is_empty() {
+        return Ok(sha256(text.bytes()));
+    }
     let mut masks = masks_of(alloc, inputs)?;
     masks.sort()?;
     Ok(sha256(&print_with_inputs(alloc, derivation, &masks)?))
@@ -221,7 +227,7 @@ impl AdmissionInput {
             inputs,
             rank,
         } = self;
-        let masked = masked_digest(alloc, &derivation, &inputs)?;
+        let masked = masked_digest(alloc, &text, &derivation, &inputs)?;
         let class = Class::new(class_path(alloc, &derivation, &masked)?, rank);
         let admitted = Admitted::new(alloc, derivation, path, class, masked)?;
         AdmittedText::new(text, inputs, admitted)
