@@ -93,7 +93,7 @@ fn build_from(
     ensures count { IfOk result (λ built. length built.items ≡ length state.now.desks.items) }
     ensures memory { IfErr result (λ why. why ≡ Memory) }
 {
-    let mut all = Vec::new(alloc);
+    let mut all = Vec::with_capacity(alloc, state.desks.len())?;
     for place in 0..state.desks.len() {
         let numbers = members_reached(&state.trust, &state.jobs, end.leader, place, end.job);
         let built = built_on(alloc, state, place, numbers, end.tree, settlements)?;
@@ -164,7 +164,7 @@ fn receive_all(
     ensures count { IfOk result (λ delivered. length delivered.items ≡ length state.now.desks.items) }
     ensures memory { IfErr result (λ why. why ≡ Memory) }
 {
-    let mut all = Vec::new(alloc);
+    let mut all = Vec::with_capacity(alloc, built.len())?;
     for own in built {
         let place = all.len();
         all.push(receive_at(alloc, state, end, place, own)?)?;

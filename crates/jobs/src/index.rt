@@ -11,13 +11,16 @@ use model::Refusal;
 use std::alloc::Global;
 use std::hash::{Hash, RandomState};
 
-/// The numbers at a key. They are found at once.
+/// The numbers at a key. They are found at once, without a hash where there are none at any.
 pub(crate) fn numbers_at<'a, K: Eq + Hash>(
     index: &'a IndexMap<K, Ascending, RandomState>,
     key: &K,
 ) -> &'a [u16]
     ensures { result.now ≡ numbers_at (K.eq key.now) index.now.entries }
 {
+    if index.is_empty() {
+        return &[];
+    }
     match index.get(key) {
         Some(list) => list.as_slice(),
         None => &[],

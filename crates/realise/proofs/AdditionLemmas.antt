@@ -1,8 +1,12 @@
 -- A desk with records more, and several desks.
-use Rattle.std.proofs.Common.{◌≡◌, ◌+◌, List, [], ◌∷◌, ◌++◌, length, map, refl, sym, ap, ◌∙◌, subst, append_assoc, arith}
-use Rattle.std.specs.Prelude.{All}
+use Rattle.std.proofs.Common.{◌≡◌, ℕ, ◌+◌, Bool, true, List, [], ◌∷◌, ◌++◌, length, map, refl, sym, ap, ◌∙◌, subst, append_assoc, append-nil, arith, Result, Ok, Err}
+use Rattle.std.specs.Prelude.{All, MatchResult}
+use Rattle.model.specs.declared.refusal.Refusal.{Refusal}
+use Rattle.model.specs.declared.refusal.Refusal.TheVariants.{Memory}
 use Rattle.std.specs.List.{zip}
-use Rattle.std.proofs.lemmas.List.{map-append, length-append}
+use Rattle.std.specs.Bool.{◌==◌}
+use Rattle.std.proofs.lemmas.Bool.Decides.{nat_tests}
+use Rattle.std.proofs.lemmas.List.{map-append, length-append, nil_from_length}
 use Rattle.std.proofs.lemmas.List.Elements.{All-head, All-tail, All-cons, All-nil}
 use Rattle.records.specs.Recorded.{Recorded}
 use Rattle.realise.specs.declared.additions.Addition.{Addition}
@@ -68,6 +72,23 @@ all_parts P (y ∷ xs) x all =
     let rest = all_parts P xs x (All-tail P y (xs ++ x ∷ []) all) in
     (All-cons P y xs (All-head P y (xs ++ x ∷ []) all) rest.0, rest.1)
 
+pub no_items : {A : Type 0} (xs : List A) (n : ℕ) (b : Bool) → length xs ≡ n → b ≡ (n == 0) → b ≡ true → xs ≡ []
+no_items xs n b len is holds =
+    let e : (n == 0) ≡ true = sym is ∙ holds in
+    let none : n ≡ 0 = grind (arith, nat_tests) in
+    nil_from_length xs (len ∙ none)
+
+plus_nothing : (n : ℕ) → n ≡ n + 0
+plus_nothing n = omega (arith)
+
+-- a desk that gets nothing stays
+nothing_added : (a : Addition) (d : Holdings) → a.records.items ≡ [] → a.archives.items ≡ [] → d ≡ with_addition a d
+unfolding with_archives
+nothing_added a d no_records no_archives = rw (no_records, no_archives) (λ i. record d {
+  records = sym (append-nil d.records) i;
+  charge = plus_nothing d.charge i;
+})
+
 module _ (additions rest : List Addition) (a : Addition) (desks others : List Holdings) (d : Holdings) (are : additions ≡ rest ++ a ∷ [])
     (all : desks ≡ others ++ d ∷ []) (each : length additions ≡ length desks) where
   pub as_many : length rest ≡ length others
@@ -87,3 +108,10 @@ module _ (additions rest : List Addition) (a : Addition) (desks others : List Ho
       → new ++ now ∷ [] ≡ map (λ p. with_addition p.0 p.1) (zip additions desks)
   all_added now new own is =
       (λ i. is i ++ own i ∷ []) ∙ sym (ap (map (λ p. with_addition p.0 p.1)) pairs ∙ map-append (λ p. with_addition p.0 p.1) (zip rest others) ((a, d) ∷ []))
+
+  -- where the last desk gets nothing
+  pub last_stays : (result : Result (Unit {0}) Refusal) (new : List Holdings) → a.records.items ≡ [] → a.archives.items ≡ []
+      → MatchResult result (λ _. new ≡ map (λ p. with_addition p.0 p.1) (zip rest others)) (λ e. (e ≡ Memory) × (new ≡ others))
+      → MatchResult result (λ _. new ++ d ∷ [] ≡ map (λ p. with_addition p.0 p.1) (zip additions desks)) (λ e. (e ≡ Memory) × (new ++ d ∷ [] ≡ desks))
+  last_stays (Ok done) new no_records no_archives is = all_added d new (nothing_added a d no_records no_archives) is
+  last_stays (Err why) new no_records no_archives is = (is.0, ap (λ (ds : List Holdings). ds ++ d ∷ []) is.1 ∙ sym all)

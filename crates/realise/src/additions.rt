@@ -42,6 +42,9 @@ pub fn add_to_each(
         return Ok(());
     };
     let Addition { records, archives } = additions.pop().unwrap();
+    if records.is_empty() && archives.is_empty() {
+        return add_to_each(alloc, others, additions);
+    }
     let count = desk.records.len();
     desk.holding.reserve(archives.len())?;
     desk.records.push_all(alloc, records)?;

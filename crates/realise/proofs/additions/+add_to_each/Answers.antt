@@ -1,9 +1,10 @@
 use Rattle.std.proofs.Common.{◌≡◌, ◌++◌, [], ◌∷◌, take, refl, rules, sym, ap, subst, ◌∙◌, arith}
 use Rattle.std.proofs.Math.Seq.{take-append_seam}
+use Rattle.std.specs.Prelude.{vec_len}
 use Rattle.realise.specs.Additions.{MayAdd, with_addition}
 use Rattle.realise.specs.Kept.{holdings_of}
 use Rattle.realise.proofs.KeepingLemmas.{kept}
-use Rattle.realise.proofs.AdditionLemmas.{as_many, may_others, all_added, addition_bytes, addition_view, addition_kept}
+use Rattle.realise.proofs.AdditionLemmas.{as_many, may_others, all_added, last_stays, no_items, addition_bytes, addition_view, addition_kept}
 use Rattle.realise.proofs.additions.+add_to_each.Goals as goal
 
 pub invariant_of-desk : goal.invariant_of-desk
@@ -25,6 +26,31 @@ add_to_each-requires t c =
       search rules,
       (as_many c.args.additions.items rest last c.args.desks.now others own are all c.requires.each, (may_others c.args.additions.items rest last c.args.desks.now others own are all c.requires.each c.requires.may).0),
     )
+
+pub add_to_each-requires-2 : goal.add_to_each-requires-2
+add_to_each-requires-2 t c =
+    let rest = c.pop.new.self.items in
+    let last = c.unwrap-records.result in
+    let others = c.in-Some.others.now in
+    let own = c.in-Some.desk.now in
+    let are : c.args.additions.items ≡ rest ++ last ∷ [] = search rules in
+    let all : c.args.desks.now ≡ others ++ own ∷ [] = search rules in (
+      search rules,
+      (as_many c.args.additions.items rest last c.args.desks.now others own are all c.requires.each, (may_others c.args.additions.items rest last c.args.desks.now others own are all c.requires.each c.requires.may).0),
+    )
+
+pub returns-then-is_empty-2 : goal.returns-then-is_empty-2
+returns-then-is_empty-2 t c =
+    let rest = c.pop.new.self.items in
+    let last = c.unwrap-records.result in
+    let others = c.in-Some.others.now in
+    let own = c.in-Some.desk.now in
+    let are : c.args.additions.items ≡ rest ++ last ∷ [] = search rules in
+    let all : c.args.desks.now ≡ others ++ own ∷ [] = search rules in
+    last_stays c.args.additions.items rest last c.args.desks.now others own are all c.requires.each c.add_to_each.result c.add_to_each.new.desks
+    (no_items last.records.items (vec_len last.records) c.is_empty.result (search rules) c.is_empty.ensures c.if-is_empty.true)
+    (no_items last.archives.items (vec_len last.archives) c.is_empty-then-is_empty.result (search rules) c.is_empty-then-is_empty.ensures c.if-is_empty-2.true)
+    c.add_to_each.ensures
 
 pub invariant_of-desk-in-Err : goal.invariant_of-desk-in-Err
 invariant_of-desk-in-Err t c =
@@ -71,7 +97,7 @@ returns t c =
     let are : c.args.additions.items ≡ rest ++ last ∷ [] = search rules in
     let all : c.args.desks.now ≡ others ++ own ∷ [] = search rules in
     all_added c.args.additions.items rest last c.args.desks.now others own are all
-    c.requires.each _ c.add_to_each.new.desks
+    c.requires.each _ c.add_to_each-2.new.desks
     (addition_view c.desk.inside c.desk.invariant last c.reserve.new.self c.in_ok-reserve.ensures.kept c.push_all.new.self
     c.put_all_reserved.new.self c.in_ok-push_all.ensures c.put_all_reserved.ensures
     ∙ ap (with_addition last) c.desk.view_is)
