@@ -26,6 +26,7 @@ mod preparing;
 mod processes;
 mod putting;
 mod queue;
+mod room;
 mod rounds;
 mod runner;
 mod serving;

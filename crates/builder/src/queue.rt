@@ -18,7 +18,7 @@ use std::collections::LinkedList;
 use std::sync::Wait;
 
 /// The places of the queue.
-const PLACES: usize = 64;
+pub(crate) const PLACES: usize = 64;
 
 /// What an end of the queue knows. It is part of what a token knows, and no value of it is made.
 pub(crate) struct QueueEnd {

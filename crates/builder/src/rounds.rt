@@ -10,6 +10,7 @@ ghost use Rattle.builder.specs.Tickets.{AreGoals};
 ghost use Rattle.builder.specs.Rounds.{Serves, IsRound};
 
 use crate::queue::{Producer, count, ticket_queue};
+use crate::room::TakenCount;
 use crate::runner::Runner;
 use crate::serving::{Orders, Workers, serve};
 use crate::shared::Shared;
@@ -112,6 +113,9 @@ pub fn round<S: Store + Send + Drop, Q: Runner + Send + Drop, R: Threads + Wait 
     let Ok((sender, receiver, producer)) = ticket_queue(alloc) else {
         return (Err(Refusal::Memory), workers);
     };
+    let Ok(taken) = TakenCount::new(alloc) else {
+        return (Err(Refusal::Memory), workers);
+    };
     let workers = Workers {
         left: workers,
         done,
@@ -121,6 +125,7 @@ pub fn round<S: Store + Send + Drop, Q: Runner + Send + Drop, R: Threads + Wait 
         alloc,
         sender: &sender,
         receiver: &receiver,
+        taken: &taken,
         given_up: &given_up,
     };
     let Served {

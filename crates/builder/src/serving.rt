@@ -17,7 +17,6 @@ use crate::thread::{Back, finish, start};
 use crate::ticket::Ticket;
 use crate::worker::Worker;
 use std::sync::Wait;
-use std::sync::atomic::Ordering;
 use std::thread::{Scope, Threads};
 
 /// What is put into the queue of a round: the tickets, and then so many Stops.
@@ -67,8 +66,7 @@ pub(crate) fn serve<
 {
     let Some(worker) = workers.left.pop() else {
         let Orders { tickets, stops } = orders;
-        let given_up = shared.given_up.load(Ordering::SeqCst);
-        let all_put = put_all(rt, shared.sender, producer, given_up, tickets, stops);
+        let all_put = put_all(rt, shared, producer, tickets, stops);
         return Tally::new(all_put);
     };
     let consumer = give_out(shared.sender, producer);

@@ -1,6 +1,7 @@
 //! What the threads of a round share.
 
 use crate::queue::{Receiver, Sender};
+use crate::room::TakenCount;
 use std::alloc::Global;
 use std::sync::atomic::AtomicBool;
 
@@ -13,6 +14,8 @@ pub(crate) struct Shared<'s> {
     pub(crate) sender: &'s Sender,
     /// Where they are taken.
     pub(crate) receiver: &'s Receiver,
+    /// How many of them were taken.
+    pub(crate) taken: &'s TakenCount,
     /// Whether a thread could not be started.
     pub(crate) given_up: &'s AtomicBool,
 }

@@ -15,8 +15,8 @@ use std::{fs, io};
 /// How often a call is made in all that signals interrupt.
 const MOST_TRIES: u32 = 1_000;
 
-/// How much is read of an output at once.
-const PIECE: usize = 16_384;
+/// How much is read of an output at once: a page of its pipe.
+const PIECE: usize = 4_096;
 
 /// Reads. A call that a signal interrupts is made again.
 fn read_again<R: Read>(reader: &mut R, buffer: &mut [u8]) -> io::Result<usize>

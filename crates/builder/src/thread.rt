@@ -77,13 +77,7 @@ fn run<S: Store, Q: Runner, R: Wait>(
             took_stop: false,
         };
     }
-    let Worked { met, took_stop } = work(
-        rt,
-        shared.alloc,
-        shared.receiver,
-        &mut worker,
-        &mut consumer,
-    );
+    let Worked { met, took_stop } = work(rt, shared, &mut worker, &mut consumer);
     Back {
         worker,
         consumer,

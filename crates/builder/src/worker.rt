@@ -8,8 +8,9 @@ ghost use Rattle.builder.specs.Tickets.{has_stop, StopsLast};
 ghost use Rattle.builder.specs.declared.ticket.Ticket.TheVariants.{Goal};
 ghost use Rattle.builder.specs.Working.{Call, Deals, Works};
 
-use crate::queue::{Consumer, Receiver, take};
+use crate::queue::{Consumer, take};
 use crate::runner::Runner;
+use crate::shared::Shared;
 use crate::store::Store;
 use crate::tasks::work_on;
 use crate::ticket::Ticket;
@@ -56,15 +57,14 @@ fn deal<S: Store, Q: Runner>(
 /// them.
 pub(crate) fn work<S: Store, Q: Runner, R: Wait>(
     rt: &R,
-    alloc: Global,
-    receiver: &Receiver,
+    shared: Shared<'_>,
     worker: &mut Worker<S, Q>,
     consumer: &mut Consumer,
 ) -> Worked
-    requires seat { IsSeatAt (receives_on receiver.now) consumer.old }
+    requires seat { IsSeatAt (receives_on shared.receiver.now) consumer.old }
     requires takes { (view consumer.old).takes ≡ true }
     requires none { view consumer.old ≡ taking (view consumer.old).number [] }
-    ensures seat { IsSeatAt (receives_on receiver.now) consumer.new }
+    ensures seat { IsSeatAt (receives_on shared.entry.receiver.now) consumer.new }
     ensures took { view consumer.new ≡ taking (view consumer.old).number (view consumer.new).taken }
     ensures works { (calls : List Call) × Works S.called S.asked Q.gives (view consumer.new).taken None
         calls worker.old result.met worker.new }
@@ -73,14 +73,17 @@ pub(crate) fn work<S: Store, Q: Runner, R: Wait>(
 {
     let mut met = None;
     for _ in rt.forever() {
-        match take(rt, receiver, consumer) {
+        match take(rt, shared.receiver, consumer) {
             Some(Ticket::Stop) => {
                 return Worked {
                     met,
                     took_stop: true,
                 };
             }
-            Some(Ticket::Goal(user, number)) => met = deal(alloc, worker, met, user, number),
+            Some(Ticket::Goal(user, number)) => {
+                shared.taken.add_one(rt);
+                met = deal(shared.alloc, worker, met, user, number);
+            }
             None => {
                 return Worked {
                     met,
