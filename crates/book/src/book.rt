@@ -388,7 +388,7 @@ impl<J: FrontId> Book<J> {
         timed_isolation();
         closures_are_good();
         let Book {
-            cores: _cores,
+            cores,
             history,
             mut calls,
             mut stops,
@@ -405,6 +405,7 @@ impl<J: FrontId> Book<J> {
         History {
             rows: history,
             stopped,
+            cores: Some(cores),
         }
     }
 }

@@ -247,6 +247,7 @@ pub fn run<R: Threads + Wait + Sync, Q: Runner + Send + Drop, I: Read + Faults +
             history: History {
                 rows: Vec::new(alloc),
                 stopped: false,
+                cores: None,
             },
         });
     }
