@@ -10,6 +10,7 @@ use Rattle.storepath.specs.contracts.path.StorePath as StorePath
 use Rattle.storepath.proofs.path.StorePath.TheSendSync as paths
 use Rattle.storepath.proofs.name.Name.TheSendSync as names
 use Rattle.classes.proofs.admissions.Admissions.TheSendSync as admissions
+use Rattle.classes.proofs.admitted.Admitted.TheSendSync as admitted
 use Rattle.trust.proofs.pairs.Trust.TheSendSync as trusts
 use Rattle.trust.proofs.users.Users.TheSendSync as users
 use Rattle.records.specs.contracts.record.Record as Record
@@ -30,6 +31,9 @@ use Rattle.repair.proofs.replacements.Replacement.TheSendSync as replacements
 use Rattle.repair.specs.contracts.kept.Kept as Kept
 use Rattle.repair.specs.contracts.made.Made as Made
 use Rattle.repair.specs.contracts.cache.Cache as Cache
+use Rattle.resolving.specs.contracts.served.Served as Served
+use Rattle.resolving.specs.contracts.resolution.Resolution as Resolution
+use Rattle.resolving.specs.contracts.last_resolved.LastResolved as LastResolved
 use Rattle.jobs.specs.contracts.goal.Goal as Goal
 use Rattle.jobs.specs.contracts.goals.Goals as Goals
 use Rattle.jobs.specs.contracts.users.Jobs as Jobs
@@ -249,8 +253,19 @@ settlements_send = declared_send Settlements.the_type (search (crosses, settleme
 settlements_sync : IsSync Settlements.the_row
 settlements_sync = declared_sync Settlements.the_type (search (crosses, settlement_sync) depth 5, (search sendable, tt))
 
+served_send : IsSend Served.the_row
+served_send = search (sendable, crosses, path_send) depth 60 fits 5000
+
+resolution_send : IsSend Resolution.the_row
+resolution_send = search (sendable, crosses, admitted.the_send, served_send, resolved_send) depth 60 fits 5000
+
+last_resolved_send : IsSend LastResolved.the_row
+last_resolved_send = search (sendable, crosses, resolution_send) depth 60 fits 5000
+
 ready_send : IsSend Ready.the_row
-ready_send = declared_send Ready.the_type (declared_send Work.the_type (sources_send, (admissions.the_send, (settlements_send, (cache_send, tt)))), tt)
+ready_send =
+    declared_send Ready.the_type
+    (declared_send Work.the_type (sources_send, (admissions.the_send, (settlements_send, (cache_send, (last_resolved_send, tt))))), tt)
 
 -- ---- both cores
 

@@ -5,6 +5,7 @@ use Rattle.std.specs.Prelude.{All, MatchResult, IfOk, IfSome, IfNone, OnOk, OnEr
 use Rattle.model.specs.declared.refusal.Refusal.{Refusal}
 use Rattle.model.specs.declared.refusal.Refusal.TheVariants.{Memory}
 use Rattle.model.specs.Derivations.{Derivation}
+use Rattle.model.specs.Classes.{Admission}
 use Rattle.model.specs.Worlds.{Source, Planned, Failed, Resolved, Goal}
 use Rattle.model.specs.Goals.{goal_at, with_goal_at, in_status}
 use Rattle.model.specs.Events as events
@@ -78,8 +79,8 @@ module _ (s : State) (place n : ℕ) (set : ℕ → Bool) (reach : IsReach (trus
   old = s.table.sources
 
   -- what is told of a goal is told of what the user at the place sees
-  pub told_so : HasPlace s place → (result : Result (Bor Derivation) Refusal) → TellsToPlan own desk.known (names s.users set) n result
-      → MatchResult result (λ d. IsToPlan (observation_at s place) n d.now) (λ why. plan (observation_at s place) n ≡ Err why)
+  pub told_so : HasPlace s place → (result : Result (Bor Admission) Refusal) → TellsToPlan own desk.known (names s.users set) n result
+      → MatchResult result (λ d. IsToPlan (observation_at s place) n d.now.derivation) (λ why. plan (observation_at s place) n ≡ Err why)
   told_so inside result tells =
       told_of_him s.users s.limits.charge (trusts s.trust) s.jobs.goals old s.desks.items place n s.run.listed s.run.paired s.run.within s.run.sound
       s.run.goals_sound (name_at s.users place) (place_found s.users place (distinct_users s.users s.run.listed) inside) set result reach tells
@@ -97,22 +98,23 @@ module _ (s : State) (place n : ℕ) (set : ℕ → Bool) (reach : IsReach (trus
       (told_of_him s.users s.limits.charge (trusts s.trust) s.jobs.goals old s.desks.items place n s.run.listed s.run.paired s.run.within s.run.sound
       s.run.goals_sound actor found set (Err why) reach tells))
 
-  module _ (d : Bor Derivation) (tells : TellsToPlan own desk.known (names s.users set) n (Ok d)) where
+  module _ (d : Bor Admission) (tells : TellsToPlan own desk.known (names s.users set) n (Ok d)) where
     its : (g : Goal) × (goal_at n own ≡ Some g)
     its = goal_there own desk.known (names s.users set) n d tells
 
     -- it is not resolved
-    pub unresolved_so : (why : Refusal) → AtPlace (trusts s.trust) old s.desks.items place (λ setup w u. IsNotResolvedFor setup w u d.now why)
+    pub unresolved_so : (why : Refusal) → AtPlace (trusts s.trust) old s.desks.items place (λ setup w u. IsNotResolvedFor setup w u d.now.derivation why)
         → fails why ≡ false → Handles s place (events.Plan n) (Err why) s
     unresolved_so why unresolved final = left_so s place (events.Plan n) (Err why) (λ actor found.
         let it = told_of_him s.users s.limits.charge (trusts s.trust) s.jobs.goals old s.desks.items place n s.run.listed s.run.paired s.run.within s.run.sound
         s.run.goals_sound actor found set (Ok d) reach tells in
         not_resolved s.users s.limits.charge (trusts s.trust) s.jobs.goals old s.desks.items place n s.run.listed s.run.paired s.run.within s.run.sound
-        s.run.goals_sound actor found d.now it why (unresolved s.users s.limits.charge s.jobs.goals actor s.run.listed found s.run.paired s.run.within) final)
+        s.run.goals_sound actor found d.now.derivation it why
+        (unresolved s.users s.limits.charge s.jobs.goals actor s.run.listed found s.run.paired s.run.within) final)
 
     -- it fails
     pub failed_so : (why : Refusal) (new : OwnedByAll) (told : Rust.Reply)
-        → AtPlace (trusts s.trust) old s.desks.items place (λ setup w u. IsNotResolvedFor setup w u d.now why) → fails why ≡ true
+        → AtPlace (trusts s.trust) old s.desks.items place (λ setup w u. IsNotResolvedFor setup w u d.now.derivation why) → fails why ≡ true
         → ChangesGoal place n (in_status (Failed why)) s.jobs new → reply_of told ≡ replies.Status (Failed why)
         → IsHandledByAll (parts_of s) place (events.Plan n) (Ok told) (record (parts_of s) { goals = new.goals })
     failed_so why new told unresolved final changes is =
@@ -120,15 +122,15 @@ module _ (s : State) (place n : ℕ) (set : ℕ → Bool) (reach : IsReach (trus
         let it = told_of_him s.users s.limits.charge (trusts s.trust) s.jobs.goals old s.desks.items place n s.run.listed s.run.paired s.run.within s.run.sound
         s.run.goals_sound actor found set (Ok d) reach tells in
         let there = own_there s.users s.limits.charge (trusts s.trust) s.jobs.goals old s.desks.items place n s.run.listed s.run.paired s.run.within s.run.sound
-        s.run.goals_sound actor found d.now it in
+        s.run.goals_sound actor found d.now.derivation it in
         let same : it.goal ≡ its.0 = (let two : Some it.goal ≡ Some its.0 = sym there ∙ its.1 in cc) in
         rw (← same)
         (failed s.users s.limits.charge (trusts s.trust) s.jobs.goals old s.desks.items place n s.run.listed s.run.paired s.run.within s.run.sound
-        s.run.goals_sound actor found d.now it why told
+        s.run.goals_sound actor found d.now.derivation it why told
         (unresolved s.users s.limits.charge s.jobs.goals actor s.run.listed found s.run.paired s.run.within) final is))
 
     module _ (law : ServedAreMade) (r : Resolved)
-        (resolved : AtPlace (trusts s.trust) old s.desks.items place (λ setup w u. IsResolvedFor setup w u d.now r)) where
+        (resolved : AtPlace (trusts s.trust) old s.desks.items place (λ setup w u. IsResolvedFor setup w u d.now.derivation r)) where
       -- it is not kept
       pub unkept_so : (why : Refusal) → IsNotKept old r why → Handles s place (events.Plan n) (Err why) s
       unkept_so why unkept = left_so s place (events.Plan n) (Err why) (λ actor found.
@@ -136,7 +138,7 @@ module _ (s : State) (place n : ℕ) (set : ℕ → Bool) (reach : IsReach (trus
           s.run.sound
           s.run.goals_sound actor found set (Ok d) reach tells in
           not_kept s.users s.limits.charge (trusts s.trust) s.jobs.goals old s.desks.items place n s.run.listed s.run.paired s.run.within s.run.sound
-          s.run.goals_sound actor found d.now it law r (resolved s.users s.limits.charge s.jobs.goals actor s.run.listed found s.run.paired
+          s.run.goals_sound actor found d.now.derivation it law r (resolved s.users s.limits.charge s.jobs.goals actor s.run.listed found s.run.paired
           s.run.within) why unkept)
 
       module _ (closure : IsClosure r.closure) (new : OwnedByAll) (table : List Source) where
@@ -154,16 +156,17 @@ module _ (s : State) (place n : ℕ) (set : ℕ → Bool) (reach : IsReach (trus
             s.run.goals_sound actor found set (Ok d) reach tells in
             let own_goal = own_there s.users s.limits.charge (trusts s.trust) s.jobs.goals old s.desks.items place n s.run.listed s.run.paired
             s.run.within s.run.sound
-            s.run.goals_sound actor found d.now it in
+            s.run.goals_sound actor found d.now.derivation it in
             let same : it.goal ≡ its.0 = (let two : Some it.goal ≡ Some its.0 = sym own_goal ∙ its.1 in cc) in
             rw (← same, stored)
             (planned s.users s.limits.charge (trusts s.trust) s.jobs.goals old s.desks.items place n s.run.listed s.run.paired s.run.within s.run.sound
-            s.run.goals_sound actor found d.now it law r (resolved s.users s.limits.charge s.jobs.goals actor s.run.listed found s.run.paired s.run.within)
+            s.run.goals_sound actor found d.now.derivation it law r
+            (resolved s.users s.limits.charge s.jobs.goals actor s.run.listed found s.run.paired s.run.within)
             told is closure (subst (λ (t : List Source). All (IsStored t) r.closure) stored there)))
 
     -- a state keeps its facts, whatever comes of keeping it
     module _ (below : HasPlace s place) (law : ServedAreMade) (r : Resolved)
-        (resolved : AtPlace (trusts s.trust) old s.desks.items place (λ setup w u. IsResolvedFor setup w u d.now r)) (closure : IsClosure r.closure)
+        (resolved : AtPlace (trusts s.trust) old s.desks.items place (λ setup w u. IsResolvedFor setup w u d.now.derivation r)) (closure : IsClosure r.closure)
         (new : OwnedByAll) (table : List Source) where
       pub run_kept : (result : Result (Unit {0}) Refusal)
           → ((g : Goal) → goal_at n own ≡ Some g → OnOk result (new ≡ with_goals_at place (with_goal_at n (planned_with r g) own) s.jobs))

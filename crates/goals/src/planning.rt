@@ -25,7 +25,7 @@ ghost use Rattle.goals.specs.Sharing.{EqualsAllLike};
 
 use aterm::Derivation;
 use choose::View;
-use classes::input_classes;
+use classes::{Admitted, input_classes};
 use closure_laws::served_are_made;
 use events::CopiedReply;
 use handlers::{State, desks_in_view, plan_or_none, trees_of};
@@ -34,7 +34,7 @@ use laws::closures_are_whole;
 use model::Refusal;
 use records::{Plan, Resolved};
 use repair::Cache;
-use resolving::resolve_with;
+use resolving::{LastResolved, resolve};
 use std::alloc::Global;
 use store::Table;
 use storepath::StorePath;
@@ -86,18 +86,20 @@ fn resolved_for(
     state: &State,
     place: usize,
     cache: &mut Cache,
-    derivation: &Derivation,
+    last: &mut LastResolved,
+    admitted: &Admitted,
 ) -> Result<Resolved, Refusal>
     requires { HasPlace state.now place }
     ensures resolved { IsResolvedAt (trusts state.now.trust) state.now.table.sources
-        state.now.desks.items place derivation.now result }
+        state.now.desks.items place admitted.now.derivation result }
     ensures closure { IfOk result (λ r. IsClosure r.closure) }
-    ensures at_hand { HasRepairedToBuild (observation_at state.now place) derivation.now
+    ensures at_hand { HasRepairedToBuild (observation_at state.now place) admitted.now.derivation
         (made_in cache.old.made) → cache.new ≡ cache.old }
 {
+    let derivation = admitted.derivation();
     let classes = classes_for(alloc, state, place, derivation)?;
     let plan = plan_to_build(alloc, state, place, derivation, &classes)?;
-    resolve_with(alloc, &plan, derivation, &classes, cache)
+    resolve(alloc, &plan, admitted, &classes, cache, last)
 }
 
 /// Whether a goal waits, as one sees it who reaches the users of a set.
@@ -112,7 +114,7 @@ fn waits(state: &State, reached: UserSet, status: &Status) -> bool
     }
 }
 
-/// The derivation of a goal that is to be planned, for the user at a place, who reaches the users of
+/// What is known of the derivation of a goal that is to be planned, for the user at a place, who reaches the users of
 /// a set.
 ///
 /// A number without a goal is refused with 42 `UnknownGoal`, a goal that does not wait with 43
@@ -122,7 +124,7 @@ fn derivation_to_plan(
     reached: UserSet,
     place: usize,
     number: u16,
-) -> Result<&Derivation, Refusal>
+) -> Result<&Admitted, Refusal>
     requires { HasPlace state.now place }
     ensures told { TellsToPlan (goals_at place state.now.jobs)
         (desk_at state.now.desks.items place).known (names state.now.users (holds reached))
@@ -137,7 +139,7 @@ fn derivation_to_plan(
         return Err(Refusal::WrongState);
     }
     match state.desks[place].derivation(goal.derivation()) {
-        Some(admitted) => Ok(admitted.derivation()),
+        Some(admitted) => Ok(admitted),
         None => Err(Refusal::UnknownDerivation),
     }
 }
@@ -160,9 +162,10 @@ pub fn plan_for_goal(
     ensures memory { IfErr result (λ why. why ≡ Memory) }
 {
     let reached = state.trust.closure(place);
-    let Ok(derivation) = derivation_to_plan(state, reached, place, number) else {
+    let Ok(admitted) = derivation_to_plan(state, reached, place, number) else {
         return Ok(None);
     };
+    let derivation = admitted.derivation();
     let classes = classes_for(alloc, state, place, derivation)?;
     plan_or_none(plan_to_build(alloc, state, place, derivation, &classes))
 }
@@ -235,12 +238,14 @@ fn keep(
 /// - `Clash` only where another tree is stored at the path of an entry.
 /// - `Memory` only where memory was refused; it may stand in the place of each answer but the first two.
 ///
-/// Where all that is repaired for it was repaired before, nothing is.
+/// Where all that is repaired for it was repaired before, nothing is. What was resolved last is used again where
+/// it is of the same.
 pub fn plan(
     alloc: Global,
     state: &mut State,
     place: usize,
     cache: &mut Cache,
+    last: &mut LastResolved,
     number: u16,
 ) -> Result<CopiedReply, Refusal>
     requires { HasPlace state.old place }
@@ -250,8 +255,8 @@ pub fn plan(
 {
     served_are_made();
     let reached = state.trust.closure(place);
-    let derivation = derivation_to_plan(state, reached, place, number)?;
-    match resolved_for(alloc, state, place, cache, derivation) {
+    let admitted = derivation_to_plan(state, reached, place, number)?;
+    match resolved_for(alloc, state, place, cache, last, admitted) {
         Ok(resolved) => {
             keep(
                 alloc,

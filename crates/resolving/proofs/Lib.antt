@@ -1,2 +1,3 @@
+pub mod SameLemmas
 pub mod ServedPathLemmas
 pub mod ResolvingLemmas

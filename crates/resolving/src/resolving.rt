@@ -9,39 +9,14 @@ ghost use Rattle.records.specs.Sound.{IsSoundPlan};
 ghost use Rattle.repair.specs.Counting.{made_in, IsForStep};
 ghost use Rattle.repair.specs.Prepared.{HasRepaired};
 
-use crate::served::{Served, served_among};
-use crate::strings::resolved_parts;
-use aterm::{Derivation, print_parts};
-use hashmod::sha256;
+use crate::last_resolved::LastResolved;
+use crate::served::served_among;
+use classes::Admitted;
 use model::Refusal;
 use records::{Plan, Resolved};
 use repair::{Cache, served_closure_with};
 use std::alloc::Global;
-use storepath::{Kind, Name, StorePath, make_path};
-
-// The text of a derivation whose inputs' classes are served by these paths.
-fn resolved_text(
-    alloc: Global,
-    derivation: &Derivation,
-    served: &[Served],
-) -> Result<Vec<u8>, Refusal>
-    ensures { let answer = resolved_text served.now derivation.now in MatchResult result
-        (λ text. answer ≡ Ok text.items)
-        (λ e. (e ≡ Memory) ⊎ (answer ≡ Err e)) }
-{
-    let parts = resolved_parts(alloc, derivation, served)?;
-    print_parts(alloc, &parts)
-}
-
-// The path under which a resolved text is built. The one error is memory.
-fn scratch_path(alloc: Global, text: &[u8], derivation: &Derivation) -> Result<StorePath, Refusal>
-    ensures { MatchResult result
-        (λ path. path ≡ scratch_path text.now derivation.now)
-        (λ e. e ≡ Memory) }
-{
-    let name = Name::new(alloc, derivation.name())?;
-    make_path(alloc, &Kind::Scratch, &sha256(text), &name)
-}
+use storepath::StorePath;
 
 /// What a derivation is built from, where its inputs have these classes, and the plan is that of the
 /// classes and of its sources.
@@ -60,16 +35,17 @@ fn scratch_path(alloc: Global, text: &[u8], derivation: &Derivation) -> Result<S
 /// - `Memory` only where memory was refused; it may stand in the place of each answer.
 ///
 /// A cache for one step has what came of each record that is repaired then. Where it had all that before,
-/// none is repaired.
-pub fn resolve_with(
+/// none is repaired. A text that was resolved last of the same is used again.
+pub fn resolve(
     alloc: Global,
     plan: &Plan,
-    derivation: &Derivation,
+    admitted: &Admitted,
     classes: &[StorePath],
     cache: &mut Cache,
+    last: &mut LastResolved,
 ) -> Result<Resolved, Refusal>
     ensures resolved { let entries = served_plan plan.now in
-        let answer = then_do entries (resolved_over classes.now derivation.now) in
+        let answer = then_do entries (resolved_over classes.now admitted.now.derivation) in
         MatchResult result
         (λ resolved. answer ≡ Ok resolved)
         (λ e. (e ≡ Memory) ⊎ (answer ≡ Err e)) }
@@ -80,24 +56,5 @@ pub fn resolve_with(
 {
     let entries = served_closure_with(alloc, plan, cache)?;
     let served = served_among(alloc, &entries, classes)?;
-    let text = resolved_text(alloc, derivation, &served)?;
-    let scratch = scratch_path(alloc, &text, derivation)?;
-    Resolved::new(entries, text, scratch)
-}
-
-/// The same, where no record was repaired before.
-pub fn resolve(
-    alloc: Global,
-    plan: &Plan,
-    derivation: &Derivation,
-    classes: &[StorePath],
-) -> Result<Resolved, Refusal>
-    ensures resolved { let entries = served_plan plan.now in
-        let answer = then_do entries (resolved_over classes.now derivation.now) in
-        MatchResult result
-        (λ resolved. answer ≡ Ok resolved)
-        (λ e. (e ≡ Memory) ⊎ (answer ≡ Err e)) }
-    ensures sound { IfOk result (λ _. IsSoundPlan plan.now) }
-{
-    resolve_with(alloc, plan, derivation, classes, &mut Cache::none())
+    last.resolve(alloc, admitted, served, entries)
 }

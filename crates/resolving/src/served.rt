@@ -18,6 +18,7 @@ use std::marker::Model;
 use storepath::StorePath;
 
 /// A class, with the path that serves it.
+#[derive(PartialEq, Eq)]
 pub(crate) struct Served {
     class: StorePath,
     path: StorePath,
@@ -35,6 +36,8 @@ impl Model for Served {
     ghost Value = { ServedValue };
 
     ghost view = { λ s. record { class = s.class; path = s.path } };
+
+    ghost inverse = { λ s. record { class = s.class; path = s.path } };
 }
 
 impl Served {

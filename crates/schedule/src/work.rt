@@ -6,17 +6,19 @@ ghost use Rattle.repair.specs.Counting.{IsForStep};
 use classes::Admissions;
 use outputs::{Settlements, Sources};
 use repair::Cache;
+use resolving::LastResolved;
 use std::alloc::Global;
 
 /// What a step is done with: paths of sources, admitted derivations, settled trees and repaired records that
-/// were made before. Each names all that it was made of, and is used only where that is at hand; else the step
-/// makes the value itself, and counts it.
+/// were made before, and what was resolved last. Each names all that it was made of, and is used only where that
+/// is at hand; else the step makes the value itself, and counts it, unless it is what it resolves.
 #[derive(Drop)]
 pub(crate) struct Work {
     pub(crate) sources: Sources,
     pub(crate) admissions: Admissions,
     pub(crate) settlements: Settlements,
     pub(crate) cache: Cache,
+    pub(crate) resolved: LastResolved,
 }
 
 impl Work {
@@ -29,6 +31,7 @@ impl Work {
             admissions: Admissions::none(alloc),
             settlements: Settlements::none(alloc),
             cache: Cache::none(),
+            resolved: LastResolved::none(),
         }
     }
 

@@ -16,6 +16,6 @@ pub returns-clause-needed : goal.returns-clause-needed
 returns-clause-needed c =
     let s = c.args.state.now in
     let it = told_so s c.args.place c.args.number (holds c.closure-reached.result) c.closure-reached.ensures c.requires
-    (Ok c.in-Ok.derivation) c.in-Ok.ensures.told in
-    goal_needed s c.args.place c.args.number c.in-Ok.derivation.now c.plan_to_build.result c.plan_or_none.result c.requires it
-    c.plan_to_build.ensures.planned c.plan_or_none.ensures.some c.plan_or_none.ensures.none
+    (Ok c.in-Ok.admitted) c.in-Ok.ensures.told in
+    goal_needed s c.args.place c.args.number c.in-Ok.admitted.now.derivation c.plan_to_build.result c.plan_or_none.result c.requires it
+    (rw (← c.derivation-derivation.ensures) c.plan_to_build.ensures.planned) c.plan_or_none.ensures.some c.plan_or_none.ensures.none

@@ -2,7 +2,6 @@ use Rattle.std.proofs.Common.{◌≡◌, sym, ◌∙◌, ap, subst}
 use Rattle.std.proofs.lemmas.List.{get_or_default}
 use Rattle.model.specs.Derivations.{Derivation}
 use Rattle.model.specs.Choices.{closure_plan}
-use Rattle.model.specs.Resolutions.{input_classes}
 use Rattle.realise.specs.Holdings.{Holdings}
 use Rattle.trust.specs.Trusting.{trusts}
 use Rattle.choose.specs.Visible.{desks_of}

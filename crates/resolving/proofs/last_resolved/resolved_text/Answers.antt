@@ -1,7 +1,7 @@
 use Rattle.std.proofs.lemmas.Result.{err_from_is_err_and}
 use Rattle.aterm.specs.Parts.{derivation_of}
 use Rattle.resolving.proofs.ResolvingLemmas.{text_refused, text_printed}
-use Rattle.resolving.proofs.resolving.resolved_text.Goals as goal
+use Rattle.resolving.proofs.last_resolved.resolved_text.Goals as goal
 
 pub returns-in_err-parts : goal.returns-in_err-parts
 returns-in_err-parts c =
