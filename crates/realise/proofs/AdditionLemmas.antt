@@ -1,5 +1,6 @@
 -- A desk with records more, and several desks.
-use Rattle.std.proofs.Common.{◌≡◌, ℕ, ◌+◌, Bool, true, List, [], ◌∷◌, ◌++◌, length, map, refl, sym, ap, ◌∙◌, subst, append_assoc, append-nil, arith, Result, Ok, Err}
+use Rattle.std.proofs.Common.{◌≡◌, ℕ, ◌+◌, Bool, true, List, [], ◌∷◌, ◌++◌, length, map, refl, sym, ap, ◌∙◌, subst, append_assoc, append-nil}
+use Rattle.std.proofs.Common.{arith, Result, Ok, Err}
 use Rattle.std.specs.Prelude.{All, MatchResult}
 use Rattle.model.specs.declared.refusal.Refusal.{Refusal}
 use Rattle.model.specs.declared.refusal.Refusal.TheVariants.{Memory}
@@ -103,6 +104,9 @@ module _ (additions rest : List Addition) (a : Addition) (desks others : List Ho
   pub may_others : All (λ p. MayAdd p.0 p.1) (zip additions desks) → All (λ p. MayAdd p.0 p.1) (zip rest others) × MayAdd a d
   may_others may =
       all_parts (λ p. MayAdd p.0 p.1) (zip rest others) (a, d) (subst (All (λ p. MayAdd p.0 p.1)) pairs may)
+
+  pub others_may : All (λ p. MayAdd p.0 p.1) (zip additions desks) → (length rest ≡ length others) × All (λ p. MayAdd p.0 p.1) (zip rest others)
+  others_may may = (as_many, (may_others may).0)
 
   pub all_added : (now : Holdings) (new : List Holdings) → now ≡ with_addition a d → new ≡ map (λ p. with_addition p.0 p.1) (zip rest others)
       → new ++ now ∷ [] ≡ map (λ p. with_addition p.0 p.1) (zip additions desks)

@@ -4,7 +4,7 @@ use Rattle.std.specs.Prelude.{vec_len}
 use Rattle.realise.specs.Additions.{MayAdd, with_addition}
 use Rattle.realise.specs.Kept.{holdings_of}
 use Rattle.realise.proofs.KeepingLemmas.{kept}
-use Rattle.realise.proofs.AdditionLemmas.{as_many, may_others, all_added, last_stays, no_items, addition_bytes, addition_view, addition_kept}
+use Rattle.realise.proofs.AdditionLemmas.{others_may, may_others, all_added, last_stays, no_items, addition_bytes, addition_view, addition_kept}
 use Rattle.realise.proofs.additions.+add_to_each.Goals as goal
 
 pub invariant_of-desk : goal.invariant_of-desk
@@ -24,7 +24,7 @@ add_to_each-requires t c =
     let are : c.args.additions.items ≡ rest ++ last ∷ [] = search rules in
     let all : c.args.desks.now ≡ others ++ own ∷ [] = search rules in (
       search rules,
-      (as_many c.args.additions.items rest last c.args.desks.now others own are all c.requires.each, (may_others c.args.additions.items rest last c.args.desks.now others own are all c.requires.each c.requires.may).0),
+      others_may c.args.additions.items rest last c.args.desks.now others own are all c.requires.each c.requires.may,
     )
 
 pub add_to_each-requires-2 : goal.add_to_each-requires-2
@@ -36,7 +36,7 @@ add_to_each-requires-2 t c =
     let are : c.args.additions.items ≡ rest ++ last ∷ [] = search rules in
     let all : c.args.desks.now ≡ others ++ own ∷ [] = search rules in (
       search rules,
-      (as_many c.args.additions.items rest last c.args.desks.now others own are all c.requires.each, (may_others c.args.additions.items rest last c.args.desks.now others own are all c.requires.each c.requires.may).0),
+      others_may c.args.additions.items rest last c.args.desks.now others own are all c.requires.each c.requires.may,
     )
 
 pub returns-then-is_empty-2 : goal.returns-then-is_empty-2
