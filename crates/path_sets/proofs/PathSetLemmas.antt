@@ -5,7 +5,7 @@ use Rattle.std.specs.Prelude.{◌||◌, ◌==◌, ◌&&◌, not, codes, nat_lt, 
 use Rattle.std.specs.Map.{lookup}
 use Rattle.std.specs.Str.{bytes_eq}
 use Rattle.std.proofs.lemmas.Bool.{false≢true, cases_Bool, or_cases, leb-true, and_parts}
-use Rattle.std.proofs.lemmas.List.{length-append, append-nil}
+use Rattle.std.proofs.lemmas.List.{length-append, length-drop, append-nil}
 use Rattle.std.proofs.lemmas.List.Elements.{filter-append, All-push, All-nil, All-head, All-tail, All-take}
 use Rattle.std.proofs.lemmas.List.Folds.{list_any-append}
 use Rattle.std.specs.List.{list_any, list_all, flat_map}
@@ -17,11 +17,11 @@ use Rattle.std.proofs.Math.Dec.{eqb-suc-zero}
 use Rattle.model.specs.Occurrences.{AreKeys, IsHashPart, among}
 use Rattle.model.specs.Classes.{is_one_of}
 use Rattle.model.specs.Paths.{IsPath, path_text, base32, is_name, is_name_byte, begins_with_dot}
-use Rattle.storepath.proofs.PathLemmas.{length-base32}
+use Rattle.storepath.proofs.PathLemmas.{length-base32, parts_of-path_text, drop-path_text}
 use Rattle.model.proofs.BoolLemmas.{bytes_eq_sym}
 use Rattle.model.specs.Settling.{hash_part_in}
 use Rattle.path_sets.specs.Slots.{is_marked, with_mark}
-use Rattle.path_sets.specs.PathSets.{Groups, HasOneLess, HasOneMore, HasSame, IsTable, counted, group_at, parts_of, with_part, without_last}
+use Rattle.path_sets.specs.PathSets.{Groups, HasOneLess, HasOneMore, HasSame, IsTable, base_name, counted, group_at, parts_of, with_part, without_last}
 use Rattle.path_sets.proofs.SlotLemmas.{marked_more}
 
 -- ---- hash parts
@@ -49,9 +49,9 @@ none_with part (p ∷ ps) none = elim (cases_Bool (bytes_eq (hash_part_in p) par
 ]
 
 -- no path has a hash part whose slot is not marked
-pub none_unmarked : (paths : List (List ℕ)) (groups : Groups) (slots texts window : List ℕ) → IsTable paths groups slots texts
+pub none_unmarked : (paths : List (List ℕ)) (groups : Groups) (slots names window : List ℕ) → IsTable paths groups slots names
     → is_marked slots window ≡ false → with_part window paths ≡ []
-none_unmarked paths groups slots texts window is unmarked = elim (cases_Bool (among (parts_of paths) window)) [
+none_unmarked paths groups slots names window is unmarked = elim (cases_Bool (among (parts_of paths) window)) [
   | inl there ↦ absurd (false≢true (sym unmarked ∙ is.marked window there))
   | inr none ↦ none_with window paths none
 ]
@@ -79,14 +79,14 @@ parts_more : (paths : List (List ℕ)) (path : List ℕ) → parts_of (paths ++ 
 parts_more [] path = refl
 parts_more (p ∷ ps) path = ap (λ rest. hash_part_in p ∷ rest) (parts_more ps path)
 
-texts_more : (paths : List (List ℕ)) (path : List ℕ) → flat_map counted paths ++ counted path ≡ flat_map counted (paths ++ path ∷ [])
-texts_more paths path = sym (flat_map-append counted paths (path ∷ []) ∙ ap (λ ts. flat_map counted paths ++ ts) (append-nil (counted path)))
+names_more : (paths : List (List ℕ)) (path : List ℕ) → flat_map counted paths ++ counted path ≡ flat_map counted (paths ++ path ∷ [])
+names_more paths path = sym (flat_map-append counted paths (path ∷ []) ∙ ap (λ ts. flat_map counted paths ++ ts) (append-nil (counted path)))
 
-pub table_more : (paths : List (List ℕ)) (old new : Groups) (slots marked texts part path : List ℕ) → IsTable paths old slots texts
+pub table_more : (paths : List (List ℕ)) (old new : Groups) (slots marked names part path : List ℕ) → IsTable paths old slots names
     → IsPath path → IsHashPart part → part ≡ hash_part_in path → ((window : List ℕ) → is_marked marked window ≡ with_mark part slots window)
     → HasOneMore part path old new
-    → IsTable (paths ++ path ∷ []) new marked (texts ++ counted path)
-table_more paths old new slots marked texts part path is is_path is_part same marks more = record {
+    → IsTable (paths ++ path ∷ []) new marked (names ++ counted path)
+table_more paths old new slots marked names part path is is_path is_part same marks more = record {
   paths_are = All-push IsPath paths path is.paths_are is_path;
   parts_are = All-push (λ p. IsHashPart (hash_part_in p)) paths path is.parts_are (subst IsHashPart same is_part);
   grouped = λ p. elim (cases_Bool (bytes_eq part p)) [
@@ -103,18 +103,18 @@ table_more paths old new slots marked texts part path is is_path is_part same ma
       let among_more : among (parts_of paths ++ part ∷ []) w ≡ true = ap (λ ps. among ps w) (ap (λ q. parts_of paths ++ q ∷ []) same
       ∙ sym (parts_more paths path)) ∙ there in
       marked_more (parts_of paths) slots marked part w (is.marked w) (marks w) among_more;
-  texts_are = ap (λ ts. ts ++ counted path) is.texts_are ∙ texts_more paths path;
+  names_are = ap (λ ts. ts ++ counted path) is.names_are ∙ names_more paths path;
 }
 
 -- the same paths in the same groups
-pub table_same : (paths : List (List ℕ)) (old new : Groups) (slots texts : List ℕ) → IsTable paths old slots texts → HasSame old new
-    → IsTable paths new slots texts
-table_same paths old new slots texts is same = record {
+pub table_same : (paths : List (List ℕ)) (old new : Groups) (slots names : List ℕ) → IsTable paths old slots names → HasSame old new
+    → IsTable paths new slots names
+table_same paths old new slots names is same = record {
   paths_are = is.paths_are;
   parts_are = is.parts_are;
   grouped = λ p. same p ∙ is.grouped p;
   marked = is.marked;
-  texts_are = is.texts_are;
+  names_are = is.names_are;
 }
 
 pub table_new : (slots : List ℕ) → IsTable [] [] slots []
@@ -123,7 +123,7 @@ table_new slots = record {
   parts_are = All-nil (λ p. IsHashPart (hash_part_in p));
   grouped = λ p. refl;
   marked = λ w there. absurd (false≢true there);
-  texts_are = refl;
+  names_are = refl;
 }
 
 -- ---- one path less
@@ -133,22 +133,24 @@ without_more paths path =
     let long : length (paths ++ path ∷ []) - 1 ≡ length paths = let e = length-append paths (path ∷ []) in omega (arith, e) in
     ap (λ n. take n (paths ++ path ∷ [])) long ∙ take-append_seam paths (path ∷ [])
 
--- the texts of all, and how many bytes those are in front of the last
-texts_of : (paths : List (List ℕ)) (path texts : List ℕ) → texts ≡ flat_map counted (paths ++ path ∷ [])
-    → (texts ≡ flat_map counted paths ++ counted path) × (length texts - length path - 1 ≡ length (flat_map counted paths)) × (length path < length texts)
-texts_of paths path texts are =
-    let split : texts ≡ flat_map counted paths ++ counted path = are ∙ sym (texts_more paths path) in
-    let long : length texts ≡ length (flat_map counted paths) + (length path + 1) =
+-- the base names of all, and how many bytes those are in front of the last
+names_of : (paths : List (List ℕ)) (path names : List ℕ) → names ≡ flat_map counted (paths ++ path ∷ [])
+    → (names ≡ flat_map counted paths ++ counted path) × (length names - length (base_name path) - 1 ≡ length (flat_map counted paths))
+    × (length (base_name path) < length names)
+names_of paths path names are =
+    let split : names ≡ flat_map counted paths ++ counted path = are ∙ sym (names_more paths path) in
+    let long : length names ≡ length (flat_map counted paths) + (length (base_name path) + 1) =
     ap length split ∙ length-append (flat_map counted paths) (counted path) ∙ (let n = length (flat_map counted paths) in omega arith) in
     (split, omega (arith, long), omega (arith, long))
 
--- the text of the last stands among the texts, behind its length
-pub last_text_within : (paths : List (List ℕ)) (path texts : List ℕ) → texts ≡ flat_map counted (paths ++ path ∷ []) → length path < length texts
-last_text_within paths path texts are = (texts_of paths path texts are).2
+-- the base name of the last stands among those, behind its length
+pub last_name_within : (paths : List (List ℕ)) (path names : List ℕ) → names ≡ flat_map counted (paths ++ path ∷ [])
+    → length (base_name path) < length names
+last_name_within paths path names are = (names_of paths path names are).2
 
-pub table_less : (paths : List (List ℕ)) (old new : Groups) (slots texts part path : List ℕ) → IsTable (paths ++ path ∷ []) old slots texts
-    → part ≡ hash_part_in path → HasOneLess part old new → IsTable paths new slots (take (length texts - length path - 1) texts)
-table_less paths old new slots texts part path is same less = record {
+pub table_less : (paths : List (List ℕ)) (old new : Groups) (slots names part path : List ℕ) → IsTable (paths ++ path ∷ []) old slots names
+    → part ≡ hash_part_in path → HasOneLess part old new → IsTable paths new slots (take (length names - length (base_name path) - 1) names)
+table_less paths old new slots names part path is same less = record {
   paths_are = subst (All IsPath) (without_more paths path) (All-take IsPath (length (paths ++ path ∷ []) - 1) (paths ++ path ∷ []) is.paths_are);
   parts_are = subst (All (λ p. IsHashPart (hash_part_in p))) (without_more paths path)
       (All-take (λ p. IsHashPart (hash_part_in p)) (length (paths ++ path ∷ []) - 1) (paths ++ path ∷ []) is.parts_are);
@@ -168,8 +170,8 @@ table_less paths old new slots texts part path is same less = record {
       ∙ list_any-append (λ q. bytes_eq q w) (parts_of paths) (hash_part_in path ∷ [])
       ∙ ap (λ b. b || list_any (λ q. bytes_eq q w) (hash_part_in path ∷ [])) there in
       is.marked w still;
-  texts_are = let long = texts_of paths path texts is.texts_are in
-      ap (λ n. take n texts) long.1 ∙ ap (take (length (flat_map counted paths))) long.0 ∙ take-append_seam (flat_map counted paths) (counted path);
+  names_are = let long = names_of paths path names is.names_are in
+      ap (λ n. take n names) long.1 ∙ ap (take (length (flat_map counted paths))) long.0 ∙ take-append_seam (flat_map counted paths) (counted path);
 }
 
 -- ---- the same paths
@@ -183,35 +185,43 @@ same_front m n xs ys more others long wide same =
       sym (drop-append_seam xs more) ∙ ap (drop (length xs)) tails ∙ ap (λ k. drop k (ys ++ others)) as_long ∙ drop-append_seam ys others,
     )
 
--- the texts of paths, each behind its length, are those of no others
-same_paths : (xs ys : List (List ℕ)) → flat_map counted xs ≡ flat_map counted ys → xs ≡ ys
-same_paths [] [] same = refl
-same_paths [] (y ∷ ys) same = cc
-same_paths (x ∷ xs) [] same = cc
-same_paths (x ∷ xs) (y ∷ ys) same =
-    let both = same_front (length x) (length y) x y (flat_map counted xs) (flat_map counted ys) refl refl same in
-    let rest : xs ≡ ys = same_paths xs ys both.1 in
-    ap (λ z. z ∷ xs) both.0 ∙ ap (λ zs. y ∷ zs) rest
+-- a path is its base name behind `/nix/store/`
+behind_store : (path : List ℕ) → IsPath path → path ≡ codes "/nix/store/" ++ base_name path
+behind_store path is = is.is ∙ parts_of-path_text is.hash_part is.name
+    ∙ ap (λ name. codes "/nix/store/" ++ name) (sym (ap (drop 11) is.is ∙ drop-path_text is.hash_part is.name))
 
-pub texts_tell : (xs ys : List (List ℕ)) (one two : List ℕ) → one ≡ flat_map counted xs → two ≡ flat_map counted ys
-    → bytes_eq one two ≡ pointwise bytes_eq xs ys
-texts_tell xs ys one two one_is two_is =
-    let texts = bytes_eq-Decides one two in
+-- the base names of paths, each behind its length, are those of no others
+same_paths : (xs ys : List (List ℕ)) → All IsPath xs → All IsPath ys → flat_map counted xs ≡ flat_map counted ys → xs ≡ ys
+same_paths [] [] of_xs of_ys same = refl
+same_paths [] (y ∷ ys) of_xs of_ys same = cc
+same_paths (x ∷ xs) [] of_xs of_ys same = cc
+same_paths (x ∷ xs) (y ∷ ys) of_xs of_ys same =
+    let both = same_front (length (base_name x)) (length (base_name y)) (base_name x) (base_name y) (flat_map counted xs) (flat_map counted ys)
+    refl refl same in
+    let first : x ≡ y = behind_store x (All-head IsPath x xs of_xs) ∙ ap (λ name. codes "/nix/store/" ++ name) both.0
+    ∙ sym (behind_store y (All-head IsPath y ys of_ys)) in
+    let rest : xs ≡ ys = same_paths xs ys (All-tail IsPath x xs of_xs) (All-tail IsPath y ys of_ys) both.1 in
+    ap (λ z. z ∷ xs) first ∙ ap (λ zs. y ∷ zs) rest
+
+pub names_tell : (xs ys : List (List ℕ)) (one two : List ℕ) → All IsPath xs → All IsPath ys → one ≡ flat_map counted xs
+    → two ≡ flat_map counted ys → bytes_eq one two ≡ pointwise bytes_eq xs ys
+names_tell xs ys one two of_xs of_ys one_is two_is =
+    let names = bytes_eq-Decides one two in
     let paths = slice_eq-Decides bytes_eq-Decides xs ys (pointwise bytes_eq xs ys) refl in
     both_ways (bytes_eq one two) (pointwise bytes_eq xs ys)
-    (λ t. paths.1 (same_paths xs ys (sym one_is ∙ texts.0 t ∙ two_is)))
-    (λ t. texts.1 (one_is ∙ ap (flat_map counted) (paths.0 t) ∙ sym two_is))
+    (λ t. paths.1 (same_paths xs ys of_xs of_ys (sym one_is ∙ names.0 t ∙ two_is)))
+    (λ t. names.1 (one_is ∙ ap (flat_map counted) (paths.0 t) ∙ sym two_is))
 
 -- two sets, one of which has no table: they are the same where both are empty
 pub none_tell : (ys : List (List ℕ)) → (length ys == 0) ≡ pointwise bytes_eq [] ys
 none_tell [] = refl
 none_tell (y ∷ ys) = eqb-suc-zero (length ys)
 
--- ---- the length of a path
+-- ---- the length of a base name
 
-pub path_is_short : (path : List ℕ) → IsPath path → length path < 256
+pub base_name_is_short : (path : List ℕ) → IsPath path → length (base_name path) < 256
 unfolding path_text is_name
-path_is_short path is =
+base_name_is_short path is =
     let ended : Bool = not (begins_with_dot is.name) && list_all is_name_byte is.name in
     let within = (and_parts (nat_lt 0 (length is.name)) (nat_le (length is.name) 211 && ended) is.named).1 in
     let few = leb-true (length is.name) 211 (and_parts (nat_le (length is.name) 211) ended within).0 in
@@ -222,7 +232,8 @@ path_is_short path is =
     let digits = length-append (base32 is.hash_part) (codes "-") in
     let dash : length (codes "-") ≡ 1 = refl in
     let part = length-base32 is.hash_part in
-    omega (arith, few, front, long, rest, digits, dash, part)
+    let behind = length-drop 11 path in
+    omega (arith, few, front, long, rest, digits, dash, part, behind)
 
 -- ---- what is added
 

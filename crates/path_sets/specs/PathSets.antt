@@ -1,5 +1,5 @@
 -- What a set of paths finds by their hash parts.
-use Rattle.std.specs.Prelude.{◌≡◌, ℕ, ◌-◌, true, false, if◌then◌else◌, All, List, [], ◌∷◌, ◌++◌, length, take, map, filter, bytes_eq, unwrap_or, Option, Some, None}
+use Rattle.std.specs.Prelude.{◌≡◌, ℕ, ◌-◌, true, false, if◌then◌else◌, All, List, [], ◌∷◌, ◌++◌, length, take, drop, map, filter, bytes_eq, unwrap_or, Option, Some, None}
 use Rattle.std.specs.List.{flat_map}
 use Rattle.std.specs.Map.{lookup}
 use Rattle.std.specs.Arc.{arc_value}
@@ -50,17 +50,21 @@ HasSame old new = (p : List ℕ) → group_at p new ≡ group_at p old
 
 -- ---- tables
 
--- the text of a path behind its length
-abbrev pub counted : List ℕ → List ℕ
-counted path = length path ∷ path
+-- what tells a path from others: all begin with `/nix/store/`
+abbrev pub base_name : List ℕ → List ℕ
+base_name path = drop 11 path
 
--- the paths of a set, in groups by their hash parts, whose slots are marked, and their texts side by side
-pub record IsTable (paths : List (List ℕ)) (groups : Groups) (slots : List ℕ) (texts : List ℕ) : Type 0 where
+-- that of a path behind its length
+abbrev pub counted : List ℕ → List ℕ
+counted path = length (base_name path) ∷ base_name path
+
+-- the paths of a set, in groups by their hash parts, whose slots are marked, and their base names side by side
+pub record IsTable (paths : List (List ℕ)) (groups : Groups) (slots : List ℕ) (names : List ℕ) : Type 0 where
   pub paths_are : All IsPath paths
   pub parts_are : All (λ path. IsHashPart (hash_part_in path)) paths
   pub grouped : (part : List ℕ) → group_at part groups ≡ with_part part paths
   pub marked : (window : List ℕ) → among (parts_of paths) window ≡ true → is_marked slots window ≡ true
-  pub texts_are : texts ≡ flat_map counted paths
+  pub names_are : names ≡ flat_map counted paths
 
 -- the paths of a set that may have no table yet
 abbrev pub paths_in : {A : Type 0} → Option (Arc (List (List ℕ)) A) → List (List ℕ)

@@ -1,12 +1,12 @@
 //! Paths in a table by their hash parts.
 
-ghost use Rattle.std.specs.Prelude.{◌≡◌, ◌⊎◌, ◌-◌, ◌++◌, ◌∷◌, [], false, Ok, Err, length, map, take, All, MatchResult};
+ghost use Rattle.std.specs.Prelude.{◌≡◌, ◌⊎◌, ◌-◌, ◌<◌, ◌++◌, ◌∷◌, [], false, Ok, Err, length, map, take, All, MatchResult};
 ghost use Rattle.model.specs.Classes.{is_one_of};
 ghost use Rattle.model.specs.Paths.{IsPath};
 ghost use Rattle.model.specs.Occurrences.{among, AreKeys};
 ghost use Rattle.model.specs.Settling.{hash_part_in};
 ghost use Rattle.model.specs.declared.refusal.Refusal.TheVariants.{Memory};
-ghost use Rattle.path_sets.specs.PathSets.{HasOneMore, HasOneLess, HasSame, counted, group_at, with_part};
+ghost use Rattle.path_sets.specs.PathSets.{HasOneMore, HasOneLess, HasSame, base_name, counted, group_at, with_part};
 ghost use Rattle.std.specs.Cmp.Lexicographic.{pointwise};
 ghost use Rattle.std.specs.Prelude.{bytes_eq};
 
@@ -18,15 +18,18 @@ use std::alloc::Global;
 use std::marker::Model;
 use storepath::{HashPart, StorePath};
 
+/// What each path begins with.
+const STORE: &str = "/nix/store/";
+
 /// Paths, with those of each hash part, and the slots that the hash parts have.
 ///
-/// The texts of the paths stand side by side as well, each behind its length, so that two tables are compared
-/// in one sweep, and no path is looked up.
+/// What tells the paths from one another, their base names, stands side by side as well, each behind its length,
+/// so that two tables are compared in one sweep, and no path is looked up.
 pub struct PathTable {
     paths: Vec<StorePath>,
     groups: IndexMap<[u8; 32], Group>,
     slots: Slots,
-    texts: Vec<u8>,
+    names: Vec<u8>,
 }
 
 impl Drop for PathTable {
@@ -35,7 +38,7 @@ impl Drop for PathTable {
             paths: _,
             groups: _,
             slots: _,
-            texts: _,
+            names: _,
         } = self;
     }
 }
@@ -49,7 +52,7 @@ impl Model for PathTable {
     ghost view = { λ table. table.paths.items };
 
     ghost invariant = { λ table. IsTable table.paths.items table.groups.entries table.slots
-        table.texts.items };
+        table.names.items };
 }
 
 /// Puts a path behind those of its hash part. The one error is memory, and changes nothing.
@@ -79,17 +82,25 @@ fn take_from_group(groups: &mut IndexMap<[u8; 32], Group>, part: &[u8; 32])
     }
 }
 
-/// Puts the text of a path behind others. The one error is memory, and changes nothing.
-fn push_text(texts: &mut Vec<u8>, path: &StorePath) -> Result<(), Refusal>
-    ensures { MatchResult result
-        (λ _. texts.new.items ≡ texts.old.items ++ counted path.now)
-        (λ e. (e ≡ Memory) × (texts.new.items ≡ texts.old.items)) }
+/// What stands behind `/nix/store/` in the text of a path.
+fn base_name(path: &StorePath) -> &[u8]
+    ensures value { result.now ≡ base_name path.now }
+    ensures short { length result.now < 256 }
 {
-    let count = texts.len();
-    let text = path.bytes();
-    texts.push(text.len() as u8)?;
-    if let Err(why) = texts.extend_from_slice(text) {
-        texts.truncate(count);
+    &path.bytes()[STORE.len()..]
+}
+
+/// Puts the base name of a path behind others. The one error is memory, and changes nothing.
+fn push_name(names: &mut Vec<u8>, path: &StorePath) -> Result<(), Refusal>
+    ensures { MatchResult result
+        (λ _. names.new.items ≡ names.old.items ++ counted path.now)
+        (λ e. (e ≡ Memory) × (names.new.items ≡ names.old.items)) }
+{
+    let count = names.len();
+    let name = base_name(path);
+    names.push(name.len() as u8)?;
+    if let Err(why) = names.extend_from_slice(name) {
+        names.truncate(count);
         return Err(why.into());
     }
     Ok(())
@@ -106,7 +117,7 @@ impl PathTable {
             paths: Vec::new(alloc),
             groups: IndexMap::new(alloc),
             slots: Slots::new(alloc, usize::MAX)?,
-            texts: Vec::new(alloc),
+            names: Vec::new(alloc),
         })
     }
 
@@ -156,7 +167,7 @@ impl PathTable {
     pub(crate) fn is_same(&self, other: &PathTable) -> bool
         ensures { result ≡ pointwise bytes_eq self.now other.now }
     {
-        self.texts == other.texts
+        self.names == other.names
     }
 
     /// Those with a hash part.
@@ -176,10 +187,10 @@ impl PathTable {
         let part = path.hash_part();
         let digits = part.digits();
         let copy = path.clone()?;
-        let count = self.texts.len();
-        push_text(&mut self.texts, &path)?;
+        let count = self.names.len();
+        push_name(&mut self.names, &path)?;
         if let Err(why) = put_in_group(alloc, &mut self.groups, digits, copy) {
-            self.texts.truncate(count);
+            self.names.truncate(count);
             return Err(why);
         }
         self.slots.mark(digits);
@@ -195,9 +206,9 @@ impl PathTable {
             return;
         };
         let part = last.hash_part();
-        let count = self.texts.len() - last.bytes().len() - 1;
+        let count = self.names.len() - base_name(&last).len() - 1;
         take_from_group(&mut self.groups, part.digits());
-        self.texts.truncate(count);
+        self.names.truncate(count);
     }
 
     /// Keeps so many of the oldest paths, and takes the others away. It takes no memory.

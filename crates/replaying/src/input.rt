@@ -34,13 +34,13 @@ struct NewFront {
 }
 
 /// Answers the lines behind the first ones, of what was read behind those and of the reader, by a new core,
-/// behind a lock that one pass takes. The store is not taken apart at the end: the program ends with it, and
-/// its memory is given back at once.
+/// behind a lock that one pass takes. Neither the store nor what is kept of the lines is taken apart at the end:
+/// the program ends with them, and their memory is given back at once.
 fn serve_core<J: FrontId, H: Wait, R: Read + Faults, W: Write + Faults>(
     rt: &H,
     alloc: Global,
     new: NewFront,
-    begun: &mut Begun,
+    mut begun: Begun,
     reader: &mut R,
     writer: &mut W,
 ) -> Result<(), Refusal>
@@ -48,15 +48,15 @@ fn serve_core<J: FrontId, H: Wait, R: Read + Faults, W: Write + Faults>(
     requires parts { J.parts ≡ 1 }
     requires core { (setup_of new.core ≡ J.setup) × (world_of new.core ≡ nothing)
         × (stored_in new.core ≡ []) }
-    ensures ok { OnOk result (ServesOn J.setup begun.old.session begun.old.rest.items
+    ensures ok { OnOk result (ServesOn J.setup begun.session begun.rest.items
         (R.remaining reader.old) (R.remaining reader.new) (W.contents writer.old) (W.contents writer.new)) }
-    ensures err { IfErr result (ServesOnInPart J.setup begun.old.session begun.old.rest.items
+    ensures err { IfErr result (ServesOnInPart J.setup begun.session begun.rest.items
         (R.remaining reader.old) (R.remaining reader.new) (W.contents writer.old) (W.contents writer.new)) }
-    ensures failed { IfErr result (λ why. why ≡ InputFault → ServesOnSoFar J.setup begun.old.session begun.old.rest.items
+    ensures failed { IfErr result (λ why. why ≡ InputFault → ServesOnSoFar J.setup begun.session begun.rest.items
         (R.remaining reader.old) (R.remaining reader.new) (W.contents writer.old) (W.contents writer.new)) }
-    ensures whole { OnOk result (¬ HasFailed begun.old.reader_failures (R.failed reader.new)) }
+    ensures whole { OnOk result (¬ HasFailed begun.reader_failures (R.failed reader.new)) }
     ensures errors { IfErr result (λ why. (why ≡ InputFault) ⊎ IsOwn why) }
-    ensures output_fault { IfErr result (MayBeFault OutputFault begun.old.writer_failures (W.failed writer.new)) }
+    ensures output_fault { IfErr result (MayBeFault OutputFault begun.writer_failures (W.failed writer.new)) }
 {
     let NewFront {
         blank,
@@ -72,8 +72,9 @@ fn serve_core<J: FrontId, H: Wait, R: Read + Faults, W: Write + Faults>(
         sweeps,
         has_lacked: false,
     };
-    let ended = serve_on(alloc, begun, reader, writer, &mut store);
+    let ended = serve_on(alloc, &mut begun, reader, writer, &mut store);
     mem::forget(store);
+    mem::forget(begun);
     ended
 }
 
@@ -99,7 +100,7 @@ fn answer_input<H: Wait, R: Read + Faults, W: Write + Faults>(
     ensures output_fault { IfErr result (MayBeFault OutputFault (W.failed writer.old) (W.failed writer.new)) }
 {
     let head = serve_head(alloc, Mode::Service, reader, writer)?;
-    let Head { mut begun, users } = head;
+    let Head { begun, users } = head;
     let Some(users) = users else {
         return Ok(());
     };
@@ -110,7 +111,7 @@ fn answer_input<H: Wait, R: Read + Faults, W: Write + Faults>(
         core,
         sweeps,
     };
-    serve_core::<Brand, _, _, _>(rt, alloc, new, &mut begun, reader, writer)
+    serve_core::<Brand, _, _, _>(rt, alloc, new, begun, reader, writer)
 }
 
 /// Answers the lines that a reader gives, in a store for the users whom they name first and under

@@ -10,7 +10,7 @@ returns-in_err-front-clause-err g c = err-is _ _ _ c.from_residual.ensures.1 (no
 
 pub returns-clause-ok : goal.returns-clause-ok
 returns-clause-ok g c = on_ok c.serve_on-ended.result (λ h start blank front a. record {
-  input = front ++ (c.args.begun.now.rest.items ++ h.0);
+  input = front ++ (c.args.begun.rest.items ++ h.0);
   read = read_behind start _ _ blank _ front _ _ h.0 a h.1;
   ended = h.2;
   first = _;
@@ -21,7 +21,7 @@ returns-clause-ok g c = on_ok c.serve_on-ended.result (λ h start blank front a.
 
 pub returns-clause-err : goal.returns-clause-err
 returns-clause-err g c = if_err c.serve_on-ended.result (λ why h start blank front a. record {
-  input = front ++ (c.args.begun.now.rest.items ++ h.0);
+  input = front ++ (c.args.begun.rest.items ++ h.0);
   read = read_behind start _ _ blank _ front _ _ h.0 a h.1;
   first = _;
   last = _;
@@ -33,7 +33,7 @@ pub returns-clause-failed : goal.returns-clause-failed
 returns-clause-failed g c = if_err c.serve_on-ended.result (λ why f failed start blank front a.
     let h = f failed in
     record {
-      input = front ++ (c.args.begun.now.rest.items ++ h.0);
+      input = front ++ (c.args.begun.rest.items ++ h.0);
       read = read_behind start _ _ blank _ front _ _ h.0 a h.1;
       first = _;
       last = _;

@@ -5,7 +5,7 @@ use Rattle.path_sets.proofs.path_table.PathTable.with_digits.Goals as goal
 
 pub returns-then-not-are_marked : goal.returns-then-not-are_marked
 returns-then-not-are_marked c =
-    rw (← c.self.view_is) (sym (none_unmarked c.self.inside.paths.items c.self.inside.groups.entries c.self.inside.slots c.self.inside.texts.items
+    rw (← c.self.view_is) (sym (none_unmarked c.self.inside.paths.items c.self.inside.groups.entries c.self.inside.slots c.self.inside.names.items
     c.args.window.now c.self.invariant (sym c.are_marked.ensures ∙ c.if-not-are_marked.true)))
 
 pub returns-in-Some : goal.returns-in-Some
