@@ -161,7 +161,7 @@ impl<J: FrontId> Book<J> {
         }
     }
 
-    /// Answers one event of a caller, with values that were made before, as [`Book::apply_ready`] does that of a
+    /// Answers one event of a caller, with values that were made before, as [`Book::apply`] does that of a
     /// pass.
     pub(crate) fn answer<R: Wait>(
         &mut self,

@@ -247,10 +247,7 @@ impl<J: FrontId> Front<J> {
             → (result ≡ Refused Stopped) ⊎ (result ≡ Refused Memory) }
     {
         match pass.prepare(&event) {
-            Ok(ready) => self
-                .book
-                .lock(rt)
-                .apply_ready(rt, alloc, pass, event, ready),
+            Ok(ready) => self.commit(rt, alloc, pass, event, ready),
             Err(why) => refuse(why, event),
         }
     }
@@ -269,9 +266,7 @@ impl<J: FrontId> Front<J> {
         ensures called { HasCalled J.setup J.parts pass.old event result pass.new }
         ensures remains { pass.old.caller.stopped ≡ true → result ≡ Refused Stopped }
     {
-        self.book
-            .lock(rt)
-            .apply_ready(rt, alloc, pass, event, ready)
+        self.book.lock(rt).apply(rt, alloc, pass, event, ready)
     }
 
     /// The job that a user's goal of a number leads, and what it is built from, for a pass. It takes

@@ -366,31 +366,17 @@ impl<J: FrontId> Pass<J> {
 }
 
 impl<J: FrontId> Book<J> {
-    /// Answers one event of a pass. It may wait for readers of what was published before.
+    /// Answers one event of a pass, with values that were made before. It may wait for readers of what was
+    /// published before.
     ///
     /// The reply is the core's, and a row of the history has it, which is the last of the sure rows
     /// of the pass, and is published. There is no row at 90 `Memory`, where memory was refused, and at
     /// 92 `Stopped`, where the book was stopped before. At 90 nothing has changed, or the core had taken
     /// the event and the book is stopped now. At 92 the pass knows that it is. The pass has seen all rows then.
     /// Where memory is refused, the records that it repaired are let go.
+    ///
+    /// Whatever values were made before, they make no difference but that the core need not make them itself.
     pub fn apply<R: Wait>(
-        &mut self,
-        rt: &R,
-        alloc: Global,
-        pass: &mut Pass<J>,
-        event: Event,
-    ) -> Reply
-        ensures applied { IsApplied J.setup J.parts event result
-            self.old pass.old.caller pass.old.stops self.new pass.new.caller pass.new.stops }
-        ensures called { HasCalled J.setup J.parts pass.old event result pass.new }
-        ensures remains { pass.old.caller.stopped ≡ true → result ≡ Refused Stopped }
-    {
-        self.apply_ready(rt, alloc, pass, event, Ready::none(alloc))
-    }
-
-    /// Answers one event of a pass as [`Book::apply`] does, with values that were made before. Whatever
-    /// they are, they make no difference but that the core need not make them itself.
-    pub fn apply_ready<R: Wait>(
         &mut self,
         rt: &R,
         alloc: Global,

@@ -136,7 +136,11 @@ fn publish_pending<R: Wait>(rt: &R, writer: SnapshotWriter) -> (SnapshotWriter, 
 }
 
 /// Publishes a snapshot, and says whether it did. What was pending before shows nothing.
-pub fn publish<R: Wait>(rt: &R, writer: SnapshotWriter, next: Snapshot) -> (SnapshotWriter, bool)
+pub(crate) fn publish<R: Wait>(
+    rt: &R,
+    writer: SnapshotWriter,
+    next: Snapshot,
+) -> (SnapshotWriter, bool)
     requires quiet { IsQuiet writer.desk.shown.value (drop writer.behind writer.log.items) }
     requires name { next.name ≡ writer.desk.shown.value.name }
     requires legal { IsLegal (setup_in next.name) next.seen }
@@ -154,7 +158,7 @@ pub fn publish<R: Wait>(rt: &R, writer: SnapshotWriter, next: Snapshot) -> (Snap
 /// Has the copy that is not shown let go of the core that it had, once each reader has left it, and says
 /// whether it did: it did not where memory was refused. What readers see stays. The next publish waits for
 /// nobody who came after the last one.
-pub fn settle<R: Wait>(rt: &R, writer: SnapshotWriter) -> (SnapshotWriter, bool)
+pub(crate) fn settle<R: Wait>(rt: &R, writer: SnapshotWriter) -> (SnapshotWriter, bool)
     requires quiet { IsQuiet writer.desk.shown.value (drop writer.behind writer.log.items) }
     ensures shown { result.0.desk.shown.value ≡ writer.desk.shown.value }
     ensures quiet { IsQuiet result.0.desk.shown.value

@@ -10,7 +10,7 @@ mod law;
 mod publisher;
 mod snapshot;
 
-pub use ends::{begin, look, need, publish, published_rows, reader_of, settle};
+pub use ends::{begin, look, need, published_rows, reader_of};
 pub use law::{
     End, FrontName, KnownName, Looks, PublishedRule, Shown, SnapshotReader, SnapshotWriter, Tells,
 };

@@ -4,9 +4,9 @@ use Rattle.history.specs.declared.row.Row.{Row}
 use Rattle.history.specs.Callers.{Caller, answered, stops_of}
 use Rattle.history.specs.Histories.{row, IsLegal}
 use Rattle.book.proofs.CallLemmas.{sure_seen, sure_counted, seen_grows}
-use Rattle.book.proofs.book.Book.apply_ready.Given.{Over}
-use Rattle.book.proofs.book.Book.apply_ready.Goals.{After-sure_after}
-use Rattle.book.proofs.book.Book.apply_ready.Goals as goal
+use Rattle.book.proofs.book.Book.apply.Given.{Over}
+use Rattle.book.proofs.book.Book.apply.Goals.{After-sure_after}
+use Rattle.book.proofs.book.Book.apply.Goals as goal
 
 -- all that it had seen is among all rows
 begins : (g : Over) (c : After-sure_after g) → IsPrefix c.pass.inside.seen.seen.log c.args.self.now.rows
