@@ -1,5 +1,5 @@
 -- What comes of files whose lines are run, and what is printed of it.
-use Rattle.std.specs.Prelude.{◌≡◌, ◌⊎◌, ◌<◌, ◌≤◌, true, false, ℕ, List, Option, Result}
+use Rattle.std.specs.Prelude.{◌≡◌, ◌⊎◌, ◌<◌, ◌≤◌, true, false, ℕ, List, Option, None, Result, Err}
 use Rattle.model.specs.declared.refusal.Refusal.{Refusal}
 use Rattle.model.specs.declared.refusal.Refusal.TheVariants.{BadUsers, Quota, Memory}
 use Rattle.model.specs.Goals.{Running}
@@ -13,7 +13,8 @@ use Rattle.teams.specs.Sessions.{CannotBegin}
 use Rattle.session.specs.Serving.{IsUnwritten}
 use Rattle.files.specs.declared.opening.Opened.{Opened}
 use Rattle.files.specs.declared.opening.Refused.{Refused}
-use Rattle.files.specs.Outputs.{AppendsFront, texts_of}
+use Rattle.messages.specs.Ends.{status_of_end}
+use Rattle.files.specs.Outputs.{AppendsFront, texts_of, first_end}
 use Rattle.files.specs.Parts.{AreParts, AreNamed, IsRefusedAmong}
 use Rattle.model.specs.Limits.{most_passes}
 
@@ -56,3 +57,22 @@ pub record HasNotPrinted {I Q : Type 0} (charge : ℕ) (gives : Q → Running �
   pub ran : RunsFiles charge gives remaining files results
   pub front : AppendsFront blank written (texts_of results.outputs.items)
   pub fault : IsUnwritten why
+
+-- ---- the exit status
+
+module _ {I Q : Type 0} (charge : ℕ) (gives : Q → Running → Result (List ℕ) RunFault → Q → Type 0) (remaining : I → Option (List ℕ))
+    (failed : I → ℕ) (files : List (Opened I Q)) (status : ℕ) where
+  -- the files were run, and it is that of the first end that is none of all lines
+  pub record HasRun : Type 0 where
+    pub results : Results
+    pub ran : RunsFiles charge gives remaining files results
+    pub status_is : status ≡ status_of_end (first_end results.outputs.items)
+
+  -- they were not, or not all that they gave was printed, and it is that of the refusal
+  pub record HasNotEnded : Type 0 where
+    pub refused : Refused
+    pub by : HasNotRun remaining failed files refused ⊎ HasNotPrinted charge gives remaining files None None refused.why
+    pub status_is : status ≡ status_of_end (Err refused.why)
+
+  abbrev pub EndsRun : Type 0
+  EndsRun = HasRun ⊎ HasNotEnded

@@ -1,6 +1,9 @@
 //! The program `intstore`: it runs files of lines, one event a line.
 #![tactic(auto)]
 
+ghost use Rattle.std.specs.Prelude.{IfOk};
+ghost use Rattle.app.specs.Actions.{EndsAs, IsStatusOf};
+
 mod actions;
 mod runs;
 mod streams;
@@ -27,7 +30,9 @@ fn run_reader(
     options: &Options,
     name: &str,
     reader: &mut Counted<File>,
-) -> io::Result<Result<Option<BadLines>, Refusal>> {
+) -> io::Result<Result<Option<BadLines>, Refusal>>
+    ensures { IfOk result (EndsAs options.now.action reader.old.failures reader.new.failures) }
+{
     let hashing = RandomState::new(rt)?;
     if let Action::Replay { explain: true, .. } = &options.action {
         let mut writer = Counted::new(streams::explained(rt, name)?);
@@ -39,7 +44,9 @@ fn run_reader(
 
 /// Runs lines of a file as the options ask, says on standard error what went wrong, and gives the exit status.
 /// A file that cannot be opened ends like one that cannot be read.
-fn run_file(rt: &HostRuntime, wait: &impl Wait, options: &Options, name: &str) -> io::Result<u8> {
+fn run_file(rt: &HostRuntime, wait: &impl Wait, options: &Options, name: &str) -> io::Result<u8>
+    ensures { IfOk result (IsStatusOf options.now.action) }
+{
     let Some(mut reader) = open(rt, name)? else {
         return Ok(report(rt, &Err(Refusal::InputFault), name));
     };

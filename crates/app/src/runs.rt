@@ -5,7 +5,7 @@ ghost use Rattle.std.specs.Io.KnownBytes.{Appends};
 ghost use Rattle.model.specs.declared.refusal.Refusal.TheVariants.{OutputFault};
 ghost use Rattle.session.specs.Serving.{IsShown, MayBeFault};
 ghost use Rattle.files.specs.Outputs.{texts_of};
-ghost use Rattle.app.specs.Runs.{HasNotRun, HasNotPrinted, RunsFiles};
+ghost use Rattle.app.specs.Runs.{EndsRun, HasNotRun, HasNotPrinted, RunsFiles};
 
 use crate::actions::run_parts;
 use crate::streams;
@@ -95,6 +95,10 @@ fn run_and_print<
 /// standard error what went wrong, and gives the exit status.
 ///
 /// Files whose first line that gets a reply names no users are told, the first of them, before any line is run.
+///
+/// # Errors
+///
+/// - Memory was refused, or random bytes, before any line is run.
 // No contract can say what standard output and standard error take: what is proved of what is printed is proved of any
 // writer, by `run_and_print`.
 pub(crate) fn run_files<
@@ -107,7 +111,10 @@ pub(crate) fn run_files<
     options: &Options,
     run: &Run,
     files: Vec<Opened<'_, I, Q>>,
-) -> io::Result<u8> {
+) -> io::Result<u8>
+    ensures { IfOk result
+        (EndsRun options.now.charge Q.gives I.remaining I.failed files.entry.items) }
+{
     let hashing = RandomState::new(rt)?;
     let mut writer = streams::output(rt)?;
     match run_and_print(host, rt.alloc(), hashing, options, files, &mut writer) {

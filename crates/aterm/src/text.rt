@@ -1,6 +1,7 @@
 //! The strings of a derivation.
 
 ghost use Rattle.std.specs.Prelude.{◌≡◌, List, ℕ, IfOk};
+ghost use Rattle.model.specs.Archives.{AreBytes};
 ghost use Rattle.model.specs.Derivations.{is_character, is_text};
 
 use model::SharedBytes;
@@ -44,6 +45,13 @@ impl Text {
         ensures { result.now ≡ self.now }
     {
         self.bytes.as_slice()
+    }
+
+    /// Each of them is a number below 256.
+    pub fn sound(&self)
+        ensures { AreBytes self.now }
+    {
+        self.bytes.sound();
     }
 }
 

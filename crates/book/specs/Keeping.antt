@@ -4,7 +4,7 @@ use Rattle.model.specs.Paths.{NoClash}
 use Rattle.model.specs.Worlds.{Setup, nothing}
 use Rattle.model.specs.Steps.{world_after, answers, reply_to}
 use Rattle.model.specs.HashedTexts.{hashed}
-use Rattle.closure_laws.specs.GoodClosures.{AreWellFormed}
+use Rattle.model.specs.WellFormed.{AreWellFormed}
 use Rattle.schedule.specs.declared.state.Core.{Core}
 use Rattle.events.specs.declared.event.Event.{Event}
 use Rattle.events.specs.declared.reply.Reply.{Reply}

@@ -1,6 +1,6 @@
 //! What threads share.
 
-ghost use Rattle.std.specs.Prelude.{◌≡◌, ◌<◌, ◌≤◌, ◌⊎◌, [], true, false, drop, length, map, sum, All, IfOk, IfErr, Err};
+ghost use Rattle.std.specs.Prelude.{◌≡◌, ◌*◌, ◌<◌, ◌≤◌, ◌⊎◌, [], true, false, drop, length, map, sum, All, IfOk, IfErr, Err};
 ghost use Rattle.model.specs.Limits.{most_passes};
 ghost use mathlib.Core.List.{IsPrefix};
 ghost use Rattle.left_right.specs.Sides.{view};
@@ -70,6 +70,8 @@ fn most_repaired(n: u64) -> NonZeroUsize
 /// How many bytes they count at most.
 fn most_repaired_bytes(n: u64) -> u32
     requires { 0 < n }
+    // All together they count 40 MiB at most.
+    ensures { result * n ≤ 41943040 }
 {
     (u64::from(MOST_REPAIRED_BYTES) / n) as u32
 }

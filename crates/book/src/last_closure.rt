@@ -1,13 +1,16 @@
 //! The closure that a pass read last.
 
-ghost use Rattle.std.specs.Prelude.{◌≡◌, ◌≢◌, ℕ, true, false, IfSome};
+ghost use Rattle.std.specs.Prelude.{◌≡◌, ◌≢◌, ◌<◌, ◌≤◌, ℕ, true, false, min, IfSome};
 ghost use Rattle.model.specs.declared.refusal.Refusal.TheVariants.{Stopped};
 ghost use Rattle.events.specs.declared.reply.Reply.TheVariants.{Refused};
+ghost use Rattle.events.specs.Terms.{reply_of};
 ghost use Rattle.schedule.specs.Queries.{event_for};
 ghost use Rattle.history.specs.Histories.{unrecorded, IsReadAfter};
+ghost use Rattle.book.specs.KeptClosures.{size_of, size_of_entry, IsClosureWithin};
 
 use history::{FrontId, HistoryPrefix};
 use lines::with_text;
+use records::Entry;
 use schedule::{Query, Question, Reply};
 use std::alloc::Global;
 use std::marker::{Model, PhantomData};
@@ -79,23 +82,50 @@ fn copy_of(reply: &Reply) -> Option<Reply>
     reply.clone().ok()
 }
 
-/// Whether a reply is a closure whose archives have so many bytes at most.
-fn is_closure_within(reply: &Reply, most_bytes: u64) -> bool
-    ensures { result ≡ true → unrecorded reply.now ≡ false }
+/// How many bytes an entry of a closure counts for itself, and for each of its labels: their paths stand in the text.
+const BYTES_OF_LABEL: u64 = 1_024;
+
+/// How many bytes an entry counts: its archive, and 1,024 bytes for itself and for each label. At the greatest number it
+/// stays there.
+fn size_of(entry: &Entry) -> u64
+    ensures { result ≡ min (size_of_entry entry.now) 18446744073709551615 }
 {
-    let Reply::Closure(closure) = reply else {
-        return false;
-    };
-    let mut bytes = 0u64;
-    for entry in closure.entries() {
-        bytes = bytes.saturating_add(entry.tree().nar_len() as u64);
+    let labels = (entry.labels().len() as u64)
+        .saturating_add(1)
+        .saturating_mul(BYTES_OF_LABEL);
+    (entry.tree().nar_len() as u64).saturating_add(labels)
+}
+
+/// Whether entries count so many bytes at most.
+fn are_within(entries: &[Entry], most_bytes: u32) -> bool
+    ensures within { result ≡ true → size_of entries.now ≤ most_bytes }
+    ensures over { result ≡ false → most_bytes < size_of entries.now }
+{
+    let mut left = u64::from(most_bytes);
+    for entry in entries {
+        let size = size_of(entry);
+        if left < size {
+            return false;
+        }
+        left -= size;
     }
-    bytes <= most_bytes
+    true
+}
+
+/// Whether a reply is a closure that counts so many bytes at most.
+fn is_closure_within(reply: &Reply, most_bytes: u32) -> bool
+    ensures within { result ≡ true → IsClosureWithin most_bytes (reply_of reply.now) }
+    ensures recorded { result ≡ true → unrecorded reply.now ≡ false }
+{
+    match reply {
+        Reply::Closure(closure) => are_within(closure.entries(), most_bytes),
+        _ => false,
+    }
 }
 
 impl<J: FrontId> LastClosure<J> {
-    /// A closure that was read after rows, to be kept, if the reply is one whose archives have so many bytes at most.
-    /// There is none where memory is refused.
+    /// A closure that was read after rows, to be kept, if the reply is one that counts so many bytes at most: its archives,
+    /// which it keeps alive, and 1,024 bytes for each entry and label, for its text. There is none where memory is refused.
     pub(crate) fn new(
         query: Query,
         reply: &Reply,
@@ -106,8 +136,9 @@ impl<J: FrontId> LastClosure<J> {
         requires going { reply.now ≢ Refused Stopped }
         requires read { unrecorded reply.now ≡ false → (number : ℕ)
             → IsReadAfter J.setup number rows.now.seen.log (event_for query) reply.now }
+        ensures { IfSome result (λ _. IsClosureWithin most_bytes (reply_of reply.now)) }
     {
-        if is_closure_within(reply, u64::from(most_bytes)) {
+        if is_closure_within(reply, most_bytes) {
             Some(LastClosure {
                 query,
                 reply: copy_of(reply)?,

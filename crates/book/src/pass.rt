@@ -38,7 +38,7 @@ pub struct Pass<J: FrontId> {
     reader: SnapshotReader,
     /// Records that were repaired for what it read and prepared.
     repaired: Cache,
-    /// The closure that it read last, if it keeps it, whose archives have no more than `most_bytes` bytes.
+    /// The closure that it read last, if it keeps it, which counts no more than `most_bytes` bytes.
     last: Option<LastClosure<J>>,
     most_bytes: u32,
     alloc: Global,
@@ -216,8 +216,8 @@ impl<J: FrontId> Pass<J> {
     /// answered calls among them, and are what it has seen then; with the query as one row more they are
     /// a legal history. It takes no lock, and waits for nobody; and nobody waits for it while the records of
     /// a closure are repaired. Those that it repaired last are kept, for as long as the pass lives and memory is
-    /// not refused to it. So is the closure that it read last, unless it is large or the pass makes a call: as long as no
-    /// row is published it is given again, with its text from the second time on. The reply is 90 `Memory` where memory was
+    /// not refused to it. So is the closure that it read last, unless it is large, until the pass makes a call or meets
+    /// another: as long as no row is published it is given again, with its text from the second time on. The reply is 90 `Memory` where memory was
     /// refused, and never 92 `Stopped`.
     pub fn read(&mut self, query: Query) -> Reply
         ensures read { unrecorded result ≡ false
@@ -324,7 +324,7 @@ impl<J: FrontId> Pass<J> {
     }
 
     /// It has seen all rows of the book then, among them those that it is sure of, and knows whether the
-    /// book is stopped.
+    /// book is stopped. The closure that it read last is let go.
     pub(crate) fn show(&mut self, book: &mut Book<J>)
         ensures begins { IsPrefix self.old.caller.sure book.old.rows }
         ensures knows { self.new.caller ≡ knowing book.old.stopped self.old.caller }
@@ -334,7 +334,13 @@ impl<J: FrontId> Pass<J> {
         ensures stops { self.new.stops ≡ self.old.stops }
         ensures same { book.new ≡ book.old }
     {
-        let Pass { account, seen, .. } = self;
+        let Pass {
+            account,
+            seen,
+            last,
+            ..
+        } = self;
+        *last = None;
         book.compare(&mut account.caller);
         let rows = book.seen();
         if seen.begins(&rows) {

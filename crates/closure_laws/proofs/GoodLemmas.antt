@@ -28,7 +28,8 @@ use Rattle.laws.proofs.HashedEndLemmas.{either_desk}
 use Rattle.laws.proofs.HashedRequestLemmas.{resolved_is}
 use Rattle.laws.proofs.KnowledgeLemmas.{after_grows}
 use Rattle.laws.proofs.KeptLemmas.{PlansGoal, after_follows, put_cases, put_there, goals_after}
-use Rattle.closure_laws.specs.GoodClosures.{IsWellFormed, AreWellFormed, ClosuresAreGood}
+use Rattle.model.specs.WellFormed.{IsWellFormed, AreWellFormed}
+use Rattle.closure_laws.specs.GoodClosures.{ClosuresAreGood}
 use Rattle.closure_laws.proofs.HeldLemmas.{IsHeld, goal_in}
 use Rattle.closure_laws.proofs.OutputLemmas.{path_of}
 use Rattle.closure_laws.proofs.GivenLemmas.{closure_whole, closure_entry, closure_good}

@@ -38,7 +38,7 @@ use Rattle.laws.proofs.FinishedLemmas.{finished}
 use Rattle.laws.proofs.KeptLemmas.{kept_in}
 use Rattle.laws.proofs.HashedDeskLemmas.{is_quiet}
 use Rattle.laws.proofs.ServedLemmas.{some_same, find_in}
-use Rattle.closure_laws.specs.GoodClosures.{IsWellFormed}
+use Rattle.model.specs.WellFormed.{IsWellFormed}
 use Rattle.closure_laws.proofs.PrintedLemmas.{second_of}
 use Rattle.closure_laws.proofs.HeldLemmas.{IsMadeRecord, IsMadeEntry, HasLabelled, HasClosure, HasBuilt, IsHeld, held_same, held_source, held_record, held_goal, held_new, held_without, held_entries, entries_have}
 use Rattle.closure_laws.proofs.OutputLemmas.{path_of, made_output, output_labelled, candidates_made, candidate_source, labelled_closure, made_for_class, labelled_for_class}
@@ -193,7 +193,7 @@ module _ (texts : List (List ℕ)) (setup : Setup) (w : World) (u : List ℕ) (o
   pub quietly_held : (r : Request) → IsWellFormed r → All (Contains texts) (texts_of setup w u r) → is_quiet r ≡ true → P (outcome setup s r)
   unfolding outcome
   quietly_held (AddSource name tree) well hashed quiet =
-      add_source_cases P setup (w u) name tree (refl, own.held) (refl, source_held name tree well hashed) tt
+      add_source_cases P setup (w u) name tree (refl, own.held) (refl, source_held name tree well.0 hashed) tt
   quietly_held (AddDerivation text) well hashed quiet =
       add_derivation_cases P setup (w u) text (record {
         had = λ a. (refl, own.held);
@@ -203,7 +203,7 @@ module _ (texts : List (List ℕ)) (setup : Setup) (w : World) (u : List ℕ) (o
         missing = tt;
         high = tt;
       }) (λ large. tt)
-  quietly_held (Offer derivation tree) well hashed quiet = offer_held derivation tree well hashed
+  quietly_held (Offer derivation tree) well hashed quiet = offer_held derivation tree well.1 hashed
   quietly_held (Trust other) well hashed quiet =
       trust_cases P setup s other
       (λ known. (refl, cond_both (bytes_eq other u) (w u) (with_trust other (w u)) (IsHeld texts) (λ yes. own.held) (λ no. same (with_trust other (w u)) refl refl refl))) tt

@@ -1,16 +1,15 @@
 -- Files of a run, one more at a time: as they are opened, and what is run for them.
-use Rattle.std.proofs.Common.{◌≡◌, sym, ap, ◌∙◌, subst, inl, inr, ℕ, zero, suc, ◌+◌, ◌<◌, arith, List, [], ◌∷◌, ◌++◌, length, get_or, take}
-use Rattle.std.specs.Prelude.{map, Option, None, Some, Result, Err, Contains, unwrap_or}
+use Rattle.std.proofs.Common.{◌≡◌, sym, ap, ◌∙◌, subst, inl, inr, ℕ, suc, ◌+◌, ◌<◌, List, [], ◌∷◌, ◌++◌, length, get_or, take, drop, add-one, drop-cons}
+use Rattle.std.specs.Prelude.{map, Option, None, Some, Result, Err, unwrap_or}
 use Rattle.std.specs.Global.{Vec}
-use Rattle.std.proofs.lemmas.List.{length-map, map-append, take_more}
-use Rattle.std.proofs.Math.ListN.{get_or-map}
+use Rattle.std.proofs.lemmas.List.{map-append, take_more, take-append-drop}
 use Rattle.model.specs.declared.refusal.Refusal.{Refusal}
 use Rattle.model.specs.declared.refusal.Refusal.TheVariants.{Quota}
 use Rattle.command_line.specs.declared.settings.Run.{Run}
 use Rattle.teams.specs.declared.sessions.Part.{Part}
 use Rattle.files.specs.declared.opening.Opened.{Opened}
 use Rattle.files.specs.declared.opening.Refused.{Refused}
-use Rattle.files.specs.Opening.{IsOpened, AreOpened, CannotOpen, IsUnopened}
+use Rattle.files.specs.Opening.{IsOpened, AreOpened, CannotOpen, AreUnopened}
 use Rattle.files.specs.Parts.{IsPartOf, AreParts, HeadNames, AreNamed, IsRefusedFor, IsRefusedAmong}
 use Rattle.model.specs.Limits.{most_passes}
 
@@ -36,18 +35,35 @@ module _ {I Q : Type 0} (opened : List ℕ → I → Type 0) (made : Run → Lis
       (sym (ap (map text) more ∙ map-append text (take i items) (item ∷ [])))
       (opened_push (map text (take i items)) (text item) files file all one)
 
--- one of some names cannot be opened
-pub unopened_at : {S : Type 0} (missing : List ℕ → Type 0) (text : S → List ℕ) (items : List S) (i : ℕ) (item : S) (refused : Refused)
-    → i < length items → item ≡ get_or items i item → CannotOpen missing (text item) refused → IsUnopened missing (map text items) refused
-unopened_at missing text items i item refused inside here (inl memory) = inl memory
-unopened_at {S} missing text items i item refused inside here (inr one) =
-    let long : length (map text items) ≡ length items = length-map items text in
-    let found : get_or (map text items) i (text item) ≡ text item = get_or-map text items i item ∙ ap text (sym here) in
-    inr (
-      one.0,
-      subst (Contains (map text items)) (sym one.1) (i, (omega (arith, long, inside)), found),
-      subst missing (sym one.1) one.2,
-    )
+-- a list is what stands before a place, what stands there, and what stands behind it
+split_at : {S : Type 0} (items : List S) (i : ℕ) (item : S) → i < length items → item ≡ get_or items i item
+    → items ≡ take i items ++ item ∷ drop (i + 1) items
+split_at {S} items i item inside here =
+    let behind : drop i items ≡ item ∷ drop (i + 1) items =
+    rw add-one (drop-cons items i item inside ∙ ap (λ (s : S). s ∷ drop (suc i) items) (sym here)) in
+    sym (take-append-drop i items) ∙ ap (λ (rest : List S). take i items ++ rest) behind
+
+module _ {I Q : Type 0} (opened : List ℕ → I → Type 0) (made : Run → List Q → Type 0) (run : Run) (missing : List ℕ → Type 0) where
+  -- the first of some names cannot be opened
+  pub unopened_at : {S : Type 0} (text : S → List ℕ) (items : List S) (i : ℕ) (item : S) (files : List (Opened I Q)) (refused : Refused)
+      → i < length items → item ≡ get_or items i item → AreOpened opened made run (map text (take i items)) files
+      → CannotOpen missing (text item) refused → AreUnopened opened made run missing (map text items) refused
+  unopened_at text items i item files refused inside here all (inl memory) = inl memory
+  unopened_at {S} text items i item files refused inside here all (inr one) =
+      let rest : List S = drop (i + 1) items in
+      inr (
+        one.0,
+        record {
+          before = map text (take i items);
+          behind = map text rest;
+          names_are =
+              ap (map text) (split_at items i item inside here) ∙ map-append text (take i items) (item ∷ rest)
+              ∙ ap (λ (name : List ℕ). map text (take i items) ++ name ∷ map text rest) (sym one.1);
+          files = files;
+          opened_before = all;
+          missing_is = subst missing (sym one.1) one.2;
+        },
+      )
 
 -- ---- what is run for them
 
@@ -74,15 +90,20 @@ module _ {I Q : Type 0} (remaining : I → Option (List ℕ)) where
   named_end parts None none empty all = subst (λ (ps : List (Part I Q)). AreNamed remaining ps none.items) (sym all) empty
   named_end parts (Some users) none empty all = subst (λ (ps : List (Part I Q)). AreNamed remaining ps users.items) (sym all.2) all.3
 
--- a refusal that comes of a file at a place
-pub refused_at : {I Q : Type 0} (remaining : I → Option (List ℕ)) (failed : I → ℕ) (files : List (Opened I Q)) (i : ℕ) (file : Opened I Q) (refused : Refused)
-    → i < length files → file ≡ get_or files i file → IsRefusedFor remaining failed file refused
+-- a refusal that comes of a file at a place, where those before it have parts
+pub refused_at : {I Q : Type 0} (remaining : I → Option (List ℕ)) (failed : I → ℕ) (files : List (Opened I Q)) (i : ℕ) (file : Opened I Q)
+    (parts : List (Part I Q)) (refused : Refused)
+    → i < length files → file ≡ get_or files i file → AreParts remaining (take i files) parts → IsRefusedFor remaining failed file refused
     → IsRefusedAmong remaining failed files refused
-refused_at remaining failed [] i file refused inside here one = absurd (omega (arith, inside))
-refused_at {I} {Q} remaining failed (f ∷ fs) zero file refused inside here one =
-    inl (subst (λ (g : Opened I Q). IsRefusedFor remaining failed g refused) here one)
-refused_at remaining failed (f ∷ fs) (suc i) file refused inside here one =
-    inr (refused_at remaining failed fs i file refused (omega (arith, inside)) here one)
+refused_at remaining failed files i file parts refused inside here all one = record {
+  before = take i files;
+  file = file;
+  behind = drop (i + 1) files;
+  files_are = split_at files i file inside here;
+  parts = parts;
+  parts_before = all;
+  refused_for = one;
+}
 
 -- ---- why nothing is run
 

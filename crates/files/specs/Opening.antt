@@ -1,8 +1,9 @@
 -- What comes of the files that a command line names.
-use Rattle.std.specs.Prelude.{◌≡◌, ◌⊎◌, ℕ, List, [], ◌∷◌, length, option_map, All, Contains, string_bytes}
+use Rattle.std.specs.Prelude.{◌≡◌, ◌⊎◌, ℕ, List, [], ◌∷◌, ◌++◌, length, option_map, All, string_bytes}
 use Rattle.std.specs.Path.{path_buf_bytes}
 use Rattle.model.specs.declared.refusal.Refusal.TheVariants.{InputFault, Memory}
 use Rattle.command_line.specs.declared.settings.Run.{Run}
+use Rattle.session.specs.declared.counted.Counted.{Counted}
 use Rattle.builder.specs.declared.preparing.Folders.{Folders}
 use Rattle.builder.specs.declared.processes.ProcessRunner.{ProcessRunner}
 use Rattle.messages.specs.declared.narrator.Narrator.{Narrator}
@@ -42,8 +43,20 @@ abbrev pub CannotOpen : (List ℕ → Type 0) → List ℕ → Refused → Type 
 CannotOpen missing name refused =
     (refused.why ≡ Memory) ⊎ ((refused.why ≡ InputFault) × (refused.name.now ≡ name) × missing name)
 
--- that is so of one of these files
-abbrev pub IsUnopened : (List ℕ → Type 0) → List (List ℕ) → Refused → Type 0
-IsUnopened missing names refused =
-    (refused.why ≡ Memory)
-    ⊎ ((refused.why ≡ InputFault) × Contains names refused.name.now × missing refused.name.now)
+module _ {I Q : Type 0} (opened : List ℕ → I → Type 0) (made : Run → List Q → Type 0) (run : Run) (missing : List ℕ → Type 0) where
+  -- that is the name of the first of these files that could not be opened: those of the names before it are open
+  pub record IsFirstUnopened (names : List (List ℕ)) (refused : Refused) : Type 0 where
+    pub before : List (List ℕ)
+    pub behind : List (List ℕ)
+    pub names_are : names ≡ before ++ refused.name.now ∷ behind
+    pub files : List (Opened I Q)
+    pub opened_before : AreOpened opened made run before files
+    pub missing_is : missing refused.name.now
+
+  -- the files of these names are not all open: the first that could not be opened is told, or memory was refused
+  abbrev pub AreUnopened : List (List ℕ) → Refused → Type 0
+  AreUnopened names refused = (refused.why ≡ Memory) ⊎ ((refused.why ≡ InputFault) × IsFirstUnopened names refused)
+
+-- a reader that has not failed
+abbrev pub HasNotFailed : {T : Type 0} → Counted T → Type 0
+HasNotFailed counted = counted.failures ≡ 0

@@ -45,10 +45,15 @@ module _ {I Q : Type 0} (remaining : I → Option (List ℕ)) (failed : I → �
     pub users : refused.why ≡ BadUsers → ¬ HasFailed (failed file.reader) (failed last)
     pub others : refused.why ≡ BadUsers → BeginsOtherwise (remaining file.reader)
 
-  -- it comes of one of these files
-  abbrev pub IsRefusedAmong : List (Opened I Q) → Refused → Type 0
-  IsRefusedAmong [] refused = ⊥
-  IsRefusedAmong (file ∷ files) refused = IsRefusedFor file refused ⊎ IsRefusedAmong files refused
+  -- it comes of one of these files, and is of the first that it could come of: those before it were read up to their users
+  pub record IsRefusedAmong (files : List (Opened I Q)) (refused : Refused) : Type 0 where
+    pub before : List (Opened I Q)
+    pub file : Opened I Q
+    pub behind : List (Opened I Q)
+    pub files_are : files ≡ before ++ file ∷ behind
+    pub parts : List (Part I Q)
+    pub parts_before : AreParts remaining before parts
+    pub refused_for : IsRefusedFor file refused
 
   -- it does, or memory was refused
   abbrev pub IsRefused : List (Opened I Q) → Refused → Type 0

@@ -1,9 +1,9 @@
 //! The files of a run as they are opened, each with what builds for it.
 
-ghost use Rattle.std.specs.Prelude.{◌≡◌, ℕ, List, map, option_map, IfOk, IfErr, MatchOption, string_bytes};
+ghost use Rattle.std.specs.Prelude.{◌≡◌, ℕ, List, map, option_map, IfOk, IfErr, IfSome, MatchOption, string_bytes};
 ghost use Rattle.std.specs.Path.{path_buf_bytes};
 ghost use Rattle.command_line.specs.declared.settings.Run.{Run};
-ghost use Rattle.files.specs.Opening.{AreFoldersOf, AreOpened, AreRunners, BuildsIn, IsOpened, IsUnopened, CannotOpen};
+ghost use Rattle.files.specs.Opening.{AreFoldersOf, AreOpened, AreRunners, AreUnopened, BuildsIn, HasNotFailed, IsOpened, CannotOpen};
 
 use builder::{Folders, ProcessRunner, System};
 use command_line::Run;
@@ -162,8 +162,14 @@ fn runners_for<'a, H: Files + Processes<Started = SystemProcess> + Clock + Eprin
 #[derive(Drop)]
 pub struct Machine<'a, H>(pub &'a H);
 
-/// A file that is to be read, or nothing where it cannot be opened.
-pub fn open<R: Files>(rt: &R, name: &str) -> Result<Option<Counted<R::File>>, AllocError> {
+/// A file that is to be read, whose reader has not failed, or nothing where it cannot be opened.
+///
+/// # Errors
+///
+/// It fails only where memory was refused.
+pub fn open<R: Files>(rt: &R, name: &str) -> Result<Option<Counted<R::File>>, AllocError>
+    ensures { IfOk result (λ file. IfSome file HasNotFailed) }
+{
     match fs::open(rt, name) {
         Ok(file) => Ok(Some(Counted::new(file))),
         Err(error) if error.kind() == ErrorKind::OutOfMemory => Err(AllocError),
@@ -171,15 +177,16 @@ pub fn open<R: Files>(rt: &R, name: &str) -> Result<Option<Counted<R::File>>, Al
     }
 }
 
-// No contract can say what a file system has under a name, so nothing is known of a file that was opened there. What
-// is proved of the files of a run is proved of all that provides them, whatever it knows of them.
+// No contract can say what a file system has under a name, so all that is known of a file that was opened there is
+// that its reader has not failed. What is proved of the files of a run is proved of all that provides them, whatever
+// it knows of them.
 impl<'a, H: Files + Processes<Started = SystemProcess> + Clock + Eprint> Provides<
     Counted<H::File>,
     HostRunner<'a, H>,
 > for Machine<'a, H> {
-    ghost use Rattle.files.specs.Opening.{AreRunners};
+    ghost use Rattle.files.specs.Opening.{AreRunners, HasNotFailed};
 
-    ghost opened = { λ name file. Unit {0} };
+    ghost opened = { λ name file. HasNotFailed file };
 
     ghost missing = { λ name. Unit {0} };
 
@@ -231,7 +238,8 @@ pub fn open_all<'a, I: Drop, Q: Drop, P: Provides<I, Q>>(
 ) -> Result<Vec<Opened<'a, I, Q>>, Refused<'a>>
     ensures opened { IfOk result (λ files.
         AreOpened P.opened P.made run.now (map string_bytes run.now.files.items) files.items) }
-    ensures refused { IfErr result (IsUnopened P.missing (map string_bytes run.now.files.items)) }
+    ensures refused { IfErr result
+        (AreUnopened P.opened P.made run.now P.missing (map string_bytes run.now.files.items)) }
 {
     let mut files = Vec::new(alloc);
     for name in run.files.as_slice() {

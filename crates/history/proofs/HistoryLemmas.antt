@@ -6,6 +6,7 @@ use Rattle.std.proofs.lemmas.List.Elements.{All-head, All-tail, All-nil, All-con
 use Rattle.model.specs.Replies.{is_memory, is_memory_refusal, is_stopped_refusal, Answer}
 use Rattle.model.specs.Worlds.{Setup, World}
 use Rattle.model.specs.Events.{Event}
+use Rattle.model.specs.WellFormed.{IsWellFormed}
 use Rattle.model.specs.Steps.{world_after, answers, after, reply_to, replies_to}
 use Rattle.model.specs.HashedTexts.{hashed, texts_of_event}
 use Rattle.model.specs.GivenClosures.{GiveGoodClosures}
@@ -59,4 +60,8 @@ rows_push rows r = map_push answer_in rows r
 
 pub legal_none : (setup : Setup) → IsLegal setup []
 unfolding answers replies_to kept_from GiveGoodClosures
-legal_none setup = record { answered = All-nil (λ (r : Row). unrecorded r.reply ≡ false); private = λ _. record { same = refl; isolated = λ u. refl; timed = λ u. refl; good = tt } }
+legal_none setup = record {
+  well_formed = All-nil (λ (e : Event). IsWellFormed e.request);
+  answered = All-nil (λ (r : Row). unrecorded r.reply ≡ false);
+  private = λ _. record { same = refl; isolated = λ u. refl; timed = λ u. refl; good = tt };
+}

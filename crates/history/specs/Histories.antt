@@ -7,6 +7,7 @@ use Rattle.model.specs.Events as events
 use Rattle.model.specs.Replies as replies
 use Rattle.model.specs.Steps.{world_after, reply_to}
 use Rattle.model.specs.Replies.{is_unrecorded}
+use Rattle.model.specs.WellFormed.{AreWellFormed}
 use Rattle.model.specs.HashedTexts.{hashed}
 use Rattle.model.specs.GivenClosures.{GivesGoodClosure, KeepsGoodClosure}
 use Rattle.model.specs.Private.{ArePrivate}
@@ -41,9 +42,10 @@ unrecorded reply = is_unrecorded (reply_of reply)
 
 -- ---- what a history says
 
--- a history that one caller could have made of private desks: where no two texts that its events hash have one folded
--- digest, its answers are private
+-- a history that one caller could have made of private desks: its events are well formed, and where no two texts that they hash
+-- have one folded digest, its answers are private
 pub record IsLegal (setup : Setup) (rows : List Row) : Type 0 where
+  pub well_formed : AreWellFormed (events_of rows)
   pub answered : All (λ r. unrecorded r.reply ≡ false) rows
   pub private : NoClash (hashed setup nothing (events_of rows)) → ArePrivate setup (events_of rows) (answers_of rows)
 

@@ -1,1 +1,3 @@
+pub mod Comments
 pub mod Ends
+pub mod Explaining

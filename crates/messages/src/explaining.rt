@@ -1,149 +1,148 @@
 //! Replies, and what each refusal among them means.
 
-use crate::columns::SeenReplies;
-use crate::meanings::{Meaning, meaning_of};
+ghost use Rattle.std.specs.Prelude.{false, ◌≡◌, ◌≤◌, [], ◌-◌, ◌<◌, All, ◌≢◌, take, drop, length, OnOk, vec_len};
+ghost use Rattle.std.specs.Io.{StopsAt, WritesAtMost};
+ghost use Rattle.std.specs.Io.KnownBytes.{Keeps, WriteAppends};
+ghost use Rattle.messages.specs.Comments.{begins_comment, is_begun_after, known_without_comments};
+ghost use Rattle.messages.specs.Explaining.{replies_of, StaysOrComments};
+
+use crate::commenting::{Commentator, Lines, within_a_line};
 use std::alloc::Global;
-use std::fmt::{Display, Formatter};
-use std::io::{BufRead, Write};
-use std::{fmt, io, mem, str};
+use std::io;
+use std::io::{BufRead, ErrorKind, Write};
 
-/// The most bytes that are kept of a line of replies: what tells whether it is a refusal.
-const MOST_KEPT: usize = 128;
-
-/// The lines of a file, read one after another, beside their replies.
+/// A comment, and how many bytes of it are written.
 #[derive(Drop)]
-pub struct Lines<B> {
-    reader: B,
-    count: u64,
+struct Unwritten {
+    text: Vec<u8>,
+    written: usize,
 }
 
-impl<B: BufRead> Lines<B> {
-    /// The lines that are left of a reader.
-    pub fn new(reader: B) -> Lines<B> {
-        Lines { reader, count: 0 }
+impl Unwritten {
+    /// One of which nothing is written.
+    fn new(text: Vec<u8>) -> Unwritten
+        ensures { (result.text ≡ text) × (result.written ≡ 0) }
+    {
+        Unwritten { text, written: 0 }
     }
 
-    /// The line of that number, without its newline. There is none where it stands before one that was asked for.
-    fn line(&mut self, alloc: Global, number: u64) -> io::Result<Option<Vec<u8>>> {
-        for _ in self.count.saturating_add(1)..number {
-            self.count = self.count.saturating_add(1);
-            self.reader.skip_until(b'\n')?;
-        }
-        if self.count.saturating_add(1) != number {
-            return Ok(None);
-        }
-        self.count = number;
-        let mut line = Vec::new(alloc);
-        self.reader.read_until(b'\n', &mut line)?;
-        if line.ends_with(b"\n") {
-            let _newline = line.pop();
-        }
-        Ok(Some(line))
+    /// What is yet to be written.
+    fn rest(&self) -> &[u8]
+        ensures { result.now ≡ drop self.now.written self.now.text.items }
+    {
+        self.text.get(self.written..).unwrap_or(&[])
     }
 }
 
-/// What is said of a refusal: where in its line the fault is, if that is known, and what it means.
-#[derive(Drop)]
-struct Comment {
-    column: Option<usize>,
-    meaning: Meaning,
-}
-
-impl Display for Comment {
-    fn fmt<W: fmt::Write>(&self, f: &mut Formatter<W>) -> fmt::Result {
-        let Meaning { when, advice } = self.meaning;
-        f.write_str("# ")?;
-        if let Some(column) = self.column {
-            write!(f, "column {column}: ")?;
-        }
-        writeln!(f, "{when}; what to do: {advice}")
-    }
-}
-
-/// A writer of replies that writes behind each refusal, in a line that begins with `# `, what it means. The lines
-/// that are refused are read again where they can be.
+/// A writer of replies that writes behind each refusal, in a line that begins with `# `, what it means. The comment
+/// behind a line is written before the next bytes, or by a flush; where there is no memory for one, it is left out.
+///
+/// Its contents are what the writer within it has but for comments, which are all lines that begin with `#`. A line
+/// that begins so is not taken.
 #[derive(Drop)]
 pub struct Explained<W, B> {
-    alloc: Global,
     writer: W,
-    lines: Option<Lines<B>>,
-    known: SeenReplies,
-    kept: Vec<u8>,
+    commentator: Commentator<B>,
+    comment: Unwritten,
+    is_begun: bool,
+}
+
+/// The front of some bytes that stands within one line, with the newline that ends it.
+fn line_part(bytes: &[u8]) -> &[u8]
+    ensures front { result.now ≡ take (length result.now) bytes.now }
+    ensures one_line { StopsAt result.now 10 }
+{
+    let end = within_a_line(bytes).len();
+    bytes.get(..=end).unwrap_or(bytes)
+}
+
+/// Whether a line is begun behind some bytes.
+fn is_begun_after(is_begun: bool, bytes: &[u8]) -> bool
+    ensures { result ≡ is_begun_after is_begun bytes.now }
+{
+    match bytes.last() {
+        Some(last) => *last != b'\n',
+        None => is_begun,
+    }
+}
+
+/// Whether bytes of a line begin a comment, where one is begun before them or not.
+fn begins_comment(is_begun: bool, bytes: &[u8]) -> bool
+    ensures { result ≡ begins_comment is_begun bytes.now }
+{
+    match bytes {
+        [b'#', ..] => !is_begun,
+        _ => false,
+    }
 }
 
 impl<W: Write + Drop, B: BufRead + Drop> Explained<W, B> {
-    /// One that writes to this writer.
-    pub fn new(alloc: Global, writer: W, lines: Option<Lines<B>>) -> Explained<W, B> {
+    /// One that writes to this writer, which is to have whole lines.
+    pub fn new(alloc: Global, writer: W, lines: Option<Lines<B>>) -> Explained<W, B>
+        ensures { replies_of W.contents result ≡ known_without_comments false (W.contents writer) }
+    {
         Explained {
-            alloc,
             writer,
-            lines,
-            known: SeenReplies::new(alloc),
-            kept: Vec::new(alloc),
+            commentator: Commentator::new(alloc, lines),
+            comment: Unwritten::new(Vec::new(alloc)),
+            is_begun: false,
         }
     }
 
-    /// Keeps as much of a line of replies as shows whether it is a refusal.
-    fn keep(&mut self, part: &[u8]) -> io::Result<()> {
-        let room = MOST_KEPT.saturating_sub(self.kept.len());
-        let kept = part.get(..room).unwrap_or(part);
-        Ok(self.kept.extend_from_slice(kept)?)
+    /// Writes what is left of the comment behind the last line.
+    fn write_comment(&mut self) -> io::Result<()>
+        ensures kept { Keeps (replies_of W.contents self.old) (replies_of W.contents self.new) }
+        ensures done { OnOk result (drop self.new.comment.written self.new.comment.text.items ≡ []) }
+        ensures begun { self.new.is_begun ≡ self.old.is_begun }
+    {
+        while self.comment.written < self.comment.text.len() {
+            match self.writer.write(self.comment.rest())? {
+                0 => return Err(io::Error::from(ErrorKind::WriteZero)),
+                count => self.comment.written += count,
+            }
+        }
+        Ok(())
     }
 
-    /// The column of the fault in a line that is refused, where it is known.
-    fn column(&mut self, refusal: u8, number: u64) -> Option<usize> {
-        if !matches!(refusal, 25 | 31) {
-            return None;
+    /// Takes note of bytes of a line that were written.
+    fn take_note(&mut self, bytes: &[u8])
+        ensures writer { self.new.writer ≡ self.old.writer }
+        ensures begun { self.new.is_begun ≡ is_begun_after self.old.is_begun bytes.now }
+        ensures comment { StaysOrComments self.new.is_begun self.old.comment self.new.comment }
+    {
+        self.commentator.keep(bytes);
+        self.is_begun = is_begun_after(self.is_begun, bytes);
+        if !self.is_begun && !bytes.is_empty() {
+            if let Some(comment) = self.commentator.comment() {
+                self.comment = Unwritten::new(comment);
+            }
         }
-        let line = self.lines.as_mut()?.line(self.alloc, number).ok()??;
-        self.known.column(refusal, number, &line)
-    }
-
-    /// Looks at a line of replies that is written, and says what it means, where it is a refusal.
-    fn explain(&mut self, line: &[u8]) -> io::Result<()> {
-        let text = str::from_utf8(line).unwrap_or("");
-        let mut words = text.split(' ');
-        let (Some(number), Some(user), Some(reply)) = (words.next(), words.next(), words.next())
-        else {
-            return Ok(());
-        };
-        let Ok(number) = number.parse::<u64>() else {
-            return Ok(());
-        };
-        let reply = reply.trim_end();
-        self.known.learn(number, user.as_bytes(), reply.as_bytes());
-        if reply != "refused" {
-            return Ok(());
-        }
-        let Some(Ok(refusal)) = words.next().map(|word| word.parse::<u8>()) else {
-            return Ok(());
-        };
-        let Some(meaning) = meaning_of(refusal) else {
-            return Ok(());
-        };
-        let column = self.column(refusal, number);
-        let comment = format!(in self.alloc; "{}", Comment { column, meaning })?;
-        self.writer.write_all(comment.as_bytes())
     }
 }
 
 impl<W: Write + Drop, B: BufRead + Drop> Write for Explained<W, B> {
-    fn write(&mut self, bytes: &[u8]) -> io::Result<usize> {
-        let end = bytes.iter().position(|byte| *byte == b'\n');
-        let part = match end {
-            Some(end) => &bytes[..end + 1],
-            None => bytes,
-        };
-        self.writer.write_all(part)?;
-        self.keep(part)?;
-        if end.is_some() {
-            let line = mem::replace(&mut self.kept, Vec::new(self.alloc));
-            self.explain(&line)?;
+    ghost use Rattle.messages.specs.Explaining.{replies_of};
+
+    ghost contents = { replies_of W.contents };
+
+    fn write(&mut self, bytes: &[u8]) -> io::Result<usize>
+        ensures bound { WritesAtMost result bytes.now }
+        ensures bytes { WriteAppends (replies_of W.contents self.old) (replies_of W.contents self.new) result bytes.now }
+    {
+        self.write_comment()?;
+        let part = line_part(bytes);
+        if begins_comment(self.is_begun, part) {
+            return Err(io::Error::from(ErrorKind::InvalidInput));
         }
-        Ok(part.len())
+        let count = self.writer.write(part)?;
+        self.take_note(&part[..count]);
+        Ok(count)
     }
 
-    fn flush(&mut self) -> io::Result<()> {
+    fn flush(&mut self) -> io::Result<()>
+        ensures bytes { Keeps (replies_of W.contents self.old) (replies_of W.contents self.new) }
+    {
+        self.write_comment()?;
         self.writer.flush()
     }
 }

@@ -9,6 +9,7 @@
 #![tactic(auto)]
 
 mod columns;
+mod commenting;
 mod explaining;
 mod fault;
 mod heard;
@@ -17,7 +18,8 @@ mod meanings;
 mod narrator;
 mod waiting;
 
-pub use explaining::{Explained, Lines};
+pub use commenting::Lines;
+pub use explaining::Explained;
 pub use fault::{
     ANSWERED, BAD_USERS, CANNOT_READ_OR_WRITE, COMMAND_LINE_FAULT, Fault, OUT_OF_MEMORY, fault_of,
     report, status_of,

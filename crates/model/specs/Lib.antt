@@ -27,6 +27,7 @@ pub mod Goals
 pub mod Endings
 pub mod Resolutions
 pub mod Events
+pub mod WellFormed
 pub mod Replies
 pub mod Outcomes
 pub mod SourceRequests

@@ -8,6 +8,7 @@ ghost use Rattle.std.specs.Cmp.Rules.{comparing, hashing};
 ghost use Rattle.std.specs.Ordering.{as_partial_cmp, nat_cmp};
 ghost use Rattle.std.specs.Str.{bytes_eq};
 ghost use Rattle.std.proofs.Common.{rules};
+ghost use Rattle.model.specs.Archives.{AreBytes};
 
 use std::alloc::{AllocError, Global};
 use std::cmp::Ordering;
@@ -59,6 +60,19 @@ impl SharedBytes {
     {
         self.bytes.as_slice()
     }
+
+    /// Each of them is a number below 256.
+    pub fn sound(&self)
+        ensures { AreBytes self.now }
+    {
+        sound(self.as_slice());
+    }
+}
+
+fn sound(bytes: &[u8])
+    ensures { AreBytes bytes.now }
+{
+    let _ = bytes;
 }
 
 /// Equal where the bytes are.

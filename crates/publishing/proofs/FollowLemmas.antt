@@ -12,7 +12,8 @@ use Rattle.model.specs.Steps.{world_after, after, reply_to}
 use Rattle.model.specs.Replies.{is_memory}
 use Rattle.model.specs.HashedTexts.{hashed, texts_of_event}
 use Rattle.model.specs.GivenClosures.{GivesGoodClosure, KeepsGoodClosure, GiveGoodClosures}
-use Rattle.closure_laws.specs.GoodClosures.{IsWellFormed, ClosuresAreGood}
+use Rattle.model.specs.WellFormed.{IsWellFormed}
+use Rattle.closure_laws.specs.GoodClosures.{ClosuresAreGood}
 use Rattle.events.specs.declared.event.Event.{Event}
 use Rattle.events.specs.declared.reply.Reply.{Reply}
 use Rattle.events.specs.Terms.{event_of, reply_of}
@@ -66,6 +67,7 @@ reads : ClosuresAreGood → (core : Core) (rows : List Row) (e : Event) (reply :
     → IsCoreStep core (event_of e) (reply_of reply) core
     → IsModelRead (setup_of core) rows e reply
 reads law core rows e reply f steps = record {
+  well_formed = steps.well_formed;
   told = λ some.
       let texts : List (List ℕ) = hashed (setup_of core) nothing (events_of rows ++ event_of e ∷ []) in
       let now : NoClash texts → Goes (setup_of core) rows (event_of e) (reply_of reply) core texts =

@@ -4,6 +4,7 @@ use Rattle.std.proofs.lemmas.List.Elements.{All-push, Contains-append_left}
 use Rattle.model.specs.Paths.{NoClash}
 use Rattle.model.specs.Worlds.{Setup, nothing}
 use Rattle.model.specs.Events.{Event}
+use Rattle.model.specs.WellFormed.{IsWellFormed}
 use Rattle.model.specs.Steps.{world_after, answers, reply_to}
 use Rattle.model.specs.HashedTexts.{hashed, texts_of_event}
 use Rattle.model.specs.Laws.{IsIsolated, IsTimelyIsolated}
@@ -36,9 +37,10 @@ module _ (setup : Setup) (rows : List Row) (r : Row) where
         (ap (λ xs. xs ++ record { actor = r.event.actor; reply = reply_to setup (world_after setup nothing es) (event_in r) } ∷ [])
         (legal.private (clean_before (clean_with clean))).same)
 
-    -- a legal history is so with a row more, whose reply is the model's after it
-    pub legal_with : IsIsolated → IsTimelyIsolated → unrecorded r.reply ≡ false → IsLegal setup (rows ++ r ∷ [])
-    legal_with isolated timed some = record {
+    -- a legal history is so with a row more, whose event is well formed and whose reply is the model's after it
+    pub legal_with : IsIsolated → IsTimelyIsolated → IsWellFormed (event_in r).request → unrecorded r.reply ≡ false → IsLegal setup (rows ++ r ∷ [])
+    legal_with isolated timed well some = record {
+      well_formed = rw (events_push rows r) (All-push (λ (e : Event). IsWellFormed e.request) (events_of rows) (event_in r) legal.well_formed well);
       answered = All-push (λ (one : Row). unrecorded one.reply ≡ false) rows r legal.answered some;
       private = λ clean.
           let now = told.good (clean_with clean) in

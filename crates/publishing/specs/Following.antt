@@ -8,7 +8,7 @@ use Rattle.model.specs.Worlds.{Setup, nothing}
 use Rattle.model.specs.Outcomes.{observation_of}
 use Rattle.model.specs.Steps.{world_after}
 use Rattle.model.specs.HashedTexts.{hashed}
-use Rattle.closure_laws.specs.GoodClosures.{AreWellFormed}
+use Rattle.model.specs.WellFormed.{IsWellFormed, AreWellFormed}
 use Rattle.schedule.specs.declared.state.Core.{Core}
 use Rattle.schedule.specs.Standing.{world_of, HasHashed}
 use Rattle.schedule.specs.declared.work.Ready.{Ready}
@@ -33,8 +33,9 @@ pub record Follows (setup : Setup) (core : Core) (rows : List Row) : Type 0 wher
   pub well_formed : AreWellFormed (events_of rows)
   pub reached : (texts : List (List ℕ)) → NoClash texts → All (Contains texts) (hashed setup nothing (events_of rows)) → HasReached setup core texts rows
 
--- a reply to an event that is read after these rows: it is the model's, or that memory was refused
+-- a reply to a well-formed event that is read after these rows: it is the model's, or that memory was refused
 pub record IsModelRead (setup : Setup) (rows : List Row) (event : Event) (reply : Reply) : Type 0 where
+  pub well_formed : IsWellFormed (event_of event).request
   pub told : unrecorded reply ≡ false → IsToldAfter setup rows (event_of event) (reply_of reply)
   pub going : reply ≢ Refused Stopped
 

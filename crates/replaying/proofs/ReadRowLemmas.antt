@@ -2,10 +2,11 @@
 use Rattle.std.proofs.Common.{◌≡◌, ℕ, true, false, List, [], ◌∷◌, ◌++◌, refl, sym, ap, ◌∙◌, subst}
 use Rattle.std.specs.Prelude.{All, Contains}
 use Rattle.std.proofs.lemmas.List.{same_from_push}
-use Rattle.std.proofs.lemmas.List.Elements.{All-contains, All-append, All-weaker, All-contains_itself, Contains-append_left, Contains-append_right}
+use Rattle.std.proofs.lemmas.List.Elements.{All-contains, All-append, All-weaker, All-contains_itself, Contains-append_left, Contains-append_right, Contains-push}
 use Rattle.model.specs.Paths.{NoClash}
 use Rattle.model.specs.Worlds.{Setup, World, nothing}
 use Rattle.model.specs.Events.{is_query, Event}
+use Rattle.model.specs.WellFormed.{IsWellFormed, AreWellFormed}
 use Rattle.model.specs.Replies.{Answer}
 use Rattle.model.specs.Steps.{world_after, after, answers, reply_to}
 use Rattle.model.specs.HashedTexts.{hashed, texts_of_event}
@@ -47,6 +48,11 @@ module _ (setup : Setup) where
   module _ (rows : List Row) (r : Row) (legal : IsLegal setup (rows ++ r ∷ [])) where
     abbrev events_with : List Event
     events_with = events_of rows ++ event_in r ∷ []
+
+    last_well_formed : IsWellFormed (event_in r).request
+    last_well_formed =
+        All-contains (λ (e : Event). IsWellFormed e.request) (events_of rows ++ event_in r ∷ []) (event_in r)
+        (subst AreWellFormed (events_push rows r) legal.well_formed) (Contains-push (events_of rows) (event_in r))
 
     last_told : IsToldAfter setup rows (event_in r) (reply_of r.reply)
     last_told = record {
@@ -91,7 +97,7 @@ module _ (setup : Setup) where
 
     -- so it is legal there
     pub legal_behind : unrecorded r.reply ≡ false → IsLegal setup (all ++ r ∷ [])
-    legal_behind some = legal_with setup all r before.legal told_with isolated timed some
+    legal_behind some = legal_with setup all r before.legal told_with isolated timed (last_well_formed rows r legal) some
 
     -- a row that both have
     pub row_more : unrecorded r.reply ≡ false → WithReads (rows ++ r ∷ []) (all ++ r ∷ [])

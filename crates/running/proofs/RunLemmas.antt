@@ -1,10 +1,13 @@
 -- What a session called and read through its pass, and its workers through theirs, stands in the history of the front.
 use Rattle.std.proofs.Common.{◌≡◌, ◌⊎◌, inl, inr, refl, sym, ◌∙◌, ap, subst, arith, Bool, true, false, true≢false, List, [], ◌∷◌, ◌++◌, ℕ, ◌+◌, ◌<◌, Option, Result, Ok, Err}
 use Rattle.std.specs.Prelude.{◌||◌, map, All, MatchResult}
+use Rattle.std.specs.List.{list_any}
 use Rattle.std.proofs.lemmas.List.Elements.{All-head, All-tail}
 use Rattle.model.specs.declared.refusal.Refusal.{Refusal}
 use Rattle.model.specs.declared.refusal.Refusal.TheVariants as why
 use Rattle.model.specs.Worlds.{Setup, Job as GoalId}
+use Rattle.model.specs.Events as events
+use Rattle.model.specs.Events.{is_query}
 use Rattle.model.specs.Replies as replies
 use Rattle.model.specs.Goals.{Running}
 use Rattle.model.specs.Replies.{is_refusal, is_memory_refusal, is_stopped_refusal}
@@ -26,9 +29,9 @@ use Rattle.book.specs.Asking.{IsAskedBy}
 use Rattle.running.specs.Calling.{IsTold, Stand, is_read}
 use Rattle.running.specs.Meeting.{HasMet, IsNew, is_stopped, met_none, met_more, met_asking, stopped_told, stops_by}
 use Rattle.teams.specs.Sessions.{Answers, Waits, IsStatusOf, AsksStatus, Calls, Served, ServedInPart}
-use Rattle.teams.specs.Teams.{HasWorked, AllWorked}
+use Rattle.teams.specs.Teams.{HasWorked, AllWorked, AllNew}
 use Rattle.running.specs.ServedSessions.{numbers_in}
-use Rattle.running.specs.Runs.{Makes, is_told, tell, LinesStand, Ran, RanInPart, WorkerStands, WorkersStand, IsGivenBack}
+use Rattle.running.specs.Runs.{Makes, is_told, tell, is_read_told_stopped, LinesStand, Ran, RanInPart, WorkerStands, WorkersStand, IsGivenBack}
 use Rattle.teams.proofs.WaitLemmas.{calls_append}
 use Rattle.teams.proofs.TeamLemmas.{rounds_chain}
 use Rattle.running.proofs.ChainLemmas.{own_longer, chain_adds, chain_counts, chain_stopped, chain_order}
@@ -124,6 +127,27 @@ module _ (setup : Setup) where
     | inr later ↦ rows_stopped rows chain.0 new chain.2 later
   ]
 
+  -- a line that asks for what is only read is not told so
+  row_read : (row : talk.LineRow) (old new : Seat) → RowLink old row new → is_read_told_stopped row ≡ false
+  row_read talk.Silent old new link = refl
+  row_read (talk.Names users) old new link = refl
+  row_read (talk.Refuses w) old new link = refl
+  row_read (talk.Waits goals reply) old new link = refl
+  row_read (talk.Asks event reply) old new link = elim (either (is_query event.request)) [
+    | inr other ↦ rw other refl
+    | inl query ↦ elim (either (is_refusal is_stopped_refusal reply)) [
+      | inr going ↦ rw (query, going) refl
+      | inl is ↦
+          let told : link.1 ≡ Refused why.Stopped = told_92 link.1 (ap (is_refusal is_stopped_refusal) link.3 ∙ is) in
+          let read : is_read link.0 ≡ true = ap (λ (e : events.Event). is_query e.request) link.2 ∙ query in
+          absurd ((link.4.only_read read).1 told)
+    ]
+  ]
+
+  rows_read : (rows : List talk.LineRow) (old new : Seat) → Chain RowLink old rows new → list_any is_read_told_stopped rows ≡ false
+  rows_read [] old new chain = refl
+  rows_read (row ∷ rows) old new chain = rw (row_read row old chain.0 chain.1) (rows_read rows chain.0 new chain.2)
+
   -- ---- what stopped it
 
   -- nothing more was stopped, and no round more was answered 90
@@ -215,6 +239,7 @@ module _ (setup : Setup) where
           calls = all.0;
           makes = all.1;
           stand = calls_stand history number last back all.0 all.2;
+          reads = rows_read rows first (last, told) chain;
           stopped = λ is. back.stopped (rows_stopped rows first (last, told) chain is);
           memory = rows_memory rows chain;
         }
@@ -260,36 +285,47 @@ module _ (setup : Setup) where
 
   -- ---- workers
 
-  module _ {Q : Type 0} (gives : Q → Running → Result (List ℕ) RunFault → Q → Type 0) (history : History) where
-    abbrev DidWork : Worker PassKnowledge Q → Type 0
-    DidWork = HasWorked (IsTold setup) (IsAskedBy setup) gives HasMet IsNew
+  module _ {Q : Type 0} (gives : Q → Running → Result (List ℕ) RunFault → Q → Type 0) where
+    abbrev AllDid : List (Worker PassKnowledge Q) → List (Worker PassKnowledge Q) → Type 0
+    AllDid = AllWorked (IsTold setup) (IsAskedBy setup) gives HasMet
 
-    worker_stands : (w : Worker PassKnowledge Q) → IsGivenBack history w.store → DidWork w → WorkerStands setup gives history w.store.caller.number
-    worker_stands w back worked =
-        let n : ℕ = w.store.caller.number in
-        let chain : CallChain worked.first.store worked.calls w.store =
-        rounds_chain (IsTold setup) (IsAskedBy setup) gives HasMet met_none met_more (met_asking setup) worked.first worked.rounds worked.calls w worked.works in
-        let new : worked.first.store ≡ new_pass n =
-        worked.new ∙ ap new_pass (sym (chain_adds setup worked.first.store worked.calls w.store chain).number) in
-        record {
-          first = worked.first;
-          new = new;
-          last = w;
-          rounds = worked.rounds;
-          calls = worked.calls;
-          works = worked.works;
-          stand = calls_stand history n w.store back worked.calls (subst (λ (k : PassKnowledge). CallChain k worked.calls w.store) new chain);
-        }
+    did_chain : (first w : Worker PassKnowledge Q) (did : HasWorked (IsTold setup) (IsAskedBy setup) gives HasMet first w)
+        → CallChain first.store did.calls w.store
+    did_chain first w did =
+        rounds_chain (IsTold setup) (IsAskedBy setup) gives HasMet met_none met_more (met_asking setup) first did.rounds did.calls w did.works
 
-    pub workers_stand : (ws : List (Worker PassKnowledge Q)) → All (IsGivenBack history) (map (λ w. w.store) ws)
-        → AllWorked (IsTold setup) (IsAskedBy setup) gives HasMet IsNew ws → WorkersStand setup gives history (numbers_in ws)
-    workers_stand [] back worked = tt
-    workers_stand (w ∷ ws) back worked = (
-      worker_stands w (All-head (IsGivenBack history) w.store (map (λ v. v.store) ws) back) worked.0,
-      workers_stand ws (All-tail (IsGivenBack history) w.store (map (λ v. v.store) ws) back) worked.1,
-    )
+    -- each keeps the pass that he had
+    pub same_passes : (firsts ws : List (Worker PassKnowledge Q)) → AllDid firsts ws → numbers_in ws ≡ numbers_in firsts
+    same_passes [] [] did = refl
+    same_passes (f ∷ fs) (w ∷ ws) did =
+        ap (λ n. n ∷ numbers_in ws) (chain_adds setup f.store did.0.calls w.store (did_chain f w did.0)).number
+        ∙ ap (λ ns. f.store.caller.number ∷ ns) (same_passes fs ws did.1)
+    same_passes [] (w ∷ ws) did = absurd did
+    same_passes (f ∷ fs) [] did = absurd did
 
-    pub stand_append : (ms ns : List ℕ) → WorkersStand setup gives history ms → WorkersStand setup gives history ns
-        → WorkersStand setup gives history (ms ++ ns)
-    stand_append [] ns one two = two
-    stand_append (m ∷ ms) ns one two = (one.0, stand_append ms ns one.1 two)
+    module _ (history : History) where
+      worker_stands : (first w : Worker PassKnowledge Q) → IsGivenBack history w.store → IsNew first.store
+          → HasWorked (IsTold setup) (IsAskedBy setup) gives HasMet first w → WorkerStands setup gives history first
+      worker_stands first w back new did = record {
+        rounds = did.rounds;
+        calls = did.calls;
+        last = w;
+        works = did.works;
+        stand = calls_stand history first.store.caller.number w.store back did.calls
+            (subst (λ (k : PassKnowledge). CallChain k did.calls w.store) new (did_chain first w did));
+        back = back;
+      }
+
+      pub workers_stand : (firsts ws : List (Worker PassKnowledge Q)) → All (IsGivenBack history) (map (λ w. w.store) ws) → AllNew IsNew firsts
+          → AllDid firsts ws → WorkersStand setup gives history firsts
+      workers_stand [] ws back new did = tt
+      workers_stand (f ∷ fs) (w ∷ ws) back new did = (
+        worker_stands f w (All-head (IsGivenBack history) w.store (map (λ v. v.store) ws) back) new.0 did.0,
+        workers_stand fs ws (All-tail (IsGivenBack history) w.store (map (λ v. v.store) ws) back) new.1 did.1,
+      )
+      workers_stand (f ∷ fs) [] back new did = absurd did
+
+      pub stand_append : (ms ns : List (Worker PassKnowledge Q)) → WorkersStand setup gives history ms → WorkersStand setup gives history ns
+          → WorkersStand setup gives history (ms ++ ns)
+      stand_append [] ns one two = two
+      stand_append (m ∷ ms) ns one two = (one.0, stand_append ms ns one.1 two)

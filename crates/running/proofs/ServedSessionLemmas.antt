@@ -1,8 +1,8 @@
 -- Sessions that are served, their passes, and what they give.
-use Rattle.std.proofs.Common.{Result, Ok, Err, ◌≡◌, ℕ, zero, suc, ◌+◌, ◌-◌, ◌<◌, true, false, refl, sym, ◌∙◌, ap, subst, arith, List, [], ◌∷◌, ◌++◌, length, drop, Bool, Option}
+use Rattle.std.proofs.Common.{Result, Ok, Err, inl, inr, ◌≤◌, ◌≡◌, ℕ, zero, suc, ◌+◌, ◌-◌, ◌<◌, true, false, refl, sym, ◌∙◌, ap, subst, arith, List, [], ◌∷◌, ◌++◌, length, drop, Bool, Option}
 use Rattle.std.specs.Prelude.{map, sum, sum_by, get_or, take, min, All, IfOk}
 use Rattle.std.proofs.lemmas.List.{length-map, length-append, map-append, append_assoc, append-nil, take_more}
-use Rattle.std.proofs.lemmas.List.Elements.{All-head, All-tail, All-drop, All-take}
+use Rattle.std.proofs.lemmas.List.Elements.{All-head, All-tail, All-nil, All-cons, All-drop, All-take}
 use lib.Seq.{drop-append_seam, take-append_seam}
 use mathlib.Core.List.{map-map}
 use Rattle.std.proofs.lemmas.List.Sums.{sum-map, sum_by-cons, sum_by-append}
@@ -19,11 +19,12 @@ use Rattle.teams.specs.declared.sessions.ServedSession.{ServedSession}
 use Rattle.teams.specs.declared.sessions.Left.{Left}
 use Rattle.teams.specs.declared.sessions.SessionOutput.{SessionOutput}
 use Rattle.teams.specs.declared.sessions.Part.{Part}
+use Rattle.book.specs.Asking.{IsAskedBy}
 use Rattle.running.specs.Calling.{IsTold}
 use Rattle.running.specs.Meeting.{HasMet, IsNew, is_stopped, stops_by}
 use Rattle.teams.specs.Sessions.{Outputs, AllOutputs}
-use Rattle.teams.specs.Teams.{AllNew, stops_in}
-use Rattle.running.specs.ServedSessions.{AreFirst, IsSessionFor, AreSessionsFor, passes_for, passes_needed, session_passes, passes_left, all_passes, numbers_in, all_numbers, stops_left, IsPool, ArePools}
+use Rattle.teams.specs.Teams.{AllNew, AreThose, AllWorked, stops_in}
+use Rattle.running.specs.ServedSessions.{AreFirst, first_workers, workers_for, all_workers, IsSessionFor, AreSessionsFor, passes_for, passes_needed, session_passes, passes_left, all_passes, numbers_in, all_numbers, stops_left}
 use Rattle.running.specs.Runs.{IsGivenBack, AreOutputs, WorkersStand, AreServed, IsClosed, AreResults, are_accounted}
 use Rattle.teams.specs.Asked.{are_asked}
 use Rattle.running.specs.declared.runs.Results.{Results}
@@ -32,8 +33,9 @@ use Rattle.history.specs.Histories.{IsLegal}
 use Rattle.history.proofs.HistoryLemmas.{legal_none}
 use Rattle.builder.specs.declared.runner.RunFault.{RunFault}
 use Rattle.builder.specs.declared.worker.Worker.{Worker}
+use mathlib.Core.Bool.{Bool-set}
 use mathlib.Core.Logic.{∥∥₁_elim, ∥∥₁_map}
-use Rattle.running.proofs.RunLemmas.{output_ran, workers_stand, stand_append}
+use Rattle.running.proofs.RunLemmas.{output_ran, same_passes, workers_stand, stand_append}
 
 -- ---- passes
 
@@ -72,19 +74,26 @@ first_last passes rest p split first =
     let both = last_same rest (map new_pass (below n)) p (new_pass n) (sym (length-map (below n) new_pass ∙ below_length n)) all in
     (long, both.1, both.0)
 
--- a pass that has made no call, by its number
-pub is_new : (p : PassKnowledge) (n : ℕ) → p ≡ new_pass n → IsNew p
-is_new p n same = same ∙ ap new_pass (sym (ap (λ (k : PassKnowledge). k.caller.number) same))
+-- the first workers have made no call
+pub first_new : {Q : Type 0} (least : ℕ) (runners : List Q) → AllNew IsNew (first_workers least runners)
+first_new least [] = tt
+first_new least (runner ∷ runners) = (refl, first_new least runners)
 
-new_push : {Q : Type 0} (ws : List (Worker PassKnowledge Q)) (w : Worker PassKnowledge Q) → AllNew IsNew ws → IsNew w.store → AllNew IsNew (ws ++ w ∷ [])
-new_push [] w all one = (one, tt)
-new_push (v ∷ vs) w all one = (all.0, new_push vs w all.1 one)
+-- one more such worker, with the pass below theirs
+pub workers_more : {Q : Type 0} (least : ℕ) (runners : List Q) (runner : Q)
+    → first_workers (least + 1) runners ++ record { store = new_pass least; runner = runner } ∷ [] ≡ first_workers least (runners ++ runner ∷ [])
+workers_more {Q = Q} least [] runner =
+    let same : least ≡ least + 0 = omega arith in
+    ap (λ n. record { store = new_pass n; runner = runner } ∷ []) same
+workers_more {Q = Q} least (r ∷ rs) runner =
+    let long = length-append rs (runner ∷ []) in
+    let same : least + 1 + length rs ≡ least + length (rs ++ runner ∷ []) = omega (arith, long) in
+    ap (λ n. record { store = new_pass n; runner = r } ∷ (first_workers (least + 1) rs ++ record { store = new_pass least; runner = runner } ∷ [])) same
+    ∙ ap (λ (ws : List (Worker PassKnowledge Q)). record { store = new_pass (least + length (rs ++ runner ∷ [])); runner = r } ∷ ws) (workers_more least rs runner)
 
--- one more such worker
-pub new_more : {Q : Type 0} (ws vs : List (Worker PassKnowledge Q)) (w : Worker PassKnowledge Q) (n : ℕ) → vs ≡ ws ++ w ∷ [] → AllNew IsNew ws
-    → w.store ≡ new_pass n
-    → AllNew IsNew vs
-new_more ws vs w n same all one = subst (AllNew IsNew) (sym same) (new_push ws w all (is_new w.store n one))
+pub workers_length : {Q : Type 0} (least : ℕ) (runners : List Q) → length (first_workers least runners) ≡ length runners
+workers_length least [] = refl
+workers_length least (runner ∷ runners) = let rest = workers_length least runners in omega (arith, rest)
 
 -- there is none
 pub first_none : (passes : List PassKnowledge) → passes ≡ [] → AreFirst passes
@@ -120,9 +129,9 @@ module _ {I Q : Type 0} where
 module _ {Q : Type 0} (history : History) where
   -- the passes of the workers of a session were
   pub own_back : (l : Left PassKnowledge Q) (ls : List (Left PassKnowledge Q)) → All (IsGivenBack history) (all_passes (l ∷ ls))
-      → All (IsGivenBack history) (map (λ w. w.store) l.team.workers)
+      → All (IsGivenBack history) (map (λ w. w.store) l.workers.items)
   own_back l ls back =
-      let own : List PassKnowledge = map (λ w. w.store) l.team.workers in
+      let own : List PassKnowledge = map (λ w. w.store) l.workers.items in
       subst (All (IsGivenBack history)) (take-append_seam own (all_passes ls))
       (All-take (IsGivenBack history) (length own) (own ++ all_passes ls) (All-tail (IsGivenBack history) l.store (own ++ all_passes ls) back))
 
@@ -130,7 +139,7 @@ module _ {Q : Type 0} (history : History) where
   pub rest_back : (l : Left PassKnowledge Q) (ls : List (Left PassKnowledge Q)) → All (IsGivenBack history) (all_passes (l ∷ ls))
       → All (IsGivenBack history) (all_passes ls)
   rest_back l ls back =
-      let own : List PassKnowledge = map (λ w. w.store) l.team.workers in
+      let own : List PassKnowledge = map (λ w. w.store) l.workers.items in
       subst (All (IsGivenBack history)) (drop-append_seam own (all_passes ls))
       (All-drop (IsGivenBack history) (length own) (own ++ all_passes ls) (All-tail (IsGivenBack history) l.store (own ++ all_passes ls) back))
 
@@ -160,41 +169,161 @@ module _ {I Q : Type 0} where
       → map (λ (d : ServedSession PassKnowledge Q I). d.store.caller.number) served_sessions ≡ numbers
   session_numbers [] [] [] all = refl
   session_numbers (n ∷ ns) (p ∷ ps) (d ∷ ds) all =
-      ap (λ k. k ∷ map (λ (d : ServedSession PassKnowledge Q I). d.store.caller.number) ds) (ap (λ (k : PassKnowledge). k.caller.number) all.0.2)
+      ap (λ k. k ∷ map (λ (d : ServedSession PassKnowledge Q I). d.store.caller.number) ds) (ap (λ (k : PassKnowledge). k.caller.number) all.0.store)
       ∙ ap (λ ks. n ∷ ks) (session_numbers ns ps ds all.1)
   session_numbers [] [] (d ∷ ds) all = absurd all
   session_numbers [] (p ∷ ps) ds all = absurd all
   session_numbers (n ∷ ns) [] ds all = absurd all
   session_numbers (n ∷ ns) (p ∷ ps) [] all = absurd all
 
+  -- their workers have made no call
+  pub sessions_new : (numbers : List ℕ) (parts : List (Part I Q)) (served_sessions : List (ServedSession PassKnowledge Q I))
+      → AreSessionsFor numbers parts served_sessions → All (λ (d : ServedSession PassKnowledge Q I). AllNew IsNew d.workers.items) served_sessions
+  sessions_new [] [] [] all = All-nil (λ (d : ServedSession PassKnowledge Q I). AllNew IsNew d.workers.items)
+  sessions_new (n ∷ ns) (p ∷ ps) (d ∷ ds) all =
+      All-cons (λ (d : ServedSession PassKnowledge Q I). AllNew IsNew d.workers.items) d ds
+      (subst (AllNew IsNew) (sym all.0.workers) (first_new (n + 1) p.runners.items)) (sessions_new ns ps ds all.1)
+  sessions_new [] [] (d ∷ ds) all = absurd all
+  sessions_new [] (p ∷ ps) ds all = absurd all
+  sessions_new (n ∷ ns) [] ds all = absurd all
+  sessions_new (n ∷ ns) (p ∷ ps) [] all = absurd all
+
   -- ---- what they give
 
-  -- what the sessions of files leave stands in the history of the front to which all passes were given back
-  pub outputs_of : (setup : Setup) (gives : Q → Running → Result (List ℕ) RunFault → Q → Type 0) (remaining : I → Option (List ℕ))
-      (history : History) (numbers : List ℕ) (parts : List (Part I Q)) (served_sessions : List (ServedSession PassKnowledge Q I)) (lefts : List (Left PassKnowledge Q))
-      → AreSessionsFor numbers parts served_sessions → AllOutputs (IsTold setup) HasMet is_stopped remaining served_sessions lefts → ArePools setup gives lefts
-      → All (IsGivenBack history) (all_passes lefts)
-      → AreOutputs setup remaining history numbers (map stops_left lefts) parts (map (λ (l : Left PassKnowledge Q). l.output) lefts)
-  outputs_of setup gives remaining history [] [] [] [] are all pools back = tt
-  outputs_of setup gives remaining history (n ∷ ns) (p ∷ ps) (d ∷ ds) (l ∷ ls) are all pools back =
-      let last : PassKnowledge × Bool = (l.store, l.team.has_met_memory) in (
-        output_ran setup history n l.store l.team.has_met_memory (stops_in stops_by l.team.workers) pools.0.1
-            (All-head (IsGivenBack history) l.store (map (λ w. w.store) l.team.workers ++ all_passes ls) back)
-            (prepend_known p.bytes.items (remaining p.reader)) l.output.ended l.output.text.items
-            (subst (λ (first : PassKnowledge × Bool). Outputs (IsTold setup) HasMet is_stopped first last (prepend_known p.bytes.items (remaining p.reader)) l.output)
-            (λ i. (are.0.2 i, are.0.3 i))
-            (subst (λ (reader : I). Outputs (IsTold setup) HasMet is_stopped (d.store, d.team.has_met_memory) last
-            (prepend_known p.bytes.items (remaining reader)) l.output) are.0.1
-            (subst (λ bytes. Outputs (IsTold setup) HasMet is_stopped (d.store, d.team.has_met_memory) last
-            (prepend_known bytes.items (remaining d.reader)) l.output) are.0.0 all.0))),
-        outputs_of setup gives remaining history ns ps ds ls are.1 all.1 pools.1 (rest_back history l ls back),
-      )
-  outputs_of setup gives remaining history [] [] [] (l ∷ ls) are all pools back = absurd all
-  outputs_of setup gives remaining history [] [] (d ∷ ds) ls are all pools back = absurd are
-  outputs_of setup gives remaining history [] (p ∷ ps) ds ls are all pools back = absurd are
-  outputs_of setup gives remaining history (n ∷ ns) [] ds ls are all pools back = absurd are
-  outputs_of setup gives remaining history (n ∷ ns) (p ∷ ps) [] ls are all pools back = absurd are
-  outputs_of setup gives remaining history (n ∷ ns) (p ∷ ps) (d ∷ ds) [] are all pools back = absurd all
+  module _ (setup : Setup) (gives : Q → Running → Result (List ℕ) RunFault → Q → Type 0) (remaining : I → Option (List ℕ)) where
+    abbrev AllGave : List (ServedSession PassKnowledge Q I) → List (Left PassKnowledge Q) → Type 0
+    AllGave = AllOutputs (IsTold setup) (IsAskedBy setup) gives HasMet is_stopped stops_by remaining
+
+    -- what the sessions of files leave stands in the history of the front to which all passes were given back
+    pub outputs_of : (history : History) (numbers : List ℕ) (parts : List (Part I Q)) (served_sessions : List (ServedSession PassKnowledge Q I))
+        (lefts : List (Left PassKnowledge Q))
+        → AreSessionsFor numbers parts served_sessions → AllGave served_sessions lefts → All (IsGivenBack history) (all_passes lefts)
+        → AreOutputs setup remaining history numbers (map stops_left lefts) parts (map (λ (l : Left PassKnowledge Q). l.output) lefts)
+    outputs_of history [] [] [] [] are all back = tt
+    outputs_of history (n ∷ ns) (p ∷ ps) (d ∷ ds) (l ∷ ls) are all back =
+        let last : PassKnowledge × Bool = (l.store, l.has_met_memory) in (
+          output_ran setup history n l.store l.has_met_memory (stops_in stops_by l.workers.items) all.0.team.1
+              (All-head (IsGivenBack history) l.store (map (λ w. w.store) l.workers.items ++ all_passes ls) back)
+              (prepend_known p.bytes.items (remaining p.reader)) l.output.ended l.output.text.items
+              (subst (λ (k : PassKnowledge). Outputs (IsTold setup) HasMet is_stopped (k, false) last (prepend_known p.bytes.items (remaining p.reader)) l.output)
+              are.0.store
+              (subst (λ (reader : I). Outputs (IsTold setup) HasMet is_stopped (d.store, false) last
+              (prepend_known p.bytes.items (remaining reader)) l.output) are.0.reader
+              (subst (λ bytes. Outputs (IsTold setup) HasMet is_stopped (d.store, false) last
+              (prepend_known bytes.items (remaining d.reader)) l.output) are.0.bytes all.0.output))),
+          outputs_of history ns ps ds ls are.1 all.1 (rest_back history l ls back),
+        )
+    outputs_of history [] [] [] (l ∷ ls) are all back = absurd all
+    outputs_of history [] [] (d ∷ ds) ls are all back = absurd are
+    outputs_of history [] (p ∷ ps) ds ls are all back = absurd are
+    outputs_of history (n ∷ ns) [] ds ls are all back = absurd are
+    outputs_of history (n ∷ ns) (p ∷ ps) [] ls are all back = absurd are
+    outputs_of history (n ∷ ns) (p ∷ ps) (d ∷ ds) [] are all back = absurd all
+
+    -- ---- their workers
+
+    abbrev Those : List (Worker PassKnowledge Q) → List (Worker PassKnowledge Q) → Type 0
+    Those = AreThose (IsTold setup) (IsAskedBy setup) gives HasMet
+
+    -- each session leaves the workers of its file, or nobody
+    abbrev AllThose : List ℕ → List (Part I Q) → List (Left PassKnowledge Q) → Type 0
+    AllThose (n ∷ ns) (p ∷ ps) (l ∷ ls) = Those (workers_for n p) l.workers.items × AllThose ns ps ls
+    AllThose [] [] [] = Unit {0}
+    AllThose ns ps ls = ⊥
+
+    all_those : (numbers : List ℕ) (parts : List (Part I Q)) (served_sessions : List (ServedSession PassKnowledge Q I)) (lefts : List (Left PassKnowledge Q))
+        → AreSessionsFor numbers parts served_sessions → AllGave served_sessions lefts → ∥ AllThose numbers parts lefts ∥₁
+    all_those [] [] [] [] are all = ∣ tt ∣₁
+    all_those (n ∷ ns) (p ∷ ps) (d ∷ ds) (l ∷ ls) are all =
+        ∥∥₁_elim all.0.team.0 squash₁ (λ those.
+        ∥∥₁_map (all_those ns ps ds ls are.1 all.1) (λ rest.
+        (subst (λ (ws : List (Worker PassKnowledge Q)). Those ws l.workers.items) are.0.workers those, rest)))
+    all_those [] [] [] (l ∷ ls) are all = absurd all
+    all_those [] [] (d ∷ ds) ls are all = absurd are
+    all_those [] (p ∷ ps) ds ls are all = absurd are
+    all_those (n ∷ ns) [] ds ls are all = absurd are
+    all_those (n ∷ ns) (p ∷ ps) [] ls are all = absurd are
+    all_those (n ∷ ns) (p ∷ ps) (d ∷ ds) [] are all = absurd all
+
+    abbrev AllDid : List (Worker PassKnowledge Q) → List (Worker PassKnowledge Q) → Type 0
+    AllDid = AllWorked (IsTold setup) (IsAskedBy setup) gives HasMet
+
+    did_length : (firsts ws : List (Worker PassKnowledge Q)) → AllDid firsts ws → length ws ≡ length firsts
+    did_length [] [] did = refl
+    did_length (f ∷ fs) (w ∷ ws) did = let rest = did_length fs ws did.1 in omega (arith, rest)
+    did_length [] (w ∷ ws) did = absurd did
+    did_length (f ∷ fs) [] did = absurd did
+
+    -- they are no more than those, and where they are as many they are those
+    no_more : (firsts ws : List (Worker PassKnowledge Q)) → Those firsts ws → length ws ≤ length firsts
+    no_more firsts ws (inl nobody) = let none : length ws ≡ 0 = ap length nobody in omega (arith, none)
+    no_more firsts ws (inr did) = let same = did_length firsts ws did in omega (arith, same)
+
+    are_there : (firsts ws : List (Worker PassKnowledge Q)) → Those firsts ws → length firsts ≤ length ws → AllDid firsts ws
+    are_there firsts ws (inr did) whole = did
+    are_there [] ws (inl nobody) whole = subst (AllDid []) (sym nobody) tt
+    are_there (f ∷ fs) ws (inl nobody) whole = absurd (let none : length ws ≡ 0 = ap length nobody in omega (arith, none, whole))
+
+    own_length : (n : ℕ) (p : Part I Q) (l : Left PassKnowledge Q) → Those (workers_for n p) l.workers.items → length l.workers.items ≤ length p.runners.items
+    own_length n p l those =
+        let most = no_more (workers_for n p) l.workers.items those in
+        let long = workers_length (n + 1) p.runners.items in
+        omega (arith, most, long)
+
+    passes_length : (l : Left PassKnowledge Q) (ls : List (Left PassKnowledge Q))
+        → length (all_passes (l ∷ ls)) ≡ length l.workers.items + 1 + length (all_passes ls)
+    passes_length l ls =
+        let own : List PassKnowledge = map (λ w. w.store) l.workers.items in
+        let all = length-append own (all_passes ls) in
+        let named = length-map l.workers.items (λ (w : Worker PassKnowledge Q). w.store) in
+        omega (arith, all, named)
+
+    -- so many passes are left at most
+    most_left : (numbers : List ℕ) (parts : List (Part I Q)) (lefts : List (Left PassKnowledge Q)) → AllThose numbers parts lefts
+        → length (all_passes lefts) ≤ passes_needed parts
+    most_left [] [] [] those = omega arith
+    most_left (n ∷ ns) (p ∷ ps) (l ∷ ls) those =
+        let own = own_length n p l those.0 in
+        let rest = most_left ns ps ls those.1 in
+        let all = passes_length l ls in
+        omega (arith, own, rest, all)
+    most_left [] [] (l ∷ ls) those = absurd those
+    most_left [] (p ∷ ps) ls those = absurd those
+    most_left (n ∷ ns) [] ls those = absurd those
+    most_left (n ∷ ns) (p ∷ ps) [] those = absurd those
+
+    -- the workers of all sessions stand in the history, where all passes are left
+    workers_in : (history : History) (numbers : List ℕ) (parts : List (Part I Q)) (lefts : List (Left PassKnowledge Q)) → AllThose numbers parts lefts
+        → All (IsGivenBack history) (all_passes lefts) → length (all_passes lefts) ≡ passes_needed parts
+        → (all_numbers lefts ≡ numbers_in (all_workers numbers parts)) × WorkersStand setup gives history (all_workers numbers parts)
+    workers_in history [] [] [] those back whole = (refl, tt)
+    workers_in history (n ∷ ns) (p ∷ ps) (l ∷ ls) those back whole =
+        let firsts : List (Worker PassKnowledge Q) = workers_for n p in
+        let own = own_length n p l those.0 in
+        let most = most_left ns ps ls those.1 in
+        let all = passes_length l ls in
+        let long = workers_length (n + 1) p.runners.items in
+        let did : AllDid firsts l.workers.items =
+        are_there firsts l.workers.items those.0 (let as_many : length firsts ≤ length l.workers.items = omega (arith, own, most, all, whole, long) in as_many) in
+        let rest = workers_in history ns ps ls those.1 (rest_back history l ls back) (omega (arith, own, most, all, whole)) in (
+          ap (λ (ms : List ℕ). ms ++ all_numbers ls) (same_passes setup gives firsts l.workers.items did)
+              ∙ ap (λ (ms : List ℕ). numbers_in firsts ++ ms) rest.0
+              ∙ sym (map-append (λ (w : Worker PassKnowledge Q). w.store.caller.number) firsts (all_workers ns ps)),
+          stand_append setup gives history firsts (all_workers ns ps)
+              (workers_stand setup gives history firsts l.workers.items (own_back history l ls back) (first_new (n + 1) p.runners.items) did) rest.1,
+        )
+    workers_in history [] [] (l ∷ ls) those back whole = absurd those
+    workers_in history [] (p ∷ ps) ls those back whole = absurd those
+    workers_in history (n ∷ ns) [] ls those back whole = absurd those
+    workers_in history (n ∷ ns) (p ∷ ps) [] those back whole = absurd those
+
+    pub workers_of : (history : History) (numbers : List ℕ) (parts : List (Part I Q)) (served_sessions : List (ServedSession PassKnowledge Q I))
+        (lefts : List (Left PassKnowledge Q))
+        → AreSessionsFor numbers parts served_sessions → AllGave served_sessions lefts → All (IsGivenBack history) (all_passes lefts)
+        → length (all_passes lefts) ≡ passes_needed parts
+        → ∥ (all_numbers lefts ≡ numbers_in (all_workers numbers parts)) × WorkersStand setup gives history (all_workers numbers parts) ∥₁
+    workers_of history numbers parts served_sessions lefts are all back whole =
+        ∥∥₁_map (all_those numbers parts served_sessions lefts are all) (λ those. workers_in history numbers parts lefts those back whole)
 
 -- ---- workers
 
@@ -203,24 +332,14 @@ module _ {Q : Type 0} where
   pub stops_all : (lefts : List (Left PassKnowledge Q)) → sum_by stops_left lefts ≡ sum_by stops_by (all_passes lefts)
   stops_all [] = refl
   stops_all (l ∷ ls) =
-      let own : List PassKnowledge = map (λ w. w.store) l.team.workers in
+      let own : List PassKnowledge = map (λ w. w.store) l.workers.items in
       let rest : sum_by stops_left ls ≡ sum_by stops_by (all_passes ls) = stops_all ls in
-      let named : sum_by stops_by own ≡ stops_in stops_by l.team.workers =
-      sym (sum-map stops_by own) ∙ ap sum (map-map stops_by (λ w. w.store) l.team.workers) ∙ sum-map (λ w. stops_by w.store) l.team.workers in
+      let named : sum_by stops_by own ≡ stops_in stops_by l.workers.items =
+      sym (sum-map stops_by own) ∙ ap sum (map-map stops_by (λ w. w.store) l.workers.items) ∙ sum-map (λ w. stops_by w.store) l.workers.items in
       let first = sum_by-cons stops_left l ls in
       let both = sum_by-append stops_by own (all_passes ls) in
       let all = sum_by-cons stops_by l.store (own ++ all_passes ls) in
       omega (arith, rest, named, first, both, all)
-
-  -- the workers of all sessions stand in the history
-  pub pools_stand : (setup : Setup) (gives : Q → Running → Result (List ℕ) RunFault → Q → Type 0) (history : History) (lefts : List (Left PassKnowledge Q))
-      → ArePools setup gives lefts → All (IsGivenBack history) (all_passes lefts) → ∥ WorkersStand setup gives history (all_numbers lefts) ∥₁
-  pools_stand setup gives history [] pools back = ∣ tt ∣₁
-  pools_stand setup gives history (l ∷ ls) pools back =
-      ∥∥₁_elim pools.0.0 squash₁ (λ worked.
-      ∥∥₁_map (pools_stand setup gives history ls pools.1 (rest_back history l ls back)) (λ rest.
-      stand_append setup gives history (numbers_in l.team.workers) (all_numbers ls)
-      (workers_stand setup gives history l.team.workers (own_back history l ls back) worked) rest))
 
 -- what a front says at its end, of each pass
 pub given_back : (history : History) (passes : List PassKnowledge)
@@ -237,16 +356,11 @@ given_back history passes sure seen each stopped = λ k d inside. record {
 -- one session more
 
 pub numbers_push : {Q : Type 0} (lefts : List (Left PassKnowledge Q)) (left : Left PassKnowledge Q)
-    → all_numbers (lefts ++ left ∷ []) ≡ all_numbers lefts ++ numbers_in left.team.workers
-numbers_push [] left = append-nil (numbers_in left.team.workers)
+    → all_numbers (lefts ++ left ∷ []) ≡ all_numbers lefts ++ numbers_in left.workers.items
+numbers_push [] left = append-nil (numbers_in left.workers.items)
 numbers_push (l ∷ ls) left =
-    let own : List ℕ = numbers_in l.team.workers in
-    ap (λ (ns : List ℕ). own ++ ns) (numbers_push ls left) ∙ sym (append_assoc own (all_numbers ls) (numbers_in left.team.workers))
-
-pub pools_push : {Q : Type 0} (setup : Setup) (gives : Q → Running → Result (List ℕ) RunFault → Q → Type 0) (lefts : List (Left PassKnowledge Q)) (left : Left PassKnowledge Q)
-    → ArePools setup gives lefts → IsPool setup gives left.team → ArePools setup gives (lefts ++ left ∷ [])
-pools_push setup gives [] left all one = (one, tt)
-pools_push setup gives (l ∷ ls) left all one = (all.0, pools_push setup gives ls left all.1 one)
+    let own : List ℕ = numbers_in l.workers.items in
+    ap (λ (ns : List ℕ). own ++ ns) (numbers_push ls left) ∙ sym (append_assoc own (all_numbers ls) (numbers_in left.workers.items))
 
 pub all_push : {Q : Type 0} (lefts : List (Left PassKnowledge Q)) (left : Left PassKnowledge Q)
     → all_passes (lefts ++ left ∷ []) ≡ all_passes lefts ++ passes_left left
@@ -260,49 +374,52 @@ module _ {I Q : Type 0} (setup : Setup) (gives : Q → Running → Result (List 
   -- what sessions left by these sessions
   pub all_served : (numbers : List ℕ) (parts : List (Part I Q)) (served_sessions : List (ServedSession PassKnowledge Q I)) (lefts : List (Left PassKnowledge Q))
       (sessions workers : List ℕ) (passes : List PassKnowledge) (outputs : List SessionOutput)
-      → AreSessionsFor numbers parts served_sessions → AllOutputs (IsTold setup) HasMet is_stopped remaining served_sessions lefts → ArePools setup gives lefts
+      → AreSessionsFor numbers parts served_sessions
+      → AllOutputs (IsTold setup) (IsAskedBy setup) gives HasMet is_stopped stops_by remaining served_sessions lefts
       → sessions ≡ map (λ (d : ServedSession PassKnowledge Q I). d.store.caller.number) served_sessions → workers ≡ all_numbers lefts
       → passes ≡ all_passes lefts
       → outputs ≡ map (λ (l : Left PassKnowledge Q). l.output) lefts → AreServed setup gives remaining numbers parts sessions workers passes outputs
-  all_served numbers parts served_sessions lefts sessions workers passes outputs are all pools named numbered back gave = record {
+  all_served numbers parts served_sessions lefts sessions workers passes outputs are all named numbered back gave = record {
     named = named ∙ session_numbers numbers parts served_sessions are;
     stops = map stops_left lefts;
     all = sum-map stops_left lefts ∙ stops_all lefts ∙ ap (sum_by stops_by) (sym back);
     outputs_are = λ history given.
         subst (λ (os : List SessionOutput). AreOutputs setup remaining history numbers (map stops_left lefts) parts os) (sym gave)
-        (outputs_of setup gives remaining history numbers parts served_sessions lefts are all pools (subst (All (IsGivenBack history)) back given));
-    workers_are = λ history given.
-        subst (λ (ns : List ℕ). ∥ WorkersStand setup gives history ns ∥₁) (sym numbered)
-        (pools_stand setup gives history lefts pools (subst (All (IsGivenBack history)) back given));
+        (outputs_of setup gives remaining history numbers parts served_sessions lefts are all (subst (All (IsGivenBack history)) back given));
+    workers_are = λ history given whole.
+        subst (λ (ns : List ℕ). ∥ (ns ≡ numbers_in (all_workers numbers parts)) × WorkersStand setup gives history (all_workers numbers parts) ∥₁) (sym numbered)
+        (workers_of setup gives remaining history numbers parts served_sessions lefts are all (subst (All (IsGivenBack history)) back given)
+        (sym (ap length back) ∙ whole));
   }
 
-  -- and what came of them where the front was closed
+  -- and what came of them where the front was closed with all that they needed
   pub results_of : (parts : List (Part I Q)) (count : ℕ) (sessions workers : List ℕ) (passes : List PassKnowledge) (outputs : Vec SessionOutput) (results : Results)
       → count ≡ passes_needed parts
-      → AreServed setup gives remaining (session_passes count parts) parts sessions workers passes outputs.items
-      → IsClosed setup sessions workers passes results.history → results.outputs ≡ outputs → AreResults setup gives remaining parts results
-  results_of parts count sessions workers passes outputs results needed served closed same = record {
-    legal = closed.legal;
-    stops = served.stops;
-    outputs =
-        subst (λ (n : ℕ). AreOutputs setup remaining results.history (session_passes n parts) served.stops parts results.outputs.items) needed
-        (subst (λ (os : Vec SessionOutput). AreOutputs setup remaining results.history (session_passes count parts) served.stops parts os.items) (sym same)
-        (served.outputs_are results.history closed.back));
-    stopped = served.all ∙ closed.stopped;
-    workers = workers;
-    workers_are = served.workers_are results.history closed.back;
-    others =
-        subst (λ (n : ℕ). are_accounted (session_passes n parts) workers (rows_in results.history) ≡ true) needed
-        (subst (λ (ns : List ℕ). are_accounted ns workers (rows_in results.history) ≡ true) served.named closed.others);
-    asked =
-        subst (λ (n : ℕ). are_asked (session_passes n parts) (rows_in results.history) ≡ true) needed
-        (subst (λ (ns : List ℕ). are_asked ns (rows_in results.history) ≡ true) served.named closed.asked);
-  }
+      → AreServed setup gives remaining (session_passes (passes_needed parts) parts) parts sessions workers passes outputs.items
+      → IsClosed setup count sessions workers passes results.history → results.outputs ≡ outputs → AreResults setup gives remaining parts results
+  results_of parts count sessions workers passes outputs results needed served closed same =
+      let numbers : List ℕ = session_passes (passes_needed parts) parts in
+      let did = served.workers_are results.history closed.back (closed.whole ∙ needed) in
+      let accounted : are_accounted numbers workers (rows_in results.history) ≡ true =
+      subst (λ (ns : List ℕ). are_accounted ns workers (rows_in results.history) ≡ true) served.named closed.others in
+      record {
+        legal = closed.legal;
+        stops = served.stops;
+        outputs =
+            subst (λ (os : Vec SessionOutput). AreOutputs setup remaining results.history numbers served.stops parts os.items) (sym same)
+            (served.outputs_are results.history closed.back);
+        stopped = served.all ∙ closed.stopped;
+        workers = ∥∥₁_map did (λ those. those.1);
+        others =
+            ∥∥₁_elim did (Bool-set _ _) (λ those.
+            subst (λ (ns : List ℕ). are_accounted numbers ns (rows_in results.history) ≡ true) those.0 accounted);
+        asked = subst (λ (ns : List ℕ). are_asked ns (rows_in results.history) ≡ true) served.named closed.asked;
+      }
 
   pub if_results : (parts : List (Part I Q)) (count : ℕ) (sessions workers : List ℕ) (passes : List PassKnowledge) (outputs : Vec SessionOutput)
       → count ≡ passes_needed parts
-      → AreServed setup gives remaining (session_passes count parts) parts sessions workers passes outputs.items
-      → (r : Result Results Refusal) → IfOk r (λ results. IsClosed setup sessions workers passes results.history × (results.outputs ≡ outputs))
+      → AreServed setup gives remaining (session_passes (passes_needed parts) parts) parts sessions workers passes outputs.items
+      → (r : Result Results Refusal) → IfOk r (λ results. IsClosed setup count sessions workers passes results.history × (results.outputs ≡ outputs))
       → IfOk r (AreResults setup gives remaining parts)
   if_results parts count sessions workers passes outputs needed served (Ok results) closed =
       results_of parts count sessions workers passes outputs results needed served closed.0 closed.1
@@ -318,8 +435,10 @@ module _ {I Q : Type 0} (setup : Setup) (gives : Q → Running → Result (List 
         subst (λ (os : List SessionOutput). AreOutputs setup remaining results.history (session_passes (passes_needed parts) parts) [] parts os) (sym outputs)
         (subst (λ (ps : List (Part I Q)). AreOutputs setup remaining results.history (session_passes (passes_needed ps) ps) [] ps []) (sym none) tt);
     stopped = ap stops_of (sym going);
-    workers = [];
-    workers_are = ∣ tt ∣₁;
-    others = subst (λ (rs : List Row). are_accounted (session_passes (passes_needed parts) parts) [] rs ≡ true) (sym rows) refl;
+    workers =
+        subst (λ (ps : List (Part I Q)). ∥ WorkersStand setup gives results.history (all_workers (session_passes (passes_needed ps) ps) ps) ∥₁) (sym none) ∣ tt ∣₁;
+    others =
+        subst (λ (rs : List Row). are_accounted (session_passes (passes_needed parts) parts)
+        (numbers_in (all_workers (session_passes (passes_needed parts) parts) parts)) rs ≡ true) (sym rows) refl;
     asked = subst (λ (rs : List Row). are_asked (session_passes (passes_needed parts) parts) rs ≡ true) (sym rows) refl;
   }

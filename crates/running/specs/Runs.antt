@@ -1,5 +1,5 @@
 -- What the lines of files mean for the store that their sessions share.
-use Rattle.std.specs.Prelude.{◌≡◌, ◌<◌, ◌==◌, ◌||◌, Bool, true, false, ℕ, List, [], ◌∷◌, ◌++◌, sum, sum_by, Option, Some, Result, take, All, MatchResult}
+use Rattle.std.specs.Prelude.{◌≡◌, ◌<◌, ◌==◌, ◌&&◌, ◌||◌, Bool, true, false, ℕ, List, [], ◌∷◌, ◌++◌, length, sum, sum_by, Option, Some, Result, take, All, MatchResult}
 use Rattle.std.specs.List.{list_any, list_all}
 use mathlib.Core.List.{IsPrefix}
 use Rattle.std.specs.Io.KnownBytes.{Appends, Consumes, IsAtEnd, prepend_known}
@@ -9,6 +9,7 @@ use Rattle.model.specs.declared.refusal.Refusal.TheVariants.{BadUsers}
 use Rattle.model.specs.Worlds.{Setup}
 use Rattle.model.specs.Lines.{lines_of}
 use Rattle.model.specs.Goals.{Running}
+use Rattle.model.specs.Events.{is_query}
 use Rattle.model.specs.Replies.{is_refusal, is_memory_refusal, is_stopped_refusal}
 use Rattle.model.specs.Talk as talk
 use Rattle.model.specs.Talk.{fresh, after_all, Talks, text_from}
@@ -16,7 +17,7 @@ use Rattle.events.specs.declared.event.Event.{Event}
 use Rattle.events.specs.declared.reply.Reply.{Reply}
 use Rattle.events.specs.Terms.{event_of, reply_of}
 use Rattle.history.specs.declared.row.Row.{Row}
-use Rattle.history.specs.Callers.{PassKnowledge, new_pass, rows_of, stops_of}
+use Rattle.history.specs.Callers.{PassKnowledge, rows_of, stops_of}
 use Rattle.history.specs.Histories.{IsLegal}
 use Rattle.book.specs.declared.closed_history.History.{History}
 use Rattle.book.specs.Closing.{rows_in}
@@ -32,7 +33,7 @@ use Rattle.running.specs.Calling.{Stand, IsTold}
 use Rattle.running.specs.Meeting.{HasMet, stops_by}
 use Rattle.teams.specs.Teams.{WorksInRounds}
 use Rattle.teams.specs.Sessions.{AsksStatus, EndsBy}
-use Rattle.running.specs.ServedSessions.{passes_needed, session_passes}
+use Rattle.running.specs.ServedSessions.{passes_needed, session_passes, numbers_in, all_workers}
 use Rattle.teams.specs.Asked.{are_asked}
 use Rattle.running.specs.declared.runs.Results.{Results}
 
@@ -58,12 +59,19 @@ abbrev pub tell : (Refusal → Bool) → List talk.LineRow → Bool
 tell which [] = false
 tell which (row ∷ rows) = is_told which row || tell which rows
 
--- the calls of these lines stand in the history of a store under the pass of a number. Where a line was told 92 the store was stopped; and
--- where calls of these lines or of those who built for them stopped it, so many as are said, a line was told 90
+-- whether a line that asks for what is only read was told 92
+abbrev pub is_read_told_stopped : talk.LineRow → Bool
+is_read_told_stopped (talk.Asks event reply) = is_query event.request && is_refusal is_stopped_refusal reply
+is_read_told_stopped row = false
+
+-- the calls of these lines stand in the history of a store under the pass of a number. A line that asks for what is only read is never told 92;
+-- where another was, the store was stopped; and where calls of these lines or of those who built for them stopped it, so many as are said, a
+-- line was told 90
 pub record LinesStand (setup : Setup) (history : History) (number stops : ℕ) (rows : List talk.LineRow) : Type 0 where
   pub calls : List Call
   pub makes : Makes rows calls
   pub stand : Stand setup (rows_in history) number calls
+  pub reads : list_any is_read_told_stopped rows ≡ false
   pub stopped : tell is_stopped_refusal rows ≡ true → history.stopped ≡ true
   pub memory : 0 < stops → tell is_memory_refusal rows ≡ true
 
@@ -113,21 +121,29 @@ module _ {I Q : Type 0} (setup : Setup) (remaining : I → Option (List ℕ)) (h
 
 -- ---- workers
 
+-- what a front says in its history, when it is closed, of a pass that was given back
+pub record IsGivenBack (history : History) (pass : PassKnowledge) : Type 0 where
+  pub sure : IsPrefix pass.caller.sure (rows_in history)
+  pub seen : IsPrefix pass.seen (rows_in history)
+  pub each : rows_of pass.caller.number (rows_in history) ≡ pass.caller.calls
+  pub stopped : pass.caller.stopped ≡ true → history.stopped ≡ true
+
 module _ {Q : Type 0} (setup : Setup) (gives : Q → Running → Result (List ℕ) RunFault → Q → Type 0) (history : History) where
-  -- a worker with the pass of a number did nothing but work on tickets, in rounds, and its calls stand in the history: it plans a goal, starts
-  -- it, asks what the job that it leads is built from, has that built once by its runner, and ends the job with what this gave
-  pub record WorkerStands (number : ℕ) : Type 0 where
-    pub first : Worker PassKnowledge Q
-    pub new : first.store ≡ new_pass number
-    pub last : Worker PassKnowledge Q
+  -- a worker, who has made no call at first, did nothing but work on tickets, in rounds, and his calls stand in the history: he plans a goal, starts
+  -- it, asks what the job that it leads is built from, has that built once by his runner, and ends the job with what this gave. What he is told,
+  -- of a job too, is so after rows that the history begins with
+  pub record WorkerStands (first : Worker PassKnowledge Q) : Type 0 where
     pub rounds : List (List Ticket)
     pub calls : List Call
+    pub last : Worker PassKnowledge Q
     pub works : WorksInRounds (IsTold setup) (IsAskedBy setup) gives HasMet first rounds calls last
-    pub stand : Stand setup (rows_in history) number calls
+    pub stand : Stand setup (rows_in history) first.store.caller.number calls
+    pub back : IsGivenBack history last.store
 
-  abbrev pub WorkersStand : List ℕ → Type 0
+  -- each of them
+  abbrev pub WorkersStand : List (Worker PassKnowledge Q) → Type 0
   WorkersStand [] = Unit {0}
-  WorkersStand (number ∷ numbers) = WorkerStands number × WorkersStand numbers
+  WorkersStand (first ∷ firsts) = WorkerStands first × WorkersStand firsts
 
 -- a row is of the pass of a session or of a worker
 abbrev pub is_accounted : List ℕ → List ℕ → Row → Bool
@@ -139,40 +155,36 @@ are_accounted sessions workers rows = list_all (is_accounted sessions workers) r
 
 -- ---- all files
 
--- what a front says in its history, when it is closed, of a pass that was given back
-pub record IsGivenBack (history : History) (pass : PassKnowledge) : Type 0 where
-  pub sure : IsPrefix pass.caller.sure (rows_in history)
-  pub seen : IsPrefix pass.seen (rows_in history)
-  pub each : rows_of pass.caller.number (rows_in history) ≡ pass.caller.calls
-  pub stopped : pass.caller.stopped ≡ true → history.stopped ≡ true
-
 module _ {I Q : Type 0} (setup : Setup) (gives : Q → Running → Result (List ℕ) RunFault → Q → Type 0) (remaining : I → Option (List ℕ)) where
-  -- the sessions of files, of the passes of these numbers, were served: whatever the history is when all passes were given back, each file has
-  -- its output in it, and each worker stands in it
+  -- the sessions of files, of the passes of these numbers, were served: whatever the history is when these passes were given back, each file has
+  -- its output in it; and where they are all that the files needed, the passes of workers among them are those of the files' workers, and each of
+  -- these stands in it
   pub record AreServed (numbers : List ℕ) (parts : List (Part I Q)) (sessions workers : List ℕ) (passes : List PassKnowledge) (outputs : List SessionOutput) : Type 0 where
     pub named : sessions ≡ numbers
     pub stops : List ℕ
     pub all : sum stops ≡ sum_by stops_by passes
     pub outputs_are : (history : History) → All (IsGivenBack history) passes → AreOutputs setup remaining history numbers stops parts outputs
-    pub workers_are : (history : History) → All (IsGivenBack history) passes → ∥ WorkersStand setup gives history workers ∥₁
+    pub workers_are : (history : History) → All (IsGivenBack history) passes → length passes ≡ passes_needed parts
+        → ∥ (workers ≡ numbers_in (all_workers numbers parts)) × WorkersStand setup gives history (all_workers numbers parts) ∥₁
 
   -- what the lines of files gave is so of the history of one store. It is legal; the lines of each file stand in it under the pass of its
-  -- session, and no other row is of that pass; each row of another pass is of a worker who stands in it, and goes on with a goal that a line of
-  -- the worker's file was given before; and it says that the store was stopped just where a call did that, after which a line of that file was
-  -- told 90
+  -- session, and no other row is of that pass; each worker of a file, with a runner of it and a pass, stands in it; each row of another pass than
+  -- a session's is of such a worker, and goes on with a goal that a line of the worker's file was given before; and it says that the store was
+  -- stopped just where a call did that, after which a line of that file was told 90
   pub record AreResults (parts : List (Part I Q)) (results : Results) : Type 0 where
     pub legal : IsLegal setup (rows_in results.history)
     pub stops : List ℕ
     pub outputs : AreOutputs setup remaining results.history (session_passes (passes_needed parts) parts) stops parts results.outputs.items
     pub stopped : sum stops ≡ stops_of results.history.stopped
-    pub workers : List ℕ
-    pub workers_are : ∥ WorkersStand setup gives results.history workers ∥₁
-    pub others : are_accounted (session_passes (passes_needed parts) parts) workers (rows_in results.history) ≡ true
+    pub workers : ∥ WorkersStand setup gives results.history (all_workers (session_passes (passes_needed parts) parts) parts) ∥₁
+    pub others : are_accounted (session_passes (passes_needed parts) parts)
+        (numbers_in (all_workers (session_passes (passes_needed parts) parts) parts)) (rows_in results.history) ≡ true
     pub asked : are_asked (session_passes (passes_needed parts) parts) (rows_in results.history) ≡ true
 
--- a front was closed with these passes, of which these are the sessions' and those the workers', who went on with goals of their own files
-pub record IsClosed (setup : Setup) (sessions workers : List ℕ) (passes : List PassKnowledge) (history : History) : Type 0 where
+-- a front was closed with so many passes, of which these are the sessions' and those the workers', who went on with goals of their own files
+pub record IsClosed (setup : Setup) (count : ℕ) (sessions workers : List ℕ) (passes : List PassKnowledge) (history : History) : Type 0 where
   pub legal : IsLegal setup (rows_in history)
+  pub whole : length passes ≡ count
   pub back : All (IsGivenBack history) passes
   pub stopped : sum_by stops_by passes ≡ stops_of history.stopped
   pub others : are_accounted sessions workers (rows_in history) ≡ true

@@ -4,9 +4,7 @@ ghost use Rattle.std.specs.Prelude.{◌≡◌, ◌+◌, ◌++◌, ◌∷◌, [],
 ghost use Rattle.model.specs.declared.refusal.Refusal.TheVariants.{Quota};
 ghost use Rattle.history.specs.Callers.{new_pass};
 ghost use Rattle.teams.specs.Sessions.{CannotBegin};
-ghost use Rattle.running.specs.Meeting.{IsNew};
-ghost use Rattle.teams.specs.Teams.{AllNew};
-ghost use Rattle.running.specs.ServedSessions.{AreFirst, IsSessionFor, AreSessionsFor, IsPool, ArePools, session_passes, passes_for as needed_for, passes_left, all_passes, numbers_in, all_numbers};
+ghost use Rattle.running.specs.ServedSessions.{AreFirst, IsSessionFor, AreSessionsFor, first_workers, session_passes, passes_for as needed_for, passes_left, all_passes, numbers_in, all_numbers};
 
 use crate::shared::SharedStore;
 use book::{Front, FrontId, Pass};
@@ -14,7 +12,7 @@ use builder::{Runner, Worker};
 use model::Refusal;
 use std::alloc::{AllocError, Global};
 use std::sync::Wait;
-use teams::{Left, Part, ServedSession, SessionOutput, Team};
+use teams::{Left, Part, ServedSession, SessionOutput};
 
 /// A worker of a session that shares a front with others.
 type SharedWorker<'a, J, R, Q> = Worker<SharedStore<'a, J, R>, Q>;
@@ -51,7 +49,8 @@ fn workers_with<'a, J: FrontId, R: Wait, Q: Runner + Drop>(
     ensures count { IfOk result (λ _. length passes.old.items
         ≡ length passes.new.items + length runners.items) }
     ensures left { AreFirst passes.new.items }
-    ensures new { IfOk result (λ workers. AllNew IsNew workers.items) }
+    ensures workers { IfOk result (λ workers. workers.items
+        ≡ first_workers (length passes.new.items) runners.items) }
     ensures why { IfErr result CannotBegin }
 {
     let mut workers = Vec::new(alloc);
@@ -99,7 +98,7 @@ fn session_for<'a, J: FrontId, R: Wait, Q: Runner + Drop, I: Drop>(
             pass: own,
             sweeps,
         },
-        team: Team::new(workers),
+        workers,
         bytes,
         reader,
     })
@@ -166,16 +165,16 @@ fn end_session<J: FrontId, R: Wait, Q: Runner + Drop>(
     ensures passes { IfOk result (λ _. back.new.passes.items
         ≡ back.old.passes.items ++ passes_left left.entry) }
     ensures numbers { IfOk result (λ _. back.new.workers.items
-        ≡ back.old.workers.items ++ numbers_in left.entry.team.workers) }
-    ensures pool { IfOk result (λ _. IsPool J.setup Q.gives left.entry.team) }
+        ≡ back.old.workers.items ++ numbers_in left.entry.workers.items) }
 {
     let Left {
         output,
         store,
-        team,
+        workers,
+        has_met_memory: _,
     } = left;
     back.passes.push(store.pass)?;
-    take_back(team.into_workers(), back)?;
+    take_back(workers, back)?;
     back.outputs.push(output)?;
     Ok(())
 }
@@ -189,7 +188,6 @@ pub(crate) fn end_sessions<J: FrontId, R: Wait, Q: Runner + Drop>(
         ≡ back.old.outputs.items ++ map (λ left. left.output) lefts.entry.items) }
     ensures passes { IfOk result (λ _. back.new.passes.items ≡ back.old.passes.items ++ all_passes lefts.entry.items) }
     ensures numbers { IfOk result (λ _. back.new.workers.items ≡ back.old.workers.items ++ all_numbers lefts.entry.items) }
-    ensures pools { IfOk result (λ _. ArePools J.setup Q.gives lefts.entry.items) }
 {
     for left in lefts {
         end_session(left, back)?;

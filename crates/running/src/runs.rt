@@ -1,6 +1,6 @@
 //! Files whose lines are run as sessions of one store, each in a thread of its own, with workers that build.
 
-ghost use Rattle.std.specs.Prelude.{◌≡◌, ◌<◌, ◌≤◌, ◌-◌, ◌^◌, min, [], true, false, length, map, Err, IfOk, IfErr};
+ghost use Rattle.std.specs.Prelude.{◌≡◌, ◌<◌, ◌≤◌, ◌-◌, ◌^◌, min, [], All, true, false, length, map, Err, IfOk, IfErr};
 ghost use Rattle.std.specs.Arc.{arc_value};
 ghost use Rattle.model.specs.Limits.{most_charge, most_passes};
 ghost use Rattle.model.specs.Worlds.{are_users};
@@ -9,7 +9,9 @@ ghost use Rattle.schedule.specs.Standing.{setup_for};
 ghost use Rattle.history.specs.NewFronts.{AreTokensOf};
 ghost use Rattle.book.specs.Keeping.{IsNew};
 ghost use Rattle.running.specs.Calling.{IsTold};
-ghost use Rattle.running.specs.Meeting.{HasMet, is_stopped};
+ghost use Rattle.book.specs.Asking.{IsAskedBy};
+ghost use Rattle.running.specs.Meeting.{HasMet, IsNew as IsNewPass, is_stopped, stops_by};
+ghost use Rattle.teams.specs.Teams.{AllNew};
 ghost use Rattle.teams.specs.Sessions.{AllOutputs, CannotBegin};
 ghost use Rattle.running.specs.ServedSessions.{AreFirst, passes_needed, session_passes};
 ghost use Rattle.running.specs.Runs.{AreServed, IsClosed, AreResults, are_accounted};
@@ -75,7 +77,9 @@ fn serve_all<
     alloc: Global,
     served_sessions: Vec<SharedSession<'a, J, R, Q, I>>,
 ) -> Result<Vec<SharedLeft<'a, J, R, Q>>, Refusal>
-    ensures outputs { IfOk result (λ lefts. AllOutputs (IsTold J.setup) HasMet is_stopped I.remaining served_sessions.entry.items lefts.items) }
+    requires { All (λ session. AllNew IsNewPass session.workers.items) served_sessions.items }
+    ensures outputs { IfOk result (λ lefts. AllOutputs (IsTold J.setup) (IsAskedBy J.setup) Q.gives HasMet is_stopped stops_by
+        I.remaining served_sessions.entry.items lefts.items) }
     ensures memory { IfErr result (λ why. why ≡ Memory) }
 {
     let rounds = Rounds::new(alloc, served_sessions.len())?;
@@ -149,7 +153,7 @@ fn close_front<J: FrontId, R: Wait>(
     ended: Ended<J>,
 ) -> Result<Results, Refusal>
     requires { J.parts ≡ count }
-    ensures closed { IfOk result (λ results. IsClosed J.setup ended.sessions.items ended.back.workers.items
+    ensures closed { IfOk result (λ results. IsClosed J.setup count ended.sessions.items ended.back.workers.items
         ended.back.passes.items results.history × (results.outputs ≡ ended.back.outputs)) }
     ensures memory { IfErr result (λ why. why ≡ Memory) }
 {
@@ -207,11 +211,12 @@ fn run_core<
 /// with the replies that are printed for them, and no other row of that pass. What a line only reads, and
 /// how far goals are, which a wait asks, is answered by a beginning of the history that has all that the
 /// file was answered before, and has no row; and neither has what was answered 90 or 92. Each other row is
-/// of the pass of a worker: for each goal that it takes it plans it, starts it, asks what the job that the
-/// goal leads is built from, has its runner build that once, and ends the job with what the runner gave.
-/// Each row of a worker goes on with a goal that a `build` line of its own file was given before.
-/// No line is answered 92 unless the store was stopped; and it is stopped only where a line of a file was
-/// answered 90, whose own call, or whose worker's, did that.
+/// of the pass of a worker, who has a runner of his file: for each goal that he takes he plans it, starts it, asks
+/// what the job that the goal leads is built from, has his runner build that once, and ends the job with what the
+/// runner gave. What he is told of a job is so after rows that the history begins with. Each row of a worker goes
+/// on with a goal that a `build` line of his own file was given before.
+/// No line is answered 92 unless the store was stopped, and none that only reads; and it is stopped only where a
+/// line of a file was answered 90, whose own call, or whose worker's, did that.
 ///
 /// # Errors
 ///

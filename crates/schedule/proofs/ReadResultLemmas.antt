@@ -4,27 +4,18 @@ use Rattle.model.specs.declared.refusal.Refusal.{Refusal}
 use Rattle.model.specs.Events as events
 use Rattle.model.specs.Laws.{NeverFails}
 use Rattle.rewrite.specs.Laws.{OneTreeAtAPath}
-use Rattle.closure_laws.specs.GoodClosures.{IsWellFormed}
+use Rattle.model.specs.WellFormed.{IsWellFormed}
 use Rattle.handlers.specs.Handling.{IsHandled}
 use Rattle.events.specs.declared.reply.Reply.{Reply}
 use Rattle.events.specs.declared.reply.Reply.TheVariants.{Refused}
-use Rattle.events.specs.Terms.{request_of, reply_of}
+use Rattle.events.specs.Terms.{reply_of}
 use Rattle.schedule.specs.declared.state.Core.{Core}
 use Rattle.schedule.specs.declared.read_result.ReadResult.{ReadResult}
 use Rattle.schedule.specs.declared.read_result.ReadResult.TheVariants.{Told}
-use Rattle.schedule.specs.declared.query.Question.{Question}
-use Rattle.schedule.specs.declared.query.Question.TheVariants.{Status, Closure, Fetch}
-use Rattle.schedule.specs.Queries.{request_in}
 use Rattle.schedule.specs.Standing.{parts_of}
 use Rattle.schedule.specs.Stepping.{IsCoreStep}
 use Rattle.schedule.specs.ReadResults.{Gives, told, IsServedFrom}
 use Rattle.schedule.proofs.StepLemmas.{served_step, refused_step}
-
--- what is asked for a read brings nothing
-pub read_well_formed : (q : Question) → IsWellFormed (request_of (request_in q))
-read_well_formed (Status number) = tt
-read_well_formed (Closure class) = tt
-read_well_formed (Fetch path) = tt
 
 handled_step : OneTreeAtAPath → NeverFails → (core : Core) (e : events.Event) (given : Result Reply Refusal) → IsWellFormed e.request
     → IsHandled (parts_of core) e given (parts_of core)

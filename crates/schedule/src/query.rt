@@ -3,7 +3,8 @@
 ghost use Rattle.std.specs.Prelude.{◌≡◌, false, IfOk, IfErr};
 ghost use Rattle.model.specs.Events.{is_query};
 ghost use Rattle.events.specs.Terms.{request_of};
-ghost use Rattle.schedule.specs.Queries.{event_for};
+ghost use Rattle.model.specs.WellFormed.{IsWellFormed};
+ghost use Rattle.schedule.specs.Queries.{request_in, event_for};
 
 use events::{Event, Request};
 use storepath::StorePath;
@@ -18,6 +19,18 @@ pub enum Question {
     Closure(StorePath),
     /// The tree at a path that he holds.
     Fetch(StorePath),
+}
+
+impl Question {
+    /// What is asked is well formed, since the types of what it has are.
+    pub(crate) fn sound(&self)
+        ensures { IsWellFormed (request_of (request_in self.now)) }
+    {
+        match self {
+            Question::Status(_) => {}
+            Question::Closure(path) | Question::Fetch(path) => path.sound(),
+        }
+    }
 }
 
 /// A question, and the user who asks it.

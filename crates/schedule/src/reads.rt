@@ -76,6 +76,7 @@ impl Core {
     {
         one_tree_at_a_path();
         never_fails();
+        query.question.sound();
         match self.find(alloc, query) {
             Ok(read_result) => read_result,
             Err(refusal) => ReadResult::Told(Reply::Refused(refusal)),

@@ -6,9 +6,11 @@ use Rattle.std.proofs.lemmas.Bool.{false≢true}
 use Rattle.model.specs.declared.mode.Mode.TheVariants.{Run}
 use Rattle.model.specs.declared.refusal.Refusal.{Refusal}
 use Rattle.model.specs.declared.refusal.Refusal.TheVariants.{BadUsers, Memory, InputFault, OutputFault}
+use Rattle.model.specs.Goals.{Running}
 use Rattle.model.specs.Lines.{lines_of}
 use Rattle.events.specs.declared.event.Event.{Event}
 use Rattle.events.specs.declared.reply.Reply.{Reply}
+use Rattle.builder.specs.declared.runner.RunFault.{RunFault}
 use Rattle.session.specs.Serving.{Link, Finished, EndedEarly, IsOwn}
 use Rattle.session.proofs.RowLemmas.{appends-none, consumes-none, consumes-behind}
 use Rattle.teams.specs.declared.sessions.SessionOutput.{SessionOutput}
@@ -96,16 +98,19 @@ module _ {S : Type 0} (called : S → Event → Reply → S → Type 0) (met : S
 
 -- ---- outputs that threads gave
 
-module _ {S Q I : Type 0} (called : S → Event → Reply → S → Type 0) (met : S → S → Type 0) (stopped : S → Bool) (remaining : I → Option (List ℕ)) where
+module _ {S Q I : Type 0} (called : S → Event → Reply → S → Type 0) (asked : S → List ℕ → ℕ → Result Running Refusal → S → Type 0)
+    (gives : Q → Running → Result (List ℕ) RunFault → Q → Type 0) (met : S → S → Type 0) (stopped : S → Bool) (stops : S → ℕ)
+    (remaining : I → Option (List ℕ)) where
   -- where each place has what its session leaves, all have
   pub each_output : (served_sessions : List (ServedSession S Q I)) (lefts : List (Left S Q)) → length lefts ≡ length served_sessions
       → ((i : ℕ) (d : Left S Q) → i < length served_sessions
-      → (session : ServedSession S Q I) × ((e : ServedSession S Q I) → slice_index_or served_sessions i e ≡ session) × OutputOf called met stopped remaining session (slice_index_or lefts i d))
-      → AllOutputs called met stopped remaining served_sessions lefts
+      → (session : ServedSession S Q I) × ((e : ServedSession S Q I) → slice_index_or served_sessions i e ≡ session)
+      × OutputOf called asked gives met stopped stops remaining session (slice_index_or lefts i d))
+      → AllOutputs called asked gives met stopped stops remaining served_sessions lefts
   each_output [] [] same each = tt
   each_output (d ∷ ds) (l ∷ ls) same each =
       let first = each 0 l (omega arith) in (
-        subst (λ (session : ServedSession S Q I). OutputOf called met stopped remaining session l) (sym (first.1 d)) first.2,
+        subst (λ (session : ServedSession S Q I). OutputOf called asked gives met stopped stops remaining session l) (sym (first.1 d)) first.2,
         each_output ds ls (omega (arith, same)) (λ i e inside. each (suc i) e (omega (arith, inside))),
       )
   each_output [] (l ∷ ls) same each = absurd (omega (arith, same))

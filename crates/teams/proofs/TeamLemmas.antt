@@ -21,7 +21,7 @@ use Rattle.builder.specs.Rounds.{Shift, AllWork, IsRound, is_memory, is_stopped,
 use Rattle.builder.specs.Working.{Call, is_planned, leads_own, met_in, met_by, ending, Leaves, CallsThen, Ends, BuildsWhere, Asks, GoesOn, Starts, WorksOn, Deals, Works}
 use Rattle.builder.proofs.AlongLemmas.{works_along}
 use Rattle.teams.specs.Sessions.{Calls, HasTold}
-use Rattle.teams.specs.Teams.{TeamView, WorksInRounds, HasWorked, AllWorked, AllNew, AllMet, is_memory_answer, stops_in}
+use Rattle.teams.specs.Teams.{TeamView, WorksInRounds, HasWorked, AllWorked, AreThose, AllNew, AllMet, is_memory_answer, stops_in}
 use Rattle.teams.proofs.WaitLemmas.{calls_one, calls_behind, calls_append}
 
 -- ---- rounds, one after another
@@ -82,52 +82,66 @@ module _ {S Q : Type 0} (called : S → Event → Reply → S → Type 0) (asked
 
   -- ---- all workers
 
-  module _ (is_new : S → Type 0) where
-    abbrev All : List (Worker S Q) → Type 0
-    All = AllWorked called asked gives met is_new
+  abbrev AllOf : List (Worker S Q) → List (Worker S Q) → Type 0
+  AllOf = AllWorked called asked gives met
 
-    pub new_worked : (ws : List (Worker S Q)) → AllNew is_new ws → All ws
-    new_worked [] new = tt
-    new_worked (w ∷ ws) new = (record { first = w; new = new.0; rounds = []; calls = []; works = (refl, none w.store, refl) }, new_worked ws new.1)
+  abbrev Those : List (Worker S Q) → List (Worker S Q) → Type 0
+  Those = AreThose called asked gives met
 
-    pub met_worked : (ws vs : List (Worker S Q)) → AllMet met ws vs → All ws → All vs
-    met_worked [] [] all worked = tt
-    met_worked (w ∷ ws) (v ∷ vs) all worked =
-        let h : HasWorked called asked gives met is_new w = worked.0 in (
-          record {
-            first = h.first;
-            new = h.new;
-            rounds = h.rounds;
-            calls = h.calls;
-            works = rounds_met h.first h.rounds h.calls w v h.works all.0 all.1;
-          },
-          met_worked ws vs all.2 worked.1,
-        )
-    met_worked [] (v ∷ vs) all worked = absurd all
-    met_worked (w ∷ ws) [] all worked = absurd all
+  pub new_worked : (ws : List (Worker S Q)) → AllOf ws ws
+  new_worked [] = tt
+  new_worked (w ∷ ws) = (record { rounds = []; calls = []; works = (refl, none w.store, refl) }, new_worked ws)
 
-    shifts_worked : (ws : List (Worker S Q)) (shifts : List Shift) (vs : List (Worker S Q)) → AllWork called asked gives ws shifts vs → All ws → All vs
-    shifts_worked [] [] [] all worked = tt
-    shifts_worked (w ∷ ws) (s ∷ ss) (v ∷ vs) all worked =
-        let h : HasWorked called asked gives met is_new w = worked.0 in (
-          record {
-            first = h.first;
-            new = h.new;
-            rounds = h.rounds ++ s.took ∷ [];
-            calls = h.calls ++ s.calls;
-            works = rounds_more h.first h.rounds h.calls w s.took s.met s.calls v h.works all.0.works;
-          },
-          shifts_worked ws ss vs all.1 worked.1,
-        )
-    shifts_worked [] [] (v ∷ vs) all worked = absurd all
-    shifts_worked [] (s ∷ ss) vs all worked = absurd all
-    shifts_worked (w ∷ ws) [] vs all worked = absurd all
-    shifts_worked (w ∷ ws) (s ∷ ss) [] all worked = absurd all
+  each_met : (fs ws vs : List (Worker S Q)) → AllMet met ws vs → AllOf fs ws → AllOf fs vs
+  each_met [] [] [] all worked = tt
+  each_met (f ∷ fs) (w ∷ ws) (v ∷ vs) all worked =
+      let h : HasWorked called asked gives met f w = worked.0 in (
+        record { rounds = h.rounds; calls = h.calls; works = rounds_met f h.rounds h.calls w v h.works all.0 all.1 },
+        each_met fs ws vs all.2 worked.1,
+      )
+  each_met [] [] (v ∷ vs) all worked = absurd all
+  each_met [] (w ∷ ws) vs all worked = absurd worked
+  each_met (f ∷ fs) [] vs all worked = absurd worked
+  each_met (f ∷ fs) (w ∷ ws) [] all worked = absurd all
 
-    pub round_worked : (tickets : List Ticket) (ws vs : List (Worker S Q)) (answer : Result (Unit {0}) Refusal)
-        → (IsRound called asked gives tickets ws vs answer) ⊎ ((vs ≡ ws) × (answer ≡ Err Memory)) → All ws → All vs
-    round_worked tickets ws vs answer (inl round) worked = shifts_worked ws round.shifts vs round.works worked
-    round_worked tickets ws vs answer (inr same) worked = subst All (sym same.0) worked
+  nobody_met : (vs : List (Worker S Q)) → AllMet met [] vs → vs ≡ []
+  nobody_met [] all = refl
+  nobody_met (v ∷ vs) all = absurd all
+
+  pub met_worked : (fs ws vs : List (Worker S Q)) → AllMet met ws vs → Those fs ws → Those fs vs
+  met_worked fs ws vs all (inl nobody) = inl (nobody_met vs (subst (λ us. AllMet met us vs) nobody all))
+  met_worked fs ws vs all (inr worked) = inr (each_met fs ws vs all worked)
+
+  shifts_worked : (fs ws : List (Worker S Q)) (shifts : List Shift) (vs : List (Worker S Q)) → AllWork called asked gives ws shifts vs
+      → AllOf fs ws → AllOf fs vs
+  shifts_worked [] [] [] [] all worked = tt
+  shifts_worked (f ∷ fs) (w ∷ ws) (s ∷ ss) (v ∷ vs) all worked =
+      let h : HasWorked called asked gives met f w = worked.0 in (
+        record {
+          rounds = h.rounds ++ s.took ∷ [];
+          calls = h.calls ++ s.calls;
+          works = rounds_more f h.rounds h.calls w s.took s.met s.calls v h.works all.0.works;
+        },
+        shifts_worked fs ws ss vs all.1 worked.1,
+      )
+  shifts_worked [] [] [] (v ∷ vs) all worked = absurd all
+  shifts_worked [] [] (s ∷ ss) vs all worked = absurd all
+  shifts_worked [] (w ∷ ws) shifts vs all worked = absurd worked
+  shifts_worked (f ∷ fs) [] shifts vs all worked = absurd worked
+  shifts_worked (f ∷ fs) (w ∷ ws) [] vs all worked = absurd all
+  shifts_worked (f ∷ fs) (w ∷ ws) (s ∷ ss) [] all worked = absurd all
+
+  nobody_worked : (shifts : List Shift) (vs : List (Worker S Q)) → AllWork called asked gives [] shifts vs → vs ≡ []
+  nobody_worked [] [] all = refl
+  nobody_worked [] (v ∷ vs) all = absurd all
+  nobody_worked (s ∷ ss) vs all = absurd all
+
+  pub round_worked : (tickets : List Ticket) (fs ws vs : List (Worker S Q)) (answer : Result (Unit {0}) Refusal)
+      → (IsRound called asked gives tickets ws vs answer) ⊎ ((vs ≡ ws) × (answer ≡ Err Memory)) → Those fs ws → Those fs vs
+  round_worked tickets fs ws vs answer (inl round) (inl nobody) =
+      inl (nobody_worked round.shifts vs (subst (λ us. AllWork called asked gives us round.shifts vs) nobody round.works))
+  round_worked tickets fs ws vs answer (inl round) (inr worked) = inr (shifts_worked fs ws round.shifts vs round.works worked)
+  round_worked tickets fs ws vs answer (inr same) worked = subst (Those fs) (sym same.0) worked
 
   -- ---- the calls of all rounds
 

@@ -1,10 +1,11 @@
 -- What the sessions of files do with their lines, in a store that they share.
-use Rattle.std.specs.Prelude.{◌≡◌, ◌⊎◌, Bool, true, ℕ, List, [], ◌∷◌, ◌++◌, Option, Some, Result, Err, MatchResult}
+use Rattle.std.specs.Prelude.{◌≡◌, ◌⊎◌, Bool, true, false, ℕ, List, [], ◌∷◌, ◌++◌, Option, Some, Result, Err, MatchResult}
 use Rattle.std.specs.Io.KnownBytes.{Consumes, IsAtEnd, prepend_known}
 use Rattle.model.specs.declared.mode.Mode.TheVariants.{Run}
 use Rattle.model.specs.declared.refusal.Refusal.{Refusal}
 use Rattle.model.specs.declared.refusal.Refusal.TheVariants.{Memory, Stopped, Quota, BadUsers, InputFault, OutputFault}
 use Rattle.model.specs.Worlds.{Job as GoalId}
+use Rattle.model.specs.Goals.{Running}
 use Rattle.model.specs.Events as model
 use Rattle.model.specs.Replies as replies
 use Rattle.model.specs.Lines.{lines_of}
@@ -12,6 +13,7 @@ use Rattle.events.specs.declared.event.Event.{Event}
 use Rattle.events.specs.declared.event.Request.TheVariants.{Status}
 use Rattle.events.specs.declared.reply.Reply.{Reply}
 use Rattle.events.specs.Terms.{event_of, reply_of}
+use Rattle.builder.specs.declared.runner.RunFault.{RunFault}
 use Rattle.builder.specs.declared.ticket.Ticket.{Ticket}
 use Rattle.builder.specs.declared.ticket.Ticket.TheVariants.{Goal}
 use Rattle.builder.specs.Working.{Call, asking}
@@ -19,7 +21,7 @@ use Rattle.session.specs.Serving.{Link, Finished, EndedEarly}
 use Rattle.teams.specs.declared.sessions.SessionOutput.{SessionOutput}
 use Rattle.teams.specs.declared.sessions.ServedSession.{ServedSession}
 use Rattle.teams.specs.declared.sessions.Left.{Left}
-use Rattle.teams.specs.Teams.{TeamView}
+use Rattle.teams.specs.Teams.{TeamView, IsTeam}
 
 -- ---- one store
 
@@ -102,13 +104,20 @@ module _ {S : Type 0} (called : S → Event → Reply → S → Type 0) (met : S
   Outputs first last start output =
       MatchResult output.ended (λ _. Served first last start output.text.items) (ServedInPart first last start output.text.items)
 
--- each session leaves the output of its file, in their order
-module _ {S Q I : Type 0} (called : S → Event → Reply → S → Type 0) (met : S → S → Type 0) (stopped : S → Bool) (remaining : I → Option (List ℕ)) where
-  abbrev pub OutputOf : ServedSession S Q I → Left S Q → Type 0
-  OutputOf session left =
-      Outputs called met stopped (session.store, session.team.has_met_memory) (left.store, left.team.has_met_memory)
-      (prepend_known session.bytes.items (remaining session.reader)) left.output
+-- a team as it is left
+abbrev pub team_left : {S Q : Type 0} → Left S Q → TeamView S Q
+team_left left = record { workers = left.workers.items; has_met_memory = left.has_met_memory }
 
+module _ {S Q I : Type 0} (called : S → Event → Reply → S → Type 0) (asked : S → List ℕ → ℕ → Result Running Refusal → S → Type 0)
+    (gives : Q → Running → Result (List ℕ) RunFault → Q → Type 0) (met : S → S → Type 0) (stopped : S → Bool) (stops : S → ℕ)
+    (remaining : I → Option (List ℕ)) where
+  -- a session leaves the output of its file, and the workers with whom it began
+  pub record OutputOf (session : ServedSession S Q I) (left : Left S Q) : Type 0 where
+    pub output : Outputs called met stopped (session.store, false) (left.store, left.has_met_memory)
+        (prepend_known session.bytes.items (remaining session.reader)) left.output
+    pub team : IsTeam called asked gives met stops session.workers.items (team_left left)
+
+  -- each does, in their order
   abbrev pub AllOutputs : List (ServedSession S Q I) → List (Left S Q) → Type 0
   AllOutputs [] [] = Unit {0}
   AllOutputs (session ∷ served_sessions) (left ∷ lefts) = OutputOf session left × AllOutputs served_sessions lefts

@@ -1,5 +1,5 @@
 -- What the workers of a session have done, and which of it stopped what they call.
-use Rattle.std.specs.Prelude.{◌≡◌, ℕ, Bool, true, false, List, [], ◌∷◌, ◌++◌, sum_by, Option, None, Result, Err}
+use Rattle.std.specs.Prelude.{◌≡◌, ◌⊎◌, ℕ, Bool, true, false, List, [], ◌∷◌, ◌++◌, sum_by, Option, None, Result, Err}
 use Rattle.model.specs.declared.refusal.Refusal.{Refusal}
 use Rattle.model.specs.declared.refusal.Refusal.TheVariants.{Memory}
 use Rattle.model.specs.Goals.{Running}
@@ -26,18 +26,21 @@ module _ {S Q : Type 0} (called : S → Event → Reply → S → Type 0) (asked
       × met first.store ready.store × (ready.runner ≡ first.runner) × Works called asked gives took None own ready why done
       × (calls ≡ own ++ rest) × WorksInRounds done rounds rest last
 
-  -- that is all that a worker did since its store had made no call
-  pub record HasWorked (is_new : S → Type 0) (worker : Worker S Q) : Type 0 where
-    pub first : Worker S Q
-    pub new : is_new first.store
+  -- that is all that came between a worker as he first was and as he is
+  pub record HasWorked (first worker : Worker S Q) : Type 0 where
     pub rounds : List (List Ticket)
     pub calls : List Call
     pub works : WorksInRounds first rounds calls worker
 
-  -- all that each did
-  abbrev pub AllWorked : (S → Type 0) → List (Worker S Q) → Type 0
-  AllWorked is_new [] = Unit {0}
-  AllWorked is_new (w ∷ ws) = HasWorked is_new w × AllWorked is_new ws
+  -- so it is of each, in their order
+  abbrev pub AllWorked : List (Worker S Q) → List (Worker S Q) → Type 0
+  AllWorked [] [] = Unit {0}
+  AllWorked (first ∷ firsts) (w ∷ ws) = HasWorked first w × AllWorked firsts ws
+  AllWorked firsts ws = ⊥
+
+  -- workers who were those at first; or nobody, where these have not come back
+  abbrev pub AreThose : List (Worker S Q) → List (Worker S Q) → Type 0
+  AreThose firsts workers = (workers ≡ []) ⊎ AllWorked firsts workers
 
 module _ {S Q : Type 0} where
   -- the store of each has made no call
@@ -60,9 +63,9 @@ abbrev pub is_memory_answer : Result (Unit {0}) Refusal → Bool
 is_memory_answer (Err Memory) = true
 is_memory_answer answer = false
 
--- what is known of a team wherever it is: all that each worker did, and that no call of theirs stopped what they call while no round was
--- answered 90
+-- what is known of the team of a session wherever it is: its workers are those with whom the session began, and all that each did since; and no
+-- call of theirs stopped what they call while no round was answered 90
 abbrev pub IsTeam : {S Q : Type 0} → (S → Event → Reply → S → Type 0) → (S → List ℕ → ℕ → Result Running Refusal → S → Type 0)
-    → (Q → Running → Result (List ℕ) RunFault → Q → Type 0) → (S → S → Type 0) → (S → Type 0) → (S → ℕ) → TeamView S Q → Type 0
-IsTeam called asked gives met is_new stops team =
-    ∥ AllWorked called asked gives met is_new team.workers ∥₁ × (team.has_met_memory ≡ false → stops_in stops team.workers ≡ 0)
+    → (Q → Running → Result (List ℕ) RunFault → Q → Type 0) → (S → S → Type 0) → (S → ℕ) → List (Worker S Q) → TeamView S Q → Type 0
+IsTeam called asked gives met stops firsts team =
+    ∥ AreThose called asked gives met firsts team.workers ∥₁ × (team.has_met_memory ≡ false → stops_in stops team.workers ≡ 0)

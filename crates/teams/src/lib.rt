@@ -5,7 +5,6 @@
 //! | [`all_at_once`] | serves sessions at once, and gives what they leave |
 //! | [`Part`], [`SessionOutput`] | a file whose lines are run, and what they gave |
 //! | [`ServedSession`], [`Left`] | a session before it is served, and what it leaves |
-//! | [`Team`] | workers who build together |
 //! | [`Meet`] | a store that learns what others of its kind were answered |
 //! | [`Rounds`] | the rounds that the sessions of a store have going |
 //! | [`are_asked`] | whether workers went on only with goals that their files had asked for |
@@ -23,4 +22,3 @@ pub use asked::are_asked;
 pub use meeting::Meet;
 pub use rounds::Rounds;
 pub use sessions::{Left, Part, ServedSession, SessionOutput, all_at_once};
-pub use team::Team;

@@ -7,7 +7,7 @@ ghost use Rattle.teams.specs.Sessions.{GivesUp, HasTold, ticket_for};
 
 use crate::meeting::Meet;
 use crate::rounds::Rounds;
-use crate::team::{Team, build_once};
+use crate::team::{Team, TeamId, build_once};
 use builder::{Runner, Ticket};
 use crossbeam_channel::{Receiver, Sender, bounded};
 use model::Refusal;
@@ -19,37 +19,37 @@ use std::thread::{Scope, Threads};
 
 /// Goals that are to be built in one round, and who builds them.
 #[derive(Drop)]
-struct Order<S: Meet + Drop, Q: Runner + Drop> {
+struct Order<S: Meet + Drop, Q: Runner + Drop, T: TeamId<S, Q>> {
     goals: Vec<GoalId>,
-    team: Team<S, Q>,
+    team: Team<S, Q, T>,
 }
 
 /// What a round came to, and who built in it.
 #[derive(Drop)]
-struct Outcome<S: Meet + Drop, Q: Runner + Drop> {
+struct Outcome<S: Meet + Drop, Q: Runner + Drop, T: TeamId<S, Q>> {
     answer: Result<(), Refusal>,
-    team: Team<S, Q>,
+    team: Team<S, Q, T>,
 }
 
 /// The workers of a session, who are with it between its rounds, and the channels by which they leave for
 /// a round and come back.
 #[derive(Drop)]
-pub(crate) struct WorkerPool<'a, S: Meet + Drop, Q: Runner + Drop> {
+pub(crate) struct WorkerPool<'a, S: Meet + Drop, Q: Runner + Drop, T: TeamId<S, Q>> {
     /// Who builds.
-    pub(crate) team: Team<S, Q>,
+    pub(crate) team: Team<S, Q, T>,
     rounds: &'a Rounds,
-    orders: Sender<Order<S, Q>>,
-    outcomes: Receiver<Outcome<S, Q>>,
+    orders: Sender<Order<S, Q, T>>,
+    outcomes: Receiver<Outcome<S, Q, T>>,
 }
 
 /// Where a pool builds: the other ends of its channels.
 #[derive(Drop)]
-pub(crate) struct PoolThread<S: Meet + Drop, Q: Runner + Drop> {
-    orders: Receiver<Order<S, Q>>,
-    outcomes: Sender<Outcome<S, Q>>,
+pub(crate) struct PoolThread<S: Meet + Drop, Q: Runner + Drop, T: TeamId<S, Q>> {
+    orders: Receiver<Order<S, Q, T>>,
+    outcomes: Sender<Outcome<S, Q, T>>,
 }
 
-impl<'a, S: Meet + Drop, Q: Runner + Drop> WorkerPool<'a, S, Q> {
+impl<'a, S: Meet + Drop, Q: Runner + Drop, T: TeamId<S, Q>> WorkerPool<'a, S, Q, T> {
     /// A pool of these workers, and where it builds.
     ///
     /// # Errors
@@ -58,8 +58,8 @@ impl<'a, S: Meet + Drop, Q: Runner + Drop> WorkerPool<'a, S, Q> {
     pub(crate) fn new(
         alloc: Global,
         rounds: &'a Rounds,
-        team: Team<S, Q>,
-    ) -> Result<(WorkerPool<'a, S, Q>, PoolThread<S, Q>), Team<S, Q>>
+        team: Team<S, Q, T>,
+    ) -> Result<(WorkerPool<'a, S, Q, T>, PoolThread<S, Q, T>), Team<S, Q, T>>
         ensures { MatchResult result (λ made. made.0.team ≡ team) (λ left. left ≡ team) }
     {
         let Ok((send_order, receive_order)) = bounded(alloc, 1) else {
@@ -138,7 +138,7 @@ impl<'a, S: Meet + Drop, Q: Runner + Drop> WorkerPool<'a, S, Q> {
     }
 
     /// Those who build, if they are there. Nothing can be built any more.
-    pub(crate) fn into_team(self) -> Team<S, Q>
+    pub(crate) fn into_team(self) -> Team<S, Q, T>
         ensures { result ≡ self.entry.team }
     {
         let WorkerPool {
@@ -163,11 +163,12 @@ fn tickets_for(alloc: Global, goals: &[GoalId]) -> Result<Vec<Ticket>, AllocErro
 }
 
 /// Has what an order names built in one round of its workers, who come back.
-fn build_order<S: Meet + Send + Drop, Q: Runner + Send + Drop, R: Threads + Wait + Sync>(
-    rt: &R,
-    alloc: Global,
-    order: Order<S, Q>,
-) -> Outcome<S, Q>
+fn build_order<
+    S: Meet + Send + Drop,
+    Q: Runner + Send + Drop,
+    T: TeamId<S, Q>,
+    R: Threads + Wait + Sync,
+>(rt: &R, alloc: Global, order: Order<S, Q, T>) -> Outcome<S, Q, T>
     ensures { IsRound S.called S.asked Q.gives (map ticket_for order.goals.items)
         order.team.workers result.team.workers result.answer
         ⊎ ((result.team.workers ≡ order.team.workers) × (result.answer ≡ Err Memory)) }
@@ -181,10 +182,10 @@ fn build_order<S: Meet + Send + Drop, Q: Runner + Send + Drop, R: Threads + Wait
 }
 
 /// Builds what it is handed, until there is nobody who hands anything on.
-fn build<S: Meet + Send + Drop, Q: Runner + Send + Drop, R: Threads + Wait + Sync>(
+fn build<S: Meet + Send + Drop, Q: Runner + Send + Drop, T: TeamId<S, Q>, R: Threads + Wait + Sync>(
     rt: &R,
     alloc: Global,
-    pool_thread: PoolThread<S, Q>,
+    pool_thread: PoolThread<S, Q, T>,
 ) {
     let PoolThread { orders, outcomes } = pool_thread;
     for _ in rt.forever() {
@@ -204,7 +205,8 @@ pub(crate) fn start_building<
     E,
     S: Meet + Send + Drop + 's,
     Q: Runner + Send + Drop + 's,
+    T: TeamId<S, Q> + Send + 's,
     R: Threads + Wait + Sync,
->(rt: &'s R, alloc: Global, scope: &Scope<'s, E>, pool_thread: PoolThread<S, Q>) {
+>(rt: &'s R, alloc: Global, scope: &Scope<'s, E>, pool_thread: PoolThread<S, Q, T>) {
     let _ = scope.spawn(move || build(rt, alloc, pool_thread));
 }

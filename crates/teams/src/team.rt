@@ -10,49 +10,71 @@ use crate::meeting::{Meet, meet_each};
 use builder::{Runner, Ticket, Worker, round};
 use model::Refusal;
 use std::alloc::Global;
-use std::marker::Model;
+use std::marker::{Brand, Model, PhantomData};
 use std::sync::Wait;
 use std::thread::Threads;
 
+/// What names the team of a session: the workers with whom it began. It has no bytes, and exists in proofs alone.
+/// Each session picks it.
+pub(crate) trait TeamId<S, Q> {
+    ghost use Rattle.std.specs.Prelude.{List};
+    ghost use Rattle.builder.specs.declared.worker.Worker.{Worker};
+
+    ghost first: { List (Worker S Q) };
+}
+
+impl<S, Q> TeamId<S, Q> for Brand {
+    ghost use Rattle.std.specs.Prelude.{[]};
+
+    ghost first = { [] };
+}
+
 /// Workers who build together, and whether a round of theirs was answered 90.
 ///
-/// Since each had its store, which had made no call then, it did nothing but work on tickets, in rounds.
+/// They are those with whom their session began, or nobody. Each did nothing since but work on tickets, in rounds.
 /// While no round was answered 90, no call of theirs stopped what they call. This goes with them through
 /// channels, of whose messages nothing but the type is known.
 #[derive(Drop)]
-pub struct Team<S: Meet + Drop, Q: Runner + Drop> {
+pub(crate) struct Team<S: Meet + Drop, Q: Runner + Drop, T: TeamId<S, Q>> {
     workers: Vec<Worker<S, Q>>,
     has_met_memory: bool,
+    of: PhantomData<T>,
 }
 
-impl<S: Meet + Drop, Q: Runner + Drop> Model for Team<S, Q> {
+impl<S: Meet + Drop, Q: Runner + Drop, T: TeamId<S, Q>> Model for Team<S, Q, T> {
     ghost use Rattle.teams.specs.Teams.{TeamView, IsTeam};
 
     ghost Value = { TeamView S Q };
 
     ghost view = { λ t. record { workers = t.workers.items; has_met_memory = t.has_met_memory } };
 
-    ghost invariant = { λ t. IsTeam S.called S.asked Q.gives S.met S.is_new S.stops
+    ghost invariant = { λ t. IsTeam S.called S.asked Q.gives S.met S.stops T.first
         (record { workers = t.workers.items; has_met_memory = t.has_met_memory }) };
 }
 
-impl<S: Meet + Drop, Q: Runner + Drop> Team<S, Q> {
-    /// Workers whose stores have made no call.
-    pub fn new(workers: Vec<Worker<S, Q>>) -> Team<S, Q>
-        requires { AllNew S.is_new workers.items }
+impl<S: Meet + Drop, Q: Runner + Drop, T: TeamId<S, Q>> Team<S, Q, T> {
+    /// The workers of this name, whose stores have made no call.
+    pub(crate) fn new(workers: Vec<Worker<S, Q>>) -> Team<S, Q, T>
+        requires named { workers.items ≡ T.first }
+        requires new { AllNew S.is_new workers.items }
         ensures { (result.workers ≡ workers.items) × (result.has_met_memory ≡ false) }
     {
         Team {
             workers,
             has_met_memory: false,
+            of: PhantomData,
         }
     }
 
     /// Nobody.
-    pub(crate) fn nobody(alloc: Global) -> Team<S, Q>
+    pub(crate) fn nobody(alloc: Global) -> Team<S, Q, T>
         ensures { (result.workers ≡ []) × (result.has_met_memory ≡ false) }
     {
-        Team::new(Vec::new(alloc))
+        Team {
+            workers: Vec::new(alloc),
+            has_met_memory: false,
+            of: PhantomData,
+        }
     }
 
     /// Whether a round of theirs was answered 90.
@@ -73,16 +95,17 @@ impl<S: Meet + Drop, Q: Runner + Drop> Team<S, Q> {
         meet_each(store, &mut self.workers)
     }
 
-    /// The workers, who build together no more.
-    pub fn into_workers(self) -> Vec<Worker<S, Q>>
-        ensures workers { result.items ≡ self.workers }
-        ensures team { IsTeam S.called S.asked Q.gives S.met S.is_new S.stops self }
+    /// The workers, who build together no more, and whether a round of theirs was answered 90.
+    pub(crate) fn into_parts(self) -> (Vec<Worker<S, Q>>, bool)
+        ensures parts { (result.0.items ≡ self.workers) × (result.1 ≡ self.has_met_memory) }
+        ensures team { IsTeam S.called S.asked Q.gives S.met S.stops T.first self }
     {
         let Team {
             workers,
-            has_met_memory: _,
+            has_met_memory,
+            of: _,
         } = self;
-        workers
+        (workers, has_met_memory)
     }
 }
 
@@ -94,12 +117,17 @@ fn is_memory_answer(answer: &Result<(), Refusal>) -> bool
 }
 
 /// Has a team build in one round. The error is that of [`round`].
-pub(crate) fn build_once<S: Meet + Send + Drop, Q: Runner + Send + Drop, R: Threads + Wait + Sync>(
+pub(crate) fn build_once<
+    S: Meet + Send + Drop,
+    Q: Runner + Send + Drop,
+    T: TeamId<S, Q>,
+    R: Threads + Wait + Sync,
+>(
     rt: &R,
     alloc: Global,
     tickets: Vec<Ticket>,
-    team: Team<S, Q>,
-) -> (Result<(), Refusal>, Team<S, Q>)
+    team: Team<S, Q, T>,
+) -> (Result<(), Refusal>, Team<S, Q, T>)
     requires { AreGoals tickets.items }
     ensures { IsRound S.called S.asked Q.gives tickets.items team.workers result.1.workers result.0
         ⊎ ((result.1.workers ≡ team.workers) × (result.0 ≡ Err Memory)) }
@@ -107,6 +135,7 @@ pub(crate) fn build_once<S: Meet + Send + Drop, Q: Runner + Send + Drop, R: Thre
     let Team {
         workers,
         has_met_memory,
+        of,
     } = team;
     let (answer, workers) = round(rt, alloc, tickets, workers);
     let has_met_memory = has_met_memory | is_memory_answer(&answer);
@@ -115,6 +144,7 @@ pub(crate) fn build_once<S: Meet + Send + Drop, Q: Runner + Send + Drop, R: Thre
         Team {
             workers,
             has_met_memory,
+            of,
         },
     )
 }

@@ -9,6 +9,7 @@ ghost use Rattle.teams.specs.Sessions.{AsksStatus, Calls, GivesUp, HasTold};
 
 use crate::meeting::Meet;
 use crate::pools::WorkerPool;
+use crate::team::TeamId;
 use builder::Runner;
 use events::{Event, Reply, Request, Status};
 use model::Refusal;
@@ -19,17 +20,18 @@ use std::sync::Wait;
 
 /// A store that answers the events of a session, and the workers that build its goals.
 #[derive(Drop)]
-pub(crate) struct BuildingSession<'a, S: Meet + Drop, Q: Runner + Drop, R> {
+pub(crate) struct BuildingSession<'a, S: Meet + Drop, Q: Runner + Drop, T: TeamId<S, Q>, R> {
     /// What waits.
     pub(crate) rt: &'a R,
     /// What answers.
     pub(crate) store: S,
     /// Who builds.
-    pub(crate) pool: WorkerPool<'a, S, Q>,
+    pub(crate) pool: WorkerPool<'a, S, Q, T>,
 }
 
 /// Contracts see it as its store, and whether a round of its workers was answered 90.
-impl<'a, S: Meet + Drop, Q: Runner + Drop, R> Model for BuildingSession<'a, S, Q, R> {
+impl<'a, S: Meet + Drop, Q: Runner + Drop, T: TeamId<S, Q>, R> Model
+    for BuildingSession<'a, S, Q, T, R> {
     ghost use Rattle.std.specs.Prelude.{Bool};
 
     ghost Value = { S × Bool };
@@ -115,11 +117,11 @@ fn look<S: Meet>(alloc: Global, store: &mut S, goals: &[GoalId]) -> Result<Left,
 /// Has goals built in one round, after which the store meets those of the workers, and gives back what nobody
 /// holds, if it is to. Where there are no workers any more, or no memory, that is 90; and 92 only where the store
 /// finds that it is stopped.
-fn build<S: Meet + Drop, Q: Runner + Drop, R: Wait>(
+fn build<S: Meet + Drop, Q: Runner + Drop, T: TeamId<S, Q>, R: Wait>(
     rt: &R,
     alloc: Global,
     store: &mut S,
-    pool: &mut WorkerPool<'_, S, Q>,
+    pool: &mut WorkerPool<'_, S, Q, T>,
     goals: Vec<GoalId>,
 ) -> Result<(), Refusal>
     ensures met { S.met store.old store.new }
@@ -140,11 +142,11 @@ fn build<S: Meet + Drop, Q: Runner + Drop, R: Wait>(
 /// Has those of some goals that wait built, in rounds, as long as each leaves fewer of them waiting than it
 /// found. Gives how many are built in a job then. If there was a round, the store knows all that the
 /// workers were answered.
-fn build_waiting<S: Meet + Drop, Q: Runner + Drop, R: Wait>(
+fn build_waiting<S: Meet + Drop, Q: Runner + Drop, T: TeamId<S, Q>, R: Wait>(
     rt: &R,
     alloc: Global,
     store: &mut S,
-    pool: &mut WorkerPool<'_, S, Q>,
+    pool: &mut WorkerPool<'_, S, Q, T>,
     goals: &[GoalId],
 ) -> Result<usize, Refusal>
     ensures calls { (calls : List Call) × AsksStatus goals.now calls
@@ -171,11 +173,11 @@ fn build_waiting<S: Meet + Drop, Q: Runner + Drop, R: Wait>(
 
 /// Has those of some goals that wait built. Where some are built then in jobs that others lead, it waits
 /// for the rounds that these have going, and begins anew, as long as fewer are built afterwards.
-fn build_all<S: Meet + Drop, Q: Runner + Drop, R: Wait>(
+fn build_all<S: Meet + Drop, Q: Runner + Drop, T: TeamId<S, Q>, R: Wait>(
     rt: &R,
     alloc: Global,
     store: &mut S,
-    pool: &mut WorkerPool<'_, S, Q>,
+    pool: &mut WorkerPool<'_, S, Q, T>,
     goals: &[GoalId],
 ) -> Result<(), Refusal>
     ensures calls { (calls : List Call) × AsksStatus goals.now calls
@@ -199,7 +201,8 @@ fn build_all<S: Meet + Drop, Q: Runner + Drop, R: Wait>(
 
 /// Each event is handed to the store. In a wait it is asked how far goals are and meets those of workers,
 /// and nothing else.
-impl<S: Meet + Drop, Q: Runner + Drop, R: Wait> Answer for BuildingSession<'_, S, Q, R> {
+impl<S: Meet + Drop, Q: Runner + Drop, T: TeamId<S, Q>, R: Wait> Answer
+    for BuildingSession<'_, S, Q, T, R> {
     ghost use Rattle.teams.specs.Sessions.{Answers, Waits};
 
     ghost answers = { Answers S.called };

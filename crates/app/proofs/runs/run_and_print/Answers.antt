@@ -1,8 +1,11 @@
-use Rattle.std.proofs.Common.{sym, ◌∙◌, subst, List, inr}
+use Rattle.std.proofs.Common.{refl, sym, ◌∙◌, subst, List, inl, inr}
 use Rattle.teams.specs.declared.sessions.SessionOutput.{SessionOutput}
 use Rattle.session.specs.Serving.{IsUnwritten}
 use Rattle.files.specs.Outputs.{AppendsFront, texts_of}
 use Rattle.app.proofs.runs.run_and_print.Goals as goal
+
+pub returns-in-Err-clause-refused : goal.returns-in-Err-clause-refused
+returns-in-Err-clause-refused g c = inl (refl, c.in-Err.ensures.refused)
 
 pub returns-clause-refused : goal.returns-clause-refused
 returns-clause-refused g c =

@@ -1,4 +1,6 @@
-use Rattle.std.proofs.Common.{◌∙◌, length}
+use Rattle.std.proofs.Common.{◌∙◌, subst, length}
+use Rattle.running.specs.ServedSessions.{session_passes}
+use Rattle.running.specs.Runs.{AreServed}
 use Rattle.running.proofs.ServedSessionLemmas.{new_first, if_results}
 use Rattle.running.proofs.runs.run_core.Goals as goal
 
@@ -7,7 +9,11 @@ serve_front-requires-after_bounds g c κs within = (new_first c.in_ok-front.pass
 
 pub returns-clause-results : goal.returns-clause-results
 returns-clause-results g c =
-    if_results g.J.FrontId.setup g.Q.Runner.gives g.I.Read.remaining c.args.parts.items (length c.in_ok-front.passes.items)
+    let long = (new_first c.in_ok-front.passes.items c.args.count c.in_ok-front.ensures.passes).0 ∙ c.requires.needed in
+    if_results g.J.FrontId.setup g.Q.Runner.gives g.I.Read.remaining c.args.parts.items c.args.count
     c.in_ok-ended.ended.sessions.items c.in_ok-ended.ended.back.workers.items c.in_ok-ended.ended.back.passes.items c.in_ok-ended.ended.back.outputs
-    ((new_first c.in_ok-front.passes.items c.args.count c.in_ok-front.ensures.passes).0 ∙ c.requires.needed) c.in_ok-ended.ensures.served
+    c.requires.needed
+    (subst (λ n. AreServed g.J.FrontId.setup g.Q.Runner.gives g.I.Read.remaining (session_passes n c.args.parts.items) c.args.parts.items
+    c.in_ok-ended.ended.sessions.items c.in_ok-ended.ended.back.workers.items c.in_ok-ended.ended.back.passes.items
+    c.in_ok-ended.ended.back.outputs.items) long c.in_ok-ended.ensures.served)
     c.close_front.result c.close_front.ensures.closed

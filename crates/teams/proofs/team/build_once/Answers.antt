@@ -12,8 +12,8 @@ invariant_of-result g c =
     let answer = c.round-answer.result.0 in
     let round = as_lists g.S.Store.called g.S.Store.asked g.Q.Runner.gives c.args.tickets.items had.workers c.round-answer.result.1 answer c.round-answer.ensures.round in (
       ∥∥₁_map c.team.invariant.0
-          (round_worked g.S.Store.called g.S.Store.asked g.Q.Runner.gives g.S.Meet.met laws.met_none laws.met_more g.S.Meet.is_new
-          c.args.tickets.items had.workers.items vs answer round),
+          (round_worked g.S.Store.called g.S.Store.asked g.Q.Runner.gives g.S.Meet.met laws.met_none laws.met_more
+          c.args.tickets.items g.T.TeamId.first had.workers.items vs answer round),
       round_clean g.S.Store.called g.S.Store.asked g.Q.Runner.gives g.S.Meet.met g.S.Meet.stops laws.met_asking laws.stops_met
           laws.stops_called c.args.tickets.items had.workers.items vs answer had.has_met_memory _ round
           (ap (λ b. had.has_met_memory || b) c.is_memory_answer.ensures) c.team.invariant.1,

@@ -11,7 +11,7 @@ pub invariant_of-result : goal.invariant_of-result
 invariant_of-result g c =
     let setup = g.J.FrontId.setup in
     let is : c.in_ok-copy_of.field-0 ≡ c.args.reply.now = c.in_ok-copy_of.ensures in
-    let told = c.is_closure_within.ensures c.if-is_closure_within.true in (
+    let told = c.is_closure_within.ensures.recorded c.if-is_closure_within.true in (
       ap (λ s. s.book) c.clone.ensures ∙ c.requires.book,
       subst (λ (r : Reply). r ≢ Refused Stopped) (sym is) c.requires.going,
       λ number. subst (λ (x : List Row × Reply). IsReadAfter setup number x.0 (event_for c.args.query) x.1)

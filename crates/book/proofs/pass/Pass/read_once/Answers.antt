@@ -22,7 +22,7 @@ returns-then-see-clause-read g c some number =
     let told = finds reply c.serve.ensures in
     let seen = ap (λ (k : PassKnowledge). k.seen) (c.self-2.view_is ∙ (rw c.if-see.true at c.see.ensures).1) in
     subst (λ (all : List Row). IsLegal g.J.FrontId.setup (all ++ r ∷ [])) (sym seen)
-    (legal_with g.J.FrontId.setup rows r legal (told.told some) c.isolation.ensures c.timed_isolation.ensures some)
+    (legal_with g.J.FrontId.setup rows r legal (told.told some) c.isolation.ensures c.timed_isolation.ensures told.well_formed some)
 
 pub returns-then-see-clause-going : goal.returns-then-see-clause-going
 returns-then-see-clause-going g c =

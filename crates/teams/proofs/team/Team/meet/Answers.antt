@@ -15,8 +15,8 @@ invariant_of-self g c =
     let back : (with_items old new).items ≡ new = with_items_is old new (met_length g.S.Meet.met old.items new met ∙ sym old.ok.0) in
     let all : AllMet g.S.Meet.met old.items (with_items old new).items = subst (AllMet g.S.Meet.met old.items) (sym back) met in (
       ∥∥₁_map c.self.invariant.0
-          (met_worked g.S.Store.called g.S.Store.asked g.Q.Runner.gives g.S.Meet.met g.met.S.Meet.met_none g.met.S.Meet.met_more g.S.Meet.is_new
-          old.items (with_items old new).items all),
+          (met_worked g.S.Store.called g.S.Store.asked g.Q.Runner.gives g.S.Meet.met g.met.S.Meet.met_none g.met.S.Meet.met_more
+          g.T.TeamId.first old.items (with_items old new).items all),
       λ going. all_met_keep g.S.Store.called g.S.Store.asked g.Q.Runner.gives g.S.Meet.met g.S.Meet.stops g.met.S.Meet.met_asking g.met.S.Meet.stops_met
           g.met.S.Meet.stops_called old.items (with_items old new).items all ∙ c.self.invariant.1 going,
     )
