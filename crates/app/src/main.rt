@@ -5,6 +5,7 @@ ghost use Rattle.std.specs.Prelude.{IfOk};
 ghost use Rattle.app.specs.Actions.{EndsAs, IsStatusOf};
 
 mod actions;
+mod launchers;
 mod runs;
 mod streams;
 
@@ -116,9 +117,16 @@ fn main(rt: HostRuntime) -> ExitCode {
             Action::Strike { file, .. } => run_file(&rt, &rt, &options, file.as_str()),
             Action::Run(run) => {
                 streams::tell_missing_folders(&rt, run);
-                match open_all(rt.alloc(), &Machine(&rt), run) {
-                    Ok(files) => runs::run_files(&rt, &rt, &options, run, files),
-                    Err(refused) => Ok(report_refused(&rt, refused)),
+                match launchers::missing_program(&rt, run) {
+                    Ok(None) => match open_all(rt.alloc(), &Machine(&rt), run) {
+                        Ok(files) => runs::run_files(&rt, &rt, &options, run, files),
+                        Err(refused) => Ok(report_refused(&rt, refused)),
+                    },
+                    Ok(Some(program)) => {
+                        let _ = rt.eprintln(Fault::NoLauncher(program));
+                        Ok(CANNOT_READ_OR_WRITE)
+                    }
+                    Err(error) => Err(io::Error::from(error)),
                 }
             }
         },

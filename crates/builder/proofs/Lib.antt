@@ -5,5 +5,6 @@ pub mod RoundLemmas
 pub mod TakenLemmas
 mod TextLemmas
 mod CommandLemmas
+mod LaunchingLemmas
 mod InputLemmas
 mod PieceLemmas

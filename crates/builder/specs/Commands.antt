@@ -3,7 +3,7 @@ use Rattle.std.specs.Prelude.{◌≡◌, ℕ, Bool, true, false, List, [], ◌�
 use Rattle.std.specs.Global.{Global}
 use Rattle.std.specs.Fs.{asks_write, asks_create_new}
 use Rattle.std.specs.Path.{path_join}
-use Rattle.std.specs.Process.{command_program, command_args, command_arg0, command_dir, command_var, clears_env, makes_pipe}
+use Rattle.std.specs.Process.{SameDir, SameEnv, command_program, command_args, command_arg0, command_dir, command_var, clears_env, makes_pipe}
 use Rattle.std.specs.declared.fs.options.OpenOptions.{OpenOptions}
 use Rattle.std.specs.declared.process.command.Command.{Command}
 use Rattle.model.specs.Derivations.{Derivation}
@@ -23,20 +23,30 @@ SetsVariable old key value new = (name : List ℕ) → command_var new name ≡ 
 abbrev pub Sets : Command Global → List (List ℕ × List ℕ) → Command Global → Type 0
 Sets old environment new = (name : List ℕ) → command_var new name ≡ variable_after name (command_var old name) environment
 
+-- a command gets these arguments behind its own, and keeps all else
+pub record AddsArguments (old : Command Global) (words : List (List ℕ)) (new : Command Global) : Type 0 where
+  pub arguments : command_args new ≡ command_args old ++ words
+  pub program : command_program new ≡ command_program old
+  pub environment : SameEnv old new
+  pub folder : SameDir old new
+
 -- the environment of a process: that of the derivation, and behind it the path under which it is built and the name of
 -- its file of inputs
 abbrev pub environment_of : Derivation → List ℕ → List ℕ → List (List ℕ × List ℕ)
 environment_of d scratch inputs = d.environment ++ (codes "out", scratch) ∷ (codes "INPUTS", inputs) ∷ []
 
--- the program is named by the builder, in the folder of builders unless it begins with `/`, and is told that name as its
--- own; the arguments are those of the derivation, the variables those of the environment and no others; and the process runs in
--- the current folder
-pub record IsCommandFor (d : Derivation) (scratch builders inputs : List ℕ) (command : Command Global) : Type 0 where
-  pub program : command_program command ≡ path_join builders d.builder
+-- the path of the builder of a derivation: it is in the folder of builders, unless it begins with `/`
+abbrev pub builder_path : List ℕ → Derivation → List ℕ
+builder_path builders d = path_join builders d.builder
+
+-- the builder of this path is started, and is told the path as its own name; the arguments are those of the derivation, the
+-- variables those of the environment and no others; and the process runs in the current folder
+pub record IsCommandFor (d : Derivation) (scratch builder inputs : List ℕ) (command : Command Global) : Type 0 where
+  pub program : command_program command ≡ builder
   pub arguments : command_args command ≡ d.arguments
   pub clears : clears_env command ≡ true
   pub variables : (name : List ℕ) → command_var command name ≡ variable_after name None (environment_of d scratch inputs)
-  pub own_name : command_arg0 command ≡ Some (path_join builders d.builder)
+  pub own_name : command_arg0 command ≡ Some builder
   pub folder : command_dir command ≡ None
 
 -- of the streams of a builder the output is a pipe, the input is none, and the errors are one where there is a log

@@ -10,13 +10,13 @@ use Rattle.builder.specs.Building.{Builds, log_path_in}
 use Rattle.builder.specs.declared.processes.ProcessRunner.{ProcessRunner}
 
 module _ {O File Output Process : Type 0} (steps : Steps O File Output Process) where
-  -- the job is built with the runner's folders, what came of it is told, each failure is counted, and the log is
+  -- the job is built by the runner's settings, what came of it is told, each failure is counted, and the log is
   -- that of the job
   pub record Gives (old : ProcessRunner O) (job : Running) (given : Result (List ℕ) RunFault) (new : ProcessRunner O) : Type 0 where
     pub built : Result (List ℕ) Fault
-    pub builds : Builds steps old.folders old.outside job built new.outside
+    pub builds : Builds steps old.settings old.outside job built new.outside
     pub tells : given ≡ told built
     pub fault : new.fault ≡ fault_in built
     pub counts : new.failures ≡ counted old.failures given
-    pub folders : new.folders ≡ old.folders
-    pub log : IfSome new.log (λ log. log_path_in old.folders job.job ≡ Some (path_buf_bytes log.path))
+    pub settings : new.settings ≡ old.settings
+    pub log : IfSome new.log (λ log. log_path_in old.settings.folders job.job ≡ Some (path_buf_bytes log.path))

@@ -5,6 +5,7 @@ pub mod Working
 pub mod Rounds
 pub mod Meaning
 pub mod Commands
+pub mod Launching
 pub mod Logs
 pub mod Steps
 pub mod Pieces

@@ -1,13 +1,13 @@
 //! What a process is started with.
 
-ghost use Rattle.std.specs.Prelude.{◌≡◌, ◌++◌, [], ℕ, true, List, Some, None, IfOk, OnOk};
+ghost use Rattle.std.specs.Prelude.{◌≡◌, ◌∷◌, [], ℕ, true, List, Some, None, IfOk, OnOk};
 ghost use Rattle.std.specs.List.{list_all};
 ghost use Rattle.std.specs.Str.{IsUtf8};
 ghost use Rattle.std.specs.Path.{path_bytes, path_buf_bytes};
 ghost use Rattle.std.specs.Process.{SameDir, SameEnv, SameProgramAndArgs, clears_env, command_arg0, command_args, command_dir, command_program, command_var};
 ghost use Rattle.model.specs.Derivations.{is_text, is_variable};
 ghost use Rattle.model.specs.Worlds.{is_user_name};
-ghost use Rattle.builder.specs.Commands.{AreStreams, IsCommandFor, Sets, SetsVariable, inputs_path, job_path, log_path};
+ghost use Rattle.builder.specs.Commands.{AddsArguments, AreStreams, IsCommandFor, Sets, SetsVariable, builder_path, inputs_path, job_path, log_path};
 
 use aterm::{Derivation, Text};
 use events::Job;
@@ -57,7 +57,7 @@ fn text_of(bytes: &[u8]) -> &str
 
 /// A string of a derivation, as a text.
 #[tactic(auto, using(crate::proofs::TextLemmas::string_is_text))]
-fn text_of_string(string: &Text) -> &str
+pub(crate) fn text_of_string(string: &Text) -> &str
     requires { is_text string.now ≡ true }
     ensures { result.now ≡ string.now }
 {
@@ -66,7 +66,7 @@ fn text_of_string(string: &Text) -> &str
 
 /// A path, as a text.
 #[tactic(auto, using(crate::proofs::TextLemmas::path_is_text))]
-fn text_of_path(path: &StorePath) -> &str
+pub(crate) fn text_of_path(path: &StorePath) -> &str
     ensures { result.now ≡ path.now }
 {
     text_of(path.bytes())
@@ -111,16 +111,21 @@ pub(crate) fn log_path(alloc: Global, logs: Path<'_>, job: &Job) -> Result<PathB
     job_path(alloc, logs, "", job, ".log")
 }
 
+/// Gives a command an argument behind its own.
+pub(crate) fn add_argument(command: &mut Command, argument: &str) -> Result<(), AllocError>
+    ensures { OnOk result (AddsArguments command.old (argument.now ∷ []) command.new) }
+{
+    command.arg(argument)?;
+    Ok(())
+}
+
 /// Gives a command these arguments behind its own.
-fn add_arguments(command: &mut Command, arguments: &[Text]) -> Result<(), AllocError>
+pub(crate) fn add_arguments(command: &mut Command, arguments: &[Text]) -> Result<(), AllocError>
     requires { list_all is_text arguments.now ≡ true }
-    ensures arguments { OnOk result (command_args command.new ≡ command_args command.old ++ arguments.now) }
-    ensures program { OnOk result (command_program command.new ≡ command_program command.old) }
-    ensures environment { OnOk result (SameEnv command.old command.new) }
-    ensures folder { OnOk result (SameDir command.old command.new) }
+    ensures { OnOk result (AddsArguments command.old arguments.now command.new) }
 {
     for argument in arguments {
-        command.arg(text_of_string(argument))?;
+        add_argument(command, text_of_string(argument))?;
     }
     Ok(())
 }
@@ -155,7 +160,7 @@ fn set_variables(command: &mut Command, environment: &[(Text, Text)]) -> Result<
 }
 
 /// A program with no arguments and no variables, in the current folder.
-fn alone(alloc: Global, program: Path<'_>) -> Result<Command, AllocError>
+pub(crate) fn alone(alloc: Global, program: Path<'_>) -> Result<Command, AllocError>
     ensures program { IfOk result (λ command. command_program command ≡ path_bytes program.entry) }
     ensures arguments { IfOk result (λ command. command_args command ≡ []) }
     ensures clears { IfOk result (λ command. clears_env command ≡ true) }
@@ -168,7 +173,7 @@ fn alone(alloc: Global, program: Path<'_>) -> Result<Command, AllocError>
 }
 
 /// Tells a process the name of its program as its own, and leaves all else.
-fn set_own_name(command: &mut Command, program: Path<'_>) -> Result<(), AllocError>
+pub(crate) fn set_own_name(command: &mut Command, program: Path<'_>) -> Result<(), AllocError>
     ensures own { OnOk result (command_arg0 command.new ≡ Some (path_bytes program.entry)) }
     ensures call { OnOk result (SameProgramAndArgs command.old command.new) }
     ensures environment { OnOk result (SameEnv command.old command.new) }
@@ -178,23 +183,33 @@ fn set_own_name(command: &mut Command, program: Path<'_>) -> Result<(), AllocErr
     Ok(())
 }
 
-/// What the process is started with that builds a derivation under this path. The one error is memory.
+/// The path of the builder of a derivation, in this folder of builders. The one error is memory.
+pub(crate) fn builder_path(
+    alloc: Global,
+    builders: Path<'_>,
+    derivation: &Derivation,
+) -> Result<PathBuf, AllocError>
+    ensures { IfOk result (λ path. path_buf_bytes path ≡ builder_path (path_bytes builders.entry) derivation.now) }
+{
+    builders.join(alloc, text_of_string(&derivation.parts().builder))
+}
+
+/// What the builder of this path is started with that builds a derivation under a path. The one error is memory.
 pub(crate) fn command_for(
     alloc: Global,
     derivation: &Derivation,
     scratch: &StorePath,
-    builders: Path<'_>,
+    builder: Path<'_>,
     inputs: &str,
 ) -> Result<Command, AllocError>
-    ensures { IfOk result (IsCommandFor derivation.now scratch.now (path_bytes builders.entry) inputs.now) }
+    ensures { IfOk result (IsCommandFor derivation.now scratch.now (path_bytes builder.entry) inputs.now) }
 {
     let parts = derivation.parts();
-    let program = builders.join(alloc, text_of_string(&parts.builder))?;
-    let mut command = alone(alloc, program.as_path())?;
+    let mut command = alone(alloc, builder)?;
     add_arguments(&mut command, &parts.arguments)?;
     set_variables(&mut command, &parts.environment)?;
     set_variable(&mut command, "out", text_of_path(scratch))?;
     set_variable(&mut command, "INPUTS", inputs)?;
-    set_own_name(&mut command, program.as_path())?;
+    set_own_name(&mut command, builder)?;
     Ok(command)
 }

@@ -15,9 +15,11 @@
 #![tactic(auto)]
 
 mod command;
+mod deadline;
 mod ending;
 mod fault;
 mod inputs;
+mod launching;
 mod log;
 mod meaning;
 mod output;
@@ -42,9 +44,10 @@ mod written;
 
 pub use command::Streams;
 pub use fault::{Explains, Fault};
+pub use launching::launcher;
 pub use log::{Log, Logged, Tail};
 pub use outside::Outside;
-pub use preparing::Folders;
+pub use preparing::{Folders, Settings};
 pub use processes::ProcessRunner;
 pub use rounds::round;
 pub use runner::{RunFault, Runner};

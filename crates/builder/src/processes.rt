@@ -14,7 +14,7 @@ use crate::log::{Log, Logged, Tail};
 use crate::meaning::{is_gone, meaning};
 use crate::output::read_output;
 use crate::outside::Outside;
-use crate::preparing::{Folders, Prepared, prepare};
+use crate::preparing::{Prepared, Settings, prepare};
 use crate::runner::{RunFault, Runner};
 use jobs::RunningJob;
 use records::Entry;
@@ -183,12 +183,12 @@ fn logged(alloc: Global, path: Option<PathBuf>, tail: Option<Tail>) -> Option<Lo
 }
 
 /// Builds a job.
-fn build<O: Outside>(alloc: Global, outside: &mut O, folders: &Folders, job: &RunningJob) -> Built
-    ensures builds { Builds O.steps folders.now outside.old job.now
+fn build<O: Outside>(alloc: Global, outside: &mut O, settings: &Settings, job: &RunningJob) -> Built
+    ensures builds { Builds O.steps settings.now outside.old job.now
         (output_of result.output) outside.new }
-    ensures log { IfSome result.log (λ log. log_path_in folders.now job.now.job ≡ Some (path_buf_bytes log.path)) }
+    ensures log { IfSome result.log (λ log. log_path_in settings.now.folders job.now.job ≡ Some (path_buf_bytes log.path)) }
 {
-    let prepared = match prepare(alloc, folders, job) {
+    let prepared = match prepare(alloc, settings, job) {
         Ok(prepared) => prepared,
         Err(why) => {
             return Built {
@@ -208,24 +208,24 @@ fn build<O: Outside>(alloc: Global, outside: &mut O, folders: &Folders, job: &Ru
 #[derive(Drop)]
 pub struct ProcessRunner<O> {
     outside: O,
-    folders: Folders,
+    settings: Settings,
     failures: u64,
     fault: Option<Fault>,
     log: Option<Logged>,
 }
 
 impl<O: Outside> ProcessRunner<O> {
-    /// A runner that has not failed. What it needs stands in these folders.
-    pub fn new(outside: O, folders: Folders) -> ProcessRunner<O>
+    /// A runner that has not failed, and builds with these settings.
+    pub fn new(outside: O, settings: Settings) -> ProcessRunner<O>
         ensures outside { result.outside ≡ outside }
-        ensures folders { result.folders ≡ folders }
+        ensures settings { result.settings ≡ settings }
         ensures failures { result.failures ≡ 0 }
         ensures fault { result.fault ≡ None }
         ensures log { result.log ≡ None }
     {
         ProcessRunner {
             outside,
-            folders,
+            settings,
             failures: 0,
             fault: None,
             log: None,
@@ -263,7 +263,7 @@ impl<O: Outside> Runner for ProcessRunner<O> {
     ghost failed = { λ runner. runner.failures };
 
     fn run(&mut self, alloc: Global, job: &RunningJob) -> Result<Vec<u8>, RunFault> {
-        let Built { output, log } = build(alloc, &mut self.outside, &self.folders, job);
+        let Built { output, log } = build(alloc, &mut self.outside, &self.settings, job);
         self.fault = fault_in(&output);
         self.log = log;
         let given = told(output);

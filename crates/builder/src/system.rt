@@ -4,12 +4,14 @@ ghost use Rattle.std.specs.Io.{ReadsAtMost};
 ghost use Rattle.builder.specs.Steps.{nothing_said};
 
 use crate::command::Streams;
+use crate::deadline::Deadline;
 use crate::log::{Log, Tail};
 use crate::outside::Outside;
 use crate::written::Written;
 use std::fs::{Files, OpenOptions};
 use std::io::{Error, ErrorKind, Read, Write};
 use std::process::{Child, ChildStdout, Command, ExitStatus, Processes, SystemProcess};
+use std::time::Clock;
 use std::{fs, io};
 
 /// How often a call is made in all that signals interrupt.
@@ -35,12 +37,14 @@ fn read_again<R: Read>(reader: &mut R, buffer: &mut [u8]) -> io::Result<usize>
 #[derive(Drop)]
 pub struct System<'a, R> {
     rt: &'a R,
+    limit: Option<u64>,
 }
 
-impl<'a, R: Files + Processes<Started = SystemProcess>> System<'a, R> {
-    /// Those of this runtime.
-    pub fn new(rt: &'a R) -> System<'a, R> {
-        System { rt }
+impl<'a, R: Files + Processes<Started = SystemProcess> + Clock> System<'a, R> {
+    /// Those of this runtime. Where builders are kept to so many seconds, what a child of one keeps open is not waited for
+    /// longer than 5 seconds behind that: reading the output fails then.
+    pub fn new(rt: &'a R, limit: Option<u64>) -> System<'a, R> {
+        System { rt, limit }
     }
 
     /// Starts a process, or fails, at the first signal too.
@@ -81,10 +85,10 @@ impl<'a, R: Files + Processes<Started = SystemProcess>> System<'a, R> {
     }
 }
 
-impl<'a, R: Files + Processes<Started = SystemProcess>> Outside for System<'a, R> {
+impl<'a, R: Files + Processes<Started = SystemProcess> + Clock> Outside for System<'a, R> {
     type File = R::File;
 
-    type Output = Written<R::File>;
+    type Output = Written<'a, R, R::File>;
 
     type Process = Child<SystemProcess>;
 
@@ -120,9 +124,11 @@ impl<'a, R: Files + Processes<Started = SystemProcess>> Outside for System<'a, R
     ) -> io::Result<(Self::Process, Self::Output)>
         ensures { Unit {0} }
     {
+        let deadline = Deadline::of(self.rt, self.limit)?;
         let (mut process, output) = self.start_again(command, streams)?;
         let stderr = process.stderr.take();
-        Ok((process, Written::new(output, stderr, log)))
+        let written = Written::new(self.rt, output, stderr, log, deadline);
+        Ok((process, written))
     }
 
     fn read(&mut self, output: &mut Self::Output, kept: &mut Vec<u8>) -> io::Result<usize> {

@@ -1,5 +1,6 @@
 //! What a process of the machine writes, as it is read.
 
+use crate::deadline::Deadline;
 use crate::log::{Log, Tail};
 use libc::net::{POLLIN, poll};
 use libc::types::pollfd;
@@ -7,6 +8,7 @@ use std::io;
 use std::io::{Error, ErrorKind, Read, Write};
 use std::os::fd::{AsRawFd, RawFd};
 use std::process::{Child, ChildStderr, ChildStdout, SystemProcess};
+use std::time::Clock;
 
 /// How often in all it is asked what can be read, where the machine does not tell: a signal may interrupt it.
 const MOST_TRIES: u32 = 1_000;
@@ -41,6 +43,25 @@ fn wait_for_any(asked: &mut [pollfd], limit: i32) -> io::Result<()> {
     Err(Error::from(ErrorKind::TimedOut))
 }
 
+/// Waits until one of the streams can be read.
+///
+/// # Errors
+///
+/// `TimedOut` where the deadline passes before.
+fn wait_until(asked: &mut [pollfd], clock: &impl Clock, deadline: Deadline) -> io::Result<()> {
+    for _ in 0..u64::MAX {
+        let left = deadline.left(clock)?;
+        wait_for_any(asked, left)?;
+        if asked.iter().any(|stream| stream.revents != 0) {
+            return Ok(());
+        }
+        if left == 0 {
+            break;
+        }
+    }
+    Err(Error::from(ErrorKind::TimedOut))
+}
+
 /// The standard error of a process, and the log that it goes into.
 #[derive(Drop)]
 struct Errors<F> {
@@ -64,14 +85,19 @@ impl<F: Write + Drop> Errors<F> {
         Ok(())
     }
 
-    /// Reads what comes of it until the standard output can be read without waiting.
-    fn read_beside(&mut self, output: &ChildStdout) -> io::Result<()> {
+    /// Reads what comes of it until the standard output can be read without waiting, or the deadline passes.
+    fn read_beside(
+        &mut self,
+        output: &ChildStdout,
+        clock: &impl Clock,
+        deadline: Deadline,
+    ) -> io::Result<()> {
         for _ in 0..u64::MAX {
             if self.is_at_end {
                 break;
             }
             let mut asked = [asking(output.as_raw_fd()), asking(self.stream.as_raw_fd())];
-            wait_for_any(&mut asked, -1)?;
+            wait_until(&mut asked, clock, deadline)?;
             if asked[1].revents != 0 {
                 self.read_piece()?;
             }
@@ -111,20 +137,24 @@ impl<F: Write + Drop> Errors<F> {
 }
 
 /// What a process of the machine writes. What is read of it is its standard output; and while that is waited for,
-/// its standard error goes into its log, if it has one.
+/// its standard error goes into its log, if it has one. Behind the deadline reading fails.
 #[derive(Drop)]
-pub struct Written<F> {
+pub struct Written<'a, R, F> {
+    clock: &'a R,
     output: ChildStdout,
     errors: Option<Errors<F>>,
+    deadline: Deadline,
 }
 
-impl<F: Write + Drop> Written<F> {
-    /// What these streams give.
+impl<'a, R: Clock, F: Write + Drop> Written<'a, R, F> {
+    /// What these streams give until the deadline.
     pub(crate) fn new(
+        clock: &'a R,
         output: ChildStdout,
         stderr: Option<ChildStderr>,
         log: Option<Log<F>>,
-    ) -> Written<F> {
+        deadline: Deadline,
+    ) -> Written<'a, R, F> {
         let errors = match (stderr, log) {
             (Some(stream), Some(log)) => Some(Errors {
                 stream,
@@ -133,14 +163,31 @@ impl<F: Write + Drop> Written<F> {
             }),
             _ => None,
         };
-        Written { output, errors }
+        Written {
+            clock,
+            output,
+            errors,
+            deadline,
+        }
+    }
+
+    /// Waits until the standard output can be read, where the standard error is read meanwhile or there is a deadline.
+    fn wait_for_output(&mut self) -> io::Result<()> {
+        if let Some(errors) = &mut self.errors {
+            errors.read_beside(&self.output, self.clock, self.deadline)?;
+        }
+        if self.deadline.is_set() {
+            let mut asked = [asking(self.output.as_raw_fd())];
+            wait_until(&mut asked, self.clock, self.deadline)?;
+        }
+        Ok(())
     }
 
     /// Closes the standard output, and reads what comes of the standard error until the process has ended. Where
     /// that cannot be read it is closed, so that the process does not wait for it. Gives the last of what went into
     /// the log, if there is one.
     pub(crate) fn read_to_end_of(self, process: &mut Child<SystemProcess>) -> Option<Tail> {
-        let Written { output, errors } = self;
+        let Written { output, errors, .. } = self;
         drop(output);
         let mut errors = errors?;
         let _read = errors.read_until_ended(process);
@@ -148,11 +195,9 @@ impl<F: Write + Drop> Written<F> {
     }
 }
 
-impl<F: Write + Drop> Read for Written<F> {
+impl<R: Clock, F: Write + Drop> Read for Written<'_, R, F> {
     fn read(&mut self, buffer: &mut [u8]) -> io::Result<usize> {
-        if let Some(errors) = &mut self.errors {
-            errors.read_beside(&self.output)?;
-        }
+        self.wait_for_output()?;
         self.output.read(buffer)
     }
 }

@@ -1,5 +1,5 @@
 -- What the steps that build the command make of it, and what its matches say.
-use Rattle.std.proofs.Common.{◌≡◌, ◌≤◌, ◌∙◌, ◌||◌, ◌∷◌, [], ap, ap₂, inl, length, map, refl, subst, sym, true, List, Option, Some, None, Result, Ok, Err, option_map}
+use Rattle.std.proofs.Common.{◌≡◌, ◌≤◌, ◌∙◌, ◌||◌, ◌∷◌, ◌++◌, [], ap, ap₂, inl, length, map, refl, subst, sym, true, List, Option, Some, None, Result, Ok, Err, option_map}
 use Rattle.std.specs.Prelude.{codes, unwrap_or}
 use Rattle.std.specs.Borrow.{Bor}
 use Rattle.std.specs.Result.{IsErrAnd}
@@ -17,7 +17,7 @@ use Rattle.clap.specs.Kinds.{HasKind, Kinds}
 use Rattle.clap.specs.declared.error.Error.{Error}
 use Rattle.command_line.specs.Intstore.{intstore, with_rules, with_subcommands}
 use Rattle.model.specs.Limits.{most_files}
-use Rattle.command_line.specs.Named.{AnswersWords, AreFilesOf, AskFor, rows_in}
+use Rattle.command_line.specs.Named.{AnswersWords, AreFilesOf, AreFirstWords, AskFor, BeginsWithWord, rows_in}
 use Rattle.command_line.specs.declared.settings.Options.{Options}
 use Rattle.command_line.specs.Steps.{AreArguments, AreCommands, IsArgument, IsCommand, IsFound}
 
@@ -104,3 +104,9 @@ pub files_missing : (rows : List Row) (files : List Text) → None ≡ all_of (c
 files_missing rows files none are =
     let bad : None ≡ Some files = none ∙ are.0 in
     cc
+
+-- one more word
+pub one_more_word : (text word : Text) (words : List Text) (between rest : Text) → AreFirstWords text words between → BeginsWithWord between word rest
+    → AreFirstWords text (words ++ word ∷ []) rest
+one_more_word text word [] between rest are begins = (rest, subst (λ t. BeginsWithWord t word rest) are begins, refl)
+one_more_word text word (w ∷ words) between rest are begins = (are.0, are.1, one_more_word are.0 word words between rest are.2 begins)

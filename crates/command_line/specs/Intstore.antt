@@ -103,6 +103,28 @@ logs_rule = record (new_rule (codes "logs")) {
   parser = Some parser.NonEmptyString;
 }
 
+-- `--launcher PROGRAM`: not empty
+abbrev pub launcher_rule : Rule
+launcher_rule = record (new_rule (codes "launcher")) {
+  long = Some (codes "launcher");
+  action = Some Set;
+  value_names = 1;
+  parser = Some parser.NonEmptyString;
+}
+
+-- the most seconds that a builder may be kept to: 365 days
+abbrev pub longest_limit : ℕ
+longest_limit = 31536000
+
+-- `--limit SECONDS`: a number from 1 to 31,536,000
+abbrev pub limit_rule : Rule
+limit_rule = record (new_rule (codes "limit")) {
+  long = Some (codes "limit");
+  action = Some Set;
+  value_names = 1;
+  parser = Some (parser.Unsigned 1 longest_limit);
+}
+
 -- `--verbose`
 abbrev pub verbose_rule : Rule
 verbose_rule = record (new_rule (codes "verbose")) {
@@ -123,10 +145,11 @@ replay = with_rules (new_app (codes "replay")) (sweep_rule ∷ explain_rule ∷ 
 abbrev pub strike : App
 strike = with_rules (new_app (codes "strike")) (user_rule ∷ timed_rule ∷ charge_rule ∷ file_rule ∷ [])
 
--- `run --workers N [--builders DIR] [--work DIR] [--logs DIR] [--sweep] [--charge N] [--verbose] FILE..`
+-- `run --workers N [--builders DIR] [--work DIR] [--logs DIR] [--launcher PROGRAM] [--limit SECONDS] [--sweep] [--charge N]
+-- [--verbose] FILE..`
 abbrev pub run : App
-run = with_rules (new_app (codes "run")) (workers_rule ∷ builders_rule ∷ work_rule ∷ logs_rule ∷ sweep_rule
-    ∷ charge_rule ∷ verbose_rule ∷ files_rule ∷ [])
+run = with_rules (new_app (codes "run")) (workers_rule ∷ builders_rule ∷ work_rule ∷ logs_rule ∷ launcher_rule ∷ limit_rule
+    ∷ sweep_rule ∷ charge_rule ∷ verbose_rule ∷ files_rule ∷ [])
 
 -- it has a version, and does nothing without a subcommand
 abbrev pub needs_subcommand : Shape → Shape

@@ -1,6 +1,8 @@
 -- What the words of a command line ask for.
-use Rattle.std.specs.Prelude.{◌≡◌, ◌≤◌, ◌⊎◌, ℕ, Bool, true, false, List, [], Option, Some, None}
+use Rattle.std.specs.Prelude.{◌≡◌, ◌≤◌, ◌<◌, ◌⊎◌, ◌∷◌, ◌++◌, ℕ, Bool, true, false, List, [], Option, Some, None}
 use Rattle.std.specs.Prelude.{Result, MatchResult, codes, length, map, option_map, string_bytes}
+use Rattle.std.specs.Char.{is_not_whitespace, is_whitespace}
+use Rattle.std.specs.Str.{EmptyOrStartsWithPassing, NoCharPasses}
 use Rattle.std.specs.Str.Parse.{IsNumeral, digits_value, without_leading_plus}
 use Rattle.model.specs.Limits.{most_charge}
 use Rattle.clap.specs.Kinds.{HasKind}
@@ -12,7 +14,7 @@ use Rattle.clap.specs.Faults.{fault_of}
 use Rattle.clap.specs.declared.error.Error.{Error}
 use Rattle.clap.specs.declared.error.kind.ErrorKind.TheVariants.{MissingRequiredArgument}
 use Rattle.clap.specs.declared.parser.matches.ArgMatches.{ArgMatches}
-use Rattle.command_line.specs.Intstore.{intstore}
+use Rattle.command_line.specs.Intstore.{intstore, longest_limit}
 use Rattle.model.specs.Limits.{most_files, most_workers}
 use Rattle.command_line.specs.declared.settings.Action.{Action}
 use Rattle.command_line.specs.declared.settings.Action.TheVariants as action
@@ -40,6 +42,43 @@ IsWorkersOf None workers = ⊥
 IsWorkersOf (Some text) workers = IsNumeral 10 (without_leading_plus text)
     × (number_of text ≡ workers) × (1 ≤ workers) × (workers ≤ most_workers)
 
+-- the text is a number of seconds that a builder may be kept to
+abbrev pub IsLimit : Text → Type 0
+IsLimit text =
+    IsNumeral 10 (without_leading_plus text) × (1 ≤ number_of text) × (number_of text ≤ longest_limit)
+
+-- the limit is the number of the text where that is one, and else there is none
+abbrev pub IsLimitOf : Option Text → Option ℕ → Type 0
+IsLimitOf None limit = limit ≡ None
+IsLimitOf (Some text) limit =
+    (IsLimit text → limit ≡ Some (number_of text)) × (¬ IsLimit text → limit ≡ None)
+
+-- a text is white space, one of these words, and what is left, which is empty or begins with white space
+pub record BeginsWithWord (text word rest : Text) : Type 0 where
+  pub gap : Text
+  pub later : List ℕ
+  pub is : text ≡ gap ++ (word ++ rest)
+  pub is_word : 0 < length word
+  pub is_gap : NoCharPasses is_not_whitespace gap
+  pub is_whole : NoCharPasses is_whitespace word
+  pub ends : EmptyOrStartsWithPassing is_whitespace rest later
+
+-- these are the first words of a text, and this is what is left of it
+abbrev pub AreFirstWords : Text → List Text → Text → Type 0
+AreFirstWords text [] rest = rest ≡ text
+AreFirstWords text (word ∷ words) rest = (between : Text) × BeginsWithWord text word between × AreFirstWords between words rest
+
+-- these are the words of a text, with white space between them
+abbrev pub AreWordsOf : Text → List Text → Type 0
+AreWordsOf text words = (rest : Text) × AreFirstWords text words rest × NoCharPasses is_not_whitespace rest
+
+-- the launcher has the words of the text; one without words is the text itself, and names no program; and there is none
+-- where there is no text
+abbrev pub IsLauncherOf : Option Text → List Text → Type 0
+IsLauncherOf None launcher = launcher ≡ []
+IsLauncherOf (Some text) launcher =
+    (AreWordsOf text launcher × (0 < length launcher)) ⊎ (AreWordsOf text [] × (launcher ≡ text ∷ []))
+
 -- the flag is set where its text is `true`, and not where that is `false` or where it has none
 abbrev pub IsFlagOf : Option Text → Bool → Type 0
 IsFlagOf text flag = (text ≡ Some (codes "true") → flag ≡ true)
@@ -60,6 +99,8 @@ IsRunOf rows run = IsWorkersOf (one_of (codes "workers") rows) run.workers
     × (first_of (codes "builders") rows ≡ Some (string_bytes run.builders))
     × (first_of (codes "work") rows ≡ Some (string_bytes run.work))
     × (first_of (codes "logs") rows ≡ option_map string_bytes run.logs)
+    × IsLauncherOf (first_of (codes "launcher") rows) (map string_bytes run.launcher.items)
+    × IsLimitOf (one_of (codes "limit") rows) run.limit
     × IsFlagOf (one_of (codes "sweep") rows) run.sweep
     × IsFlagOf (one_of (codes "verbose") rows) run.verbose
     × AreFilesOf rows (map string_bytes run.files.items)

@@ -1,7 +1,7 @@
 //! The command `intstore` with its arguments, and the options that it finds in the words of a command line.
 
 ghost use Rattle.std.specs.Prelude.{IfOk, map, string_bytes};
-ghost use Rattle.command_line.specs.Intstore.{builders_rule, charge_rule, explain_rule, file_rule, files_rule, logs_rule};
+ghost use Rattle.command_line.specs.Intstore.{builders_rule, charge_rule, explain_rule, file_rule, files_rule, launcher_rule, limit_rule, logs_rule};
 ghost use Rattle.command_line.specs.Intstore.{sweep_rule, timed_rule, user_rule, verbose_rule, work_rule, workers_rule};
 ghost use Rattle.command_line.specs.Intstore.{intstore, replay, run, strike};
 ghost use Rattle.command_line.specs.Intstore.{subcommands as described_subcommands};
@@ -145,6 +145,30 @@ fn logs_argument<'a>(alloc: Global) -> Arg<'a>
         .help("The folder for what builders write to standard error; left out, that is dropped")
 }
 
+/// The option `--launcher`.
+fn launcher_argument<'a>(alloc: Global) -> Arg<'a>
+    ensures { IsArgument launcher_rule result }
+{
+    Arg::new(alloc, "launcher")
+        .long("launcher")
+        .value_name("PROGRAM")
+        .action(ArgAction::Set)
+        .value_parser(ValueParser::NonEmptyString)
+        .help("The program through which each builder is started, with words for it behind blanks")
+}
+
+/// The option `--limit`.
+fn limit_argument<'a>(alloc: Global) -> Arg<'a>
+    ensures { IsArgument limit_rule result }
+{
+    Arg::new(alloc, "limit")
+        .long("limit")
+        .value_name("SECONDS")
+        .action(ArgAction::Set)
+        .value_parser(value_parser!(u64).range(1..=31_536_000))
+        .help("The most seconds that a builder may run, from 1 to 31536000, which is 365 days")
+}
+
 /// The flag `--verbose`.
 fn verbose_argument<'a>(alloc: Global) -> Arg<'a>
     ensures { IsArgument verbose_rule result }
@@ -197,6 +221,8 @@ fn run_command<'a>(alloc: Global) -> Result<Command<'a>, AllocError>
         builders_argument(alloc),
         work_argument(alloc),
         logs_argument(alloc),
+        launcher_argument(alloc),
+        limit_argument(alloc),
         sweep_argument(
             alloc,
             "Gives back after each round of builds what nobody holds; the replies stay the same",

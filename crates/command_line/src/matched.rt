@@ -1,11 +1,12 @@
 //! What the matches of a command line ask for.
 
-ghost use Rattle.std.specs.Prelude.{◌≡◌, ◌≤◌, IfOk, codes, map, option_map, string_bytes};
+ghost use Rattle.std.specs.Prelude.{◌≡◌, ◌≤◌, IfOk, IfSome, Some, codes, map, option_map, string_bytes};
 ghost use Rattle.model.specs.Limits.{most_charge};
-ghost use Rattle.clap.specs.Walk.{texts};
-ghost use Rattle.clap.specs.Words.{first_of, found_of, one_text, subcommand_rows_of};
-ghost use Rattle.command_line.specs.Named.{AreFilesOf, AreOptionsOf, AskFor, IsActionOf};
-ghost use Rattle.command_line.specs.Named.{IsChargeOf, IsRunOf, IsWorkersOf, rows_in};
+ghost use Rattle.clap.specs.Walk.{first_of, texts};
+ghost use Rattle.clap.specs.Words.{found_of, one_text, subcommand_rows_of};
+ghost use Rattle.command_line.specs.Intstore.{longest_limit};
+ghost use Rattle.command_line.specs.Named.{AreFilesOf, AreOptionsOf, AreWordsOf, AskFor, IsActionOf};
+ghost use Rattle.command_line.specs.Named.{IsChargeOf, IsLauncherOf, IsLimitOf, IsRunOf, IsWorkersOf, rows_in};
 ghost use Rattle.command_line.specs.Steps.{IsFound};
 
 use crate::settings::{Action, Options, Run};
@@ -34,6 +35,21 @@ fn workers_of(matches: &ArgMatches<'_>) -> Option<usize>
     }
 }
 
+/// The most seconds that a builder may be kept to: 365 days.
+const LONGEST_LIMIT: u64 = 31_536_000;
+
+/// The limit on the seconds of a builder, or nothing where none is named. The parser has refused all but 1 to
+/// 31,536,000.
+fn limit_of(matches: &ArgMatches<'_>) -> Option<u64>
+    ensures within { IfSome result (λ seconds. (1 ≤ seconds) × (seconds ≤ longest_limit)) }
+    ensures value { IsLimitOf (one_text (found_of matches.now) (codes "limit")) result }
+{
+    match matches.get_one::<u64>("limit") {
+        Some(limit) if limit >= 1 && limit <= LONGEST_LIMIT => Some(limit),
+        _ => None,
+    }
+}
+
 /// The text of an argument, or nothing where it has none.
 fn text_of(alloc: Global, matches: &ArgMatches<'_>, id: &str) -> Result<Option<String>, AllocError>
     ensures { IfOk result (λ text. option_map string_bytes text
@@ -54,6 +70,41 @@ fn strings_of(alloc: Global, words: &[&str]) -> Result<Vec<String>, AllocError>
         strings.push(String::from_str(alloc, word)?)?;
     }
     Ok(strings)
+}
+
+/// The words of a text, with white space between them, each in a string of its own.
+fn words_of(alloc: Global, text: &str) -> Result<Vec<String>, AllocError>
+    ensures { IfOk result (λ words. AreWordsOf text.now (map string_bytes words.items)) }
+{
+    let mut words = Vec::new(alloc);
+    for word in text.split_whitespace() {
+        words.push(String::from_str(alloc, word)?)?;
+    }
+    Ok(words)
+}
+
+/// The words of a launcher of this text: where it has none it is the text itself, and names no program.
+fn launcher_words(alloc: Global, text: String) -> Result<Vec<String>, AllocError>
+    ensures { IfOk result (λ launcher. IsLauncherOf (Some (string_bytes text)) (map string_bytes launcher.items)) }
+{
+    let words = words_of(alloc, text.as_str())?;
+    if words.len() > 0 {
+        return Ok(words);
+    }
+    let mut launcher = Vec::new(alloc);
+    launcher.push(text)?;
+    Ok(launcher)
+}
+
+/// The words of the launcher, if one is named.
+fn launcher_of(alloc: Global, matches: &ArgMatches<'_>) -> Result<Vec<String>, AllocError>
+    ensures { IfOk result (λ launcher. IsLauncherOf (first_of (codes "launcher") (rows_in matches.now))
+        (map string_bytes launcher.items)) }
+{
+    match text_of(alloc, matches, "launcher")? {
+        Some(text) => launcher_words(alloc, text),
+        None => Ok(Vec::new(alloc)),
+    }
 }
 
 /// The files of a run, or nothing where none is named. The parser has refused all but 1 to 8.
@@ -84,6 +135,7 @@ fn run_of(alloc: Global, matches: &ArgMatches<'_>) -> Result<Option<Run>, AllocE
         return Ok(None);
     };
     let logs = text_of(alloc, matches, "logs")?;
+    let launcher = launcher_of(alloc, matches)?;
     let Some(files) = files_of(alloc, matches)? else {
         return Ok(None);
     };
@@ -92,6 +144,8 @@ fn run_of(alloc: Global, matches: &ArgMatches<'_>) -> Result<Option<Run>, AllocE
         builders,
         work,
         logs,
+        launcher,
+        limit: limit_of(matches),
         sweep: matches.get_flag("sweep"),
         verbose: matches.get_flag("verbose"),
         files,

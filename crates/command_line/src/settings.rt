@@ -1,7 +1,9 @@
 //! What the program is to do.
 
-ghost use Rattle.std.specs.Prelude.{◌≤◌, length};
+ghost use Rattle.std.specs.Prelude.{◌≤◌, length, IfSome};
+ghost use Rattle.std.proofs.Props.{props};
 ghost use Rattle.model.specs.Limits.{most_charge, most_files, most_workers};
+ghost use Rattle.command_line.specs.Intstore.{longest_limit};
 
 /// What is done, and with which files.
 #[derive(Drop)]
@@ -39,6 +41,11 @@ pub struct Run {
     pub work: String,
     /// The folder for what builders write to standard error, if that is kept.
     pub logs: Option<String>,
+    /// The words of the launcher: a program through which each builder is started, and what it is told. There are none
+    /// where builders are started by themselves.
+    pub launcher: Vec<String>,
+    /// The most seconds that a builder may run, if there is a limit: 1 to 31,536,000.
+    pub limit: Option<u64>,
     /// Whether after each round of builds the store gives back what nobody holds.
     pub sweep: bool,
     /// Whether it is said on standard error as each builder starts, and how it ended.
@@ -46,6 +53,7 @@ pub struct Run {
     /// The files, one for each session, in their order: 1 to 8.
     pub files: Vec<String>,
     ghost few_workers: { (1 ≤ workers) × (workers ≤ most_workers) },
+    ghost within_limit: { IfSome limit (λ seconds. (1 ≤ seconds) × (seconds ≤ longest_limit)) } by { Prim.hlevel props },
     ghost few_files: { (1 ≤ length files.items) × (length files.items ≤ most_files) },
 }
 

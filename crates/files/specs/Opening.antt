@@ -1,11 +1,13 @@
 -- What comes of the files that a command line names.
-use Rattle.std.specs.Prelude.{◌≡◌, ◌⊎◌, ℕ, List, [], ◌∷◌, ◌++◌, length, option_map, All, string_bytes}
+use Rattle.std.specs.Prelude.{◌≡◌, ◌⊎◌, ℕ, List, [], ◌∷◌, ◌++◌, length, map, option_map, All, string_bytes}
 use Rattle.std.specs.Path.{path_buf_bytes}
 use Rattle.model.specs.declared.refusal.Refusal.TheVariants.{InputFault, Memory}
 use Rattle.command_line.specs.declared.settings.Run.{Run}
 use Rattle.session.specs.declared.counted.Counted.{Counted}
 use Rattle.builder.specs.declared.preparing.Folders.{Folders}
+use Rattle.builder.specs.declared.preparing.Settings.{Settings}
 use Rattle.builder.specs.declared.processes.ProcessRunner.{ProcessRunner}
+use Rattle.builder.specs.Launching.{limit_words}
 use Rattle.messages.specs.declared.narrator.Narrator.{Narrator}
 use Rattle.files.specs.declared.opening.Opened.{Opened}
 use Rattle.files.specs.declared.opening.Refused.{Refused}
@@ -16,9 +18,14 @@ AreFoldersOf run folders =
     (path_buf_bytes folders.builders ≡ string_bytes run.builders) × (path_buf_bytes folders.work ≡ string_bytes run.work)
     × (option_map path_buf_bytes folders.logs ≡ option_map string_bytes run.logs)
 
--- a runner builds in the folders that the options name, and says what it does where they ask for that
+-- builders are started in these folders, and through the launcher that the options name, which keeps them to the limit
+abbrev pub AreSettingsOf : Run → Settings → Type 0
+AreSettingsOf run settings = AreFoldersOf run settings.folders
+    × (map string_bytes settings.launcher.items ≡ limit_words run.limit ++ map string_bytes run.launcher.items)
+
+-- a runner builds as the options ask, and says what it does where they ask for that
 abbrev pub BuildsIn : {H O : Type 0} → Run → Narrator H (ProcessRunner O) → Type 0
-BuildsIn run runner = AreFoldersOf run runner.runner.folders × (runner.is_verbose ≡ run.verbose)
+BuildsIn run runner = AreSettingsOf run runner.runner.settings × (runner.is_verbose ≡ run.verbose)
 
 -- there is one for each worker that the options ask for, and each does
 abbrev pub AreRunners : {H O : Type 0} → Run → List (Narrator H (ProcessRunner O)) → Type 0

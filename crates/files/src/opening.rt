@@ -3,9 +3,9 @@
 ghost use Rattle.std.specs.Prelude.{◌≡◌, ℕ, List, map, option_map, IfOk, IfErr, IfSome, MatchOption, string_bytes};
 ghost use Rattle.std.specs.Path.{path_buf_bytes};
 ghost use Rattle.command_line.specs.declared.settings.Run.{Run};
-ghost use Rattle.files.specs.Opening.{AreFoldersOf, AreOpened, AreRunners, AreUnopened, BuildsIn, HasNotFailed, IsOpened, CannotOpen};
+ghost use Rattle.files.specs.Opening.{AreFoldersOf, AreOpened, AreRunners, AreSettingsOf, AreUnopened, BuildsIn, HasNotFailed, IsOpened, CannotOpen};
 
-use builder::{Folders, ProcessRunner, System};
+use builder::{Folders, ProcessRunner, Settings, System, launcher};
 use command_line::Run;
 use messages::Narrator;
 use model::Refusal;
@@ -130,6 +130,16 @@ fn folders_of(alloc: Global, run: &Run) -> Result<Folders, AllocError>
     })
 }
 
+/// What builders are started with as the options ask.
+fn settings_of(alloc: Global, run: &Run) -> Result<Settings, AllocError>
+    ensures { IfOk result (AreSettingsOf run.now) }
+{
+    Ok(Settings {
+        folders: folders_of(alloc, run)?,
+        launcher: launcher(alloc, run.limit, &run.launcher)?,
+    })
+}
+
 /// What builds as the options ask.
 fn runner_for<'a, H: Files + Processes<Started = SystemProcess> + Clock + Eprint>(
     alloc: Global,
@@ -138,7 +148,7 @@ fn runner_for<'a, H: Files + Processes<Started = SystemProcess> + Clock + Eprint
 ) -> Result<HostRunner<'a, H>, AllocError>
     ensures { IfOk result (BuildsIn run.now) }
 {
-    let runner = ProcessRunner::new(System::new(host), folders_of(alloc, run)?);
+    let runner = ProcessRunner::new(System::new(host, run.limit), settings_of(alloc, run)?);
     Ok(Narrator::new(host, run.verbose, runner))
 }
 

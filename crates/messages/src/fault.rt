@@ -40,6 +40,9 @@ pub enum Fault<'a> {
     /// A folder of a run is missing, or is no folder.
     #[error("intstore: cannot use the folder {0}")]
     NoFolder(&'a str),
+    /// A program through which builders are to be started cannot be executed.
+    #[error("intstore: cannot start the launcher {0}")]
+    NoLauncher(&'a str),
     /// Lines of the file whose events are struck were refused with 25: so many, and the first of them.
     #[error("intstore: lines refused 25: {0}, the first is line {1}")]
     BadLines(usize, usize),

@@ -43,13 +43,18 @@ def command_lines(cases):
             ("user_of_a_run", ["--workers", "1", "--user", "alice", "good"], "error: unexpected argument '--user' found\n.*"),
             ("explain_of_a_run", ["--workers", "1", "--explain", "good"], "error: unexpected argument '--explain' found\n.*"),
             ("logs_without_a_name", ["--workers", "1", "--logs", "", "good"], "error: a value is required for '--logs <DIR>'.*"),
+            ("launcher_without_a_name", ["--workers", "1", "--launcher", "", "good"], "error: a value is required for '--launcher <PROGRAM>'.*"),
             ("workers_without_a_number", ["good", "--workers"], "error: a value is required for '--workers <N>'.*"),
             ("no_workers_and_a_missing_file", ["nothing"], "error: the following required arguments were not provided:\n.*")):
         check_words(cases, name, words, 2, re.compile(errors, re.DOTALL))
-    for option, most, numbers in ("--workers", 7, ("0", "8", "256")), ("--charge", 1073741824, ("0", "1073741825")):
+    for option, value, most, numbers in (("--workers", "N", 7, ("0", "8", "256")),
+                                         ("--charge", "N", 1073741824, ("0", "1073741825")),
+                                         ("--limit", "SECONDS", 31536000, ("0", "31536001", "18446744073709551616"))):
         for number in numbers:
-            errors = f"error: invalid value '{number}' for '{option} <N>': {number} is not in 1..={most}{MORE}"
-            words = ["--workers", "1"] if option == "--charge" else []
+            errors = f"error: invalid value '{number}' for '{option} <{value}>': {number} is not in 1..={most}{MORE}"
+            if int(number) >= 2 ** 64:
+                errors = re.compile(f"error: invalid value '{number}' for .*", re.DOTALL)
+            words = [] if option == "--workers" else ["--workers", "1"]
             check_words(cases, f"{option[2:]}_{number}", [*words, option, number, "nothing"], 2, errors)
     errors = f"error: invalid value 'x' for '--workers <N>': invalid digit found in string{MORE}"
     check_words(cases, "workers_x", ["--workers", "x", "twice"], 2, errors)
@@ -73,7 +78,8 @@ def faults(cases):
 
 
 def help_of_run(cases):
-    options = ["--workers <N>", "--builders <DIR>", "--work <DIR>", "--logs <DIR>", "--sweep", "--charge <N>", "--verbose", "<FILE>...", "--help"]
+    options = ["--workers <N>", "--builders <DIR>", "--work <DIR>", "--logs <DIR>", "--launcher <PROGRAM>",
+               "--limit <SECONDS>", "--sweep", "--charge <N>", "--verbose", "<FILE>...", "--help"]
     for name, words in (("help_of_run", ["run", "--help"]), ("help_run", ["help", "run"])):
         with cases.folder() as folder:
             came = run(folder, [cases.program, *words])

@@ -2,7 +2,7 @@ use Rattle.std.proofs.Common.{rules, subst}
 use Rattle.std.specs.Prelude.{codes}
 use Rattle.clap.specs.Words.{found_of, one_of}
 use Rattle.clap.proofs.WalkLemmas.{one_text-rows}
-use Rattle.command_line.specs.Named.{IsFlagOf, IsWorkersOf, rows_in}
+use Rattle.command_line.specs.Named.{IsFlagOf, IsLimitOf, IsWorkersOf, rows_in}
 use Rattle.command_line.specs.Steps.{IsFound}
 use Rattle.command_line.proofs.matched.run_of.Goals as goal
 
@@ -20,4 +20,5 @@ returns c =
     (c.get_flag.ensures.value, c.get_flag.ensures.other, c.get_flag.ensures.none) in
     let verbose = subst (λ t. IsFlagOf t c.get_flag-2.result) (one_text-rows found (codes "verbose"))
     (c.get_flag-2.ensures.value, c.get_flag-2.ensures.other, c.get_flag-2.ensures.none) in
-    (workers, search rules, search rules, search rules, sweep, verbose, search rules)
+    let limit = subst (λ t. IsLimitOf t c.limit_of.result) (one_text-rows found (codes "limit")) c.limit_of.ensures.value in
+    (workers, search rules, search rules, search rules, search rules, limit, sweep, verbose, search rules)

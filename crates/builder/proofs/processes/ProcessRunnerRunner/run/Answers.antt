@@ -10,6 +10,6 @@ returns-clause-gives g c =
       tells = c.told-given.ensures;
       fault = search rules;
       counts = search rules;
-      folders = refl;
+      settings = refl;
       log = c.build-output.ensures.log;
     }
