@@ -1,6 +1,6 @@
 //! What builders write.
 
-ghost use Rattle.std.specs.Prelude.{◌≡◌, IfOk, IfErr};
+ghost use Rattle.std.specs.Prelude.{◌≡◌, IfOk, IfErr, MatchResult, Some, None};
 ghost use Rattle.std.specs.Option.{option_copied};
 ghost use Rattle.model.specs.declared.refusal.Refusal.TheVariants.{Memory};
 ghost use Rattle.model.specs.Archives.{nar, AreBytes};
@@ -79,6 +79,17 @@ impl Output {
         match &self.written {
             Written::Archive(tree) => Some(tree),
             Written::Other(_) => None,
+        }
+    }
+
+    /// The tree whose archive it is, or its bytes, where they are the archive of no tree.
+    pub fn tree_or_bytes(&self) -> Result<&Tree, &[u8]>
+        ensures { MatchResult result (λ tree. tree_of_archive self.now ≡ Some tree.now)
+            (λ bytes. (tree_of_archive self.now ≡ None) × (bytes.now ≡ self.now)) }
+    {
+        match &self.written {
+            Written::Archive(tree) => Ok(tree),
+            Written::Other(bytes) => Err(bytes.as_slice()),
         }
     }
 

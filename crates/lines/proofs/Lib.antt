@@ -6,3 +6,7 @@ pub mod FillLemmas
 pub mod OutputLemmas
 pub mod CommandLemmas
 pub mod PrintedLemmas
+pub mod UnexpandedLemmas
+pub mod StandingWords
+pub mod ReadBackLemmas
+pub mod RowLemmas

@@ -2,10 +2,11 @@
 
 ghost use Rattle.std.specs.Prelude.{◌≡◌, ◌++◌, IfOk, OnOk, MatchOption, if◌then◌else◌, option_map, slice_index_or};
 ghost use Rattle.model.specs.Lines.{named_line, is_letter, expansion_in, nothing_told, told_by, part_by, expanded_piece, joined_texts, filled};
+ghost use Rattle.lines.specs.Writing.{is_expansion, has_expansion};
 
 use crate::cutting::cut;
 use crate::line_result::LineResult;
-use crate::numbers::numeral_up_to;
+use crate::numbers::{is_numeral, numeral_up_to};
 use std::alloc::{AllocError, Global};
 use std::marker::Model;
 use storepath::StorePath;
@@ -147,4 +148,34 @@ pub(crate) fn fill(
     } else {
         Ok(None)
     }
+}
+
+/// Whether a text behind an opening brace begins with an expansion, whichever line that names.
+fn is_expansion(text: &[u8]) -> bool
+    ensures { result ≡ is_expansion text.now }
+{
+    let [letter, behind @ ..] = text else {
+        return false;
+    };
+    match cut(b'}', behind) {
+        None => false,
+        Some((digits, _)) => is_letter(*letter) && is_numeral(digits),
+    }
+}
+
+/// Whether a text has an expansion, whichever line that names: on some line it would mean something else.
+pub fn has_expansion(text: &[u8]) -> bool
+    ensures { result ≡ has_expansion text.now }
+{
+    let Some((_, pieces)) = cut(b'{', text) else {
+        return false;
+    };
+    let mut rest = pieces;
+    while let Some((piece, others)) = cut(b'{', rest) {
+        if is_expansion(piece) {
+            return true;
+        }
+        rest = others;
+    }
+    is_expansion(rest)
 }

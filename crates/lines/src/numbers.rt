@@ -13,7 +13,7 @@ fn are_digits(digits: &[u8]) -> bool
 }
 
 /// Whether these are digits, of which there is one and the first is no zero.
-fn is_numeral(digits: &[u8]) -> bool
+pub(crate) fn is_numeral(digits: &[u8]) -> bool
     ensures { result ≡ is_numeral digits.now }
 {
     match digits {

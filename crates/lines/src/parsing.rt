@@ -31,7 +31,7 @@ fn is_quiet(line: &[u8]) -> bool
 
 /// Whether every byte of a line may be printed. It looks at all of them, so that several are taken
 /// at once.
-fn is_printable(line: &[u8]) -> bool
+pub(crate) fn is_printable(line: &[u8]) -> bool
     ensures { result ≡ list_all is_printable line.now }
 {
     let mut is_printable = true;

@@ -3,7 +3,7 @@
 //! | Calls | What they give |
 //! |---|---|
 //! | [`tree_text`], [`add_tree_text`], [`read_tree_text`] | the tree text of a tree, and the tree of a tree text |
-//! | [`decode_digits`] | the bytes of digits of base 16, many at a time |
+//! | [`add_digits`], [`decode_digits`] | bytes in base 16, and the bytes of such digits, many at a time |
 #![tactic(auto)]
 
 mod digits;
@@ -15,4 +15,4 @@ mod writer;
 pub use digits::decode_digits;
 pub use law::texts_differ;
 pub use reader::read_tree_text;
-pub use writer::{add_tree_text, tree_text};
+pub use writer::{add_digits, add_tree_text, tree_text};

@@ -68,7 +68,7 @@ fn write_entries(text: &mut Vec<u8>, entries: &[(Vec<u8>, Arc<Node>)]) -> Result
     let mut first = true;
     for entry in entries {
         text.extend_from_slice(separator_before(first))?;
-        write_digits(text, &entry.0)?;
+        add_digits(text, &entry.0)?;
         text.extend_from_slice(b"=")?;
         write_node(text, &entry.1)?;
         first = false;
@@ -80,14 +80,14 @@ fn write_file(text: &mut Vec<u8>, executable: bool, bytes: &[u8]) -> Result<(), 
     ensures { OnOk result (text.new.items ≡ text.old.items ++ tree_text_of (File executable bytes.now)) }
 {
     text.extend_from_slice(file_mark(executable))?;
-    write_digits(text, bytes)
+    add_digits(text, bytes)
 }
 
 fn write_link(text: &mut Vec<u8>, target: &[u8]) -> Result<(), AllocError>
     ensures { OnOk result (text.new.items ≡ text.old.items ++ tree_text_of (Link target.now)) }
 {
     text.extend_from_slice(b"l:")?;
-    write_digits(text, target)
+    add_digits(text, target)
 }
 
 // What stands before the bytes of a file.
@@ -104,8 +104,8 @@ pub(crate) fn separator_before(first: bool) -> &'static [u8]
     if first { b"" } else { b"," }
 }
 
-// Bytes in lower-case base 16.
-fn write_digits(text: &mut Vec<u8>, bytes: &[u8]) -> Result<(), AllocError>
+/// Adds bytes in lower-case base 16, two digits a byte. Memory is taken once. The error is want of memory.
+pub fn add_digits(text: &mut Vec<u8>, bytes: &[u8]) -> Result<(), AllocError>
     ensures { OnOk result (text.new.items ≡ text.old.items ++ encode_lower bytes.now) }
 {
     let start = text.len();

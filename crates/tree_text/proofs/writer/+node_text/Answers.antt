@@ -19,5 +19,5 @@ write_entries-loop-entry-preserved t c =
     let i = c.loop-entry.entry-index in
     let below : i < length xs = omega arith in
     item_written xs i c.entry-item.result c.loop-entry.first _ _ _ _ _ _ _ _ _ below c.entry-item.is c.deref.ensures.value c.deref-in-loop-entry.ensures
-    c.separator_before.ensures c.in_ok-extend_from_slice.ensures.items c.in_ok-write_digits.ensures
+    c.separator_before.ensures c.in_ok-extend_from_slice.ensures.items c.in_ok-add_digits.ensures
     c.in_ok-extend_from_slice-2.ensures.items c.in_ok-write_node.ensures c.loop-entry.invariant
