@@ -73,7 +73,7 @@ def what_is_started(cases):
 
 def as_without(cases):
     """Through a launcher a builder has what it has without, its own name and its status among that."""
-    given = "echo \"$0|$#|$1\"; env | sort; cat; ls /proc/$$/fd; cat /proc/$$/cmdline | tr '\\0' '|'"
+    given = "echo \"$0|$#|$1\"; env | grep -v ^PWD= | sort; cat; ls /proc/$$/fd; cat /proc/$$/cmdline | tr '\\0' '|'"
     script = f"({given}) >given 2>&1; cp \"$INPUTS\" inputs; exec builders/nb text hi"
     lines, replies = one(shell("a", script, "two words\n", environment=[("WORD", 'a="b"\n')]), done("a", b"hi"))
     came = []
