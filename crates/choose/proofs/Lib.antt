@@ -7,3 +7,4 @@ pub mod PlanLemmas
 pub mod LabelLemmas
 pub mod DeskLemmas
 pub mod LabelledLemmas
+mod RealisedLemmas

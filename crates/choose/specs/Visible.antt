@@ -1,6 +1,7 @@
 -- What is visible on desks, with the trees of the one table.
 use Rattle.std.specs.Prelude.{◌≡◌, ℕ, Bool, true, false, List, ◌++◌, map, filter, flat_map, bytes_eq, is_some, All, Contains, Option, Some, None, Result}
 use Rattle.std.specs.Borrow.{Bor}
+use Rattle.std.specs.List.{list_any}
 use Rattle.std.specs.Option.{option_or}
 use Rattle.model.specs.declared.refusal.Refusal.{Refusal}
 use Rattle.model.specs.Archives.{bytes_before}
@@ -10,6 +11,7 @@ use Rattle.model.specs.Orders.{first_by, list_before, least}
 use Rattle.model.specs.Choices.{visible_records, visible_sources, label_before, choose_among, source_among, sources_below, Plan, plan_by}
 use Rattle.records.specs.Recorded.{Recorded}
 use Rattle.records.specs.Trees.{source_at, record_at}
+use Rattle.desk_records.specs.RecordLists.{is_record_of}
 use Rattle.realise.specs.Holdings.{Holdings, IsClosed, paths_of, records_of}
 
 -- ---- what is visible
@@ -82,6 +84,10 @@ abbrev pub is_source_on : List ℕ → Holdings → Bool
 is_source_on path d = is_one_of d.known.sources path
 
 -- ---- records, whose trees are not looked at
+
+-- a record of a class is on a desk
+abbrev pub is_realised_on : List ℕ → Holdings → Bool
+is_realised_on class d = list_any (is_record_of class) d.records
 
 -- by path, then by labels
 abbrev pub recorded_before : Recorded → Recorded → Bool

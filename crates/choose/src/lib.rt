@@ -8,6 +8,6 @@ mod order;
 mod planning;
 mod view;
 
-pub use planning::plan;
+pub use planning::{first_lacking, plan};
 pub use records::{Closure, Entry, Plan, Realisation, Source};
 pub use view::View;

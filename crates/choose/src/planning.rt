@@ -2,10 +2,12 @@
 
 ghost use Rattle.std.specs.Prelude.{◌≡◌, ◌⊎◌, ◌+◌, ℕ, List, [], nat_lt, length, Option, is_none, true, false, IfOk, MatchResult, Ok, Err};
 ghost use Rattle.std.specs.List.{list_any};
+ghost use Rattle.std.specs.Option.{option_copied};
 ghost use Rattle.std.specs.List.Sorted.{IsPermutation, IsSortedBy};
 ghost use Rattle.model.specs.Limits.{most_entries};
 ghost use Rattle.model.specs.Worlds.{Record as RecordValue, Desk as DeskValue};
 ghost use Rattle.model.specs.Choices.{rank_before, source_before, closure_plan};
+ghost use Rattle.model.specs.Outlooks.{first_lacking};
 ghost use Rattle.model.specs.declared.refusal.Refusal.TheVariants.{Memory, NotRealised, ClosureTooLarge};
 ghost use Rattle.choose.specs.Visible.{visible_on, choose_in, SeesSourcesOf, SeesSourcesIn, LabelsAreVisible};
 ghost use Rattle.choose.specs.Gathering.{IsChoiceAmong, IsGathered, HasClasses, IsTooMuch};
@@ -141,4 +143,11 @@ pub fn plan(
     let records = sort_records(found_records)?;
     let sources = sort_sources(found_sources)?;
     Ok(Plan::new(records, sources))
+}
+
+/// The first of some classes of which no record is seen. It takes no memory.
+pub fn first_lacking<'a>(view: &View, classes: &'a [StorePath]) -> Option<&'a StorePath>
+    ensures { option_copied result ≡ first_lacking view.now.records classes.now }
+{
+    classes.iter().find(|class| !view.is_realised(class))
 }

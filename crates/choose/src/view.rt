@@ -5,7 +5,8 @@ ghost use Rattle.std.specs.List.{list_any};
 ghost use Rattle.model.specs.declared.refusal.Refusal.TheVariants.{Memory};
 ghost use Rattle.model.specs.Worlds.{tree_at};
 ghost use Rattle.realise.specs.Holdings.{IsClosed};
-ghost use Rattle.choose.specs.Visible.{seen, desks_of, IsStored, AreStored, is_source_on, source_in};
+ghost use Rattle.model.specs.Outlooks.{is_realised};
+ghost use Rattle.choose.specs.Visible.{seen, desks_of, IsStored, AreStored, is_source_on, source_in, is_realised_on};
 
 use model::Refusal;
 use nar::Tree;
@@ -52,6 +53,13 @@ impl<'a> View<'a> {
         View { table, desks }
     }
 
+    /// Whether a record of a class is on one of the desks.
+    pub(crate) fn is_realised(&self, class: &StorePath) -> bool
+        ensures { result ≡ is_realised self.now.records class.now }
+    {
+        is_realised(&self.desks, class)
+    }
+
     /// The source at a path, if it is on one of the desks. The one error is memory.
     pub(crate) fn source(&self, path: &StorePath) -> Result<Option<Source>, Refusal>
         ensures { MatchResult result
@@ -83,6 +91,18 @@ fn is_source(desks: &[&Desk], path: &StorePath) -> bool
 {
     for desk in desks {
         if desk.known().has_source(path) {
+            return true;
+        }
+    }
+    false
+}
+
+// Whether a record of a class is on one of the desks.
+fn is_realised(desks: &[&Desk], class: &StorePath) -> bool
+    ensures { result ≡ list_any (is_realised_on class.now) (desks_of desks.now) }
+{
+    for desk in desks {
+        if desk.records_of(class).len() > 0 {
             return true;
         }
     }

@@ -66,7 +66,7 @@ fn plan_to_build(
 }
 
 /// The classes of a derivation's inputs, as the user at a place knows them. The one error is memory.
-fn classes_for(
+pub(crate) fn classes_for(
     alloc: Global,
     state: &State,
     place: usize,

@@ -9,3 +9,4 @@ pub mod Leading
 pub mod RunningCodes
 pub mod Asking
 pub mod Shared
+pub mod Outlooks

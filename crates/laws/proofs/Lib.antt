@@ -34,6 +34,7 @@ pub mod AllReachedLemmas
 pub mod MapLemmas
 pub mod LabelLemmas
 pub mod ClosureLemmas
+pub mod OutlookLemmas
 pub mod FinishedLemmas
 pub mod WholeLemmas
 pub mod PrivateLemmas

@@ -6,6 +6,7 @@
 mod closures;
 mod events;
 mod hashing;
+mod outlooks;
 mod reach;
 mod settling;
 mod talk;
@@ -18,6 +19,7 @@ pub use events::{
     trust_follows,
 };
 pub use hashing::{each_new_value_is_named, each_text_names_a_value, other_refusals_hash_nothing};
+pub use outlooks::outlooks_foretell_plans;
 pub use reach::reach_is_least;
 pub use settling::{putting_is_by_map, settling_is_by_set};
 pub use talk::service_never_waits;

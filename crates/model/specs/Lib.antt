@@ -46,6 +46,7 @@ pub mod Timed
 pub mod HashedTexts
 pub mod HashedValues
 pub mod RunningJobs
+pub mod Outlooks
 pub mod GivenClosures
 pub mod KeptClosures
 pub mod Private

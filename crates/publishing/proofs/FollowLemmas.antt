@@ -1,13 +1,17 @@
 -- A core follows the rows of a history.
-use Rattle.std.proofs.Common.{◌≡◌, ℕ, false, List, [], ◌∷◌, ◌++◌, refl, ap, ◌∙◌, subst, Result, Ok, Err}
-use Rattle.std.specs.Prelude.{All, Contains, IfOk}
+use Rattle.std.proofs.Common.{◌≡◌, ℕ, Bool, true, false, List, [], ◌∷◌, ◌++◌, refl, sym, ap, ◌∙◌, subst, inl, inr, Option, None, Some, Result, Ok, Err}
+use Rattle.std.specs.Prelude.{All, Contains, IfOk, IfErr, if◌then◌else◌}
 use Rattle.model.specs.declared.refusal.Refusal.{Refusal}
+use Rattle.model.specs.declared.refusal.Refusal.TheVariants.{UnknownUser, UnknownGoal}
 use Rattle.std.proofs.lemmas.List.Elements.{All-push, All-contains_itself}
 use Rattle.model.specs.Paths.{NoClash}
-use Rattle.model.specs.Worlds.{Setup, World, nothing}
+use Rattle.model.specs.Worlds.{Setup, is_user, World, Goal, nothing}
+use Rattle.model.specs.Results.{then_do, ok_or}
+use Rattle.model.specs.Goals.{goal_at}
+use Rattle.model.specs.Outlooks as model
 use Rattle.model.specs.Events as events
 use Rattle.model.specs.Replies as replies
-use Rattle.model.specs.Outcomes.{observation_of}
+use Rattle.model.specs.Outcomes.{Observation, observation_of}
 use Rattle.model.specs.Steps.{world_after, after, reply_to}
 use Rattle.model.specs.Replies.{is_memory}
 use Rattle.model.specs.HashedTexts.{hashed, texts_of_event}
@@ -29,7 +33,9 @@ use Rattle.schedule.specs.declared.preparing.PrepareInput.{PrepareInput}
 use Rattle.schedule.specs.Preparing.{HasAdmissionFor, HasOutcome, HasRepairedAll, IsPrepared, IsMade}
 use Rattle.schedule.specs.declared.read_result.ReadResult.{ReadResult}
 use Rattle.schedule.specs.ReadResults.{IsServedFrom}
-use Rattle.publishing.specs.Following.{HasReached, Follows, IsModelRead, FindsRead, IsPreparedAfter, IsNeedAfter}
+use Rattle.jobs.specs.declared.outlook.Outlook.{Outlook}
+use Rattle.jobs.specs.Outlooks.{TellsOutlook}
+use Rattle.publishing.specs.Following.{HasReached, Follows, IsModelRead, FindsRead, IsPreparedAfter, IsNeedAfter, IsNoOutlook, IsOutlookAfter}
 
 -- the step, where no two texts clash
 record Goes (setup : Setup) (rows : List Row) (e : events.Event) (given : replies.Reply) (new : Core) (texts : List (List ℕ)) : Type 0 where
@@ -110,3 +116,33 @@ pub needs : (core : Core) (rows : List Row) (e : events.Event) (result : Result 
     → IfOk result (λ need. (ready : Ready) → IsMade need e.request ready → IsPrepared core e ready) → IfOk result (IsNeedAfter (setup_of core) rows e)
 needs core rows e (Ok need) f made = λ ready is. prepares core rows e ready f (made ready is)
 needs core rows e (Err why) f made = tt
+
+-- ---- how goals may go on
+
+no_goal : (s : Observation) (found : Option Goal) (why : Refusal) → then_do (ok_or UnknownGoal found) (λ g. Ok (model.outlook_of s g)) ≡ Err why → why ≡ UnknownGoal
+no_goal s None why e = cc
+no_goal s (Some g) why e = cc
+
+no_user : (s : Observation) (n : ℕ) (b : Bool) (why : Refusal) → (if b then model.outlook s n else Err UnknownUser) ≡ Err why → IsNoOutlook why
+no_user s n true why e = inr (inl (no_goal s (goal_at n s.desk.goals) why e))
+no_user s n false why e = inl (let same : UnknownUser ≡ why = cc in sym same)
+
+refused_for : (setup : Setup) (w : World) (u : List ℕ) (n : ℕ) (told : Result Outlook Refusal) → TellsOutlook setup.users (model.outlook_for setup w u n) told
+    → IfErr told IsNoOutlook
+refused_for setup w u n (Ok o) is = tt
+refused_for setup w u n (Err why) is = elim is.value [
+  | inl memory ↦ inr (inr memory)
+  | inr refused ↦ no_user (observation_of setup w u) n (is_user setup u) why refused
+]
+
+-- what it tells is so after the rows
+pub outlook_told : (core : Core) (rows : List Row) (user : List ℕ) (number : ℕ) (told : Result Outlook Refusal) → Follows (setup_of core) core rows
+    → TellsOutlook (setup_of core).users (model.outlook_for (setup_of core) (world_of core) user number) told
+    → IsOutlookAfter (setup_of core) rows user number told
+outlook_told core rows user number told f is = record {
+  same = λ clean.
+      let texts : List (List ℕ) = hashed (setup_of core) nothing (events_of rows) in
+      subst (λ (w : World). TellsOutlook (setup_of core).users (model.outlook_for (setup_of core) w user number) told)
+      (f.reached texts clean (All-contains_itself texts)).world is;
+  errors = refused_for (setup_of core) (world_of core) user number told is;
+}

@@ -1,6 +1,7 @@
 -- A core that has taken the events of rows.
-use Rattle.std.specs.Prelude.{◌≡◌, ◌≢◌, ℕ, true, false, List, All, Contains}
-use Rattle.model.specs.declared.refusal.Refusal.TheVariants.{Stopped}
+use Rattle.std.specs.Prelude.{◌≡◌, ◌≢◌, ◌⊎◌, ℕ, true, false, List, All, Contains, Result, IfErr}
+use Rattle.model.specs.declared.refusal.Refusal.{Refusal}
+use Rattle.model.specs.declared.refusal.Refusal.TheVariants.{UnknownUser, UnknownGoal, Memory, Stopped}
 use Rattle.model.specs.Events as events
 use Rattle.model.specs.Paths.{NoClash}
 use Rattle.model.specs.Reach.{is_among}
@@ -8,6 +9,9 @@ use Rattle.model.specs.Worlds.{Setup, nothing}
 use Rattle.model.specs.Outcomes.{observation_of}
 use Rattle.model.specs.Steps.{world_after}
 use Rattle.model.specs.HashedTexts.{hashed}
+use Rattle.model.specs.Outlooks.{outlook_for}
+use Rattle.jobs.specs.declared.outlook.Outlook.{Outlook}
+use Rattle.jobs.specs.Outlooks.{TellsOutlook}
 use Rattle.model.specs.WellFormed.{IsWellFormed, AreWellFormed}
 use Rattle.schedule.specs.declared.state.Core.{Core}
 use Rattle.schedule.specs.Standing.{world_of, HasHashed}
@@ -58,3 +62,14 @@ pub record IsPreparedAfter (setup : Setup) (rows : List Row) (e : events.Event) 
 -- whatever is made of what an event is prepared from are the values that an event needs after these rows
 abbrev pub IsNeedAfter : Setup → List Row → events.Event → PrepareInput → Type 0
 IsNeedAfter setup rows e need = (ready : Ready) → IsMade need e.request ready → IsPreparedAfter setup rows e ready
+
+-- why it is not told how a goal may go on: its user is not of the run, he has no such goal, or memory was refused
+abbrev pub IsNoOutlook : Refusal → Type 0
+IsNoOutlook why = (why ≡ UnknownUser) ⊎ ((why ≡ UnknownGoal) ⊎ (why ≡ Memory))
+
+-- it is told how a user's goal of a number may go on after these rows: where no two texts that their events hash have one folded digest, as he
+-- sees it in the world that they reach
+pub record IsOutlookAfter (setup : Setup) (rows : List Row) (user : List ℕ) (number : ℕ) (told : Result Outlook Refusal) : Type 0 where
+  pub same : NoClash (hashed setup nothing (events_of rows))
+      → TellsOutlook setup.users (outlook_for setup (world_after setup nothing (events_of rows)) user number) told
+  pub errors : IfErr told IsNoOutlook

@@ -5,7 +5,7 @@ ghost use Rattle.left_right.specs.Sides.{view};
 ghost use Rattle.schedule.specs.Queries.{event_for};
 ghost use Rattle.history.specs.Histories.{IsLegal};
 ghost use Rattle.events.specs.Terms.{event_of};
-ghost use Rattle.publishing.specs.ReadResults.{IsFoundAfter, IsFoundNeeded};
+ghost use Rattle.publishing.specs.ReadResults.{IsFoundAfter, IsFoundNeeded, IsFoundOutlook};
 ghost use Rattle.publishing.specs.FrontNames.{book_in, setup_in};
 ghost use Rattle.crossbeam_utils.specs.Register.{TurnsAt};
 ghost use Rattle.publishing.specs.declared.law.Shown.{Shown};
@@ -16,7 +16,7 @@ use crate::snapshot::{Operation, Snapshot};
 use core::mem::replace_with;
 use history::HistoryPrefix;
 use model::Refusal;
-use schedule::{Preparation, PrepareInput, Query, ReadResult};
+use schedule::{Outlook, Preparation, PrepareInput, Query, ReadResult, User};
 use std::alloc::AllocError;
 use std::sync::Wait;
 
@@ -113,6 +113,45 @@ pub fn need(
         (view reader.old.place).name (event_of preparation.entry.event.now) t.0 t.1) }
 {
     replace_with(reader, preparation, enter_and_need)
+}
+
+/// Enters the snapshot that is published, and finds how a goal, of this user and this number, may go on there.
+fn enter_and_find(
+    reader: SnapshotReader,
+    goal: (&User, u16),
+) -> (
+    SnapshotReader,
+    Option<(Result<Outlook, Refusal>, HistoryPrefix)>,
+)
+    requires { (view reader.place).knows ≡ true }
+    ensures view { view result.0.place ≡ view reader.place }
+    ensures found { IfSome result.1 (λ t. IsFoundOutlook
+        (view reader.place).name goal.entry.0.now goal.entry.1 t.0 t.1) }
+{
+    match reader.enter_as::<Looks>() {
+        Ok(reading) => {
+            let snapshot = reading.get();
+            let found = snapshot.outlook(goal.0, goal.1);
+            let rows = snapshot.seen();
+            (reading.leave(), Some((found, rows)))
+        }
+        Err(reader) => (reader, None),
+    }
+}
+
+/// How a user's goal of a number may go on after the rows that are published, with these rows, which are a legal
+/// history. It waits for nobody. There is no answer where the writer is gone.
+pub fn outlook(
+    reader: &mut SnapshotReader,
+    user: &User,
+    number: u16,
+) -> Option<(Result<Outlook, Refusal>, HistoryPrefix)>
+    requires { (view reader.old.place).knows ≡ true }
+    ensures view { view reader.new.place ≡ view reader.old.place }
+    ensures found { IfSome result (λ t. IsFoundOutlook
+        (view reader.old.place).name user.now number t.0 t.1) }
+{
+    replace_with(reader, (user, number), enter_and_find)
 }
 
 /// Publishes what is pending, and says whether it did. Else it stays pending.

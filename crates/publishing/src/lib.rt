@@ -2,7 +2,7 @@
 //!
 //! A [`Snapshot`] is a core that has taken the events of all rows up to a moment, with these rows. Its
 //! writer, a [`Publisher`], publishes one after another; a reader looks at what is published ([`look`],
-//! [`need`]) and waits for nobody.
+//! [`need`], [`outlook`]) and waits for nobody.
 #![tactic(auto)]
 
 mod ends;
@@ -10,7 +10,7 @@ mod law;
 mod publisher;
 mod snapshot;
 
-pub use ends::{begin, look, need, published_rows, reader_of};
+pub use ends::{begin, look, need, outlook, published_rows, reader_of};
 pub use law::{
     End, FrontName, KnownName, Looks, PublishedRule, Shown, SnapshotReader, SnapshotWriter, Tells,
 };

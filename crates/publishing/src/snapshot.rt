@@ -6,7 +6,7 @@ ghost use Rattle.schedule.specs.Standing.{setup_of};
 ghost use Rattle.schedule.specs.Queries.{event_for};
 ghost use Rattle.events.specs.Terms.{event_of};
 ghost use Rattle.model.specs.declared.refusal.Refusal.TheVariants.{Memory};
-ghost use Rattle.publishing.specs.Following.{Follows, FindsRead, IsNeedAfter};
+ghost use Rattle.publishing.specs.Following.{Follows, FindsRead, IsNeedAfter, IsOutlookAfter};
 ghost use Rattle.publishing.specs.FrontNames.{setup_in};
 ghost use Rattle.publishing.specs.Showing.{showing};
 
@@ -15,7 +15,7 @@ use closure_laws::closures_are_good;
 use history::HistoryPrefix;
 use left_right::Absorb;
 use model::Refusal;
-use schedule::{Core, Preparation, PrepareInput, Query, ReadResult};
+use schedule::{Core, Outlook, Preparation, PrepareInput, Query, ReadResult, User};
 use std::alloc::{AllocError, Global};
 use std::marker::Model;
 use std::sync::Arc;
@@ -148,6 +148,13 @@ impl Snapshot {
         ensures memory { IfErr result (λ why. why ≡ Memory) }
     {
         self.core.need(self.alloc, preparation)
+    }
+
+    /// How a user's goal of a number may go on after the rows.
+    pub fn outlook(&self, user: &User, number: u16) -> Result<Outlook, Refusal>
+        ensures { IsOutlookAfter (setup_in self.now.name) self.now.seen user.now number result }
+    {
+        self.core.outlook(self.alloc, user, number)
     }
 
     /// The rows of the history that were published with it.

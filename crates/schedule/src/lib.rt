@@ -19,7 +19,7 @@ mod sweeping;
 mod work;
 
 pub use events::{CopiedReply, Event, Output, Reply, Request, strike, strike_timed};
-pub use jobs::RunningJob;
+pub use jobs::{Next, Outlook, RunningJob};
 pub use model::LARGEST_CHARGE;
 pub use preparation::Preparation;
 pub use preparing::PrepareInput;

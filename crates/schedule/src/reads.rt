@@ -7,7 +7,9 @@ ghost use Rattle.handlers.specs.States.{HasPlace, Handles};
 ghost use Rattle.events.specs.Terms.{request_of, event_of, reply_of};
 ghost use Rattle.events.specs.declared.reply.Reply.{Reply as ReplyValue};
 ghost use Rattle.handlers.specs.Serving.{MayServe};
-ghost use Rattle.schedule.specs.Standing.{parts_of};
+ghost use Rattle.model.specs.Outlooks.{outlook_for};
+ghost use Rattle.jobs.specs.Outlooks.{TellsOutlook};
+ghost use Rattle.schedule.specs.Standing.{parts_of, setup_of, world_of};
 ghost use Rattle.schedule.specs.Queries.{request_in, event_for};
 ghost use Rattle.schedule.specs.ReadResults.{MayGive, IsServedFrom};
 ghost use Rattle.schedule.specs.Stepping.{IsCoreStep};
@@ -16,13 +18,15 @@ use crate::query::{Query, Question};
 use crate::read_result::ReadResult;
 use crate::state::Core;
 use events::{CopiedReply, Reply};
-use goals::status;
+use goals::{outlook, status};
 use handlers::{State, fetch, plan_for};
+use jobs::Outlook;
 use laws::never_fails;
 use model::Refusal;
 use records::Plan;
 use rewrite::one_tree_at_a_path;
 use std::alloc::Global;
+use trust::User;
 
 /// What is found where a reply is made.
 fn told(reply: Result<CopiedReply, Refusal>) -> Result<ReadResult, Refusal>
@@ -81,5 +85,24 @@ impl Core {
             Ok(read_result) => read_result,
             Err(refusal) => ReadResult::Told(Reply::Refused(refusal)),
         }
+    }
+
+    /// How a user's goal of a number may go on, as he sees it. The core stays as it is.
+    ///
+    /// # Errors
+    ///
+    /// All but the last are told whether there is memory or not.
+    ///
+    /// - `UnknownUser` exactly where the user is none of the run.
+    /// - `UnknownGoal` exactly where he is, and has no goal of that number.
+    /// - `Memory` only where memory was refused.
+    pub fn outlook(&self, alloc: Global, user: &User, number: u16) -> Result<Outlook, Refusal>
+        ensures { TellsOutlook (setup_of self.now).users
+            (outlook_for (setup_of self.now) (world_of self.now) user.now number) result }
+    {
+        let Some(place) = self.state.users.place_of(user) else {
+            return Err(Refusal::UnknownUser);
+        };
+        outlook(alloc, &self.state, place, number)
     }
 }
