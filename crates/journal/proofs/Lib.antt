@@ -1,0 +1,14 @@
+mod CutLemmas
+mod RowLemmas
+mod Crash
+mod Kept
+mod Torn
+mod PieceLemmas
+mod LineLemmas
+mod ReadingLemmas
+mod Moments
+mod Repair
+mod FormatLemmas
+mod Groups
+mod SealLemmas
+mod HistoryLemmas

@@ -1,0 +1,11 @@
+pub mod LogFile
+pub mod Rows
+pub mod RowFiles
+pub mod Windows
+pub mod Pieces
+pub mod Seals
+pub mod TextDigests
+pub mod Journals
+pub mod Openings
+pub mod Past
+pub mod Memory
