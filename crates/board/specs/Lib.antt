@@ -1,0 +1,13 @@
+pub mod Permits
+pub mod Lanes
+pub mod Ready
+pub mod Stages
+pub mod Rows
+pub mod Tables
+pub mod Waking
+pub mod Boards
+pub mod Chains
+pub mod Parts
+pub mod States
+pub mod Names
+pub mod Named
