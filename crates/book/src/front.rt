@@ -302,24 +302,17 @@ impl<J: FrontId> Front<J> {
         pass.request(rt, &mut *self.book.lock(rt), user, number)
     }
 
-    /// Takes the lock and adds no row. Then each pass has seen all rows that the other is sure of, and both
-    /// know whether the front is stopped, which is told. Nothing else of what they know of their calls
-    /// changes.
-    pub fn meet<R: Wait>(&self, rt: &R, first: &mut Pass<J>, second: &mut Pass<J>) -> bool
-        ensures told { result ≡ first.new.caller.stopped }
-        ensures first { first.new.caller ≡ knowing first.new.caller.stopped first.old.caller }
-        ensures second { second.new.caller ≡ knowing first.new.caller.stopped second.old.caller }
-        ensures first_remains { first.old.caller.stopped ≡ true → first.new.caller.stopped ≡ true }
-        ensures second_remains { second.old.caller.stopped ≡ true → first.new.caller.stopped ≡ true }
-        ensures first_seen { IsPrefix first.old.seen first.new.seen }
-        ensures second_seen { IsPrefix second.old.seen second.new.seen }
-        ensures met { IsPrefix second.old.caller.sure first.new.seen }
-        ensures met_by { IsPrefix first.old.caller.sure second.new.seen }
-        ensures stops { (first.new.stops ≡ first.old.stops) × (second.new.stops ≡ second.old.stops) }
+    /// Takes the lock and adds no row. Then the pass has seen all rows that were published, and knows whether the
+    /// front is stopped, which is told. Nothing else of what it knows of its calls changes.
+    pub fn show<R: Wait>(&self, rt: &R, pass: &mut Pass<J>) -> bool
+        ensures told { result ≡ pass.new.caller.stopped }
+        ensures caller { pass.new.caller ≡ knowing pass.new.caller.stopped pass.old.caller }
+        ensures remains { pass.old.caller.stopped ≡ true → pass.new.caller.stopped ≡ true }
+        ensures seen { IsPrefix pass.old.seen pass.new.seen }
+        ensures stops { pass.new.stops ≡ pass.old.stops }
     {
         let mut book = self.book.lock(rt);
-        first.show(&mut *book);
-        second.show(&mut *book);
+        pass.show(&mut *book);
         book.is_stopped()
     }
 

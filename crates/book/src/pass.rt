@@ -7,9 +7,9 @@ ghost use Rattle.model.specs.declared.refusal.Refusal.TheVariants.{Memory, Stopp
 ghost use Rattle.events.specs.declared.reply.Reply.TheVariants.{Refused};
 ghost use Rattle.schedule.specs.Queries.{event_for};
 ghost use Rattle.history.specs.Callers.{knowing, rows_of, seeing};
-ghost use Rattle.history.specs.Histories.{row, unrecorded, IsReadAfter};
+ghost use Rattle.history.specs.Histories.{row, unrecorded, IsLegal, IsReadAfter};
 ghost use Rattle.events.specs.Terms.{event_of};
-ghost use Rattle.publishing.specs.Following.{IsNeedAfter, IsPreparedAfter};
+ghost use Rattle.publishing.specs.Following.{IsNeedAfter, IsPreparedAfter, IsOutlookAfter, IsNoOutlook};
 ghost use Rattle.publishing.specs.FrontNames.{name_of};
 ghost use Rattle.publishing.specs.Tied.{knower};
 ghost use Rattle.book.specs.Applying.{IsApplied, HasCalled};
@@ -21,9 +21,10 @@ use crate::last_closure::{LastClosure, closure_query};
 use history::{FrontId, HistoryPrefix, is_unrecorded};
 use laws::{isolation, kept_closures_are_good, timed_isolation};
 use model::Refusal;
-use publishing::{SnapshotReader, insist, look, need, published_rows};
+use publishing::{SnapshotReader, insist, look, need, outlook, published_rows};
 use schedule::{
-    Cache, Event, Preparation, PrepareInput, Query, ReadResult, Ready, Reply, RunningJob, User,
+    Cache, Event, Outlook, Preparation, PrepareInput, Query, ReadResult, Ready, Reply, RunningJob,
+    User,
 };
 use std::alloc::Global;
 use std::marker::Model;
@@ -253,6 +254,32 @@ impl<J: FrontId> Pass<J> {
         };
         if self.see(rows) {
             needed
+        } else {
+            Err(Refusal::Memory)
+        }
+    }
+
+    /// How a user's goal of a number may go on, as he sees it after rows that are published. They are a legal history,
+    /// begin with all that the pass had seen, and are what it has seen then. It takes no lock, waits for nobody, and
+    /// makes no row.
+    ///
+    /// # Errors
+    ///
+    /// - `UnknownUser` where the user is none of the run, and `UnknownGoal` where he has no goal of that number.
+    /// - `Memory` only where memory was refused.
+    pub fn outlook(&mut self, user: &User, number: u16) -> Result<Outlook, Refusal>
+        ensures told { result ≢ Err Memory
+            → IsOutlookAfter J.setup self.new.seen user.now number result }
+        ensures legal { result ≢ Err Memory → IsLegal J.setup self.new.seen }
+        ensures seen { IsPrefix self.old.seen self.new.seen }
+        ensures same { self.new ≡ seeing self.old self.new.seen }
+        ensures errors { IfErr result IsNoOutlook }
+    {
+        let Some((found, rows)) = outlook(&mut self.reader, user, number) else {
+            return Err(Refusal::Memory);
+        };
+        if self.see(rows) {
+            found
         } else {
             Err(Refusal::Memory)
         }

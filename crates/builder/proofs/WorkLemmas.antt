@@ -13,9 +13,10 @@ use Rattle.builder.specs.declared.ticket.Ticket.TheVariants.{Goal, Stop}
 use Rattle.builder.specs.declared.queue.QueueEnd.{QueueEnd}
 use Rattle.builder.specs.declared.runner.RunFault.{RunFault}
 use Rattle.builder.specs.declared.worker.Worker.{Worker}
+use Rattle.builder.specs.declared.met.Met.{Met}
 use Rattle.builder.specs.Queue.{consumer, Takes}
 use Rattle.builder.specs.Tickets.{has_stop, StopsLast}
-use Rattle.builder.specs.Working.{Call, asking, is_planned, leads_own, met_by, Ends, Asks, GoesOn, Starts, WorksOn, Deals, Works}
+use Rattle.builder.specs.Working.{Call, asking, is_planned, leads_own, met_by, Ends, Asks, GoesOn, Starts, WorksOn, met_with, DealsWhere, Deals, Works}
 
 -- one call ends it
 pub ends_one : {S : Type 0} (called : S → Event → Reply → S → Type 0) (user : List ℕ) (e : Option Request) (actor : List ℕ) (request : Request) (reply : Reply) (s s' : S) (met : Option Refusal)
@@ -68,8 +69,20 @@ module _ {S Q : Type 0} (called : S → Event → Reply → S → Type 0) (asked
       (ap (λ (u : List ℕ). asking u (Plan number)) own, t, call, goes_no_more (is_planned reply) (Starts called asked gives user number) (met_by reply) t q met is m)
 
 module _ {S Q : Type 0} (called : S → Event → Reply → S → Type 0) (asked : S → List ℕ → ℕ → Result Running Refusal → S → Type 0) (gives : Q → Running → Result (List ℕ) RunFault → Q → Type 0) where
+  -- a ticket that the worker, who has not met 92, worked on
+  pub dealt : (b : Bool) (user : List ℕ) (number : ℕ) (met : Met) (calls : List Call) (w : Worker S Q) (why : Option Refusal) (met' : Met) (w' : Worker S Q)
+      → b ≡ false → WorksOn called asked gives user number calls w.store w.runner why w'.store w'.runner → met' ≡ met_with met why
+      → DealsWhere called asked gives b user number met calls w met' w'
+  dealt true user number met calls w why met' w' is works m = absurd (true≢false is)
+  dealt false user number met calls w why met' w' is works m = (why, works, m)
+
+  -- a ticket that one who has met 92 leaves
+  pub left_over : (b : Bool) (user : List ℕ) (number : ℕ) (met : Met) (w : Worker S Q) → b ≡ true → DealsWhere called asked gives b user number met [] w met w
+  left_over true user number met w is = (refl, refl, refl)
+  left_over false user number met w is = absurd (true≢false (sym is))
+
   -- one ticket more
-  pub works_push : (ts : List Ticket) (t : Ticket) (met : Option Refusal) (calls more : List Call) (w : Worker S Q) (met' : Option Refusal) (w' : Worker S Q) (met'' : Option Refusal) (w'' : Worker S Q)
+  pub works_push : (ts : List Ticket) (t : Ticket) (met : Met) (calls more : List Call) (w : Worker S Q) (met' : Met) (w' : Worker S Q) (met'' : Met) (w'' : Worker S Q)
       → Works called asked gives ts met calls w met' w' → Deals called asked gives t met' more w' met'' w''
       → Works called asked gives (ts ++ t ∷ []) met (calls ++ more) w met'' w''
   works_push [] t met calls more w met' w' met'' w'' none deals = (
@@ -78,7 +91,7 @@ module _ {S Q : Type 0} (called : S → Event → Reply → S → Type 0) (asked
     w'',
     met'',
     ap (λ (l : List Call). l ++ more) none.0 ∙ sym (append-nil more),
-    subst (λ (x : Worker S Q × Option Refusal). Deals called asked gives t x.1 more x.0 met'' w'') (λ i. (none.1 i, none.2 i)) deals,
+    subst (λ (x : Worker S Q × Met). Deals called asked gives t x.1 more x.0 met'' w'') (λ i. (none.1 i, none.2 i)) deals,
     (refl, refl, refl),
   )
   works_push (u ∷ ts) t met calls more w met' w' met'' w'' works deals = (
@@ -92,7 +105,7 @@ module _ {S Q : Type 0} (called : S → Event → Reply → S → Type 0) (asked
   )
 
   -- a Stop changes nothing
-  pub works_stop : (ts : List Ticket) (met : Option Refusal) (calls : List Call) (w : Worker S Q) (met' : Option Refusal) (w' : Worker S Q)
+  pub works_stop : (ts : List Ticket) (met : Met) (calls : List Call) (w : Worker S Q) (met' : Met) (w' : Worker S Q)
       → Works called asked gives ts met calls w met' w' → Works called asked gives (ts ++ Stop ∷ []) met calls w met' w'
   works_stop ts met calls w met' w' works =
       subst (λ (l : List Call). Works called asked gives (ts ++ Stop ∷ []) met l w met' w') (append-nil calls)

@@ -3,6 +3,7 @@ pub mod Tickets
 pub mod Queue
 pub mod Working
 pub mod Rounds
+pub mod Sources
 pub mod Meaning
 pub mod Commands
 pub mod Launching

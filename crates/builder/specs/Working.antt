@@ -16,6 +16,7 @@ use Rattle.builder.specs.declared.ticket.Ticket.TheVariants.{Goal, Stop}
 use Rattle.builder.specs.declared.runner.RunFault.{RunFault}
 use Rattle.builder.specs.declared.runner.RunFault.TheVariants as fault
 use Rattle.builder.specs.declared.worker.Worker.{Worker}
+use Rattle.builder.specs.declared.met.Met.{Met}
 
 -- ---- calls
 
@@ -108,16 +109,30 @@ module _ {S Q : Type 0} (called : S → Event → Reply → S → Type 0) (asked
 
 -- ---- what is done for all tickets
 
-module _ {S Q : Type 0} (called : S → Event → Reply → S → Type 0) (asked : S → List ℕ → ℕ → Result Running Refusal → S → Type 0) (gives : Q → Running → Result (List ℕ) RunFault → Q → Type 0) where
-  -- a worker that has met nothing works on a ticket; one that has met 90 or 92 leaves it
-  abbrev pub Deals : Ticket → Option Refusal → List Call → Worker S Q → Option Refusal → Worker S Q → Type 0
-  Deals Stop met calls w met' w' = (calls ≡ []) × (w' ≡ w) × (met' ≡ met)
-  Deals (Goal user number) (Some why) calls w met' w' = (calls ≡ []) × (w' ≡ w) × (met' ≡ Some why)
-  Deals (Goal user number) None calls w met' w' = WorksOn called asked gives user number calls w.store w.runner met' w'.store w'.runner
+-- a worker that has just begun
+abbrev pub nothing_met : Met
+nothing_met = record { memory = false; stopped = false }
 
-  -- a worker that had met this, or nothing, takes these tickets, one after another
-  abbrev pub Works : List Ticket → Option Refusal → List Call → Worker S Q → Option Refusal → Worker S Q → Type 0
+-- with what it met for one ticket more
+abbrev pub met_with : Met → Option Refusal → Met
+met_with met (Some Memory) = record { memory = true; stopped = met.stopped }
+met_with met (Some Stopped) = record { memory = met.memory; stopped = true }
+met_with met why = met
+
+module _ {S Q : Type 0} (called : S → Event → Reply → S → Type 0) (asked : S → List ℕ → ℕ → Result Running Refusal → S → Type 0) (gives : Q → Running → Result (List ℕ) RunFault → Q → Type 0) where
+  -- a worker works on the ticket for a goal, also where it met 90 for another; where it has met 92 it leaves that
+  abbrev pub DealsWhere : Bool → List ℕ → ℕ → Met → List Call → Worker S Q → Met → Worker S Q → Type 0
+  DealsWhere true user number met calls w met' w' = (calls ≡ []) × (w' ≡ w) × (met' ≡ met)
+  DealsWhere false user number met calls w met' w' =
+      (why : Option Refusal) × WorksOn called asked gives user number calls w.store w.runner why w'.store w'.runner × (met' ≡ met_with met why)
+
+  abbrev pub Deals : Ticket → Met → List Call → Worker S Q → Met → Worker S Q → Type 0
+  Deals Stop met calls w met' w' = (calls ≡ []) × (w' ≡ w) × (met' ≡ met)
+  Deals (Goal user number) met calls w met' w' = DealsWhere met.stopped user number met calls w met' w'
+
+  -- a worker that had met this takes these tickets, one after another
+  abbrev pub Works : List Ticket → Met → List Call → Worker S Q → Met → Worker S Q → Type 0
   Works [] met calls w met' w' = (calls ≡ []) × (w' ≡ w) × (met' ≡ met)
   Works (t ∷ ts) met calls w met' w' =
-      (first rest : List Call) × (between : Worker S Q) × (met'' : Option Refusal)
+      (first rest : List Call) × (between : Worker S Q) × (met'' : Met)
       × (calls ≡ first ++ rest) × Deals t met first w met'' between × Works ts met'' rest between met' w'

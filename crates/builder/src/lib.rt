@@ -2,7 +2,7 @@
 //!
 //! | Calls | What they do |
 //! |---|---|
-//! | [`round`] | hands tickets to workers, each in a thread of its own, and gives the workers back |
+//! | [`round`] | hands the tickets of a source to workers, each in a thread of its own, and gives the workers back |
 //! | [`ProcessRunner::new`] | makes a runner that starts a process for each job |
 //!
 //! A worker is a [`Store`] that it hands events to, and a [`Runner`] that builds. What it does for a
@@ -22,17 +22,19 @@ mod inputs;
 mod launching;
 mod log;
 mod meaning;
+mod met;
 mod output;
 mod outside;
 mod preparing;
 mod processes;
 mod putting;
 mod queue;
-mod room;
+mod reports;
 mod rounds;
 mod runner;
 mod serving;
 mod shared;
+mod source;
 mod store;
 mod system;
 mod tally;
@@ -46,11 +48,14 @@ pub use command::Streams;
 pub use fault::{Explains, Fault};
 pub use launching::launcher;
 pub use log::{Log, Logged, Tail};
+pub use met::Met;
 pub use outside::Outside;
 pub use preparing::{Folders, Settings};
 pub use processes::ProcessRunner;
-pub use rounds::round;
+pub use reports::Reports;
+pub use rounds::{Hands, RoundEnd, round};
 pub use runner::{RunFault, Runner};
+pub use source::{QueueId, TicketQueue, TicketSource};
 pub use store::Store;
 pub use system::System;
 pub use ticket::Ticket;

@@ -1,18 +1,19 @@
 //! What one thread of a round does.
 
-ghost use Rattle.std.specs.Prelude.{◌≡◌, ◌&&◌, ◌||◌, [], true, is_ok, IfOk, IfErr, MatchResult};
+ghost use Rattle.std.specs.Prelude.{◌≡◌, ◌||◌, [], true, IfOk, IfErr, MatchResult};
 ghost use Rattle.crossbeam_channel.specs.Claims.{view, IsSeatAt};
 ghost use Rattle.crossbeam_channel.specs.Ends.{receives_on};
 ghost use Rattle.builder.specs.Queue.{consumer as taking};
-ghost use Rattle.builder.specs.Rounds.{Returned, is_memory, is_stopped};
+ghost use Rattle.builder.specs.Rounds.{Returned};
 
+use crate::met::Met;
 use crate::queue::Consumer;
+use crate::reports::Reports;
 use crate::runner::Runner;
 use crate::shared::Shared;
 use crate::store::Store;
 use crate::tally::Tally;
 use crate::worker::{Worked, Worker, work};
-use model::Refusal;
 use std::snapshot::Snapshot;
 use std::sync::Wait;
 use std::sync::atomic::Ordering;
@@ -25,8 +26,8 @@ pub(crate) struct Back<S, Q> {
     pub(crate) worker: Worker<S, Q>,
     /// Its end of the queue.
     pub(crate) consumer: Consumer,
-    /// 90 or 92, where the worker met that.
-    pub(crate) met: Option<Refusal>,
+    /// What the worker met.
+    pub(crate) met: Met,
     /// Whether it took its Stop.
     pub(crate) took_stop: bool,
 }
@@ -56,10 +57,11 @@ fn hand_to<S, Q>(worker: &Worker<S, Q>, consumer: &Consumer) -> Handed<S, Q>
     }
 }
 
-/// Takes tickets and works on them until a Stop; none where the round was given up.
-fn run<S: Store, Q: Runner, R: Wait>(
+/// Takes tickets and works on them until a Stop; none where there is no thread for the worker at this place.
+fn run<S: Store, Q: Runner, N: Reports, R: Wait>(
     rt: &R,
-    shared: Shared<'_>,
+    shared: Shared<'_, N>,
+    place: usize,
     mut worker: Worker<S, Q>,
     mut consumer: Consumer,
 ) -> Back<S, Q>
@@ -69,11 +71,11 @@ fn run<S: Store, Q: Runner, R: Wait>(
     ensures { Returned S.called S.asked Q.gives worker consumer result.worker result.consumer result.met
         result.took_stop }
 {
-    if shared.given_up.load(Ordering::SeqCst) {
+    if shared.without_thread.load(Ordering::SeqCst) == place {
         return Back {
             worker,
             consumer,
-            met: None,
+            met: Met::nothing(),
             took_stop: false,
         };
     }
@@ -86,17 +88,19 @@ fn run<S: Store, Q: Runner, R: Wait>(
     }
 }
 
-/// A thread that works, or what it would give back, where none can be made: the round is given up then.
+/// A thread that works for the worker at a place, or, where none can be made, what that gives back with no ticket taken.
 pub(crate) fn start<
     's,
     E,
     S: Store + Send + Drop + 's,
     Q: Runner + Send + Drop + 's,
+    N: Reports + 's,
     R: Threads + Wait + Sync,
 >(
     rt: &'s R,
     scope: &Scope<'s, E>,
-    shared: Shared<'s>,
+    shared: Shared<'s, N>,
+    place: usize,
     worker: Worker<S, Q>,
     consumer: Consumer,
 ) -> Result<PromisedHandle<Back<S, Q>, Handed<S, Q>>, Back<S, Q>>
@@ -115,18 +119,17 @@ pub(crate) fn start<
         requires none { view consumer ≡ taking (view consumer).number [] }
         ensures { Returned S.called S.asked Q.gives worker consumer result.worker result.consumer
             result.met result.took_stop }
-    { run(rt, shared, worker, consumer) };
+    { run(rt, shared, place, worker, consumer) };
     match scope.spawn_with(promise, job) {
         Ok(handle) => Ok(handle),
         Err(refused) => {
-            shared.given_up.store(true, Ordering::SeqCst);
+            shared.without_thread.store(place, Ordering::SeqCst);
             Err((refused.value)())
         }
     }
 }
 
-/// What a thread gave back, or what it would have given, and what has been met with that. Where no thread could
-/// be started, the round is not whole.
+/// What a thread gave back, or what there is instead, and what the round has come to with that.
 pub(crate) fn finish<S: Store, Q: Runner, R: Threads>(
     rt: &R,
     started: Result<PromisedHandle<Back<S, Q>, Handed<S, Q>>, Back<S, Q>>,
@@ -136,19 +139,13 @@ pub(crate) fn finish<S: Store, Q: Runner, R: Threads>(
         (λ h. Returned S.called S.asked Q.gives h.promise.worker.value h.promise.consumer.value
         result.0.worker result.0.consumer result.0.met result.0.took_stop)
         (λ b. result.0 ≡ b) }
-    ensures whole { result.1.whole ≡ (tally.whole && (is_ok started && result.0.took_stop)) }
-    ensures memory { result.1.memory ≡ (tally.memory || is_memory result.0.met) }
-    ensures stopped { result.1.stopped ≡ (tally.stopped || is_stopped result.0.met) }
+    ensures whole { result.1.whole ≡ (tally.whole || result.0.took_stop) }
+    ensures memory { result.1.memory ≡ (tally.memory || result.0.met.memory) }
 {
-    match started {
-        Ok(handle) => {
-            let back = handle.join(rt);
-            let tally = tally.with(true, back.took_stop, back.met);
-            (back, tally)
-        }
-        Err(back) => {
-            let tally = tally.with(false, back.took_stop, back.met);
-            (back, tally)
-        }
-    }
+    let back = match started {
+        Ok(handle) => handle.join(rt),
+        Err(back) => back,
+    };
+    let tally = tally.with(back.took_stop, back.met);
+    (back, tally)
 }

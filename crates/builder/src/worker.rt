@@ -1,21 +1,22 @@
 //! Workers.
 
-ghost use Rattle.std.specs.Prelude.{◌≡◌, [], true, None, List};
+ghost use Rattle.std.specs.Prelude.{◌≡◌, [], true, List};
 ghost use Rattle.crossbeam_channel.specs.Claims.{view, IsSeatAt};
 ghost use Rattle.crossbeam_channel.specs.Ends.{receives_on};
 ghost use Rattle.builder.specs.Queue.{consumer as taking};
 ghost use Rattle.builder.specs.Tickets.{has_stop, StopsLast};
 ghost use Rattle.builder.specs.declared.ticket.Ticket.TheVariants.{Goal};
-ghost use Rattle.builder.specs.Working.{Call, Deals, Works};
+ghost use Rattle.builder.specs.Working.{Call, nothing_met, Deals, Works};
 
+use crate::met::Met;
 use crate::queue::{Consumer, take};
+use crate::reports::Reports;
 use crate::runner::Runner;
 use crate::shared::Shared;
 use crate::store::Store;
 use crate::tasks::work_on;
 use crate::ticket::Ticket;
 use model::Refusal;
-use std::alloc::Global;
 use std::sync::Wait;
 use trust::User;
 
@@ -30,34 +31,46 @@ pub struct Worker<S, Q> {
 
 /// What a worker made of the tickets that it took.
 pub(crate) struct Worked {
-    /// 90 or 92, where the worker met that.
-    pub(crate) met: Option<Refusal>,
+    /// What it met.
+    pub(crate) met: Met,
     /// Whether it took a Stop, after which it took no more. Else the queue was closed.
     pub(crate) took_stop: bool,
 }
 
-/// Works on a ticket, unless the worker has met 90 or 92. Gives what it has met then.
-fn deal<S: Store, Q: Runner>(
-    alloc: Global,
+/// Works on a ticket, unless the worker has met 92, and reports that it has ended with it. Gives what the worker has
+/// met then.
+fn deal<S: Store, Q: Runner, N: Reports, R: Wait>(
+    rt: &R,
+    shared: Shared<'_, N>,
     worker: &mut Worker<S, Q>,
-    met: Option<Refusal>,
+    met: Met,
     user: User,
     number: u16,
-) -> Option<Refusal>
+) -> Met
     ensures { (calls : List Call) × Deals S.called S.asked Q.gives (Goal user number) met calls
         worker.old result worker.new }
 {
-    if met.is_some() {
+    if met.stopped {
+        shared
+            .reports
+            .ended(rt, &user, number, Some(Refusal::Stopped));
         return met;
     }
-    work_on(alloc, &mut worker.store, &mut worker.runner, &user, number)
+    let why = work_on(
+        shared.alloc,
+        &mut worker.store,
+        &mut worker.runner,
+        &user,
+        number,
+    );
+    shared.reports.ended(rt, &user, number, why);
+    met.with(why)
 }
 
-/// Takes tickets and works on them until a Stop. Once it met 90 or 92 it takes them without working on
-/// them.
-pub(crate) fn work<S: Store, Q: Runner, R: Wait>(
+/// Takes tickets and works on them until a Stop. Once it met 92 it takes them without working on them.
+pub(crate) fn work<S: Store, Q: Runner, N: Reports, R: Wait>(
     rt: &R,
-    shared: Shared<'_>,
+    shared: Shared<'_, N>,
     worker: &mut Worker<S, Q>,
     consumer: &mut Consumer,
 ) -> Worked
@@ -66,12 +79,12 @@ pub(crate) fn work<S: Store, Q: Runner, R: Wait>(
     requires none { view consumer.old ≡ taking (view consumer.old).number [] }
     ensures seat { IsSeatAt (receives_on shared.entry.receiver.now) consumer.new }
     ensures took { view consumer.new ≡ taking (view consumer.old).number (view consumer.new).taken }
-    ensures works { (calls : List Call) × Works S.called S.asked Q.gives (view consumer.new).taken None
+    ensures works { (calls : List Call) × Works S.called S.asked Q.gives (view consumer.new).taken nothing_met
         calls worker.old result.met worker.new }
     ensures stop { result.took_stop ≡ has_stop (view consumer.new).taken }
     ensures last { StopsLast (view consumer.new).taken }
 {
-    let mut met = None;
+    let mut met = Met::nothing();
     for _ in rt.forever() {
         match take(rt, shared.receiver, consumer) {
             Some(Ticket::Stop) => {
@@ -81,8 +94,7 @@ pub(crate) fn work<S: Store, Q: Runner, R: Wait>(
                 };
             }
             Some(Ticket::Goal(user, number)) => {
-                shared.taken.add_one(rt);
-                met = deal(shared.alloc, worker, met, user, number);
+                met = deal(rt, shared, worker, met, user, number);
             }
             None => {
                 return Worked {

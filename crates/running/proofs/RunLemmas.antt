@@ -2,6 +2,7 @@
 use Rattle.std.proofs.Common.{◌≡◌, ◌⊎◌, inl, inr, refl, sym, ◌∙◌, ap, subst, arith, Bool, true, false, true≢false, List, [], ◌∷◌, ◌++◌, ℕ, ◌+◌, ◌<◌, Option, Result, Ok, Err}
 use Rattle.std.specs.Prelude.{◌||◌, map, All, MatchResult}
 use Rattle.std.specs.List.{list_any}
+use Rattle.std.proofs.lemmas.List.{append-nil, append_assoc}
 use Rattle.std.proofs.lemmas.List.Elements.{All-head, All-tail}
 use Rattle.model.specs.declared.refusal.Refusal.{Refusal}
 use Rattle.model.specs.declared.refusal.Refusal.TheVariants as why
@@ -23,17 +24,20 @@ use Rattle.book.specs.declared.closed_history.History.{History}
 use Rattle.book.specs.Closing.{rows_in}
 use Rattle.builder.specs.declared.runner.RunFault.{RunFault}
 use Rattle.builder.specs.declared.worker.Worker.{Worker}
-use Rattle.builder.specs.Working.{Call}
+use Rattle.builder.specs.Working.{Call, nothing_met}
+use Rattle.builder.specs.declared.ticket.Ticket.{Ticket}
+use Rattle.builder.specs.Rounds.{Shift, WorksShift, AllWork, IsRound}
 use Rattle.session.specs.Serving.{Link, Chain}
 use Rattle.book.specs.Asking.{IsAskedBy}
 use Rattle.running.specs.Calling.{IsTold, Stand, is_read}
 use Rattle.running.specs.Meeting.{HasMet, IsNew, is_stopped, met_none, met_more, met_asking, stopped_told, stops_by}
-use Rattle.teams.specs.Sessions.{Answers, Waits, IsStatusOf, AsksStatus, Calls, Served, ServedInPart}
-use Rattle.teams.specs.Teams.{HasWorked, AllWorked, AllNew}
+use Rattle.teams.specs.Sessions as teams
+use Rattle.teams.specs.Sessions.{Answers, Waits, Calls, Served, ServedInPart, Handed, first_seat}
+use Rattle.teams.specs.Teams.{AllNew}
 use Rattle.running.specs.ServedSessions.{numbers_in}
-use Rattle.running.specs.Runs.{Makes, is_told, tell, is_read_told_stopped, LinesStand, Ran, RanInPart, WorkerStands, WorkersStand, IsGivenBack}
-use Rattle.teams.proofs.WaitLemmas.{calls_append}
-use Rattle.teams.proofs.TeamLemmas.{rounds_chain}
+use Rattle.running.specs.Runs.{Makes, Puts, is_told, tell, is_read_told_stopped, LinesStand, Ran, RanInPart, WorkerStands, WorkersStand, TeamStands, IsGivenBack}
+use Rattle.teams.proofs.WaitLemmas.{calls_behind}
+use Rattle.teams.proofs.WorkerLemmas.{works_chain}
 use Rattle.running.proofs.ChainLemmas.{own_longer, chain_adds, chain_counts, chain_stopped, chain_order}
 
 -- ---- 90 and 92
@@ -65,9 +69,9 @@ none_of true b is = absurd (true≢false is)
 none_of false b is = (refl, is)
 
 module _ (setup : Setup) where
-  -- a session: its pass, and whether a round of its workers was answered 90
+  -- a session: its pass, and what it handed to its workers
   abbrev Seat : Type 0
-  Seat = PassKnowledge × Bool
+  Seat = teams.Seat PassKnowledge
 
   -- a row is a call, or the calls of a wait, or none
   abbrev RowLink : Seat → talk.LineRow → Seat → Type 0
@@ -79,11 +83,11 @@ module _ (setup : Setup) where
   -- ---- the calls of rows
 
   -- no call more
-  behind : (calls : List Call) (old mid new : Seat) → mid ≡ old → CallChain mid.0 calls new.0 → CallChain old.0 calls new.0
-  behind calls old mid new same chain = subst (λ (k : Seat). CallChain k.0 calls new.0) same chain
+  behind : (calls : List Call) (old mid new : Seat) → mid ≡ old → CallChain mid.store calls new.store → CallChain old.store calls new.store
+  behind calls old mid new same chain = subst (λ (k : Seat). CallChain k.store calls new.store) same chain
 
-  rows_calls : (rows : List talk.LineRow) (old new : Seat) → Chain RowLink old rows new → (calls : List Call) × Makes rows calls × CallChain old.0 calls new.0
-  rows_calls [] old new same = ([], refl, subst (λ (k : Seat). HasMet old.0 k.0) (sym same) (met_none old.0))
+  rows_calls : (rows : List talk.LineRow) (old new : Seat) → Chain RowLink old rows new → (calls : List Call) × Makes rows calls × CallChain old.store calls new.store
+  rows_calls [] old new same = ([], refl, subst (λ (k : Seat). HasMet old.store k.store) (sym same) (met_none old.store))
   rows_calls (talk.Silent ∷ rows) old new chain =
       let rest = rows_calls rows chain.0 new chain.2 in (rest.0, rest.1, behind rest.0 old chain.0 new chain.1 rest.2)
   rows_calls (talk.Names users ∷ rows) old new chain =
@@ -95,32 +99,28 @@ module _ (setup : Setup) where
       let rest = rows_calls rows chain.0 new chain.2 in (
         (call.0, call.1) ∷ rest.0,
         (call.0, call.1, rest.0, refl, call.2, call.3, rest.1),
-        (old.0, chain.0.0, met_none old.0, call.4, rest.2),
+        (old.store, chain.0.store, met_none old.store, call.4, rest.2),
       )
   rows_calls (talk.Waits goals reply ∷ rows) old new chain =
-      let wait = chain.1 in
-      let rest = rows_calls rows chain.0 new chain.2 in (
-        wait.0 ++ rest.0,
-        (wait.0, rest.0, refl, wait.1, rest.1),
-        calls_append (IsTold setup) HasMet met_more old.0 wait.0 chain.0.0 rest.0 new.0 wait.2 rest.2,
-      )
+      let rest = rows_calls rows chain.0 new chain.2 in
+      (rest.0, rest.1, calls_behind (IsTold setup) HasMet met_more old.store chain.0.store rest.0 new.store chain.1.others rest.2)
 
   -- ---- where the front was stopped
 
-  stays : (rows : List talk.LineRow) (old new : Seat) → Chain RowLink old rows new → is_stopped old.0 ≡ true → is_stopped new.0 ≡ true
-  stays rows old new chain is = let all = rows_calls rows old new chain in chain_stopped setup old.0 all.0 new.0 all.2 is
+  stays : (rows : List talk.LineRow) (old new : Seat) → Chain RowLink old rows new → is_stopped old.store ≡ true → is_stopped new.store ≡ true
+  stays rows old new chain is = let all = rows_calls rows old new chain in chain_stopped setup old.store all.0 new.store all.2 is
 
   -- a line that was told 92 leaves a pass that knows it
-  row_stopped : (row : talk.LineRow) (old new : Seat) → RowLink old row new → is_told is_stopped_refusal row ≡ true → is_stopped new.0 ≡ true
+  row_stopped : (row : talk.LineRow) (old new : Seat) → RowLink old row new → is_told is_stopped_refusal row ≡ true → is_stopped new.store ≡ true
   row_stopped talk.Silent old new link is = absurd (cc)
   row_stopped (talk.Names users) old new link is = absurd (cc)
   row_stopped (talk.Refuses w) old new link is = absurd (cc)
   row_stopped (talk.Asks event reply) old new link is =
       let told : link.1 ≡ Refused why.Stopped = told_92 link.1 (ap (is_refusal is_stopped_refusal) link.3 ∙ is) in
-      stopped_told setup old.0 new.0 link.0 (subst (λ (r : Reply). IsTold setup old.0 link.0 r new.0) told link.4)
-  row_stopped (talk.Waits goals reply) old new link is = link.3 (reply_92 reply is)
+      stopped_told setup old.store new.store link.0 (subst (λ (r : Reply). IsTold setup old.store link.0 r new.store) told link.4)
+  row_stopped (talk.Waits goals reply) old new link is = link.stop (reply_92 reply is)
 
-  rows_stopped : (rows : List talk.LineRow) (old new : Seat) → Chain RowLink old rows new → tell is_stopped_refusal rows ≡ true → is_stopped new.0 ≡ true
+  rows_stopped : (rows : List talk.LineRow) (old new : Seat) → Chain RowLink old rows new → tell is_stopped_refusal rows ≡ true → is_stopped new.store ≡ true
   rows_stopped [] old new chain is = absurd (cc)
   rows_stopped (row ∷ rows) old new chain is = elim (either_of (is_told is_stopped_refusal row) (tell is_stopped_refusal rows) is) [
     | inl here ↦ stays rows chain.0 new chain.2 (row_stopped row old chain.0 chain.1 here)
@@ -150,26 +150,15 @@ module _ (setup : Setup) where
 
   -- ---- what stopped it
 
-  -- nothing more was stopped, and no round more was answered 90
+  -- nothing more was stopped, and no wait more was told that a worker met 90
   abbrev IsQuiet : Seat → Seat → Type 0
-  IsQuiet old new = (stops_by new.0 ≡ stops_by old.0) × (new.1 ≡ true → old.1 ≡ true)
+  IsQuiet old new = (stops_by new.store ≡ stops_by old.store) × (new.handed.has_told ≡ true → old.handed.has_told ≡ true)
 
   quiet_as : (old new : Seat) → new ≡ old → IsQuiet old new
-  quiet_as old new same = (ap (λ (k : Seat). stops_by k.0) same, λ is. sym (ap (λ (k : Seat). k.1) same) ∙ is)
+  quiet_as old new same = (ap (λ (k : Seat). stops_by k.store) same, λ is. sym (ap (λ (k : Seat). k.handed.has_told) same) ∙ is)
 
   quiet_more : (a b c : Seat) → IsQuiet a b → IsQuiet b c → IsQuiet a c
   quiet_more a b c first next = (next.0 ∙ first.0, λ is. first.1 (next.1 is))
-
-  -- a status is read
-  status_read : (goals : List GoalId) (event : Event) → IsStatusOf goals event → is_read event ≡ true
-  status_read goals event is = ap is_read is.4
-
-  statuses_stop : (goals : List GoalId) (calls : List Call) (old new : PassKnowledge) → AsksStatus goals calls → CallChain old calls new
-      → stops_by new ≡ stops_by old
-  statuses_stop goals [] old new asks chain = chain.stops
-  statuses_stop goals (c ∷ cs) old new asks chain =
-      statuses_stop goals cs chain.1 new asks.1 chain.4
-      ∙ ap stops_by (chain.3.only_read (status_read goals c.0 asks.0)).0 ∙ chain.2.stops
 
   -- a line that was told something else than 90 stopped nothing
   row_quiet : (row : talk.LineRow) (old new : Seat) → RowLink old row new → is_told is_memory_refusal row ≡ false → IsQuiet old new
@@ -178,11 +167,11 @@ module _ (setup : Setup) where
   row_quiet (talk.Refuses w) old new link without = quiet_as old new link
   row_quiet (talk.Asks event reply) old new link without = (
     link.4.no_stop (λ is. true≢false (sym (ap (λ r. is_refusal is_memory_refusal (reply_of r)) is) ∙ ap (is_refusal is_memory_refusal) link.3 ∙ without)),
-    λ is. sym link.5 ∙ is,
+    λ is. sym (ap (λ (h : Handed). h.has_told) link.5) ∙ is,
   )
   row_quiet (talk.Waits goals reply) old new link without = (
-    statuses_stop goals link.0 old.0 new.0 link.1 link.2,
-    λ is. elim (link.4 is) [
+    link.others.stops,
+    λ is. elim (link.told is) [
       | inl was ↦ was
       | inr memory ↦ absurd (true≢false (sym (ap (is_refusal is_memory_refusal) memory) ∙ without))
     ],
@@ -193,6 +182,23 @@ module _ (setup : Setup) where
   rows_quiet (row ∷ rows) old new chain without =
       let both = none_of (is_told is_memory_refusal row) (tell is_memory_refusal rows) without in
       quiet_more old chain.0 new (row_quiet row old chain.0 chain.1 both.0) (rows_quiet rows chain.0 new chain.2 both.1)
+
+  -- ---- what their waits put
+
+  rows_put : (rows : List talk.LineRow) (old new : Seat) → Chain RowLink old rows new
+      → (tickets : List Ticket) × Puts rows tickets × (new.handed.put ≡ old.handed.put ++ tickets)
+  rows_put [] old new same = ([], refl, ap (λ (k : Seat). k.handed.put) same ∙ sym (append-nil old.handed.put))
+  rows_put (talk.Silent ∷ rows) old new chain = let rest = rows_put rows chain.0 new chain.2 in (rest.0, rest.1, rest.2 ∙ ap (λ (k : Seat). k.handed.put ++ rest.0) chain.1)
+  rows_put (talk.Names users ∷ rows) old new chain = let rest = rows_put rows chain.0 new chain.2 in (rest.0, rest.1, rest.2 ∙ ap (λ (k : Seat). k.handed.put ++ rest.0) chain.1)
+  rows_put (talk.Refuses w ∷ rows) old new chain = let rest = rows_put rows chain.0 new chain.2 in (rest.0, rest.1, rest.2 ∙ ap (λ (k : Seat). k.handed.put ++ rest.0) chain.1)
+  rows_put (talk.Asks event reply ∷ rows) old new chain = let rest = rows_put rows chain.0 new chain.2 in (rest.0, rest.1, rest.2 ∙ ap (λ (h : Handed). h.put ++ rest.0) chain.1.5)
+  rows_put (talk.Waits goals reply ∷ rows) old new chain =
+      let own = chain.1.puts in
+      let rest = rows_put rows chain.0 new chain.2 in (
+        own.0 ++ rest.0,
+        (own.0, rest.0, refl, own.1, rest.1),
+        rest.2 ∙ ap (λ ts. ts ++ rest.0) own.2 ∙ append_assoc old.handed.put own.0 rest.0,
+      )
 
   -- ---- in the history
 
@@ -210,20 +216,25 @@ module _ (setup : Setup) where
           order = chain_order setup rows number [] (new_pass number) calls last refl ([], refl) back.seen chain;
         }
 
-  module _ (history : History) (number : ℕ) (last : PassKnowledge) (told : Bool) (others : ℕ) (clean : told ≡ false → others ≡ 0) (back : IsGivenBack history last) where
+  module _ (history : History) (number : ℕ) (last : PassKnowledge) (tickets : List Ticket) (told : Bool) (others : ℕ)
+      (clean : told ≡ false → others ≡ 0) (back : IsGivenBack history last) where
     -- the session before its first line
     abbrev first : Seat
-    first = (new_pass number, false)
+    first = first_seat (new_pass number)
+
+    -- and behind its last one
+    abbrev end : Seat
+    end = record { store = last; handed = record { put = tickets; has_told = told } }
 
     -- so many calls stopped the front
     abbrev all_stops : ℕ
     all_stops = stops_by last + others
 
-    rows_memory : (rows : List talk.LineRow) → Chain RowLink first rows (last, told) → 0 < all_stops → tell is_memory_refusal rows ≡ true
+    rows_memory : (rows : List talk.LineRow) → Chain RowLink first rows end → 0 < all_stops → tell is_memory_refusal rows ≡ true
     rows_memory rows chain some = elim (either (tell is_memory_refusal rows)) [
       | inl has ↦ has
       | inr without ↦
-          let quiet = rows_quiet rows first (last, told) chain without in
+          let quiet = rows_quiet rows first end chain without in
           let none : others ≡ 0 = elim (either told) [
             | inl is ↦ absurd (true≢false (sym (quiet.1 is)))
             | inr other ↦ clean other
@@ -232,20 +243,22 @@ module _ (setup : Setup) where
           absurd (omega (arith, some, none, own))
     ]
 
-    lines_stand : (rows : List talk.LineRow) → Chain RowLink first rows (last, told) → LinesStand setup history number all_stops rows
+    lines_stand : (rows : List talk.LineRow) → Chain RowLink first rows end → LinesStand setup history number all_stops tickets rows
     lines_stand rows chain =
-        let all = rows_calls rows first (last, told) chain in
+        let all = rows_calls rows first end chain in
+        let put = rows_put rows first end chain in
         record {
           calls = all.0;
           makes = all.1;
+          puts = subst (Puts rows) (sym put.2) put.1;
           stand = calls_stand history number last back all.0 all.2;
-          reads = rows_read rows first (last, told) chain;
-          stopped = λ is. back.stopped (rows_stopped rows first (last, told) chain is);
+          reads = rows_read rows first end chain;
+          stopped = λ is. back.stopped (rows_stopped rows first end chain is);
           memory = rows_memory rows chain;
         }
 
-    ran : (start : Option (List ℕ)) (text : List ℕ) → Served (IsTold setup) HasMet is_stopped first (last, told) start text
-        → Ran setup history number all_stops start text
+    ran : (start : Option (List ℕ)) (text : List ℕ) → Served (IsTold setup) HasMet is_stopped first end start text
+        → Ran setup history number all_stops tickets start text
     ran start text served = record {
       input = served.input;
       end = served.end;
@@ -259,7 +272,7 @@ module _ (setup : Setup) where
     }
 
     ran_in_part : (start : Option (List ℕ)) (text : List ℕ) (w : Refusal)
-        → ServedInPart (IsTold setup) HasMet is_stopped first (last, told) start text w → RanInPart setup history number all_stops start text w
+        → ServedInPart (IsTold setup) HasMet is_stopped first end start text w → RanInPart setup history number all_stops tickets start text w
     ran_in_part start text w served = record {
       input = served.input;
       end = served.end;
@@ -277,55 +290,67 @@ module _ (setup : Setup) where
     }
 
     pub output_ran : (start : Option (List ℕ)) (ended : Result (Unit {0}) Refusal) (text : List ℕ)
-        → MatchResult ended (λ _. Served (IsTold setup) HasMet is_stopped first (last, told) start text)
-        (ServedInPart (IsTold setup) HasMet is_stopped first (last, told) start text)
-        → MatchResult ended (λ _. Ran setup history number all_stops start text) (RanInPart setup history number all_stops start text)
+        → MatchResult ended (λ _. Served (IsTold setup) HasMet is_stopped first end start text)
+        (ServedInPart (IsTold setup) HasMet is_stopped first end start text)
+        → MatchResult ended (λ _. Ran setup history number all_stops tickets start text) (RanInPart setup history number all_stops tickets start text)
     output_ran start (Ok _) text served = ran start text served
     output_ran start (Err w) text served = ran_in_part start text w served
 
   -- ---- workers
 
   module _ {Q : Type 0} (gives : Q → Running → Result (List ℕ) RunFault → Q → Type 0) where
-    abbrev AllDid : List (Worker PassKnowledge Q) → List (Worker PassKnowledge Q) → Type 0
-    AllDid = AllWorked (IsTold setup) (IsAskedBy setup) gives HasMet
+    abbrev AllDid : List (Worker PassKnowledge Q) → List Shift → List (Worker PassKnowledge Q) → Type 0
+    AllDid = AllWork (IsTold setup) (IsAskedBy setup) gives
 
-    did_chain : (first w : Worker PassKnowledge Q) (did : HasWorked (IsTold setup) (IsAskedBy setup) gives HasMet first w)
-        → CallChain first.store did.calls w.store
-    did_chain first w did =
-        rounds_chain (IsTold setup) (IsAskedBy setup) gives HasMet met_none met_more (met_asking setup) first did.rounds did.calls w did.works
+    shift_chain : (first : Worker PassKnowledge Q) (shift : Shift) (w : Worker PassKnowledge Q) → WorksShift (IsTold setup) (IsAskedBy setup) gives first shift w
+        → CallChain first.store shift.calls w.store
+    shift_chain first shift w did =
+        works_chain (IsTold setup) (IsAskedBy setup) gives HasMet met_none met_more (met_asking setup) shift.took nothing_met shift.calls first shift.met w did.works
 
     -- each keeps the pass that he had
-    pub same_passes : (firsts ws : List (Worker PassKnowledge Q)) → AllDid firsts ws → numbers_in ws ≡ numbers_in firsts
-    same_passes [] [] did = refl
-    same_passes (f ∷ fs) (w ∷ ws) did =
-        ap (λ n. n ∷ numbers_in ws) (chain_adds setup f.store did.0.calls w.store (did_chain f w did.0)).number
-        ∙ ap (λ ns. f.store.caller.number ∷ ns) (same_passes fs ws did.1)
-    same_passes [] (w ∷ ws) did = absurd did
-    same_passes (f ∷ fs) [] did = absurd did
+    pub same_passes : (firsts : List (Worker PassKnowledge Q)) (shifts : List Shift) (ws : List (Worker PassKnowledge Q)) → AllDid firsts shifts ws
+        → numbers_in ws ≡ numbers_in firsts
+    same_passes [] [] [] did = refl
+    same_passes (f ∷ fs) (s ∷ ss) (w ∷ ws) did =
+        ap (λ n. n ∷ numbers_in ws) (chain_adds setup f.store s.calls w.store (shift_chain f s w did.0)).number
+        ∙ ap (λ ns. f.store.caller.number ∷ ns) (same_passes fs ss ws did.1)
+    same_passes [] [] (w ∷ ws) did = absurd did
+    same_passes [] (s ∷ ss) ws did = absurd did
+    same_passes (f ∷ fs) [] ws did = absurd did
+    same_passes (f ∷ fs) (s ∷ ss) [] did = absurd did
 
     module _ (history : History) where
-      worker_stands : (first w : Worker PassKnowledge Q) → IsGivenBack history w.store → IsNew first.store
-          → HasWorked (IsTold setup) (IsAskedBy setup) gives HasMet first w → WorkerStands setup gives history first
-      worker_stands first w back new did = record {
-        rounds = did.rounds;
-        calls = did.calls;
+      worker_stands : (first : Worker PassKnowledge Q) (shift : Shift) (w : Worker PassKnowledge Q) → IsGivenBack history w.store → IsNew first.store
+          → WorksShift (IsTold setup) (IsAskedBy setup) gives first shift w → WorkerStands setup gives history first shift
+      worker_stands first shift w back new did = record {
         last = w;
-        works = did.works;
-        stand = calls_stand history first.store.caller.number w.store back did.calls
-            (subst (λ (k : PassKnowledge). CallChain k did.calls w.store) new (did_chain first w did));
+        works = did;
+        stand = calls_stand history first.store.caller.number w.store back shift.calls
+            (subst (λ (k : PassKnowledge). CallChain k shift.calls w.store) new (shift_chain first shift w did));
         back = back;
       }
 
-      pub workers_stand : (firsts ws : List (Worker PassKnowledge Q)) → All (IsGivenBack history) (map (λ w. w.store) ws) → AllNew IsNew firsts
-          → AllDid firsts ws → WorkersStand setup gives history firsts
-      workers_stand [] ws back new did = tt
-      workers_stand (f ∷ fs) (w ∷ ws) back new did = (
-        worker_stands f w (All-head (IsGivenBack history) w.store (map (λ v. v.store) ws) back) new.0 did.0,
-        workers_stand fs ws (All-tail (IsGivenBack history) w.store (map (λ v. v.store) ws) back) new.1 did.1,
+      workers_stand : (firsts : List (Worker PassKnowledge Q)) (shifts : List Shift) (ws : List (Worker PassKnowledge Q))
+          → All (IsGivenBack history) (map (λ w. w.store) ws) → AllNew IsNew firsts → AllDid firsts shifts ws → WorkersStand setup gives history firsts shifts
+      workers_stand [] [] [] back new did = tt
+      workers_stand (f ∷ fs) (s ∷ ss) (w ∷ ws) back new did = (
+        worker_stands f s w (All-head (IsGivenBack history) w.store (map (λ v. v.store) ws) back) new.0 did.0,
+        workers_stand fs ss ws (All-tail (IsGivenBack history) w.store (map (λ v. v.store) ws) back) new.1 did.1,
       )
-      workers_stand (f ∷ fs) [] back new did = absurd did
+      workers_stand [] [] (w ∷ ws) back new did = absurd did
+      workers_stand [] (s ∷ ss) ws back new did = absurd did
+      workers_stand (f ∷ fs) [] ws back new did = absurd did
+      workers_stand (f ∷ fs) (s ∷ ss) [] back new did = absurd did
 
-      pub stand_append : (ms ns : List (Worker PassKnowledge Q)) → WorkersStand setup gives history ms → WorkersStand setup gives history ns
-          → WorkersStand setup gives history (ms ++ ns)
-      stand_append [] ns one two = two
-      stand_append (m ∷ ms) ns one two = (one.0, stand_append ms ns one.1 two)
+      -- the workers of a session, who worked in one round
+      pub team_stands : (tickets : List Ticket) (firsts ws : List (Worker PassKnowledge Q)) (whole memory : Bool)
+          → All (IsGivenBack history) (map (λ w. w.store) ws) → AllNew IsNew firsts
+          → IsRound (IsTold setup) (IsAskedBy setup) gives tickets firsts ws whole memory → TeamStands setup gives history tickets firsts
+      team_stands tickets firsts ws whole memory back new round = record {
+        shifts = round.shifts;
+        workers = workers_stand firsts round.shifts ws back new round.works;
+        log = round.log;
+        own_of_each = round.own_of_each;
+        of_hands = round.of_hands;
+        begins = round.begins;
+      }

@@ -22,20 +22,19 @@ use Rattle.teams.specs.declared.sessions.Part.{Part}
 use Rattle.book.specs.Asking.{IsAskedBy}
 use Rattle.running.specs.Calling.{IsTold}
 use Rattle.running.specs.Meeting.{HasMet, IsNew, is_stopped, stops_by}
-use Rattle.teams.specs.Sessions.{Outputs, AllOutputs}
-use Rattle.teams.specs.Teams.{AllNew, AreThose, AllWorked, stops_in}
+use Rattle.teams.specs.Sessions.{Seat, first_seat, Outputs, AllOutputs}
+use Rattle.teams.specs.Teams.{AllNew, stops_in}
 use Rattle.running.specs.ServedSessions.{AreFirst, first_workers, workers_for, all_workers, IsSessionFor, AreSessionsFor, passes_for, passes_needed, session_passes, passes_left, all_passes, numbers_in, all_numbers, stops_left}
-use Rattle.running.specs.Runs.{IsGivenBack, AreOutputs, WorkersStand, AreServed, IsClosed, AreResults, are_accounted}
+use Rattle.running.specs.Runs.{IsGivenBack, AreOutputs, TeamStands, TeamsStand, AreServed, IsClosed, AreResults, are_accounted}
 use Rattle.teams.specs.Asked.{are_asked}
 use Rattle.running.specs.declared.runs.Results.{Results}
 use Rattle.history.specs.declared.row.Row.{Row}
 use Rattle.history.specs.Histories.{IsLegal}
 use Rattle.history.proofs.HistoryLemmas.{legal_none}
 use Rattle.builder.specs.declared.runner.RunFault.{RunFault}
+use Rattle.builder.specs.declared.ticket.Ticket.{Ticket}
 use Rattle.builder.specs.declared.worker.Worker.{Worker}
-use mathlib.Core.Bool.{Bool-set}
-use mathlib.Core.Logic.{∥∥₁_elim, ∥∥₁_map}
-use Rattle.running.proofs.RunLemmas.{output_ran, same_passes, workers_stand, stand_append}
+use Rattle.running.proofs.RunLemmas.{output_ran, same_passes, team_stands}
 
 -- ---- passes
 
@@ -194,22 +193,28 @@ module _ {I Q : Type 0} where
     abbrev AllGave : List (ServedSession PassKnowledge Q I) → List (Left PassKnowledge Q) → Type 0
     AllGave = AllOutputs (IsTold setup) (IsAskedBy setup) gives HasMet is_stopped stops_by remaining
 
+    -- the tickets that the waits of each put
+    abbrev pub all_put : (served_sessions : List (ServedSession PassKnowledge Q I)) (lefts : List (Left PassKnowledge Q)) → AllGave served_sessions lefts → List (List Ticket)
+    all_put (d ∷ ds) (l ∷ ls) all = all.0.tickets ∷ all_put ds ls all.1
+    all_put ds ls all = []
+
     -- what the sessions of files leave stands in the history of the front to which all passes were given back
     pub outputs_of : (history : History) (numbers : List ℕ) (parts : List (Part I Q)) (served_sessions : List (ServedSession PassKnowledge Q I))
         (lefts : List (Left PassKnowledge Q))
-        → AreSessionsFor numbers parts served_sessions → AllGave served_sessions lefts → All (IsGivenBack history) (all_passes lefts)
-        → AreOutputs setup remaining history numbers (map stops_left lefts) parts (map (λ (l : Left PassKnowledge Q). l.output) lefts)
+        → AreSessionsFor numbers parts served_sessions → (all : AllGave served_sessions lefts) → All (IsGivenBack history) (all_passes lefts)
+        → AreOutputs setup remaining history numbers (map stops_left lefts) (all_put served_sessions lefts all) parts
+        (map (λ (l : Left PassKnowledge Q). l.output) lefts)
     outputs_of history [] [] [] [] are all back = tt
     outputs_of history (n ∷ ns) (p ∷ ps) (d ∷ ds) (l ∷ ls) are all back =
-        let last : PassKnowledge × Bool = (l.store, l.has_met_memory) in (
-          output_ran setup history n l.store l.has_met_memory (stops_in stops_by l.workers.items) all.0.team.1
+        let last : Seat PassKnowledge = record { store = l.store; handed = record { put = all.0.tickets; has_told = l.has_told } } in (
+          output_ran setup history n l.store all.0.tickets l.has_told (stops_in stops_by l.workers.items) all.0.clean
               (All-head (IsGivenBack history) l.store (map (λ w. w.store) l.workers.items ++ all_passes ls) back)
               (prepend_known p.bytes.items (remaining p.reader)) l.output.ended l.output.text.items
-              (subst (λ (k : PassKnowledge). Outputs (IsTold setup) HasMet is_stopped (k, false) last (prepend_known p.bytes.items (remaining p.reader)) l.output)
+              (subst (λ (k : PassKnowledge). Outputs (IsTold setup) HasMet is_stopped (first_seat k) last (prepend_known p.bytes.items (remaining p.reader)) l.output)
               are.0.store
-              (subst (λ (reader : I). Outputs (IsTold setup) HasMet is_stopped (d.store, false) last
+              (subst (λ (reader : I). Outputs (IsTold setup) HasMet is_stopped (first_seat d.store) last
               (prepend_known p.bytes.items (remaining reader)) l.output) are.0.reader
-              (subst (λ bytes. Outputs (IsTold setup) HasMet is_stopped (d.store, false) last
+              (subst (λ bytes. Outputs (IsTold setup) HasMet is_stopped (first_seat d.store) last
               (prepend_known bytes.items (remaining d.reader)) l.output) are.0.bytes all.0.output))),
           outputs_of history ns ps ds ls are.1 all.1 (rest_back history l ls back),
         )
@@ -222,108 +227,41 @@ module _ {I Q : Type 0} where
 
     -- ---- their workers
 
-    abbrev Those : List (Worker PassKnowledge Q) → List (Worker PassKnowledge Q) → Type 0
-    Those = AreThose (IsTold setup) (IsAskedBy setup) gives HasMet
-
-    -- each session leaves the workers of its file, or nobody
-    abbrev AllThose : List ℕ → List (Part I Q) → List (Left PassKnowledge Q) → Type 0
-    AllThose (n ∷ ns) (p ∷ ps) (l ∷ ls) = Those (workers_for n p) l.workers.items × AllThose ns ps ls
-    AllThose [] [] [] = Unit {0}
-    AllThose ns ps ls = ⊥
-
-    all_those : (numbers : List ℕ) (parts : List (Part I Q)) (served_sessions : List (ServedSession PassKnowledge Q I)) (lefts : List (Left PassKnowledge Q))
-        → AreSessionsFor numbers parts served_sessions → AllGave served_sessions lefts → ∥ AllThose numbers parts lefts ∥₁
-    all_those [] [] [] [] are all = ∣ tt ∣₁
-    all_those (n ∷ ns) (p ∷ ps) (d ∷ ds) (l ∷ ls) are all =
-        ∥∥₁_elim all.0.team.0 squash₁ (λ those.
-        ∥∥₁_map (all_those ns ps ds ls are.1 all.1) (λ rest.
-        (subst (λ (ws : List (Worker PassKnowledge Q)). Those ws l.workers.items) are.0.workers those, rest)))
-    all_those [] [] [] (l ∷ ls) are all = absurd all
-    all_those [] [] (d ∷ ds) ls are all = absurd are
-    all_those [] (p ∷ ps) ds ls are all = absurd are
-    all_those (n ∷ ns) [] ds ls are all = absurd are
-    all_those (n ∷ ns) (p ∷ ps) [] ls are all = absurd are
-    all_those (n ∷ ns) (p ∷ ps) (d ∷ ds) [] are all = absurd all
-
-    abbrev AllDid : List (Worker PassKnowledge Q) → List (Worker PassKnowledge Q) → Type 0
-    AllDid = AllWorked (IsTold setup) (IsAskedBy setup) gives HasMet
-
-    did_length : (firsts ws : List (Worker PassKnowledge Q)) → AllDid firsts ws → length ws ≡ length firsts
-    did_length [] [] did = refl
-    did_length (f ∷ fs) (w ∷ ws) did = let rest = did_length fs ws did.1 in omega (arith, rest)
-    did_length [] (w ∷ ws) did = absurd did
-    did_length (f ∷ fs) [] did = absurd did
-
-    -- they are no more than those, and where they are as many they are those
-    no_more : (firsts ws : List (Worker PassKnowledge Q)) → Those firsts ws → length ws ≤ length firsts
-    no_more firsts ws (inl nobody) = let none : length ws ≡ 0 = ap length nobody in omega (arith, none)
-    no_more firsts ws (inr did) = let same = did_length firsts ws did in omega (arith, same)
-
-    are_there : (firsts ws : List (Worker PassKnowledge Q)) → Those firsts ws → length firsts ≤ length ws → AllDid firsts ws
-    are_there firsts ws (inr did) whole = did
-    are_there [] ws (inl nobody) whole = subst (AllDid []) (sym nobody) tt
-    are_there (f ∷ fs) ws (inl nobody) whole = absurd (let none : length ws ≡ 0 = ap length nobody in omega (arith, none, whole))
-
-    own_length : (n : ℕ) (p : Part I Q) (l : Left PassKnowledge Q) → Those (workers_for n p) l.workers.items → length l.workers.items ≤ length p.runners.items
-    own_length n p l those =
-        let most = no_more (workers_for n p) l.workers.items those in
-        let long = workers_length (n + 1) p.runners.items in
-        omega (arith, most, long)
-
-    passes_length : (l : Left PassKnowledge Q) (ls : List (Left PassKnowledge Q))
-        → length (all_passes (l ∷ ls)) ≡ length l.workers.items + 1 + length (all_passes ls)
-    passes_length l ls =
-        let own : List PassKnowledge = map (λ w. w.store) l.workers.items in
-        let all = length-append own (all_passes ls) in
-        let named = length-map l.workers.items (λ (w : Worker PassKnowledge Q). w.store) in
-        omega (arith, all, named)
-
-    -- so many passes are left at most
-    most_left : (numbers : List ℕ) (parts : List (Part I Q)) (lefts : List (Left PassKnowledge Q)) → AllThose numbers parts lefts
-        → length (all_passes lefts) ≤ passes_needed parts
-    most_left [] [] [] those = omega arith
-    most_left (n ∷ ns) (p ∷ ps) (l ∷ ls) those =
-        let own = own_length n p l those.0 in
-        let rest = most_left ns ps ls those.1 in
-        let all = passes_length l ls in
-        omega (arith, own, rest, all)
-    most_left [] [] (l ∷ ls) those = absurd those
-    most_left [] (p ∷ ps) ls those = absurd those
-    most_left (n ∷ ns) [] ls those = absurd those
-    most_left (n ∷ ns) (p ∷ ps) [] those = absurd those
-
-    -- the workers of all sessions stand in the history, where all passes are left
-    workers_in : (history : History) (numbers : List ℕ) (parts : List (Part I Q)) (lefts : List (Left PassKnowledge Q)) → AllThose numbers parts lefts
-        → All (IsGivenBack history) (all_passes lefts) → length (all_passes lefts) ≡ passes_needed parts
-        → (all_numbers lefts ≡ numbers_in (all_workers numbers parts)) × WorkersStand setup gives history (all_workers numbers parts)
-    workers_in history [] [] [] those back whole = (refl, tt)
-    workers_in history (n ∷ ns) (p ∷ ps) (l ∷ ls) those back whole =
+    -- each session leaves the workers of its file
+    pub numbers_of_all : (numbers : List ℕ) (parts : List (Part I Q)) (served_sessions : List (ServedSession PassKnowledge Q I)) (lefts : List (Left PassKnowledge Q))
+        → AreSessionsFor numbers parts served_sessions → AllGave served_sessions lefts → all_numbers lefts ≡ numbers_in (all_workers numbers parts)
+    numbers_of_all [] [] [] [] are all = refl
+    numbers_of_all (n ∷ ns) (p ∷ ps) (d ∷ ds) (l ∷ ls) are all =
         let firsts : List (Worker PassKnowledge Q) = workers_for n p in
-        let own = own_length n p l those.0 in
-        let most = most_left ns ps ls those.1 in
-        let all = passes_length l ls in
-        let long = workers_length (n + 1) p.runners.items in
-        let did : AllDid firsts l.workers.items =
-        are_there firsts l.workers.items those.0 (let as_many : length firsts ≤ length l.workers.items = omega (arith, own, most, all, whole, long) in as_many) in
-        let rest = workers_in history ns ps ls those.1 (rest_back history l ls back) (omega (arith, own, most, all, whole)) in (
-          ap (λ (ms : List ℕ). ms ++ all_numbers ls) (same_passes setup gives firsts l.workers.items did)
-              ∙ ap (λ (ms : List ℕ). numbers_in firsts ++ ms) rest.0
-              ∙ sym (map-append (λ (w : Worker PassKnowledge Q). w.store.caller.number) firsts (all_workers ns ps)),
-          stand_append setup gives history firsts (all_workers ns ps)
-              (workers_stand setup gives history firsts l.workers.items (own_back history l ls back) (first_new (n + 1) p.runners.items) did) rest.1,
-        )
-    workers_in history [] [] (l ∷ ls) those back whole = absurd those
-    workers_in history [] (p ∷ ps) ls those back whole = absurd those
-    workers_in history (n ∷ ns) [] ls those back whole = absurd those
-    workers_in history (n ∷ ns) (p ∷ ps) [] those back whole = absurd those
+        ap (λ (ms : List ℕ). ms ++ all_numbers ls)
+        (same_passes setup gives d.workers.items all.0.round.shifts l.workers.items all.0.round.works ∙ ap numbers_in are.0.workers)
+        ∙ ap (λ (ms : List ℕ). numbers_in firsts ++ ms) (numbers_of_all ns ps ds ls are.1 all.1)
+        ∙ sym (map-append (λ (w : Worker PassKnowledge Q). w.store.caller.number) firsts (all_workers ns ps))
+    numbers_of_all [] [] [] (l ∷ ls) are all = absurd all
+    numbers_of_all [] [] (d ∷ ds) ls are all = absurd are
+    numbers_of_all [] (p ∷ ps) ds ls are all = absurd are
+    numbers_of_all (n ∷ ns) [] ds ls are all = absurd are
+    numbers_of_all (n ∷ ns) (p ∷ ps) [] ls are all = absurd are
+    numbers_of_all (n ∷ ns) (p ∷ ps) (d ∷ ds) [] are all = absurd all
 
-    pub workers_of : (history : History) (numbers : List ℕ) (parts : List (Part I Q)) (served_sessions : List (ServedSession PassKnowledge Q I))
+    -- and these stand in the history
+    pub teams_of : (history : History) (numbers : List ℕ) (parts : List (Part I Q)) (served_sessions : List (ServedSession PassKnowledge Q I))
         (lefts : List (Left PassKnowledge Q))
-        → AreSessionsFor numbers parts served_sessions → AllGave served_sessions lefts → All (IsGivenBack history) (all_passes lefts)
-        → length (all_passes lefts) ≡ passes_needed parts
-        → ∥ (all_numbers lefts ≡ numbers_in (all_workers numbers parts)) × WorkersStand setup gives history (all_workers numbers parts) ∥₁
-    workers_of history numbers parts served_sessions lefts are all back whole =
-        ∥∥₁_map (all_those numbers parts served_sessions lefts are all) (λ those. workers_in history numbers parts lefts those back whole)
+        → AreSessionsFor numbers parts served_sessions → (all : AllGave served_sessions lefts) → All (IsGivenBack history) (all_passes lefts)
+        → TeamsStand setup gives history numbers (all_put served_sessions lefts all) parts
+    teams_of history [] [] [] [] are all back = tt
+    teams_of history (n ∷ ns) (p ∷ ps) (d ∷ ds) (l ∷ ls) are all back = (
+      subst (TeamStands setup gives history all.0.tickets) are.0.workers
+          (team_stands setup gives history all.0.tickets d.workers.items l.workers.items all.0.is_whole all.0.has_met_memory (own_back history l ls back)
+          (subst (AllNew IsNew) (sym are.0.workers) (first_new (n + 1) p.runners.items)) all.0.round),
+      teams_of history ns ps ds ls are.1 all.1 (rest_back history l ls back),
+    )
+    teams_of history [] [] [] (l ∷ ls) are all back = absurd all
+    teams_of history [] [] (d ∷ ds) ls are all back = absurd are
+    teams_of history [] (p ∷ ps) ds ls are all back = absurd are
+    teams_of history (n ∷ ns) [] ds ls are all back = absurd are
+    teams_of history (n ∷ ns) (p ∷ ps) [] ls are all back = absurd are
+    teams_of history (n ∷ ns) (p ∷ ps) (d ∷ ds) [] are all back = absurd all
 
 -- ---- workers
 
@@ -383,13 +321,14 @@ module _ {I Q : Type 0} (setup : Setup) (gives : Q → Running → Result (List 
     named = named ∙ session_numbers numbers parts served_sessions are;
     stops = map stops_left lefts;
     all = sum-map stops_left lefts ∙ stops_all lefts ∙ ap (sum_by stops_by) (sym back);
+    tickets = all_put setup gives remaining served_sessions lefts all;
     outputs_are = λ history given.
-        subst (λ (os : List SessionOutput). AreOutputs setup remaining history numbers (map stops_left lefts) parts os) (sym gave)
+        subst (λ (os : List SessionOutput). AreOutputs setup remaining history numbers (map stops_left lefts) (all_put setup gives remaining served_sessions lefts all) parts os)
+        (sym gave)
         (outputs_of setup gives remaining history numbers parts served_sessions lefts are all (subst (All (IsGivenBack history)) back given));
-    workers_are = λ history given whole.
-        subst (λ (ns : List ℕ). ∥ (ns ≡ numbers_in (all_workers numbers parts)) × WorkersStand setup gives history (all_workers numbers parts) ∥₁) (sym numbered)
-        (workers_of setup gives remaining history numbers parts served_sessions lefts are all (subst (All (IsGivenBack history)) back given)
-        (sym (ap length back) ∙ whole));
+    workers_are = numbered ∙ numbers_of_all setup gives remaining numbers parts served_sessions lefts are all;
+    teams_are = λ history given.
+        teams_of setup gives remaining history numbers parts served_sessions lefts are all (subst (All (IsGivenBack history)) back given);
   }
 
   -- and what came of them where the front was closed with all that they needed
@@ -399,20 +338,17 @@ module _ {I Q : Type 0} (setup : Setup) (gives : Q → Running → Result (List 
       → IsClosed setup count sessions workers passes results.history → results.outputs ≡ outputs → AreResults setup gives remaining parts results
   results_of parts count sessions workers passes outputs results needed served closed same =
       let numbers : List ℕ = session_passes (passes_needed parts) parts in
-      let did = served.workers_are results.history closed.back (closed.whole ∙ needed) in
-      let accounted : are_accounted numbers workers (rows_in results.history) ≡ true =
-      subst (λ (ns : List ℕ). are_accounted ns workers (rows_in results.history) ≡ true) served.named closed.others in
       record {
         legal = closed.legal;
         stops = served.stops;
+        tickets = served.tickets;
         outputs =
-            subst (λ (os : Vec SessionOutput). AreOutputs setup remaining results.history numbers served.stops parts os.items) (sym same)
+            subst (λ (os : Vec SessionOutput). AreOutputs setup remaining results.history numbers served.stops served.tickets parts os.items) (sym same)
             (served.outputs_are results.history closed.back);
         stopped = served.all ∙ closed.stopped;
-        workers = ∥∥₁_map did (λ those. those.1);
-        others =
-            ∥∥₁_elim did (Bool-set _ _) (λ those.
-            subst (λ (ns : List ℕ). are_accounted numbers ns (rows_in results.history) ≡ true) those.0 accounted);
+        workers = served.teams_are results.history closed.back;
+        others = subst (λ (ns : List ℕ). are_accounted numbers ns (rows_in results.history) ≡ true) served.workers_are
+            (subst (λ (ns : List ℕ). are_accounted ns workers (rows_in results.history) ≡ true) served.named closed.others);
         asked = subst (λ (ns : List ℕ). are_asked ns (rows_in results.history) ≡ true) served.named closed.asked;
       }
 
@@ -431,12 +367,13 @@ module _ {I Q : Type 0} (setup : Setup) (gives : Q → Running → Result (List 
   no_results parts results none outputs rows going = record {
     legal = subst (IsLegal setup) (sym rows) (legal_none setup);
     stops = [];
+    tickets = [];
     outputs =
-        subst (λ (os : List SessionOutput). AreOutputs setup remaining results.history (session_passes (passes_needed parts) parts) [] parts os) (sym outputs)
-        (subst (λ (ps : List (Part I Q)). AreOutputs setup remaining results.history (session_passes (passes_needed ps) ps) [] ps []) (sym none) tt);
+        subst (λ (os : List SessionOutput). AreOutputs setup remaining results.history (session_passes (passes_needed parts) parts) [] [] parts os) (sym outputs)
+        (subst (λ (ps : List (Part I Q)). AreOutputs setup remaining results.history (session_passes (passes_needed ps) ps) [] [] ps []) (sym none) tt);
     stopped = ap stops_of (sym going);
     workers =
-        subst (λ (ps : List (Part I Q)). ∥ WorkersStand setup gives results.history (all_workers (session_passes (passes_needed ps) ps) ps) ∥₁) (sym none) ∣ tt ∣₁;
+        subst (λ (ps : List (Part I Q)). TeamsStand setup gives results.history (session_passes (passes_needed ps) ps) [] ps) (sym none) tt;
     others =
         subst (λ (rs : List Row). are_accounted (session_passes (passes_needed parts) parts)
         (numbers_in (all_workers (session_passes (passes_needed parts) parts) parts)) rs ≡ true) (sym rows) refl;

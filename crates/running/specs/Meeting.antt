@@ -11,7 +11,7 @@ use Rattle.model.proofs.BoolLemmas.{either}
 use Rattle.events.specs.declared.event.Event.{Event}
 use Rattle.events.specs.declared.reply.Reply.{Reply}
 use Rattle.events.specs.declared.reply.Reply.TheVariants.{Refused}
-use Rattle.history.specs.Callers.{Caller, PassKnowledge, knowing, told_stopped, new_pass}
+use Rattle.history.specs.Callers.{Caller, PassKnowledge, knowing, seeing, told_stopped, new_pass}
 use Rattle.history.specs.Histories.{unrecorded}
 use Rattle.history.proofs.Prefixes.{prefix_self, prefix_trans}
 use Rattle.book.specs.Asking.{IsAskedBy}
@@ -28,10 +28,6 @@ pub record HasMet (old new : PassKnowledge) : Type 0 where
 abbrev pub IsNew : PassKnowledge → Type 0
 IsNew p = p ≡ new_pass p.caller.number
 
--- a pass has seen all rows that another one is sure of
-abbrev pub HasSeen : PassKnowledge → PassKnowledge → Type 0
-HasSeen pass other = IsPrefix other.caller.sure pass.seen
-
 -- ---- what follows
 
 pub met_none : (p : PassKnowledge) → HasMet p p
@@ -44,6 +40,17 @@ met_more p q r first next = record {
   seen = prefix_trans p.seen q.seen r.seen first.seen next.seen;
   stops = next.stops ∙ first.stops;
 }
+
+-- who looks at what is published adds no row, as who meets others
+pub met_seeing : (p q : PassKnowledge) → q ≡ seeing p q.seen → IsPrefix p.seen q.seen → HasMet p q
+met_seeing p q same seen =
+    let caller : q.caller ≡ p.caller = ap (λ (k : PassKnowledge). k.caller) same in
+    record {
+      caller = caller ∙ ap (λ b. knowing b p.caller) (sym (ap (λ (c : Caller). c.stopped) caller));
+      remains = λ is. ap (λ (c : Caller). c.stopped) caller ∙ is;
+      seen = seen;
+      stops = ap (λ (k : PassKnowledge). k.stops) same;
+    }
 
 -- who asks for a job adds no row, as who meets others
 pub met_asking : (setup : Setup) (p q : PassKnowledge) (user : List ℕ) (number : ℕ) (told : Result Running Refusal)
@@ -79,14 +86,6 @@ met_asking setup p q user number told asked = elim (either (is_told_stopped told
     stopped_if (Ok job) is = absurd (cc)
     stopped_if (Err Stopped) is = refl
     stopped_if (Err why) is = absurd (cc)
-
--- of what it has seen nothing is lost
-
-pub seen_met : (p q other : PassKnowledge) → HasMet p q → HasSeen p other → HasSeen q other
-seen_met p q other met has = prefix_trans other.caller.sure p.seen q.seen has met.seen
-
-pub seen_told : (setup : Setup) (p q other : PassKnowledge) (event : Event) (reply : Reply) → IsTold setup p event reply q → HasSeen p other → HasSeen q other
-seen_told setup p q other event reply told has = prefix_trans other.caller.sure p.seen q.seen has told.seen
 
 -- ---- where the front was stopped
 

@@ -67,13 +67,14 @@ fn workers_with<'a, J: FrontId, R: Wait, Q: Runner + Drop>(
     Ok(workers)
 }
 
-/// The session of a file: the last passes are those of its workers, and the one before them is that of its
+/// The session of a file, at a seat: the last passes are those of its workers, and the one before them is that of its
 /// session.
 fn session_for<'a, J: FrontId, R: Wait, Q: Runner + Drop, I: Drop>(
     rt: &'a R,
     alloc: Global,
     front: &'a Front<J>,
     passes: &mut Vec<Pass<J>>,
+    seat: usize,
     part: Part<I, Q>,
 ) -> Result<SharedSession<'a, J, R, Q, I>, Refusal>
     requires { AreFirst passes.old.items }
@@ -92,6 +93,7 @@ fn session_for<'a, J: FrontId, R: Wait, Q: Runner + Drop, I: Drop>(
     let workers = workers_with(rt, alloc, front, passes, runners)?;
     let own = next_pass(passes)?;
     Ok(ServedSession {
+        seat,
         store: SharedStore {
             rt,
             front,
@@ -120,7 +122,8 @@ pub(crate) fn sessions_for<'a, J: FrontId, R: Wait, Q: Runner + Drop, I: Drop>(
     let mut passes = passes;
     let mut served_sessions = Vec::new(alloc);
     for part in parts {
-        served_sessions.push(session_for(rt, alloc, front, &mut passes, part)?)?;
+        let seat = served_sessions.len();
+        served_sessions.push(session_for(rt, alloc, front, &mut passes, seat, part)?)?;
     }
     Ok(served_sessions)
 }
@@ -171,7 +174,7 @@ fn end_session<J: FrontId, R: Wait, Q: Runner + Drop>(
         output,
         store,
         workers,
-        has_met_memory: _,
+        has_told: _,
     } = left;
     back.passes.push(store.pass)?;
     take_back(workers, back)?;

@@ -28,7 +28,7 @@ use std::io::Read;
 use std::marker::Brand;
 use std::sync::{Arc, Wait};
 use std::thread::Threads;
-use teams::{Part, Rounds, SessionOutput, all_at_once, are_asked};
+use teams::{Part, Scheduler, SessionOutput, all_at_once, are_asked};
 
 /// What the lines of files gave, and what they did.
 #[derive(Drop)]
@@ -65,7 +65,28 @@ fn are_accounted(sessions: &[u64], workers: &[u64], rows: &[Arc<Row>]) -> bool
     true
 }
 
-/// Serves sessions that share a store, and the rounds that they have going.
+/// How many builders run at once: as many as the workers of the file that has most, from 1 to 64.
+fn count_builders<I: Drop, Q: Drop>(parts: &[Part<I, Q>]) -> u64
+    ensures some { 0 < result }
+    ensures most { result ≤ 64 }
+{
+    let mut count = 0u64;
+    for part in parts {
+        count = count.max(part.runners.len() as u64);
+    }
+    count.max(1).min(64)
+}
+
+/// These users again.
+fn copy_users(alloc: Global, users: &[User]) -> Result<Vec<User>, AllocError> {
+    let mut copies = Vec::new(alloc);
+    for user in users {
+        copies.push(user.clone()?)?;
+    }
+    Ok(copies)
+}
+
+/// Serves sessions that share a store.
 fn serve_all<
     'a,
     J: FrontId + Send + Sync,
@@ -75,6 +96,7 @@ fn serve_all<
 >(
     rt: &R,
     alloc: Global,
+    scheduler: &Scheduler,
     served_sessions: Vec<SharedSession<'a, J, R, Q, I>>,
 ) -> Result<Vec<SharedLeft<'a, J, R, Q>>, Refusal>
     requires { All (λ session. AllNew IsNewPass session.workers.items) served_sessions.items }
@@ -82,8 +104,7 @@ fn serve_all<
         I.remaining served_sessions.entry.items lefts.items) }
     ensures memory { IfErr result (λ why. why ≡ Memory) }
 {
-    let rounds = Rounds::new(alloc, served_sessions.len())?;
-    all_at_once(rt, alloc, &rounds, served_sessions)
+    all_at_once(rt, alloc, scheduler, served_sessions)
 }
 
 /// Room for what sessions give back, taken before they begin: for so many passes, and for the outputs of so
@@ -120,6 +141,7 @@ fn serve_front<
     alloc: Global,
     front: &Front<J>,
     passes: Vec<Pass<J>>,
+    scheduler: &Scheduler,
     parts: Vec<Part<I, Q>>,
 ) -> Result<Ended<J>, Refusal>
     requires { AreFirst passes.items }
@@ -133,7 +155,7 @@ fn serve_front<
         return Err(Refusal::Memory);
     };
     let sessions = numbers_of(alloc, &served_sessions)?;
-    let lefts = serve_all(rt, alloc, served_sessions)?;
+    let lefts = serve_all(rt, alloc, scheduler, served_sessions)?;
     end_sessions(lefts, &mut back)?;
     Ok(Ended { back, sessions })
 }
@@ -176,6 +198,16 @@ fn close_front<J: FrontId, R: Wait>(
     Ok(Results { outputs, history })
 }
 
+/// What a front is made of.
+struct FrontStart {
+    /// Its tokens.
+    blank: FrontTokens,
+    /// What answers.
+    core: Core,
+    /// How many passes it has.
+    count: u64,
+}
+
 /// Runs the lines of files by a new core, behind a lock that their passes take, and closes it.
 fn run_core<
     J: FrontId + Send + Sync,
@@ -185,21 +217,21 @@ fn run_core<
 >(
     rt: &R,
     alloc: Global,
-    blank: FrontTokens,
-    core: Core,
-    count: u64,
+    start: FrontStart,
+    scheduler: &Scheduler,
     parts: Vec<Part<I, Q>>,
 ) -> Result<Results, Refusal>
-    requires blank { AreTokensOf J.name J.parts J.stops J.table J.book blank }
-    requires parts { J.parts ≡ count }
-    requires core { IsNew J.setup core }
-    requires some { (0 < count) × (count ≤ most_passes) }
-    requires needed { count ≡ passes_needed parts.items }
+    requires blank { AreTokensOf J.name J.parts J.stops J.table J.book start.blank }
+    requires parts { J.parts ≡ start.count }
+    requires core { IsNew J.setup start.core }
+    requires some { (0 < start.count) × (start.count ≤ most_passes) }
+    requires needed { start.count ≡ passes_needed parts.items }
     ensures results { IfOk result (AreResults J.setup Q.gives I.remaining parts.items) }
     ensures memory { IfErr result (λ why. why ≡ Memory) }
 {
+    let FrontStart { blank, core, count } = start;
     let (front, passes) = Front::<J>::new(rt, alloc, blank, core, count)?;
-    let ended = serve_front(rt, alloc, &front, passes, parts)?;
+    let ended = serve_front(rt, alloc, &front, passes, scheduler, parts)?;
     close_front(rt, alloc, front, count, ended)
 }
 
@@ -211,9 +243,9 @@ fn run_core<
 /// with the replies that are printed for them, and no other row of that pass. What a line only reads, and
 /// how far goals are, which a wait asks, is answered by a beginning of the history that has all that the
 /// file was answered before, and has no row; and neither has what was answered 90 or 92. Each other row is
-/// of the pass of a worker, who has a runner of his file: for each goal that he takes he plans it, starts it, asks
-/// what the job that the goal leads is built from, has his runner build that once, and ends the job with what the
-/// runner gave. What he is told of a job is so after rows that the history begins with. Each row of a worker goes
+/// of the pass of a worker, who has a runner of his file: for each goal that he takes of those that a `wait` of his
+/// file put, he plans it, starts it, asks what the job that the goal leads is built from, has his runner build that
+/// once, and ends the job with what the runner gave. What he is told of a job is so after rows that the history begins with. Each row of a worker goes
 /// on with a goal that a `build` line of his own file was given before.
 /// No line is answered 92 unless the store was stopped, and none that only reads; and it is stopped only where a
 /// line of a file was answered 90, whose own call, or whose worker's, did that.
@@ -245,6 +277,7 @@ pub fn run<R: Threads + Wait + Sync, Q: Runner + Send + Drop, I: Read + Faults +
     if count > MOST_PASSES as u64 {
         return Err(Refusal::Quota);
     }
+    let names = copy_users(alloc, &users)?;
     let core = Core::new(alloc, hashing, users, limits)?;
     if count == 0 {
         return Ok(Results {
@@ -256,6 +289,9 @@ pub fn run<R: Threads + Wait + Sync, Q: Runner + Send + Drop, I: Read + Faults +
             },
         });
     }
+    let most = count_builders(&parts);
+    let scheduler = Scheduler::new(alloc, hashing, names, parts.len(), most)?;
     let blank = FrontTokens::new(alloc, count)?;
-    run_core::<Brand, _, _, _>(rt, alloc, blank, core, count, parts)
+    let start = FrontStart { blank, core, count };
+    run_core::<Brand, _, _, _>(rt, alloc, start, &scheduler, parts)
 }

@@ -3,10 +3,11 @@
 ghost use Rattle.std.specs.Prelude.{◌≡◌, false};
 ghost use Rattle.schedule.specs.Queries.{event_for};
 ghost use Rattle.running.specs.Calling.{is_read, IsTold};
+ghost use Rattle.running.specs.Meeting.{HasMet};
 
 use book::{Front, FrontId, Pass};
 use builder::Store;
-use jobs::RunningJob;
+use jobs::{Outlook, RunningJob};
 use model::Refusal;
 use schedule::{Event, Query, Reply, User};
 use std::alloc::Global;
@@ -94,14 +95,18 @@ impl<J: FrontId, R: Wait> Store for SharedStore<'_, J, R> {
     }
 }
 
-/// After it the pass has seen all rows that the other one's is sure of, and knows whether the front is
-/// stopped.
+/// Looks how a user's goal of a number may go on, from what is published.
+fn look<J: FrontId>(pass: &mut Pass<J>, user: &User, number: u16) -> Result<Outlook, Refusal>
+    ensures { HasMet pass.old pass.new }
+{
+    pass.outlook(user, number)
+}
+
+/// After it the pass has seen all rows that were published, and knows whether the front is stopped.
 impl<J: FrontId, R: Wait> Meet for SharedStore<'_, J, R> {
-    ghost use Rattle.running.specs.Meeting.{HasMet, HasSeen, IsNew, is_stopped, stops_by, met_none, met_more, met_asking, stopped_met, stopped_told, stopped_called, stops_new, stops_met, stops_called, seen_met, seen_told};
+    ghost use Rattle.running.specs.Meeting.{HasMet, IsNew, is_stopped, stops_by, met_none, met_more, met_asking, stopped_met, stopped_told, stopped_called, stops_new, stops_met, stops_called};
 
     ghost met = { HasMet };
-
-    ghost knows = { HasSeen };
 
     ghost stopped = { is_stopped };
 
@@ -109,8 +114,12 @@ impl<J: FrontId, R: Wait> Meet for SharedStore<'_, J, R> {
 
     ghost stops = { stops_by };
 
-    fn meet(&mut self, other: &mut Self) -> bool {
-        self.front.meet(self.rt, &mut self.pass, &mut other.pass)
+    fn meet_others(&mut self) -> bool {
+        self.front.show(self.rt, &mut self.pass)
+    }
+
+    fn outlook(&mut self, user: &User, number: u16) -> Result<Outlook, Refusal> {
+        look(&mut self.pass, user, number)
     }
 
     fn sweep(&self, alloc: Global) {
@@ -122,10 +131,6 @@ impl<J: FrontId, R: Wait> Meet for SharedStore<'_, J, R> {
     ghost met_none = { met_none };
 
     ghost met_more = { met_more };
-
-    ghost knows_met = { seen_met };
-
-    ghost knows_called = { seen_told J.setup };
 
     ghost stopped_met = { stopped_met };
 

@@ -1,5 +1,4 @@
 pub mod WaitLemmas
-mod MeetLemmas
 mod AskedLemmas
-pub mod TeamLemmas
+pub mod WorkerLemmas
 mod ServedLemmas

@@ -1,5 +1,5 @@
 -- What the sessions of files do with their lines, in a store that they share.
-use Rattle.std.specs.Prelude.{◌≡◌, ◌⊎◌, Bool, true, false, ℕ, List, [], ◌∷◌, ◌++◌, Option, Some, Result, Err, MatchResult}
+use Rattle.std.specs.Prelude.{◌≡◌, ◌⊎◌, Bool, true, false, ℕ, List, [], ◌∷◌, ◌++◌, Option, Some, Result, Ok, Err, MatchResult}
 use Rattle.std.specs.Io.KnownBytes.{Consumes, IsAtEnd, prepend_known}
 use Rattle.model.specs.declared.mode.Mode.TheVariants.{Run}
 use Rattle.model.specs.declared.refusal.Refusal.{Refusal}
@@ -21,7 +21,12 @@ use Rattle.session.specs.Serving.{Link, Finished, EndedEarly}
 use Rattle.teams.specs.declared.sessions.SessionOutput.{SessionOutput}
 use Rattle.teams.specs.declared.sessions.ServedSession.{ServedSession}
 use Rattle.teams.specs.declared.sessions.Left.{Left}
-use Rattle.teams.specs.Teams.{TeamView, IsTeam}
+use Rattle.builder.specs.declared.worker.Worker.{Worker}
+use Rattle.builder.specs.declared.rounds.RoundEnd.{RoundEnd}
+use Rattle.builder.specs.Rounds.{IsRound}
+use Rattle.teams.specs.declared.sessions.SessionSource.{SessionSource}
+use Rattle.teams.specs.declared.sessions.SessionEnd.{SessionEnd}
+use Rattle.teams.specs.Teams.{stops_in}
 
 -- ---- one store
 
@@ -46,28 +51,40 @@ EndsBy why = (why ≡ InputFault) ⊎ (why ≡ BadUsers) ⊎ (why ≡ Memory)
 abbrev pub ticket_for : GoalId → Ticket
 ticket_for goal = Goal goal.leader goal.number
 
--- an event asks how far one of these goals is, each named as the job that it would lead
-abbrev pub IsStatusOf : List GoalId → Event → Type 0
-IsStatusOf goals event =
-    (before : List GoalId) × (goal : GoalId) × (after : List GoalId)
-    × (goals ≡ before ++ goal ∷ after) × (event ≡ asking goal.leader (Status goal.number))
+-- it is one of these
+abbrev pub IsAmong : {A : Type 0} → List A → A → Type 0
+IsAmong {A} items item = (before : List A) × (after : List A) × (items ≡ before ++ item ∷ after)
 
--- each of these calls does
-abbrev pub AsksStatus : List GoalId → List Call → Type 0
-AsksStatus goals [] = Unit {0}
-AsksStatus goals (c ∷ cs) = IsStatusOf goals c.0 × AsksStatus goals cs
+-- each ticket is for one of these goals
+abbrev pub AreTicketsFor : List GoalId → List Ticket → Type 0
+AreTicketsFor goals [] = Unit {0}
+AreTicketsFor goals (t ∷ ts) = ((goal : GoalId) × IsAmong goals goal × (t ≡ ticket_for goal)) × AreTicketsFor goals ts
 
--- a round of a team that was answered 90 is told as that, once
-abbrev pub HasTold : {S Q T : Type 0} → TeamView S Q → TeamView S Q → Result T Refusal → Type 0
-HasTold old new answer = new.has_met_memory ≡ true → (old.has_met_memory ≡ true) ⊎ (answer ≡ Err Memory)
+-- tickets for some of these goals were put behind those that were there
+abbrev pub PutsFor : List GoalId → List Ticket → List Ticket → Type 0
+PutsFor goals old new = (tickets : List Ticket) × AreTicketsFor goals tickets × (new ≡ old ++ tickets)
 
--- ---- a session: its store, and whether a round of its workers was answered 90
+-- that a worker met 90 is told as that, once
+abbrev pub HasTold : {T : Type 0} → Bool → Bool → Result T Refusal → Type 0
+HasTold old new answer = new ≡ true → (old ≡ true) ⊎ (answer ≡ Err Memory)
+
+-- what a session handed to its workers: the tickets that were put, and whether a wait was told that a worker met 90
+pub record Handed : Type 0 where
+  pub put : List Ticket
+  pub has_told : Bool
+
+-- ---- a session: its store, and what it handed to its workers
+
+pub record Seat (S : Type 0) : Type 0 where
+  pub store : S
+  pub handed : Handed
 
 module _ {S : Type 0} (called : S → Event → Reply → S → Type 0) where
   -- the store was handed an event and gave a reply, in the terms of the model
-  abbrev pub Answers : S × Bool → model.Event → replies.Reply → S × Bool → Type 0
+  abbrev pub Answers : Seat S → model.Event → replies.Reply → Seat S → Type 0
   Answers old event reply new =
-      (asked : Event) × (told : Reply) × (event_of asked ≡ event) × (reply_of told ≡ reply) × called old.0 asked told new.0 × (new.1 ≡ old.1)
+      (asked : Event) × (told : Reply) × (event_of asked ≡ event) × (reply_of told ≡ reply) × called old.store asked told new.store
+      × (new.handed ≡ old.handed)
 
 module _ {S : Type 0} (called : S → Event → Reply → S → Type 0) (met : S → S → Type 0) where
   -- calls of a store, one after another; before each of them, and after the last, it met others, or none
@@ -76,15 +93,16 @@ module _ {S : Type 0} (called : S → Event → Reply → S → Type 0) (met : S
   Calls old (c ∷ cs) new = (ready : S) × (between : S) × met old ready × called ready c.0 c.1 between × Calls between cs new
 
 module _ {S : Type 0} (called : S → Event → Reply → S → Type 0) (met : S → S → Type 0) (stopped : S → Bool) where
-  -- in a wait for goals a session asks how far they are and meets others, and nothing else; it is told 92 only where its store was told,
-  -- and 90 where a round was answered so
-  abbrev pub Waits : S × Bool → List GoalId → replies.Reply → S × Bool → Type 0
-  Waits old goals reply new =
-      (calls : List Call) × AsksStatus goals calls × Calls called met old.0 calls new.0 × (reply ≡ replies.Refused Stopped → stopped new.0 ≡ true)
-      × (new.1 ≡ true → (old.1 ≡ true) ⊎ (reply ≡ replies.Refused Memory))
+  -- in a wait for goals a session meets others, puts tickets for some of those goals, and nothing else: to look how they may go on is no call. It
+  -- is told 92 only where its store was told, and 90 where a worker met that
+  pub record Waits (old : Seat S) (goals : List GoalId) (reply : replies.Reply) (new : Seat S) : Type 0 where
+    pub others : met old.store new.store
+    pub puts : PutsFor goals old.handed.put new.handed.put
+    pub stop : reply ≡ replies.Refused Stopped → stopped new.store ≡ true
+    pub told : new.handed.has_told ≡ true → (old.handed.has_told ≡ true) ⊎ (reply ≡ replies.Refused Memory)
 
   -- all lines of an input were answered, the events of them by calls of a store, and this is the text of all replies
-  pub record Served (first last : S × Bool) (start : Option (List ℕ)) (text : List ℕ) : Type 0 where
+  pub record Served (first last : Seat S) (start : Option (List ℕ)) (text : List ℕ) : Type 0 where
     pub input : List ℕ
     pub end : Option (List ℕ)
     pub read : Consumes start end input
@@ -92,7 +110,7 @@ module _ {S : Type 0} (called : S → Event → Reply → S → Type 0) (met : S
     pub done : Finished Run (Link (Answers called) Waits) first last (Some []) (Some text) (lines_of input)
 
   -- the first lines of it were, and this is a beginning of the text
-  pub record ServedInPart (first last : S × Bool) (start : Option (List ℕ)) (text : List ℕ) (why : Refusal) : Type 0 where
+  pub record ServedInPart (first last : Seat S) (start : Option (List ℕ)) (text : List ℕ) (why : Refusal) : Type 0 where
     pub input : List ℕ
     pub end : Option (List ℕ)
     pub read : Consumes start end input
@@ -100,25 +118,52 @@ module _ {S : Type 0} (called : S → Event → Reply → S → Type 0) (met : S
     pub by : EndsBy why
 
   -- the session of an input has this output, and is as the last one then
-  abbrev pub Outputs : S × Bool → S × Bool → Option (List ℕ) → SessionOutput → Type 0
+  abbrev pub Outputs : Seat S → Seat S → Option (List ℕ) → SessionOutput → Type 0
   Outputs first last start output =
       MatchResult output.ended (λ _. Served first last start output.text.items) (ServedInPart first last start output.text.items)
 
--- a team as it is left
-abbrev pub team_left : {S Q : Type 0} → Left S Q → TeamView S Q
-team_left left = record { workers = left.workers.items; has_met_memory = left.has_met_memory }
+-- a session of which no line was answered
+abbrev pub first_seat : {S : Type 0} → S → Seat S
+first_seat store = record { store = store; handed = record { put = []; has_told = false } }
+
+module _ {S I : Type 0} (called : S → Event → Reply → S → Type 0) (met : S → S → Type 0) (stopped : S → Bool) (remaining : I → Option (List ℕ)) where
+  -- the lines of a file gave this, and their waits put these tickets
+  abbrev pub HasServed : SessionSource S I → List Ticket → SessionEnd S → Type 0
+  HasServed source tickets left =
+      Outputs called met stopped (first_seat source.store) (record { store = left.store; handed = record { put = tickets; has_told = left.has_told } })
+      (prepend_known source.bytes.items (remaining source.reader)) left.output
+
+-- a session leaves what its round has left
+pub record IsLeftBy {S Q : Type 0} (end : RoundEnd (SessionEnd S) S Q) (left : Left S Q) : Type 0 where
+  pub output : left.output ≡ end.left.output
+  pub store : left.store ≡ end.left.store
+  pub has_told : left.has_told ≡ end.left.has_told
+  pub workers : left.workers ≡ end.workers
+  pub told : end.has_met_memory ≡ true → left.has_told ≡ true
 
 module _ {S Q I : Type 0} (called : S → Event → Reply → S → Type 0) (asked : S → List ℕ → ℕ → Result Running Refusal → S → Type 0)
     (gives : Q → Running → Result (List ℕ) RunFault → Q → Type 0) (met : S → S → Type 0) (stopped : S → Bool) (stops : S → ℕ)
     (remaining : I → Option (List ℕ)) where
-  -- a session leaves the output of its file, and the workers with whom it began
+  -- a session leaves the output of its file, and the workers with whom it began, who took tickets that its waits put; and where no wait was told
+  -- 90 for them, no call of theirs stopped what they call
   pub record OutputOf (session : ServedSession S Q I) (left : Left S Q) : Type 0 where
-    pub output : Outputs called met stopped (session.store, false) (left.store, left.has_met_memory)
+    pub tickets : List Ticket
+    pub output : Outputs called met stopped (first_seat session.store)
+        (record { store = left.store; handed = record { put = tickets; has_told = left.has_told } })
         (prepend_known session.bytes.items (remaining session.reader)) left.output
-    pub team : IsTeam called asked gives met stops session.workers.items (team_left left)
+    pub is_whole : Bool
+    pub has_met_memory : Bool
+    pub round : IsRound called asked gives tickets session.workers.items left.workers.items is_whole has_met_memory
+    pub clean : left.has_told ≡ false → stops_in stops left.workers.items ≡ 0
 
   -- each does, in their order
   abbrev pub AllOutputs : List (ServedSession S Q I) → List (Left S Q) → Type 0
   AllOutputs [] [] = Unit {0}
   AllOutputs (session ∷ served_sessions) (left ∷ lefts) = OutputOf session left × AllOutputs served_sessions lefts
   AllOutputs served_sessions lefts = ⊥
+
+-- each of these results is what a session leaves
+abbrev pub AllLeave : {S Q : Type 0} → List (Result (Left S Q) Refusal) → List (Left S Q) → Type 0
+AllLeave [] [] = Unit {0}
+AllLeave (result ∷ results) (left ∷ lefts) = (result ≡ Ok left) × AllLeave results lefts
+AllLeave results lefts = ⊥

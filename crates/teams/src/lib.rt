@@ -6,19 +6,19 @@
 //! | [`Part`], [`SessionOutput`] | a file whose lines are run, and what they gave |
 //! | [`ServedSession`], [`Left`] | a session before it is served, and what it leaves |
 //! | [`Meet`] | a store that learns what others of its kind were answered |
-//! | [`Rounds`] | the rounds that the sessions of a store have going |
+//! | [`Scheduler`] | what is built next, for all sessions of a store |
 //! | [`are_asked`] | whether workers went on only with goals that their files had asked for |
 #![tactic(auto)]
 
 mod asked;
+mod builders;
+mod ended_tickets;
 mod meeting;
-mod pools;
-mod rounds;
+mod scheduler;
 mod sessions;
-mod team;
 mod waiting;
 
 pub use asked::are_asked;
 pub use meeting::Meet;
-pub use rounds::Rounds;
+pub use scheduler::Scheduler;
 pub use sessions::{Left, Part, ServedSession, SessionOutput, all_at_once};

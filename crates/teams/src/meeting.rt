@@ -1,24 +1,23 @@
-//! Stores that learn from one another.
+//! Stores that learn what others of their kind were answered.
 
-ghost use Rattle.std.specs.Prelude.{◌≡◌, ◌≢◌, ℕ, List, Bool, Result, true, All};
+ghost use Rattle.std.specs.Prelude.{◌≡◌, ◌≢◌, ℕ, List, Bool, Result, true};
 ghost use Rattle.model.specs.declared.refusal.Refusal.{Refusal};
 ghost use Rattle.model.specs.declared.refusal.Refusal.TheVariants.{Memory, Stopped};
 ghost use Rattle.model.specs.Goals.{Running};
 ghost use Rattle.events.specs.declared.event.Event.{Event};
 ghost use Rattle.events.specs.declared.reply.Reply.{Reply};
 ghost use Rattle.events.specs.declared.reply.Reply.TheVariants.{Refused};
-ghost use Rattle.teams.specs.Teams.{AllMet};
 
-use builder::{Store, Worker};
+use builder::Store;
+use jobs::Outlook;
+use model::Refusal;
 use std::alloc::Global;
+use trust::User;
 
 /// A store that meets others, and knows then what they were answered.
 pub trait Meet: Store {
     /// Relates a store before it met others, or none, and after it.
     ghost met: { Self → Self → Type 0 };
-
-    /// Relates a store and another one, of which it knows all that was answered.
-    ghost knows: { Self → Self → Type 0 };
 
     /// Whether it was told that what it calls is stopped.
     ghost stopped: { Self → Bool };
@@ -29,12 +28,16 @@ pub trait Meet: Store {
     /// How many of its calls stopped what it calls.
     ghost stops: { Self → ℕ };
 
-    /// Meets another store, and tells whether what they call is stopped. It may wait.
-    fn meet(&mut self, other: &mut Self) -> bool
+    /// Meets all others that call the same: it knows then what they were answered. Tells whether what they call is
+    /// stopped. It may wait.
+    fn meet_others(&mut self) -> bool
         ensures met { met self.old self.new }
-        ensures other { met other.old other.new }
-        ensures knows { knows self.new other.new }
         ensures stopped { result ≡ stopped self.new };
+
+    /// How a user's goal of that number may go on, as it sees it now, which may be more than it had seen. It is only
+    /// looked at.
+    fn outlook(&mut self, user: &User, number: u16) -> Result<Outlook, Refusal>
+        ensures { met self.old self.new };
 
     /// Has what it calls give back what nobody holds, if it is to. No reply shows that. It may wait.
     fn sweep(&self, alloc: Global);
@@ -44,13 +47,6 @@ pub trait Meet: Store {
 
     /// It may meet some, and then more.
     ghost met_more: { (s t u : Self) → met s t → met t u → met s u };
-
-    /// What it knows it still knows after it met others.
-    ghost knows_met: { (s t other : Self) → met s t → knows s other → knows t other };
-
-    /// What it knows it still knows after a call.
-    ghost knows_called: { (s t other : Self) (event : Event) (reply : Reply)
-        → Self.called s event reply t → knows s other → knows t other };
 
     /// It stays stopped after it met others.
     ghost stopped_met: { (s t : Self) → met s t → stopped s ≡ true → stopped t ≡ true };
@@ -76,19 +72,4 @@ pub trait Meet: Store {
     /// Only a call that is answered 90 may stop what it calls.
     ghost stops_called: { (s t : Self) (event : Event) (reply : Reply)
         → Self.called s event reply t → reply ≢ Refused Memory → stops t ≡ stops s };
-}
-
-/// Has a store meet those of workers, one after another. Tells whether what they call is stopped, as the
-/// last of them found it.
-pub(crate) fn meet_each<S: Meet, Q>(store: &mut S, workers: &mut [Worker<S, Q>]) -> bool
-    ensures met { S.met store.old store.new }
-    ensures workers { AllMet S.met workers.old workers.new }
-    ensures knows { All (λ w. S.knows store.new w.store) workers.new }
-    ensures stopped { result ≡ true → S.stopped store.new ≡ true }
-{
-    let mut is_stopped = false;
-    for worker in workers.iter_mut() {
-        is_stopped = store.meet(&mut worker.store);
-    }
-    is_stopped
 }

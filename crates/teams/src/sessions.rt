@@ -1,22 +1,21 @@
-//! The session of a file, served beside a thread in which its workers build.
+//! The session of a file, served while its workers build in threads of their own.
 
-ghost use Rattle.std.specs.Prelude.{◌≡◌, [], All, Ok, Err, IfOk, IfErr, MatchResult};
+ghost use Rattle.std.specs.Prelude.{◌≡◌, ◌++◌, ◌∷◌, [], All, Ok, Err, IfOk, IfErr, MatchResult};
 ghost use Rattle.std.specs.Io.KnownBytes.{prepend_known};
 ghost use Rattle.model.specs.declared.refusal.Refusal.TheVariants.{Memory};
-ghost use Rattle.teams.specs.Teams.{AllNew, IsTeam};
-ghost use Rattle.teams.specs.Sessions.{Outputs, OutputOf, AllOutputs, team_left, kept_fault};
+ghost use Rattle.teams.specs.Teams.{AllNew};
+ghost use Rattle.teams.specs.Sessions.{Outputs, OutputOf, AllOutputs, AllLeave, IsLeftBy, kept_fault};
 
+use crate::builders::{Builders, Waiting};
+use crate::ended_tickets::{EndedTickets, Reporter};
 use crate::meeting::Meet;
-use crate::pools::{WorkerPool, start_building};
-use crate::rounds::Rounds;
-use crate::team::{Team, TeamId};
+use crate::scheduler::Scheduler;
 use crate::waiting::BuildingSession;
-use builder::{Runner, Worker};
+use builder::{Hands, QueueId, RoundEnd, Runner, TicketQueue, TicketSource, Worker, round};
 use model::{Mode, Refusal};
 use session::{Counted, Faults, serve_behind};
 use std::alloc::Global;
 use std::io::Read;
-use std::marker::Brand;
 use std::sync::Wait;
 use std::thread;
 use std::thread::Threads;
@@ -30,8 +29,8 @@ pub struct Part<I: Drop, Q: Drop> {
     pub reader: I,
     /// What builds the goals of its lines: a worker has each.
     pub runners: Vec<Q>,
-    /// Whether the store gives back what nobody holds after each round in which they are built, as far as there is
-    /// memory to find it. What is printed is the same.
+    /// Whether the store gives back what nobody holds after each wait, as far as there is memory to find it. What is
+    /// printed is the same.
     pub sweeps: bool,
 }
 
@@ -47,6 +46,8 @@ pub struct SessionOutput {
 /// A session that is to be served: the store that answers it, and the workers that build for it.
 #[derive(Drop)]
 pub struct ServedSession<S: Meet + Drop, Q: Runner + Drop, I: Drop> {
+    /// Its seat at the board: how many sessions stand before it.
+    pub seat: usize,
     /// What answers.
     pub store: S,
     /// Who builds.
@@ -57,18 +58,17 @@ pub struct ServedSession<S: Meet + Drop, Q: Runner + Drop, I: Drop> {
     pub reader: I,
 }
 
-/// What a session leaves when it was served: its output, the store that answered it, and the workers
-/// that are with it.
+/// What a session leaves when it was served: its output, the store that answered it, and its workers.
 #[derive(Drop)]
 pub struct Left<S: Meet + Drop, Q: Runner + Drop> {
     /// What its lines gave.
     pub output: SessionOutput,
     /// What answered.
     pub store: S,
-    /// Who built: the workers with whom it began, or nobody, where these have not come back.
+    /// Who built: the workers with whom it began.
     pub workers: Vec<Worker<S, Q>>,
-    /// Whether a round of theirs was answered 90.
-    pub has_met_memory: bool,
+    /// Whether a wait was told that a worker met 90.
+    pub has_told: bool,
 }
 
 /// How a session ended whose text is kept in memory: what could not be written found none.
@@ -82,11 +82,11 @@ fn kept_end(ended: Result<(), Refusal>) -> Result<(), Refusal>
 }
 
 /// Serves the lines of a file.
-fn serve_lines<S: Meet + Drop, Q: Runner + Drop, T: TeamId<S, Q>, I: Read + Faults + Drop, R: Wait>(
+fn serve_lines<S: Meet + Drop, B: QueueId, I: Read + Faults + Drop, R: Wait>(
     alloc: Global,
     bytes: Vec<u8>,
     reader: I,
-    building_session: &mut BuildingSession<'_, S, Q, T, R>,
+    building_session: &mut BuildingSession<'_, '_, S, B, R>,
 ) -> SessionOutput
     ensures { Outputs S.called S.met S.stopped building_session.old building_session.new
         (prepend_known bytes.items (I.remaining reader)) result }
@@ -117,79 +117,198 @@ fn nothing_served(alloc: Global) -> SessionOutput
     }
 }
 
-/// What a session leaves with its team.
-fn left_by<S: Meet + Drop, Q: Runner + Drop, T: TeamId<S, Q>>(
-    output: SessionOutput,
-    store: S,
-    team: Team<S, Q, T>,
-) -> Left<S, Q>
-    ensures kept { (result.output ≡ output) × (result.store ≡ store) }
-    ensures team { IsTeam S.called S.asked Q.gives S.met S.stops T.first (team_left result) }
-    ensures left { team_left result ≡ team }
-{
-    let (workers, has_met_memory) = team.into_parts();
-    Left {
-        output,
-        store,
-        workers,
-        has_met_memory,
+/// The lines of a file, which put tickets for the goals that they wait for.
+#[derive(Drop)]
+pub(crate) struct SessionSource<'a, S: Meet + Drop, I: Drop> {
+    alloc: Global,
+    /// What is built next, for all sessions.
+    scheduler: &'a Scheduler,
+    /// Its seat there.
+    seat: usize,
+    /// Where its workers tell which tickets they have ended with.
+    ended: &'a EndedTickets,
+    /// What answers.
+    pub(crate) store: S,
+    /// What was read of the file.
+    pub(crate) bytes: Vec<u8>,
+    /// What gives the rest of it.
+    pub(crate) reader: I,
+}
+
+/// What is left of them when all are answered.
+#[derive(Drop)]
+pub(crate) struct SessionEnd<S: Meet + Drop> {
+    /// What they gave.
+    pub(crate) output: SessionOutput,
+    /// What answered.
+    pub(crate) store: S,
+    /// Whether a wait was told that a worker met 90.
+    pub(crate) has_told: bool,
+}
+
+impl<S: Meet + Drop, I: Read + Faults + Drop> TicketSource for SessionSource<'_, S, I> {
+    ghost use Rattle.teams.specs.Sessions.{HasServed};
+
+    type Left = SessionEnd<S>;
+
+    ghost gave = { λ source tickets left. HasServed S.called S.met S.stopped I.remaining source tickets left };
+
+    fn feed<'q, B: QueueId, R: Wait>(
+        self,
+        rt: &R,
+        threads: usize,
+        queue: TicketQueue<'q, B>,
+    ) -> (SessionEnd<S>, TicketQueue<'q, B>) {
+        let SessionSource {
+            alloc,
+            scheduler,
+            seat,
+            ended,
+            store,
+            bytes,
+            reader,
+        } = self;
+        let mut building_session = BuildingSession {
+            rt,
+            store,
+            builders: Builders {
+                scheduler,
+                ended,
+                waiting: Waiting::new(alloc, seat, threads),
+                queue,
+                has_told: false,
+            },
+        };
+        let output = serve_lines(alloc, bytes, reader, &mut building_session);
+        let BuildingSession {
+            store,
+            builders,
+            ..
+        } = building_session;
+        let Builders {
+            queue,
+            has_told,
+            ..
+        } = builders;
+        (
+            SessionEnd {
+                output,
+                store,
+                has_told,
+            },
+            queue,
+        )
     }
 }
 
-/// Serves a session beside a thread in which the workers of this name build, with whom it begins.
-fn serve_beside<
+/// What a session leaves whose lines were served in one round of its workers.
+///
+/// # Errors
+///
+/// - `Memory` where a worker met 90 and no wait was told so: that does not come.
+fn left_by<S: Meet + Drop, Q: Runner + Drop>(
+    end: RoundEnd<SessionEnd<S>, S, Q>,
+) -> Result<Left<S, Q>, Refusal>
+    ensures left { IfOk result (λ left. IsLeftBy end left) }
+    ensures memory { IfErr result (λ why. why ≡ Memory) }
+{
+    let RoundEnd {
+        left,
+        workers,
+        is_whole: _,
+        has_met_memory,
+    } = end;
+    let SessionEnd {
+        output,
+        store,
+        has_told,
+    } = left;
+    if has_met_memory && !has_told {
+        return Err(Refusal::Memory);
+    }
+    Ok(Left {
+        output,
+        store,
+        workers,
+        has_told,
+    })
+}
+
+/// Serves the lines of a session while its workers build, each in a thread of its own. Where they tell which tickets
+/// they have ended with is for this session alone.
+///
+/// # Errors
+///
+/// - `Memory` where a worker met 90 and no wait was told so: that does not come.
+fn serve_session<
+    'a,
     S: Meet + Send + Drop,
     Q: Runner + Send + Drop,
-    T: TeamId<S, Q> + Send,
     I: Read + Faults + Send + Drop,
     R: Threads + Wait + Sync,
->(rt: &R, alloc: Global, rounds: &Rounds, session: ServedSession<S, Q, I>) -> Left<S, Q>
-    requires named { session.workers.items ≡ T.first }
-    requires new { AllNew S.is_new session.workers.items }
-    ensures { OutputOf S.called S.asked Q.gives S.met S.stopped S.stops I.remaining session result }
+>(
+    rt: &R,
+    alloc: Global,
+    scheduler: &'a Scheduler,
+    ended: &'a EndedTickets,
+    session: ServedSession<S, Q, I>,
+) -> Result<Left<S, Q>, Refusal>
+    requires { AllNew S.is_new session.workers.items }
+    ensures output { IfOk result (OutputOf S.called S.asked Q.gives S.met S.stopped S.stops I.remaining session) }
+    ensures memory { IfErr result (λ why. why ≡ Memory) }
 {
     let ServedSession {
+        seat,
         store,
         workers,
         bytes,
         reader,
     } = session;
-    let (pool, pool_thread) = match WorkerPool::new(alloc, rounds, Team::<S, Q, T>::new(workers)) {
-        Ok(made) => made,
-        Err(team) => return left_by(nothing_served(alloc), store, team),
+    let source = SessionSource {
+        alloc,
+        scheduler,
+        seat,
+        ended,
+        store,
+        bytes,
+        reader,
     };
-    thread::scope(
-        thread::scope_env(),
-        rt,
-        move |scope| -> Left<S, Q>
-            ensures { Outputs S.called S.met S.stopped (store, pool.entry.team.has_met_memory)
-                (result.store, result.has_met_memory)
-                (prepend_known bytes.items (I.remaining reader)) result.output
-                × IsTeam S.called S.asked Q.gives S.met S.stops T.first (team_left result) }
-        {
-            start_building(rt, alloc, scope, pool_thread);
-            let mut building_session = BuildingSession { rt, store, pool };
-            let output = serve_lines(alloc, bytes, reader, &mut building_session);
-            let BuildingSession { store, pool, .. } = building_session;
-            left_by(output, store, pool.into_team())
-        },
-    )
+    let reports = Reporter { ended, scheduler };
+    match round(rt, alloc, reports, Hands { source, workers }) {
+        Ok(end) => left_by(end),
+        Err(hands) => {
+            let Hands { source, workers } = hands;
+            let SessionSource { store, .. } = source;
+            Ok(Left {
+                output: nothing_served(alloc),
+                store,
+                workers,
+                has_told: false,
+            })
+        }
+    }
 }
 
-/// Serves a session beside a thread in which its own workers build.
-fn serve_with_own_team<
-    S: Meet + Send + Drop,
-    Q: Runner + Send + Drop,
-    I: Read + Faults + Send + Drop,
-    R: Threads + Wait + Sync,
->(rt: &R, alloc: Global, rounds: &Rounds, session: ServedSession<S, Q, I>) -> Left<S, Q>
-    requires { AllNew S.is_new session.workers.items }
-    ensures { OutputOf S.called S.asked Q.gives S.met S.stopped S.stops I.remaining session result }
+/// What all sessions leave, in their order, where each leaves something.
+fn all_left<S: Meet + Drop, Q: Runner + Drop>(
+    alloc: Global,
+    results: Vec<Result<Left<S, Q>, Refusal>>,
+) -> Result<Vec<Left<S, Q>>, Refusal>
+    ensures left { IfOk result (λ lefts. AllLeave results.items lefts.items) }
+    ensures memory { All (λ result. IfErr result (λ why. why ≡ Memory)) results.items → IfErr result (λ why. why ≡ Memory) }
 {
-    serve_beside::<S, Q, Brand, I, R>(rt, alloc, rounds, session)
+    let mut lefts = Vec::new(alloc);
+    for result in results {
+        lefts.push(result?)?;
+    }
+    Ok(lefts)
 }
 
 /// Serves sessions at once, each in a thread of its own where one can be made. No worker of any has made a call.
+///
+/// # Errors
+///
+/// - `Memory` only where memory was refused: no output is given.
 pub fn all_at_once<
     S: Meet + Send + Drop,
     Q: Runner + Send + Drop,
@@ -198,7 +317,7 @@ pub fn all_at_once<
 >(
     rt: &R,
     alloc: Global,
-    rounds: &Rounds,
+    scheduler: &Scheduler,
     served_sessions: Vec<ServedSession<S, Q, I>>,
 ) -> Result<Vec<Left<S, Q>>, Refusal>
     requires { All (λ session. AllNew S.is_new session.workers.items) served_sessions.items }
@@ -206,9 +325,14 @@ pub fn all_at_once<
         served_sessions.items lefts.items) }
     ensures memory { IfErr result (λ why. why ≡ Memory) }
 {
-    let serve = |session: ServedSession<S, Q, I>| -> Left<S, Q>
+    let serve = |session: ServedSession<S, Q, I>| -> Result<Left<S, Q>, Refusal>
         requires { AllNew S.is_new session.workers.items }
-        ensures { OutputOf S.called S.asked Q.gives S.met S.stopped S.stops I.remaining session result }
-    { serve_with_own_team(rt, alloc, rounds, session) };
-    Ok(thread::map_vec(rt, served_sessions, &serve)?)
+        ensures output { IfOk result (OutputOf S.called S.asked Q.gives S.met S.stopped S.stops I.remaining session) }
+        ensures memory { IfErr result (λ why. why ≡ Memory) }
+    {
+        let ended = EndedTickets::new();
+        serve_session(rt, alloc, scheduler, &ended, session)
+    };
+    let results = thread::map_vec(rt, served_sessions, &serve)?;
+    all_left(alloc, results)
 }

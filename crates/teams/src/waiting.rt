@@ -1,208 +1,253 @@
-//! Sessions whose goals are built by workers in a thread beside them.
+//! Sessions whose goals are built by workers in threads of their own.
 
-ghost use Rattle.std.specs.Prelude.{◌≡◌, ◌⊎◌, ◌∷◌, [], true, List, All, Err, IfErr};
+ghost use Rattle.std.specs.Prelude.{◌≡◌, true, Err, IfErr};
 ghost use Rattle.model.specs.declared.refusal.Refusal.TheVariants.{Memory, Stopped};
-ghost use Rattle.model.specs.Worlds.{Job as GoalId};
-ghost use Rattle.builder.specs.Working.{Call};
-ghost use Rattle.events.specs.declared.reply.Reply.TheVariants.{Refused};
-ghost use Rattle.teams.specs.Sessions.{AsksStatus, Calls, GivesUp, HasTold};
+ghost use Rattle.teams.specs.Sessions.{GivesUp, HasTold, PutsFor};
 
+use crate::builders::{Builders, Waiting, put_ticket};
 use crate::meeting::Meet;
-use crate::pools::WorkerPool;
-use crate::team::TeamId;
-use builder::Runner;
-use events::{Event, Reply, Request, Status};
+use crate::scheduler::Scheduler;
+use board::{GoalName, Task};
+use builder::{Met, QueueId};
+use events::{Event, Reply};
 use model::Refusal;
 use session::{Answer, GoalId};
 use std::alloc::Global;
 use std::marker::Model;
 use std::sync::Wait;
 
-/// A store that answers the events of a session, and the workers that build its goals.
+/// A store that answers the events of a session, and those who build its goals.
 #[derive(Drop)]
-pub(crate) struct BuildingSession<'a, S: Meet + Drop, Q: Runner + Drop, T: TeamId<S, Q>, R> {
+pub(crate) struct BuildingSession<'a, 'q, S: Meet + Drop, B: QueueId, R> {
     /// What waits.
     pub(crate) rt: &'a R,
     /// What answers.
     pub(crate) store: S,
     /// Who builds.
-    pub(crate) pool: WorkerPool<'a, S, Q, T>,
+    pub(crate) builders: Builders<'a, 'q, B>,
 }
 
-/// Contracts see it as its store, and whether a round of its workers was answered 90.
-impl<'a, S: Meet + Drop, Q: Runner + Drop, T: TeamId<S, Q>, R> Model
-    for BuildingSession<'a, S, Q, T, R> {
-    ghost use Rattle.std.specs.Prelude.{Bool};
+/// Contracts see its store, the tickets that were put for its goals, and whether a wait was told that a worker met 90.
+impl<'a, 'q, S: Meet + Drop, B: QueueId, R> Model for BuildingSession<'a, 'q, S, B, R> {
+    ghost use Rattle.teams.specs.Sessions.{Seat};
 
-    ghost Value = { S × Bool };
+    ghost Value = { Seat S };
 
-    ghost view = { λ s. (s.store, s.pool.team.has_met_memory) };
+    ghost view = { λ s. record { store = s.store; handed = s.builders } };
 }
 
-/// Why a status cannot be told, if it cannot.
-fn want_in(reply: &Reply) -> Result<(), Refusal>
-    ensures why { IfErr result GivesUp }
-    ensures told { IfErr result (λ why. reply.now ≡ Refused why) }
-{
-    match reply {
-        Reply::Refused(why @ (Refusal::Memory | Refusal::Stopped)) => Err(*why),
-        _ => Ok(()),
-    }
-}
-
-/// How far a goal is, to whoever waits for it.
-#[derive(Clone, Copy)]
-enum Progress {
-    /// It waits for its inputs, or for a worker.
-    Waiting,
-    /// It is built in a job.
-    Building,
-    /// Nothing more comes of it.
-    Over,
-}
-
-/// How far a reply says that a goal is.
-fn progress_in(reply: &Reply) -> Progress {
-    match reply {
-        Reply::Status(Status::Waiting) => Progress::Waiting,
-        Reply::Status(Status::Building(_)) => Progress::Building,
-        _ => Progress::Over,
-    }
-}
-
-/// Asks a store how far a goal is.
-fn ask<S: Meet>(alloc: Global, store: &mut S, goal: &GoalId) -> Result<Progress, Refusal>
-    ensures calls { (calls : List Call) × AsksStatus (goal.now ∷ []) calls
-        × Calls S.called S.met store.old calls store.new }
-    ensures why { IfErr result GivesUp }
-    ensures stopped { result ≡ Err Stopped → S.stopped store.new ≡ true }
-{
-    let event = Event {
-        actor: goal.leader().clone()?,
-        request: Request::Status(goal.number()),
-    };
-    let reply = store.call(alloc, event);
-    want_in(&reply)?;
-    Ok(progress_in(&reply))
-}
-
-/// What is left of some goals.
-#[derive(Drop)]
-struct Left {
-    /// Those that wait.
-    waiting: Vec<GoalId>,
-    /// How many are built in a job.
-    building: usize,
-}
-
-/// What is left of some goals, as a store says.
-fn look<S: Meet>(alloc: Global, store: &mut S, goals: &[GoalId]) -> Result<Left, Refusal>
-    ensures calls { (calls : List Call) × AsksStatus goals.now calls
-        × Calls S.called S.met store.old calls store.new }
-    ensures why { IfErr result GivesUp }
-    ensures stopped { result ≡ Err Stopped → S.stopped store.new ≡ true }
-{
-    let mut waiting = Vec::new(alloc);
-    let mut building = 0usize;
-    for goal in goals {
-        match ask(alloc, store, goal)? {
-            Progress::Waiting => waiting.push(goal.clone()?)?,
-            Progress::Building => building = building.saturating_add(1),
-            Progress::Over => (),
-        }
-    }
-    Ok(Left { waiting, building })
-}
-
-/// Has goals built in one round, after which the store meets those of the workers, and gives back what nobody
-/// holds, if it is to. Where there are no workers any more, or no memory, that is 90; and 92 only where the store
-/// finds that it is stopped.
-fn build<S: Meet + Drop, Q: Runner + Drop, T: TeamId<S, Q>, R: Wait>(
-    rt: &R,
-    alloc: Global,
+/// Puts goals of a session on the board that are new there.
+///
+/// # Errors
+///
+/// - `Memory` only where memory was refused.
+fn add_goals<S: Meet>(
     store: &mut S,
-    pool: &mut WorkerPool<'_, S, Q, T>,
-    goals: Vec<GoalId>,
+    scheduler: &Scheduler,
+    waiting: &mut Waiting,
+    goals: &[GoalId],
 ) -> Result<(), Refusal>
     ensures met { S.met store.old store.new }
-    ensures knows { All (λ w. S.knows store.new w.store) pool.new.team.workers }
-    ensures why { IfErr result GivesUp }
-    ensures stopped { result ≡ Err Stopped → S.stopped store.new ≡ true }
-    ensures told { HasTold pool.old.team pool.new.team result }
+    ensures why { IfErr result (λ why. why ≡ Memory) }
 {
-    let answer = pool.build(rt, alloc, goals);
-    let is_stopped = pool.team.meet(store);
-    store.sweep(alloc);
-    match answer {
-        Err(Refusal::Stopped) if !is_stopped => Err(Refusal::Memory),
-        answer => answer,
-    }
-}
-
-/// Has those of some goals that wait built, in rounds, as long as each leaves fewer of them waiting than it
-/// found. Gives how many are built in a job then. If there was a round, the store knows all that the
-/// workers were answered.
-fn build_waiting<S: Meet + Drop, Q: Runner + Drop, T: TeamId<S, Q>, R: Wait>(
-    rt: &R,
-    alloc: Global,
-    store: &mut S,
-    pool: &mut WorkerPool<'_, S, Q, T>,
-    goals: &[GoalId],
-) -> Result<usize, Refusal>
-    ensures calls { (calls : List Call) × AsksStatus goals.now calls
-        × Calls S.called S.met store.old calls store.new }
-    ensures knows { (pool.new ≡ pool.old) ⊎ All (λ w. S.knows store.new w.store) pool.new.team.workers }
-    ensures why { IfErr result GivesUp }
-    ensures stopped { result ≡ Err Stopped → S.stopped store.new ≡ true }
-    ensures told { HasTold pool.old.team pool.new.team result }
-{
-    let mut left = look(alloc, store, goals)?;
-    for _ in rt.forever() {
-        let found = left.waiting.len();
-        if found == 0 {
-            return Ok(left.building);
-        }
-        build(rt, alloc, store, pool, left.waiting)?;
-        left = look(alloc, store, goals)?;
-        if left.waiting.len() >= found {
-            return Ok(left.building);
-        }
-    }
-    Ok(0)
-}
-
-/// Has those of some goals that wait built. Where some are built then in jobs that others lead, it waits
-/// for the rounds that these have going, and begins anew, as long as fewer are built afterwards.
-fn build_all<S: Meet + Drop, Q: Runner + Drop, T: TeamId<S, Q>, R: Wait>(
-    rt: &R,
-    alloc: Global,
-    store: &mut S,
-    pool: &mut WorkerPool<'_, S, Q, T>,
-    goals: &[GoalId],
-) -> Result<(), Refusal>
-    ensures calls { (calls : List Call) × AsksStatus goals.now calls
-        × Calls S.called S.met store.old calls store.new }
-    ensures knows { (pool.new ≡ pool.old) ⊎ All (λ w. S.knows store.new w.store) pool.new.team.workers }
-    ensures why { IfErr result GivesUp }
-    ensures stopped { result ≡ Err Stopped → S.stopped store.new ≡ true }
-    ensures told { HasTold pool.old.team pool.new.team result }
-{
-    let mut before = usize::MAX;
-    for _ in rt.forever() {
-        let building = build_waiting(rt, alloc, store, pool, goals)?;
-        if building == 0 || building >= before {
-            return Ok(());
-        }
-        before = building;
-        pool.wait_for_others(rt);
+    for place in waiting.known..goals.len() {
+        let goal = &goals[place];
+        let Ok(outlook) = store.outlook(goal.leader(), goal.number()) else {
+            return Err(Refusal::Memory);
+        };
+        scheduler.want(waiting, goal, place, outlook)?;
+        waiting.known = place + 1;
     }
     Ok(())
 }
 
-/// Each event is handed to the store. In a wait it is asked how far goals are and meets those of workers,
-/// and nothing else.
-impl<S: Meet + Drop, Q: Runner + Drop, T: TeamId<S, Q>, R: Wait> Answer
-    for BuildingSession<'_, S, Q, T, R> {
+/// A session waits from now on, for these goals.
+///
+/// # Errors
+///
+/// - `Memory` only where memory was refused.
+fn enter<S: Meet, B: QueueId, R: Wait>(
+    rt: &R,
+    store: &mut S,
+    builders: &mut Builders<'_, '_, B>,
+    goals: &[GoalId],
+) -> Result<(), Refusal>
+    ensures met { S.met store.old store.new }
+    ensures handed { builders.new ≡ builders.old }
+    ensures why { IfErr result (λ why. why ≡ Memory) }
+{
+    add_goals(store, builders.scheduler, &mut builders.waiting, goals)?;
+    builders.scheduler.open(rt, &mut builders.waiting)?;
+    Ok(())
+}
+
+/// Looks how a goal of a session may go on, and tells the board. One that could be built after its ticket as before
+/// waits until its class comes.
+///
+/// # Errors
+///
+/// - `Memory` only where memory was refused, or where it could be built and there is no thread that builds.
+fn look<S: Meet, R: Wait>(
+    rt: &R,
+    store: &mut S,
+    scheduler: &Scheduler,
+    waiting: &mut Waiting,
+    goals: &[GoalId],
+    name: GoalName,
+) -> Result<(), Refusal>
+    ensures met { S.met store.old store.new }
+    ensures why { IfErr result (λ why. why ≡ Memory) }
+{
+    let Some(place) = waiting.place_of(name) else {
+        return Err(Refusal::Memory);
+    };
+    if place >= goals.len() {
+        return Err(Refusal::Memory);
+    }
+    let goal = &goals[place];
+    let Ok(outlook) = store.outlook(goal.leader(), goal.number()) else {
+        return Err(Refusal::Memory);
+    };
+    let outlook = waiting.judge(name, place, outlook)?;
+    scheduler.file(rt, name, outlook)?;
+    Ok(())
+}
+
+/// What a session that waits is to do next; nothing where it may go on, or a worker has met 90 or 92.
+///
+/// # Errors
+///
+/// - `Memory` only where memory was refused.
+fn next_task<B: QueueId, R: Wait>(
+    rt: &R,
+    builders: &mut Builders<'_, '_, B>,
+) -> Result<Option<Task>, Refusal>
+    ensures handed { builders.new ≡ builders.old }
+    ensures why { IfErr result (λ why. why ≡ Memory) }
+{
+    builders.waiting.hear(builders.ended.take(rt));
+    if builders.waiting.has_met() {
+        return Ok(None);
+    }
+    match builders.scheduler.next(rt, builders.waiting.seat)? {
+        Task::Over | Task::Wait => Ok(None),
+        task => Ok(Some(task)),
+    }
+}
+
+/// Does what the board says: looks how a goal may go on, or puts a ticket for it.
+///
+/// # Errors
+///
+/// - `Memory` only where memory was refused, or where a goal could be built and there is no thread that builds.
+fn do_task<S: Meet, B: QueueId, R: Wait>(
+    rt: &R,
+    store: &mut S,
+    builders: &mut Builders<'_, '_, B>,
+    goals: &[GoalId],
+    task: Task,
+) -> Result<(), Refusal>
+    ensures met { S.met store.old store.new }
+    ensures put { PutsFor goals.now builders.old.put builders.new.put }
+    ensures told { builders.new.has_told ≡ builders.old.has_told }
+    ensures why { IfErr result (λ why. why ≡ Memory) }
+{
+    let scheduler = builders.scheduler;
+    match task {
+        Task::Look(name) => look(rt, store, scheduler, &mut builders.waiting, goals, name),
+        Task::Build(name) => {
+            put_ticket(
+                rt,
+                scheduler,
+                &mut builders.waiting,
+                &mut builders.queue,
+                goals,
+                name,
+            );
+            Ok(())
+        }
+        Task::Over | Task::Wait => Ok(()),
+    }
+}
+
+/// Does what the board says for the goals of a session, until it says that the session may go on, or a worker has
+/// met 90 or 92.
+///
+/// # Errors
+///
+/// - `Memory` only where memory was refused, or where a goal could be built and there is no thread that builds.
+fn work_through<S: Meet, B: QueueId, R: Wait>(
+    rt: &R,
+    store: &mut S,
+    builders: &mut Builders<'_, '_, B>,
+    goals: &[GoalId],
+) -> Result<(), Refusal>
+    ensures met { S.met store.old store.new }
+    ensures put { PutsFor goals.now builders.old.put builders.new.put }
+    ensures told { builders.new.has_told ≡ builders.old.has_told }
+    ensures why { IfErr result (λ why. why ≡ Memory) }
+{
+    for _ in rt.forever() {
+        let Some(task) = next_task(rt, builders)? else {
+            return Ok(());
+        };
+        do_task(rt, store, builders, goals, task)?;
+    }
+    Ok(())
+}
+
+/// What a wait is told, in which this was met: 90 where a worker met it, and 92 only where the store finds that it is
+/// stopped.
+fn end_of(worked: Result<(), Refusal>, met: Met, is_stopped: bool) -> Result<(), Refusal>
+    ensures memory { met.memory ≡ true → result ≡ Err Memory }
+    ensures why { IfErr worked (λ why. why ≡ Memory) → IfErr result GivesUp }
+    ensures stopped { IfErr worked (λ why. why ≡ Memory) → result ≡ Err Stopped → is_stopped ≡ true }
+{
+    if met.memory {
+        return Err(Refusal::Memory);
+    }
+    worked?;
+    if !met.stopped {
+        Ok(())
+    } else if is_stopped {
+        Err(Refusal::Stopped)
+    } else {
+        Err(Refusal::Memory)
+    }
+}
+
+/// Has goals built until none of them is under way, and none hangs on one that is. Then the store meets others, and
+/// gives back what nobody holds, if it is to.
+fn build_all<S: Meet + Drop, B: QueueId, R: Wait>(
+    rt: &R,
+    alloc: Global,
+    store: &mut S,
+    builders: &mut Builders<'_, '_, B>,
+    goals: &[GoalId],
+) -> Result<(), Refusal>
+    ensures met { S.met store.old store.new }
+    ensures why { IfErr result GivesUp }
+    ensures stopped { result ≡ Err Stopped → S.stopped store.new ≡ true }
+    ensures put { PutsFor goals.now builders.old.put builders.new.put }
+    ensures told { HasTold builders.old.has_told builders.new.has_told result }
+{
+    builders.waiting.begin(alloc);
+    let worked = enter(rt, store, builders, goals);
+    let worked = match worked {
+        Ok(()) => work_through(rt, store, builders, goals),
+        Err(why) => Err(why),
+    };
+    builders.scheduler.close(rt, builders.waiting.seat);
+    builders.waiting.wait_for_all(rt, builders.ended);
+    let is_stopped = store.meet_others();
+    store.sweep(alloc);
+    builders.has_told |= builders.waiting.met.memory;
+    end_of(worked, builders.waiting.met, is_stopped)
+}
+
+/// Each event is handed to the store. In a wait that meets others, tickets are put for goals of the session, and
+/// nothing else.
+impl<S: Meet + Drop, B: QueueId, R: Wait> Answer for BuildingSession<'_, '_, S, B, R> {
     ghost use Rattle.teams.specs.Sessions.{Answers, Waits};
 
     ghost answers = { Answers S.called };
@@ -210,11 +255,17 @@ impl<S: Meet + Drop, Q: Runner + Drop, T: TeamId<S, Q>, R: Wait> Answer
     ghost waited = { Waits S.called S.met S.stopped };
 
     fn call(&mut self, alloc: Global, event: Event) -> Reply {
-        self.store.call(alloc, event)
+        let news = self
+            .builders
+            .scheduler
+            .news_of(&event.actor, &event.request);
+        let reply = self.store.call(alloc, event);
+        self.builders.scheduler.tell(self.rt, news, &reply);
+        reply
     }
 
     fn wait(&mut self, alloc: Global, goals: &[GoalId]) -> Reply {
-        match build_all(self.rt, alloc, &mut self.store, &mut self.pool, goals) {
+        match build_all(self.rt, alloc, &mut self.store, &mut self.builders, goals) {
             Ok(()) => Reply::Ok,
             Err(why) => Reply::Refused(why),
         }

@@ -74,9 +74,9 @@ fn count_trees<J: FrontId>(alloc: Global, pass: &mut Pass<J>) -> Result<u32, Ref
     Ok(trees)
 }
 
-/// Lets the second pass meet the first, and adds how often it reads the tree then, and which of them is
+/// Shows the second pass what was published, and adds how often it reads the tree then, and which of the two is
 /// sure of all that it has seen.
-fn tell_met<J: FrontId, R: Wait>(
+fn tell_shown<J: FrontId, R: Wait>(
     rt: &R,
     alloc: Global,
     front: &Front<J>,
@@ -86,7 +86,7 @@ fn tell_met<J: FrontId, R: Wait>(
     let (Some(mut second), Some(mut first)) = (passes.pop(), passes.pop()) else {
         return Err(Refusal::Quota);
     };
-    front.meet(rt, &mut second, &mut first);
+    front.show(rt, &mut second);
     out.add(&count_trees(alloc, &mut second)?);
     out.add_text(" trees;");
     for pass in [&first, &second] {
@@ -120,7 +120,7 @@ fn read_by_two<J: FrontId + Send + Sync, R: Threads + Wait + Sync>(
     out.add_text(";");
     let (mut passes, traces) = read_while_held(rt, alloc, &front, passes, argument.as_str())?;
     tell_held(alloc, &traces, out)?;
-    tell_met(rt, alloc, &front, &mut passes, out)?;
+    tell_shown(rt, alloc, &front, &mut passes, out)?;
     let history = closed(rt, front, passes, 2)?;
     out.add(&history.rows.len());
     out.add_text(" row");

@@ -1,17 +1,15 @@
 use Rattle.std.proofs.Common.{rules, subst}
-use Rattle.std.specs.Prelude.{is_ok}
 use Rattle.crossbeam_channel.specs.Claims.{Pass, view}
-use Rattle.builder.specs.declared.queue.QueueEnd.{QueueEnd}
-use Rattle.builder.specs.declared.ticket.Ticket.{Ticket}
 use Rattle.builder.specs.declared.worker.Worker.{Worker}
+use Rattle.builder.specs.declared.ticket.Ticket.{Ticket}
+use Rattle.builder.specs.declared.queue.QueueEnd.{QueueEnd}
 use Rattle.builder.specs.Rounds.{Returned}
 use Rattle.builder.proofs.RoundLemmas.{serves_none, serves_more, if_both, pick}
 use Rattle.builder.proofs.serving.+serve.Goals as goal
 
 pub returns-in_default-clause-serves : goal.returns-in_default-clause-serves
 returns-in_default-clause-serves g t c =
-    serves_none g.S.Store.called g.S.Store.asked g.Q.Runner.gives _ _ _ _ _ _ _ _ (search rules) c.requires.producer c.put_all-all_put.ensures.put
-    c.new.ensures
+    serves_none g.S.Store.called g.S.Store.asked g.Q.Runner.gives _ _ _ _ _ _ (search rules) c.feed-left.ensures.fed c.new.ensures
 
 pub returns-clause-serves : goal.returns-clause-serves
 returns-clause-serves g t c =
@@ -30,8 +28,8 @@ returns-clause-serves g t c =
     (subst (λ (x : Worker g.row.S.Denot g.row.Q.Denot). Returned called asked gives x h.promise.consumer.value b.worker b.consumer b.met b.took_stop) ew k)))
     c.start-started.ensures.back
     c.finish-back.ensures.back in
-    serves_more called asked gives _ _ _ c.pop.new.self.items _ c.serve-tally.new.workers.done.items _ w b.worker _
-    (view c.give_out-consumer.new.producer) (view c.serve-tally.new.producer) _ hand b.consumer b.met (is_ok r) b.took_stop
-    c.serve-tally.result c.finish-back.result.1 c.in-Some.ensures.items c.requires.producer c.give_out-consumer.ensures.out
-    c.serve-tally.ensures.serves c.give_out-consumer.ensures.consumer returned c.take_back.ensures.back c.push_reserved.ensures.items
-    c.finish-back.ensures.whole c.finish-back.ensures.memory c.finish-back.ensures.stopped
+    serves_more called asked gives _ _ c.pop.new.self.items _ _ _ w b.worker _
+    (view c.give_out-consumer.new.producer) (view c.serve-left.result.producer) _ hand b.consumer b.met b.took_stop
+    c.serve-left.result.tally c.finish-back.result.1 c.in-Some.ensures.items c.give_out-consumer.ensures.out
+    c.serve-left.ensures.serves c.give_out-consumer.ensures.consumer returned c.take_back.ensures.back c.push_reserved.ensures.items
+    c.finish-back.ensures.whole c.finish-back.ensures.memory

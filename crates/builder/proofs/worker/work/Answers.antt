@@ -1,11 +1,10 @@
 use Rattle.std.proofs.Common.{◌≡◌, false, List, [], ◌++◌, refl, sym, ap, ◌∙◌, subst}
-use Rattle.std.specs.Prelude.{None}
 use Rattle.crossbeam_channel.specs.Claims.{view}
 use Rattle.builder.specs.declared.queue.QueueEnd.{QueueEnd}
 use Rattle.builder.specs.declared.ticket.Ticket.{Ticket}
 use Rattle.builder.specs.Queue.{consumer}
 use Rattle.builder.specs.Tickets.{has_stop, StopsLast}
-use Rattle.builder.specs.Working.{Works}
+use Rattle.builder.specs.Working.{nothing_met, Works}
 use Rattle.builder.proofs.WorkLemmas.{works_push, works_stop, has_goal, has_last, last_stop, last_none, took_still, took_taken}
 use Rattle.builder.proofs.worker.work.Goals as goal
 
@@ -15,7 +14,7 @@ loop-init g c =
     let w = c.args.worker.now in (
       c.requires.seat,
       none ∙ ap (λ (ts : List Ticket). consumer (view c.args.consumer.now).number ts) empty,
-      ([], subst (λ (ts : List Ticket). Works g.S.Store.called g.S.Store.asked g.Q.Runner.gives ts None [] w None w) empty (refl, refl, refl)),
+      ([], subst (λ (ts : List Ticket). Works g.S.Store.called g.S.Store.asked g.Q.Runner.gives ts nothing_met [] w c.nothing-met.result w) empty (refl, refl, c.nothing-met.ensures)),
       subst (λ (ts : List Ticket). has_stop ts ≡ false) empty refl,
     )
 
@@ -25,9 +24,9 @@ returns-in-Some-Stop-clause-took g c = took_still (view c.args.consumer.now) (vi
 pub returns-in-Some-Stop-clause-works : goal.returns-in-Some-Stop-clause-works
 returns-in-Some-Stop-clause-works g c = (
   c.loop.invariant.2.0,
-  subst (λ (ts : List Ticket). Works g.S.Store.called g.S.Store.asked g.Q.Runner.gives ts None c.loop.invariant.2.0 c.args.worker.now c.loop.met c.loop.worker)
+  subst (λ (ts : List Ticket). Works g.S.Store.called g.S.Store.asked g.Q.Runner.gives ts nothing_met c.loop.invariant.2.0 c.args.worker.now c.loop.met c.loop.worker)
       (took_taken (view c.loop.consumer) (view c.take.new.consumer) _ _ c.in-Some-Stop.field-0-is c.in-Some-Stop.ensures.took)
-      (works_stop g.S.Store.called g.S.Store.asked g.Q.Runner.gives (view c.loop.consumer).taken None c.loop.invariant.2.0 c.args.worker.now c.loop.met c.loop.worker c.loop.invariant.2.1),
+      (works_stop g.S.Store.called g.S.Store.asked g.Q.Runner.gives (view c.loop.consumer).taken nothing_met c.loop.invariant.2.0 c.args.worker.now c.loop.met c.loop.worker c.loop.invariant.2.1),
 )
 
 pub returns-in-Some-Stop-clause-stop : goal.returns-in-Some-Stop-clause-stop
@@ -49,9 +48,9 @@ loop-preserved g c =
       took_still (view c.args.consumer.now) (view c.loop.consumer) (view c.take.new.consumer) _ c.loop.invariant.1 c.in-Some-Goal.ensures.took,
       (
         calls ++ more,
-        subst (λ (ts : List Ticket). Works g.S.Store.called g.S.Store.asked g.Q.Runner.gives ts None (calls ++ more) c.args.worker.now c.deal-met.result c.deal-met.new.worker)
+        subst (λ (ts : List Ticket). Works g.S.Store.called g.S.Store.asked g.Q.Runner.gives ts nothing_met (calls ++ more) c.args.worker.now c.deal-met.result c.deal-met.new.worker)
             one
-            (works_push g.S.Store.called g.S.Store.asked g.Q.Runner.gives (view c.loop.consumer).taken _ None calls more c.args.worker.now c.loop.met c.loop.worker c.deal-met.result c.deal-met.new.worker c.loop.invariant.2.1 c.deal-met.ensures.1),
+            (works_push g.S.Store.called g.S.Store.asked g.Q.Runner.gives (view c.loop.consumer).taken _ nothing_met calls more c.args.worker.now c.loop.met c.loop.worker c.deal-met.result c.deal-met.new.worker c.loop.invariant.2.1 c.deal-met.ensures.1),
       ),
       subst (λ (ts : List Ticket). has_stop ts ≡ false) one (has_goal (view c.loop.consumer).taken _ _ c.loop.invariant.3),
     )
